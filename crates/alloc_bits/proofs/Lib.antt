@@ -1,0 +1,3 @@
+mod SlotLemmas
+mod BitLemmas
+mod MarksLemmas

@@ -1,0 +1,2 @@
+pub mod Allocation
+pub mod Bits

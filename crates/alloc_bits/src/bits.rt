@@ -1,0 +1,80 @@
+//! Searching and writing the bits of regions.
+
+ghost use Rattle.std.specs.Prelude.{◌≡◌, ℕ, ◌+◌, ◌-◌, ◌^◌, ◌<◌, ◌≤◌, ◌↔◌, length, false, IsTrue, IfSome, IfNone};
+ghost use Rattle.cube_shape.specs.Region.{Covers, IsAligned, block};
+ghost use Rattle.alloc_bits.specs.Bits.{IsClear, IsFirstClear, bit_of};
+
+use cube_shape::{MAX_DIM, Region};
+
+/// The least aligned region of dimension `k` whose bits are all clear.
+pub fn first_clear(bits: &[bool], n: u32, k: u32) -> Option<Region>
+    requires machine { n ≤ MAX_DIM }
+    requires dim { k ≤ n }
+    requires bits { length bits.now ≡ 2 ^ n }
+    ensures found { IfSome result (λ r. (m : ℕ) × (r ≡ block k m) × IsFirstClear n k bits.now m) }
+    ensures none { IfNone result ((m : ℕ) → m < 2 ^ (n - k) → IsClear bits.now (block k m) → ⊥) }
+{
+    for m in 0..1 << (n - k) {
+        let region = nth_region(n, k, m);
+        if is_clear(bits, n, region) {
+            return Some(region);
+        }
+    }
+    None
+}
+
+/// Whether no bit of a region is set.
+fn is_clear(bits: &[bool], n: u32, region: Region) -> bool
+    requires machine { n ≤ MAX_DIM }
+    requires bits { length bits.now ≡ 2 ^ n }
+    requires region { IsAligned n region }
+    ensures { IsTrue result ↔ IsClear bits.now region }
+{
+    let (start, end) = ends(n, region);
+    none_set(&bits[start..end])
+}
+
+// Whether none of these bits is set.
+fn none_set(bits: &[bool]) -> bool
+    ensures { IsTrue result ↔ ((i : ℕ) → i < length bits.now → bit_of bits.now i ≡ false) }
+{
+    bits.iter().all(|taken| !*taken)
+}
+
+/// Sets or clears all bits of a region.
+pub fn write(bits: &mut [bool], n: u32, region: Region, taken: bool)
+    requires machine { n ≤ MAX_DIM }
+    requires bits { length bits.old ≡ 2 ^ n }
+    requires region { IsAligned n region }
+    ensures len { length bits.new ≡ length bits.old }
+    ensures inside { (p : ℕ) → Covers region p → bit_of bits.new p ≡ taken }
+    ensures outside { (p : ℕ) → (Covers region p → ⊥) → bit_of bits.new p ≡ bit_of bits.old p }
+{
+    let (start, end) = ends(n, region);
+    bits[start..end].fill(taken);
+}
+
+// The `m`-th aligned region of dimension `k`.
+fn nth_region(n: u32, k: u32, m: u64) -> Region
+    requires machine { n ≤ MAX_DIM }
+    requires dim { k ≤ n }
+    requires place { m < 2 ^ (n - k) }
+    ensures { result ≡ block k m }
+{
+    Region {
+        base: m << k,
+        dim: k,
+    }
+}
+
+// The first processor of a region, and the one after its last.
+fn ends(n: u32, region: Region) -> (usize, usize)
+    requires machine { n ≤ MAX_DIM }
+    requires region { IsAligned n region }
+    ensures start { result.0 ≡ region.base }
+    ensures end { result.1 ≡ region.base + 2 ^ region.dim }
+    ensures in_machine { result.1 ≤ 2 ^ n }
+{
+    let start = region.base as usize;
+    (start, start + (1 << region.dim))
+}

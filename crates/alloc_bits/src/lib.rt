@@ -1,0 +1,17 @@
+//! The allocation bits of a hypercube machine, for one thread.
+//!
+//! The buddy strategy of Chen and Shin ("Processor Allocation in an N-Cube Multiprocessor Using
+//! Gray Codes", IEEE Transactions on Computers, 1987) keeps an allocation bit for each processor.
+//! A request for dimension `k` finds the least `m` such that all bits of the aligned region
+//! `(m, k)` are clear, and sets them; a release clears them. Here each region belongs to a station,
+//! which alone can release it.
+#![tactic(auto)]
+
+mod alloc_bits;
+mod bits;
+mod slots;
+
+pub use alloc_bits::{AllocBits, NoSubcube, NothingHeld};
+
+#[cfg(test)]
+mod tests;

@@ -1,0 +1,58 @@
+//! The regions of the stations: a slot for each station, by its number.
+
+ghost use Rattle.std.specs.Prelude.{◌≡◌, ◌≢◌, ℕ, ◌^◌, ◌<◌, ◌≤◌, ◌↔◌, None, Some, length, IsTrue, IfNone, IfSome};
+ghost use Rattle.cube_shape.specs.declared.region.Region.{Region as HeldRegion};
+ghost use Rattle.cube_shape.specs.Region.{Covers};
+ghost use Rattle.alloc_bits.specs.Bits.{slot_of};
+
+use cube_shape::{MAX_DIM, Region};
+
+/// The region of a station, if it holds one.
+pub fn region_of(slots: &[Option<Region>], station: u32) -> Option<Region>
+    ensures { result ≡ slot_of slots.now station }
+{
+    slots.get(station as usize).copied().flatten()
+}
+
+/// Whether no station holds a region.
+#[tactic(auto, using(std::proofs::lemmas::List::get_or_past))]
+pub fn all_empty(slots: &[Option<Region>]) -> bool
+    ensures { IsTrue result ↔ ((s : ℕ) → slot_of slots.now s ≡ None) }
+{
+    slots.iter().all(|slot| slot.is_none())
+}
+
+/// The station whose region has a processor, the first if there are several.
+pub fn holder_of(slots: &[Option<Region>], processor: u64) -> Option<u32>
+    requires count { length slots.now < 2 ^ 32 }
+    requires limits { (s : ℕ) (a : HeldRegion) → slot_of slots.now s ≡ Some a → a.dim ≤ MAX_DIM }
+    ensures held { IfSome result (λ s. (a : HeldRegion) × (slot_of slots.now s ≡ Some a) × Covers a processor) }
+    ensures free { IfNone result ((s : ℕ) (a : HeldRegion) → slot_of slots.now s ≡ Some a → Covers a processor → ⊥) }
+{
+    for station in 0..slots.len() {
+        if let Some(region) = slots[station]
+            && has(region, processor)
+        {
+            return Some(station as u32);
+        }
+    }
+    None
+}
+
+// Whether a region has a processor.
+fn has(region: Region, processor: u64) -> bool
+    requires { region.dim ≤ MAX_DIM }
+    ensures { IsTrue result ↔ Covers region processor }
+{
+    region.base <= processor && processor - region.base < 1 << region.dim
+}
+
+/// Gives a station a region, or takes its region away.
+pub fn put(slots: &mut [Option<Region>], station: u32, region: Option<Region>)
+    requires { station < length slots.old }
+    ensures len { length slots.new ≡ length slots.old }
+    ensures own { slot_of slots.new station ≡ region }
+    ensures others { (s : ℕ) → s ≢ station → slot_of slots.new s ≡ slot_of slots.old s }
+{
+    slots[station as usize] = region;
+}

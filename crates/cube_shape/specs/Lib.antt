@@ -1,0 +1,3 @@
+pub mod Region
+pub mod Node
+pub mod Machine

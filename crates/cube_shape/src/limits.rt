@@ -1,0 +1,23 @@
+ghost use Rattle.std.specs.Prelude.{◌≤◌, ◌↔◌, IsTrue};
+
+/// The largest dimension of a machine: it has at most `2^MAX_DIM` processors.
+pub const MAX_DIM: u32 = 10;
+
+/// How many stations there are at most. A station is one who holds a region; their numbers are
+/// `0` to `MAX_STATIONS - 1`.
+pub const MAX_STATIONS: u32 = 32;
+
+/// The dimension of a machine or of a region: `Dim(k)` stands for `2^k` processors.
+#[derive(Clone, Copy, Debug, PartialEq, Eq, PartialOrd, Ord, Hash)]
+pub struct Dim(pub u32);
+
+impl Dim {
+    /// Whether a machine of dimension `n` has regions of this dimension.
+    ///
+    /// `Dim(n).fits(MAX_DIM)` is the test whether a machine of dimension `n` is within the limits.
+    pub fn fits(self, n: u32) -> bool
+        ensures { IsTrue result ↔ (self.0 ≤ n) }
+    {
+        self.0 <= n
+    }
+}

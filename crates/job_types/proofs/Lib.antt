@@ -1,0 +1,2 @@
+pub mod DimLemmas
+pub mod RefusalLemmas

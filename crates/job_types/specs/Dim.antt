@@ -1,0 +1,11 @@
+-- The dimension that so many items need, which have one processor each.
+use Rattle.std.specs.Prelude.{ℕ, zero, suc, ◌+◌, ◌^◌, nat_lt, if◌then◌else◌}
+
+-- the first number from k on whose power of two is at least p, found in at most so many steps
+unfoldable pub search_up : ℕ → ℕ → ℕ → ℕ
+search_up zero k p = k
+search_up (suc steps) k p = if nat_lt (2 ^ k) p then search_up steps (k + 1) p else k
+
+-- the least k such that 2 ^ k is at least p; it is at most p
+unfoldable pub dim_of : ℕ → ℕ
+dim_of p = search_up p 0 p

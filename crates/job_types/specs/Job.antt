@@ -1,0 +1,36 @@
+-- What a contract sees of a job, and which requests are refused.
+use Rattle.std.specs.Prelude.{◌≡◌, ℕ, ◌^◌, ◌<◌, ◌≤◌, Bool, false, not, List, length, Option, Some, None, nat_lt, ◌==◌, if◌then◌else◌}
+use Rattle.job_types.specs.declared.kind.Kind.{Kind}
+use Rattle.job_types.specs.declared.kind.Kind.TheVariants.{AllReduce}
+use Rattle.job_types.specs.declared.job.JobRefused.{JobRefused}
+use Rattle.job_types.specs.declared.job.JobRefused.TheVariants.{Empty, NotPowerOfTwo, TooLarge, BadRoot}
+use Rattle.job_types.specs.declared.job.TheConstants.{MAX_LANES}
+use Rattle.cube_shape.specs.declared.limits.TheConstants.{MAX_DIM}
+use Rattle.job_types.specs.Dim.{dim_of}
+
+-- a job: the dimension of its machine, the lane that it was made for, its collective and its items
+pub record JobData : Type 0 where
+  pub machine : ℕ
+  pub lane : ℕ
+  pub kind : Kind
+  pub items : List ℕ
+
+-- the collective's root, if it has one, is no place among so many
+abbrev pub has_bad_root : Kind → ℕ → Bool
+has_bad_root (AllReduce op) places = false
+
+-- the first refusal of such a request on a machine of dimension n, if there is one
+abbrev pub refusal_of : ℕ → Kind → List ℕ → Option JobRefused
+refusal_of n kind items =
+    if length items == 0 then Some Empty
+    else if not (2 ^ dim_of (length items) == length items) then Some NotPowerOfTwo
+    else if nat_lt (2 ^ n) (length items) then Some TooLarge
+    else if has_bad_root kind (length items) then Some BadRoot
+    else None
+
+-- what is true of every job: its items are 2 ^ dim, and its machine has regions of that dimension
+pub record IsJob (machine lane dim : ℕ) (items : List ℕ) : Type 0 where
+  pub limit : machine ≤ MAX_DIM
+  pub lane_below : lane < MAX_LANES
+  pub within : dim ≤ machine
+  pub power : 2 ^ dim ≡ length items

@@ -1,0 +1,4 @@
+pub mod Collective
+pub mod Dim
+pub mod Job
+pub mod Reply

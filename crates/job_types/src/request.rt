@@ -1,0 +1,110 @@
+ghost use Rattle.std.specs.Prelude.{◌≡◌, ◌^◌, ◌<◌, ◌≤◌, length, None};
+ghost use Rattle.job_types.specs.Dim.{dim_of};
+ghost use Rattle.job_types.specs.Job.{refusal_of};
+
+use crate::job::{JobRefused, MAX_LANES};
+use crate::kind::Kind;
+use cube_shape::MAX_DIM;
+use std::marker::Model;
+
+/// What a job asks for. Every request can be met: it has `2^dim` items, and its machine has
+/// regions of that dimension.
+#[derive(Debug, Drop)]
+pub struct Request {
+    machine: u32,
+    lane: u32,
+    kind: Kind,
+    dim: u32,
+    items: Vec<u64>,
+}
+
+impl Model for Request {
+    ghost use Rattle.job_types.specs.Job.{JobData, IsJob};
+
+    ghost Value = { JobData };
+
+    ghost view = { λ r.
+        record { machine = r.machine; lane = r.lane; kind = r.kind; items = r.items.items } };
+
+    ghost invariant = { λ r. IsJob r.machine r.lane r.dim r.items.items };
+}
+
+/// The first reason, in the order of `JobRefused`, why there is no such job on a machine of
+/// dimension `n`.
+pub(crate) fn refusal(n: u32, kind: Kind, items: &[u64]) -> Option<JobRefused>
+    requires { n ≤ MAX_DIM }
+    ensures { result ≡ refusal_of n kind items.now }
+{
+    let len = items.len();
+    if len == 0 {
+        return Some(JobRefused::Empty);
+    }
+    let dim = len.ilog2();
+    if len != 1 << dim {
+        return Some(JobRefused::NotPowerOfTwo);
+    }
+    if dim > n {
+        return Some(JobRefused::TooLarge);
+    }
+    match kind {
+        Kind::AllReduce { .. } => None,
+    }
+}
+
+impl Request {
+    /// A request for items that no reason refuses.
+    pub(crate) fn new(n: u32, lane: u32, kind: Kind, items: Vec<u64>) -> Self
+        requires machine { n ≤ MAX_DIM }
+        requires lane { lane < MAX_LANES }
+        requires accepted { refusal_of n kind items.items ≡ None }
+        ensures { result ≡ record { machine = n; lane = lane; kind = kind; items = items.items } }
+    {
+        Request {
+            machine: n,
+            lane,
+            kind,
+            dim: items.len().ilog2(),
+            items,
+        }
+    }
+
+    /// The dimension of the machine, at most `MAX_DIM`.
+    pub fn machine(&self) -> u32
+        ensures value { result ≡ self.now.machine }
+        ensures limit { result ≤ MAX_DIM }
+    {
+        self.machine
+    }
+
+    /// The lane that the job was made for, below `MAX_LANES`.
+    pub fn lane(&self) -> u32
+        ensures value { result ≡ self.now.lane }
+        ensures below { result < MAX_LANES }
+    {
+        self.lane
+    }
+
+    /// The collective.
+    pub fn kind(&self) -> Kind
+        ensures { result ≡ self.now.kind }
+    {
+        self.kind
+    }
+
+    /// The dimension of the region that the job needs: it has `2^dim` items.
+    pub fn dim(&self) -> u32
+        ensures value { result ≡ dim_of (length self.now.items) }
+        ensures power { 2 ^ result ≡ length self.now.items }
+        ensures within { result ≤ self.now.machine }
+        ensures limit { self.now.machine ≤ MAX_DIM }
+    {
+        self.dim
+    }
+
+    /// The items. The `i`-th one is on the region's `i`-th processor.
+    pub fn items(&self) -> &[u64]
+        ensures { result.now ≡ self.now.items }
+    {
+        &self.items
+    }
+}
