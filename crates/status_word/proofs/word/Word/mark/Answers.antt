@@ -1,0 +1,16 @@
+use Rattle.std.proofs.Common.{◌+◌, sym, subst, arith}
+use Rattle.std.proofs.lemmas.Nat.{one_shl}
+use Rattle.std.proofs.Common.{bit_or}
+use Rattle.status_word.specs.Word.{IsMarked, SameElsewhere, mark_place}
+use Rattle.status_word.proofs.WordLemmas.{with_mark-has, with_mark-same}
+use Rattle.status_word.proofs.word.Word.mark.Goals as goal
+
+pub returns-clause-has : goal.returns-clause-has
+returns-clause-has c =
+    subst (λ mask. IsMarked c.args.station (bit_or c.args.self.0 mask)) (sym (one_shl (8 + c.args.station) 64 (omega arith)))
+    (with_mark-has c.args.station c.args.self.0)
+
+pub returns-clause-others : goal.returns-clause-others
+returns-clause-others c =
+    subst (λ mask. SameElsewhere (mark_place c.args.station) c.args.self.0 (bit_or c.args.self.0 mask)) (sym (one_shl (8 + c.args.station) 64 (omega arith)))
+    (with_mark-same c.args.station c.args.self.0)

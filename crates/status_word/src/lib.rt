@@ -1,0 +1,16 @@
+//! The status words of the tree of aligned regions.
+//!
+//! Each node of the tree has a word of 64 bits. Bit 0 (OCC) says that the node's own region is
+//! given out, bits 1 and 2 (LEFT and RIGHT) that something in the left or the right half may be,
+//! and bit `8 + s` is the mark of station `s`. A word is free when OCC, LEFT and RIGHT are clear,
+//! whatever its marks.
+#![tactic(auto)]
+
+mod use_bits;
+mod word;
+
+pub use use_bits::UseBits;
+pub use word::Word;
+
+#[cfg(test)]
+mod tests;
