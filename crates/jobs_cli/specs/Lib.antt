@@ -1,0 +1,10 @@
+pub mod Device
+pub mod Fault
+pub mod Outcome
+pub mod Fields
+pub mod Said
+pub mod Numbering
+pub mod Input
+pub mod Replies
+pub mod Output
+pub mod Run

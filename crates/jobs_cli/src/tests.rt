@@ -1,0 +1,431 @@
+// Whole runs: the bytes that go in, and the bytes that come out.
+use crate::command_line::dim_asked;
+use crate::device::{Counted, Device};
+use crate::fault::{Fault, What};
+use crate::fields;
+use crate::run::run_on;
+use clap::error::ErrorKind;
+use job_types::{JobRefused, Kind, Op};
+use std::alloc::Global;
+use std::io;
+use std::io::{Read, Write};
+use std::process::Abort;
+use std::test::Fail;
+
+const JOBS: &[u8] = b"lane,kind,op,root,items\n";
+
+const REPLIES: &[u8] = b"lane,seq,kind,dim,result,rounds,messages\n";
+
+// What a run wrote, and what it answered.
+#[derive(Drop)]
+struct Ran {
+    text: Vec<u8>,
+    answer: Result<(), Fault>,
+}
+
+// A run on these bytes.
+fn run_bytes(rt: &(impl AllocGlobal + Abort), n: u32, input: &[u8]) -> Result<Ran, Fail> {
+    assert!(rt; n <= 10);
+    let mut reader = Counted::new(input);
+    let mut writer = Counted::new(Vec::new(rt.alloc()));
+    let answer = run_on(rt.alloc(), n, &mut reader, &mut writer);
+    assert!(rt; reader.failures() == 0 && writer.failures() == 0);
+    let text = Vec::from_slice(rt.alloc(), writer.get_ref())?;
+    Ok(Ran { text, answer })
+}
+
+// Two texts, one behind the other.
+fn joined(alloc: Global, a: &[u8], b: &[u8]) -> Result<Vec<u8>, Fail> {
+    let mut text = Vec::from_slice(alloc, a)?;
+    text.extend_from_slice(b)?;
+    Ok(text)
+}
+
+// Under the headers, these records give these replies.
+fn expect_replies(
+    rt: &(impl AllocGlobal + Abort),
+    n: u32,
+    records: &str,
+    replies: &str,
+) -> Result<(), Fail> {
+    let input = joined(rt.alloc(), JOBS, records.as_bytes())?;
+    let wanted = joined(rt.alloc(), REPLIES, replies.as_bytes())?;
+    let ran = run_bytes(rt, n, &input)?;
+    assert!(rt; ran.answer == Ok(()), "at {records}");
+    assert!(rt; ran.text.as_slice() == wanted.as_slice(), "at {records}");
+    Ok(())
+}
+
+// A file is refused, and nothing is written.
+fn expect_refusal(
+    rt: &(impl AllocGlobal + Abort),
+    n: u32,
+    input: &[u8],
+    row: u64,
+    what: What,
+) -> Result<(), Fail> {
+    let ran = run_bytes(rt, n, input)?;
+    assert!(rt;
+        ran.answer == Err(Fault { row, what }),
+        "at record {row}: {what}"
+    );
+    assert!(rt; ran.text.is_empty());
+    Ok(())
+}
+
+#[test]
+fn answers_jobs(rt: HostRuntime) -> Result<(), Fail> {
+    expect_replies(&rt, 3, "", "")?;
+    expect_replies(
+        &rt,
+        3,
+        "0,allreduce,add,0,1 2 3 4\n",
+        "0,0,allreduce,2,10 10 10 10,2,8\n",
+    )?;
+    expect_replies(
+        &rt,
+        1,
+        "0,allreduce,add,0,18446744073709551615 1\n",
+        "0,0,allreduce,1,0 0,1,2\n",
+    )?;
+    expect_replies(&rt, 0, "15,allreduce,add,0,7\n", "15,0,allreduce,0,7,0,0\n")?;
+    expect_replies(
+        &rt,
+        3,
+        "1,allreduce,add,0,5 6\n0,allreduce,add,0,7\n",
+        "0,0,allreduce,0,7,0,0\n1,0,allreduce,1,11 11,1,2\n",
+    )
+}
+
+#[test]
+fn counts_each_lane(rt: HostRuntime) -> Result<(), Fail> {
+    expect_replies(
+        &rt,
+        3,
+        "10,allreduce,add,0,1\n2,allreduce,add,0,2\n10,allreduce,add,0,3\n\
+         2,allreduce,add,0,4 4\n10,allreduce,add,0,5\n",
+        "2,0,allreduce,0,2,0,0\n2,1,allreduce,1,8 8,1,2\n\
+         10,0,allreduce,0,1,0,0\n10,1,allreduce,0,3,0,0\n10,2,allreduce,0,5,0,0\n",
+    )
+}
+
+#[test]
+fn reads_what_csv_reads(rt: HostRuntime) -> Result<(), Fail> {
+    let reply = "0,0,allreduce,1,3 3,1,2\n";
+    expect_replies(&rt, 3, "\"0\",allreduce,add,0,\"1 2\"\n", reply)?;
+    expect_replies(&rt, 3, "0,allreduce,add,0,1 2", reply)?;
+    expect_replies(&rt, 3, "0,allreduce,add,0,1 2\r\n", reply)?;
+    expect_replies(&rt, 3, "\n\n0,allreduce,add,0,1 2\n\n", reply)?;
+    let marked = b"\xEF\xBB\xBF\r\nlane,\"kind\",op,root,items\r\n0,allreduce,add,0,1 2\r\n";
+    let ran = run_bytes(&rt, 3, marked.as_slice())?;
+    assert!(rt; ran.answer == Ok(()));
+    let wanted = joined(rt.alloc(), REPLIES, reply.as_bytes())?;
+    assert!(rt; ran.text.as_slice() == wanted.as_slice());
+    Ok(())
+}
+
+#[test]
+fn refuses_headers(rt: HostRuntime) -> Result<(), Fail> {
+    let inputs: [(&[u8], What); 8] = [
+        (b"", What::Fields),
+        (b"\n\n", What::Fields),
+        (b"lane,kind,op,root\n", What::Fields),
+        (b"lane,kind,op,root,items,more\n", What::Fields),
+        (b"lane,kind,op,root,item\n", What::Word),
+        (b"Lane,kind,op,root,items\n", What::Word),
+        (b"lane,kind,op,root, items\n", What::Word),
+        (
+            b"\xEF\xBB\xBF\xEF\xBB\xBFlane,kind,op,root,items\n",
+            What::Word,
+        ),
+    ];
+    for (input, what) in inputs.as_slice() {
+        expect_refusal(&rt, 3, input, 0, *what)?;
+    }
+    Ok(())
+}
+
+#[test]
+fn refuses_records(rt: HostRuntime) -> Result<(), Fail> {
+    let records: [(&[u8], What); 33] = [
+        (b"0,allreduce,add,0\n", What::Fields),
+        (b"0,allreduce,add,0,1,2\n", What::Fields),
+        (b" \n", What::Fields),
+        (b"\"\"\n", What::Fields),
+        (b"16,allreduce,add,0,4\n", What::Number),
+        (b"4294967296,allreduce,add,0,4\n", What::Number),
+        (b",allreduce,add,0,4\n", What::Number),
+        (b"00,allreduce,add,0,4\n", What::Number),
+        (b"+1,allreduce,add,0,4\n", What::Number),
+        (b" 1,allreduce,add,0,4\n", What::Number),
+        (b"0x1,allreduce,add,0,4\n", What::Number),
+        (b"16,scan,add,0,4\n", What::Number),
+        (b"0,scan,add,0,4\n", What::Word),
+        (b"0,,add,0,4\n", What::Word),
+        (b"0,allreduce ,add,0,4\n", What::Word),
+        (b"0,\xFF,add,0,4\n", What::Word),
+        (b"0,allreduce,plus,0,4\n", What::Word),
+        (b"0,allreduce,-,x,4\n", What::Word),
+        (b"0,allreduce,add,00,1\n", What::Number),
+        (b"0,allreduce,add,,1\n", What::Number),
+        (b"0,allreduce,add,-1,1\n", What::Number),
+        (b"0,allreduce,add,1,1 x\n", What::Number),
+        (b"0,allreduce,add,0,1  2\n", What::Number),
+        (b"0,allreduce,add,0, 1 2\n", What::Number),
+        (b"0,allreduce,add,0, \n", What::Number),
+        (b"0,allreduce,add,0,1 02\n", What::Number),
+        (b"0,allreduce,add,0,18446744073709551616\n", What::Number),
+        (b"0,allreduce,add,0,\n", What::Job(JobRefused::Empty)),
+        (b"0,allreduce,add,1,\n", What::Job(JobRefused::Empty)),
+        (
+            b"0,allreduce,add,1,1 2 3\n",
+            What::Job(JobRefused::NotPowerOfTwo),
+        ),
+        (
+            b"0,allreduce,add,1,1 1 1 1 1 1 1 1 1 1 1 1 1 1 1 1\n",
+            What::Job(JobRefused::TooLarge),
+        ),
+        (b"0,allreduce,add,1,4 9\n", What::Job(JobRefused::BadRoot)),
+        (
+            b"0,allreduce,add,18446744073709551615,4\n",
+            What::Job(JobRefused::BadRoot),
+        ),
+    ];
+    for (record, what) in records.as_slice() {
+        let input = joined(rt.alloc(), JOBS, record)?;
+        expect_refusal(&rt, 3, &input, 1, *what)?;
+    }
+    Ok(())
+}
+
+#[test]
+fn tells_the_first_fault(rt: HostRuntime) -> Result<(), Fail> {
+    let good = b"0,allreduce,add,0,1 2\n";
+    let head = joined(rt.alloc(), JOBS, good.as_slice())?;
+    let cut = joined(rt.alloc(), &head, b"0,allreduce,add,0,1 2 ".as_slice())?;
+    expect_refusal(&rt, 3, &cut, 2, What::Number)?;
+    let ragged = joined(
+        rt.alloc(),
+        &head,
+        b"0,allreduce,add\n16,x,x,x,x\n".as_slice(),
+    )?;
+    expect_refusal(&rt, 3, &ragged, 2, What::Fields)
+}
+
+#[test]
+fn refuses_too_many(rt: HostRuntime) -> Result<(), Fail> {
+    let mut input = Vec::from_slice(rt.alloc(), JOBS)?;
+    for _ in 0..1_000_000 {
+        input.extend_from_slice(b"3,allreduce,add,0,1\n".as_slice())?;
+    }
+    input.extend_from_slice(b"x\n".as_slice())?;
+    expect_refusal(&rt, 0, &input, 1_000_001, What::TooMany)
+}
+
+// A device that moves at most seven bytes a call, and fails at one call.
+#[derive(Drop)]
+struct FailsAt<D> {
+    device: D,
+    calls: u64,
+    gives_zero: bool,
+}
+
+impl<D> FailsAt<D> {
+    // Whether this call is the one that fails.
+    fn fails(&mut self) -> bool {
+        let fails = self.calls == 0;
+        self.calls = self.calls.wrapping_sub(1);
+        fails
+    }
+}
+
+impl<D: Read> Read for FailsAt<D> {
+    fn read(&mut self, buf: &mut [u8]) -> io::Result<usize> {
+        if self.fails() {
+            return Err(io::Error::from(io::ErrorKind::Other));
+        }
+        let len = buf.len().min(7);
+        self.device.read(&mut buf[..len])
+    }
+}
+
+impl<D: Write> Write for FailsAt<D> {
+    fn write(&mut self, buf: &[u8]) -> io::Result<usize> {
+        if self.fails() {
+            if self.gives_zero {
+                return Ok(0);
+            }
+            return Err(io::Error::from(io::ErrorKind::Other));
+        }
+        let len = buf.len().min(7);
+        self.device.write(&buf[..len])
+    }
+
+    fn flush(&mut self) -> io::Result<()> {
+        if self.fails() && !self.gives_zero {
+            return Err(io::Error::from(io::ErrorKind::Other));
+        }
+        self.device.flush()
+    }
+}
+
+const GOOD: &[u8] = b"lane,kind,op,root,items\n1,allreduce,add,0,5 6\n0,allreduce,add,0,7\n";
+
+#[test]
+fn tells_a_failed_read(rt: HostRuntime) -> Result<(), Fail> {
+    let wanted = Fault {
+        row: 0,
+        what: What::Read,
+    };
+    for calls in 0..1000 {
+        let device = FailsAt {
+            device: GOOD,
+            calls,
+            gives_zero: false,
+        };
+        let mut reader = Counted::new(device);
+        let mut writer = Counted::new(Vec::new(rt.alloc()));
+        let answer = run_on(rt.alloc(), 3, &mut reader, &mut writer);
+        if reader.failures() == 0 {
+            assert!(rt; answer == Ok(()) && calls > 5);
+            return Ok(());
+        }
+        assert!(rt; answer == Err(wanted), "at call {calls}");
+        assert!(rt; writer.get_ref().is_empty());
+    }
+    assert!(rt; false, "no run without a failed read");
+    Ok(())
+}
+
+// A run whose writer fails at this call, with an error or by taking nothing. It tells whether the
+// writer failed.
+fn fails_to_write(
+    rt: &(impl AllocGlobal + Abort),
+    calls: u64,
+    gives_zero: bool,
+) -> Result<bool, Fail> {
+    let wanted = Fault {
+        row: 0,
+        what: What::Write,
+    };
+    let mut reader = Counted::new(GOOD);
+    let device = FailsAt {
+        device: Vec::new(rt.alloc()),
+        calls,
+        gives_zero,
+    };
+    let mut writer = Counted::new(device);
+    let answer = run_on(rt.alloc(), 3, &mut reader, &mut writer);
+    if writer.failures() == 0 {
+        assert!(rt; answer == Ok(()));
+        return Ok(false);
+    }
+    assert!(rt; answer == Err(wanted), "at call {calls}");
+    Ok(true)
+}
+
+// The replies take thirteen writes, and then comes a flush.
+#[test]
+fn tells_a_failed_write(rt: HostRuntime) -> Result<(), Fail> {
+    for gives_zero in [false, true] {
+        for calls in 0..13 {
+            assert!(rt; fails_to_write(&rt, calls, gives_zero)?, "at call {calls}");
+        }
+        assert!(rt; fails_to_write(&rt, 13, gives_zero)? != gives_zero);
+        assert!(rt; !fails_to_write(&rt, 14, gives_zero)?);
+    }
+    Ok(())
+}
+
+// A fault has this status and this line.
+fn expect_line(
+    rt: &(impl AllocGlobal + Abort),
+    row: u64,
+    what: What,
+    status: u8,
+    line: &str,
+) -> Result<(), Fail> {
+    let fault = Fault { row, what };
+    assert!(rt; fault.status() == status, "{line}");
+    assert!(rt; what.is_refusal() == (status == 1), "{line}");
+    let told = fault.to_string(rt.alloc())?;
+    assert!(rt; told.as_str() == line, "{line}");
+    Ok(())
+}
+
+#[test]
+fn prints_faults(rt: HostRuntime) -> Result<(), Fail> {
+    expect_line(&rt, 0, What::Fields, 1, "refused: record 0: Fields")?;
+    expect_line(&rt, 7, What::Number, 1, "refused: record 7: Number")?;
+    expect_line(&rt, 1, What::Word, 1, "refused: record 1: Word")?;
+    let what = What::Job(JobRefused::Empty);
+    expect_line(&rt, 1, what, 1, "refused: record 1: Job Empty")?;
+    let what = What::Job(JobRefused::NotPowerOfTwo);
+    expect_line(&rt, 2, what, 1, "refused: record 2: Job NotPowerOfTwo")?;
+    let what = What::Job(JobRefused::TooLarge);
+    expect_line(&rt, 3, what, 1, "refused: record 3: Job TooLarge")?;
+    let what = What::Job(JobRefused::BadRoot);
+    expect_line(&rt, 4, what, 1, "refused: record 4: Job BadRoot")?;
+    let line = "refused: record 1000001: TooMany";
+    expect_line(&rt, 1_000_001, What::TooMany, 1, line)?;
+    expect_line(&rt, 0, What::Read, 3, "failed: record 0: Read")?;
+    expect_line(&rt, 0, What::Write, 3, "failed: record 0: Write")?;
+    expect_line(
+        &rt,
+        0,
+        What::OutOfMemory,
+        3,
+        "failed: record 0: OutOfMemory",
+    )
+}
+
+#[test]
+fn reads_fields(rt: HostRuntime) -> Result<(), Fail> {
+    assert!(rt; fields::number(b"0") == Some(0));
+    assert!(rt; fields::number(b"18446744073709551615") == Some(18446744073709551615));
+    assert!(rt; fields::number(b"18446744073709551616") == None);
+    assert!(rt; fields::number(b"") == None && fields::number(b"01") == None);
+    assert!(rt; fields::lane(b"15") == Ok(15) && fields::lane(b"16") == Err(What::Number));
+    assert!(rt; fields::root(b"16") == Ok(16) && fields::root(b"-") == Err(What::Number));
+    assert!(rt; fields::op(b"add") == Ok(Op::Add) && fields::op(b"Add") == Err(What::Word));
+    let kind = Kind::AllReduce { op: Op::Add };
+    assert!(rt; fields::kind(b"allreduce", b"add") == Ok(kind));
+    assert!(rt; fields::kind(b"reduce", b"add") == Err(What::Word));
+    let items = fields::items(rt.alloc(), b"3 0 12")?;
+    assert!(rt; items.as_slice() == [3, 0, 12].as_slice());
+    Ok(())
+}
+
+// The dimension that these words ask for, or why there is none.
+fn asked(rt: &(impl AllocGlobal + Abort), words: &[&str]) -> Result<Result<u32, ErrorKind>, Fail> {
+    let mut all = Vec::new(rt.alloc());
+    for word in words {
+        all.push(word.to_string(rt.alloc())?)?;
+    }
+    let answer = match dim_asked(rt.alloc(), &all) {
+        Ok(n) => Ok(n),
+        Err(error) => Err(error.kind()),
+    };
+    Ok(answer)
+}
+
+#[test]
+fn reads_command_lines(rt: HostRuntime) -> Result<(), Fail> {
+    let run = ["cubejobs", "run", "--dim", "0"];
+    assert!(rt; asked(&rt, run.as_slice())? == Ok(0));
+    let run = ["cubejobs", "run", "--dim=10"];
+    assert!(rt; asked(&rt, run.as_slice())? == Ok(10));
+    let run = ["cubejobs", "run", "--dim", "11"];
+    assert!(rt; asked(&rt, run.as_slice())? == Err(ErrorKind::ValueValidation));
+    let run = ["cubejobs", "run"];
+    assert!(rt; asked(&rt, run.as_slice())? == Err(ErrorKind::MissingRequiredArgument));
+    let run = ["cubejobs"];
+    assert!(rt; asked(&rt, run.as_slice())? == Err(ErrorKind::MissingSubcommand));
+    let run = ["cubejobs", "place", "--dim", "3"];
+    assert!(rt; asked(&rt, run.as_slice())? == Err(ErrorKind::InvalidSubcommand));
+    let run = ["cubejobs", "--help"];
+    assert!(rt; asked(&rt, run.as_slice())? == Err(ErrorKind::DisplayHelp));
+    let run = ["cubejobs", "run", "--help"];
+    assert!(rt; asked(&rt, run.as_slice())? == Err(ErrorKind::DisplayHelp));
+    Ok(())
+}
