@@ -1,0 +1,5 @@
+pub mod PairLemmas
+pub mod FoldLemmas
+pub mod BlockLemmas
+pub mod XorLemmas
+pub mod MessageLemmas

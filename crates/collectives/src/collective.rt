@@ -1,0 +1,81 @@
+ghost use Rattle.std.specs.Prelude.{◌≡◌, ℕ, ◌+◌, ◌^◌, ◌<◌, length, All, slice_get, ◌==◌, if◌then◌else◌};
+ghost use Rattle.collectives.specs.Places.{Holds, prefix_total, total};
+ghost use Rattle.collectives.specs.Shape.{tally_of};
+
+use crate::monoid::Monoid;
+use crate::rounds::{distance, exchange, gather, prepend_totals, spread};
+use crate::shape::{DIM_LIMIT, Shape, Tally};
+
+/// Every place gets the item of the root's place, one of the `2^k`.
+pub fn broadcast<M: Copy>(items: &mut [M], k: u32, root: usize) -> Tally
+    requires dim { k < DIM_LIMIT }
+    requires places { length items.old ≡ 2 ^ k }
+    requires root { root < 2 ^ k }
+    ensures held { (rank : ℕ) → rank < 2 ^ k → slice_get items.new rank ≡ slice_get items.old root }
+    ensures tally { result ≡ tally_of Shape.Broadcast k }
+{
+    for round in 0..k {
+        spread(items, root, distance(round));
+    }
+    Shape::Broadcast.tally(k)
+}
+
+/// The root's place, one of the `2^k`, gets all items, joined in the order of their ranks. The other
+/// places are left with the unit.
+///
+/// The items are values, and as many as `2^k`.
+pub fn reduce<M: Monoid>(items: &mut [M], k: u32, root: usize) -> Tally
+    requires dim { k < DIM_LIMIT }
+    requires places { length items.old ≡ 2 ^ k }
+    requires root { root < 2 ^ k }
+    requires values { All M.is_value items.old }
+    ensures held { Holds items.new k (λ rank.
+        if rank == root then total M.join M.unit items.old else M.unit) }
+    ensures values { All M.is_value items.new }
+    ensures tally { result ≡ tally_of Shape.Reduce k }
+{
+    for round in 0..k {
+        gather(items, root, distance(round));
+    }
+    Shape::Reduce.tally(k)
+}
+
+/// Every place gets all items, joined in the order of their ranks.
+///
+/// The items are values, and as many as `2^k`.
+pub fn all_reduce<M: Monoid>(items: &mut [M], k: u32) -> Tally
+    requires dim { k < DIM_LIMIT }
+    requires places { length items.old ≡ 2 ^ k }
+    requires values { All M.is_value items.old }
+    ensures held { Holds items.new k (λ rank. total M.join M.unit items.old) }
+    ensures values { All M.is_value items.new }
+    ensures tally { result ≡ tally_of Shape.AllReduce k }
+{
+    for round in 0..k {
+        exchange(items, distance(round));
+    }
+    Shape::AllReduce.tally(k)
+}
+
+/// Each place gets the items up to its own, joined in the order of their ranks.
+///
+/// The items are values, and as many as `2^k`, as are the places of `scratch`: what it held before
+/// counts for nothing, and it holds the total of all items afterwards.
+pub fn scan<M: Monoid>(items: &mut [M], scratch: &mut [M], k: u32) -> Tally
+    requires dim { k < DIM_LIMIT }
+    requires places { length items.old ≡ 2 ^ k }
+    requires scratch { length scratch.old ≡ 2 ^ k }
+    requires values { All M.is_value items.old }
+    ensures held { Holds items.new k (λ rank. prefix_total M.join M.unit items.old (rank + 1)) }
+    ensures totals { Holds scratch.new k (λ rank. total M.join M.unit items.old) }
+    ensures values { All M.is_value items.new }
+    ensures tally { result ≡ tally_of Shape.Scan k }
+{
+    scratch.copy_from_slice(items);
+    for round in 0..k {
+        let half = distance(round);
+        prepend_totals(items, scratch, half);
+        exchange(scratch, half);
+    }
+    Shape::Scan.tally(k)
+}
