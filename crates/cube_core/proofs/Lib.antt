@@ -1,0 +1,5 @@
+mod ChangeLemmas
+mod EventLemmas
+mod HeldLemmas
+mod ScheduleLemmas
+mod WorldLemmas

@@ -1,0 +1,280 @@
+-- Worlds of the program are states that some schedule leads to.
+use Rattle.std.proofs.Common.{◌≡◌, ℕ, zero, suc, ◌+◌, ◌^◌, ◌<◌, ◌≤◌, cond, ◌&&◌, ltb, List, [], ◌∷◌, ◌++◌, length, get_or, map, Option, Some, None, Result, Ok, Err, IfErr, OnErr, OnOk, reverse, take, replicate, refl, sym, ◌∙◌, ap, subst}
+use Rattle.std.proofs.lemmas.Bool.{lt-ltb}
+use Rattle.cube_shape.specs.declared.limits.TheConstants.{MAX_DIM}
+use Rattle.std.proofs.Math.ListN.{set}
+use Rattle.std.proofs.lemmas.List.{get_or_default, get_or-set_same, length-set, take_more, reverse-append}
+use Rattle.cube_shape.specs.Node.{IsInCube}
+use Rattle.cube_core.specs.declared.effect.Effect.{Effect}
+use Rattle.cube_core.specs.Effect.{IsEffect}
+use Rattle.cube_core.specs.declared.phase.Phase.{Phase}
+use Rattle.cube_core.specs.declared.phase.Phase.TheVariants.{Idle, Looking, Looked, Climbing, Swept, Holding, Leaving, Backing, Arriving, Unmarked, Marked, Retired}
+use Rattle.cube_core.specs.declared.act.Act.{Act}
+use Rattle.cube_core.specs.declared.act.Act.TheVariants.{Take, Release, Step}
+use Rattle.cube_core.specs.declared.act.Refused.{Refused}
+use Rattle.cube_core.specs.declared.act.Refused.TheVariants.{NotIdle, NoStation, NotInCube}
+use Rattle.cube_core.specs.Phase.{owned}
+use Rattle.cube_core.specs.Event.{Transition, transition}
+use Rattle.cube_core.specs.Schedule.{Record, State, record_of, phase_of, word_of, opened, begun, stepped, take_refusal, release_refusal, step_refusal, phase_refusal, refusal, station_of, moved, unless_refused, acted, after}
+use Rattle.cube_core.specs.World.{untold, state_of, silent, IsReached, IsWorld, HasShapeOf}
+use Rattle.cube_core.specs.Safety.{IsTreeLawful}
+use Rattle.cube_core.proofs.ChangeLemmas.{Fit, Agrees-same}
+use Rattle.cube_core.proofs.ScheduleLemmas.{Stands, Stands-lawful, opened_stands, after_stands, node_there}
+
+-- ---- records whose trails are left out
+
+forget_twice : (rs : List Record) → map (λ (r : Record). untold r.phase) (map (λ (r : Record). untold r.phase) rs) ≡ map (λ (r : Record). untold r.phase) rs
+forget_twice [] = refl
+forget_twice (r ∷ rs) = ap (λ l. untold r.phase ∷ l) (forget_twice rs)
+
+forget_untold : (phases : List Phase) → map (λ (r : Record). untold r.phase) (map untold phases) ≡ map untold phases
+forget_untold [] = refl
+forget_untold (p ∷ phases) = ap (λ l. untold p ∷ l) (forget_untold phases)
+
+-- of a record that is put only the phase counts
+forget-set_untold : (phases : List Phase) (s : ℕ) (r : Record) → map (λ (t : Record). untold t.phase) (set (map untold phases) s r) ≡ map untold (set phases s r.phase)
+forget-set_untold [] s r = refl
+forget-set_untold (p ∷ phases) zero r = ap (λ l. untold r.phase ∷ l) (forget_untold phases)
+forget-set_untold (p ∷ phases) (suc s) r = ap (λ l. untold p ∷ l) (forget-set_untold phases s r)
+
+forget-set_forgotten : (rs : List Record) (s : ℕ) (q r : Record) → q.phase ≡ r.phase → map (λ (t : Record). untold t.phase) (set (map (λ (t : Record). untold t.phase) rs) s q) ≡ map (λ (t : Record). untold t.phase) (set rs s r)
+forget-set_forgotten [] s q r same = refl
+forget-set_forgotten (t ∷ rs) zero q r same = ap (λ p. untold p ∷ map (λ (t : Record). untold t.phase) (map (λ (t : Record). untold t.phase) rs)) same ∙ ap (λ l. untold r.phase ∷ l) (forget_twice rs)
+forget-set_forgotten (t ∷ rs) (suc s) q r same = ap (λ l. untold t.phase ∷ l) (forget-set_forgotten rs s q r same)
+
+phase_at : (rs : List Record) (s : ℕ) → (get_or (map (λ (r : Record). untold r.phase) rs) s (record { phase = Retired; trail = [] })).phase ≡ (get_or rs s (record { phase = Retired; trail = [] })).phase
+phase_at [] s = refl
+phase_at (r ∷ rs) zero = refl
+phase_at (r ∷ rs) (suc s) = phase_at rs s
+
+length_forgotten : (rs : List Record) → length (map (λ (r : Record). untold r.phase) rs) ≡ length rs
+length_forgotten [] = refl
+length_forgotten (r ∷ rs) = ap suc (length_forgotten rs)
+
+-- the phase and the number of the stations of a state that is given by its phases
+pub phase_of-state : (n : ℕ) (words : List ℕ) (phases : List Phase) (s : ℕ) → phase_of (state_of n words phases) s ≡ get_or phases s Retired
+phase_of-state n words [] s = refl
+phase_of-state n words (p ∷ phases) zero = refl
+phase_of-state n words (p ∷ phases) (suc s) = phase_of-state n words phases s
+
+pub stations_of-state : (phases : List Phase) → length (map untold phases) ≡ length phases
+stations_of-state [] = refl
+stations_of-state (p ∷ phases) = ap suc (stations_of-state phases)
+
+-- ---- what the program writes is what the state becomes
+
+pub silent-state : (n : ℕ) (words : List ℕ) (phases : List Phase) → silent (state_of n words phases) ≡ state_of n words phases
+silent-state n words phases = ap (λ rs. record { dim = n; words = words; records = rs }) (forget_untold phases)
+
+pub silent-begun : (n : ℕ) (words : List ℕ) (phases : List Phase) (s : ℕ) (q : Phase) → silent (begun s q (state_of n words phases)) ≡ state_of n words (set phases s q)
+silent-begun n words phases s q = ap (λ rs. record { dim = n; words = words; records = rs }) (forget-set_untold phases s _)
+
+pub silent-stepped : (n : ℕ) (words : List ℕ) (phases : List Phase) (s : ℕ) (d : Transition) → silent (stepped d s (state_of n words phases)) ≡ state_of n (set words d.node (d.writes (get_or words d.node 0))) (set phases s (d.next (get_or words d.node 0)))
+silent-stepped n words phases s d = ap (λ rs. record { dim = n; words = set words d.node (d.writes (get_or words d.node 0)); records = rs }) (forget-set_untold phases s _)
+
+-- an act makes the same of a state and of the state without its trails
+silent_twice : (w : State) → silent (silent w) ≡ silent w
+silent_twice w = ap (λ rs. record w { records = rs }) (forget_twice w.records)
+
+moved-silent : (act : Act) (w : State) → silent (moved act (silent w)) ≡ silent (moved act w)
+moved-silent (Take s v) w = ap (λ rs. record w { records = rs }) (forget-set_forgotten w.records s _ _ refl)
+moved-silent (Release s) w = ap (λ rs. record w { records = rs }) (forget-set_forgotten w.records s _ _ (ap (λ p. Leaving (owned p)) (phase_at w.records s)))
+moved-silent (Step s) w = ap (λ p. silent (stepped (transition s p) s (silent w))) (phase_at w.records s) ∙ one (transition s (phase_of w s))
+  where
+    one : (d : Transition) → silent (stepped d s (silent w)) ≡ silent (stepped d s w)
+    one d = ap (λ rs. record { dim = w.dim; words = set w.words d.node (d.writes (word_of w d.node)); records = rs }) (forget-set_forgotten w.records s _ _ refl)
+
+refusal-silent : (act : Act) (w : State) → refusal act (silent w) ≡ refusal act w
+refusal-silent act w = ap (λ count. cond (ltb (station_of act) count) (phase_refusal w.dim act (phase_of (silent w) (station_of act))) (Some NoStation)) (length_forgotten w.records) ∙ ap (λ p. cond (ltb (station_of act) (length w.records)) (phase_refusal w.dim act p) (Some NoStation)) (phase_at w.records (station_of act))
+
+pub acted-silent : (act : Act) (w : State) → silent (acted act (silent w)) ≡ silent (acted act w)
+acted-silent act w = ap (λ r. silent (unless_refused r act (silent w))) (refusal-silent act w) ∙ turn (refusal act w)
+  where
+    turn : (r : Option Refused) → silent (unless_refused r act (silent w)) ≡ silent (unless_refused r act w)
+    turn None = moved-silent act w
+    turn (Some why) = silent_twice w
+
+-- ---- a state that some schedule leads to
+
+pub reached-opened : (n stations : ℕ) → IsReached (silent (opened n stations))
+reached-opened n stations = (n, stations, [], refl)
+
+pub reached-acted : (act : Act) (w : State) → IsReached w → IsReached (silent (acted act w))
+reached-acted act w (n, stations, acts, is) = (n, stations, act ∷ acts, ap (λ v. silent (acted act v)) is ∙ acted-silent act (after acts (opened n stations)))
+
+Stands-silent : (w : State) → Stands w → Stands (silent w)
+Stands-silent w k = record { word_count = k.word_count; agrees = Agrees-same (λ s. phase_at w.records s) k.agrees }
+
+-- and so the invariant holds there
+pub reached-stands : (w : State) → IsReached w → Stands w
+reached-stands w (n, stations, acts, is) = subst Stands (sym is) (Stands-silent (after acts (opened n stations)) (after_stands acts (opened n stations) (opened_stands n stations)))
+
+pub reached-lawful : (w : State) → IsReached w → IsTreeLawful w
+reached-lawful w reached = Stands-lawful w (reached-stands w reached)
+
+-- ---- the calls of a world
+
+-- an act that is not refused moves the state
+acted-accepted : (act : Act) (w : State) → refusal act w ≡ None → acted act w ≡ moved act w
+acted-accepted act w none = ap (λ r. unless_refused r act w) none
+
+pub acted_dim : (act : Act) (w : State) → (acted act w).dim ≡ w.dim
+acted_dim act w = turn (refusal act w)
+  where
+    moved_dim : (a : Act) → (moved a w).dim ≡ w.dim
+    moved_dim (Take s v) = refl
+    moved_dim (Release s) = refl
+    moved_dim (Step s) = refl
+
+    turn : (r : Option Refused) → (unless_refused r act w).dim ≡ w.dim
+    turn None = moved_dim act
+    turn (Some why) = refl
+
+pub IsWorld-acted : (act : Act) (w new : State) → IsWorld w → new ≡ silent (acted act w) → IsWorld new
+IsWorld-acted act w new world is = subst IsWorld (sym is) (record {
+  dim_in_limits = subst (λ n. n ≤ MAX_DIM) (sym (acted_dim act w)) world.dim_in_limits;
+  reached = reached-acted act w world.reached;
+})
+
+-- what a program writes that begins something
+pub begun_by : (act : Act) (s : ℕ) (q : Phase) (n : ℕ) (words : List ℕ) (phases : List Phase) (w : State) → state_of n words phases ≡ w → refusal act w ≡ None → moved act w ≡ begun s q w → state_of n words (set phases s q) ≡ silent (acted act w)
+begun_by act s q n words phases w view none is =
+    sym (silent-begun n words phases s q) ∙ ap (λ v. silent (begun s q v)) view ∙ ap silent (sym is ∙ sym (acted-accepted act w none))
+
+pub made_opened : (n stations : ℕ) → n ≤ MAX_DIM → (words : List ℕ) (phases : List Phase) → words ≡ replicate (2 ^ (n + 1)) 0 → phases ≡ replicate stations Idle → IsWorld (state_of n words phases) × (state_of n words phases ≡ opened n stations)
+made_opened n stations limit words phases zeros idle = (subst IsWorld (sym is) (record { dim_in_limits = limit; reached = subst IsReached silent_opened (reached-opened n stations) }), is)
+  where
+    all_idle : (count : ℕ) → map untold (replicate count Idle) ≡ replicate count (untold Idle)
+    all_idle zero = refl
+    all_idle (suc count) = ap (λ l. untold Idle ∷ l) (all_idle count)
+
+    is : state_of n words phases ≡ opened n stations
+    is = ap (λ ws. state_of n ws phases) zeros ∙ ap (λ ps. state_of n (replicate (2 ^ (n + 1)) 0) ps) idle ∙ ap (λ rs. record { dim = n; words = replicate (2 ^ (n + 1)) 0; records = rs }) (all_idle stations)
+
+    silent_opened : silent (opened n stations) ≡ opened n stations
+    silent_opened = ap silent (sym is_copies) ∙ silent-state n (replicate (2 ^ (n + 1)) 0) (replicate stations Idle) ∙ is_copies
+      where
+        is_copies : state_of n (replicate (2 ^ (n + 1)) 0) (replicate stations Idle) ≡ opened n stations
+        is_copies = ap (λ rs. record { dim = n; words = replicate (2 ^ (n + 1)) 0; records = rs }) (all_idle stations)
+
+-- a take of a station that is not idle, and a release of one that does not hold
+pub take_busy : (n v : ℕ) (p : Phase) → (p ≡ Idle → ⊥) → take_refusal n v p ≡ Some NotIdle
+take_busy n v Idle other = absurd (other refl)
+take_busy n v (Looking h) other = refl
+take_busy n v (Looked h w) other = refl
+take_busy n v (Climbing h a) other = refl
+take_busy n v (Swept h a) other = refl
+take_busy n v (Holding h) other = refl
+take_busy n v (Leaving h) other = refl
+take_busy n v (Backing h a) other = refl
+take_busy n v (Arriving a) other = refl
+take_busy n v (Unmarked a) other = refl
+take_busy n v (Marked a w left right) other = refl
+take_busy n v Retired other = refl
+
+-- why an act of a station that is there is refused, and that of one that is not
+pub refusal-there : (act : Act) (w : State) → station_of act < length w.records → refusal act w ≡ phase_refusal w.dim act (phase_of w (station_of act))
+refusal-there act w there = ap (λ t. cond t (phase_refusal w.dim act (phase_of w (station_of act))) (Some NoStation)) (lt-ltb (station_of act) (length w.records) there)
+
+pub take_accepted : (s v : ℕ) (w : State) → s < length w.records → Idle ≡ phase_of w s → IsInCube w.dim v → refusal (Take s v) w ≡ None
+take_accepted s v w there idle in_cube = refusal-there (Take s v) w there ∙ ap (take_refusal w.dim v) (sym idle) ∙ ap (λ t. cond (t && ltb v (2 ^ (w.dim + 1))) None (Some NotInCube)) (lt-ltb 0 v in_cube.0) ∙ ap (λ t. cond t None (Some NotInCube)) (lt-ltb v (2 ^ (w.dim + 1)) in_cube.1)
+
+pub release_accepted : (s h : ℕ) (w : State) → s < length w.records → Holding h ≡ phase_of w s → refusal (Release s) w ≡ None
+release_accepted s h w there holds = refusal-there (Release s) w there ∙ ap release_refusal (sym holds)
+
+-- ---- what the invariant says of the phase of a station, and of the node of its next event
+
+pub phase_fit : (w : State) (s : ℕ) → IsWorld w → (q : Phase) → q ≡ phase_of w s → Fit w.dim q
+phase_fit w s world q is = subst (Fit w.dim) (sym is) ((reached-stands w world.reached).agrees.fit s)
+
+pub node_in_words : (w : State) (s : ℕ) → IsWorld w → (q : Phase) → q ≡ phase_of w s → (transition s q).node < 2 ^ (w.dim + 1)
+node_in_words w s world q is = node_there w.dim s q (phase_fit w s world q is)
+
+-- each node of the machine has a word, and the roll has one
+pub word_there : (n : ℕ) (words : List ℕ) (phases : List Phase) (w : State) (v : ℕ) → state_of n words phases ≡ w → IsWorld w → v < 2 ^ (w.dim + 1) → v < length words
+word_there n words phases w v view world below =
+    subst (λ (u : State). v < length u.words) (sym view) (subst (λ count. v < count) (sym (reached-stands w world.reached).word_count) below)
+
+pub word_read : (n : ℕ) (words : List ℕ) (phases : List Phase) (w : State) (v r : ℕ) → state_of n words phases ≡ w → v < length words → r ≡ get_or words v r → r ≡ word_of w v
+word_read n words phases w v r view there is = is ∙ get_or_default words v r 0 there ∙ ap (λ u. word_of u v) view
+
+-- ---- a step
+
+-- what one arm of the match makes is the event of the phase
+pub arm_makes : (s : ℕ) (p q : Phase) (w : State) (r : ℕ) (made : Effect) → q ≡ p → r ≡ word_of w (transition s p).node → IsEffect (transition s p) r made → IsEffect (transition s q) (word_of w (transition s q).node) made
+arm_makes s p q w r made is word effect =
+    subst (λ x. IsEffect (transition s x) (word_of w (transition s x).node) made) (sym is) (subst (λ x. IsEffect (transition s p) x made) word effect)
+
+pub step_accepted : (s : ℕ) (q : Phase) (w : State) → s < length w.records → q ≡ phase_of w s → step_refusal q ≡ None → refusal (Step s) w ≡ None
+step_accepted s q w there is moves = refusal-there (Step s) w there ∙ ap step_refusal (sym is) ∙ moves
+
+-- what a program writes that makes an event
+pub stepped_by : (s : ℕ) (q : Phase) (n : ℕ) (words : List ℕ) (phases : List Phase) (w : State) (made : Effect) → state_of n words phases ≡ w → refusal (Step s) w ≡ None → q ≡ phase_of w s → IsEffect (transition s q) (word_of w (transition s q).node) made → state_of n (set words made.event.node made.word) (set phases s made.next) ≡ silent (acted (Step s) w)
+stepped_by s q n words phases w made view none is effect =
+    ap (λ v. state_of n (set words v made.word) (set phases s made.next)) effect.node
+    ∙ ap (λ y. state_of n (set words (transition s q).node y) (set phases s made.next)) (effect.word ∙ ap (transition s q).writes same)
+    ∙ ap (λ p. state_of n (set words (transition s q).node ((transition s q).writes (get_or words (transition s q).node 0))) (set phases s p)) (effect.next ∙ ap (transition s q).next same)
+    ∙ sym (silent-stepped n words phases s (transition s q))
+    ∙ ap (λ u. silent (stepped (transition s q) s u)) view
+    ∙ ap (λ p. silent (stepped (transition s p) s w)) is
+    ∙ ap silent (sym (acted-accepted (Step s) w none))
+  where
+    same : word_of w (transition s q).node ≡ get_or words (transition s q).node 0
+    same = ap (λ u. word_of u (transition s q).node) (sym view)
+
+-- and the event is told at the head of the station's trail
+pub told_by : (s : ℕ) (q : Phase) (w : State) (made : Effect) → s < length w.records → refusal (Step s) w ≡ None → q ≡ phase_of w s → IsEffect (transition s q) (word_of w (transition s q).node) made → (record_of (acted (Step s) w) s).trail ≡ made.event ∷ (record_of w s).trail
+told_by s q w made there none is effect =
+    ap (λ u. (record_of u s).trail) (acted-accepted (Step s) w none)
+    ∙ ap (λ (r : Record). r.trail) (get_or-set_same w.records s _ (record { phase = Retired; trail = [] }) there)
+    ∙ ap (λ p. (transition s p).events (word_of w (transition s p).node) ++ (record_of w s).trail) (sym is)
+    ∙ ap (λ l. l ++ (record_of w s).trail) effect.event
+
+-- a fact of the fields is one of the value
+pub IsWorld-of : {v w : State} → v ≡ w → IsWorld v → IsWorld w
+IsWorld-of is world = subst IsWorld is world
+
+-- ---- acts one after another
+
+pub silent_of : (n : ℕ) (words : List ℕ) (phases : List Phase) (w : State) → state_of n words phases ≡ w → silent w ≡ w
+silent_of n words phases w view = ap silent (sym view) ∙ silent-state n words phases ∙ view
+
+-- a call that is refused and one that is not make of a world what the act makes
+pub made_by : {A : Type 0} (act : Act) (w new : State) (r : Result A Refused) → IsWorld w → silent w ≡ w → IfErr r (λ why. refusal act w ≡ Some why) → OnErr r (new ≡ w) → OnOk r (new ≡ silent (acted act w)) → (new ≡ silent (acted act w)) × IsTreeLawful new
+made_by act w new r world quiet refused unchanged made = (is r refused unchanged made, reached-lawful new (IsWorld-acted act w new world (is r refused unchanged made)).reached)
+  where
+    is : {A : Type 0} (x : Result A Refused) → IfErr x (λ why. refusal act w ≡ Some why) → OnErr x (new ≡ w) → OnOk x (new ≡ silent (acted act w)) → new ≡ silent (acted act w)
+    is (Ok a) _ _ became = became
+    is (Err why) reason same _ = same ∙ sym (ap silent (ap (λ x. unless_refused x act w) reason) ∙ quiet)
+
+-- one act more at the end of those that were made
+pub one_more : (acts : List Act) (i : ℕ) (none : Act) (first old new : State) → i < length acts → old ≡ silent (after (reverse (take i acts)) first) → new ≡ silent (acted (get_or acts i none) old) → new ≡ silent (after (reverse (take (i + 1) acts)) first)
+one_more acts i none first old new below before made =
+    made ∙ ap (λ w. silent (acted (get_or acts i none) w)) before ∙ acted-silent (get_or acts i none) (after (reverse (take i acts)) first)
+    ∙ ap (λ earlier. silent (after earlier first)) (sym (ap reverse (take_more acts i none below) ∙ reverse-append (take i acts) (get_or acts i none ∷ [])))
+
+-- ---- the shape stays
+
+acted_stations : (act : Act) (w : State) → length (acted act w).records ≡ length w.records
+acted_stations act w = turn (refusal act w)
+  where
+    moved_stations : (a : Act) → length (moved a w).records ≡ length w.records
+    moved_stations (Take s v) = length-set w.records s _
+    moved_stations (Release s) = length-set w.records s _
+    moved_stations (Step s) = length-set w.records s _
+
+    turn : (r : Option Refused) → length (unless_refused r act w).records ≡ length w.records
+    turn None = moved_stations act
+    turn (Some why) = refl
+
+pub shape_kept : (act : Act) (w new : State) → new ≡ silent (acted act w) → HasShapeOf w new
+shape_kept act w new is = subst (HasShapeOf w) (sym is) (record {
+  dim = acted_dim act w;
+  stations = length_forgotten (acted act w).records ∙ acted_stations act w;
+})
+
+pub shape_same : (w new : State) → new ≡ w → HasShapeOf w new
+shape_same w new is = record { dim = ap (λ (u : State). u.dim) is; stations = ap (λ (u : State). length u.records) is }
+
+pub shape_trans : (first old new : State) → HasShapeOf first old → HasShapeOf old new → HasShapeOf first new
+shape_trans first old new before now = record { dim = now.dim ∙ before.dim; stations = now.stations ∙ before.stations }

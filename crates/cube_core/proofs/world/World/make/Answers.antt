@@ -1,0 +1,34 @@
+-- Each call makes of the world what the act makes of it.
+use Rattle.std.proofs.Common.{sym, ◌∙◌, ap}
+use Rattle.cube_core.specs.declared.act.Act.TheVariants.{Take, Release, Step}
+use Rattle.cube_core.specs.Schedule.{acted}
+use Rattle.cube_core.specs.World.{silent}
+use Rattle.cube_core.proofs.WorldLemmas.{made_by, silent_of, IsWorld-of}
+use Rattle.cube_core.proofs.world.World.make.Goals as goal
+
+pub returns-in-Take-clause-world : goal.returns-in-Take-clause-world
+returns-in-Take-clause-world c =
+    (made_by (Take c.in-Take.station c.in-Take.node) c.args.self.now c.begin_take.new.self c.begin_take.result (IsWorld-of c.self.view_is c.self.invariant) (silent_of c.self.inside.dim c.self.inside.words.items c.self.inside.phases.items c.args.self.now c.self.view_is) c.begin_take.ensures.refused c.begin_take.ensures.unchanged c.begin_take.ensures.world).0
+    ∙ ap (λ act. silent (acted act c.args.self.now)) (sym c.in-Take.is)
+
+pub returns-in-Take-clause-lawful : goal.returns-in-Take-clause-lawful
+returns-in-Take-clause-lawful c =
+    (made_by (Take c.in-Take.station c.in-Take.node) c.args.self.now c.begin_take.new.self c.begin_take.result (IsWorld-of c.self.view_is c.self.invariant) (silent_of c.self.inside.dim c.self.inside.words.items c.self.inside.phases.items c.args.self.now c.self.view_is) c.begin_take.ensures.refused c.begin_take.ensures.unchanged c.begin_take.ensures.world).1
+
+pub returns-in-Release-clause-world : goal.returns-in-Release-clause-world
+returns-in-Release-clause-world c =
+    (made_by (Release c.in-Release.station) c.args.self.now c.begin_release.new.self c.begin_release.result (IsWorld-of c.self.view_is c.self.invariant) (silent_of c.self.inside.dim c.self.inside.words.items c.self.inside.phases.items c.args.self.now c.self.view_is) c.begin_release.ensures.refused c.begin_release.ensures.unchanged c.begin_release.ensures.world).0
+    ∙ ap (λ act. silent (acted act c.args.self.now)) (sym c.in-Release.is)
+
+pub returns-in-Release-clause-lawful : goal.returns-in-Release-clause-lawful
+returns-in-Release-clause-lawful c =
+    (made_by (Release c.in-Release.station) c.args.self.now c.begin_release.new.self c.begin_release.result (IsWorld-of c.self.view_is c.self.invariant) (silent_of c.self.inside.dim c.self.inside.words.items c.self.inside.phases.items c.args.self.now c.self.view_is) c.begin_release.ensures.refused c.begin_release.ensures.unchanged c.begin_release.ensures.world).1
+
+pub returns-in-Step-clause-world : goal.returns-in-Step-clause-world
+returns-in-Step-clause-world c =
+    (made_by (Step c.in-Step.station) c.args.self.now c.step.new.self c.step.result (IsWorld-of c.self.view_is c.self.invariant) (silent_of c.self.inside.dim c.self.inside.words.items c.self.inside.phases.items c.args.self.now c.self.view_is) c.step.ensures.refused c.step.ensures.unchanged c.step.ensures.world).0
+    ∙ ap (λ act. silent (acted act c.args.self.now)) (sym c.in-Step.is)
+
+pub returns-in-Step-clause-lawful : goal.returns-in-Step-clause-lawful
+returns-in-Step-clause-lawful c =
+    (made_by (Step c.in-Step.station) c.args.self.now c.step.new.self c.step.result (IsWorld-of c.self.view_is c.self.invariant) (silent_of c.self.inside.dim c.self.inside.words.items c.self.inside.phases.items c.args.self.now c.self.view_is) c.step.ensures.refused c.step.ensures.unchanged c.step.ensures.world).1

@@ -1,0 +1,114 @@
+-- The world of words and stations, and what a schedule of calls makes of it.
+use Rattle.std.specs.Prelude.{ℕ, ◌+◌, ◌^◌, ◌&&◌, nat_lt, replicate, if◌then◌else◌, List, [], ◌∷◌, ◌++◌, length, slice_set, slice_index_or, Option, Some, None}
+use Rattle.cube_core.specs.declared.phase.Phase.{Phase}
+use Rattle.cube_core.specs.declared.phase.Phase.TheVariants.{Idle, Looking, Looked, Climbing, Swept, Holding, Leaving, Backing, Arriving, Unmarked, Marked, Retired}
+use Rattle.cube_core.specs.declared.event.Event.{Event}
+use Rattle.cube_core.specs.declared.act.Act.{Act}
+use Rattle.cube_core.specs.declared.act.Act.TheVariants.{Take, Release, Step}
+use Rattle.cube_core.specs.declared.act.Refused.{Refused}
+use Rattle.cube_core.specs.declared.act.Refused.TheVariants.{NotIdle, NotHolding, NoStation, NotInCube, Resting}
+use Rattle.cube_core.specs.Phase.{owned}
+use Rattle.cube_core.specs.Event.{Transition, transition}
+
+-- a station's record: its phase, and the list of its events, the newest first
+pub record Record : Type 0 where
+  pub phase : Phase
+  pub trail : List Event
+
+-- the dimension of the machine, the word of each node (word 0 is the roll), the record of each station
+pub record State : Type 0 where
+  pub dim : ℕ
+  pub words : List ℕ
+  pub records : List Record
+
+-- a station that is not there reads as retired, and a node that is not there as a word 0
+abbrev pub record_of : State → ℕ → Record
+record_of w s = slice_index_or w.records s (record { phase = Retired; trail = [] })
+
+abbrev pub phase_of : State → ℕ → Phase
+phase_of w s = (record_of w s).phase
+
+abbrev pub word_of : State → ℕ → ℕ
+word_of w v = slice_index_or w.words v 0
+
+-- the opened world: all words 0, all stations idle
+abbrev pub opened : ℕ → ℕ → State
+opened n stations = record {
+  dim = n;
+  words = replicate (2 ^ (n + 1)) 0;
+  records = replicate stations (record { phase = Idle; trail = [] });
+}
+
+-- a station begins something: its phase changes, and nothing else
+abbrev pub begun : ℕ → Phase → State → State
+begun s phase w = record w { records = slice_set w.records s (record (record_of w s) { phase = phase }) }
+
+-- an event: one word and the station's record change
+abbrev pub stepped : Transition → ℕ → State → State
+stepped d s w =
+    let found = word_of w d.node in record {
+      dim = w.dim;
+      words = slice_set w.words d.node (d.writes found);
+      records = slice_set w.records s (record { phase = d.next found; trail = d.events found ++ (record_of w s).trail });
+    }
+
+-- why a take of node v is refused in a phase, if it is
+abbrev pub take_refusal : ℕ → ℕ → Phase → Option Refused
+take_refusal n v Idle = if nat_lt 0 v && nat_lt v (2 ^ (n + 1)) then None else Some NotInCube
+take_refusal n v _ = Some NotIdle
+
+-- a release
+abbrev pub release_refusal : Phase → Option Refused
+release_refusal (Holding h) = None
+release_refusal _ = Some NotHolding
+
+-- a step
+abbrev pub step_refusal : Phase → Option Refused
+step_refusal Idle = Some Resting
+step_refusal (Looking h) = None
+step_refusal (Looked h w) = None
+step_refusal (Climbing h a) = None
+step_refusal (Swept h a) = None
+step_refusal (Holding h) = Some Resting
+step_refusal (Leaving h) = None
+step_refusal (Backing h a) = None
+step_refusal (Arriving a) = Some Resting
+step_refusal (Unmarked a) = Some Resting
+step_refusal (Marked a w left right) = Some Resting
+step_refusal Retired = Some Resting
+
+-- the station that an act is of
+abbrev pub station_of : Act → ℕ
+station_of (Take s v) = s
+station_of (Release s) = s
+station_of (Step s) = s
+
+-- why an act of a station that is there is refused in its phase
+abbrev pub phase_refusal : ℕ → Act → Phase → Option Refused
+phase_refusal n (Take s v) phase = take_refusal n v phase
+phase_refusal n (Release s) phase = release_refusal phase
+phase_refusal n (Step s) phase = step_refusal phase
+
+-- why an act is refused: first that there is no such station, then the phase, then the node
+abbrev pub refusal : Act → State → Option Refused
+refusal act w =
+    if nat_lt (station_of act) (length w.records) then phase_refusal w.dim act (phase_of w (station_of act)) else Some NoStation
+
+-- what an act that is not refused makes of the world
+abbrev pub moved : Act → State → State
+moved (Take s v) w = begun s (Looking v) w
+moved (Release s) w = begun s (Leaving (owned (phase_of w s))) w
+moved (Step s) w = stepped (transition s (phase_of w s)) s w
+
+-- what an act makes of the world: a refused one changes nothing
+abbrev pub unless_refused : Option Refused → Act → State → State
+unless_refused None act w = moved act w
+unless_refused (Some why) act w = w
+
+abbrev pub acted : Act → State → State
+acted act w = unless_refused (refusal act w) act w
+
+-- the world after a schedule: a list of acts, the newest first
+abbrev pub after : List Act → State → State
+after [] w = w
+after (act ∷ earlier) w = acted act (after earlier w)

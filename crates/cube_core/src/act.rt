@@ -1,0 +1,29 @@
+use thiserror::Error;
+
+/// A call of a station: the beginning of a take or of a release, or one step.
+#[derive(Clone, Copy, Debug, PartialEq, Eq, Hash)]
+pub enum Act {
+    Take { station: u64, node: u64 },
+    Release { station: u64 },
+    Step { station: u64 },
+}
+
+/// Why a call is refused. A refused call changes nothing.
+#[derive(Clone, Copy, Debug, PartialEq, Eq, Error)]
+pub enum Refused {
+    /// A take of a station that is not idle.
+    #[error("the station is not idle")]
+    NotIdle,
+    /// A release of a station that holds nothing.
+    #[error("the station holds nothing")]
+    NotHolding,
+    /// There is no station of this number.
+    #[error("there is no such station")]
+    NoStation,
+    /// A take of a number that is no node of the machine.
+    #[error("there is no such node")]
+    NotInCube,
+    /// A step of a station that makes none.
+    #[error("the station makes no step")]
+    Resting,
+}

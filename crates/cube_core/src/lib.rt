@@ -1,0 +1,23 @@
+//! The status tree of a hypercube machine as a state machine, whose events are single atomic steps.
+//!
+//! Each node of the tree of aligned regions has a status word, and each station a phase. A station
+//! takes the region of a node by a Look and a Claim at the node, then a Sweep and a Raise at each
+//! ancestor on the way up. It gives the region back by a Zero at the node. Between any two events
+//! of a station any events of the others may come; what is proved here holds in every order.
+//!
+//! A station whose Zero was not at the root rests in `Arriving`: it makes no further event yet.
+#![tactic(auto)]
+
+mod act;
+mod effect;
+mod event;
+mod phase;
+mod world;
+
+pub use act::{Act, Refused};
+pub use event::{Event, Kind, Note};
+pub use phase::{Phase, Seen};
+pub use world::{World, every_schedule_is_lawful};
+
+#[cfg(test)]
+mod tests;

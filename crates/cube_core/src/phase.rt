@@ -1,0 +1,66 @@
+/// What a station on its way up after a release has seen of a child of the node where it is.
+#[derive(Clone, Copy, Debug, PartialEq, Eq, Hash)]
+pub enum Seen {
+    NotYet,
+    Free,
+    Used,
+}
+
+/// What a station does at the moment, and so which event it makes next.
+///
+/// `node` is the node whose region it takes or gives back, and `at` the ancestor that its next
+/// event is at.
+#[derive(Clone, Copy, Debug, PartialEq, Eq, Hash)]
+pub enum Phase {
+    /// Owns nothing, and may begin a take.
+    Idle,
+    /// Looks at the node next.
+    Looking {
+        node: u64,
+    },
+    /// Has found the node free, with this word, and claims it next.
+    Looked {
+        node: u64,
+        word: u64,
+    },
+    /// Owns the node, has told all ancestors below `at`, and sweeps `at` next.
+    Climbing {
+        node: u64,
+        at: u64,
+    },
+    /// Has swept `at`, and raises its side there next.
+    Swept {
+        node: u64,
+        at: u64,
+    },
+    /// Holds the region of the node, and may begin a release.
+    Holding {
+        node: u64,
+    },
+    /// Gives the node back by a Zero next.
+    Leaving {
+        node: u64,
+    },
+    /// Has found `at` occupied, and gives the node back by a Zero next.
+    Backing {
+        node: u64,
+        at: u64,
+    },
+    /// Owns nothing any more, and is to clear `at`.
+    Arriving {
+        at: u64,
+    },
+    /// Has cleared the marks of `at`.
+    Unmarked {
+        at: u64,
+    },
+    /// Has set its mark at `at`, which made it this word, and looks at the children.
+    Marked {
+        at: u64,
+        word: u64,
+        left: Seen,
+        right: Seen,
+    },
+    /// Makes no event any more.
+    Retired,
+}
