@@ -5,6 +5,7 @@ use crate::fault::{Fault, What};
 use crate::fields;
 use crate::run::run_on;
 use clap::error::ErrorKind;
+use cube_shape::MAX_DIM;
 use job_types::{JobRefused, Kind, Op};
 use std::alloc::Global;
 use std::io;
@@ -25,7 +26,7 @@ struct Ran {
 
 // A run on these bytes.
 fn run_bytes(rt: &(impl AllocGlobal + Abort), n: u32, input: &[u8]) -> Result<Ran, Fail> {
-    assert!(rt; n <= 10);
+    assert!(rt; n <= MAX_DIM);
     let mut reader = Counted::new(input);
     let mut writer = Counted::new(Vec::new(rt.alloc()));
     let answer = run_on(rt.alloc(), n, &mut reader, &mut writer);
