@@ -1,10 +1,14 @@
 //! The first events of two schedules, event by event, each refusal, and a machine of one node.
 
+ghost use Rattle.cube_core.specs.World.{HasShapeOf};
+
 use crate::{Act, Event, Kind, Note, Phase, Refused, World};
 use std::test::Fail;
 
 // Whether the next step of a station is this event.
-fn makes(world: &mut World, station: u64, kind: Kind, node: u64, word: u64, note: Note) -> bool {
+fn makes(world: &mut World, station: u64, kind: Kind, node: u64, word: u64, note: Note) -> bool
+    ensures { HasShapeOf world.old world.new }
+{
     world.step(station)
         == Ok(Event {
             station,
@@ -16,12 +20,16 @@ fn makes(world: &mut World, station: u64, kind: Kind, node: u64, word: u64, note
 }
 
 // Whether a take begins.
-fn takes(world: &mut World, station: u64, node: u64) -> bool {
+fn takes(world: &mut World, station: u64, node: u64) -> bool
+    ensures { HasShapeOf world.old world.new }
+{
     world.begin_take(station, node).is_ok()
 }
 
 // Whether a release begins.
-fn releases(world: &mut World, station: u64) -> bool {
+fn releases(world: &mut World, station: u64) -> bool
+    ensures { HasShapeOf world.old world.new }
+{
     world.begin_release(station).is_ok()
 }
 
@@ -55,6 +63,26 @@ fn backs_out_under_an_occupied_node(rt: HostRuntime) -> Result<(), Fail> {
     assert!(rt; makes(&mut world, 0, Kind::Sweep, 2, 7, Note::Ok));
     assert!(rt; makes(&mut world, 0, Kind::Raise, 2, 7, Note::Under));
     assert!(rt; makes(&mut world, 0, Kind::Zero, 4, 0, Note::Climb));
+    Ok(())
+}
+
+#[test]
+fn gives_back_under_a_held_root(rt: HostRuntime) -> Result<(), Fail> {
+    let mut world = World::new(rt.alloc(), 1, 3)?;
+    assert!(rt; takes(&mut world, 1, 1));
+    assert!(rt; makes(&mut world, 1, Kind::Look, 1, 0, Note::Free));
+    assert!(rt; makes(&mut world, 1, Kind::Claim, 1, 7, Note::Held));
+    assert!(rt; takes(&mut world, 0, 2));
+    assert!(rt; makes(&mut world, 0, Kind::Look, 2, 0, Note::Free));
+    assert!(rt; makes(&mut world, 0, Kind::Claim, 2, 7, Note::Climb));
+    assert!(rt; makes(&mut world, 0, Kind::Sweep, 1, 7, Note::Ok));
+    assert!(rt; makes(&mut world, 0, Kind::Raise, 1, 7, Note::Under));
+    assert_eq!(rt; world.phase(0), Phase::Backing { node: 2, at: 1 });
+    assert!(rt; makes(&mut world, 0, Kind::Zero, 2, 0, Note::Climb));
+    assert_eq!(rt; world.phase(0), Phase::Arriving { at: 1 });
+    assert_eq!(rt; world.phase(1), Phase::Holding { node: 1 });
+    assert_eq!(rt; world.word(1), 7);
+    assert_eq!(rt; world.word(2), 0);
     Ok(())
 }
 
