@@ -1,0 +1,92 @@
+//! The rounds of the four collectives on 1,024 places, as plain Rust without crates.
+//!
+//! `plain_rounds COLLECTIVE TIMES` does the work of the program `rounds_bench`: it repeats one
+//! collective of sums and prints a number that all places determine. Build it with
+//! `rustc --edition 2021 -O`.
+
+use std::env;
+use std::hint::black_box;
+
+const PLACES: usize = 1024;
+
+const ROOT: usize = 3;
+
+fn broadcast(items: &mut [u64]) {
+    let mut half = 1;
+    while half < items.len() {
+        for v in 0..half {
+            items[(v + half) ^ ROOT] = items[v ^ ROOT];
+        }
+        half *= 2;
+    }
+}
+
+fn reduce(items: &mut [u64]) {
+    let mut half = 1;
+    while half < items.len() {
+        for block in items.chunks_exact_mut(2 * half) {
+            let (low, high) = block.split_at_mut(half);
+            let at = ROOT % half;
+            let both = low[at].wrapping_add(high[at]);
+            let to_low = ROOT & half == 0;
+            low[at] = if to_low { both } else { 0 };
+            high[at] = if to_low { 0 } else { both };
+        }
+        half *= 2;
+    }
+}
+
+fn all_reduce(items: &mut [u64]) {
+    let mut half = 1;
+    while half < items.len() {
+        for block in items.chunks_exact_mut(2 * half) {
+            let (low, high) = block.split_at_mut(half);
+            for (a, b) in low.iter_mut().zip(high) {
+                let both = a.wrapping_add(*b);
+                *a = both;
+                *b = both;
+            }
+        }
+        half *= 2;
+    }
+}
+
+fn scan(items: &mut [u64], totals: &mut [u64]) {
+    totals.copy_from_slice(items);
+    let mut half = 1;
+    while half < items.len() {
+        let blocks = items.chunks_exact_mut(2 * half);
+        for (block, sums) in blocks.zip(totals.chunks_exact_mut(2 * half)) {
+            let (_, prefixes) = block.split_at_mut(half);
+            let (left, right) = sums.split_at_mut(half);
+            for ((prefix, a), b) in prefixes.iter_mut().zip(left).zip(right) {
+                *prefix = a.wrapping_add(*prefix);
+                let both = a.wrapping_add(*b);
+                *a = both;
+                *b = both;
+            }
+        }
+        half *= 2;
+    }
+}
+
+fn main() {
+    let words: Vec<String> = env::args().collect();
+    let times: u64 = words[2].parse().expect("a number of times");
+    let mut items: Vec<u64> = (0..PLACES as u64).collect();
+    let mut totals = vec![0; PLACES];
+    for _ in 0..times {
+        let items = black_box(&mut items[..]);
+        match words[1].as_str() {
+            "broadcast" => broadcast(items),
+            "reduce" => reduce(items),
+            "allreduce" => all_reduce(items),
+            "scan" => scan(items, &mut totals),
+            name => panic!("no collective is called {name}"),
+        }
+    }
+    let digest = items.iter().fold(0, |digest: u64, item| {
+        digest.wrapping_mul(31).wrapping_add(*item)
+    });
+    println!("{digest}");
+}
