@@ -2,14 +2,15 @@
 -- lower half, and the next block of h ranks.
 use Rattle.std.proofs.Common.{◌≡◌, ℕ, ◌+◌, ◌-◌, ◌*◌, ◌/◌, ◌%◌, ◌^◌, ◌<◌, ◌≤◌, ◌≢◌, inl, inr, List, length, sym, ◌∙◌, ap, subst, arith}
 use Rattle.std.specs.Prelude.{All, Some, ◌==◌, if◌then◌else◌}
-use Rattle.std.proofs.lemmas.Nat.{div-add-mod', div-mul-add, mod-mul-add, mod_below, mul-le, pow-add, pow_pos}
+use Rattle.std.proofs.lemmas.Nat.{div-add-mod', mod-mul-add, mod_below, mul-le, pow-add, pow_pos}
+use Rattle.std.proofs.Math.Nat.{mod-eq_of_lt}
 use Rattle.std.proofs.lemmas.List.{take_all}
 use Rattle.std.proofs.lemmas.Option.{slice_get-get_or}
 use Rattle.std.proofs.lemmas.Bool.{cases_lt, cases_eq, eq-eqb, ne_eqb}
 use Rattle.collectives.specs.Laws.{MonoidLaws}
 use Rattle.collectives.specs.Places.{total, prefix_total, Holds}
 use Rattle.collectives.specs.Rounds.{item_at, TurnsPairs, gathered_low, gathered_high}
-use Rattle.collectives.proofs.PairLemmas.{pair_fits}
+use Rattle.collectives.proofs.PairLemmas.{low_of_block, pair_fits}
 use Rattle.collectives.proofs.FoldLemmas.{range_total, range_total-add, range_total-one}
 
 -- each rank of each block of so many ranks holds what is said of the block's first rank and of the
@@ -19,13 +20,6 @@ EachInBlock unit size held items = (block offset : ℕ) → offset < size → bl
     → item_at unit items (block * size + offset) ≡ held (block * size) offset
 
 -- ---- the ranks of a block
-
--- a rank of an even block is the lower of a pair
-pub low_of_block : (block offset h : ℕ) → offset < h → (block * (2 * h) + offset) / h % 2 ≡ 0
-low_of_block block offset h within =
-    let place : block * (2 * h) + offset ≡ 2 * block * h + offset = grind arith in
-    let quotient : (block * (2 * h) + offset) / h ≡ 2 * block = ap (λ n. n / h) place ∙ div-mul-add (2 * block) h offset within in
-    omega (arith, quotient)
 
 -- an item of a block, read at any spelling of its rank and its block's first rank
 pub block_item : {M : Type 0} (unit : M) (size : ℕ) (held : ℕ → ℕ → M) (items : List M) → EachInBlock unit size held items
@@ -71,6 +65,14 @@ IsRound-whole n k i half round =
     let product : n ≡ 2 ^ (k - i - 1) * (2 * half) + 0 =
     round.places ∙ split ∙ ap (λ w. 2 ^ i * w) twice ∙ ap (λ h. h * (2 ^ (k - i - 1) * 2)) (sym round.half_is) ∙ grind arith in
     ap (λ x. x % (2 * half)) product ∙ mod-mul-add (2 ^ (k - i - 1)) (2 * half) 0 positive
+
+-- there is at least one
+pub IsRound-block : (n k i half : ℕ) → IsRound n k i half → 2 * half ≤ n
+IsRound-block n k i half round =
+    elim (cases_lt n (2 * half)) [
+      | inl less ↦ absurd (omega (arith, mod-eq_of_lt less, IsRound-whole n k i half round, pow_pos k, round.places))
+      | inr enough ↦ enough
+    ]
 
 -- the next round's pairs lie twice as far apart
 pub IsRound-next : (n k i half : ℕ) → IsRound n k i half → 2 * half ≡ 2 ^ (i + 1)

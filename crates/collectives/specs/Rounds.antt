@@ -1,5 +1,5 @@
 -- What one round does, over the pairs of ranks that lie half apart.
-use Rattle.std.specs.Prelude.{◌≡◌, ℕ, ◌+◌, ◌/◌, ◌%◌, ◌<◌, List, length, slice_get, slice_index_or, bit_xor, ◌==◌, if◌then◌else◌}
+use Rattle.std.specs.Prelude.{◌≡◌, ℕ, ◌+◌, ◌/◌, ◌%◌, ◌<◌, ◌≤◌, ◌⊎◌, List, length, slice_get, slice_index_or, bit_xor, ◌==◌, if◌then◌else◌}
 
 -- the item at a rank, and the unit past the last
 abbrev pub item_at : {M : Type 0} → M → List M → ℕ → M
@@ -19,6 +19,12 @@ TurnsPair unit left right old new low high =
 -- the items of each pair do
 abbrev pub TurnsPairs : {M : Type 0} → M → ℕ → (ℕ → M → M → M) → (ℕ → M → M → M) → List M → List M → Type 0
 TurnsPairs unit half left right old new = EachPair half (length old) (TurnsPair unit left right old new)
+
+-- the items of the pairs whose lower rank is in a range do, and those of the other pairs stay
+pub record TurnsPairsIn {M : Type 0} (unit : M) (half from bound : ℕ) (left right : ℕ → M → M → M) (old new : List M) : Type 0 where
+  pub turned : EachPair half (length old) (λ low high. from ≤ low → low < bound → TurnsPair unit left right old new low high)
+  pub others : EachPair half (length old) (λ low high. (low < from) ⊎ (bound ≤ low) →
+      (item_at unit new low ≡ item_at unit old low) × (item_at unit new high ≡ item_at unit old high))
 
 -- what the lower and the higher rank of a pair hold after a round towards the root: if they agree with
 -- it below their own bit, the one that agrees there too has both items joined, the other has the unit

@@ -3,7 +3,7 @@ ghost use Rattle.collectives.specs.Places.{Holds, prefix_total, total};
 ghost use Rattle.collectives.specs.Shape.{tally_of};
 
 use crate::monoid::Monoid;
-use crate::rounds::{distance, exchange, gather, prepend_totals, spread};
+use crate::rounds::{distance, exchange, extend, gather, spread};
 use crate::shape::{DIM_LIMIT, Shape, Tally};
 
 /// Every place gets the item of the root's place, one of the `2^k`.
@@ -73,9 +73,7 @@ pub fn scan<M: Monoid>(items: &mut [M], scratch: &mut [M], k: u32) -> Tally
 {
     scratch.copy_from_slice(items);
     for round in 0..k {
-        let half = distance(round);
-        prepend_totals(items, scratch, half);
-        exchange(scratch, half);
+        extend(items, scratch, distance(round));
     }
     Shape::Scan.tally(k)
 }

@@ -1,7 +1,7 @@
 //! One round of each collective, over the pairs of ranks that lie `half` apart.
 
-ghost use Rattle.std.specs.Prelude.{◌≡◌, ℕ, ◌+◌, ◌*◌, ◌%◌, ◌^◌, ◌<◌, length, All, slice_get, slice_set, ◌≢◌, bit_xor, if◌then◌else◌};
-ghost use Rattle.collectives.specs.Rounds.{Doubles, TurnsPairs, gathered_high, gathered_low, item_at};
+ghost use Rattle.std.specs.Prelude.{◌≡◌, ℕ, ◌+◌, ◌*◌, ◌%◌, ◌^◌, ◌<◌, ◌≤◌, length, All, slice_get, slice_set, ◌≢◌, bit_xor, if◌then◌else◌};
+ghost use Rattle.collectives.specs.Rounds.{Doubles, TurnsPairs, TurnsPairsIn, gathered_high, gathered_low, item_at};
 
 use crate::monoid::Monoid;
 use crate::shape::DIM_LIMIT;
@@ -17,15 +17,28 @@ pub(crate) fn distance(round: u32) -> usize
 /// Both ranks of each pair get their two items joined, in the order of the ranks.
 pub(crate) fn exchange<M: Monoid>(items: &mut [M], half: usize)
     requires half { 0 < half }
+    requires block { 2 * half ≤ length items.old }
     requires whole { length items.old % (2 * half) ≡ 0 }
     requires values { All M.is_value items.old }
     ensures joined { TurnsPairs M.unit half (λ low. M.join) (λ low. M.join) items.old items.new }
     ensures values { All M.is_value items.new }
 {
-    for low in 0..items.len() {
-        if low / half % 2 == 0 {
-            exchange_pair(items, low, low + half);
-        }
+    for block in 0..items.len() / (2 * half) {
+        exchange_block(items, block * (2 * half), half);
+    }
+}
+
+/// The pairs of the block that begins at `start` exchange their items.
+fn exchange_block<M: Monoid>(items: &mut [M], start: usize, half: usize)
+    requires half { 0 < half }
+    requires start { start % (2 * half) ≡ 0 }
+    requires within { start + 2 * half ≤ length items.old }
+    requires values { All M.is_value items.old }
+    ensures joined { TurnsPairsIn M.unit half start (start + 2 * half) (λ low. M.join) (λ low. M.join) items.old items.new }
+    ensures values { All M.is_value items.new }
+{
+    for low in start..start + half {
+        exchange_pair(items, low, low + half);
     }
 }
 
@@ -43,51 +56,75 @@ fn exchange_pair<M: Monoid>(items: &mut [M], low: usize, high: usize)
     items[high] = joined;
 }
 
-/// The higher rank of each pair puts the total of the lower one before its own prefix.
-pub(crate) fn prepend_totals<M: Monoid>(items: &mut [M], totals: &[M], half: usize)
+/// The higher rank of each pair puts the total of the lower one before its own prefix, and then both
+/// ranks get their two totals joined, in the order of the ranks.
+pub(crate) fn extend<M: Monoid>(prefixes: &mut [M], totals: &mut [M], half: usize)
     requires half { 0 < half }
-    requires whole { length items.old % (2 * half) ≡ 0 }
-    requires places { length totals.now ≡ length items.old }
-    requires values { All M.is_value items.old }
-    requires total_values { All M.is_value totals.now }
+    requires block { 2 * half ≤ length prefixes.old }
+    requires whole { length prefixes.old % (2 * half) ≡ 0 }
+    requires places { length totals.old ≡ length prefixes.old }
+    requires values { All M.is_value prefixes.old }
+    requires total_values { All M.is_value totals.old }
     ensures prepended { TurnsPairs M.unit half (λ low a b. a)
-        (λ low a b. M.join (item_at M.unit totals.now low) b) items.old items.new }
-    ensures values { All M.is_value items.new }
+        (λ low a b. M.join (item_at M.unit totals.old low) b) prefixes.old prefixes.new }
+    ensures joined { TurnsPairs M.unit half (λ low. M.join) (λ low. M.join) totals.old totals.new }
+    ensures values { All M.is_value prefixes.new }
+    ensures total_values { All M.is_value totals.new }
 {
-    for low in 0..items.len() {
-        if low / half % 2 == 0 {
-            prepend_total(items, totals, low, low + half);
-        }
+    for block in 0..prefixes.len() / (2 * half) {
+        extend_block(prefixes, totals, block * (2 * half), half);
+    }
+}
+
+/// The pairs of the block that begins at `start` extend their prefixes and totals.
+fn extend_block<M: Monoid>(prefixes: &mut [M], totals: &mut [M], start: usize, half: usize)
+    requires half { 0 < half }
+    requires start { start % (2 * half) ≡ 0 }
+    requires within { start + 2 * half ≤ length prefixes.old }
+    requires places { length totals.old ≡ length prefixes.old }
+    requires values { All M.is_value prefixes.old }
+    requires total_values { All M.is_value totals.old }
+    ensures prepended { TurnsPairsIn M.unit half start (start + 2 * half) (λ low a b. a)
+        (λ low a b. M.join (item_at M.unit totals.old low) b) prefixes.old prefixes.new }
+    ensures joined { TurnsPairsIn M.unit half start (start + 2 * half) (λ low. M.join) (λ low. M.join) totals.old totals.new }
+    ensures values { All M.is_value prefixes.new }
+    ensures total_values { All M.is_value totals.new }
+{
+    for low in start..start + half {
+        prepend_total(prefixes, totals, low, low + half);
+        exchange_pair(totals, low, low + half);
     }
 }
 
 /// The rank `high` puts the total of the rank `low` before its own prefix.
-fn prepend_total<M: Monoid>(items: &mut [M], totals: &[M], low: usize, high: usize)
+fn prepend_total<M: Monoid>(prefixes: &mut [M], totals: &[M], low: usize, high: usize)
     requires low { low < length totals.now }
-    requires high { high < length items.old }
-    requires values { All M.is_value items.old }
+    requires high { high < length prefixes.old }
+    requires values { All M.is_value prefixes.old }
     requires total_values { All M.is_value totals.now }
-    ensures prepended { items.new ≡ slice_set items.old high
-        (M.join (item_at M.unit totals.now low) (item_at M.unit items.old high)) }
-    ensures values { All M.is_value items.new }
+    ensures prepended { prefixes.new ≡ slice_set prefixes.old high
+        (M.join (item_at M.unit totals.now low) (item_at M.unit prefixes.old high)) }
+    ensures values { All M.is_value prefixes.new }
 {
-    items[high] = totals[low].join(items[high]);
+    prefixes[high] = totals[low].join(prefixes[high]);
 }
 
 /// In each pair that agrees with the root below its own bit, the rank that agrees there too gets the
 /// two items joined, in the order of the ranks, and the other one is left with the unit.
 pub(crate) fn gather<M: Monoid>(items: &mut [M], root: usize, half: usize)
     requires half { 0 < half }
+    requires block { 2 * half ≤ length items.old }
     requires whole { length items.old % (2 * half) ≡ 0 }
     requires values { All M.is_value items.old }
     ensures gathered { TurnsPairs M.unit half (gathered_low M.unit M.join root half)
         (gathered_high M.unit M.join root half) items.old items.new }
     ensures values { All M.is_value items.new }
 {
-    for low in 0..items.len() {
-        if low / half % 2 == 0 && low % half == root % half {
-            gather_pair(items, low, low + half, root / half % 2 == 0);
-        }
+    let offset = root % half;
+    let to_low = root / half % 2 == 0;
+    for block in 0..items.len() / (2 * half) {
+        let low = block * (2 * half) + offset;
+        gather_pair(items, low, low + half, to_low);
     }
 }
 

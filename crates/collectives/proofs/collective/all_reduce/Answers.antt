@@ -1,5 +1,5 @@
 use Rattle.std.proofs.Common.{arith, subst, ◌∙◌, ◌^◌, ◌≡◌, length}
-use Rattle.collectives.proofs.BlockLemmas.{HoldsTotals, HoldsTotals-start, HoldsTotals-round, HoldsTotals-all, IsRound-positive, IsRound-whole}
+use Rattle.collectives.proofs.BlockLemmas.{HoldsTotals, HoldsTotals-start, HoldsTotals-round, HoldsTotals-all, IsRound-positive, IsRound-whole, IsRound-block}
 use Rattle.collectives.proofs.collective.all_reduce.Goals as goal
 
 pub loop-round-init : goal.loop-round-init
@@ -16,6 +16,11 @@ exchange-requires-clause-half g c =
 pub exchange-requires-clause-whole : goal.exchange-requires-clause-whole
 exchange-requires-clause-whole g c =
     IsRound-whole (length c.loop-round.items) c.args.k c.loop-round.round c.distance.result
+    (record { places = c.loop-round.auto.items ∙ c.requires.places; within = c.loop-round-test.true; half_is = c.distance.ensures })
+
+pub exchange-requires-clause-block : goal.exchange-requires-clause-block
+exchange-requires-clause-block g c =
+    IsRound-block (length c.loop-round.items) c.args.k c.loop-round.round c.distance.result
     (record { places = c.loop-round.auto.items ∙ c.requires.places; within = c.loop-round-test.true; half_is = c.distance.ensures })
 
 pub loop-round-preserved : goal.loop-round-preserved

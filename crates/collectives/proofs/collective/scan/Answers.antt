@@ -1,6 +1,6 @@
 use Rattle.std.proofs.Common.{arith, subst, sym, ◌∙◌, ◌^◌, ◌≡◌, length}
 use Rattle.std.specs.Prelude.{All}
-use Rattle.collectives.proofs.BlockLemmas.{HoldsTotals, HoldsTotals-start, HoldsTotals-round, HoldsTotals-all, HoldsPrefixes, HoldsPrefixes-start, HoldsPrefixes-round, HoldsPrefixes-all, IsRound-positive, IsRound-whole}
+use Rattle.collectives.proofs.BlockLemmas.{HoldsTotals, HoldsTotals-start, HoldsTotals-round, HoldsTotals-all, HoldsPrefixes, HoldsPrefixes-start, HoldsPrefixes-round, HoldsPrefixes-all, IsRound-positive, IsRound-whole, IsRound-block}
 use Rattle.collectives.proofs.collective.scan.Goals as goal
 
 pub loop-round-init : goal.loop-round-init
@@ -14,31 +14,31 @@ loop-round-init g c =
       total_values = subst (λ totals. All m.is_value totals) copied c.requires.values;
     }
 
-pub prepend_totals-requires-clause-half : goal.prepend_totals-requires-clause-half
-prepend_totals-requires-clause-half g c =
-    IsRound-positive (length c.args.items.now) c.args.k c.loop-round.round c.distance-half.result
-    (record { places = c.requires.places; within = c.loop-round-test.true; half_is = c.distance-half.ensures })
+pub extend-requires-clause-half : goal.extend-requires-clause-half
+extend-requires-clause-half g c =
+    IsRound-positive (length c.args.items.now) c.args.k c.loop-round.round c.distance.result
+    (record { places = c.requires.places; within = c.loop-round-test.true; half_is = c.distance.ensures })
 
-pub prepend_totals-requires-clause-whole : goal.prepend_totals-requires-clause-whole
-prepend_totals-requires-clause-whole g c =
-    IsRound-whole (length c.loop-round.items) c.args.k c.loop-round.round c.distance-half.result
-    (record { places = c.loop-round.auto.items ∙ c.requires.places; within = c.loop-round-test.true; half_is = c.distance-half.ensures })
+pub extend-requires-clause-whole : goal.extend-requires-clause-whole
+extend-requires-clause-whole g c =
+    IsRound-whole (length c.loop-round.items) c.args.k c.loop-round.round c.distance.result
+    (record { places = c.loop-round.auto.items ∙ c.requires.places; within = c.loop-round-test.true; half_is = c.distance.ensures })
 
-pub exchange-requires-clause-whole : goal.exchange-requires-clause-whole
-exchange-requires-clause-whole g c =
-    IsRound-whole (length c.loop-round.scratch) c.args.k c.loop-round.round c.distance-half.result
-    (record { places = c.loop-round.auto.scratch ∙ c.copy_from_slice.ensures.len ∙ c.requires.scratch; within = c.loop-round-test.true; half_is = c.distance-half.ensures })
+pub extend-requires-clause-block : goal.extend-requires-clause-block
+extend-requires-clause-block g c =
+    IsRound-block (length c.loop-round.items) c.args.k c.loop-round.round c.distance.result
+    (record { places = c.loop-round.auto.items ∙ c.requires.places; within = c.loop-round-test.true; half_is = c.distance.ensures })
 
 pub loop-round-preserved : goal.loop-round-preserved
 loop-round-preserved g c = record {
-  prefixes = HoldsPrefixes-round g.met.M.Monoid.laws c.args.k c.loop-round.round c.distance-half.result c.args.items.now c.loop-round.items c.loop-round.scratch c.prepend_totals.new.items
-      (record { places = c.loop-round.auto.items ∙ c.requires.places; within = c.loop-round-test.true; half_is = c.distance-half.ensures })
-      (omega arith) (omega arith) c.requires.values c.loop-round.invariant.prefixes c.loop-round.invariant.totals c.prepend_totals.ensures.prepended;
-  totals = HoldsTotals-round g.met.M.Monoid.laws c.args.k c.loop-round.round c.distance-half.result c.args.items.now c.loop-round.scratch c.exchange.new.items
-      (record { places = c.loop-round.auto.scratch ∙ c.copy_from_slice.ensures.len ∙ c.requires.scratch; within = c.loop-round-test.true; half_is = c.distance-half.ensures })
-      (omega arith) c.requires.values c.loop-round.invariant.totals c.exchange.ensures.joined;
-  values = c.prepend_totals.ensures.values;
-  total_values = c.exchange.ensures.values;
+  prefixes = HoldsPrefixes-round g.met.M.Monoid.laws c.args.k c.loop-round.round c.distance.result c.args.items.now c.loop-round.items c.loop-round.scratch c.extend.new.prefixes
+      (record { places = c.loop-round.auto.items ∙ c.requires.places; within = c.loop-round-test.true; half_is = c.distance.ensures })
+      (omega arith) (omega arith) c.requires.values c.loop-round.invariant.prefixes c.loop-round.invariant.totals c.extend.ensures.prepended;
+  totals = HoldsTotals-round g.met.M.Monoid.laws c.args.k c.loop-round.round c.distance.result c.args.items.now c.loop-round.scratch c.extend.new.totals
+      (record { places = c.loop-round.auto.scratch ∙ c.copy_from_slice.ensures.len ∙ c.requires.scratch; within = c.loop-round-test.true; half_is = c.distance.ensures })
+      (omega arith) c.requires.values c.loop-round.invariant.totals c.extend.ensures.joined;
+  values = c.extend.ensures.values;
+  total_values = c.extend.ensures.total_values;
 }
 
 pub returns-clause-held : goal.returns-clause-held
