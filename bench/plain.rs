@@ -1,4 +1,5 @@
-//! The same job as `cubejobs run`, as a plain Rust program without crates: all-reduce by addition.
+//! The same job as `cubejobs run`, as a plain Rust program without crates: all-reduce and scan by
+//! addition.
 //!
 //! It reads jobs as CSV (without quotes) from standard input, and writes their replies sorted by
 //! lane, then by their number in the lane. Build it with `rustc -O`.
@@ -7,15 +8,23 @@ use std::env;
 use std::io::{self, BufRead, BufWriter, Write};
 use std::process::ExitCode;
 
+#[derive(Clone, Copy)]
+enum Kind {
+    AllReduce,
+    Scan,
+}
+
 struct Job {
     lane: u32,
     seq: u64,
+    kind: Kind,
     items: Vec<u64>,
 }
 
 struct Reply {
     lane: u32,
     seq: u64,
+    kind: Kind,
     dim: u32,
     result: Vec<u64>,
     rounds: u32,
@@ -59,11 +68,19 @@ fn job(line: &str, machine_dim: u32, next_seq: &mut [u64; 16]) -> Result<Job, &'
     let Some(seq) = next_seq.get_mut(lane as usize) else {
         return Err("Number");
     };
-    if kind != "allreduce" || op != "add" {
+    let kind = match kind {
+        "allreduce" => Kind::AllReduce,
+        "scan" => Kind::Scan,
+        _ => return Err("Word"),
+    };
+    if op != "add" {
         return Err("Word");
     }
     let root = number(root)?;
-    let items = items.split(' ').map(number).collect::<Result<Vec<_>, _>>()?;
+    let items = items
+        .split(' ')
+        .map(number)
+        .collect::<Result<Vec<_>, _>>()?;
     if !items.len().is_power_of_two() {
         return Err("Job NotPowerOfTwo");
     }
@@ -76,6 +93,7 @@ fn job(line: &str, machine_dim: u32, next_seq: &mut [u64; 16]) -> Result<Job, &'
     let job = Job {
         lane: lane as u32,
         seq: *seq,
+        kind,
         items,
     };
     *seq += 1;
@@ -85,13 +103,20 @@ fn job(line: &str, machine_dim: u32, next_seq: &mut [u64; 16]) -> Result<Job, &'
 fn answer(job: Job, machine: &mut Machine) -> Option<Reply> {
     let dim = job.items.len().ilog2();
     let base = machine.take(dim)?;
-    let total = job.items.iter().fold(0u64, |sum, item| sum.wrapping_add(*item));
     let mut result = job.items;
-    result.fill(total);
+    let mut sum = 0u64;
+    for item in &mut result {
+        sum = sum.wrapping_add(*item);
+        *item = sum;
+    }
+    if let Kind::AllReduce = job.kind {
+        result.fill(sum);
+    }
     machine.release(base, dim);
     Some(Reply {
         lane: job.lane,
         seq: job.seq,
+        kind: job.kind,
         dim,
         rounds: dim,
         messages: u64::from(dim) << dim,
@@ -126,7 +151,11 @@ fn write_replies(replies: &[Reply]) -> io::Result<()> {
     let mut output = BufWriter::new(io::stdout().lock());
     writeln!(output, "lane,seq,kind,dim,result,rounds,messages")?;
     for reply in replies {
-        write!(output, "{},{},allreduce,{},", reply.lane, reply.seq, reply.dim)?;
+        let kind = match reply.kind {
+            Kind::AllReduce => "allreduce",
+            Kind::Scan => "scan",
+        };
+        write!(output, "{},{},{kind},{},", reply.lane, reply.seq, reply.dim)?;
         for (place, value) in reply.result.iter().enumerate() {
             let gap = if place == 0 { "" } else { " " };
             write!(output, "{gap}{value}")?;
@@ -137,7 +166,10 @@ fn write_replies(replies: &[Reply]) -> io::Result<()> {
 }
 
 fn main() -> ExitCode {
-    let dim: u32 = env::args().nth(1).and_then(|word| word.parse().ok()).unwrap_or(10);
+    let dim: u32 = env::args()
+        .nth(1)
+        .and_then(|word| word.parse().ok())
+        .unwrap_or(10);
     let jobs = match read_jobs(dim) {
         Ok(jobs) => jobs,
         Err((row, name)) => {
