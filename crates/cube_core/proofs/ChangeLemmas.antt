@@ -1,5 +1,5 @@
 -- The invariant behind safety, and how one word and one phase that change keep it.
-use Rattle.std.proofs.Common.{◌≡◌, ◌≢◌, ℕ, ◌/◌, ◌<◌, ◌≤◌, ◌⊎◌, inl, inr, refl, sym, ◌∙◌, ap, subst, arith}
+use Rattle.std.proofs.Common.{◌≡◌, ◌≢◌, ℕ, ◌/◌, ◌^◌, ◌<◌, ◌≤◌, ◌⊎◌, inl, inr, refl, sym, ◌∙◌, ap, subst, arith}
 use Rattle.std.specs.Prelude.{◌↔◌}
 use Rattle.std.proofs.lemmas.Bool.{cases_eq}
 use Rattle.cube_shape.specs.declared.node.Side.{Side}
@@ -8,13 +8,17 @@ use Rattle.cube_shape.specs.Node.{OnPath, IsInCube, child_towards}
 use Rattle.cube_shape.proofs.PathLemmas.{OnPath-le, OnPath-zero, OnPath-jump, OnPath-one_child, child_towards_is}
 use Rattle.status_word.specs.Word.{side_place, IsSet, IsOccupied, HasSide, IsFree, with_side}
 use Rattle.status_word.proofs.WordLemmas.{IsOccupied-in_use, HasSide-in_use, with_side-has, with_side-keeps, with_side-others}
-use Rattle.std.proofs.Common.{lit<}
+use Rattle.cube_core.proofs.WordFacts.{side_place-low}
 use Rattle.cube_core.specs.declared.phase.Phase.{Phase}
 use Rattle.cube_core.specs.declared.phase.Phase.TheVariants.{Idle, Looking, Looked, Climbing, Swept, Holding, Leaving, Backing, Arriving, Unmarked, Marked, Retired}
 use Rattle.cube_core.specs.Phase.{side_of, owned, stop, HasPassed}
 use Rattle.cube_core.specs.Event.{busy}
 
 -- ---- the invariant, of the words and the phases as functions
+
+-- an inner node of the machine of dimension n
+abbrev pub IsInner : ℕ → ℕ → Type 0
+IsInner n a = (0 < a) × (a < 2 ^ n)
 
 -- the nodes and the word that a phase keeps
 abbrev pub Fit : ℕ → Phase → Type 0
@@ -26,9 +30,9 @@ Fit n (Swept h a) = IsInCube n h × (a < h) × OnPath a h
 Fit n (Holding h) = IsInCube n h
 Fit n (Leaving h) = IsInCube n h
 Fit n (Backing h a) = IsInCube n h
-Fit n (Arriving a) = Unit {0}
-Fit n (Unmarked a) = Unit {0}
-Fit n (Marked a w left right) = Unit {0}
+Fit n (Arriving a) = IsInner n a
+Fit n (Unmarked a) = IsInner n a
+Fit n (Marked a w left right) = IsInner n a
 Fit n Retired = Unit {0}
 
 pub record Agrees (n : ℕ) (W : ℕ → ℕ) (P : ℕ → Phase) : Type 0 where
@@ -65,40 +69,36 @@ each_word {v = v} {V = V} x F here others a = elim (cases_eq a v) [
 -- ---- what every event keeps that leaves the owners alone
 
 -- no station's owned node and no word's OCC changes
-owners_kept : {n : ℕ} {W : ℕ → ℕ} {P : ℕ → Phase} {V : ℕ → ℕ} {Q : ℕ → Phase} → Agrees n W P → ((s : ℕ) → owned (Q s) ≡ owned (P s)) → ((v : ℕ) → IsOccupied (V v) ↔ IsOccupied (W v)) → ((s : ℕ) → Fit n (Q s)) → ((s c : ℕ) → HasPassed (Q s) c → HasSide (side_of c) (V (c / 2))) → ((s t c : ℕ) → owned (Q s) ≡ c / 2 → HasPassed (Q t) c → ⊥) → Agrees n V Q
+pub owners_kept : {n : ℕ} {W : ℕ → ℕ} {P : ℕ → Phase} {V : ℕ → ℕ} {Q : ℕ → Phase} → Agrees n W P → ((s : ℕ) → owned (Q s) ≡ owned (P s)) → ((v : ℕ) → 0 < v → IsOccupied (V v) ↔ IsOccupied (W v)) → ((s : ℕ) → Fit n (Q s)) → ((s c : ℕ) → HasPassed (Q s) c → HasSide (side_of c) (V (c / 2))) → ((s t c : ℕ) → owned (Q s) ≡ c / 2 → HasPassed (Q t) c → ⊥) → Agrees n V Q
 owners_kept {W = W} {P = P} {V = V} {Q = Q} k owns occ fit sides apart = record {
   fit = fit;
   sides = sides;
-  busy = λ s positive. (occ (owned (Q s))).1 (subst (λ h. IsOccupied (W h)) (sym (owns s)) (k.busy s (subst (λ h. 0 < h) (owns s) positive)));
-  owner = λ v positive occupied. let found = k.owner v positive ((occ v).0 occupied) in (found.0, owns found.0 ∙ found.1);
+  busy = λ s positive. (occ (owned (Q s)) positive).1 (subst (λ h. IsOccupied (W h)) (sym (owns s)) (k.busy s (subst (λ h. 0 < h) (owns s) positive)));
+  owner = λ v positive occupied. let found = k.owner v positive ((occ v positive).0 occupied) in (found.0, owns found.0 ∙ found.1);
   alone = λ s t other same. owns s ∙ k.alone s t other (sym (owns s) ∙ same ∙ owns t);
   apart = apart;
 }
 
 -- the same words and phases
 pub Agrees-same : {n : ℕ} {W : ℕ → ℕ} {P : ℕ → Phase} {Q : ℕ → Phase} → ((s : ℕ) → Q s ≡ P s) → Agrees n W P → Agrees n W Q
-Agrees-same {n = n} same k = owners_kept k (λ s. ap owned (same s)) (λ v. (λ o. o, λ o. o)) (λ s. subst (Fit n) (sym (same s)) (k.fit s)) (λ s c on. k.sides s c (subst (λ p. HasPassed p c) (same s) on)) (λ s t c o on. k.apart s t c (sym (ap owned (same s)) ∙ o) (subst (λ p. HasPassed p c) (same t) on))
+Agrees-same {n = n} same k = owners_kept k (λ s. ap owned (same s)) (λ v _. (λ o. o, λ o. o)) (λ s. subst (Fit n) (sym (same s)) (k.fit s)) (λ s c on. k.sides s c (subst (λ p. HasPassed p c) (same s) on)) (λ s t c o on. k.apart s t c (sym (ap owned (same s)) ∙ o) (subst (λ p. HasPassed p c) (same t) on))
 
-side_place_low : (side : Side) → side_place side < 3
-side_place_low Left = lit< tt
-side_place_low Right = lit< tt
-
--- a word keeps its bits of use, and a station owns what it owned and has passed no more: the
--- beginnings, the Look, a lost Claim, the Sweep and a Raise that finds OCC
-pub quiet : {n : ℕ} {W : ℕ → ℕ} {P : ℕ → Phase} {v y u : ℕ} {q : Phase} {V : ℕ → ℕ} {Q : ℕ → Phase} → Change W P v y u q V Q → Agrees n W P → Fit n q → owned q ≡ owned (P u) → stop (P u) ≤ stop q → IsOccupied y ↔ IsOccupied (W v) → ((i : ℕ) → i < 3 → IsSet (W v) i → IsSet y i) → Agrees n V Q
-quiet {n = n} {W = W} {P = P} {u = u} {V = V} {Q = Q} x k fit own further occ grows = owners_kept k owns occ_all fit_all (λ s c on. grown (c / 2) (side_place (side_of c)) (side_place_low (side_of c)) (k.sides s c (passed s c on))) (λ s t c o on. k.apart s t c (sym (owns s) ∙ o) (passed t c on))
+-- a word of a node keeps its bits of use, and a station owns what it owned and has passed no more:
+-- all moves but a Claim that wins, a Raise that finds no OCC, a Zero and a Clear that wins
+pub quiet : {n : ℕ} {W : ℕ → ℕ} {P : ℕ → Phase} {v y u : ℕ} {q : Phase} {V : ℕ → ℕ} {Q : ℕ → Phase} → Change W P v y u q V Q → Agrees n W P → Fit n q → owned q ≡ owned (P u) → stop (P u) ≤ stop q → (0 < v → IsOccupied y ↔ IsOccupied (W v)) → (0 < v → (i : ℕ) → i < 3 → IsSet (W v) i → IsSet y i) → Agrees n V Q
+quiet {n = n} {W = W} {P = P} {u = u} {V = V} {Q = Q} x k fit own further occ grows = owners_kept k owns occ_all fit_all (λ s c on. grown (c / 2) (omega (arith, on.1)) (side_place (side_of c)) (side_place-low (side_of c)) (k.sides s c (passed s c on))) (λ s t c o on. k.apart s t c (sym (owns s) ∙ o) (passed t c on))
   where
     owns : (s : ℕ) → owned (Q s) ≡ owned (P s)
     owns = each x (λ s p. owned p ≡ owned (P s)) own (λ t _. refl)
 
-    occ_all : (a : ℕ) → IsOccupied (V a) ↔ IsOccupied (W a)
-    occ_all = each_word x (λ a w. IsOccupied w ↔ IsOccupied (W a)) occ (λ a _. (λ o. o, λ o. o))
+    occ_all : (a : ℕ) → 0 < a → IsOccupied (V a) ↔ IsOccupied (W a)
+    occ_all = each_word x (λ a w. 0 < a → IsOccupied w ↔ IsOccupied (W a)) occ (λ a _ _. (λ o. o, λ o. o))
 
     fit_all : (s : ℕ) → Fit n (Q s)
     fit_all = each x (λ s p. Fit n p) fit (λ t _. k.fit t)
 
-    grown : (a i : ℕ) → i < 3 → IsSet (W a) i → IsSet (V a) i
-    grown = each_word x (λ a w. (i : ℕ) → i < 3 → IsSet (W a) i → IsSet w i) grows (λ a _ i _ set. set)
+    grown : (a : ℕ) → 0 < a → (i : ℕ) → i < 3 → IsSet (W a) i → IsSet (V a) i
+    grown = each_word x (λ a w. 0 < a → (i : ℕ) → i < 3 → IsSet (W a) i → IsSet w i) grows (λ a _ _ i _ set. set)
 
     passed : (s c : ℕ) → HasPassed (Q s) c → HasPassed (P s) c
     passed = each x (λ s p. (c : ℕ) → HasPassed p c → HasPassed (P s) c) (λ c on. (subst (OnPath c) own on.0, omega (arith, on.1))) (λ t _ c on. on)
@@ -167,8 +167,8 @@ raised {n = n} {W = W} {P = P} {a = a} {h = h} {u = u} {q = q} {V = V} {Q = Q} x
     owns : (s : ℕ) → owned (Q s) ≡ owned (P s)
     owns = each x (λ s p. owned p ≡ owned (P s)) (own ∙ sym was_own) (λ t _. refl)
 
-    occ : (v : ℕ) → IsOccupied (V v) ↔ IsOccupied (W v)
-    occ = each_word x (λ v w. IsOccupied w ↔ IsOccupied (W v)) (with_side-occupied (side_of (child_towards a h)) (W a)) (λ v _. (λ o. o, λ o. o))
+    occ : (v : ℕ) → 0 < v → IsOccupied (V v) ↔ IsOccupied (W v)
+    occ = each_word x (λ v w. 0 < v → IsOccupied w ↔ IsOccupied (W v)) (λ _. with_side-occupied (side_of (child_towards a h)) (W a)) (λ v _ _. (λ o. o, λ o. o))
 
     fit_all : (s : ℕ) → Fit n (Q s)
     fit_all = each x (λ s p. Fit n p) fit (λ t _. k.fit t)
@@ -245,3 +245,21 @@ zeroed {n = n} {W = W} {P = P} {h = h} {u = u} {q = q} {V = V} {Q = Q} x k own p
 
     still : (a : ℕ) → (a ≢ h) → IsOccupied (W a) → IsOccupied (V a)
     still a other is = subst IsOccupied (sym (x.word_else a other)) is
+
+-- ---- a Clear that wins
+
+-- no word's OCC changes, and no side goes that a station has passed through
+pub cleared_kept : {n : ℕ} {W : ℕ → ℕ} {P : ℕ → Phase} {a y u : ℕ} {q : Phase} {V : ℕ → ℕ} {Q : ℕ → Phase} → Change W P a y u q V Q → Agrees n W P → owned (P u) ≡ 0 → owned q ≡ 0 → Fit n q → IsOccupied y ↔ IsOccupied (W a) → ((t c : ℕ) → c / 2 ≡ a → HasPassed (P t) c → HasSide (side_of c) y) → Agrees n V Q
+cleared_kept {n = n} {W = W} {P = P} {a = a} {u = u} {q = q} {V = V} {Q = Q} x k was_none none fit occ stay = owners_kept k owns occ_all (each x (λ s p. Fit n p) fit (λ t _. k.fit t)) sides (λ s t c o on. k.apart s t c (sym (owns s) ∙ o) (passed t c on))
+  where
+    owns : (s : ℕ) → owned (Q s) ≡ owned (P s)
+    owns = each x (λ s p. owned p ≡ owned (P s)) (none ∙ sym was_none) (λ t _. refl)
+
+    occ_all : (v : ℕ) → 0 < v → IsOccupied (V v) ↔ IsOccupied (W v)
+    occ_all = each_word x (λ v w. 0 < v → IsOccupied w ↔ IsOccupied (W v)) (λ _. occ) (λ v _ _. (λ o. o, λ o. o))
+
+    passed : (s c : ℕ) → HasPassed (Q s) c → HasPassed (P s) c
+    passed = each x (λ s p. (c : ℕ) → HasPassed p c → HasPassed (P s) c) (λ c on. absurd (OnPath-zero c (subst (OnPath c) none on.0))) (λ t _ c on. on)
+
+    sides : (s c : ℕ) → HasPassed (Q s) c → HasSide (side_of c) (V (c / 2))
+    sides s c on = each_word x (λ v w. c / 2 ≡ v → HasSide (side_of c) w) (λ is. stay s c is (passed s c on)) (λ v _ is. subst (λ b. HasSide (side_of c) (W b)) is (k.sides s c (passed s c on))) (c / 2) refl

@@ -1,28 +1,35 @@
 -- The invariant after every schedule, and what follows from it.
-use Rattle.std.proofs.Common.{◌≡◌, ℕ, ◌+◌, ◌^◌, ◌<◌, ◌⊎◌, inl, inr, Bool, true, false, cond, ◌&&◌, eqb, ltb, List, [], ◌∷◌, length, get_or, replicate, Option, Some, None, refl, sym, ◌∙◌, ap, subst, arith}
+use Rattle.std.proofs.Common.{◌≡◌, ◌≢◌, ℕ, ◌+◌, ◌*◌, ◌^◌, ◌<◌, ◌≤◌, ◌⊎◌, inl, inr, Bool, true, false, cond, ◌&&◌, ltb, List, [], ◌∷◌, length, get_or, replicate, Option, Some, None, refl, sym, ◌∙◌, ap, subst, arith}
 use Rattle.std.proofs.lemmas.Bool.{cases_lt, cases_eq, ltb-true}
 use Rattle.std.proofs.lemmas.Nat.{pow_pos}
 use Rattle.std.proofs.lemmas.List.{get_or-set_same, get_or-set_other, length-set, length-replicate, get_or-replicate, get_or_past}
-use Rattle.cube_shape.specs.Node.{IsInCube, parent_of, OnPath}
-use Rattle.cube_shape.proofs.PathLemmas.{OnPath-zero}
-use Rattle.status_word.specs.Word.{IsOccupied}
+use Rattle.cube_shape.specs.Node.{IsInCube}
+use Rattle.status_word.specs.Word.{IsSet, IsOccupied, IsMarked}
+use Rattle.cube_core.specs.declared.phase.Seen.{Seen}
+use Rattle.cube_core.specs.declared.phase.Seen.TheVariants as seen
 use Rattle.cube_core.specs.declared.phase.Phase.{Phase}
 use Rattle.cube_core.specs.declared.phase.Phase.TheVariants.{Idle, Looking, Looked, Climbing, Swept, Holding, Leaving, Backing, Arriving, Unmarked, Marked, Retired}
 use Rattle.cube_core.specs.declared.act.Act.{Act}
-use Rattle.cube_core.specs.declared.act.Act.TheVariants.{Take, Release, Step}
+use Rattle.cube_core.specs.declared.act.Act.TheVariants.{Take, Release, Step, Retire}
 use Rattle.cube_core.specs.declared.act.Refused.{Refused}
-use Rattle.cube_core.specs.Phase.{owned, node_held, Owns, HasPassed}
-use Rattle.cube_core.specs.Event.{Transition, transition}
-use Rattle.cube_core.specs.Schedule.{Record, State, record_of, phase_of, word_of, opened, begun, stepped, take_refusal, release_refusal, phase_refusal, refusal, station_of, moved, unless_refused, acted, after}
-use Rattle.cube_core.specs.Safety.{IsSafe, IsMachineStep, held_of, IsTreeLawful, EveryScheduleIsLawful}
-use Rattle.cube_core.proofs.ChangeLemmas.{Fit, Agrees, Change}
-use Rattle.cube_core.proofs.EventLemmas.{event_kept, take_kept, release_kept}
+use Rattle.cube_core.specs.Phase.{owned, node_held, Owns}
+use Rattle.cube_core.specs.Event.{Transition, transition, retirement}
+use Rattle.cube_core.specs.Schedule.{Record, State, record_of, phase_of, word_of, opened, begun, stepped, take_refusal, release_refusal, retire_refusal, phase_refusal, refusal, station_of, moved, unless_refused, acted, after}
+use Rattle.cube_core.specs.Safety.{IsSafe}
+use Rattle.cube_core.specs.Debts.{HasDebtors}
+use Rattle.cube_core.specs.Held.{IsMachineStep, region_held, held_of}
+use Rattle.cube_core.specs.Count.{depth, events_due, IsCounted}
+use Rattle.cube_core.specs.Law.{IsTreeLawful, EveryScheduleIsLawful}
+use Rattle.cube_core.proofs.ChangeLemmas.{Fit, IsInner, Change}
+use Rattle.cube_core.proofs.MoveLemmas.{Move, begins_take, begins_release, retires, zeroes, step_move, due_falls, double}
+use Rattle.cube_core.proofs.InvariantLemmas.{Invariant, invariant_kept, invariant_opened}
+use Rattle.cube_core.proofs.FollowLemmas.{in_use_engaged, rest_exact, retired_zero}
 use Rattle.cube_core.proofs.HeldLemmas.{HeldMoves, machine_step, held_named, held_lawful}
 
 -- there is a word for each node and the roll, and the invariant holds
 pub record Stands (w : State) : Type 0 where
   pub word_count : length w.words ≡ 2 ^ (w.dim + 1)
-  pub agrees : Agrees w.dim (word_of w) (phase_of w)
+  pub holds : Invariant w.dim (length w.records) (word_of w) (phase_of w)
 
 -- ---- the change that a call or an event makes
 
@@ -48,6 +55,30 @@ stepped_change d s w node_there there = record {
 }
 
 -- an event's node has a word
+pub below_inner : (n a : ℕ) → IsInner n a → 2 * a + 1 < 2 ^ (n + 1)
+below_inner n a inner = let whole : 2 ^ (n + 1) ≡ 2 * 2 ^ n = double n in omega (arith, inner.1)
+
+marked_there : (n u a w : ℕ) (left right : Seen) → IsInner n a → (transition u (Marked a w left right)).node < 2 ^ (n + 1)
+marked_there n u a w left right inner = turn left right
+  where
+    below : 2 * a + 1 < 2 ^ (n + 1)
+    below = below_inner n a inner
+
+    at : (c : ℕ) → c ≤ 2 * a + 1 → c < 2 ^ (n + 1)
+    at c le = omega (arith, below)
+
+    turn : (l r : Seen) → (transition u (Marked a w l r)).node < 2 ^ (n + 1)
+    turn seen.NotYet r = at (2 * a) (omega arith)
+    turn seen.Free seen.NotYet = at (2 * a + 1) (omega arith)
+    turn seen.Used seen.NotYet = at (2 * a + 1) (omega arith)
+    turn seen.Free seen.Free = at a (omega arith)
+    turn seen.Free seen.Used = at a (omega arith)
+    turn seen.Used seen.Free = at a (omega arith)
+    turn seen.Used seen.Used = at a (omega arith)
+
+inner_there : (n a : ℕ) → IsInner n a → a < 2 ^ (n + 1)
+inner_there n a inner = let below : 2 * a + 1 < 2 ^ (n + 1) = below_inner n a inner in omega arith
+
 pub node_there : (n u : ℕ) (p : Phase) → Fit n p → (transition u p).node < 2 ^ (n + 1)
 node_there n u Idle fit = pow_pos (n + 1)
 node_there n u (Looking h) fit = fit.1
@@ -57,29 +88,16 @@ node_there n u (Swept h a) fit = let in_cube = fit.0.1 in omega (arith, fit.1)
 node_there n u (Holding h) fit = pow_pos (n + 1)
 node_there n u (Leaving h) fit = fit.1
 node_there n u (Backing h a) fit = fit.1
-node_there n u (Arriving a) fit = pow_pos (n + 1)
-node_there n u (Unmarked a) fit = pow_pos (n + 1)
-node_there n u (Marked a w left right) fit = pow_pos (n + 1)
+node_there n u (Arriving a) fit = inner_there n a fit
+node_there n u (Unmarked a) fit = inner_there n a fit
+node_there n u (Marked a w left right) fit = marked_there n u a w left right fit
 node_there n u Retired fit = pow_pos (n + 1)
 
--- an event makes no holder a holder of another node
-held_moves : (u : ℕ) (p : Phase) (x : ℕ) → HeldMoves p ((transition u p).next x)
-held_moves u Idle x = inl refl
-held_moves u (Looking h) x = inl refl
-held_moves u (Looked h w) x = inl refl
-held_moves u (Climbing h a) x = inl refl
-held_moves u (Swept h a) x = inl refl
-held_moves u (Holding h) x = inr (inr refl)
-held_moves u (Leaving h) x = inr (inl (gone (eqb h 1)))
-  where
-    gone : (t : Bool) → node_held (cond t Idle (Arriving (parent_of h))) ≡ 0
-    gone true = refl
-    gone false = refl
-held_moves u (Backing h a) x = inl refl
-held_moves u (Arriving a) x = inl refl
-held_moves u (Unmarked a) x = inl refl
-held_moves u (Marked a w left right) x = inl refl
-held_moves u Retired x = inl refl
+-- a move makes no holder a holder of another node
+held_moves : {n u : ℕ} {W : ℕ → ℕ} {p : Phase} {v y : ℕ} {q : Phase} → Move n u W p v y q → HeldMoves p q
+held_moves (begins_release h _) = inr (inr refl)
+held_moves (zeroes h q _ leaving) = inr (inl leaving.holds_none)
+held_moves _ = inl refl
 
 -- ---- an act that is not refused
 
@@ -125,6 +143,20 @@ release_holds (Unmarked a) none = absurd (cc)
 release_holds (Marked a w left right) none = absurd (cc)
 release_holds Retired none = absurd (cc)
 
+retire_idle : (p : Phase) → retire_refusal p ≡ None → p ≡ Idle
+retire_idle Idle none = refl
+retire_idle (Looking h) none = absurd (cc)
+retire_idle (Looked h w) none = absurd (cc)
+retire_idle (Climbing h a) none = absurd (cc)
+retire_idle (Swept h a) none = absurd (cc)
+retire_idle (Holding h) none = absurd (cc)
+retire_idle (Leaving h) none = absurd (cc)
+retire_idle (Backing h a) none = absurd (cc)
+retire_idle (Arriving a) none = absurd (cc)
+retire_idle (Unmarked a) none = absurd (cc)
+retire_idle (Marked a w left right) none = absurd (cc)
+retire_idle Retired none = absurd (cc)
+
 -- what an act leads to: the invariant holds there, and the act was a step of the machine of pairs
 record LeadsTo (w : State) (u : ℕ) (new : State) : Type 0 where
   dim : new.dim ≡ w.dim
@@ -132,34 +164,30 @@ record LeadsTo (w : State) (u : ℕ) (new : State) : Type 0 where
   stands : Stands new
   step : IsMachineStep w.dim u (held_of w) (held_of new)
 
+-- a move keeps the invariant
+move_leads : (w new : State) (u : ℕ) (p : Phase) (v y : ℕ) (q : Phase) → Stands w → new.dim ≡ w.dim → length new.words ≡ length w.words → length new.records ≡ length w.records → Move w.dim u (word_of w) p v y q → phase_of w u ≡ p → Change (word_of w) (phase_of w) v y u q (word_of new) (phase_of new) → LeadsTo w u new
+move_leads w new u p v y q k dim words stations move is change =
+    let kept : Invariant w.dim (length w.records) (word_of new) (phase_of new) = invariant_kept move is change k.holds in record {
+      dim = dim;
+      stations = stations;
+      stands = record { word_count = words ∙ k.word_count ∙ ap (λ n. 2 ^ (n + 1)) (sym dim); holds = subst (λ n. Invariant n (length new.records) (word_of new) (phase_of new)) (sym dim) (subst (λ count. Invariant w.dim count (word_of new) (phase_of new)) (sym stations) kept) };
+      step = subst (λ n. IsMachineStep w.dim u (held_of w) (λ s. region_held n (node_held (phase_of new s)))) (sym dim) (machine_step change kept.agrees (subst (λ r. HeldMoves r q) (sym is) (held_moves move)));
+    }
+
 moved_leads : (act : Act) (w : State) → Stands w → (station_of act < length w.records) → phase_refusal w.dim act (phase_of w (station_of act)) ≡ None → LeadsTo w (station_of act) (moved act w)
 moved_leads (Take s v) w k there none =
     let idle = take_idle w.dim v (phase_of w s) none in
-    let change = begun_change s (Looking v) w there in
-    let kept = take_kept s v idle.0 idle.1 k.agrees change in record {
-      dim = refl;
-      stations = length-set w.records s _;
-      stands = record { word_count = k.word_count; agrees = kept };
-      step = machine_step change kept (inl (ap node_held idle.0));
-    }
+    move_leads w _ s Idle 0 (word_of w 0) (Looking v) k refl refl (length-set w.records s _) (begins_take v idle.1) idle.0 (begun_change s (Looking v) w there)
 moved_leads (Release s) w k there none =
     let holds = release_holds (phase_of w s) none in
-    let change = begun_change s (Leaving (owned (phase_of w s))) w there in
-    let kept = release_kept s (owned (phase_of w s)) holds k.agrees change in record {
-      dim = refl;
-      stations = length-set w.records s _;
-      stands = record { word_count = k.word_count; agrees = kept };
-      step = machine_step change kept (inr (inr (sym (ap node_held holds))));
-    }
+    move_leads w _ s (Holding (owned (phase_of w s))) 0 (word_of w 0) (Leaving (owned (phase_of w s))) k refl refl (length-set w.records s _) (begins_release (owned (phase_of w s)) (subst (Fit w.dim) holds (k.holds.agrees.fit s))) holds (begun_change s (Leaving (owned (phase_of w s))) w there)
 moved_leads (Step s) w k there none =
-    let in_range = subst (λ m. (transition s (phase_of w s)).node < m) (sym k.word_count) (node_there w.dim s (phase_of w s) (k.agrees.fit s)) in
-    let change = stepped_change (transition s (phase_of w s)) s w in_range there in
-    let kept = event_kept s (phase_of w s) refl k.agrees change in record {
-      dim = refl;
-      stations = length-set w.records s _;
-      stands = record { word_count = length-set w.words (transition s (phase_of w s)).node _ ∙ k.word_count; agrees = kept };
-      step = machine_step change kept (held_moves s (phase_of w s) _);
-    }
+    let in_range = subst (λ m. (transition s (phase_of w s)).node < m) (sym k.word_count) (node_there w.dim s (phase_of w s) (k.holds.agrees.fit s)) in
+    move_leads w _ s (phase_of w s) _ _ _ k refl (length-set w.words (transition s (phase_of w s)).node _) (length-set w.records s _) (step_move w.dim s (word_of w) (phase_of w s) (k.holds.agrees.fit s) none) refl (stepped_change (transition s (phase_of w s)) s w in_range there)
+moved_leads (Retire s) w k there none =
+    let idle = retire_idle (phase_of w s) none in
+    let in_range = subst (λ m. 0 < m) (sym k.word_count) (pow_pos (w.dim + 1)) in
+    move_leads w _ s Idle _ _ _ k refl (length-set w.words 0 _) (length-set w.records s _) retires idle (stepped_change (retirement s) s w in_range there)
 
 -- a refused act changes nothing
 acted_leads : (act : Act) (w : State) → Stands w → LeadsTo w (station_of act) (acted act w)
@@ -180,7 +208,7 @@ copies count i a d = elim (cases_lt i count) [
 
 -- in the opened world all words are 0, and all stations idle or absent
 pub opened_stands : (n stations : ℕ) → Stands (opened n stations)
-opened_stands n stations = record { word_count = length-replicate (2 ^ (n + 1)) 0; agrees = agrees }
+opened_stands n stations = record { word_count = length-replicate (2 ^ (n + 1)) 0; holds = holds }
   where
     word : (v : ℕ) → word_of (opened n stations) v ≡ 0
     word v = elim (copies (2 ^ (n + 1)) v 0 0) [ inl is ↦ is | inr is ↦ is ]
@@ -192,24 +220,11 @@ opened_stands n stations = record { word_count = length-replicate (2 ^ (n + 1)) 
       | inr is ↦ subst F (sym (ap (λ (r : Record). r.phase) is)) retired
     ]
 
-    no_bit : (v : ℕ) → IsOccupied (word_of (opened n stations) v) → ⊥
-    no_bit v is = let bit : IsOccupied 0 = subst IsOccupied (word v) is in omega arith
+    there : (s : ℕ) → s < length (opened n stations).records → phase_of (opened n stations) s ≡ Idle
+    there s below = ap (λ (r : Record). r.phase) (get_or-replicate stations s (record { phase = Idle; trail = [] }) (record { phase = Retired; trail = [] }) (subst (λ count. s < count) (length-replicate stations (record { phase = Idle; trail = [] })) below))
 
-    nothing : (s : ℕ) → owned (phase_of (opened n stations) s) ≡ 0
-    nothing = station (λ p. owned p ≡ 0) refl refl
-
-    none_passed : (s c : ℕ) → HasPassed (phase_of (opened n stations) s) c → ⊥
-    none_passed s c passed = OnPath-zero c (subst (OnPath c) (nothing s) passed.0)
-
-    agrees : Agrees n (word_of (opened n stations)) (phase_of (opened n stations))
-    agrees = record {
-      fit = station (Fit n) tt tt;
-      sides = λ s c passed. absurd (none_passed s c passed);
-      busy = λ s positive. absurd (let none : 0 < 0 = subst (λ a. 0 < a) (nothing s) positive in omega arith);
-      owner = λ v _ is. absurd (no_bit v is);
-      alone = λ s _ _ _. nothing s;
-      apart = λ s t c _ passed. none_passed t c passed;
-    }
+    holds : Invariant n (length (opened n stations).records) (word_of (opened n stations)) (phase_of (opened n stations))
+    holds = invariant_opened n (length (opened n stations).records) (word_of (opened n stations)) (phase_of (opened n stations)) word (station (λ p. (p ≡ Idle) ⊎ (p ≡ Retired)) (inl refl) (inr refl)) there
 
 pub after_stands : (acts : List Act) (w : State) → Stands w → Stands (after acts w)
 after_stands [] w k = k
@@ -218,29 +233,93 @@ after_stands (act ∷ earlier) w k = (acted_leads act (after earlier w) (after_s
 -- what the invariant says in the words of the law
 pub Stands-safe : (w : State) → Stands w → IsSafe w
 Stands-safe w k = record {
-  sides = k.agrees.sides;
+  sides = k.holds.agrees.sides;
   occupied = λ v positive. (
-    λ is. let found = k.agrees.owner v positive is in (found.0, (positive, found.1)),
-    λ (s, (_, owns)). subst (λ a. IsOccupied (word_of w a)) owns (k.agrees.busy s (subst (λ a. 0 < a) (sym owns) positive)),
+    λ is. let found = k.holds.agrees.owner v positive is in (found.0, (positive, found.1)),
+    λ (s, (_, owns)). subst (λ a. IsOccupied (word_of w a)) owns (k.holds.agrees.busy s (subst (λ a. 0 < a) (sym owns) positive)),
   );
   one_owner = one_owner;
-  not_passed = λ s t c owns passed. k.agrees.apart s t c owns.1 passed;
+  not_passed = λ s t c owns passed. k.holds.agrees.apart s t c owns.1 passed;
+  only_grown = λ s v at marked i set. subst (λ a. IsSet (word_of w a) i) at.1 (k.holds.stamped.grown s (subst (λ a. 0 < a) (sym at.1) at.0) (subst (λ a. IsMarked s (word_of w a)) (sym at.1) marked) i set);
+  seen_free = k.holds.shut.shut;
 }
   where
     one_owner : (s t v : ℕ) → Owns (phase_of w s) v → Owns (phase_of w t) v → s ≡ t
     one_owner s t v by_s by_t = elim (cases_eq s t) [
       | inl same ↦ same
       | inr other ↦
-          let none : v ≡ 0 = sym by_s.1 ∙ k.agrees.alone s t other (by_s.1 ∙ sym by_t.1) in
+          let none : v ≡ 0 = sym by_s.1 ∙ k.holds.agrees.alone s t other (by_s.1 ∙ sym by_t.1) in
           absurd (omega (arith, none, by_s.0))
     ]
+
+pub Stands-debts : (w : State) → Stands w → HasDebtors w
+Stands-debts w k = record {
+  in_use = k.holds.owing.owed;
+  marked = λ v positive free some. let found = k.holds.witnessed.witness v positive free some in (found.0, (positive, found.1.0), found.1.1);
+  unlike = λ s t v other at_s at_t. k.holds.stamped.unlike s t other (subst (λ a. 0 < a) (sym at_s.1) at_s.0) (at_s.1 ∙ sym at_t.1);
+}
+
+-- the act that is not refused, and its count afterwards
+acted-accepted : (act : Act) (w : State) → refusal act w ≡ None → acted act w ≡ moved act w
+acted-accepted act w none = ap (λ r. unless_refused r act w) none
+
+phase_here : (act : Act) (w : State) (q : Phase) → refusal act w ≡ None → phase_of (moved act w) (station_of act) ≡ q → events_due w.dim (phase_of (acted act w) (station_of act)) ≡ events_due w.dim q
+phase_here act w q none is = ap (λ u. events_due w.dim (phase_of u (station_of act))) (acted-accepted act w none) ∙ ap (events_due w.dim) is
+
+begun_phase : (s : ℕ) (q : Phase) (w : State) → s < length w.records → phase_of (begun s q w) s ≡ q
+begun_phase s q w there = (begun_change s q w there).phase_here
+
+-- what a release leaves to do is that of the node that is held
+release_due : (n : ℕ) (p : Phase) → p ≡ Holding (owned p) → events_due n (Leaving (owned p)) ≡ 1 + 5 * depth n (node_held p)
+release_due n p holds = ap (λ h. 1 + 5 * depth n h) (sym (ap node_held holds))
+
+-- no act changes another station's phase
+others_phase : (act : Act) (w : State) (t : ℕ) → t ≢ station_of act → phase_of (acted act w) t ≡ phase_of w t
+unfolding absent
+others_phase act w t other = turn (refusal act w)
+  where
+    moved_phase : (a : Act) → t ≢ station_of a → phase_of (moved a w) t ≡ phase_of w t
+    moved_phase (Take s v) differ = ap (λ (r : Record). r.phase) (get_or-set_other w.records s t _ absent differ)
+    moved_phase (Release s) differ = ap (λ (r : Record). r.phase) (get_or-set_other w.records s t _ absent differ)
+    moved_phase (Step s) differ = ap (λ (r : Record). r.phase) (get_or-set_other w.records s t _ absent differ)
+    moved_phase (Retire s) differ = ap (λ (r : Record). r.phase) (get_or-set_other w.records s t _ absent differ)
+
+    turn : (r : Option Refused) → phase_of (unless_refused r act w) t ≡ phase_of w t
+    turn None = moved_phase act other
+    turn (Some why) = refl
+
+pub Stands-counted : (w : State) → Stands w → IsCounted w
+Stands-counted w k = record {
+  take = λ s v none. phase_here (Take s v) w (Looking v) none (begun_phase s (Looking v) w (accepted (Take s v) w none).0);
+  release = λ s none. phase_here (Release s) w (Leaving (owned (phase_of w s))) none (begun_phase s (Leaving (owned (phase_of w s))) w (accepted (Release s) w none).0) ∙ release_due w.dim (phase_of w s) (release_holds (phase_of w s) (accepted (Release s) w none).1);
+  falls = falls;
+  others = λ act t other. others_phase act w t other;
+}
+  where
+    falls : (s : ℕ) → refusal (Step s) w ≡ None → events_due w.dim (phase_of (acted (Step s) w) s) < events_due w.dim (phase_of w s)
+    falls s none =
+        let here = accepted (Step s) w none in
+        let in_range = subst (λ m. (transition s (phase_of w s)).node < m) (sym k.word_count) (node_there w.dim s (phase_of w s) (k.holds.agrees.fit s)) in
+        let change = stepped_change (transition s (phase_of w s)) s w in_range here.0 in
+        subst (λ d. d < events_due w.dim (phase_of w s)) (sym (phase_here (Step s) w _ none change.phase_here))
+        (due_falls (step_move w.dim s (word_of w) (phase_of w s) (k.holds.agrees.fit s) here.1) here.1)
+
+-- a node that is not there has the word 0
+no_word : (w : State) → Stands w → (v : ℕ) → 2 ^ (w.dim + 1) ≤ v → word_of w v ≡ 0
+no_word w k v past = get_or_past w.words v 0 (subst (λ m. m ≤ v) (sym k.word_count) past)
 
 pub Stands-lawful : (w : State) → Stands w → IsTreeLawful w
 Stands-lawful w k = record {
   safe = Stands-safe w k;
-  named = held_named k.agrees;
-  apart = held_lawful k.agrees;
+  debts = Stands-debts w k;
+  named = held_named k.holds.agrees;
+  apart = held_lawful k.holds.agrees;
   steps = λ act. (acted_leads act w k).step;
+  engaged = in_use_engaged k.holds (2 ^ (w.dim + 1)) (no_word w k);
+  at_rest = rest_exact k.holds (2 ^ (w.dim + 1)) (no_word w k);
+  retired = retired_zero k.holds (2 ^ (w.dim + 1)) (no_word w k);
+  roll = k.holds.rolled.roll;
+  counted = Stands-counted w k;
 }
 
 pub every_schedule : EveryScheduleIsLawful

@@ -1,25 +1,28 @@
 -- Worlds of the program are states that some schedule leads to.
-use Rattle.std.proofs.Common.{◌≡◌, ℕ, zero, suc, ◌+◌, ◌^◌, ◌<◌, ◌≤◌, cond, ◌&&◌, ltb, List, [], ◌∷◌, ◌++◌, length, get_or, map, Option, Some, None, Result, Ok, Err, IfErr, OnErr, OnOk, reverse, take, replicate, refl, sym, ◌∙◌, ap, subst}
+use Rattle.std.proofs.Common.{◌≡◌, ◌≢◌, ℕ, zero, suc, ◌+◌, ◌*◌, ◌^◌, ◌<◌, ◌≤◌, cond, ◌&&◌, ltb, List, [], ◌∷◌, ◌++◌, length, get_or, map, Option, Some, None, Result, Ok, Err, IfErr, OnErr, OnOk, reverse, take, replicate, refl, sym, ◌∙◌, ap, subst, arith}
 use Rattle.std.proofs.lemmas.Bool.{lt-ltb}
-use Rattle.cube_shape.specs.declared.limits.TheConstants.{MAX_DIM}
+use Rattle.cube_shape.specs.declared.limits.TheConstants.{MAX_DIM, MAX_STATIONS}
 use Rattle.std.proofs.Math.ListN.{set}
-use Rattle.std.proofs.lemmas.List.{get_or_default, get_or-set_same, length-set, take_more, reverse-append}
+use Rattle.std.proofs.Math.Pow.{pow_mono}
+use Rattle.std.proofs.lemmas.List.{get_or_default, get_or-set_same, length-set, length-replicate, take_more, reverse-append}
 use Rattle.cube_shape.specs.Node.{IsInCube}
 use Rattle.cube_core.specs.declared.effect.Effect.{Effect}
 use Rattle.cube_core.specs.Effect.{IsEffect}
 use Rattle.cube_core.specs.declared.phase.Phase.{Phase}
 use Rattle.cube_core.specs.declared.phase.Phase.TheVariants.{Idle, Looking, Looked, Climbing, Swept, Holding, Leaving, Backing, Arriving, Unmarked, Marked, Retired}
 use Rattle.cube_core.specs.declared.act.Act.{Act}
-use Rattle.cube_core.specs.declared.act.Act.TheVariants.{Take, Release, Step}
+use Rattle.cube_core.specs.declared.act.Act.TheVariants.{Take, Release, Step, Retire}
 use Rattle.cube_core.specs.declared.act.Refused.{Refused}
 use Rattle.cube_core.specs.declared.act.Refused.TheVariants.{NotIdle, NoStation, NotInCube}
-use Rattle.cube_core.specs.Phase.{owned}
-use Rattle.cube_core.specs.Event.{Transition, transition}
-use Rattle.cube_core.specs.Schedule.{Record, State, record_of, phase_of, word_of, opened, begun, stepped, take_refusal, release_refusal, step_refusal, phase_refusal, refusal, station_of, moved, unless_refused, acted, after}
+use Rattle.cube_core.specs.Phase.{owned, node_held}
+use Rattle.cube_core.specs.Event.{Transition, transition, retirement}
+use Rattle.cube_core.specs.Schedule.{Record, State, record_of, phase_of, word_of, opened, begun, stepped, take_refusal, release_refusal, retire_refusal, step_refusal, phase_refusal, refusal, station_of, moved, unless_refused, acted, after}
 use Rattle.cube_core.specs.World.{untold, state_of, silent, IsReached, IsWorld, HasShapeOf}
-use Rattle.cube_core.specs.Safety.{IsTreeLawful}
-use Rattle.cube_core.proofs.ChangeLemmas.{Fit, Agrees-same}
-use Rattle.cube_core.proofs.ScheduleLemmas.{Stands, Stands-lawful, opened_stands, after_stands, node_there}
+use Rattle.cube_core.specs.Count.{depth, events_due, IsCounted}
+use Rattle.cube_core.specs.Law.{IsTreeLawful}
+use Rattle.cube_core.proofs.ChangeLemmas.{Fit, IsInner}
+use Rattle.cube_core.proofs.InvariantLemmas.{Invariant}
+use Rattle.cube_core.proofs.ScheduleLemmas.{Stands, Stands-lawful, Stands-counted, opened_stands, after_stands, node_there}
 
 -- ---- records whose trails are left out
 
@@ -76,13 +79,14 @@ silent-stepped n words phases s d = ap (λ rs. record { dim = n; words = set wor
 silent_twice : (w : State) → silent (silent w) ≡ silent w
 silent_twice w = ap (λ rs. record w { records = rs }) (forget_twice w.records)
 
+stepped-silent : (d : Transition) (s : ℕ) (w : State) → silent (stepped d s (silent w)) ≡ silent (stepped d s w)
+stepped-silent d s w = ap (λ rs. record { dim = w.dim; words = set w.words d.node (d.writes (word_of w d.node)); records = rs }) (forget-set_forgotten w.records s _ _ refl)
+
 moved-silent : (act : Act) (w : State) → silent (moved act (silent w)) ≡ silent (moved act w)
 moved-silent (Take s v) w = ap (λ rs. record w { records = rs }) (forget-set_forgotten w.records s _ _ refl)
 moved-silent (Release s) w = ap (λ rs. record w { records = rs }) (forget-set_forgotten w.records s _ _ (ap (λ p. Leaving (owned p)) (phase_at w.records s)))
-moved-silent (Step s) w = ap (λ p. silent (stepped (transition s p) s (silent w))) (phase_at w.records s) ∙ one (transition s (phase_of w s))
-  where
-    one : (d : Transition) → silent (stepped d s (silent w)) ≡ silent (stepped d s w)
-    one d = ap (λ rs. record { dim = w.dim; words = set w.words d.node (d.writes (word_of w d.node)); records = rs }) (forget-set_forgotten w.records s _ _ refl)
+moved-silent (Step s) w = ap (λ p. silent (stepped (transition s p) s (silent w))) (phase_at w.records s) ∙ stepped-silent (transition s (phase_of w s)) s w
+moved-silent (Retire s) w = stepped-silent (retirement s) s w
 
 refusal-silent : (act : Act) (w : State) → refusal act (silent w) ≡ refusal act w
 refusal-silent act w = ap (λ count. cond (ltb (station_of act) count) (phase_refusal w.dim act (phase_of (silent w) (station_of act))) (Some NoStation)) (length_forgotten w.records) ∙ ap (λ p. cond (ltb (station_of act) (length w.records)) (phase_refusal w.dim act p) (Some NoStation)) (phase_at w.records (station_of act))
@@ -103,7 +107,11 @@ pub reached-acted : (act : Act) (w : State) → IsReached w → IsReached (silen
 reached-acted act w (n, stations, acts, is) = (n, stations, act ∷ acts, ap (λ v. silent (acted act v)) is ∙ acted-silent act (after acts (opened n stations)))
 
 Stands-silent : (w : State) → Stands w → Stands (silent w)
-Stands-silent w k = record { word_count = k.word_count; agrees = Agrees-same (λ s. phase_at w.records s) k.agrees }
+Stands-silent w k = record {
+  word_count = k.word_count;
+  holds = subst (λ count. Invariant w.dim count (word_of w) (phase_of (silent w))) (sym (length_forgotten w.records))
+      (subst (λ (P : ℕ → Phase). Invariant w.dim (length w.records) (word_of w) P) (λ i s. sym (phase_at w.records s) i) k.holds);
+}
 
 -- and so the invariant holds there
 pub reached-stands : (w : State) → IsReached w → Stands w
@@ -125,14 +133,29 @@ acted_dim act w = turn (refusal act w)
     moved_dim (Take s v) = refl
     moved_dim (Release s) = refl
     moved_dim (Step s) = refl
+    moved_dim (Retire s) = refl
 
     turn : (r : Option Refused) → (unless_refused r act w).dim ≡ w.dim
     turn None = moved_dim act
     turn (Some why) = refl
 
+acted_stations : (act : Act) (w : State) → length (acted act w).records ≡ length w.records
+acted_stations act w = turn (refusal act w)
+  where
+    moved_stations : (a : Act) → length (moved a w).records ≡ length w.records
+    moved_stations (Take s v) = length-set w.records s _
+    moved_stations (Release s) = length-set w.records s _
+    moved_stations (Step s) = length-set w.records s _
+    moved_stations (Retire s) = length-set w.records s _
+
+    turn : (r : Option Refused) → length (unless_refused r act w).records ≡ length w.records
+    turn None = moved_stations act
+    turn (Some why) = refl
+
 pub IsWorld-acted : (act : Act) (w new : State) → IsWorld w → new ≡ silent (acted act w) → IsWorld new
 IsWorld-acted act w new world is = subst IsWorld (sym is) (record {
   dim_in_limits = subst (λ n. n ≤ MAX_DIM) (sym (acted_dim act w)) world.dim_in_limits;
+  stations_in_limits = subst (λ count. count ≤ MAX_STATIONS) (sym (length_forgotten (acted act w).records ∙ acted_stations act w)) world.stations_in_limits;
   reached = reached-acted act w world.reached;
 })
 
@@ -141,8 +164,15 @@ pub begun_by : (act : Act) (s : ℕ) (q : Phase) (n : ℕ) (words : List ℕ) (p
 begun_by act s q n words phases w view none is =
     sym (silent-begun n words phases s q) ∙ ap (λ v. silent (begun s q v)) view ∙ ap silent (sym is ∙ sym (acted-accepted act w none))
 
-pub made_opened : (n stations : ℕ) → n ≤ MAX_DIM → (words : List ℕ) (phases : List Phase) → words ≡ replicate (2 ^ (n + 1)) 0 → phases ≡ replicate stations Idle → IsWorld (state_of n words phases) × (state_of n words phases ≡ opened n stations)
-made_opened n stations limit words phases zeros idle = (subst IsWorld (sym is) (record { dim_in_limits = limit; reached = subst IsReached silent_opened (reached-opened n stations) }), is)
+pub made_opened : (n stations : ℕ) → n ≤ MAX_DIM → stations ≤ MAX_STATIONS → (words : List ℕ) (phases : List Phase) → words ≡ replicate (2 ^ (n + 1)) 0 → phases ≡ replicate stations Idle → IsWorld (state_of n words phases) × (state_of n words phases ≡ opened n stations)
+made_opened n stations limit few words phases zeros idle = (
+  subst IsWorld (sym is) (record {
+    dim_in_limits = limit;
+    stations_in_limits = subst (λ count. count ≤ MAX_STATIONS) (sym (length-replicate stations (untold Idle))) few;
+    reached = subst IsReached silent_opened (reached-opened n stations);
+  }),
+  is,
+)
   where
     all_idle : (count : ℕ) → map untold (replicate count Idle) ≡ replicate count (untold Idle)
     all_idle zero = refl
@@ -172,6 +202,20 @@ take_busy n v (Unmarked a) other = refl
 take_busy n v (Marked a w left right) other = refl
 take_busy n v Retired other = refl
 
+pub retire_busy : (p : Phase) → (p ≡ Idle → ⊥) → retire_refusal p ≡ Some NotIdle
+retire_busy Idle other = absurd (other refl)
+retire_busy (Looking h) other = refl
+retire_busy (Looked h w) other = refl
+retire_busy (Climbing h a) other = refl
+retire_busy (Swept h a) other = refl
+retire_busy (Holding h) other = refl
+retire_busy (Leaving h) other = refl
+retire_busy (Backing h a) other = refl
+retire_busy (Arriving a) other = refl
+retire_busy (Unmarked a) other = refl
+retire_busy (Marked a w left right) other = refl
+retire_busy Retired other = refl
+
 -- why an act of a station that is there is refused, and that of one that is not
 pub refusal-there : (act : Act) (w : State) → station_of act < length w.records → refusal act w ≡ phase_refusal w.dim act (phase_of w (station_of act))
 refusal-there act w there = ap (λ t. cond t (phase_refusal w.dim act (phase_of w (station_of act))) (Some NoStation)) (lt-ltb (station_of act) (length w.records) there)
@@ -179,13 +223,16 @@ refusal-there act w there = ap (λ t. cond t (phase_refusal w.dim act (phase_of 
 pub take_accepted : (s v : ℕ) (w : State) → s < length w.records → Idle ≡ phase_of w s → IsInCube w.dim v → refusal (Take s v) w ≡ None
 take_accepted s v w there idle in_cube = refusal-there (Take s v) w there ∙ ap (take_refusal w.dim v) (sym idle) ∙ ap (λ t. cond (t && ltb v (2 ^ (w.dim + 1))) None (Some NotInCube)) (lt-ltb 0 v in_cube.0) ∙ ap (λ t. cond t None (Some NotInCube)) (lt-ltb v (2 ^ (w.dim + 1)) in_cube.1)
 
+pub retire_accepted : (s : ℕ) (w : State) → s < length w.records → Idle ≡ phase_of w s → refusal (Retire s) w ≡ None
+retire_accepted s w there idle = refusal-there (Retire s) w there ∙ ap retire_refusal (sym idle)
+
 pub release_accepted : (s h : ℕ) (w : State) → s < length w.records → Holding h ≡ phase_of w s → refusal (Release s) w ≡ None
 release_accepted s h w there holds = refusal-there (Release s) w there ∙ ap release_refusal (sym holds)
 
 -- ---- what the invariant says of the phase of a station, and of the node of its next event
 
 pub phase_fit : (w : State) (s : ℕ) → IsWorld w → (q : Phase) → q ≡ phase_of w s → Fit w.dim q
-phase_fit w s world q is = subst (Fit w.dim) (sym is) ((reached-stands w world.reached).agrees.fit s)
+phase_fit w s world q is = subst (Fit w.dim) (sym is) ((reached-stands w world.reached).holds.agrees.fit s)
 
 pub node_in_words : (w : State) (s : ℕ) → IsWorld w → (q : Phase) → q ≡ phase_of w s → (transition s q).node < 2 ^ (w.dim + 1)
 node_in_words w s world q is = node_there w.dim s q (phase_fit w s world q is)
@@ -209,26 +256,76 @@ pub step_accepted : (s : ℕ) (q : Phase) (w : State) → s < length w.records �
 step_accepted s q w there is moves = refusal-there (Step s) w there ∙ ap step_refusal (sym is) ∙ moves
 
 -- what a program writes that makes an event
+made_event : (act : Act) (s : ℕ) (d : Transition) (n : ℕ) (words : List ℕ) (phases : List Phase) (w : State) (made : Effect) → state_of n words phases ≡ w → acted act w ≡ stepped d s w → IsEffect d (word_of w d.node) made → state_of n (set words made.event.node made.word) (set phases s made.next) ≡ silent (acted act w)
+made_event act s d n words phases w made view is effect =
+    ap (λ v. state_of n (set words v made.word) (set phases s made.next)) effect.node
+    ∙ ap (λ y. state_of n (set words d.node y) (set phases s made.next)) (effect.word ∙ ap d.writes same)
+    ∙ ap (λ p. state_of n (set words d.node (d.writes (get_or words d.node 0))) (set phases s p)) (effect.next ∙ ap d.next same)
+    ∙ sym (silent-stepped n words phases s d)
+    ∙ ap (λ u. silent (stepped d s u)) view
+    ∙ ap silent (sym is)
+  where
+    same : word_of w d.node ≡ get_or words d.node 0
+    same = ap (λ u. word_of u d.node) (sym view)
+
 pub stepped_by : (s : ℕ) (q : Phase) (n : ℕ) (words : List ℕ) (phases : List Phase) (w : State) (made : Effect) → state_of n words phases ≡ w → refusal (Step s) w ≡ None → q ≡ phase_of w s → IsEffect (transition s q) (word_of w (transition s q).node) made → state_of n (set words made.event.node made.word) (set phases s made.next) ≡ silent (acted (Step s) w)
 stepped_by s q n words phases w made view none is effect =
-    ap (λ v. state_of n (set words v made.word) (set phases s made.next)) effect.node
-    ∙ ap (λ y. state_of n (set words (transition s q).node y) (set phases s made.next)) (effect.word ∙ ap (transition s q).writes same)
-    ∙ ap (λ p. state_of n (set words (transition s q).node ((transition s q).writes (get_or words (transition s q).node 0))) (set phases s p)) (effect.next ∙ ap (transition s q).next same)
-    ∙ sym (silent-stepped n words phases s (transition s q))
-    ∙ ap (λ u. silent (stepped (transition s q) s u)) view
-    ∙ ap (λ p. silent (stepped (transition s p) s w)) is
-    ∙ ap silent (sym (acted-accepted (Step s) w none))
-  where
-    same : word_of w (transition s q).node ≡ get_or words (transition s q).node 0
-    same = ap (λ u. word_of u (transition s q).node) (sym view)
+    made_event (Step s) s (transition s q) n words phases w made view (acted-accepted (Step s) w none ∙ ap (λ p. stepped (transition s p) s w) (sym is)) effect
+
+pub retired_by : (s : ℕ) (n : ℕ) (words : List ℕ) (phases : List Phase) (w : State) (made : Effect) → state_of n words phases ≡ w → refusal (Retire s) w ≡ None → IsEffect (retirement s) (word_of w 0) made → state_of n (set words 0 made.word) (set phases s made.next) ≡ silent (acted (Retire s) w)
+retired_by s n words phases w made view none effect =
+    ap (λ v. state_of n (set words v made.word) (set phases s made.next)) (sym effect.node)
+    ∙ made_event (Retire s) s (retirement s) n words phases w made view (acted-accepted (Retire s) w none) effect
 
 -- and the event is told at the head of the station's trail
+told_event : (act : Act) (s : ℕ) (d : Transition) (w : State) (made : Effect) → s < length w.records → acted act w ≡ stepped d s w → IsEffect d (word_of w d.node) made → (record_of (acted act w) s).trail ≡ made.event ∷ (record_of w s).trail
+told_event act s d w made there is effect =
+    ap (λ u. (record_of u s).trail) is
+    ∙ ap (λ (r : Record). r.trail) (get_or-set_same w.records s _ (record { phase = Retired; trail = [] }) there)
+    ∙ ap (λ l. l ++ (record_of w s).trail) effect.event
+
 pub told_by : (s : ℕ) (q : Phase) (w : State) (made : Effect) → s < length w.records → refusal (Step s) w ≡ None → q ≡ phase_of w s → IsEffect (transition s q) (word_of w (transition s q).node) made → (record_of (acted (Step s) w) s).trail ≡ made.event ∷ (record_of w s).trail
 told_by s q w made there none is effect =
-    ap (λ u. (record_of u s).trail) (acted-accepted (Step s) w none)
-    ∙ ap (λ (r : Record). r.trail) (get_or-set_same w.records s _ (record { phase = Retired; trail = [] }) there)
-    ∙ ap (λ p. (transition s p).events (word_of w (transition s p).node) ++ (record_of w s).trail) (sym is)
-    ∙ ap (λ l. l ++ (record_of w s).trail) effect.event
+    told_event (Step s) s (transition s q) w made there (acted-accepted (Step s) w none ∙ ap (λ p. stepped (transition s p) s w) (sym is)) effect
+
+pub retire_told_by : (s : ℕ) (w : State) (made : Effect) → s < length w.records → refusal (Retire s) w ≡ None → IsEffect (retirement s) (word_of w 0) made → (record_of (acted (Retire s) w) s).trail ≡ made.event ∷ (record_of w s).trail
+retire_told_by s w made there none effect = told_event (Retire s) s (retirement s) w made there (acted-accepted (Retire s) w none) effect
+
+-- a station that is there has a number within the limits, and so has an inner node
+pub station_in_limits : (s : ℕ) (w : State) → IsWorld w → s < length w.records → s < MAX_STATIONS
+station_in_limits s w world there = below s (length w.records) MAX_STATIONS there world.stations_in_limits
+  where
+    below : (a b c : ℕ) → a < b → b ≤ c → a < c
+    below a b c less le = omega arith
+
+pub inner_in_limits : (a : ℕ) (w : State) → IsWorld w → IsInner w.dim a → a < 2 ^ MAX_DIM
+inner_in_limits a w world inner = below a (2 ^ w.dim) (2 ^ MAX_DIM) inner.1 (pow_mono world.dim_in_limits)
+  where
+    below : (x b c : ℕ) → x < b → b ≤ c → x < c
+    below x b c less le = omega arith
+
+-- ---- the count of events
+
+phase_after : (act : Act) (w new : State) (t : ℕ) → new ≡ silent (acted act w) → phase_of new t ≡ phase_of (acted act w) t
+phase_after act w new t is = ap (λ u. phase_of u t) is ∙ phase_at (acted act w).records t
+
+counted : (w : State) → IsWorld w → IsCounted w
+counted w world = Stands-counted w (reached-stands w world.reached)
+
+pub take_count : (s v : ℕ) (w new : State) → IsWorld w → refusal (Take s v) w ≡ None → new ≡ silent (acted (Take s v) w) → events_due w.dim (phase_of new s) ≡ 3 + 7 * depth w.dim v
+take_count s v w new world none is = ap (events_due w.dim) (phase_after (Take s v) w new s is) ∙ (counted w world).take s v none
+
+pub release_count : (s : ℕ) (w new : State) → IsWorld w → refusal (Release s) w ≡ None → new ≡ silent (acted (Release s) w) → events_due w.dim (phase_of new s) ≡ 1 + 5 * depth w.dim (node_held (phase_of w s))
+release_count s w new world none is = ap (events_due w.dim) (phase_after (Release s) w new s is) ∙ (counted w world).release s none
+
+pub step_count : (s : ℕ) (w new : State) → IsWorld w → refusal (Step s) w ≡ None → new ≡ silent (acted (Step s) w) → events_due w.dim (phase_of new s) < events_due w.dim (phase_of w s)
+step_count s w new world none is = subst (λ p. events_due w.dim p < events_due w.dim (phase_of w s)) (sym (phase_after (Step s) w new s is)) ((counted w world).falls s none)
+
+pub others_same : (act : Act) (w new : State) → IsWorld w → new ≡ silent (acted act w) → (t : ℕ) → t ≢ station_of act → phase_of new t ≡ phase_of w t
+others_same act w new world is t other = phase_after act w new t is ∙ (counted w world).others act t other
+
+pub IsWorld-lawful : (w : State) → IsWorld w → IsTreeLawful w
+IsWorld-lawful w world = reached-lawful w world.reached
 
 -- a fact of the fields is one of the value
 pub IsWorld-of : {v w : State} → v ≡ w → IsWorld v → IsWorld w
@@ -254,18 +351,6 @@ one_more acts i none first old new below before made =
     ∙ ap (λ earlier. silent (after earlier first)) (sym (ap reverse (take_more acts i none below) ∙ reverse-append (take i acts) (get_or acts i none ∷ [])))
 
 -- ---- the shape stays
-
-acted_stations : (act : Act) (w : State) → length (acted act w).records ≡ length w.records
-acted_stations act w = turn (refusal act w)
-  where
-    moved_stations : (a : Act) → length (moved a w).records ≡ length w.records
-    moved_stations (Take s v) = length-set w.records s _
-    moved_stations (Release s) = length-set w.records s _
-    moved_stations (Step s) = length-set w.records s _
-
-    turn : (r : Option Refused) → length (unless_refused r act w).records ≡ length w.records
-    turn None = moved_stations act
-    turn (Some why) = refl
 
 pub shape_kept : (act : Act) (w new : State) → new ≡ silent (acted act w) → HasShapeOf w new
 shape_kept act w new is = subst (HasShapeOf w) (sym is) (record {

@@ -1,16 +1,19 @@
 -- One event: what a station does in its phase to one word, as functions of the word that it finds.
-use Rattle.std.specs.Prelude.{ℕ, ◌==◌, if◌then◌else◌, Bool, List, [], ◌∷◌}
+use Rattle.std.specs.Prelude.{ℕ, ◌^◌, ◌==◌, if◌then◌else◌, Bool, bit_or, List, [], ◌∷◌}
 use Rattle.std.specs.Int.{bit_at}
-use Rattle.cube_shape.specs.Node.{parent_of, child_towards}
-use Rattle.status_word.specs.Word.{use_of, with_side}
+use Rattle.cube_shape.specs.Node.{parent_of, child_of, child_towards}
+use Rattle.cube_shape.specs.declared.node.Side.TheVariants.{Left, Right}
+use Rattle.status_word.specs.Word.{use_of, with_side, with_mark, cleared}
 use Rattle.cube_core.specs.declared.phase.Phase.{Phase}
 use Rattle.cube_core.specs.declared.phase.Phase.TheVariants.{Idle, Looking, Looked, Climbing, Swept, Holding, Leaving, Backing, Arriving, Unmarked, Marked, Retired}
 use Rattle.cube_core.specs.declared.event.Event.{Event}
 use Rattle.cube_core.specs.declared.event.Kind.{Kind}
-use Rattle.cube_core.specs.declared.event.Kind.TheVariants.{Look, Claim, Sweep, Raise, Zero}
+use Rattle.cube_core.specs.declared.event.Kind.TheVariants.{Look, Claim, Sweep, Raise, Zero, Unmark, Mark, Child, Clear, Retire}
 use Rattle.cube_core.specs.declared.event.Note.{Note}
 use Rattle.cube_core.specs.declared.event.Note.TheVariants as note
-use Rattle.cube_core.specs.Phase.{side_of}
+use Rattle.cube_core.specs.declared.phase.Seen.{Seen}
+use Rattle.cube_core.specs.declared.phase.Seen.TheVariants as seen
+use Rattle.cube_core.specs.Phase.{side_of, is_seen_free}
 
 -- the node whose word it finds, and from that word: the word that it writes, the station's next
 -- phase, and the event that is told
@@ -42,18 +45,61 @@ risen h a = if a == 1 then Holding h else Climbing h (parent_of a)
 abbrev pub risen_note : ℕ → Note
 risen_note a = if a == 1 then note.Held else note.Climb
 
+-- past a on the way up after a node was given back: nothing more is to do where a is the root
+abbrev pub freed : ℕ → Phase
+freed a = if a == 1 then Idle else Arriving (parent_of a)
+
+abbrev pub freed_note : ℕ → Note
+freed_note a = if a == 1 then note.Done else note.Climb
+
+-- what a station that finds the word w at a child has seen of it
+abbrev pub seen_at : ℕ → Seen
+seen_at w = if is_free w then seen.Free else seen.Used
+
+abbrev pub seen_note : ℕ → Note
+seen_note w = if is_free w then note.Free else note.Used
+
 -- no event: the phase stays
 abbrev pub rest : Phase → Transition
 rest phase = record { node = 0; writes = λ w. w; next = λ w. phase; events = λ w. [] }
 
--- the node gets the word 0, whatever is found; there is nothing more to do at the root
+-- the node gets the word 0, whatever is found
 abbrev pub zero_at : ℕ → ℕ → Transition
 zero_at s h = record {
   node = h;
   writes = λ w. 0;
-  next = λ w. if h == 1 then Idle else Arriving (parent_of h);
-  events = λ w. told s Zero h 0 (if h == 1 then note.Done else note.Climb);
+  next = λ w. freed h;
+  events = λ w. told s Zero h 0 (freed_note h);
 }
+
+-- a load of a child, and what the station does with what it sees
+abbrev pub child_at : ℕ → ℕ → (Seen → Phase) → Transition
+child_at s c next = record {
+  node = c;
+  writes = λ w. w;
+  next = λ w. next (seen_at w);
+  events = λ w. told s Child c w (seen_note w);
+}
+
+-- the word that a Clear writes: the marked word without its marks, and without each side whose
+-- child was seen free
+abbrev pub cleared_as_seen : ℕ → Seen → Seen → ℕ
+cleared_as_seen w left right = cleared w (is_seen_free left) (is_seen_free right)
+
+-- one exchange of the word that the station made by its mark; a node that stays in use ends the way up
+abbrev pub clear_at : ℕ → ℕ → ℕ → ℕ → Transition
+clear_at s a marked y = record {
+  node = a;
+  writes = λ w. if w == marked then y else w;
+  next = λ w. if w == marked then if is_free y then freed a else Idle else Idle;
+  events = λ w. told s Clear a (if w == marked then y else w) (if w == marked then if is_free y then freed_note a else note.Keep else note.Lost);
+}
+
+-- the first while a child is not seen yet, then the second
+abbrev pub if_unseen : Seen → Transition → Transition → Transition
+if_unseen seen.NotYet first second = first
+if_unseen seen.Free first second = second
+if_unseen seen.Used first second = second
 
 -- what a station does in its phase
 abbrev pub transition : ℕ → Phase → Transition
@@ -89,7 +135,32 @@ transition s (Swept h a) = record {
 transition s (Holding h) = rest (Holding h)
 transition s (Leaving h) = zero_at s h
 transition s (Backing h a) = zero_at s h
-transition s (Arriving a) = rest (Arriving a)
-transition s (Unmarked a) = rest (Unmarked a)
-transition s (Marked a w left right) = rest (Marked a w left right)
+-- all marks go
+transition s (Arriving a) = record {
+  node = a;
+  writes = λ w. use_of w;
+  next = λ w. Unmarked a;
+  events = λ w. told s Unmark a (use_of w) note.Ok;
+}
+-- the station's mark is set; an occupied node is no longer its matter
+transition s (Unmarked a) = record {
+  node = a;
+  writes = λ w. with_mark s w;
+  next = λ w. if is_occupied w then Idle else Marked a (with_mark s w) seen.NotYet seen.NotYet;
+  events = λ w. told s Mark a (with_mark s w) (if is_occupied w then note.Stop else note.Ok);
+}
+-- the left child, then the right one, then the exchange
+transition s (Marked a w left right) =
+    if_unseen left (child_at s (child_of a Left) (λ found. Marked a w found right))
+    (if_unseen right (child_at s (child_of a Right) (λ found. Marked a w left found))
+    (clear_at s a w (cleared_as_seen w left right)))
 transition s Retired = rest Retired
+
+-- an idle station sets its bit in the roll, and makes no event any more
+abbrev pub retirement : ℕ → Transition
+retirement s = record {
+  node = 0;
+  writes = λ w. bit_or w (2 ^ s);
+  next = λ w. Retired;
+  events = λ w. told s Retire 0 (bit_or w (2 ^ s)) note.Retired;
+}

@@ -4,3 +4,7 @@ pub mod Effect
 pub mod Schedule
 pub mod World
 pub mod Safety
+pub mod Debts
+pub mod Held
+pub mod Count
+pub mod Law

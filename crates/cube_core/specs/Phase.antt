@@ -1,8 +1,10 @@
 -- What a phase says of its station, in numbers: one clause for each phase, and 0 for none.
-use Rattle.std.specs.Prelude.{◌≡◌, ℕ, ◌<◌, ◌%◌, ◌==◌, if◌then◌else◌}
+use Rattle.std.specs.Prelude.{◌≡◌, ◌≢◌, ℕ, suc, ◌<◌, ◌≤◌, ◌%◌, ◌==◌, Bool, true, false, if◌then◌else◌}
 use Rattle.cube_shape.specs.declared.node.Side.{Side}
 use Rattle.cube_shape.specs.declared.node.Side.TheVariants.{Left, Right}
 use Rattle.cube_shape.specs.Node.{OnPath, parent_of}
+use Rattle.cube_core.specs.declared.phase.Seen.{Seen}
+use Rattle.cube_core.specs.declared.phase.Seen.TheVariants as seen
 use Rattle.cube_core.specs.declared.phase.Phase.{Phase}
 use Rattle.cube_core.specs.declared.phase.Phase.TheVariants.{Idle, Looking, Looked, Climbing, Swept, Holding, Leaving, Backing, Arriving, Unmarked, Marked, Retired}
 
@@ -55,6 +57,136 @@ node_held (Unmarked a) = 0
 node_held (Marked a w left right) = 0
 node_held Retired = 0
 
+-- the least number of an ancestor that it has passed, or at which it is swept
+abbrev pub swept_from : Phase → ℕ
+swept_from Idle = 0
+swept_from (Looking h) = 0
+swept_from (Looked h w) = 0
+swept_from (Climbing h a) = suc a
+swept_from (Swept h a) = a
+swept_from (Holding h) = 1
+swept_from (Leaving h) = 1
+swept_from (Backing h a) = suc a
+swept_from (Arriving a) = 0
+swept_from (Unmarked a) = 0
+swept_from (Marked a w left right) = 0
+swept_from Retired = 0
+
+-- the node where it is marked, and the word that its mark made there
+abbrev pub marked_at : Phase → ℕ
+marked_at Idle = 0
+marked_at (Looking h) = 0
+marked_at (Looked h w) = 0
+marked_at (Climbing h a) = 0
+marked_at (Swept h a) = 0
+marked_at (Holding h) = 0
+marked_at (Leaving h) = 0
+marked_at (Backing h a) = 0
+marked_at (Arriving a) = 0
+marked_at (Unmarked a) = 0
+marked_at (Marked a w left right) = a
+marked_at Retired = 0
+
+abbrev pub marked_word : Phase → ℕ
+marked_word Idle = 0
+marked_word (Looking h) = 0
+marked_word (Looked h w) = 0
+marked_word (Climbing h a) = 0
+marked_word (Swept h a) = 0
+marked_word (Holding h) = 0
+marked_word (Leaving h) = 0
+marked_word (Backing h a) = 0
+marked_word (Arriving a) = 0
+marked_word (Unmarked a) = 0
+marked_word (Marked a w left right) = w
+marked_word Retired = 0
+
+-- what it has seen of a child of that node
+abbrev pub seen_of : Seen → Seen → Side → Seen
+seen_of left right Left = left
+seen_of left right Right = right
+
+abbrev pub saw : Phase → Side → Seen
+saw Idle side = seen.NotYet
+saw (Looking h) side = seen.NotYet
+saw (Looked h w) side = seen.NotYet
+saw (Climbing h a) side = seen.NotYet
+saw (Swept h a) side = seen.NotYet
+saw (Holding h) side = seen.NotYet
+saw (Leaving h) side = seen.NotYet
+saw (Backing h a) side = seen.NotYet
+saw (Arriving a) side = seen.NotYet
+saw (Unmarked a) side = seen.NotYet
+saw (Marked a w left right) side = seen_of left right side
+saw Retired side = seen.NotYet
+
+-- the child was seen free
+abbrev pub is_seen_free : Seen → Bool
+is_seen_free seen.NotYet = false
+is_seen_free seen.Free = true
+is_seen_free seen.Used = false
+
+-- the node whose marks it has cleared, before it sets its own
+abbrev pub unmarked_at : Phase → ℕ
+unmarked_at Idle = 0
+unmarked_at (Looking h) = 0
+unmarked_at (Looked h w) = 0
+unmarked_at (Climbing h a) = 0
+unmarked_at (Swept h a) = 0
+unmarked_at (Holding h) = 0
+unmarked_at (Leaving h) = 0
+unmarked_at (Backing h a) = 0
+unmarked_at (Arriving a) = 0
+unmarked_at (Unmarked a) = a
+unmarked_at (Marked a w left right) = 0
+unmarked_at Retired = 0
+
+-- the node that it is engaged at: that which it owns, or that which it is to clear
+abbrev pub engaged_at : Phase → ℕ
+engaged_at Idle = 0
+engaged_at (Looking h) = 0
+engaged_at (Looked h w) = 0
+engaged_at (Climbing h a) = h
+engaged_at (Swept h a) = h
+engaged_at (Holding h) = h
+engaged_at (Leaving h) = h
+engaged_at (Backing h a) = h
+engaged_at (Arriving a) = a
+engaged_at (Unmarked a) = a
+engaged_at (Marked a w left right) = a
+engaged_at Retired = 0
+
+-- it is to clear the node v, where the word x stands: Arriving or Unmarked there, or Marked there
+-- with x still the word that its mark made, and no child seen in use
+abbrev pub Owes : Phase → ℕ → ℕ → Type 0
+Owes Idle v x = ⊥
+Owes (Looking h) v x = ⊥
+Owes (Looked h w) v x = ⊥
+Owes (Climbing h a) v x = ⊥
+Owes (Swept h a) v x = ⊥
+Owes (Holding h) v x = ⊥
+Owes (Leaving h) v x = ⊥
+Owes (Backing h a) v x = ⊥
+Owes (Arriving a) v x = a ≡ v
+Owes (Unmarked a) v x = a ≡ v
+Owes (Marked a w left right) v x = (a ≡ v) × (w ≡ x) × (left ≢ seen.Used) × (right ≢ seen.Used)
+Owes Retired v x = ⊥
+
+-- it makes no event before the next call: Idle, Holding or Retired
+abbrev pub IsAtRest : Phase → Type 0
+IsAtRest Idle = Unit {0}
+IsAtRest (Looking h) = ⊥
+IsAtRest (Looked h w) = ⊥
+IsAtRest (Climbing h a) = ⊥
+IsAtRest (Swept h a) = ⊥
+IsAtRest (Holding h) = Unit {0}
+IsAtRest (Leaving h) = ⊥
+IsAtRest (Backing h a) = ⊥
+IsAtRest (Arriving a) = ⊥
+IsAtRest (Unmarked a) = ⊥
+IsAtRest (Marked a w left right) = ⊥
+IsAtRest Retired = Unit {0}
+
 -- it owns the node v
 abbrev pub Owns : Phase → ℕ → Type 0
 Owns phase v = (0 < v) × (owned phase ≡ v)
@@ -63,3 +195,15 @@ Owns phase v = (0 < v) × (owned phase ≡ v)
 -- found no OCC
 abbrev pub HasPassed : Phase → ℕ → Type 0
 HasPassed phase c = OnPath c (owned phase) × (stop phase < parent_of c)
+
+-- it has passed the parent of c through c, or is swept there
+abbrev pub HasSwept : Phase → ℕ → Type 0
+HasSwept phase c = OnPath c (owned phase) × (swept_from phase ≤ parent_of c)
+
+-- it is marked at the node v
+abbrev pub IsMarkedAt : Phase → ℕ → Type 0
+IsMarkedAt phase v = (0 < v) × (marked_at phase ≡ v)
+
+-- it owns a node of the subtree of v, or is to clear one
+abbrev pub IsEngagedAt : Phase → ℕ → Type 0
+IsEngagedAt phase v = OnPath v (engaged_at phase)

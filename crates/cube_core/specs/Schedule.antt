@@ -4,11 +4,11 @@ use Rattle.cube_core.specs.declared.phase.Phase.{Phase}
 use Rattle.cube_core.specs.declared.phase.Phase.TheVariants.{Idle, Looking, Looked, Climbing, Swept, Holding, Leaving, Backing, Arriving, Unmarked, Marked, Retired}
 use Rattle.cube_core.specs.declared.event.Event.{Event}
 use Rattle.cube_core.specs.declared.act.Act.{Act}
-use Rattle.cube_core.specs.declared.act.Act.TheVariants.{Take, Release, Step}
+use Rattle.cube_core.specs.declared.act.Act.TheVariants.{Take, Release, Step, Retire}
 use Rattle.cube_core.specs.declared.act.Refused.{Refused}
 use Rattle.cube_core.specs.declared.act.Refused.TheVariants.{NotIdle, NotHolding, NoStation, NotInCube, Resting}
 use Rattle.cube_core.specs.Phase.{owned}
-use Rattle.cube_core.specs.Event.{Transition, transition}
+use Rattle.cube_core.specs.Event.{Transition, transition, retirement}
 
 -- a station's record: its phase, and the list of its events, the newest first
 pub record Record : Type 0 where
@@ -57,6 +57,11 @@ abbrev pub take_refusal : ℕ → ℕ → Phase → Option Refused
 take_refusal n v Idle = if nat_lt 0 v && nat_lt v (2 ^ (n + 1)) then None else Some NotInCube
 take_refusal n v _ = Some NotIdle
 
+-- a retirement
+abbrev pub retire_refusal : Phase → Option Refused
+retire_refusal Idle = None
+retire_refusal _ = Some NotIdle
+
 -- a release
 abbrev pub release_refusal : Phase → Option Refused
 release_refusal (Holding h) = None
@@ -72,9 +77,9 @@ step_refusal (Swept h a) = None
 step_refusal (Holding h) = Some Resting
 step_refusal (Leaving h) = None
 step_refusal (Backing h a) = None
-step_refusal (Arriving a) = Some Resting
-step_refusal (Unmarked a) = Some Resting
-step_refusal (Marked a w left right) = Some Resting
+step_refusal (Arriving a) = None
+step_refusal (Unmarked a) = None
+step_refusal (Marked a w left right) = None
 step_refusal Retired = Some Resting
 
 -- the station that an act is of
@@ -82,12 +87,14 @@ abbrev pub station_of : Act → ℕ
 station_of (Take s v) = s
 station_of (Release s) = s
 station_of (Step s) = s
+station_of (Retire s) = s
 
 -- why an act of a station that is there is refused in its phase
 abbrev pub phase_refusal : ℕ → Act → Phase → Option Refused
 phase_refusal n (Take s v) phase = take_refusal n v phase
 phase_refusal n (Release s) phase = release_refusal phase
 phase_refusal n (Step s) phase = step_refusal phase
+phase_refusal n (Retire s) phase = retire_refusal phase
 
 -- why an act is refused: first that there is no such station, then the phase, then the node
 abbrev pub refusal : Act → State → Option Refused
@@ -99,6 +106,7 @@ abbrev pub moved : Act → State → State
 moved (Take s v) w = begun s (Looking v) w
 moved (Release s) w = begun s (Leaving (owned (phase_of w s))) w
 moved (Step s) w = stepped (transition s (phase_of w s)) s w
+moved (Retire s) w = stepped (retirement s) s w
 
 -- what an act makes of the world: a refused one changes nothing
 abbrev pub unless_refused : Option Refused → Act → State → State

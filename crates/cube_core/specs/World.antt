@@ -1,7 +1,7 @@
 -- A world of the program, as contracts see it: a state whose trails read as empty, since a program
 -- keeps the phases and no trails.
 use Rattle.std.specs.Prelude.{◌≡◌, ℕ, ◌≤◌, List, [], length, map}
-use Rattle.cube_shape.specs.declared.limits.TheConstants.{MAX_DIM}
+use Rattle.cube_shape.specs.declared.limits.TheConstants.{MAX_DIM, MAX_STATIONS}
 use Rattle.cube_core.specs.declared.phase.Phase.{Phase}
 use Rattle.cube_core.specs.declared.act.Act.{Act}
 use Rattle.cube_core.specs.Schedule.{Record, State, after, opened}
@@ -22,9 +22,10 @@ silent w = record w { records = map (λ (r : Record). untold r.phase) w.records 
 abbrev pub IsReached : State → Type 0
 IsReached w = (n : ℕ) × (stations : ℕ) × (acts : List Act) × (w ≡ silent (after acts (opened n stations)))
 
--- a world of the program: its dimension is within the limits, and some schedule leads to it
+-- a world of the program: its size is within the limits, and some schedule leads to it
 pub record IsWorld (w : State) : Type 0 where
   pub dim_in_limits : w.dim ≤ MAX_DIM
+  pub stations_in_limits : length w.records ≤ MAX_STATIONS
   pub reached : IsReached w
 
 -- the machine and the number of stations stay

@@ -1,17 +1,18 @@
 use thiserror::Error;
 
-/// A call of a station: the beginning of a take or of a release, or one step.
+/// A call of a station: the beginning of a take or of a release, one step, or its retirement.
 #[derive(Clone, Copy, Debug, PartialEq, Eq, Hash)]
 pub enum Act {
     Take { station: u64, node: u64 },
     Release { station: u64 },
     Step { station: u64 },
+    Retire { station: u64 },
 }
 
 /// Why a call is refused. A refused call changes nothing.
 #[derive(Clone, Copy, Debug, PartialEq, Eq, Error)]
 pub enum Refused {
-    /// A take of a station that is not idle.
+    /// A take or a retirement of a station that is not idle.
     #[error("the station is not idle")]
     NotIdle,
     /// A release of a station that holds nothing.

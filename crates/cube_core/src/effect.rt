@@ -1,11 +1,11 @@
-ghost use Rattle.std.specs.Prelude.{◌≡◌, ℕ, ◌<◌};
+ghost use Rattle.std.specs.Prelude.{◌≡◌, ◌≢◌, ℕ, ◌^◌, ◌<◌};
 ghost use Rattle.cube_shape.specs.Node.{OnPath};
-ghost use Rattle.cube_core.specs.Event.{transition, risen, risen_note, zero_at};
+ghost use Rattle.cube_core.specs.Event.{transition, risen, risen_note, freed, freed_note, seen_at, seen_note, zero_at, clear_at, cleared_as_seen, retirement};
 ghost use Rattle.cube_core.specs.Effect.{IsEffect};
 
 use crate::event::{Event, Kind, Note};
-use crate::phase::Phase;
-use cube_shape::{Node, child_towards, parent, side};
+use crate::phase::{Phase, Seen};
+use cube_shape::{MAX_DIM, MAX_STATIONS, Node, child_towards, parent, side};
 use status_word::Word;
 
 /// What one event does: the word that it writes, the next phase of its station, and the event.
@@ -27,6 +27,33 @@ fn rise(node: u64, at: u64) -> (Phase, Note)
     } else {
         let up = parent(Node(at));
         (Phase::Climbing { node, at: up.0 }, Note::Climb)
+    }
+}
+
+// The phase of a station that has nothing more to do at `at`, and the note, on its way up after a
+// node was given back.
+fn leave(at: u64) -> (Phase, Note)
+    requires { 0 < at }
+    ensures phase { result.0 ≡ freed at }
+    ensures note { result.1 ≡ freed_note at }
+{
+    if at == 1 {
+        (Phase::Idle, Note::Done)
+    } else {
+        let up = parent(Node(at));
+        (Phase::Arriving { at: up.0 }, Note::Climb)
+    }
+}
+
+// What a station sees of a child whose word this is, and the note.
+fn see(word: u64) -> (Seen, Note)
+    ensures seen { result.0 ≡ seen_at word }
+    ensures note { result.1 ≡ seen_note word }
+{
+    if Word(word).is_free() {
+        (Seen::Free, Note::Free)
+    } else {
+        (Seen::Used, Note::Used)
     }
 }
 
@@ -128,12 +155,7 @@ pub fn zero(station: u64, node: u64) -> Effect
     ensures { (found : ℕ) → IsEffect (zero_at station node) found result }
 {
     let written = 0;
-    let (next, note) = if node == 1 {
-        (Phase::Idle, Note::Done)
-    } else {
-        let up = parent(Node(node));
-        (Phase::Arriving { at: up.0 }, Note::Climb)
-    };
+    let (next, note) = leave(node);
     let event = Event {
         station,
         kind: Kind::Zero,
@@ -144,6 +166,151 @@ pub fn zero(station: u64, node: u64) -> Effect
     Effect {
         word: written,
         next,
+        event,
+    }
+}
+
+/// All marks of a node on the way up after a release go.
+pub fn unmark(station: u64, at: u64, word: u64) -> Effect
+    ensures { IsEffect (transition station (Phase.Arriving at)) word result }
+{
+    let written = Word(word).without_marks().0;
+    let next = Phase::Unmarked { at };
+    let event = Event {
+        station,
+        kind: Kind::Unmark,
+        node: at,
+        word: written,
+        note: Note::Ok,
+    };
+    Effect {
+        word: written,
+        next,
+        event,
+    }
+}
+
+/// The station's mark is set; where the node is occupied, it is no longer the station's matter.
+pub fn mark(station: u64, at: u64, word: u64) -> Effect
+    requires { station < MAX_STATIONS }
+    ensures { IsEffect (transition station (Phase.Unmarked at)) word result }
+{
+    let written = Word(word).mark(station as u32).0;
+    let (next, note) = if Word(word).is_occupied() {
+        (Phase::Idle, Note::Stop)
+    } else {
+        let next = Phase::Marked {
+            at,
+            word: written,
+            left: Seen::NotYet,
+            right: Seen::NotYet,
+        };
+        (next, Note::Ok)
+    };
+    let event = Event {
+        station,
+        kind: Kind::Mark,
+        node: at,
+        word: written,
+        note,
+    };
+    Effect {
+        word: written,
+        next,
+        event,
+    }
+}
+
+/// A load of the left child of the node where the station is marked.
+pub fn look_left(station: u64, at: u64, marked: u64, right: Seen, word: u64) -> Effect
+    requires { at < 2 ^ MAX_DIM }
+    ensures { IsEffect (transition station (Phase.Marked at marked Seen.NotYet right)) word result }
+{
+    let (left, note) = see(word);
+    let next = Phase::Marked {
+        at,
+        word: marked,
+        left,
+        right,
+    };
+    let event = Event {
+        station,
+        kind: Kind::Child,
+        node: 2 * at,
+        word,
+        note,
+    };
+    Effect { word, next, event }
+}
+
+/// A load of the right child, once the left one was seen.
+pub fn look_right(station: u64, at: u64, marked: u64, left: Seen, word: u64) -> Effect
+    requires node { at < 2 ^ MAX_DIM }
+    requires seen { left ≢ Seen.NotYet }
+    ensures { IsEffect (transition station (Phase.Marked at marked left Seen.NotYet)) word result }
+{
+    let (right, note) = see(word);
+    let next = Phase::Marked {
+        at,
+        word: marked,
+        left,
+        right,
+    };
+    let event = Event {
+        station,
+        kind: Kind::Child,
+        node: 2 * at + 1,
+        word,
+        note,
+    };
+    Effect { word, next, event }
+}
+
+/// One exchange of the word that the station's mark made for the word without its marks and
+/// without each side whose child was seen free.
+pub fn clear(station: u64, at: u64, marked: u64, left: Seen, right: Seen, word: u64) -> Effect
+    requires { 0 < at }
+    ensures { IsEffect (clear_at station at marked (cleared_as_seen marked left right)) word result }
+{
+    let cleared = Word(marked).cleared(left.is_free(), right.is_free());
+    let (written, next, note) = if word != marked {
+        (word, Phase::Idle, Note::Lost)
+    } else if cleared.is_free() {
+        let (next, note) = leave(at);
+        (cleared.0, next, note)
+    } else {
+        (cleared.0, Phase::Idle, Note::Keep)
+    };
+    let event = Event {
+        station,
+        kind: Kind::Clear,
+        node: at,
+        word: written,
+        note,
+    };
+    Effect {
+        word: written,
+        next,
+        event,
+    }
+}
+
+/// The station's bit in the roll is set.
+pub fn retire(station: u64, word: u64) -> Effect
+    requires { station < MAX_STATIONS }
+    ensures { IsEffect (retirement station) word result }
+{
+    let written = word | 1 << station;
+    let event = Event {
+        station,
+        kind: Kind::Retire,
+        node: 0,
+        word: written,
+        note: Note::Retired,
+    };
+    Effect {
+        word: written,
+        next: Phase::Retired,
         event,
     }
 }

@@ -2,10 +2,10 @@
 //!
 //! Each node of the tree of aligned regions has a status word, and each station a phase. A station
 //! takes the region of a node by a Look and a Claim at the node, then a Sweep and a Raise at each
-//! ancestor on the way up. It gives the region back by a Zero at the node. Between any two events
-//! of a station any events of the others may come; what is proved here holds in every order.
-//!
-//! A station whose Zero was not at the root rests in `Arriving`: it makes no further event yet.
+//! ancestor on the way up. It gives the region back by a Zero at the node, then at each ancestor by
+//! an Unmark, a Mark, a look at both children and a Clear, for as long as the ancestors become free.
+//! Between any two events of a station any events of the others may come; what is proved here holds
+//! in every order.
 #![tactic(auto)]
 
 mod act;

@@ -1,9 +1,21 @@
+ghost use Rattle.std.specs.Prelude.{◌≡◌};
+ghost use Rattle.cube_core.specs.Phase.{is_seen_free};
+
 /// What a station on its way up after a release has seen of a child of the node where it is.
 #[derive(Clone, Copy, Debug, PartialEq, Eq, Hash)]
 pub enum Seen {
     NotYet,
     Free,
     Used,
+}
+
+impl Seen {
+    /// Whether the child was seen free.
+    pub fn is_free(self) -> bool
+        ensures { result ≡ is_seen_free self }
+    {
+        matches!(self, Seen::Free)
+    }
 }
 
 /// What a station does at the moment, and so which event it makes next.

@@ -1,6 +1,11 @@
-//! The first events of two schedules, event by event, each refusal, and a machine of one node.
+//! Beginnings of schedules, event by event, each refusal, and a machine of one node; whole schedules
+//! stand in `schedules`, and short ones that show a wrong step in `interleavings`.
 
+ghost use Rattle.std.specs.Prelude.{◌+◌, ◌^◌, ◌≤◌};
 ghost use Rattle.cube_core.specs.World.{HasShapeOf};
+
+mod interleavings;
+mod schedules;
 
 use crate::{Act, Event, Kind, Note, Phase, Refused, World};
 use std::test::Fail;
@@ -17,6 +22,30 @@ fn makes(world: &mut World, station: u64, kind: Kind, node: u64, word: u64, note
             word,
             note,
         })
+}
+
+// Whether the next steps of a station are these events.
+fn plays(world: &mut World, station: u64, events: &[(Kind, u64, u64, Note)]) -> bool
+    ensures { HasShapeOf world.old world.new }
+{
+    for (kind, node, word, note) in events {
+        if !makes(world, station, *kind, *node, *word, *note) {
+            return false;
+        }
+    }
+    true
+}
+
+// Whether the words of the nodes below this one are all 0.
+fn is_clear(world: &World, end: u64) -> bool
+    requires { end ≤ 2 ^ (world.now.dim + 1) }
+{
+    for node in 1..end {
+        if world.word(node) != 0 {
+            return false;
+        }
+    }
+    true
 }
 
 // Whether a take begins.
@@ -45,7 +74,7 @@ fn takes_a_node_and_zeroes_it(rt: HostRuntime) -> Result<(), Fail> {
     assert!(rt; makes(&mut world, 0, Kind::Raise, 1, 2, Note::Held));
     assert!(rt; releases(&mut world, 0));
     assert!(rt; makes(&mut world, 0, Kind::Zero, 4, 0, Note::Climb));
-    assert_eq!(rt; world.step(0), Err(Refused::Resting));
+    assert_eq!(rt; world.phase(0), Phase::Arriving { at: 2 });
     Ok(())
 }
 
@@ -99,6 +128,28 @@ fn refuses_in_order(rt: HostRuntime) -> Result<(), Fail> {
     assert!(rt; takes(&mut world, 0, 3));
     assert_eq!(rt; world.begin_take(0, 4), Err(Refused::NotIdle));
     assert_eq!(rt; world.begin_release(0), Err(Refused::NotHolding));
+    assert_eq!(rt; world.retire(0), Err(Refused::NotIdle));
+    assert_eq!(rt; world.retire(2), Err(Refused::NoStation));
+    Ok(())
+}
+
+#[test]
+fn retires_for_good(rt: HostRuntime) -> Result<(), Fail> {
+    let mut world = World::new(rt.alloc(), 1, 2)?;
+    let event = Event {
+        station: 1,
+        kind: Kind::Retire,
+        node: 0,
+        word: 2,
+        note: Note::Retired,
+    };
+    assert_eq!(rt; world.retire(1), Ok(event));
+    assert_eq!(rt; world.phase(1), Phase::Retired);
+    assert_eq!(rt; world.word(0), 2);
+    assert_eq!(rt; world.begin_take(1, 1), Err(Refused::NotIdle));
+    assert_eq!(rt; world.begin_release(1), Err(Refused::NotHolding));
+    assert_eq!(rt; world.step(1), Err(Refused::Resting));
+    assert_eq!(rt; world.retire(1), Err(Refused::NotIdle));
     Ok(())
 }
 

@@ -1,14 +1,16 @@
-ghost use Rattle.std.specs.Prelude.{◌≡◌, ◌+◌, ◌^◌, ◌<◌, ◌≤◌, ◌∷◌, Some, None, length, reverse, IfSome, IfNone, IfOk, IfErr, OnOk, OnErr};
+ghost use Rattle.std.specs.Prelude.{◌≡◌, ◌≢◌, ℕ, ◌+◌, ◌*◌, ◌^◌, ◌<◌, ◌≤◌, ◌∷◌, Some, None, length, reverse, IfSome, IfNone, IfOk, IfErr, OnOk, OnErr};
 ghost use Rattle.cube_core.specs.Schedule.{acted, after, opened, phase_of, record_of, refusal, step_refusal, word_of};
 ghost use Rattle.cube_core.specs.World.{HasShapeOf, silent};
-ghost use Rattle.cube_core.specs.Event.{transition};
+ghost use Rattle.cube_core.specs.Event.{transition, retirement};
 ghost use Rattle.cube_core.specs.Effect.{IsEffect};
-ghost use Rattle.cube_core.specs.Safety.{IsTreeLawful, EveryScheduleIsLawful};
+ghost use Rattle.cube_core.specs.Count.{depth, events_due};
+ghost use Rattle.cube_core.specs.Phase.{node_held};
+ghost use Rattle.cube_core.specs.Law.{IsTreeLawful, EveryScheduleIsLawful};
 
 use crate::act::{Act, Refused};
 use crate::effect::{self, Effect};
 use crate::event::Event;
-use crate::phase::Phase;
+use crate::phase::{Phase, Seen};
 use cube_shape::{MAX_DIM, MAX_STATIONS, Node};
 use std::alloc::{AllocError, Global};
 use std::marker::Model;
@@ -73,6 +75,7 @@ impl World {
         ensures unchanged { OnErr result (self.new ≡ self.old) }
         ensures world { OnOk result (self.new ≡ silent (acted (Act.Take station node) self.old)) }
         ensures shape { HasShapeOf self.old self.new }
+        ensures count { OnOk result (events_due self.old.dim (phase_of self.new station) ≡ 3 + 7 * depth self.old.dim node) }
     {
         match self.find(station)? {
             Phase::Idle if Node(node).is_in(self.dim) => {
@@ -91,6 +94,8 @@ impl World {
         ensures unchanged { OnErr result (self.new ≡ self.old) }
         ensures world { OnOk result (self.new ≡ silent (acted (Act.Release station) self.old)) }
         ensures shape { HasShapeOf self.old self.new }
+        ensures count { OnOk result (events_due self.old.dim (phase_of self.new station)
+            ≡ 1 + 5 * depth self.old.dim (node_held (phase_of self.old station))) }
     {
         let Phase::Holding { node } = self.find(station)? else {
             return Err(Refused::NotHolding);
@@ -106,6 +111,9 @@ impl World {
         ensures unchanged { OnErr result (self.new ≡ self.old) }
         ensures world { OnOk result (self.new ≡ silent (acted (Act.Step station) self.old)) }
         ensures shape { HasShapeOf self.old self.new }
+        ensures lawful { IsTreeLawful self.new }
+        ensures count { OnOk result (events_due self.old.dim (phase_of self.new station) < events_due self.old.dim (phase_of self.old station)) }
+        ensures others { (t : ℕ) → t ≢ station → phase_of self.new t ≡ phase_of self.old t }
         ensures event { IfOk result (λ event. (record_of (acted (Act.Step station) self.old) station).trail
             ≡ event ∷ (record_of self.old station).trail) }
     {
@@ -114,6 +122,25 @@ impl World {
             return Err(Refused::Resting);
         };
         self.words[effect.event.node as usize] = effect.word;
+        self.phases[station as usize] = effect.next;
+        Ok(effect.event)
+    }
+
+    /// An idle station retires: its bit in the roll is set, and it makes no event any more.
+    pub fn retire(&mut self, station: u64) -> Result<Event, Refused>
+        ensures refused { IfErr result (λ why. refusal (Act.Retire station) self.old ≡ Some why) }
+        ensures accepted { IfOk result (λ _. refusal (Act.Retire station) self.old ≡ None) }
+        ensures unchanged { OnErr result (self.new ≡ self.old) }
+        ensures world { OnOk result (self.new ≡ silent (acted (Act.Retire station) self.old)) }
+        ensures shape { HasShapeOf self.old self.new }
+        ensures event { IfOk result (λ event. (record_of (acted (Act.Retire station) self.old) station).trail
+            ≡ event ∷ (record_of self.old station).trail) }
+    {
+        let Phase::Idle = self.find(station)? else {
+            return Err(Refused::NotIdle);
+        };
+        let effect = effect::retire(station, self.word(0));
+        self.words[0] = effect.word;
         self.phases[station as usize] = effect.next;
         Ok(effect.event)
     }
@@ -141,12 +168,14 @@ impl World {
             Act::Take { station, node } => self.begin_take(station, node).is_err(),
             Act::Release { station } => self.begin_release(station).is_err(),
             Act::Step { station } => self.step(station).is_err(),
+            Act::Retire { station } => self.retire(station).is_err(),
         };
     }
 
     // The next event of a station in this phase, unless it rests.
     fn effect(&self, station: u64, phase: Phase) -> Option<Effect>
-        requires { phase ≡ phase_of self.now station }
+        requires phase { phase ≡ phase_of self.now station }
+        requires there { station < length self.now.records }
         ensures rests { IfNone result (step_refusal phase ≡ Some Refused.Resting) }
         ensures moves { IfSome result (λ made. step_refusal phase ≡ None) }
         ensures effect { IfSome result (λ made. IsEffect (transition station phase)
@@ -160,9 +189,33 @@ impl World {
             Phase::Swept { node, at } => effect::raise(station, node, at, self.word(at)),
             Phase::Leaving { node } => effect::zero(station, node),
             Phase::Backing { node, .. } => effect::zero(station, node),
-            _ => return None,
+            Phase::Arriving { at } => effect::unmark(station, at, self.word(at)),
+            Phase::Unmarked { at } => effect::mark(station, at, self.word(at)),
+            Phase::Marked {
+                at,
+                word,
+                left,
+                right,
+            } => self.marked(station, at, word, left, right),
+            Phase::Idle | Phase::Holding { .. } | Phase::Retired => return None,
         };
         Some(effect)
+    }
+
+    // The next event of a station that is marked at a node: a look at a child not seen yet, or the
+    // exchange.
+    fn marked(&self, station: u64, at: u64, word: u64, left: Seen, right: Seen) -> Effect
+        requires node { 0 < at }
+        requires limit { at < 2 ^ MAX_DIM }
+        requires inner { 2 * at + 1 < 2 ^ (self.now.dim + 1) }
+        ensures { IsEffect (transition station (Phase.Marked at word left right))
+            (word_of self.now (transition station (Phase.Marked at word left right)).node) result }
+    {
+        match (left, right) {
+            (Seen::NotYet, _) => effect::look_left(station, at, word, right, self.word(2 * at)),
+            (_, Seen::NotYet) => effect::look_right(station, at, word, left, self.word(2 * at + 1)),
+            _ => effect::clear(station, at, word, left, right, self.word(at)),
+        }
     }
 
     // The phase of a station, if there is one of this number.
@@ -184,10 +237,25 @@ impl World {
 /// - Where a station has passed a node through a child, the node's word has the side of this child.
 /// - A word is occupied exactly where some station owns its node. Then no other station owns the
 ///   node, and none has passed it.
+/// - Where the mark of a station that is marked at a node stands, the node's word has every bit of
+///   the marked one. If the station saw a child free, none is swept at the node, or has passed it,
+///   through this child.
+/// - A word that is in use and not occupied has a child in use, or a station that is to clear its
+///   node: one that is arriving or unmarked there, or marked there by the word that still stands,
+///   with no child seen in use.
+/// - A free word with a mark is the one that some station's mark made there. No two stations are
+///   marked at one node by the same word.
 /// - The regions of the stations that hold one are aligned and apart.
 /// - Each further act is a step of its station on the machine of regions: the station gets a region
 ///   that is apart from every held one, or its own region is taken away. Or the act leaves the
 ///   held regions alone.
+/// - Where a word is in use, some station owns a node at or under its node, or is to clear one. So
+///   when all stations are at rest a word is free exactly where no held region is at or under its
+///   node, and when all have retired every node's word is `0`.
+/// - The bit of a station stands in the roll exactly when it has retired.
+/// - A take of a node `j` levels below the root begins at a count of `3 + 7 * j` events, and a
+///   release at `1 + 5 * j`. Each event lowers the count of its own station, and leaves the others'
+///   alone.
 pub fn every_schedule_is_lawful()
     ensures { EveryScheduleIsLawful }
 {}

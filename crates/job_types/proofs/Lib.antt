@@ -1,2 +1,3 @@
 pub mod DimLemmas
+pub mod NumberLemmas
 pub mod RefusalLemmas

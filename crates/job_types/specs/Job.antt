@@ -1,7 +1,7 @@
 -- What a contract sees of a job, and which requests are refused.
 use Rattle.std.specs.Prelude.{◌≡◌, ℕ, ◌^◌, ◌<◌, ◌≤◌, Bool, false, not, List, length, Option, Some, None, nat_lt, ◌==◌, if◌then◌else◌}
 use Rattle.job_types.specs.declared.kind.Kind.{Kind}
-use Rattle.job_types.specs.declared.kind.Kind.TheVariants.{AllReduce}
+use Rattle.job_types.specs.declared.kind.Kind.TheVariants.{Broadcast, Reduce, AllReduce, Scan}
 use Rattle.job_types.specs.declared.job.JobRefused.{JobRefused}
 use Rattle.job_types.specs.declared.job.JobRefused.TheVariants.{Empty, NotPowerOfTwo, TooLarge, BadRoot}
 use Rattle.job_types.specs.declared.job.TheConstants.{MAX_LANES}
@@ -17,7 +17,10 @@ pub record JobData : Type 0 where
 
 -- the collective's root, if it has one, is no place among so many
 abbrev pub has_bad_root : Kind → ℕ → Bool
+has_bad_root (Broadcast root) places = not (nat_lt root places)
+has_bad_root (Reduce op root) places = not (nat_lt root places)
 has_bad_root (AllReduce op) places = false
+has_bad_root (Scan op) places = false
 
 -- the first refusal of such a request on a machine of dimension n, if there is one
 abbrev pub refusal_of : ℕ → Kind → List ℕ → Option JobRefused
@@ -28,9 +31,11 @@ refusal_of n kind items =
     else if has_bad_root kind (length items) then Some BadRoot
     else None
 
--- what is true of every job: its items are 2 ^ dim, and its machine has regions of that dimension
-pub record IsJob (machine lane dim : ℕ) (items : List ℕ) : Type 0 where
+-- what is true of every job: its items are 2 ^ dim, its machine has regions of that dimension, and its
+-- root, if it has one, is one of the places
+pub record IsJob (machine lane : ℕ) (kind : Kind) (dim : ℕ) (items : List ℕ) : Type 0 where
   pub limit : machine ≤ MAX_DIM
   pub lane_below : lane < MAX_LANES
   pub within : dim ≤ machine
   pub power : 2 ^ dim ≡ length items
+  pub rooted : has_bad_root kind (length items) ≡ false

@@ -3,8 +3,9 @@ use Rattle.std.specs.Prelude.{◌≡◌, ℕ, ◌^◌, List, length}
 use Rattle.cube_shape.specs.declared.region.Region.{Region}
 use Rattle.cube_shape.specs.Region.{IsAligned}
 use Rattle.job_types.specs.declared.reply.JobId.{JobId}
-use Rattle.job_types.specs.declared.reply.Tally.{Tally}
-use Rattle.job_types.specs.Collective.{IsResult, tally_of}
+use Rattle.collectives.specs.declared.shape.Tally.{Tally}
+use Rattle.collectives.specs.Shape.{tally_of}
+use Rattle.job_types.specs.Collective.{IsResult, shape_of}
 use Rattle.job_types.specs.Dim.{dim_of}
 use Rattle.job_types.specs.Job.{JobData}
 
@@ -15,8 +16,8 @@ pub record ReplyData : Type 0 where
   pub region : Region
 
 -- the region could run the job, and the tally and the result are those of its collective
-pub record IsAnswer (job : JobData) (region : Region) (tally : Tally) (places : List ℕ) : Type 0 where
+pub record IsAnswer (job : JobData) (region : Region) (tally : Tally) (numbers : List ℕ) : Type 0 where
   pub aligned : IsAligned job.machine region
   pub dimension : 2 ^ region.dim ≡ length job.items
-  pub tallied : tally ≡ tally_of job.kind (dim_of (length job.items))
-  pub computed : IsResult job.kind job.items places
+  pub tallied : tally ≡ tally_of (shape_of job.kind) (dim_of (length job.items))
+  pub computed : IsResult job.kind job.items numbers

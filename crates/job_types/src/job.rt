@@ -6,6 +6,7 @@ ghost use Rattle.job_types.specs.Job.{refusal_of};
 use crate::kind::Kind;
 use crate::reply::{JobId, Reply};
 use crate::request::{Request, refusal};
+use crate::room::Room;
 use cube_shape::{MAX_DIM, Region};
 use std::alloc::Global;
 use std::marker::Model;
@@ -29,35 +30,35 @@ pub enum JobRefused {
     /// The root is not one of the places, which are as many as the items.
     #[error("the root is not one of the places")]
     BadRoot,
-    /// The room for the result was asked for and refused.
+    /// Some of the room for the rounds was asked for and refused.
     #[error("out of memory")]
     OutOfMemory,
 }
 
-/// A job that is not answered yet: a request, and the room for its result.
+/// A job that is not answered yet: a request, and the room for its rounds and its result.
 #[derive(Debug, Drop)]
 pub struct Job {
     request: Request,
-    room: Vec<u64>,
+    room: Room,
 }
 
 impl Model for Job {
-    ghost use Rattle.std.specs.Prelude.{◌≡◌, length};
     ghost use Rattle.job_types.specs.Job.{JobData};
+    ghost use Rattle.job_types.specs.Room.{IsRoomFor};
 
     ghost Value = { JobData };
 
     ghost view = { λ j. j.request };
 
-    ghost invariant = { λ j. length j.room.items ≡ length j.request.items };
+    ghost invariant = { λ j. IsRoomFor j.request.kind j.request.items j.room };
 }
 
 impl Job {
     /// A job for a machine of dimension `n` and one of its lanes. It reserves the room for its
-    /// result, so that answering it takes no memory.
+    /// rounds, so that answering it takes no memory.
     ///
     /// An error gives the items back, as they were. It is the first one of `JobRefused` that
-    /// holds, and `OutOfMemory` only where the reservation was refused.
+    /// holds, and `OutOfMemory` only where a reservation was refused.
     pub fn new(
         alloc: Global,
         n: u32,
@@ -79,7 +80,7 @@ impl Job {
         if let Some(refused) = refusal(n, kind, &items) {
             return Err((items, refused));
         }
-        let Ok(room) = vec![in alloc; 0; items.len()] else {
+        let Ok(room) = Room::new(alloc, kind, &items) else {
             return Err((items, JobRefused::OutOfMemory));
         };
         Ok(Job {
@@ -129,16 +130,14 @@ impl Job {
     }
 
     /// Runs the job on a region of its machine that has a processor for each item. It takes no
-    /// memory, since the result goes into the room that was reserved for it.
+    /// memory, since its rounds work in the room that was reserved for them.
     pub fn answer(self, id: JobId, region: Region) -> Reply
         requires aligned { IsAligned self.machine region }
         requires dimension { 2 ^ region.dim ≡ length self.items }
         ensures { result ≡ record { id = id; job = self; region = region } }
     {
         let Job { request, mut room } = self;
-        let kind = request.kind();
-        kind.write_result(request.items(), &mut room);
-        let tally = kind.tally(request.dim());
+        let tally = room.run(request.kind(), request.dim());
         Reply::new(id, request, region, tally, room)
     }
 }

@@ -1,75 +1,79 @@
-ghost use Rattle.std.specs.Prelude.{◌≡◌, ◌≤◌, length};
-ghost use Rattle.job_types.specs.Collective.{join, unit_of, total_of, tally_of, IsResult};
+ghost use Rattle.std.specs.Prelude.{◌≡◌};
+ghost use Rattle.job_types.specs.Collective.{operation_of, spare_for};
+ghost use Rattle.job_types.specs.Job.{has_bad_root};
 
-use crate::reply::Tally;
-use cube_shape::MAX_DIM;
-
-/// An operation that joins two items into one.
+/// An operation that joins two items into one. Each is associative.
 #[derive(Clone, Copy, Debug, PartialEq, Eq, Hash)]
 pub enum Op {
     /// The sum modulo `2^64`.
     Add,
+    /// The smaller.
+    Min,
+    /// The larger.
+    Max,
+    /// The bits in which the two differ.
+    Xor,
+    /// The bits that both have.
+    And,
+    /// The bits that either has.
+    Or,
 }
 
-/// Which collective a job asks for.
+/// Which collective a job asks for. Items are joined in the order of their ranks.
 #[derive(Clone, Copy, Debug, PartialEq, Eq, Hash)]
 pub enum Kind {
+    /// Every processor gets the item of the root.
+    Broadcast {
+        /// The rank of the root.
+        root: u64,
+    },
+    /// The root gets all items, joined, and the other processors get nothing.
+    Reduce {
+        /// What joins them.
+        op: Op,
+        /// The rank of the root.
+        root: u64,
+    },
     /// Every processor gets all items, joined.
-    AllReduce { op: Op },
-}
-
-impl Op {
-    /// Two items, joined.
-    fn join(self, a: u64, b: u64) -> u64
-        ensures { result ≡ join self a b }
-    {
-        match self {
-            Op::Add => a.wrapping_add(b),
-        }
-    }
-
-    /// The unit, which changes nothing that it is joined with.
-    fn unit(self) -> u64
-        ensures { result ≡ unit_of self }
-    {
-        match self {
-            Op::Add => 0,
-        }
-    }
-
-    /// All items, joined from the left.
-    fn total(self, items: &[u64]) -> u64
-        ensures { result ≡ total_of self items.now }
-    {
-        let mut total = self.unit();
-        for item in items {
-            total = self.join(total, *item);
-        }
-        total
-    }
+    AllReduce {
+        /// What joins them.
+        op: Op,
+    },
+    /// Each processor gets the items up to and with its own, joined.
+    Scan {
+        /// What joins them.
+        op: Op,
+    },
 }
 
 impl Kind {
-    /// Writes the collective's result on these items, which has a place for each of them.
-    pub(crate) fn write_result(self, items: &[u64], places: &mut [u64])
-        requires { length places.old ≡ length items.now }
-        ensures { IsResult self items.now places.new }
+    /// Whether the collective has a root that is none of so many places.
+    pub(crate) fn has_bad_root(self, places: u64) -> bool
+        ensures { result ≡ has_bad_root self places }
     {
         match self {
-            Kind::AllReduce { op } => places.fill(op.total(items)),
+            Kind::Broadcast { root } | Kind::Reduce { root, .. } => root >= places,
+            Kind::AllReduce { .. } | Kind::Scan { .. } => false,
         }
     }
 
-    /// What the collective takes on `2^dim` processors.
-    pub(crate) fn tally(self, dim: u32) -> Tally
-        requires { dim ≤ MAX_DIM }
-        ensures { result ≡ tally_of self dim }
+    /// What joins the items. A broadcast joins none, so its items can be of any operation.
+    pub(crate) fn operation(self) -> Op
+        ensures { result ≡ operation_of self }
     {
         match self {
-            Kind::AllReduce { .. } => Tally {
-                rounds: dim,
-                messages: u64::from(dim) << dim,
-            },
+            Kind::Broadcast { .. } => Op::Add,
+            Kind::Reduce { op, .. } | Kind::AllReduce { op } | Kind::Scan { op } => op,
+        }
+    }
+
+    /// How many places the collective needs beside so many, for its totals.
+    pub(crate) fn spare(self, places: usize) -> usize
+        ensures { result ≡ spare_for self places }
+    {
+        match self {
+            Kind::Broadcast { .. } | Kind::Reduce { .. } | Kind::AllReduce { .. } => 0,
+            Kind::Scan { .. } => places,
         }
     }
 }

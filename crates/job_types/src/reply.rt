@@ -1,10 +1,15 @@
 ghost use Rattle.std.specs.Prelude.{◌≡◌, ◌^◌, length};
 ghost use Rattle.cube_shape.specs.Region.{IsAligned};
-ghost use Rattle.job_types.specs.Collective.{result_at, tally_of};
+ghost use Rattle.collectives.specs.Shape.{tally_of};
+ghost use Rattle.job_types.specs.Collective.{result_at, shape_of};
 ghost use Rattle.job_types.specs.Dim.{dim_of};
 ghost use Rattle.job_types.specs.Reply.{IsAnswer};
+ghost use Rattle.job_types.specs.Room.{numbers_of};
 
+use crate::kind::Kind;
 use crate::request::Request;
+use crate::room::Room;
+use collectives::Tally;
 use cube_shape::Region;
 use std::marker::Model;
 
@@ -17,15 +22,6 @@ pub struct JobId {
     pub seq: u64,
 }
 
-/// What a collective took.
-#[derive(Clone, Copy, Debug, PartialEq, Eq, Hash)]
-pub struct Tally {
-    /// The rounds, in each of which every processor sends at most one message.
-    pub rounds: u32,
-    /// The messages in all rounds.
-    pub messages: u64,
-}
-
 /// The reply to a job: the region that the job ran on, the collective's result on its items, and
 /// what that took.
 #[derive(Debug, Drop)]
@@ -34,29 +30,24 @@ pub struct Reply {
     job: Request,
     region: Region,
     tally: Tally,
-    places: Vec<u64>,
+    room: Room,
 }
 
 impl Model for Reply {
     ghost use Rattle.job_types.specs.Reply.{ReplyData, IsAnswer};
+    ghost use Rattle.job_types.specs.Room.{numbers_of};
 
     ghost Value = { ReplyData };
 
     ghost view = { λ r. record { id = r.id; job = r.job; region = r.region } };
 
-    ghost invariant = { λ r. IsAnswer r.job r.region r.tally r.places.items };
+    ghost invariant = { λ r. IsAnswer r.job r.region r.tally (numbers_of r.room) };
 }
 
 impl Reply {
     /// The reply with these parts, which fit together.
-    pub(crate) fn new(
-        id: JobId,
-        job: Request,
-        region: Region,
-        tally: Tally,
-        places: Vec<u64>,
-    ) -> Self
-        requires { IsAnswer job region tally places.items }
+    pub(crate) fn new(id: JobId, job: Request, region: Region, tally: Tally, room: Room) -> Self
+        requires { IsAnswer job region tally (numbers_of room) }
         ensures { result ≡ record { id = id; job = job; region = region } }
     {
         Reply {
@@ -64,7 +55,7 @@ impl Reply {
             job,
             region,
             tally,
-            places,
+            room,
         }
     }
 
@@ -94,16 +85,20 @@ impl Reply {
 
     /// What the collective took, on as many processors as there are items.
     pub fn tally(&self) -> Tally
-        ensures { result ≡ tally_of self.now.job.kind (dim_of (length self.now.job.items)) }
+        ensures { result ≡ tally_of (shape_of self.now.job.kind) (dim_of (length self.now.job.items)) }
     {
         self.tally
     }
 
     /// What the region's processor of this rank holds in the end, if it holds anything: `None`
-    /// for a rank past the places, which are as many as the items.
+    /// for a rank past the places, which are as many as the items, and where a reduction's result
+    /// went to another rank.
     pub fn at(&self, rank: u64) -> Option<u64>
         ensures { result ≡ result_at self.now.job.kind self.now.job.items rank }
     {
-        self.places.get(rank as usize).copied()
+        match self.job.kind() {
+            Kind::Reduce { root, .. } if rank != root => None,
+            _ => self.room.at(rank),
+        }
     }
 }

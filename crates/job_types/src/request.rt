@@ -26,7 +26,7 @@ impl Model for Request {
     ghost view = { λ r.
         record { machine = r.machine; lane = r.lane; kind = r.kind; items = r.items.items } };
 
-    ghost invariant = { λ r. IsJob r.machine r.lane r.dim r.items.items };
+    ghost invariant = { λ r. IsJob r.machine r.lane r.kind r.dim r.items.items };
 }
 
 /// The first reason, in the order of `JobRefused`, why there is no such job on a machine of
@@ -46,9 +46,10 @@ pub(crate) fn refusal(n: u32, kind: Kind, items: &[u64]) -> Option<JobRefused>
     if dim > n {
         return Some(JobRefused::TooLarge);
     }
-    match kind {
-        Kind::AllReduce { .. } => None,
+    if kind.has_bad_root(len as u64) {
+        return Some(JobRefused::BadRoot);
     }
+    None
 }
 
 impl Request {

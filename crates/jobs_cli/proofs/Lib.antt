@@ -5,4 +5,6 @@ pub mod Given
 pub mod JobsRead
 pub mod Lines
 pub mod Places
+pub mod FieldLemmas
+pub mod SentLemmas
 pub mod Answering

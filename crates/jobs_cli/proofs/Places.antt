@@ -14,7 +14,7 @@ range_push from (suc n) =
     ap (λ (rest : List ℕ). from ∷ rest) (range_push (from + 1) n ∙ ap (λ (k : ℕ). range_with_len (from + 1) n ++ k ∷ []) last)
 
 -- one more piece behind others
-joined_push : (byte : ℕ) (first : List ℕ) (pieces : List (List ℕ)) (piece : List ℕ) → join_with_byte byte ((first ∷ pieces) ++ piece ∷ []) ≡ join_with_byte byte (first ∷ pieces) ++ (byte ∷ piece)
+pub joined_push : (byte : ℕ) (first : List ℕ) (pieces : List (List ℕ)) (piece : List ℕ) → join_with_byte byte ((first ∷ pieces) ++ piece ∷ []) ≡ join_with_byte byte (first ∷ pieces) ++ (byte ∷ piece)
 joined_push byte first [] piece = refl
 joined_push byte first (second ∷ pieces) piece = ap (λ (rest : List ℕ). first ++ (byte ∷ rest)) (joined_push byte second pieces piece) ∙ sym (append_assoc first (byte ∷ join_with_byte byte (second ∷ pieces)) (byte ∷ piece))
 

@@ -3,11 +3,11 @@ use Rattle.std.specs.Prelude.{ℕ, ◌+◌, ◌-◌, ◌*◌, ◌^◌, ◌==◌,
 use Rattle.std.specs.List.{list_all, slice_split}
 use Rattle.std.specs.Char.{is_ascii_digit}
 use Rattle.std.specs.Str.{bytes_eq}
-use Rattle.job_types.specs.declared.kind.Kind.{Kind}
-use Rattle.job_types.specs.declared.kind.Kind.TheVariants.{AllReduce}
 use Rattle.job_types.specs.declared.kind.Op.{Op}
-use Rattle.job_types.specs.declared.kind.Op.TheVariants.{Add}
+use Rattle.job_types.specs.declared.kind.Op.TheVariants.{Add, Min, Max, Xor, And, Or}
 use Rattle.job_types.specs.declared.job.TheConstants.{MAX_LANES}
+use Rattle.jobs_cli.specs.declared.collective.Collective.{Collective}
+use Rattle.jobs_cli.specs.declared.collective.Collective.TheVariants.{Broadcast, Reduce, AllReduce, Scan}
 use Rattle.jobs_cli.specs.declared.fault.What.{What}
 use Rattle.jobs_cli.specs.declared.fault.What.TheVariants as what
 use Rattle.jobs_cli.specs.Outcome.{or_refuse, ◌>>=◌}
@@ -54,10 +54,32 @@ lane_of field = or_refuse what.Number (option_and_then (λ lane. if nat_lt lane 
 
 -- the operation
 unfoldable pub op_of : List ℕ → Result Op What
-op_of field = if bytes_eq field (codes "add") then Ok Add else Err what.Word
+op_of field =
+    if bytes_eq field (codes "add") then Ok Add
+    else if bytes_eq field (codes "min") then Ok Min
+    else if bytes_eq field (codes "max") then Ok Max
+    else if bytes_eq field (codes "xor") then Ok Xor
+    else if bytes_eq field (codes "and") then Ok And
+    else if bytes_eq field (codes "or") then Ok Or
+    else Err what.Word
 
--- the collective, which two fields say
-unfoldable pub kind_of : List ℕ → List ℕ → Result Kind What
-kind_of kind op = if bytes_eq kind (codes "allreduce") then (do
-  join ← op_of op
-  Ok (AllReduce join)) else Err what.Word
+-- no operation
+unfoldable pub no_op_of : List ℕ → Result (Unit {0}) What
+no_op_of field = if bytes_eq field (codes "-") then Ok tt else Err what.Word
+
+-- the collective, which two fields say; a broadcast has no operation
+unfoldable pub collective_of : List ℕ → List ℕ → Result Collective What
+collective_of kind op =
+    if bytes_eq kind (codes "broadcast") then (do
+      none ← no_op_of op
+      Ok Broadcast)
+    else if bytes_eq kind (codes "reduce") then (do
+      join ← op_of op
+      Ok (Reduce join))
+    else if bytes_eq kind (codes "allreduce") then (do
+      join ← op_of op
+      Ok (AllReduce join))
+    else if bytes_eq kind (codes "scan") then (do
+      join ← op_of op
+      Ok (Scan join))
+    else Err what.Word

@@ -1,6 +1,7 @@
 pub mod Device
 pub mod Fault
 pub mod Outcome
+pub mod Collective
 pub mod Fields
 pub mod Said
 pub mod Numbering

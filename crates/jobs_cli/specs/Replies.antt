@@ -4,18 +4,22 @@ use Rattle.std.specs.List.{flat_map, join_with_byte, range_with_len}
 use Rattle.std.specs.Fmt.{decimal}
 use Rattle.std.specs.Ordering.{nat_cmp, ordering_then}
 use Rattle.std.specs.declared.cmp.Ordering.{Ordering}
-use Rattle.job_types.specs.Collective.{result_at, tally_of}
+use Rattle.collectives.specs.Shape.{tally_of}
+use Rattle.collectives.specs.declared.shape.Tally.{Tally}
+use Rattle.job_types.specs.Collective.{result_at, shape_of}
 use Rattle.job_types.specs.Dim.{dim_of}
 use Rattle.job_types.specs.Job.{JobData}
 use Rattle.job_types.specs.declared.kind.Kind.{Kind}
-use Rattle.job_types.specs.declared.kind.Kind.TheVariants.{AllReduce}
-use Rattle.job_types.specs.declared.reply.Tally.{Tally}
+use Rattle.job_types.specs.declared.kind.Kind.TheVariants.{Broadcast, Reduce, AllReduce, Scan}
 use Rattle.jobs_cli.specs.declared.numbering.Numbered.{Numbered}
 use Rattle.jobs_cli.specs.Numbering.{numbered}
 
 -- the word of a collective
 abbrev pub kind_text : Kind → List ℕ
+kind_text (Broadcast root) = codes "broadcast"
+kind_text (Reduce op root) = codes "reduce"
 kind_text (AllReduce op) = codes "allreduce"
+kind_text (Scan op) = codes "scan"
 
 -- what a place holds: a number, or a dash for nothing
 abbrev pub place_text : Option ℕ → List ℕ
@@ -28,7 +32,7 @@ places_text ranks job = join_with_byte 32 (map (λ rank. place_text (result_at j
 
 -- what a job's collective takes
 abbrev pub tally_for : JobData → Tally
-tally_for job = tally_of job.kind (dim_of (length job.items))
+tally_for job = tally_of (shape_of job.kind) (dim_of (length job.items))
 
 -- the fields of a job's line
 abbrev pub fields_for : Numbered → List (List ℕ)

@@ -1,6 +1,6 @@
 -- What a file of jobs says: its jobs in file order, or the first fault. A check that fails hides
 -- those behind it.
-use Rattle.std.specs.Prelude.{ℕ, ◌+◌, ◌==◌, ◌&&◌, List, [], ◌∷◌, codes, nat_lt, Option, Some, None, Result, Ok, Err, if◌then◌else◌}
+use Rattle.std.specs.Prelude.{ℕ, ◌+◌, ◌&&◌, Bool, List, [], ◌∷◌, codes, nat_lt, Option, Some, None, Result, Ok, Err, if◌then◌else◌}
 use Rattle.std.specs.Str.{bytes_eq}
 use Rattle.csv.specs.Reading.{default_config, records, strip_bom}
 use Rattle.job_types.specs.Job.{JobData, refusal_of}
@@ -11,7 +11,8 @@ use Rattle.jobs_cli.specs.declared.fault.What.{What}
 use Rattle.jobs_cli.specs.declared.fault.What.TheVariants as what
 use Rattle.jobs_cli.specs.declared.input.TheConstants.{MAX_RECORDS}
 use Rattle.jobs_cli.specs.Outcome.{◌>>=◌}
-use Rattle.jobs_cli.specs.Fields.{items_of, kind_of, lane_of, root_of}
+use Rattle.jobs_cli.specs.Collective.{has_spare_root, rooted}
+use Rattle.jobs_cli.specs.Fields.{collective_of, items_of, lane_of, root_of}
 
 -- a record is the list of its fields
 abbrev pub Record : Type 0
@@ -22,18 +23,18 @@ abbrev pub refuse : Option JobRefused → Result JobData What → Result JobData
 refuse None said = said
 refuse (Some reason) said = Err (what.Job reason)
 
--- the job, unless a rule of every job refuses it, or it has a root, which an all-reduce has not
-unfoldable pub accepted : JobData → ℕ → Result JobData What
-accepted job root = refuse (refusal_of job.machine job.kind job.items) (if root == 0 then Ok job else Err (what.Job BadRoot))
+-- the job, unless a rule of every job refuses it; a root that its collective has not is a bad one
+unfoldable pub accepted : JobData → Bool → Result JobData What
+accepted job is_spare = refuse (refusal_of job.machine job.kind job.items) (if is_spare then Err (what.Job BadRoot) else Ok job)
 
 -- the job of a record, for a machine of dimension n
 unfoldable pub job_of : ℕ → Record → Result JobData What
 job_of n (lane ∷ kind ∷ op ∷ root ∷ items ∷ []) = do
   l ← lane_of lane
-  k ← kind_of kind op
+  c ← collective_of kind op
   r ← root_of root
   xs ← items_of items
-  accepted (record { machine = n; lane = l; kind = k; items = xs }) r
+  accepted (record { machine = n; lane = l; kind = rooted c r; items = xs }) (has_spare_root c r)
 job_of n _ = Err what.Fields
 
 -- whether the header has the text that it should have

@@ -13,12 +13,15 @@ const ABOUT_RUN: &str = "Answers a file of jobs";
 const LONG_ABOUT_RUN: &str = "Reads a file of jobs from standard input, answers each job on a \
 subcube of the machine, and writes the replies to standard output.
 
-The input is CSV with the header lane,kind,op,root,items. A job's lane is below 16, its kind is \
-allreduce, its op is add and its root is 0. Its items are numbers below 2^64 with one space between \
-each two; there are 1, 2, 4, .. or 2^N of them.
+The input is CSV with the header lane,kind,op,root,items. A job's lane is below 16. Its kind is \
+broadcast, reduce, allreduce or scan, and its op is add, min, max, xor, and or or; a broadcast has \
+the op - in place of these. Its root is the rank of one of its items, and 0 for allreduce and scan. \
+Its items are numbers below 2^64 with one space between each two; there are 1, 2, 4, .. or 2^N of \
+them.
 
 The output is CSV with the header lane,seq,kind,dim,result,rounds,messages, and has a line for each \
-job, by lane and in a lane in the order of the file.";
+job, by lane and in a lane in the order of the file. Its result has a number, or - for nothing, for \
+each rank.";
 
 const AFTER_HELP_RUN: &str = "Exit status:
   0  done

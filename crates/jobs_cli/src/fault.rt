@@ -1,8 +1,10 @@
 // What can be wrong with an input or a device, and how the program tells it.
 ghost use Rattle.std.specs.Prelude.{◌≡◌};
 ghost use Rattle.jobs_cli.specs.Fault.{is_refusal, status_of};
+ghost use Rattle.jobs_cli.specs.Run.{IsFailure};
 
 use job_types::JobRefused;
+use std::alloc::AllocError;
 use thiserror::Error;
 
 /// What is wrong.
@@ -67,10 +69,43 @@ impl What {
 }
 
 impl Fault {
+    /// There was no memory.
+    pub fn no_memory() -> Self
+        ensures { result ≡ record { row = 0; what = What.OutOfMemory } }
+    {
+        Fault {
+            row: 0,
+            what: What::OutOfMemory,
+        }
+    }
+
+    /// The fault of a call that failed: the device's, where its count of failures tells so.
+    pub fn blamed(device: What, before: u64, after: u64) -> Self
+        ensures { IsFailure device before after result }
+    {
+        let has_failed = before < after || before == u64::MAX;
+        let what = if has_failed {
+            device
+        } else {
+            What::OutOfMemory
+        };
+        Fault { row: 0, what }
+    }
+
     /// The program's exit status: 1 where the input was refused, else 3.
     pub fn status(&self) -> u8
         ensures { result ≡ status_of self.now.what }
     {
         if self.what.is_refusal() { 1 } else { 3 }
+    }
+}
+
+impl From<AllocError> for Fault {
+    ghost use Rattle.jobs_cli.specs.declared.fault.What.{What};
+
+    ghost from_gives = { λ _ fault. fault ≡ record { row = 0; what = What.OutOfMemory } };
+
+    fn from(_error: AllocError) -> Fault {
+        Fault::no_memory()
     }
 }

@@ -2,11 +2,12 @@
 ghost use Rattle.std.specs.Prelude.{◌≡◌, ◌<◌, ◌&&◌, ◌^◌, IfOk, nat_lt, Some, None, if◌then◌else◌};
 ghost use Rattle.std.specs.List.{list_all};
 ghost use Rattle.std.specs.Char.{is_ascii_digit};
-ghost use Rattle.jobs_cli.specs.Fields.{items_of, kind_of, lane_of, number_of, op_of, root_of, value_of};
+ghost use Rattle.jobs_cli.specs.Fields.{collective_of, items_of, lane_of, no_op_of, number_of, op_of, root_of, value_of};
 ghost use Rattle.jobs_cli.specs.Outcome.{Tells};
 
+use crate::collective::Collective;
 use crate::fault::What;
-use job_types::{Kind, MAX_LANES, Op};
+use job_types::{MAX_LANES, Op};
 use std::alloc::Global;
 
 // The number that digits write, if they are digits and it is below 2^64.
@@ -68,21 +69,55 @@ pub fn op(field: &[u8]) -> Result<Op, What>
 {
     if field == b"add".as_slice() {
         Ok(Op::Add)
+    } else if field == b"min".as_slice() {
+        Ok(Op::Min)
+    } else if field == b"max".as_slice() {
+        Ok(Op::Max)
+    } else if field == b"xor".as_slice() {
+        Ok(Op::Xor)
+    } else if field == b"and".as_slice() {
+        Ok(Op::And)
+    } else if field == b"or".as_slice() {
+        Ok(Op::Or)
+    } else {
+        Err(What::Word)
+    }
+}
+
+// Sees to it that a field says that there is no operation.
+#[tactic(auto, unfolding(crate::specs::Fields::no_op_of))]
+fn no_op(field: &[u8]) -> Result<(), What>
+    ensures { Tells (λ none. none) (no_op_of field.now) result }
+{
+    if field == b"-".as_slice() {
+        Ok(())
     } else {
         Err(What::Word)
     }
 }
 
 /// The collective that its two fields say, `kind` and `op`.
-#[tactic(auto, unfolding(crate::specs::Fields::kind_of))]
-pub fn kind(kind: &[u8], op: &[u8]) -> Result<Kind, What>
-    ensures { Tells (λ kind. kind) (kind_of kind.now op.now) result }
+#[tactic(auto, unfolding(crate::specs::Fields::collective_of))]
+pub fn collective(kind: &[u8], op: &[u8]) -> Result<Collective, What>
+    ensures { Tells (λ collective. collective) (collective_of kind.now op.now) result }
 {
-    if kind != b"allreduce".as_slice() {
-        return Err(What::Word);
+    if kind == b"broadcast".as_slice() {
+        no_op(op)?;
+        return Ok(Collective::Broadcast);
     }
-    let op = self::op(op)?;
-    Ok(Kind::AllReduce { op })
+    if kind == b"reduce".as_slice() {
+        let op = self::op(op)?;
+        return Ok(Collective::Reduce { op });
+    }
+    if kind == b"allreduce".as_slice() {
+        let op = self::op(op)?;
+        return Ok(Collective::AllReduce { op });
+    }
+    if kind == b"scan".as_slice() {
+        let op = self::op(op)?;
+        return Ok(Collective::Scan { op });
+    }
+    Err(What::Word)
 }
 
 /// The items of a field: numbers with one space between two, or nothing at all.

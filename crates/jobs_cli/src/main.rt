@@ -5,6 +5,7 @@
 #![tactic(auto)]
 
 mod answers;
+mod collective;
 mod command_line;
 mod device;
 mod fault;
@@ -14,6 +15,7 @@ mod numbering;
 mod output;
 mod requests;
 mod run;
+mod sending;
 
 use crate::device::Counted;
 use crate::fault::{Fault, What};
@@ -31,8 +33,7 @@ fn tell(rt: &impl Eprint, fault: Fault) -> ExitCode {
 
 // Tells that there is no memory.
 fn tell_no_memory(rt: &impl Eprint) -> ExitCode {
-    let what = What::OutOfMemory;
-    tell(rt, Fault { row: 0, what })
+    tell(rt, Fault::no_memory())
 }
 
 // Prints help that was asked for, or what is wrong with the command line.

@@ -1,22 +1,25 @@
 // Writing the replies.
-ghost use Rattle.std.specs.Prelude.{◌≡◌, ℕ, List, [], ◌++◌, ◌∷◌, map, length, IfOk, OnOk, string_bytes, ◌==◌, ◌<◌, if◌then◌else◌};
+ghost use Rattle.std.specs.Prelude.{◌≡◌, ℕ, ◌≤◌, List, [], ◌++◌, ◌∷◌, length, OnOk, string_bytes, ◌==◌, if◌then◌else◌};
 ghost use Rattle.std.specs.Fmt.{decimal};
-ghost use Rattle.csv.specs.Writing.{default_writer, row_text};
-ghost use Rattle.jobs_cli.specs.Output.{HasText, IsPlainField};
+ghost use Rattle.jobs_cli.specs.Output.{AddsField, HasFields, HasText, IsPlainField};
 ghost use Rattle.jobs_cli.specs.Replies.{fields_for, header_fields, kind_text, line_of, place_text, places_text};
 
 use csv::Writer;
 use job_types::{Kind, Reply};
-use std::alloc::{AllocError, Global};
+use std::alloc::AllocError;
 use std::fmt::Write as _;
 use std::io::Write;
 
 // The word of a collective.
 fn kind_word(kind: Kind) -> &'static str
-    ensures { result.now ≡ kind_text kind }
+    ensures text { result.now ≡ kind_text kind }
+    ensures plain { IsPlainField (kind_text kind) }
 {
     match kind {
+        Kind::Broadcast { .. } => "broadcast",
+        Kind::Reduce { .. } => "reduce",
         Kind::AllReduce { .. } => "allreduce",
+        Kind::Scan { .. } => "scan",
     }
 }
 
@@ -26,14 +29,6 @@ fn push_number(text: &mut String, number: u64) -> Result<(), AllocError>
     ensures plain { IsPlainField (decimal number) }
 {
     write!(text, "{number}")
-}
-
-// A number, as text.
-fn number_text(alloc: Global, number: u64) -> Result<String, AllocError>
-    ensures text { IfOk result (λ text. string_bytes text ≡ decimal number) }
-    ensures plain { IsPlainField (decimal number) }
-{
-    number.to_string(alloc)
 }
 
 // Puts what a place holds behind a text.
@@ -59,27 +54,51 @@ fn push_next(text: &mut String, rank: u64, place: Option<u64>) -> Result<(), All
     Ok(())
 }
 
-// What the places hold in the end, by rank.
-fn result_text(alloc: Global, reply: &Reply) -> Result<String, AllocError>
-    ensures text { IfOk result (λ text. string_bytes text ≡ places_text (length reply.now.job.items) reply.now.job) }
-    ensures plain { IfOk result (λ text. IsPlainField (string_bytes text)) }
+// Makes a text say what the places hold in the end, by rank.
+fn set_places(text: &mut String, reply: &Reply) -> Result<(), AllocError>
+    ensures text { OnOk result (string_bytes text.new ≡ places_text (length reply.now.job.items) reply.now.job) }
+    ensures plain { OnOk result (IsPlainField (string_bytes text.new)) }
 {
-    let mut text = String::new(alloc);
+    text.clear();
     let ranks = reply.job().items().len() as u64;
     for rank in 0..ranks {
-        push_next(&mut text, rank, reply.at(rank))?;
+        push_next(text, rank, reply.at(rank))?;
     }
-    Ok(text)
+    Ok(())
 }
 
-// Writes a record whose fields need no quotes.
-fn write_line<W: Write + Drop>(writer: &mut Writer<W>, fields: &[&[u8]]) -> Result<(), AllocError>
-    ensures { OnOk result ((text : List ℕ) → HasText W.contents writer.old text → HasText W.contents writer.new (text ++ row_text default_writer (map (λ f. f.now) fields.now))) }
+// Writes the next field of a line, which needs no quotes.
+fn write_field<W: Write + Drop>(writer: &mut Writer<W>, field: &[u8]) -> Result<(), AllocError>
+    requires { IsPlainField field.now }
+    ensures { OnOk result (AddsField W.contents writer.old writer.new field.now) }
 {
-    match writer.write_fields(fields) {
-        Ok(()) => Ok(()),
-        Err(_) => Err(AllocError),
-    }
+    let Ok(()) = writer.write_field(field) else {
+        return Err(AllocError);
+    };
+    Ok(())
+}
+
+// Writes a number as the next field of a line, by way of a text that it may use.
+fn write_number<W: Write + Drop>(
+    writer: &mut Writer<W>,
+    text: &mut String,
+    number: u64,
+) -> Result<(), AllocError>
+    ensures { OnOk result (AddsField W.contents writer.old writer.new (decimal number)) }
+{
+    text.clear();
+    push_number(text, number)?;
+    write_field(writer, text.as_bytes())
+}
+
+// Ends a line of at least two fields.
+fn end_line<W: Write + Drop>(writer: &mut Writer<W>) -> Result<(), AllocError>
+    ensures { OnOk result ((text : List ℕ) (fields : List (List ℕ)) → 2 ≤ length fields → HasFields W.contents writer.old text fields → HasText W.contents writer.new (text ++ line_of fields)) }
+{
+    let Ok(()) = writer.end_record() else {
+        return Err(AllocError);
+    };
+    Ok(())
 }
 
 /// Writes the header of the replies.
@@ -95,34 +114,29 @@ pub fn write_header<W: Write + Drop>(writer: &mut Writer<W>) -> Result<(), Alloc
         b"rounds".as_slice(),
         b"messages".as_slice(),
     ];
-    write_line(writer, &fields)
+    let Ok(()) = writer.write_fields(&fields) else {
+        return Err(AllocError);
+    };
+    Ok(())
 }
 
-/// Writes the line of a reply.
+/// Writes the line of a reply, by way of a text that it may use.
 pub fn write_reply<W: Write + Drop>(
-    alloc: Global,
     reply: &Reply,
+    text: &mut String,
     writer: &mut Writer<W>,
 ) -> Result<(), AllocError>
-    ensures { OnOk result ((text : List ℕ) → HasText W.contents writer.old text → HasText W.contents writer.new (text ++ line_of (fields_for (record { id = reply.now.id; job = reply.now.job })))) }
+    ensures { OnOk result ((before : List ℕ) → HasText W.contents writer.old before → HasText W.contents writer.new (before ++ line_of (fields_for (record { id = reply.now.id; job = reply.now.job })))) }
 {
     let id = reply.id();
     let tally = reply.tally();
-    let lane = number_text(alloc, u64::from(id.lane))?;
-    let seq = number_text(alloc, id.seq)?;
-    let kind = kind_word(reply.job().kind());
-    let dim = number_text(alloc, u64::from(reply.job().dim()))?;
-    let places = result_text(alloc, reply)?;
-    let rounds = number_text(alloc, u64::from(tally.rounds))?;
-    let messages = number_text(alloc, tally.messages)?;
-    let fields = [
-        lane.as_bytes(),
-        seq.as_bytes(),
-        kind.as_bytes(),
-        dim.as_bytes(),
-        places.as_bytes(),
-        rounds.as_bytes(),
-        messages.as_bytes(),
-    ];
-    write_line(writer, &fields)
+    write_number(writer, text, u64::from(id.lane))?;
+    write_number(writer, text, id.seq)?;
+    write_field(writer, kind_word(reply.job().kind()).as_bytes())?;
+    write_number(writer, text, u64::from(reply.job().dim()))?;
+    set_places(text, reply)?;
+    write_field(writer, text.as_bytes())?;
+    write_number(writer, text, u64::from(tally.rounds))?;
+    write_number(writer, text, tally.messages)?;
+    end_line(writer)
 }

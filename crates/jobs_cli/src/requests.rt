@@ -2,14 +2,16 @@
 ghost use Rattle.std.specs.Prelude.{◌≡◌, ◌≢◌, ◌<◌, ◌≤◌, ◌&&◌, [], ◌∷◌, codes, length, Some, IfOk, IfSome, IfNone};
 ghost use Rattle.std.specs.Str.{bytes_eq};
 ghost use Rattle.csv.specs.Records.{field_at, fields_of};
+ghost use Rattle.jobs_cli.specs.Collective.{has_spare_root, rooted};
 ghost use Rattle.jobs_cli.specs.Outcome.{Tells};
 ghost use Rattle.jobs_cli.specs.Said.{accepted, header_of, job_of};
 
+use crate::collective::Collective;
 use crate::fault::What;
 use crate::fields;
 use csv::ByteRecord;
 use cube_shape::MAX_DIM;
-use job_types::{Job, JobRefused, Kind, MAX_LANES};
+use job_types::{Job, JobRefused, MAX_LANES};
 use std::alloc::Global;
 
 // The fields of a record that has as many as it should.
@@ -94,37 +96,38 @@ fn read_fields(alloc: Global, n: u32, five: &FiveFields<'_>) -> Result<Job, What
     ensures told { Tells (λ job. job) (job_of n (five.now.lane.now ∷ five.now.kind.now ∷ five.now.op.now ∷ five.now.root.now ∷ five.now.items.now ∷ [])) result }
 {
     let lane = fields::lane(five.lane)?;
-    let kind = fields::kind(five.kind, five.op)?;
+    let collective = fields::collective(five.kind, five.op)?;
     let root = fields::root(five.root)?;
     let items = fields::items(alloc, five.items)?;
-    accept(alloc, n, lane, kind, root, items)
+    accept(alloc, n, lane, collective, root, items)
 }
 
-// The job, unless a rule refuses it. An all-reduce has no root, so another one than 0 is refused
+// The job, unless a rule refuses it. A root other than 0 of a collective that has none is refused
 // where no rule of every job is broken.
 #[tactic(auto, unfolding(crate::specs::Said::accepted))]
 fn accept(
     alloc: Global,
     n: u32,
     lane: u32,
-    kind: Kind,
+    collective: Collective,
     root: u64,
     items: Vec<u64>,
 ) -> Result<Job, What>
     requires machine { n ≤ MAX_DIM }
     requires lane { lane < MAX_LANES }
     ensures machine { IfOk result (λ job. job.machine ≡ n) }
-    ensures told { Tells (λ job. job) (accepted (record { machine = n; lane = lane; kind = kind; items = items.items }) root) result }
+    ensures told { Tells (λ job. job) (accepted (record { machine = n; lane = lane; kind = rooted collective root; items = items.items }) (has_spare_root collective root)) result }
 {
-    match Job::new(alloc, n, lane, kind, items) {
+    let is_spare = collective.has_spare_root(root);
+    match Job::new(alloc, n, lane, collective.rooted(root), items) {
         Ok(job) => {
-            if root != 0 {
+            if is_spare {
                 return Err(What::Job(JobRefused::BadRoot));
             }
             Ok(job)
         }
         Err((_, JobRefused::OutOfMemory)) => {
-            if root != 0 {
+            if is_spare {
                 return Err(What::Job(JobRefused::BadRoot));
             }
             return Err(What::OutOfMemory);

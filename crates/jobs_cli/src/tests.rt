@@ -1,4 +1,5 @@
 // Whole runs: the bytes that go in, and the bytes that come out.
+use crate::collective::Collective;
 use crate::command_line::dim_asked;
 use crate::device::{Counted, Device};
 use crate::fault::{Fault, What};
@@ -99,6 +100,53 @@ fn answers_jobs(rt: HostRuntime) -> Result<(), Fail> {
 }
 
 #[test]
+fn answers_all_kinds(rt: HostRuntime) -> Result<(), Fail> {
+    expect_replies(
+        &rt,
+        3,
+        "0,scan,add,0,1 2 3 4 5 6 7 8\n",
+        "0,0,scan,3,1 3 6 10 15 21 28 36,3,24\n",
+    )?;
+    expect_replies(
+        &rt,
+        2,
+        "0,reduce,min,2,5 3 9 4\n0,broadcast,-,1,4 9\n",
+        "0,0,reduce,2,- - 3 -,2,3\n0,1,broadcast,1,9 9,1,1\n",
+    )?;
+    expect_replies(&rt, 0, "0,scan,add,0,7\n", "0,0,scan,0,7,0,0\n")?;
+    expect_replies(
+        &rt,
+        0,
+        "0,broadcast,-,0,7\n0,reduce,or,0,7\n",
+        "0,0,broadcast,0,7,0,0\n0,1,reduce,0,7,0,0\n",
+    )?;
+    expect_replies(
+        &rt,
+        3,
+        "1,allreduce,xor,0,5 6\n0,scan,max,0,2 9 4 7\n1,reduce,or,1,8 1\n",
+        "0,0,scan,2,2 9 9 9,2,8\n1,0,allreduce,1,3 3,1,2\n1,1,reduce,1,- 9,1,1\n",
+    )
+}
+
+#[test]
+fn answers_all_operations(rt: HostRuntime) -> Result<(), Fail> {
+    let rows = [
+        ("add", "5 8 17 21"),
+        ("min", "5 3 3 3"),
+        ("max", "5 5 9 9"),
+        ("xor", "5 6 15 11"),
+        ("and", "5 1 1 0"),
+        ("or", "5 7 15 15"),
+    ];
+    for (op, result) in rows.as_slice() {
+        let record = format!(in rt.alloc(); "0,scan,{op},0,5 3 9 4\n")?;
+        let reply = format!(in rt.alloc(); "0,0,scan,2,{result},2,8\n")?;
+        expect_replies(&rt, 2, &record, &reply)?;
+    }
+    Ok(())
+}
+
+#[test]
 fn counts_each_lane(rt: HostRuntime) -> Result<(), Fail> {
     expect_replies(
         &rt,
@@ -148,7 +196,7 @@ fn refuses_headers(rt: HostRuntime) -> Result<(), Fail> {
 
 #[test]
 fn refuses_records(rt: HostRuntime) -> Result<(), Fail> {
-    let records: [(&[u8], What); 33] = [
+    let records: [(&[u8], What); 48] = [
         (b"0,allreduce,add,0\n", What::Fields),
         (b"0,allreduce,add,0,1,2\n", What::Fields),
         (b" \n", What::Fields),
@@ -161,7 +209,14 @@ fn refuses_records(rt: HostRuntime) -> Result<(), Fail> {
         (b" 1,allreduce,add,0,4\n", What::Number),
         (b"0x1,allreduce,add,0,4\n", What::Number),
         (b"16,scan,add,0,4\n", What::Number),
-        (b"0,scan,add,0,4\n", What::Word),
+        (b"0,gather,add,0,4\n", What::Word),
+        (b"0,Scan,add,0,4\n", What::Word),
+        (b"0,scan,plus,0,4\n", What::Word),
+        (b"0,scan,-,0,4\n", What::Word),
+        (b"0,reduce,,0,4\n", What::Word),
+        (b"0,broadcast,add,0,4\n", What::Word),
+        (b"0,broadcast,,0,4\n", What::Word),
+        (b"0,broadcast,-,-,4\n", What::Number),
         (b"0,,add,0,4\n", What::Word),
         (b"0,allreduce ,add,0,4\n", What::Word),
         (b"0,\xFF,add,0,4\n", What::Word),
@@ -176,6 +231,23 @@ fn refuses_records(rt: HostRuntime) -> Result<(), Fail> {
         (b"0,allreduce,add,0, \n", What::Number),
         (b"0,allreduce,add,0,1 02\n", What::Number),
         (b"0,allreduce,add,0,18446744073709551616\n", What::Number),
+        (b"0,broadcast,-,9,\n", What::Job(JobRefused::Empty)),
+        (
+            b"0,broadcast,-,9,1 2 3\n",
+            What::Job(JobRefused::NotPowerOfTwo),
+        ),
+        (b"0,broadcast,-,2,4 9\n", What::Job(JobRefused::BadRoot)),
+        (b"0,reduce,max,4,1 2 3 4\n", What::Job(JobRefused::BadRoot)),
+        (b"0,scan,add,1,4 9\n", What::Job(JobRefused::BadRoot)),
+        (
+            b"0,scan,add,1,1 2 3\n",
+            What::Job(JobRefused::NotPowerOfTwo),
+        ),
+        (
+            b"0,reduce,add,99,1 1 1 1 1 1 1 1 1 1 1 1 1 1 1 1\n",
+            What::Job(JobRefused::TooLarge),
+        ),
+        (b"0,scan,add,0,\n", What::Job(JobRefused::Empty)),
         (b"0,allreduce,add,0,\n", What::Job(JobRefused::Empty)),
         (b"0,allreduce,add,1,\n", What::Job(JobRefused::Empty)),
         (
@@ -203,7 +275,7 @@ fn refuses_records(rt: HostRuntime) -> Result<(), Fail> {
 fn tells_the_first_fault(rt: HostRuntime) -> Result<(), Fail> {
     let good = b"0,allreduce,add,0,1 2\n";
     let head = joined(rt.alloc(), JOBS, good.as_slice())?;
-    let cut = joined(rt.alloc(), &head, b"0,allreduce,add,0,1 2 ".as_slice())?;
+    let cut = joined(rt.alloc(), &head, b"0,scan,add,0,1 2 ".as_slice())?;
     expect_refusal(&rt, 3, &cut, 2, What::Number)?;
     let ragged = joined(
         rt.alloc(),
@@ -338,6 +410,40 @@ fn tells_a_failed_write(rt: HostRuntime) -> Result<(), Fail> {
     Ok(())
 }
 
+// So many jobs of one item, and their replies.
+fn long_file(alloc: Global, count: u64) -> Result<(Vec<u8>, Vec<u8>), Fail> {
+    let mut input = Vec::from_slice(alloc, JOBS)?;
+    let mut wanted = Vec::from_slice(alloc, REPLIES)?;
+    for seq in 0..count {
+        input.extend_from_slice(b"3,scan,add,0,1\n".as_slice())?;
+        let reply = format!(in alloc; "3,{seq},scan,0,1,0,0\n")?;
+        wanted.extend_from_slice(reply.as_bytes())?;
+    }
+    Ok((input, wanted))
+}
+
+// The replies are sent in several pieces, and what came before a failed write is their beginning.
+#[test]
+fn writes_long_files(rt: HostRuntime) -> Result<(), Fail> {
+    let (input, wanted) = long_file(rt.alloc(), 8_000)?;
+    assert!(rt; wanted.len() > 150_000);
+    let ran = run_bytes(&rt, 0, &input)?;
+    assert!(rt; ran.answer == Ok(()) && ran.text == wanted);
+    let mut reader = Counted::new(input.as_slice());
+    let device = FailsAt {
+        device: Vec::new(rt.alloc()),
+        calls: 20_000,
+        gives_zero: false,
+    };
+    let mut writer = Counted::new(device);
+    let answer = run_on(rt.alloc(), 0, &mut reader, &mut writer);
+    let what = What::Write;
+    assert!(rt; answer == Err(Fault { row: 0, what }));
+    let written = &writer.get_ref().device;
+    assert!(rt; written.len() == 140_000 && wanted.starts_with(written));
+    Ok(())
+}
+
 // A fault has this status and this line.
 fn expect_line(
     rt: &(impl AllocGlobal + Abort),
@@ -389,9 +495,14 @@ fn reads_fields(rt: HostRuntime) -> Result<(), Fail> {
     assert!(rt; fields::lane(b"15") == Ok(15) && fields::lane(b"16") == Err(What::Number));
     assert!(rt; fields::root(b"16") == Ok(16) && fields::root(b"-") == Err(What::Number));
     assert!(rt; fields::op(b"add") == Ok(Op::Add) && fields::op(b"Add") == Err(What::Word));
-    let kind = Kind::AllReduce { op: Op::Add };
-    assert!(rt; fields::kind(b"allreduce", b"add") == Ok(kind));
-    assert!(rt; fields::kind(b"reduce", b"add") == Err(What::Word));
+    assert!(rt; fields::op(b"or") == Ok(Op::Or) && fields::op(b"-") == Err(What::Word));
+    let op = Op::Min;
+    assert!(rt; fields::collective(b"scan", b"min") == Ok(Collective::Scan { op }));
+    assert!(rt; fields::collective(b"broadcast", b"-") == Ok(Collective::Broadcast));
+    assert!(rt; fields::collective(b"broadcast", b"min") == Err(What::Word));
+    assert!(rt; Collective::Reduce { op }.rooted(3) == Kind::Reduce { op, root: 3 });
+    assert!(rt; Collective::AllReduce { op }.has_spare_root(3));
+    assert!(rt; !Collective::Broadcast.has_spare_root(3));
     let items = fields::items(rt.alloc(), b"3 0 12")?;
     assert!(rt; items.as_slice() == [3, 0, 12].as_slice());
     Ok(())

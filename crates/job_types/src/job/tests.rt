@@ -3,7 +3,8 @@ ghost use Rattle.cube_shape.specs.Region.{IsAligned};
 
 use super::*;
 use crate::kind::Op;
-use crate::reply::Tally;
+use collectives::Tally;
+use std::process::Abort;
 use std::test::Fail;
 
 const SUM: Kind = Kind::AllReduce { op: Op::Add };
@@ -21,12 +22,12 @@ fn first_region(job: &Job) -> Region
     }
 }
 
-/// The reply to a sum of these items, on a machine of dimension `n`.
-fn reply_to(alloc: Global, n: u32, items: &[u64]) -> Result<Reply, Fail>
+/// The reply to a job of this kind on these items, on a machine of dimension `n`.
+fn reply_to(alloc: Global, n: u32, kind: Kind, items: &[u64]) -> Result<Reply, Fail>
     requires { n ≤ MAX_DIM }
 {
     let items = Vec::from_slice(alloc, items)?;
-    match Job::new(alloc, n, 3, SUM, items) {
+    match Job::new(alloc, n, 3, kind, items) {
         Ok(job) => {
             let region = first_region(&job);
             Ok(job.answer(ID, region))
@@ -35,26 +36,141 @@ fn reply_to(alloc: Global, n: u32, items: &[u64]) -> Result<Reply, Fail>
     }
 }
 
+/// Answers a job of this kind on these items, on a machine of dimension `n`, and looks at each place of
+/// the reply, past the last one, and at the tally.
+fn check_reply(
+    rt: &impl Abort,
+    alloc: Global,
+    n: u32,
+    kind: Kind,
+    items: &[u64],
+    places: &[Option<u64>],
+    tally: (u32, u64),
+) -> Result<(), Fail>
+    requires { n ≤ MAX_DIM }
+{
+    let reply = reply_to(alloc, n, kind, items)?;
+    for rank in 0..places.len() {
+        let held = reply.at(rank as u64);
+        assert_eq!(rt; held, places[rank], "place {rank} of {kind:?} of {items:?}");
+    }
+    let past = reply.at(places.len() as u64);
+    assert_eq!(rt; past, None, "past {kind:?} of {items:?}");
+    assert_eq!(rt; reply.at(u64::MAX), None, "past {kind:?} of {items:?}");
+    let (rounds, messages) = tally;
+    let tally = Tally { rounds, messages };
+    assert_eq!(rt; reply.tally(), tally, "of {kind:?} of {items:?}");
+    Ok(())
+}
+
 #[test]
 fn sums_into_every_place(rt: HostRuntime) -> Result<(), Fail> {
-    let cases: [(u32, &[u64], u64, u32, u64); 5] = [
-        (2, &[1, 2, 3, 4], 10, 2, 8),
-        (1, &[18446744073709551615, 1], 0, 1, 2),
-        (0, &[7], 7, 0, 0),
-        (3, &[5, 6], 11, 1, 2),
-        (3, &[1, 1, 1, 1, 1, 1, 1, 1], 8, 3, 24),
-    ];
-    for (n, items, total, rounds, messages) in cases {
-        let reply = reply_to(rt.alloc(), n, items)?;
-        let places = items.len() as u64;
-        for rank in 0..places {
-            assert_eq!(rt; reply.at(rank), Some(total), "place {rank} of {items:?}");
-        }
-        assert_eq!(rt; reply.at(places), None, "past {items:?}");
-        assert_eq!(rt; reply.at(u64::MAX), None, "past {items:?}");
-        assert_eq!(rt; reply.tally(), Tally { rounds, messages }, "of {items:?}");
-    }
-    Ok(())
+    check_reply(
+        &rt,
+        rt.alloc(),
+        3,
+        SUM,
+        &[1, 2, 3, 4],
+        &[Some(10); 4],
+        (2, 8),
+    )?;
+    check_reply(
+        &rt,
+        rt.alloc(),
+        1,
+        SUM,
+        &[u64::MAX, 1],
+        &[Some(0); 2],
+        (1, 2),
+    )?;
+    check_reply(&rt, rt.alloc(), 0, SUM, &[7], &[Some(7)], (0, 0))?;
+    check_reply(&rt, rt.alloc(), 3, SUM, &[5, 6], &[Some(11); 2], (1, 2))?;
+    check_reply(&rt, rt.alloc(), 3, SUM, &[1; 8], &[Some(8); 8], (3, 24))
+}
+
+#[test]
+fn scans_up_to_each_place(rt: HostRuntime) -> Result<(), Fail> {
+    let sums = Kind::Scan { op: Op::Add };
+    let prefixes = [1, 3, 6, 10, 15, 21, 28, 36].map(Some);
+    check_reply(
+        &rt,
+        rt.alloc(),
+        3,
+        sums,
+        &[1, 2, 3, 4, 5, 6, 7, 8],
+        &prefixes,
+        (3, 24),
+    )?;
+    check_reply(&rt, rt.alloc(), 0, sums, &[7], &[Some(7)], (0, 0))?;
+    let largest = Kind::Scan { op: Op::Max };
+    let prefixes = [2, 9, 9, 9].map(Some);
+    check_reply(
+        &rt,
+        rt.alloc(),
+        3,
+        largest,
+        &[2, 9, 4, 7],
+        &prefixes,
+        (2, 8),
+    )
+}
+
+#[test]
+fn reduces_to_the_root_alone(rt: HostRuntime) -> Result<(), Fail> {
+    let smallest = Kind::Reduce {
+        op: Op::Min,
+        root: 2,
+    };
+    let places = [None, None, Some(3), None];
+    check_reply(&rt, rt.alloc(), 2, smallest, &[5, 3, 9, 4], &places, (2, 3))?;
+    let either = Kind::Reduce {
+        op: Op::Or,
+        root: 1,
+    };
+    check_reply(
+        &rt,
+        rt.alloc(),
+        3,
+        either,
+        &[8, 1],
+        &[None, Some(9)],
+        (1, 1),
+    )?;
+    let both = Kind::Reduce {
+        op: Op::And,
+        root: 0,
+    };
+    check_reply(&rt, rt.alloc(), 1, both, &[6, 3], &[Some(2), None], (1, 1))
+}
+
+#[test]
+fn broadcasts_from_the_root(rt: HostRuntime) -> Result<(), Fail> {
+    let second = Kind::Broadcast { root: 1 };
+    check_reply(&rt, rt.alloc(), 2, second, &[4, 9], &[Some(9); 2], (1, 1))?;
+    let first = Kind::Broadcast { root: 0 };
+    check_reply(
+        &rt,
+        rt.alloc(),
+        2,
+        first,
+        &[4, 9, 1, 2],
+        &[Some(4); 4],
+        (2, 3),
+    )
+}
+
+#[test]
+fn joins_the_bits_that_differ(rt: HostRuntime) -> Result<(), Fail> {
+    let differing = Kind::AllReduce { op: Op::Xor };
+    check_reply(
+        &rt,
+        rt.alloc(),
+        3,
+        differing,
+        &[5, 6],
+        &[Some(3); 2],
+        (1, 2),
+    )
 }
 
 #[test]
@@ -91,20 +207,30 @@ fn a_job_keeps_what_was_asked(rt: HostRuntime) -> Result<(), Fail> {
 
 #[test]
 fn a_refusal_gives_the_items_back(rt: HostRuntime) -> Result<(), Fail> {
-    let cases: [(u32, &[u64], JobRefused); 6] = [
-        (3, &[], JobRefused::Empty),
-        (3, &[1, 2, 3], JobRefused::NotPowerOfTwo),
-        (1, &[1, 2, 3], JobRefused::NotPowerOfTwo),
-        (3, &[4; 16], JobRefused::TooLarge),
-        (0, &[1, 2], JobRefused::TooLarge),
-        (0, &[], JobRefused::Empty),
+    let broadcast = Kind::Broadcast { root: 2 };
+    let reduce = Kind::Reduce {
+        op: Op::Add,
+        root: u64::MAX,
+    };
+    let cases: [(u32, Kind, &[u64], JobRefused); 11] = [
+        (3, SUM, &[], JobRefused::Empty),
+        (3, SUM, &[1, 2, 3], JobRefused::NotPowerOfTwo),
+        (1, SUM, &[1, 2, 3], JobRefused::NotPowerOfTwo),
+        (3, SUM, &[4; 16], JobRefused::TooLarge),
+        (0, SUM, &[1, 2], JobRefused::TooLarge),
+        (0, SUM, &[], JobRefused::Empty),
+        (3, broadcast, &[4, 9], JobRefused::BadRoot),
+        (3, reduce, &[4, 9], JobRefused::BadRoot),
+        (0, broadcast, &[4, 9], JobRefused::TooLarge),
+        (3, broadcast, &[], JobRefused::Empty),
+        (3, reduce, &[4, 9, 1], JobRefused::NotPowerOfTwo),
     ];
-    for (n, items, wanted) in cases {
+    for (n, kind, items, wanted) in cases {
         let given = Vec::from_slice(rt.alloc(), items)?;
-        match Job::new(rt.alloc(), n, 0, SUM, given) {
+        match Job::new(rt.alloc(), n, 0, kind, given) {
             Ok(_) => return Err("accepted")?,
             Err((back, refused)) => {
-                assert_eq!(rt; refused, wanted, "of {items:?} at {n}");
+                assert_eq!(rt; refused, wanted, "of {kind:?} of {items:?} at {n}");
                 assert_eq!(rt; back.as_slice(), items);
             }
         }
@@ -112,12 +238,18 @@ fn a_refusal_gives_the_items_back(rt: HostRuntime) -> Result<(), Fail> {
     Ok(())
 }
 
-/// With enough memory there is a job. Where its room is refused, the items come back.
+/// With enough memory there is a job, and it is answered. Where some of its room is refused, the items
+/// come back.
 #[test]
 fn without_memory_the_items_come_back(rt: HostRuntime) -> Result<(), Fail> {
     let items = Vec::from_slice(rt.alloc(), &[1, 2])?;
-    match Job::new(rt.alloc(), 1, 0, SUM, items) {
-        Ok(job) => assert_eq!(rt; job.items(), [1, 2].as_slice()),
+    match Job::new(rt.alloc(), 1, 0, Kind::Scan { op: Op::Add }, items) {
+        Ok(job) => {
+            let region = first_region(&job);
+            let reply = job.answer(ID, region);
+            assert_eq!(rt; reply.at(0), Some(1));
+            assert_eq!(rt; reply.at(1), Some(3));
+        }
         Err((back, refused)) => {
             assert_eq!(rt; refused, JobRefused::OutOfMemory);
             assert_eq!(rt; back.as_slice(), [1, 2].as_slice());

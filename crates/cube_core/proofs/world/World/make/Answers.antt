@@ -1,6 +1,6 @@
 -- Each call makes of the world what the act makes of it.
 use Rattle.std.proofs.Common.{sym, ◌∙◌, ap}
-use Rattle.cube_core.specs.declared.act.Act.TheVariants.{Take, Release, Step}
+use Rattle.cube_core.specs.declared.act.Act.TheVariants.{Take, Release, Step, Retire}
 use Rattle.cube_core.specs.Schedule.{acted}
 use Rattle.cube_core.specs.World.{silent}
 use Rattle.cube_core.proofs.WorldLemmas.{made_by, silent_of, IsWorld-of}
@@ -32,3 +32,12 @@ returns-in-Step-clause-world c =
 pub returns-in-Step-clause-lawful : goal.returns-in-Step-clause-lawful
 returns-in-Step-clause-lawful c =
     (made_by (Step c.in-Step.station) c.args.self.now c.step.new.self c.step.result (IsWorld-of c.self.view_is c.self.invariant) (silent_of c.self.inside.dim c.self.inside.words.items c.self.inside.phases.items c.args.self.now c.self.view_is) c.step.ensures.refused c.step.ensures.unchanged c.step.ensures.world).1
+
+pub returns-in-Retire-clause-world : goal.returns-in-Retire-clause-world
+returns-in-Retire-clause-world c =
+    (made_by (Retire c.in-Retire.station) c.args.self.now c.retire.new.self c.retire.result (IsWorld-of c.self.view_is c.self.invariant) (silent_of c.self.inside.dim c.self.inside.words.items c.self.inside.phases.items c.args.self.now c.self.view_is) c.retire.ensures.refused c.retire.ensures.unchanged c.retire.ensures.world).0
+    ∙ ap (λ act. silent (acted act c.args.self.now)) (sym c.in-Retire.is)
+
+pub returns-in-Retire-clause-lawful : goal.returns-in-Retire-clause-lawful
+returns-in-Retire-clause-lawful c =
+    (made_by (Retire c.in-Retire.station) c.args.self.now c.retire.new.self c.retire.result (IsWorld-of c.self.view_is c.self.invariant) (silent_of c.self.inside.dim c.self.inside.words.items c.self.inside.phases.items c.args.self.now c.self.view_is) c.retire.ensures.refused c.retire.ensures.unchanged c.retire.ensures.world).1

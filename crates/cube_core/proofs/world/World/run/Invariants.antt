@@ -1,7 +1,7 @@
 use Rattle.std.proofs.Common.{◌≡◌, reverse, take}
 use Rattle.cube_core.specs.Schedule.{after}
 use Rattle.cube_core.specs.World.{HasShapeOf, silent}
-use Rattle.cube_core.specs.Safety.{IsTreeLawful}
+use Rattle.cube_core.specs.Law.{IsTreeLawful}
 use Rattle.cube_core.proofs.world.World.run.Given as goal
 
 abbrev pub invariant-loop-act : goal.invariant-loop-act

@@ -11,4 +11,4 @@ invariant_of-result c =
     power_at_top _ _ c.ilog2.result (omega arith) (omega arith) fits.power
     in
     let within = exponent_le c.ilog2.result c.args.n (omega (arith, power, fits.within)) in
-    record { limit = c.requires.machine; lane_below = c.requires.lane; within = within; power = power }
+    record { limit = c.requires.machine; lane_below = c.requires.lane; within = within; power = power; rooted = fits.rooted }

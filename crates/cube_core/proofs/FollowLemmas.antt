@@ -1,0 +1,121 @@
+-- What follows from the invariant of the moment: who is engaged, which words are free at rest, and
+-- that all words are 0 when all have retired.
+use Rattle.std.proofs.Common.{◌≡◌, ◌≢◌, ℕ, zero, suc, ◌+◌, ◌*◌, ◌/◌, ◌<◌, ◌≤◌, inl, inr, refl, sym, ◌∙◌, ap, subst, arith}
+use Rattle.std.specs.Prelude.{◌↔◌}
+use Rattle.std.specs.Int.{bit_at}
+use Rattle.std.proofs.lemmas.Bool.{cases_eq}
+use Rattle.cube_shape.specs.Node.{OnPath}
+use Rattle.cube_shape.proofs.PathLemmas.{OnPath-self, OnPath-zero, OnPath-trans, OnPath-parent, parent-left, parent-right}
+use Rattle.status_word.specs.Word.{IsFree, IsInUse, use_of}
+use Rattle.cube_core.specs.declared.phase.Phase.{Phase}
+use Rattle.cube_core.specs.declared.phase.Phase.TheVariants.{Idle, Looking, Looked, Climbing, Swept, Holding, Leaving, Backing, Arriving, Unmarked, Marked, Retired}
+use Rattle.cube_core.specs.Phase.{owned, node_held, marked_at, engaged_at, Owes, IsAtRest, IsEngagedAt}
+use Rattle.cube_core.proofs.HeldLemmas.{holder_is}
+use Rattle.cube_core.proofs.ShutLemmas.{used_on_path}
+use Rattle.cube_core.proofs.InvariantLemmas.{Invariant}
+
+-- ---- who is engaged
+
+owner_engaged : (p : Phase) → 0 < owned p → engaged_at p ≡ owned p
+owner_engaged Idle owns = absurd (omega arith)
+owner_engaged (Looking h) owns = absurd (omega arith)
+owner_engaged (Looked h w) owns = absurd (omega arith)
+owner_engaged (Climbing h a) owns = refl
+owner_engaged (Swept h a) owns = refl
+owner_engaged (Holding h) owns = refl
+owner_engaged (Leaving h) owns = refl
+owner_engaged (Backing h a) owns = refl
+owner_engaged (Arriving a) owns = absurd (omega arith)
+owner_engaged (Unmarked a) owns = absurd (omega arith)
+owner_engaged (Marked a w left right) owns = absurd (omega arith)
+owner_engaged Retired owns = absurd (omega arith)
+
+debtor_engaged : (p : Phase) (v x : ℕ) → Owes p v x → engaged_at p ≡ v
+debtor_engaged Idle v x owes = absurd owes
+debtor_engaged (Looking h) v x owes = absurd owes
+debtor_engaged (Looked h w) v x owes = absurd owes
+debtor_engaged (Climbing h a) v x owes = absurd owes
+debtor_engaged (Swept h a) v x owes = absurd owes
+debtor_engaged (Holding h) v x owes = absurd owes
+debtor_engaged (Leaving h) v x owes = absurd owes
+debtor_engaged (Backing h a) v x owes = absurd owes
+debtor_engaged (Arriving a) v x owes = owes
+debtor_engaged (Unmarked a) v x owes = owes
+debtor_engaged (Marked a w left right) v x owes = owes.0
+debtor_engaged Retired v x owes = absurd owes
+
+-- at a node that a station is engaged at, its ancestors are engaged too
+engaged_by : (P : ℕ → Phase) (s v : ℕ) → 0 < v → engaged_at (P s) ≡ v → (t : ℕ) × IsEngagedAt (P t) v
+engaged_by P s v positive at = (s, subst (OnPath v) (sym at) (OnPath-self v positive))
+
+engaged_below : (P : ℕ → Phase) (v c : ℕ) → 0 < v → c / 2 ≡ v → (s : ℕ) × IsEngagedAt (P s) c → (s : ℕ) × IsEngagedAt (P s) v
+engaged_below P v c positive node (s, on) = (s, OnPath-trans v c (engaged_at (P s)) (subst (λ a. OnPath a c) node (OnPath-parent c (subst (λ a. 0 < a) (sym node) positive))) on)
+
+-- by induction from the leaves up: there is nothing below the last level
+engaged_from : {n count : ℕ} {W : ℕ → ℕ} {P : ℕ → Phase} → Invariant n count W P → (nodes : ℕ) → ((v : ℕ) → nodes ≤ v → W v ≡ 0) → (left v : ℕ) → nodes ≤ v + left → 0 < v → IsInUse (W v) → (s : ℕ) × IsEngagedAt (P s) v
+engaged_from k nodes outside zero v enough positive used = absurd (used (ap use_of (outside v (omega arith))))
+engaged_from {W = W} {P = P} k nodes outside (suc left) v enough positive used = elim (cases_eq (bit_at (W v) 0) 1) [
+  | inl occupied ↦ let found = k.agrees.owner v positive occupied in engaged_by P found.0 v positive (owner_engaged (P found.0) (subst (λ a. 0 < a) (sym found.1) positive) ∙ found.1)
+  | inr unoccupied ↦ elim (k.owing.owed v positive used unoccupied) [
+    | inl child ↦ engaged_below P v (2 * v) positive (parent-left v) (engaged_from k nodes outside left (2 * v) (omega arith) (omega arith) child)
+    | inr (inl child) ↦ engaged_below P v (2 * v + 1) positive (parent-right v) (engaged_from k nodes outside left (2 * v + 1) (omega arith) (omega arith) child)
+    | inr (inr (s, owes)) ↦ engaged_by P s v positive (debtor_engaged (P s) v (W v) owes)
+  ]
+]
+
+pub in_use_engaged : {n count : ℕ} {W : ℕ → ℕ} {P : ℕ → Phase} → Invariant n count W P → (nodes : ℕ) → ((v : ℕ) → nodes ≤ v → W v ≡ 0) → (v : ℕ) → 0 < v → IsInUse (W v) → (s : ℕ) × IsEngagedAt (P s) v
+in_use_engaged k nodes outside v positive used = engaged_from k nodes outside nodes v (omega arith) positive used
+
+-- ---- at rest
+
+rest_engaged : (p : Phase) → IsAtRest p → engaged_at p ≡ node_held p
+rest_engaged Idle rest = refl
+rest_engaged (Looking h) rest = absurd rest
+rest_engaged (Looked h w) rest = absurd rest
+rest_engaged (Climbing h a) rest = absurd rest
+rest_engaged (Swept h a) rest = absurd rest
+rest_engaged (Holding h) rest = refl
+rest_engaged (Leaving h) rest = absurd rest
+rest_engaged (Backing h a) rest = absurd rest
+rest_engaged (Arriving a) rest = absurd rest
+rest_engaged (Unmarked a) rest = absurd rest
+rest_engaged (Marked a w left right) rest = absurd rest
+rest_engaged Retired rest = refl
+
+pub rest_exact : {n count : ℕ} {W : ℕ → ℕ} {P : ℕ → Phase} → Invariant n count W P → (nodes : ℕ) → ((v : ℕ) → nodes ≤ v → W v ≡ 0) → ((s : ℕ) → IsAtRest (P s)) → (v : ℕ) → 0 < v → IsFree (W v) ↔ ((s : ℕ) → OnPath v (node_held (P s)) → ⊥)
+rest_exact {n = n} {W = W} {P = P} k nodes outside rest v positive = (λ free s on. held_used s on free, nobody)
+  where
+    held_used : (s : ℕ) → OnPath v (node_held (P s)) → IsInUse (W v)
+    held_used s on =
+        let holder = holder_is n (P s) (k.agrees.fit s) (some (node_held (P s)) on) in
+        used_on_path k.agrees s v (subst (OnPath v) (sym holder.own) on) (subst (λ a. a < v) (sym holder.past) positive)
+      where
+        some : (h : ℕ) → OnPath v h → 0 < h
+        some zero above = absurd (OnPath-zero v above)
+        some (suc h) above = omega arith
+
+    nobody : ((s : ℕ) → OnPath v (node_held (P s)) → ⊥) → IsFree (W v)
+    nobody none = elim (cases_eq (use_of (W v)) 0) [
+      | inl free ↦ free
+      | inr used ↦ let found = in_use_engaged k nodes outside v positive used in absurd (none found.0 (subst (OnPath v) (rest_engaged (P found.0) (rest found.0)) found.1))
+    ]
+
+-- ---- when all have retired
+
+pub retired_zero : {n count : ℕ} {W : ℕ → ℕ} {P : ℕ → Phase} → Invariant n count W P → (nodes : ℕ) → ((v : ℕ) → nodes ≤ v → W v ≡ 0) → ((s : ℕ) → P s ≡ Retired) → (v : ℕ) → 0 < v → W v ≡ 0
+retired_zero {W = W} {P = P} k nodes outside gone v positive = elim (cases_eq (W v) 0) [
+  | inl none ↦ none
+  | inr some ↦ absurd (no_witness some)
+]
+  where
+    free : IsFree (W v)
+    free = elim (cases_eq (use_of (W v)) 0) [
+      | inl is ↦ is
+      | inr used ↦ let found = in_use_engaged k nodes outside v positive used in absurd (OnPath-zero v (subst (OnPath v) (ap engaged_at (gone found.0)) found.1))
+    ]
+
+    no_witness : W v ≢ 0 → ⊥
+    no_witness some =
+        let found = k.witnessed.witness v positive free some in
+        let none : 0 ≡ v = sym (ap marked_at (gone found.0)) ∙ found.1.0 in
+        omega (arith, none)

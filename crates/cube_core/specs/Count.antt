@@ -1,0 +1,44 @@
+-- How many events a station still has to make at most before it rests.
+use Rattle.std.specs.Prelude.{◌≡◌, ◌≢◌, ℕ, ◌+◌, ◌-◌, ◌*◌, ◌<◌, None}
+use Rattle.cube_core.specs.declared.phase.Seen.{Seen}
+use Rattle.cube_core.specs.declared.phase.Seen.TheVariants as seen
+use Rattle.cube_core.specs.declared.phase.Phase.{Phase}
+use Rattle.cube_core.specs.declared.phase.Phase.TheVariants.{Idle, Looking, Looked, Climbing, Swept, Holding, Leaving, Backing, Arriving, Unmarked, Marked, Retired}
+use Rattle.cube_core.specs.declared.act.Act.{Act}
+use Rattle.cube_core.specs.declared.act.Act.TheVariants.{Take, Release, Step}
+use Rattle.cube_core.specs.Phase.{node_held}
+use Rattle.cube_core.specs.Held.{dim_at}
+use Rattle.cube_core.specs.Schedule.{State, phase_of, refusal, station_of, acted}
+
+-- how many levels below the root a node is: n - k for the node of a region of dimension k
+abbrev pub depth : ℕ → ℕ → ℕ
+depth n v = n - dim_at n v
+
+-- the load of a child that is not seen yet
+abbrev pub unseen : Seen → ℕ
+unseen seen.NotYet = 1
+unseen seen.Free = 0
+unseen seen.Used = 0
+
+abbrev pub events_due : ℕ → Phase → ℕ
+events_due n Idle = 0
+events_due n (Looking h) = 3 + 7 * depth n h
+events_due n (Looked h w) = 2 + 7 * depth n h
+events_due n (Climbing h a) = 3 + 5 * depth n h + 2 * depth n a
+events_due n (Swept h a) = 2 + 5 * depth n h + 2 * depth n a
+events_due n (Holding h) = 0
+events_due n (Leaving h) = 1 + 5 * depth n h
+events_due n (Backing h a) = 1 + 5 * depth n h
+events_due n (Arriving a) = 5 + 5 * depth n a
+events_due n (Unmarked a) = 4 + 5 * depth n a
+events_due n (Marked a w left right) = 1 + unseen left + unseen right + 5 * depth n a
+events_due n Retired = 0
+
+pub record IsCounted (w : State) : Type 0 where
+  -- a take has at most 3 + 7 j events, and a release 1 + 5 j, at a node that is j levels below the root
+  pub take : (s v : ℕ) → refusal (Take s v) w ≡ None → events_due w.dim (phase_of (acted (Take s v) w) s) ≡ 3 + 7 * depth w.dim v
+  pub release : (s : ℕ) → refusal (Release s) w ≡ None → events_due w.dim (phase_of (acted (Release s) w) s) ≡ 1 + 5 * depth w.dim (node_held (phase_of w s))
+  -- each event of a station lowers its own count
+  pub falls : (s : ℕ) → refusal (Step s) w ≡ None → events_due w.dim (phase_of (acted (Step s) w) s) < events_due w.dim (phase_of w s)
+  -- and no act changes another station's phase, and so its count
+  pub others : (act : Act) (t : ℕ) → t ≢ station_of act → phase_of (acted act w) t ≡ phase_of w t

@@ -1,0 +1,40 @@
+-- What holds after every schedule.
+use Rattle.std.specs.Prelude.{◌≡◌, ℕ, ◌<◌, ◌↔◌, List, length, Some}
+use Rattle.cube_shape.specs.declared.region.Region.{Region}
+use Rattle.cube_shape.specs.Node.{OnPath, IsNodeOf}
+use Rattle.cube_shape.specs.Machine.{IsLawful}
+use Rattle.status_word.specs.Word.{IsSet, IsFree, IsInUse}
+use Rattle.cube_core.specs.declared.phase.Phase.TheVariants.{Retired}
+use Rattle.cube_core.specs.declared.act.Act.{Act}
+use Rattle.cube_core.specs.Phase.{node_held, IsEngagedAt, IsAtRest}
+use Rattle.cube_core.specs.Schedule.{State, phase_of, word_of, station_of, acted, after, opened}
+use Rattle.cube_core.specs.Safety.{IsSafe}
+use Rattle.cube_core.specs.Debts.{HasDebtors}
+use Rattle.cube_core.specs.Held.{held_of, IsMachineStep}
+use Rattle.cube_core.specs.Count.{IsCounted}
+
+pub record IsTreeLawful (w : State) : Type 0 where
+  -- words, owners and marks agree
+  pub safe : IsSafe w
+  -- what is in use has an owner below it, or someone who is to clear it
+  pub debts : HasDebtors w
+  -- a station that holds a region holds the one that its node names
+  pub named : (s : ℕ) (r : Region) → held_of w s ≡ Some r → IsNodeOf w.dim (node_held (phase_of w s)) r
+  -- the held regions are aligned, and those of two stations are apart
+  pub apart : IsLawful w.dim (held_of w)
+  -- each further act is a step of its station on the machine of pairs, or leaves the held set alone
+  pub steps : (act : Act) → IsMachineStep w.dim (station_of act) (held_of w) (held_of (acted act w))
+  -- where the word of a node is in use, some station owns a node at or under it, or is to clear one
+  pub engaged : (v : ℕ) → 0 < v → IsInUse (word_of w v) → (s : ℕ) × IsEngagedAt (phase_of w s) v
+  -- when all are at rest, the word of a node is free exactly where no held node is at or under it
+  pub at_rest : ((s : ℕ) → IsAtRest (phase_of w s)) → (v : ℕ) → 0 < v → IsFree (word_of w v) ↔ ((s : ℕ) → OnPath v (node_held (phase_of w s)) → ⊥)
+  -- when all have retired, the word of every node is 0
+  pub retired : ((s : ℕ) → phase_of w s ≡ Retired) → (v : ℕ) → 0 < v → word_of w v ≡ 0
+  -- the bit of a station stands in the roll exactly when it has retired
+  pub roll : (s : ℕ) → s < length w.records → IsSet (word_of w 0) s ↔ (phase_of w s ≡ Retired)
+  -- every take and every release comes to an end
+  pub counted : IsCounted w
+
+-- after every list of acts from an opened world, for every dimension and number of stations
+abbrev pub EveryScheduleIsLawful : Type 0
+EveryScheduleIsLawful = (n stations : ℕ) (acts : List Act) → IsTreeLawful (after acts (opened n stations))
