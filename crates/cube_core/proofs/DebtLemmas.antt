@@ -150,7 +150,7 @@ clear_owed {W = W} {P = P} {u = u} {V = V} {Q = Q} a w left right x stamped k is
       ]
     ]
 
--- a load of a child by a marked station: it still owes, or the child is in use
+-- by a look at a child a marked station still owes, or the child is in use
 pub owing_kept : {n : ℕ} {W : ℕ → ℕ} {P : ℕ → Phase} {p : Phase} {u v y : ℕ} {q : Phase} {V : ℕ → ℕ} {Q : ℕ → Phase} → Move n u W p v y q → P u ≡ p → Change W P v y u q V Q → Agrees n W P → Stamped W P → Owing W P → Owing V Q
 owing_kept (begins_take h i) is x g m k = owing_same x k refl (λ a _. owes_none _ _ a _ is (λ e. e))
 owing_kept (begins_release h i) is x g m k = owing_same x k refl (λ a _. owes_none _ _ a _ is (λ e. e))

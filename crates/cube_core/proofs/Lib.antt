@@ -13,3 +13,4 @@ mod HeldLemmas
 mod FollowLemmas
 mod ScheduleLemmas
 mod WorldLemmas
+pub mod OneEventLemmas

@@ -10,7 +10,7 @@ use Rattle.cube_core.specs.declared.phase.Seen.{Seen}
 use Rattle.cube_core.specs.declared.phase.Seen.TheVariants as seen
 use Rattle.cube_core.specs.declared.phase.Phase.{Phase}
 use Rattle.cube_core.specs.declared.phase.Phase.TheVariants.{Idle, Looking, Looked, Climbing, Swept, Holding, Leaving, Backing, Arriving, Unmarked, Marked, Retired}
-use Rattle.cube_core.specs.Phase.{side_of, owned, stop, node_held, swept_from, marked_at, unmarked_at, Owes}
+use Rattle.cube_core.specs.Phase.{side_of, owned, stop, node_held, swept_from, marked_at, Owes}
 use Rattle.cube_core.specs.Event.{Transition, transition, busy, risen, freed, is_free, is_occupied, cleared_as_seen, clear_at, seen_at}
 use Rattle.cube_core.specs.Schedule.{step_refusal}
 use Rattle.cube_core.specs.Count.{depth, unseen, events_due}
@@ -19,6 +19,21 @@ use Rattle.std.proofs.Common.{None}
 use Rattle.cube_core.proofs.ChangeLemmas.{Fit, IsInner}
 
 -- ---- phases by what they are not
+
+-- the node whose marks it has cleared, before it sets its own
+abbrev pub unmarked_at : Phase → ℕ
+unmarked_at Idle = 0
+unmarked_at (Looking h) = 0
+unmarked_at (Looked h w) = 0
+unmarked_at (Climbing h a) = 0
+unmarked_at (Swept h a) = 0
+unmarked_at (Holding h) = 0
+unmarked_at (Leaving h) = 0
+unmarked_at (Backing h a) = 0
+unmarked_at (Arriving a) = 0
+unmarked_at (Unmarked a) = a
+unmarked_at (Marked a w left right) = 0
+unmarked_at Retired = 0
 
 -- neither marked nor unmarked at a node, and not retired
 pub record IsPlain (q : Phase) : Type 0 where

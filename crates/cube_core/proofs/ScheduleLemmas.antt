@@ -260,13 +260,13 @@ Stands-debts w k = record {
 }
 
 -- the act that is not refused, and its count afterwards
-acted-accepted : (act : Act) (w : State) → refusal act w ≡ None → acted act w ≡ moved act w
+pub acted-accepted : (act : Act) (w : State) → refusal act w ≡ None → acted act w ≡ moved act w
 acted-accepted act w none = ap (λ r. unless_refused r act w) none
 
 phase_here : (act : Act) (w : State) (q : Phase) → refusal act w ≡ None → phase_of (moved act w) (station_of act) ≡ q → events_due w.dim (phase_of (acted act w) (station_of act)) ≡ events_due w.dim q
 phase_here act w q none is = ap (λ u. events_due w.dim (phase_of u (station_of act))) (acted-accepted act w none) ∙ ap (events_due w.dim) is
 
-begun_phase : (s : ℕ) (q : Phase) (w : State) → s < length w.records → phase_of (begun s q w) s ≡ q
+pub begun_phase : (s : ℕ) (q : Phase) (w : State) → s < length w.records → phase_of (begun s q w) s ≡ q
 begun_phase s q w there = (begun_change s q w there).phase_here
 
 -- what a release leaves to do is that of the node that is held

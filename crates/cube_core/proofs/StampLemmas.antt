@@ -5,10 +5,10 @@ use Rattle.status_word.specs.Word.{mark_place, IsSet, IsMarked, with_mark}
 use Rattle.status_word.proofs.WordLemmas.{use_of-unmarked, with_mark-has}
 use Rattle.cube_core.specs.declared.phase.Phase.{Phase}
 use Rattle.cube_core.specs.declared.phase.Phase.TheVariants.{Unmarked}
-use Rattle.cube_core.specs.Phase.{marked_at, marked_word, unmarked_at}
+use Rattle.cube_core.specs.Phase.{marked_at, marked_word}
 use Rattle.cube_core.proofs.WordFacts.{with_mark-other}
 use Rattle.cube_core.proofs.ChangeLemmas.{Change, each, each_word}
-use Rattle.cube_core.proofs.MoveLemmas.{Move, claims, raises, zeroes, zeroes_back, unmarks, marks, looks_left, looks_right, clears}
+use Rattle.cube_core.proofs.MoveLemmas.{unmarked_at, Move, claims, raises, zeroes, zeroes_back, unmarks, marks, looks_left, looks_right, clears}
 use Rattle.cube_core.proofs.ShutLemmas.{Shut, marks_stood}
 
 pub record Stamped (W : ℕ → ℕ) (P : ℕ → Phase) : Type 0 where

@@ -22,7 +22,7 @@ use Rattle.cube_core.specs.Count.{depth, events_due, IsCounted}
 use Rattle.cube_core.specs.Law.{IsTreeLawful}
 use Rattle.cube_core.proofs.ChangeLemmas.{Fit, IsInner}
 use Rattle.cube_core.proofs.InvariantLemmas.{Invariant}
-use Rattle.cube_core.proofs.ScheduleLemmas.{Stands, Stands-lawful, Stands-counted, opened_stands, after_stands, node_there}
+use Rattle.cube_core.proofs.ScheduleLemmas.{Stands, Stands-lawful, Stands-counted, acted-accepted, opened_stands, after_stands, node_there}
 
 -- ---- records whose trails are left out
 
@@ -121,10 +121,6 @@ pub reached-lawful : (w : State) → IsReached w → IsTreeLawful w
 reached-lawful w reached = Stands-lawful w (reached-stands w reached)
 
 -- ---- the calls of a world
-
--- an act that is not refused moves the state
-acted-accepted : (act : Act) (w : State) → refusal act w ≡ None → acted act w ≡ moved act w
-acted-accepted act w none = ap (λ r. unless_refused r act w) none
 
 pub acted_dim : (act : Act) (w : State) → (acted act w).dim ≡ w.dim
 acted_dim act w = turn (refusal act w)

@@ -14,12 +14,14 @@ use Rattle.cube_core.specs.Schedule.{State, phase_of, refusal, station_of, acted
 abbrev pub depth : ℕ → ℕ → ℕ
 depth n v = n - dim_at n v
 
--- the load of a child that is not seen yet
+-- one load for a child that is not seen yet
 abbrev pub unseen : Seen → ℕ
 unseen seen.NotYet = 1
 unseen seen.Free = 0
 unseen seen.Used = 0
 
+-- with h the node that it takes or gives back, and a the node where it makes its next event: at most
+-- two events a level on the way up of a take, and five a level on the way up after a Zero
 abbrev pub events_due : ℕ → Phase → ℕ
 events_due n Idle = 0
 events_due n (Looking h) = 3 + 7 * depth n h

@@ -126,21 +126,6 @@ is_seen_free seen.NotYet = false
 is_seen_free seen.Free = true
 is_seen_free seen.Used = false
 
--- the node whose marks it has cleared, before it sets its own
-abbrev pub unmarked_at : Phase → ℕ
-unmarked_at Idle = 0
-unmarked_at (Looking h) = 0
-unmarked_at (Looked h w) = 0
-unmarked_at (Climbing h a) = 0
-unmarked_at (Swept h a) = 0
-unmarked_at (Holding h) = 0
-unmarked_at (Leaving h) = 0
-unmarked_at (Backing h a) = 0
-unmarked_at (Arriving a) = 0
-unmarked_at (Unmarked a) = a
-unmarked_at (Marked a w left right) = 0
-unmarked_at Retired = 0
-
 -- the node that it is engaged at: that which it owns, or that which it is to clear
 abbrev pub engaged_at : Phase → ℕ
 engaged_at Idle = 0

@@ -1,5 +1,5 @@
 -- The world of words and stations, and what a schedule of calls makes of it.
-use Rattle.std.specs.Prelude.{ℕ, ◌+◌, ◌^◌, ◌&&◌, nat_lt, replicate, if◌then◌else◌, List, [], ◌∷◌, ◌++◌, length, slice_set, slice_index_or, Option, Some, None}
+use Rattle.std.specs.Prelude.{◌≡◌, ℕ, ◌<◌, ◌+◌, ◌^◌, ◌&&◌, nat_lt, replicate, if◌then◌else◌, List, [], ◌∷◌, ◌++◌, length, slice_set, slice_index_or, Option, Some, None}
 use Rattle.cube_core.specs.declared.phase.Phase.{Phase}
 use Rattle.cube_core.specs.declared.phase.Phase.TheVariants.{Idle, Looking, Looked, Climbing, Swept, Holding, Leaving, Backing, Arriving, Unmarked, Marked, Retired}
 use Rattle.cube_core.specs.declared.event.Event.{Event}
@@ -120,3 +120,8 @@ acted act w = unless_refused (refusal act w) act w
 abbrev pub after : List Act → State → State
 after [] w = w
 after (act ∷ earlier) w = acted act (after earlier w)
+
+-- these acts of a station, the newest first, are one event: on every world of dimension n where the
+-- station has this record, they make of the world what the event makes
+abbrev pub AreOneEvent : ℕ → List Act → ℕ → Record → Transition → Type 0
+AreOneEvent n acts s r d = (w : State) → w.dim ≡ n → s < length w.records → record_of w s ≡ r → after acts w ≡ stepped d s w

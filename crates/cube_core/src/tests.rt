@@ -10,6 +10,16 @@ mod schedules;
 use crate::{Act, Event, Kind, Note, Phase, Refused, World};
 use std::test::Fail;
 
+// A line of a schedule: a call that begins something, an event (its station, kind, node, word and
+// note), or a step of a station at rest.
+#[derive(Clone, Copy)]
+enum Row {
+    Takes(u64, u64),
+    Releases(u64),
+    Makes(u64, Kind, u64, u64, Note),
+    Rests(u64),
+}
+
 // Whether the next step of a station is this event.
 fn makes(world: &mut World, station: u64, kind: Kind, node: u64, word: u64, note: Note) -> bool
     ensures { HasShapeOf world.old world.new }
@@ -24,12 +34,20 @@ fn makes(world: &mut World, station: u64, kind: Kind, node: u64, word: u64, note
         })
 }
 
-// Whether the next steps of a station are these events.
-fn plays(world: &mut World, station: u64, events: &[(Kind, u64, u64, Note)]) -> bool
+// Whether the world goes as these lines say, from the first to the last.
+fn follows(world: &mut World, rows: &[Row]) -> bool
     ensures { HasShapeOf world.old world.new }
 {
-    for (kind, node, word, note) in events {
-        if !makes(world, station, *kind, *node, *word, *note) {
+    for row in rows {
+        let went = match row {
+            Row::Takes(station, node) => world.begin_take(*station, *node).is_ok(),
+            Row::Releases(station) => world.begin_release(*station).is_ok(),
+            Row::Makes(station, kind, node, word, note) => {
+                makes(world, *station, *kind, *node, *word, *note)
+            }
+            Row::Rests(station) => world.step(*station) == Err(Refused::Resting),
+        };
+        if !went {
             return false;
         }
     }
@@ -48,32 +66,21 @@ fn is_clear(world: &World, end: u64) -> bool
     true
 }
 
-// Whether a take begins.
-fn takes(world: &mut World, station: u64, node: u64) -> bool
-    ensures { HasShapeOf world.old world.new }
-{
-    world.begin_take(station, node).is_ok()
-}
-
-// Whether a release begins.
-fn releases(world: &mut World, station: u64) -> bool
-    ensures { HasShapeOf world.old world.new }
-{
-    world.begin_release(station).is_ok()
-}
-
 #[test]
 fn takes_a_node_and_zeroes_it(rt: HostRuntime) -> Result<(), Fail> {
     let mut world = World::new(rt.alloc(), 2, 4)?;
-    assert!(rt; takes(&mut world, 0, 4));
-    assert!(rt; makes(&mut world, 0, Kind::Look, 4, 0, Note::Free));
-    assert!(rt; makes(&mut world, 0, Kind::Claim, 4, 7, Note::Climb));
-    assert!(rt; makes(&mut world, 0, Kind::Sweep, 2, 0, Note::Ok));
-    assert!(rt; makes(&mut world, 0, Kind::Raise, 2, 2, Note::Climb));
-    assert!(rt; makes(&mut world, 0, Kind::Sweep, 1, 0, Note::Ok));
-    assert!(rt; makes(&mut world, 0, Kind::Raise, 1, 2, Note::Held));
-    assert!(rt; releases(&mut world, 0));
-    assert!(rt; makes(&mut world, 0, Kind::Zero, 4, 0, Note::Climb));
+    let rows = [
+        Row::Takes(0, 4),
+        Row::Makes(0, Kind::Look, 4, 0, Note::Free),
+        Row::Makes(0, Kind::Claim, 4, 7, Note::Climb),
+        Row::Makes(0, Kind::Sweep, 2, 0, Note::Ok),
+        Row::Makes(0, Kind::Raise, 2, 2, Note::Climb),
+        Row::Makes(0, Kind::Sweep, 1, 0, Note::Ok),
+        Row::Makes(0, Kind::Raise, 1, 2, Note::Held),
+        Row::Releases(0),
+        Row::Makes(0, Kind::Zero, 4, 0, Note::Climb),
+    ];
+    assert!(rt; follows(&mut world, &rows));
     assert_eq!(rt; world.phase(0), Phase::Arriving { at: 2 });
     Ok(())
 }
@@ -81,33 +88,40 @@ fn takes_a_node_and_zeroes_it(rt: HostRuntime) -> Result<(), Fail> {
 #[test]
 fn backs_out_under_an_occupied_node(rt: HostRuntime) -> Result<(), Fail> {
     let mut world = World::new(rt.alloc(), 2, 3)?;
-    assert!(rt; takes(&mut world, 1, 2));
-    assert!(rt; makes(&mut world, 1, Kind::Look, 2, 0, Note::Free));
-    assert!(rt; makes(&mut world, 1, Kind::Claim, 2, 7, Note::Climb));
-    assert!(rt; makes(&mut world, 1, Kind::Sweep, 1, 0, Note::Ok));
-    assert!(rt; makes(&mut world, 1, Kind::Raise, 1, 2, Note::Held));
-    assert!(rt; takes(&mut world, 0, 4));
-    assert!(rt; makes(&mut world, 0, Kind::Look, 4, 0, Note::Free));
-    assert!(rt; makes(&mut world, 0, Kind::Claim, 4, 7, Note::Climb));
-    assert!(rt; makes(&mut world, 0, Kind::Sweep, 2, 7, Note::Ok));
-    assert!(rt; makes(&mut world, 0, Kind::Raise, 2, 7, Note::Under));
-    assert!(rt; makes(&mut world, 0, Kind::Zero, 4, 0, Note::Climb));
+    let rows = [
+        Row::Takes(1, 2),
+        Row::Makes(1, Kind::Look, 2, 0, Note::Free),
+        Row::Makes(1, Kind::Claim, 2, 7, Note::Climb),
+        Row::Makes(1, Kind::Sweep, 1, 0, Note::Ok),
+        Row::Makes(1, Kind::Raise, 1, 2, Note::Held),
+        Row::Takes(0, 4),
+        Row::Makes(0, Kind::Look, 4, 0, Note::Free),
+        Row::Makes(0, Kind::Claim, 4, 7, Note::Climb),
+        Row::Makes(0, Kind::Sweep, 2, 7, Note::Ok),
+        Row::Makes(0, Kind::Raise, 2, 7, Note::Under),
+        Row::Makes(0, Kind::Zero, 4, 0, Note::Climb),
+    ];
+    assert!(rt; follows(&mut world, &rows));
     Ok(())
 }
 
 #[test]
 fn gives_back_under_a_held_root(rt: HostRuntime) -> Result<(), Fail> {
     let mut world = World::new(rt.alloc(), 1, 3)?;
-    assert!(rt; takes(&mut world, 1, 1));
-    assert!(rt; makes(&mut world, 1, Kind::Look, 1, 0, Note::Free));
-    assert!(rt; makes(&mut world, 1, Kind::Claim, 1, 7, Note::Held));
-    assert!(rt; takes(&mut world, 0, 2));
-    assert!(rt; makes(&mut world, 0, Kind::Look, 2, 0, Note::Free));
-    assert!(rt; makes(&mut world, 0, Kind::Claim, 2, 7, Note::Climb));
-    assert!(rt; makes(&mut world, 0, Kind::Sweep, 1, 7, Note::Ok));
-    assert!(rt; makes(&mut world, 0, Kind::Raise, 1, 7, Note::Under));
+    let rows = [
+        Row::Takes(1, 1),
+        Row::Makes(1, Kind::Look, 1, 0, Note::Free),
+        Row::Makes(1, Kind::Claim, 1, 7, Note::Held),
+        Row::Takes(0, 2),
+        Row::Makes(0, Kind::Look, 2, 0, Note::Free),
+        Row::Makes(0, Kind::Claim, 2, 7, Note::Climb),
+        Row::Makes(0, Kind::Sweep, 1, 7, Note::Ok),
+        Row::Makes(0, Kind::Raise, 1, 7, Note::Under),
+    ];
+    assert!(rt; follows(&mut world, &rows));
     assert_eq!(rt; world.phase(0), Phase::Backing { node: 2, at: 1 });
-    assert!(rt; makes(&mut world, 0, Kind::Zero, 2, 0, Note::Climb));
+    let rows = [Row::Makes(0, Kind::Zero, 2, 0, Note::Climb)];
+    assert!(rt; follows(&mut world, &rows));
     assert_eq!(rt; world.phase(0), Phase::Arriving { at: 1 });
     assert_eq!(rt; world.phase(1), Phase::Holding { node: 1 });
     assert_eq!(rt; world.word(1), 7);
@@ -125,7 +139,8 @@ fn refuses_in_order(rt: HostRuntime) -> Result<(), Fail> {
     assert_eq!(rt; world.begin_take(0, 4), Err(Refused::NotInCube));
     assert_eq!(rt; world.begin_release(0), Err(Refused::NotHolding));
     assert_eq!(rt; world.step(0), Err(Refused::Resting));
-    assert!(rt; takes(&mut world, 0, 3));
+    let rows = [Row::Takes(0, 3)];
+    assert!(rt; follows(&mut world, &rows));
     assert_eq!(rt; world.begin_take(0, 4), Err(Refused::NotIdle));
     assert_eq!(rt; world.begin_release(0), Err(Refused::NotHolding));
     assert_eq!(rt; world.retire(0), Err(Refused::NotIdle));
@@ -157,16 +172,19 @@ fn retires_for_good(rt: HostRuntime) -> Result<(), Fail> {
 fn a_machine_of_one_node(rt: HostRuntime) -> Result<(), Fail> {
     let mut world = World::new(rt.alloc(), 0, 2)?;
     assert_eq!(rt; world.begin_take(0, 2), Err(Refused::NotInCube));
-    assert!(rt; takes(&mut world, 0, 1));
-    assert!(rt; takes(&mut world, 1, 1));
-    assert!(rt; makes(&mut world, 0, Kind::Look, 1, 0, Note::Free));
-    assert!(rt; makes(&mut world, 1, Kind::Look, 1, 0, Note::Free));
-    assert!(rt; makes(&mut world, 0, Kind::Claim, 1, 7, Note::Held));
-    assert!(rt; makes(&mut world, 1, Kind::Claim, 1, 7, Note::Lost));
-    assert!(rt; takes(&mut world, 1, 1));
-    assert!(rt; makes(&mut world, 1, Kind::Look, 1, 7, Note::InUse));
-    assert!(rt; releases(&mut world, 0));
-    assert!(rt; makes(&mut world, 0, Kind::Zero, 1, 0, Note::Done));
+    let rows = [
+        Row::Takes(0, 1),
+        Row::Takes(1, 1),
+        Row::Makes(0, Kind::Look, 1, 0, Note::Free),
+        Row::Makes(1, Kind::Look, 1, 0, Note::Free),
+        Row::Makes(0, Kind::Claim, 1, 7, Note::Held),
+        Row::Makes(1, Kind::Claim, 1, 7, Note::Lost),
+        Row::Takes(1, 1),
+        Row::Makes(1, Kind::Look, 1, 7, Note::InUse),
+        Row::Releases(0),
+        Row::Makes(0, Kind::Zero, 1, 0, Note::Done),
+    ];
+    assert!(rt; follows(&mut world, &rows));
     Ok(())
 }
 

@@ -68,7 +68,8 @@ impl World {
         self.phases[place]
     }
 
-    /// An idle station begins to take the region of a node.
+    /// An idle station begins to take the region of a node. If the node is `j` levels below the root,
+    /// the take has at most `3 + 7 * j` events, its roll-back included.
     pub fn begin_take(&mut self, station: u64, node: u64) -> Result<(), Refused>
         ensures refused { IfErr result (λ why. refusal (Act.Take station node) self.old ≡ Some why) }
         ensures accepted { IfOk result (λ _. refusal (Act.Take station node) self.old ≡ None) }
@@ -87,7 +88,8 @@ impl World {
         }
     }
 
-    /// A station that holds a region begins to give it back.
+    /// A station that holds a region begins to give it back. If the node is `j` levels below the
+    /// root, the release has at most `1 + 5 * j` events.
     pub fn begin_release(&mut self, station: u64) -> Result<(), Refused>
         ensures refused { IfErr result (λ why. refusal (Act.Release station) self.old ≡ Some why) }
         ensures accepted { IfOk result (λ _. refusal (Act.Release station) self.old ≡ None) }
@@ -104,7 +106,8 @@ impl World {
         Ok(())
     }
 
-    /// The next event of a station: one atomic step on one word.
+    /// The next event of a station: one atomic step on one word. It lowers the count of the events
+    /// that the station has still to make at most, and leaves the other stations' phases alone.
     pub fn step(&mut self, station: u64) -> Result<Event, Refused>
         ensures refused { IfErr result (λ why. refusal (Act.Step station) self.old ≡ Some why) }
         ensures accepted { IfOk result (λ _. refusal (Act.Step station) self.old ≡ None) }

@@ -1,116 +1,66 @@
 //! Short schedules in which a wrong step would do harm, event by event, with what the right one does.
 
-use crate::tests::{plays, releases, takes};
-use crate::{Kind, Note, Refused, World};
+use crate::tests::{Row, follows};
+use crate::{Kind, Note, World};
 use std::test::Fail;
 
-// A station takes a node again while another one is about to clear its parent: the Sweep takes
-// the mark away, so the Clear is lost and the parent stays in use.
+// A station takes a node again while another one is about to clear its parent: the Sweep takes the
+// mark away, so the Clear is lost and the parent stays in use.
 #[test]
 fn sweep_stops_a_clear(rt: HostRuntime) -> Result<(), Fail> {
     let mut world = World::new(rt.alloc(), 1, 2)?;
-    assert!(rt; takes(&mut world, 0, 2));
-    assert!(rt;
-        plays(
-            &mut world,
-            0,
-            &[
-                (Kind::Look, 2, 0, Note::Free),
-                (Kind::Claim, 2, 7, Note::Climb),
-                (Kind::Sweep, 1, 0, Note::Ok),
-                (Kind::Raise, 1, 2, Note::Held),
-            ]
-        )
-    );
-    assert!(rt; releases(&mut world, 0));
-    assert!(rt;
-        plays(
-            &mut world,
-            0,
-            &[
-                (Kind::Zero, 2, 0, Note::Climb),
-                (Kind::Unmark, 1, 2, Note::Ok),
-                (Kind::Mark, 1, 258, Note::Ok),
-                (Kind::Child, 2, 0, Note::Free),
-                (Kind::Child, 3, 0, Note::Free),
-            ]
-        )
-    );
-    assert!(rt; takes(&mut world, 1, 2));
-    assert!(rt;
-        plays(
-            &mut world,
-            1,
-            &[
-                (Kind::Look, 2, 0, Note::Free),
-                (Kind::Claim, 2, 7, Note::Climb),
-                (Kind::Sweep, 1, 2, Note::Ok),
-                (Kind::Raise, 1, 2, Note::Held),
-            ]
-        )
-    );
-    assert!(rt; plays(&mut world, 0, &[(Kind::Clear, 1, 2, Note::Lost),]));
-    assert!(rt; takes(&mut world, 0, 1));
-    assert!(rt; plays(&mut world, 0, &[(Kind::Look, 1, 2, Note::InUse),]));
-    assert_eq!(rt; world.step(0), Err(Refused::Resting));
+    let rows = [
+        Row::Takes(0, 2),
+        Row::Makes(0, Kind::Look, 2, 0, Note::Free),
+        Row::Makes(0, Kind::Claim, 2, 7, Note::Climb),
+        Row::Makes(0, Kind::Sweep, 1, 0, Note::Ok),
+        Row::Makes(0, Kind::Raise, 1, 2, Note::Held),
+        Row::Releases(0),
+        Row::Makes(0, Kind::Zero, 2, 0, Note::Climb),
+        Row::Makes(0, Kind::Unmark, 1, 2, Note::Ok),
+        Row::Makes(0, Kind::Mark, 1, 258, Note::Ok),
+        Row::Makes(0, Kind::Child, 2, 0, Note::Free),
+        Row::Makes(0, Kind::Child, 3, 0, Note::Free),
+        Row::Takes(1, 2),
+        Row::Makes(1, Kind::Look, 2, 0, Note::Free),
+        Row::Makes(1, Kind::Claim, 2, 7, Note::Climb),
+        Row::Makes(1, Kind::Sweep, 1, 2, Note::Ok),
+        Row::Makes(1, Kind::Raise, 1, 2, Note::Held),
+        Row::Makes(0, Kind::Clear, 1, 2, Note::Lost),
+        Row::Takes(0, 1),
+        Row::Makes(0, Kind::Look, 1, 2, Note::InUse),
+        Row::Rests(0),
+    ];
+    assert!(rt; follows(&mut world, &rows));
     Ok(())
 }
 
 // A child is taken again after the Mark: its load finds it in use, and its side stays.
 #[test]
-fn clear_keeps_the_side_of_a_used_child(rt: HostRuntime) -> Result<(), Fail> {
+fn used_child_keeps_its_side(rt: HostRuntime) -> Result<(), Fail> {
     let mut world = World::new(rt.alloc(), 1, 2)?;
-    assert!(rt; takes(&mut world, 0, 2));
-    assert!(rt;
-        plays(
-            &mut world,
-            0,
-            &[
-                (Kind::Look, 2, 0, Note::Free),
-                (Kind::Claim, 2, 7, Note::Climb),
-                (Kind::Sweep, 1, 0, Note::Ok),
-                (Kind::Raise, 1, 2, Note::Held),
-            ]
-        )
-    );
-    assert!(rt; releases(&mut world, 0));
-    assert!(rt;
-        plays(
-            &mut world,
-            0,
-            &[
-                (Kind::Zero, 2, 0, Note::Climb),
-                (Kind::Unmark, 1, 2, Note::Ok),
-            ]
-        )
-    );
-    assert!(rt; takes(&mut world, 1, 2));
-    assert!(rt;
-        plays(
-            &mut world,
-            1,
-            &[
-                (Kind::Look, 2, 0, Note::Free),
-                (Kind::Claim, 2, 7, Note::Climb),
-                (Kind::Sweep, 1, 2, Note::Ok),
-            ]
-        )
-    );
-    assert!(rt; plays(&mut world, 0, &[(Kind::Mark, 1, 258, Note::Ok),]));
-    assert!(rt; plays(&mut world, 1, &[(Kind::Raise, 1, 258, Note::Held),]));
-    assert!(rt;
-        plays(
-            &mut world,
-            0,
-            &[
-                (Kind::Child, 2, 7, Note::Used),
-                (Kind::Child, 3, 0, Note::Free),
-                (Kind::Clear, 1, 2, Note::Keep),
-            ]
-        )
-    );
-    assert!(rt; takes(&mut world, 0, 1));
-    assert!(rt; plays(&mut world, 0, &[(Kind::Look, 1, 2, Note::InUse),]));
+    let rows = [
+        Row::Takes(0, 2),
+        Row::Makes(0, Kind::Look, 2, 0, Note::Free),
+        Row::Makes(0, Kind::Claim, 2, 7, Note::Climb),
+        Row::Makes(0, Kind::Sweep, 1, 0, Note::Ok),
+        Row::Makes(0, Kind::Raise, 1, 2, Note::Held),
+        Row::Releases(0),
+        Row::Makes(0, Kind::Zero, 2, 0, Note::Climb),
+        Row::Makes(0, Kind::Unmark, 1, 2, Note::Ok),
+        Row::Takes(1, 2),
+        Row::Makes(1, Kind::Look, 2, 0, Note::Free),
+        Row::Makes(1, Kind::Claim, 2, 7, Note::Climb),
+        Row::Makes(1, Kind::Sweep, 1, 2, Note::Ok),
+        Row::Makes(0, Kind::Mark, 1, 258, Note::Ok),
+        Row::Makes(1, Kind::Raise, 1, 258, Note::Held),
+        Row::Makes(0, Kind::Child, 2, 7, Note::Used),
+        Row::Makes(0, Kind::Child, 3, 0, Note::Free),
+        Row::Makes(0, Kind::Clear, 1, 2, Note::Keep),
+        Row::Takes(0, 1),
+        Row::Makes(0, Kind::Look, 1, 2, Note::InUse),
+    ];
+    assert!(rt; follows(&mut world, &rows));
     Ok(())
 }
 
@@ -118,295 +68,160 @@ fn clear_keeps_the_side_of_a_used_child(rt: HostRuntime) -> Result<(), Fail> {
 #[test]
 fn other_child_is_looked_at(rt: HostRuntime) -> Result<(), Fail> {
     let mut world = World::new(rt.alloc(), 1, 2)?;
-    assert!(rt; takes(&mut world, 0, 2));
-    assert!(rt;
-        plays(
-            &mut world,
-            0,
-            &[
-                (Kind::Look, 2, 0, Note::Free),
-                (Kind::Claim, 2, 7, Note::Climb),
-                (Kind::Sweep, 1, 0, Note::Ok),
-                (Kind::Raise, 1, 2, Note::Held),
-            ]
-        )
-    );
-    assert!(rt; releases(&mut world, 0));
-    assert!(rt;
-        plays(
-            &mut world,
-            0,
-            &[
-                (Kind::Zero, 2, 0, Note::Climb),
-                (Kind::Unmark, 1, 2, Note::Ok),
-            ]
-        )
-    );
-    assert!(rt; takes(&mut world, 1, 3));
-    assert!(rt;
-        plays(
-            &mut world,
-            1,
-            &[
-                (Kind::Look, 3, 0, Note::Free),
-                (Kind::Claim, 3, 7, Note::Climb),
-                (Kind::Sweep, 1, 2, Note::Ok),
-            ]
-        )
-    );
-    assert!(rt;
-        plays(
-            &mut world,
-            0,
-            &[
-                (Kind::Mark, 1, 258, Note::Ok),
-                (Kind::Child, 2, 0, Note::Free),
-            ]
-        )
-    );
-    assert!(rt; plays(&mut world, 1, &[(Kind::Raise, 1, 262, Note::Held),]));
-    assert!(rt;
-        plays(
-            &mut world,
-            0,
-            &[
-                (Kind::Child, 3, 7, Note::Used),
-                (Kind::Clear, 1, 262, Note::Lost),
-            ]
-        )
-    );
-    assert!(rt; takes(&mut world, 0, 1));
-    assert!(rt; plays(&mut world, 0, &[(Kind::Look, 1, 262, Note::InUse),]));
+    let rows = [
+        Row::Takes(0, 2),
+        Row::Makes(0, Kind::Look, 2, 0, Note::Free),
+        Row::Makes(0, Kind::Claim, 2, 7, Note::Climb),
+        Row::Makes(0, Kind::Sweep, 1, 0, Note::Ok),
+        Row::Makes(0, Kind::Raise, 1, 2, Note::Held),
+        Row::Releases(0),
+        Row::Makes(0, Kind::Zero, 2, 0, Note::Climb),
+        Row::Makes(0, Kind::Unmark, 1, 2, Note::Ok),
+        Row::Takes(1, 3),
+        Row::Makes(1, Kind::Look, 3, 0, Note::Free),
+        Row::Makes(1, Kind::Claim, 3, 7, Note::Climb),
+        Row::Makes(1, Kind::Sweep, 1, 2, Note::Ok),
+        Row::Makes(0, Kind::Mark, 1, 258, Note::Ok),
+        Row::Makes(0, Kind::Child, 2, 0, Note::Free),
+        Row::Makes(1, Kind::Raise, 1, 262, Note::Held),
+        Row::Makes(0, Kind::Child, 3, 7, Note::Used),
+        Row::Makes(0, Kind::Clear, 1, 262, Note::Lost),
+        Row::Takes(0, 1),
+        Row::Makes(0, Kind::Look, 1, 262, Note::InUse),
+    ];
+    assert!(rt; follows(&mut world, &rows));
     Ok(())
 }
 
-// A child is taken after both looks, and the parent swept before the Clear.
+// A child is taken between the looks: the Sweep takes the mark away, and the Clear is lost.
 #[test]
 fn mark_comes_before_the_looks(rt: HostRuntime) -> Result<(), Fail> {
     let mut world = World::new(rt.alloc(), 1, 2)?;
-    assert!(rt; takes(&mut world, 0, 2));
-    assert!(rt;
-        plays(
-            &mut world,
-            0,
-            &[
-                (Kind::Look, 2, 0, Note::Free),
-                (Kind::Claim, 2, 7, Note::Climb),
-                (Kind::Sweep, 1, 0, Note::Ok),
-                (Kind::Raise, 1, 2, Note::Held),
-            ]
-        )
-    );
-    assert!(rt; releases(&mut world, 0));
-    assert!(rt;
-        plays(
-            &mut world,
-            0,
-            &[
-                (Kind::Zero, 2, 0, Note::Climb),
-                (Kind::Unmark, 1, 2, Note::Ok),
-                (Kind::Mark, 1, 258, Note::Ok),
-                (Kind::Child, 2, 0, Note::Free),
-            ]
-        )
-    );
-    assert!(rt; takes(&mut world, 1, 2));
-    assert!(rt;
-        plays(
-            &mut world,
-            1,
-            &[
-                (Kind::Look, 2, 0, Note::Free),
-                (Kind::Claim, 2, 7, Note::Climb),
-                (Kind::Sweep, 1, 2, Note::Ok),
-            ]
-        )
-    );
-    assert!(rt;
-        plays(
-            &mut world,
-            0,
-            &[
-                (Kind::Child, 3, 0, Note::Free),
-                (Kind::Clear, 1, 2, Note::Lost),
-            ]
-        )
-    );
-    assert!(rt; plays(&mut world, 1, &[(Kind::Raise, 1, 2, Note::Held),]));
-    assert!(rt; takes(&mut world, 0, 1));
-    assert!(rt; plays(&mut world, 0, &[(Kind::Look, 1, 2, Note::InUse),]));
+    let rows = [
+        Row::Takes(0, 2),
+        Row::Makes(0, Kind::Look, 2, 0, Note::Free),
+        Row::Makes(0, Kind::Claim, 2, 7, Note::Climb),
+        Row::Makes(0, Kind::Sweep, 1, 0, Note::Ok),
+        Row::Makes(0, Kind::Raise, 1, 2, Note::Held),
+        Row::Releases(0),
+        Row::Makes(0, Kind::Zero, 2, 0, Note::Climb),
+        Row::Makes(0, Kind::Unmark, 1, 2, Note::Ok),
+        Row::Makes(0, Kind::Mark, 1, 258, Note::Ok),
+        Row::Makes(0, Kind::Child, 2, 0, Note::Free),
+        Row::Takes(1, 2),
+        Row::Makes(1, Kind::Look, 2, 0, Note::Free),
+        Row::Makes(1, Kind::Claim, 2, 7, Note::Climb),
+        Row::Makes(1, Kind::Sweep, 1, 2, Note::Ok),
+        Row::Makes(0, Kind::Child, 3, 0, Note::Free),
+        Row::Makes(1, Kind::Raise, 1, 2, Note::Held),
+        Row::Makes(0, Kind::Clear, 1, 2, Note::Lost),
+        Row::Takes(0, 1),
+        Row::Makes(0, Kind::Look, 1, 2, Note::InUse),
+    ];
+    assert!(rt; follows(&mut world, &rows));
     Ok(())
 }
 
-// Three stations mark the root by turns: only the word that a station's own mark made is cleared.
+// Two stations have marked the root, and a third takes a leaf: the Clear of the first one is lost,
+// since the word is not the one that its own mark made.
 #[test]
 fn each_station_has_its_own_mark(rt: HostRuntime) -> Result<(), Fail> {
     let mut world = World::new(rt.alloc(), 1, 3)?;
-    assert!(rt; takes(&mut world, 0, 2));
-    assert!(rt;
-        plays(
-            &mut world,
-            0,
-            &[
-                (Kind::Look, 2, 0, Note::Free),
-                (Kind::Claim, 2, 7, Note::Climb),
-                (Kind::Sweep, 1, 0, Note::Ok),
-                (Kind::Raise, 1, 2, Note::Held),
-            ]
-        )
-    );
-    assert!(rt; releases(&mut world, 0));
-    assert!(rt;
-        plays(
-            &mut world,
-            0,
-            &[
-                (Kind::Zero, 2, 0, Note::Climb),
-                (Kind::Unmark, 1, 2, Note::Ok),
-                (Kind::Mark, 1, 258, Note::Ok),
-                (Kind::Child, 2, 0, Note::Free),
-                (Kind::Child, 3, 0, Note::Free),
-            ]
-        )
-    );
-    assert!(rt; takes(&mut world, 1, 2));
-    assert!(rt;
-        plays(
-            &mut world,
-            1,
-            &[
-                (Kind::Look, 2, 0, Note::Free),
-                (Kind::Claim, 2, 7, Note::Climb),
-                (Kind::Sweep, 1, 2, Note::Ok),
-                (Kind::Raise, 1, 2, Note::Held),
-            ]
-        )
-    );
-    assert!(rt; releases(&mut world, 1));
-    assert!(rt;
-        plays(
-            &mut world,
-            1,
-            &[
-                (Kind::Zero, 2, 0, Note::Climb),
-                (Kind::Unmark, 1, 2, Note::Ok),
-            ]
-        )
-    );
-    assert!(rt; takes(&mut world, 2, 2));
-    assert!(rt;
-        plays(
-            &mut world,
-            2,
-            &[
-                (Kind::Look, 2, 0, Note::Free),
-                (Kind::Claim, 2, 7, Note::Climb),
-                (Kind::Sweep, 1, 2, Note::Ok),
-            ]
-        )
-    );
-    assert!(rt; plays(&mut world, 1, &[(Kind::Mark, 1, 514, Note::Ok),]));
-    assert!(rt; plays(&mut world, 2, &[(Kind::Raise, 1, 514, Note::Held),]));
-    assert!(rt; plays(&mut world, 0, &[(Kind::Clear, 1, 514, Note::Lost),]));
-    assert!(rt; takes(&mut world, 0, 1));
-    assert!(rt; plays(&mut world, 0, &[(Kind::Look, 1, 514, Note::InUse),]));
-    assert!(rt;
-        plays(
-            &mut world,
-            1,
-            &[
-                (Kind::Child, 2, 7, Note::Used),
-                (Kind::Child, 3, 0, Note::Free),
-                (Kind::Clear, 1, 2, Note::Keep),
-            ]
-        )
-    );
-    assert_eq!(rt; world.step(0), Err(Refused::Resting));
+    let rows = [
+        Row::Takes(0, 2),
+        Row::Makes(0, Kind::Look, 2, 0, Note::Free),
+        Row::Makes(0, Kind::Claim, 2, 7, Note::Climb),
+        Row::Makes(0, Kind::Sweep, 1, 0, Note::Ok),
+        Row::Makes(0, Kind::Raise, 1, 2, Note::Held),
+        Row::Releases(0),
+        Row::Makes(0, Kind::Zero, 2, 0, Note::Climb),
+        Row::Makes(0, Kind::Unmark, 1, 2, Note::Ok),
+        Row::Makes(0, Kind::Mark, 1, 258, Note::Ok),
+        Row::Makes(0, Kind::Child, 2, 0, Note::Free),
+        Row::Makes(0, Kind::Child, 3, 0, Note::Free),
+        Row::Takes(1, 2),
+        Row::Makes(1, Kind::Look, 2, 0, Note::Free),
+        Row::Makes(1, Kind::Claim, 2, 7, Note::Climb),
+        Row::Makes(1, Kind::Sweep, 1, 2, Note::Ok),
+        Row::Makes(1, Kind::Raise, 1, 2, Note::Held),
+        Row::Releases(1),
+        Row::Makes(1, Kind::Zero, 2, 0, Note::Climb),
+        Row::Makes(1, Kind::Unmark, 1, 2, Note::Ok),
+        Row::Takes(2, 2),
+        Row::Makes(2, Kind::Look, 2, 0, Note::Free),
+        Row::Makes(2, Kind::Claim, 2, 7, Note::Climb),
+        Row::Makes(2, Kind::Sweep, 1, 2, Note::Ok),
+        Row::Makes(1, Kind::Mark, 1, 514, Note::Ok),
+        Row::Makes(2, Kind::Raise, 1, 514, Note::Held),
+        Row::Makes(0, Kind::Clear, 1, 514, Note::Lost),
+        Row::Takes(0, 1),
+        Row::Makes(0, Kind::Look, 1, 514, Note::InUse),
+        Row::Makes(1, Kind::Child, 2, 7, Note::Used),
+        Row::Makes(1, Kind::Child, 3, 0, Note::Free),
+        Row::Makes(1, Kind::Clear, 1, 2, Note::Keep),
+        Row::Releases(2),
+        Row::Makes(2, Kind::Zero, 2, 0, Note::Climb),
+        Row::Makes(2, Kind::Unmark, 1, 2, Note::Ok),
+        Row::Makes(2, Kind::Mark, 1, 1026, Note::Ok),
+        Row::Makes(2, Kind::Child, 2, 0, Note::Free),
+        Row::Makes(2, Kind::Child, 3, 0, Note::Free),
+        Row::Makes(2, Kind::Clear, 1, 0, Note::Done),
+    ];
+    assert!(rt; follows(&mut world, &rows));
     Ok(())
 }
 
-// A station comes back to a node where both had marked: its Unmark takes both marks away, so the
-// other one's Clear is lost.
+// A station comes to the root, where an old mark of the other one stands, and that one comes back
+// after it: each Unmark takes the mark of the other one away, and only the last Clear wins.
 #[test]
 fn unmark_takes_all_marks(rt: HostRuntime) -> Result<(), Fail> {
     let mut world = World::new(rt.alloc(), 2, 2)?;
-    assert!(rt; takes(&mut world, 0, 2));
-    assert!(rt;
-        plays(
-            &mut world,
-            0,
-            &[
-                (Kind::Look, 2, 0, Note::Free),
-                (Kind::Claim, 2, 7, Note::Climb),
-                (Kind::Sweep, 1, 0, Note::Ok),
-                (Kind::Raise, 1, 2, Note::Held),
-            ]
-        )
-    );
-    assert!(rt; releases(&mut world, 0));
-    assert!(rt;
-        plays(
-            &mut world,
-            0,
-            &[
-                (Kind::Zero, 2, 0, Note::Climb),
-                (Kind::Unmark, 1, 2, Note::Ok),
-            ]
-        )
-    );
-    assert!(rt; takes(&mut world, 1, 3));
-    assert!(rt;
-        plays(
-            &mut world,
-            1,
-            &[
-                (Kind::Look, 3, 0, Note::Free),
-                (Kind::Claim, 3, 7, Note::Climb),
-                (Kind::Sweep, 1, 2, Note::Ok),
-            ]
-        )
-    );
-    assert!(rt;
-        plays(
-            &mut world,
-            0,
-            &[
-                (Kind::Mark, 1, 258, Note::Ok),
-                (Kind::Child, 2, 0, Note::Free),
-                (Kind::Child, 3, 7, Note::Used),
-            ]
-        )
-    );
-    assert!(rt; plays(&mut world, 1, &[(Kind::Raise, 1, 262, Note::Held),]));
-    assert!(rt; plays(&mut world, 0, &[(Kind::Clear, 1, 262, Note::Lost),]));
-    assert!(rt; takes(&mut world, 0, 6));
-    assert!(rt;
-        plays(
-            &mut world,
-            0,
-            &[
-                (Kind::Look, 6, 0, Note::Free),
-                (Kind::Claim, 6, 7, Note::Climb),
-                (Kind::Sweep, 3, 7, Note::Ok),
-                (Kind::Raise, 3, 7, Note::Under),
-                (Kind::Zero, 6, 0, Note::Climb),
-                (Kind::Unmark, 3, 7, Note::Ok),
-            ]
-        )
-    );
-    assert!(rt; releases(&mut world, 1));
-    assert!(rt; plays(&mut world, 1, &[(Kind::Zero, 3, 0, Note::Climb),]));
-    assert!(rt; plays(&mut world, 0, &[]));
-    assert!(rt;
-        plays(
-            &mut world,
-            1,
-            &[
-                (Kind::Unmark, 1, 6, Note::Ok),
-                (Kind::Mark, 1, 518, Note::Ok),
-            ]
-        )
-    );
+    let rows = [
+        Row::Takes(0, 2),
+        Row::Makes(0, Kind::Look, 2, 0, Note::Free),
+        Row::Makes(0, Kind::Claim, 2, 7, Note::Climb),
+        Row::Makes(0, Kind::Sweep, 1, 0, Note::Ok),
+        Row::Makes(0, Kind::Raise, 1, 2, Note::Held),
+        Row::Releases(0),
+        Row::Makes(0, Kind::Zero, 2, 0, Note::Climb),
+        Row::Makes(0, Kind::Unmark, 1, 2, Note::Ok),
+        Row::Takes(1, 3),
+        Row::Makes(1, Kind::Look, 3, 0, Note::Free),
+        Row::Makes(1, Kind::Claim, 3, 7, Note::Climb),
+        Row::Makes(1, Kind::Sweep, 1, 2, Note::Ok),
+        Row::Makes(0, Kind::Mark, 1, 258, Note::Ok),
+        Row::Makes(0, Kind::Child, 2, 0, Note::Free),
+        Row::Makes(0, Kind::Child, 3, 7, Note::Used),
+        Row::Makes(1, Kind::Raise, 1, 262, Note::Held),
+        Row::Makes(0, Kind::Clear, 1, 262, Note::Lost),
+        Row::Takes(0, 6),
+        Row::Makes(0, Kind::Look, 6, 0, Note::Free),
+        Row::Makes(0, Kind::Claim, 6, 7, Note::Climb),
+        Row::Makes(0, Kind::Sweep, 3, 7, Note::Ok),
+        Row::Makes(0, Kind::Raise, 3, 7, Note::Under),
+        Row::Makes(0, Kind::Zero, 6, 0, Note::Climb),
+        Row::Makes(0, Kind::Unmark, 3, 7, Note::Ok),
+        Row::Releases(1),
+        Row::Makes(1, Kind::Zero, 3, 0, Note::Climb),
+        Row::Makes(0, Kind::Mark, 3, 256, Note::Ok),
+        Row::Makes(0, Kind::Child, 6, 0, Note::Free),
+        Row::Makes(0, Kind::Child, 7, 0, Note::Free),
+        Row::Makes(0, Kind::Clear, 3, 0, Note::Climb),
+        Row::Makes(1, Kind::Unmark, 1, 6, Note::Ok),
+        Row::Makes(1, Kind::Mark, 1, 518, Note::Ok),
+        Row::Makes(0, Kind::Unmark, 1, 6, Note::Ok),
+        Row::Makes(0, Kind::Mark, 1, 262, Note::Ok),
+        Row::Makes(0, Kind::Child, 2, 0, Note::Free),
+        Row::Makes(0, Kind::Child, 3, 0, Note::Free),
+        Row::Makes(0, Kind::Clear, 1, 0, Note::Done),
+        Row::Makes(1, Kind::Child, 2, 0, Note::Free),
+        Row::Makes(1, Kind::Child, 3, 0, Note::Free),
+        Row::Makes(1, Kind::Clear, 1, 0, Note::Lost),
+    ];
+    assert!(rt; follows(&mut world, &rows));
+    assert_eq!(rt; world.word(1), 0);
+    assert_eq!(rt; world.word(2), 0);
+    assert_eq!(rt; world.word(3), 0);
     Ok(())
 }
 
@@ -414,85 +229,23 @@ fn unmark_takes_all_marks(rt: HostRuntime) -> Result<(), Fail> {
 #[test]
 fn release_goes_on_after_its_zero(rt: HostRuntime) -> Result<(), Fail> {
     let mut world = World::new(rt.alloc(), 1, 1)?;
-    assert!(rt; takes(&mut world, 0, 2));
-    assert!(rt;
-        plays(
-            &mut world,
-            0,
-            &[
-                (Kind::Look, 2, 0, Note::Free),
-                (Kind::Claim, 2, 7, Note::Climb),
-                (Kind::Sweep, 1, 0, Note::Ok),
-                (Kind::Raise, 1, 2, Note::Held),
-            ]
-        )
-    );
-    assert!(rt; releases(&mut world, 0));
-    assert!(rt;
-        plays(
-            &mut world,
-            0,
-            &[
-                (Kind::Zero, 2, 0, Note::Climb),
-                (Kind::Unmark, 1, 2, Note::Ok),
-                (Kind::Mark, 1, 258, Note::Ok),
-                (Kind::Child, 2, 0, Note::Free),
-                (Kind::Child, 3, 0, Note::Free),
-                (Kind::Clear, 1, 0, Note::Done),
-            ]
-        )
-    );
-    Ok(())
-}
-
-// The node's word is no longer the marked one: the Clear leaves it alone.
-#[test]
-fn clear_compares_with_the_marked_word(rt: HostRuntime) -> Result<(), Fail> {
-    let mut world = World::new(rt.alloc(), 1, 2)?;
-    assert!(rt; takes(&mut world, 0, 2));
-    assert!(rt;
-        plays(
-            &mut world,
-            0,
-            &[
-                (Kind::Look, 2, 0, Note::Free),
-                (Kind::Claim, 2, 7, Note::Climb),
-                (Kind::Sweep, 1, 0, Note::Ok),
-                (Kind::Raise, 1, 2, Note::Held),
-            ]
-        )
-    );
-    assert!(rt; releases(&mut world, 0));
-    assert!(rt;
-        plays(
-            &mut world,
-            0,
-            &[
-                (Kind::Zero, 2, 0, Note::Climb),
-                (Kind::Unmark, 1, 2, Note::Ok),
-                (Kind::Mark, 1, 258, Note::Ok),
-                (Kind::Child, 2, 0, Note::Free),
-                (Kind::Child, 3, 0, Note::Free),
-            ]
-        )
-    );
-    assert!(rt; takes(&mut world, 1, 2));
-    assert!(rt;
-        plays(
-            &mut world,
-            1,
-            &[
-                (Kind::Look, 2, 0, Note::Free),
-                (Kind::Claim, 2, 7, Note::Climb),
-                (Kind::Sweep, 1, 2, Note::Ok),
-                (Kind::Raise, 1, 2, Note::Held),
-            ]
-        )
-    );
-    assert!(rt; plays(&mut world, 0, &[(Kind::Clear, 1, 2, Note::Lost),]));
-    assert!(rt; takes(&mut world, 0, 1));
-    assert!(rt; plays(&mut world, 0, &[(Kind::Look, 1, 2, Note::InUse),]));
-    assert_eq!(rt; world.step(0), Err(Refused::Resting));
+    let rows = [
+        Row::Takes(0, 2),
+        Row::Makes(0, Kind::Look, 2, 0, Note::Free),
+        Row::Makes(0, Kind::Claim, 2, 7, Note::Climb),
+        Row::Makes(0, Kind::Sweep, 1, 0, Note::Ok),
+        Row::Makes(0, Kind::Raise, 1, 2, Note::Held),
+        Row::Releases(0),
+        Row::Makes(0, Kind::Zero, 2, 0, Note::Climb),
+        Row::Makes(0, Kind::Unmark, 1, 2, Note::Ok),
+        Row::Makes(0, Kind::Mark, 1, 258, Note::Ok),
+        Row::Makes(0, Kind::Child, 2, 0, Note::Free),
+        Row::Makes(0, Kind::Child, 3, 0, Note::Free),
+        Row::Makes(0, Kind::Clear, 1, 0, Note::Done),
+    ];
+    assert!(rt; follows(&mut world, &rows));
+    assert_eq!(rt; world.word(1), 0);
+    assert_eq!(rt; world.word(2), 0);
     Ok(())
 }
 
@@ -500,15 +253,18 @@ fn clear_compares_with_the_marked_word(rt: HostRuntime) -> Result<(), Fail> {
 #[test]
 fn lost_claim_is_not_made_again(rt: HostRuntime) -> Result<(), Fail> {
     let mut world = World::new(rt.alloc(), 0, 2)?;
-    assert!(rt; takes(&mut world, 0, 1));
-    assert!(rt; plays(&mut world, 0, &[(Kind::Look, 1, 0, Note::Free),]));
-    assert!(rt; takes(&mut world, 1, 1));
-    assert!(rt; plays(&mut world, 1, &[(Kind::Look, 1, 0, Note::Free),]));
-    assert!(rt; plays(&mut world, 0, &[(Kind::Claim, 1, 7, Note::Held),]));
-    assert!(rt; releases(&mut world, 0));
-    assert!(rt; plays(&mut world, 1, &[(Kind::Claim, 1, 7, Note::Lost),]));
-    assert!(rt; plays(&mut world, 0, &[(Kind::Zero, 1, 0, Note::Done),]));
-    assert_eq!(rt; world.step(1), Err(Refused::Resting));
+    let rows = [
+        Row::Takes(0, 1),
+        Row::Makes(0, Kind::Look, 1, 0, Note::Free),
+        Row::Takes(1, 1),
+        Row::Makes(1, Kind::Look, 1, 0, Note::Free),
+        Row::Makes(0, Kind::Claim, 1, 7, Note::Held),
+        Row::Releases(0),
+        Row::Makes(1, Kind::Claim, 1, 7, Note::Lost),
+        Row::Makes(0, Kind::Zero, 1, 0, Note::Done),
+        Row::Rests(1),
+    ];
+    assert!(rt; follows(&mut world, &rows));
     Ok(())
 }
 
@@ -516,46 +272,25 @@ fn lost_claim_is_not_made_again(rt: HostRuntime) -> Result<(), Fail> {
 #[test]
 fn lost_clear_is_not_made_again(rt: HostRuntime) -> Result<(), Fail> {
     let mut world = World::new(rt.alloc(), 1, 2)?;
-    assert!(rt; takes(&mut world, 0, 2));
-    assert!(rt;
-        plays(
-            &mut world,
-            0,
-            &[
-                (Kind::Look, 2, 0, Note::Free),
-                (Kind::Claim, 2, 7, Note::Climb),
-                (Kind::Sweep, 1, 0, Note::Ok),
-                (Kind::Raise, 1, 2, Note::Held),
-            ]
-        )
-    );
-    assert!(rt; releases(&mut world, 0));
-    assert!(rt;
-        plays(
-            &mut world,
-            0,
-            &[
-                (Kind::Zero, 2, 0, Note::Climb),
-                (Kind::Unmark, 1, 2, Note::Ok),
-                (Kind::Mark, 1, 258, Note::Ok),
-                (Kind::Child, 2, 0, Note::Free),
-                (Kind::Child, 3, 0, Note::Free),
-            ]
-        )
-    );
-    assert!(rt; takes(&mut world, 1, 2));
-    assert!(rt;
-        plays(
-            &mut world,
-            1,
-            &[
-                (Kind::Look, 2, 0, Note::Free),
-                (Kind::Claim, 2, 7, Note::Climb),
-                (Kind::Sweep, 1, 2, Note::Ok),
-            ]
-        )
-    );
-    assert!(rt; plays(&mut world, 0, &[(Kind::Clear, 1, 2, Note::Lost),]));
-    assert_eq!(rt; world.step(0), Err(Refused::Resting));
+    let rows = [
+        Row::Takes(0, 2),
+        Row::Makes(0, Kind::Look, 2, 0, Note::Free),
+        Row::Makes(0, Kind::Claim, 2, 7, Note::Climb),
+        Row::Makes(0, Kind::Sweep, 1, 0, Note::Ok),
+        Row::Makes(0, Kind::Raise, 1, 2, Note::Held),
+        Row::Releases(0),
+        Row::Makes(0, Kind::Zero, 2, 0, Note::Climb),
+        Row::Makes(0, Kind::Unmark, 1, 2, Note::Ok),
+        Row::Makes(0, Kind::Mark, 1, 258, Note::Ok),
+        Row::Makes(0, Kind::Child, 2, 0, Note::Free),
+        Row::Makes(0, Kind::Child, 3, 0, Note::Free),
+        Row::Takes(1, 2),
+        Row::Makes(1, Kind::Look, 2, 0, Note::Free),
+        Row::Makes(1, Kind::Claim, 2, 7, Note::Climb),
+        Row::Makes(1, Kind::Sweep, 1, 2, Note::Ok),
+        Row::Makes(0, Kind::Clear, 1, 2, Note::Lost),
+        Row::Rests(0),
+    ];
+    assert!(rt; follows(&mut world, &rows));
     Ok(())
 }
