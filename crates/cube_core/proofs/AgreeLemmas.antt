@@ -12,7 +12,7 @@ use Rattle.cube_core.specs.declared.phase.Phase.{Phase}
 use Rattle.cube_core.specs.declared.phase.Phase.TheVariants.{Idle, Looking, Looked, Climbing, Swept, Holding, Arriving, Unmarked, Marked}
 use Rattle.cube_core.specs.Phase.{side_of, owned, stop, is_seen_free, marked_at, marked_word, saw, HasPassed}
 use Rattle.cube_core.specs.Event.{cleared_as_seen}
-use Rattle.cube_core.proofs.WordFacts.{with_mark-use}
+use Rattle.cube_core.proofs.BitLemmas.{with_mark-use}
 use Rattle.cube_core.proofs.ChangeLemmas.{Fit, Agrees, Change, quiet, claimed, raised, zeroed, cleared_kept, with_side-occupied}
 use Rattle.cube_core.proofs.MoveLemmas.{Move, begins_take, begins_release, retires, looks_free, looks_used, claims, claims_lost, sweeps, raises, raises_under, zeroes, zeroes_back, unmarks, marks, marks_stop, looks_left, looks_right, clears, clears_lost}
 use Rattle.cube_core.proofs.ShutLemmas.{Shut, passed_swept}

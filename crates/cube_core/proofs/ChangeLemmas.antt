@@ -8,7 +8,7 @@ use Rattle.cube_shape.specs.Node.{OnPath, IsInCube, child_towards}
 use Rattle.cube_shape.proofs.PathLemmas.{OnPath-le, OnPath-zero, OnPath-jump, OnPath-one_child, child_towards_is}
 use Rattle.status_word.specs.Word.{side_place, IsSet, IsOccupied, HasSide, IsFree, with_side}
 use Rattle.status_word.proofs.WordLemmas.{IsOccupied-in_use, HasSide-in_use, with_side-has, with_side-keeps, with_side-others}
-use Rattle.cube_core.proofs.WordFacts.{side_place-low}
+use Rattle.cube_core.proofs.BitLemmas.{side_place-low}
 use Rattle.cube_core.specs.declared.phase.Phase.{Phase}
 use Rattle.cube_core.specs.declared.phase.Phase.TheVariants.{Idle, Looking, Looked, Climbing, Swept, Holding, Leaving, Backing, Arriving, Unmarked, Marked, Retired}
 use Rattle.cube_core.specs.Phase.{side_of, owned, stop, HasPassed}

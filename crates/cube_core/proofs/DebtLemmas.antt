@@ -11,7 +11,7 @@ use Rattle.cube_core.specs.declared.phase.Phase.{Phase}
 use Rattle.cube_core.specs.declared.phase.Phase.TheVariants.{Idle, Looking, Looked, Climbing, Swept, Holding, Leaving, Backing, Arriving, Unmarked, Marked, Retired}
 use Rattle.cube_core.specs.Phase.{side_of, owned, stop, marked_at, marked_word, is_seen_free, Owes}
 use Rattle.cube_core.specs.Event.{cleared_as_seen}
-use Rattle.cube_core.proofs.WordFacts.{IsInUse-use_of, IsInUse-more, IsInUse-with_mark, IsInUse-with_side, cleared-had, cleared-none, with_mark-use}
+use Rattle.cube_core.proofs.BitLemmas.{IsInUse-use_of, IsInUse-more, IsInUse-with_mark, IsInUse-with_side, cleared-had, cleared-none, with_mark-use}
 use Rattle.cube_core.proofs.ChangeLemmas.{Agrees, Change, each_word}
 use Rattle.cube_core.proofs.MoveLemmas.{Move, begins_take, begins_release, retires, looks_free, looks_used, claims, claims_lost, sweeps, raises, raises_under, zeroes, zeroes_back, unmarks, marks, marks_stop, looks_left, looks_right, clears, clears_lost}
 use Rattle.cube_core.proofs.ShutLemmas.{used_on_path}

@@ -1,4 +1,4 @@
-mod WordFacts
+mod BitLemmas
 mod ChangeLemmas
 mod LevelLemmas
 mod MoveLemmas

@@ -14,7 +14,7 @@ use Rattle.cube_core.specs.declared.phase.Phase.{Phase}
 use Rattle.cube_core.specs.declared.phase.Phase.TheVariants.{Idle, Looking, Looked, Climbing, Swept, Holding, Leaving, Backing, Arriving, Unmarked, Marked, Retired}
 use Rattle.cube_core.specs.Phase.{side_of, owned, stop, swept_from, marked_at, marked_word, saw, is_seen_free, IsMarkedAt, HasPassed, HasSwept}
 use Rattle.cube_core.specs.Event.{busy}
-use Rattle.cube_core.proofs.WordFacts.{with_side-marks, with_mark-other}
+use Rattle.cube_core.proofs.BitLemmas.{with_side-marks, with_mark-other}
 use Rattle.cube_core.proofs.ChangeLemmas.{Agrees, Change, each, each_word}
 use Rattle.cube_core.proofs.MoveLemmas.{Move, Tells, begins_take, begins_release, retires, looks_free, looks_used, claims, claims_lost, sweeps, raises, raises_under, zeroes, zeroes_back, unmarks, marks, marks_stop, looks_left, looks_right, clears, clears_lost}
 

@@ -121,14 +121,17 @@ pub fn collective(kind: &[u8], op: &[u8]) -> Result<Collective, What>
 }
 
 /// The items of a field: numbers with one space between two, or nothing at all.
+///
+/// The room for them doubles as they come. Numbers of items that a job may have are powers of two, so
+/// little of it is left over.
+#[inline(never)]
 pub fn items(alloc: Global, field: &[u8]) -> Result<Vec<u64>, What>
     ensures { Tells (λ items. items.items) (items_of field.now) result }
 {
     if field.is_empty() {
         return Ok(Vec::new(alloc));
     }
-    let spaces = field.iter().filter(|byte| **byte == b' ').count();
-    let Ok(mut items) = Vec::with_capacity(alloc, spaces + 1) else {
+    let Ok(mut items) = Vec::with_capacity(alloc, 1) else {
         return Err(What::OutOfMemory);
     };
     for piece in field.split(|byte| *byte == b' ') {

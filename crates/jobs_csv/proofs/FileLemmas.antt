@@ -1,0 +1,177 @@
+-- What the rows that were read so far say of the whole file.
+use Rattle.std.proofs.Common.{◌≡◌, ℕ, ◌+◌, ◌≤◌, Bool, true, false, nat_lt, List, [], ◌∷◌, ◌++◌, length, Vec, Option, Some, None, IfSome, Result, Ok, Err, if◌then◌else◌, refl, sym, ap, ◌∙◌, append-nil, append_assoc, arith}
+use Rattle.std.specs.Global.{Global}
+use Rattle.std.proofs.lemmas.List.{length_push}
+use Rattle.std.proofs.lemmas.Bool.{false≢true}
+use Rattle.std.proofs.lemmas.Bool.Decides.{nat_tests}
+use Rattle.csv.specs.declared.reader.Reader.{Reader}
+use Rattle.csv.specs.Reading.{reader_state, strip_bom}
+use Rattle.jobs_csv.specs.declared.fault.Fault.{Fault}
+use Rattle.jobs_csv.specs.declared.fault.What.{What}
+use Rattle.jobs_csv.specs.declared.fault.What.TheVariants as what
+use Rattle.jobs_csv.specs.declared.input.TheConstants.{MAX_RECORDS}
+use Rattle.jobs_csv.specs.Fault.{is_refusal}
+use Rattle.jobs_csv.specs.Outcome.{IsTold, TellsFile, ◌>>=◌}
+use Rattle.jobs_csv.specs.Files.{Record, at_row, file_of, numbered_row, records_of, rows_from, said}
+use Rattle.jobs_csv.specs.Input.{AreAll, HasGiven}
+use Rattle.jobs_csv.proofs.CsvRecords.{first_records, whole_records}
+
+-- what a format says of a header, and of any other record
+abbrev Headers : Type 0
+Headers = Record → Result (Unit {0}) What
+
+abbrev Rows : Type 0 → Type 0
+Rows Row = Record → Result Row What
+
+-- rows in front of those that are said
+abbrev pub with_front : {Row : Type 0} → List Row → Result (List Row) Fault → Result (List Row) Fault
+with_front rows (Ok more) = Ok (rows ++ more)
+with_front rows (Err fault) = Err fault
+
+-- the first records say these rows, whatever comes behind them
+pub record Passes {Row : Type 0} (row_of : Record → Result Row What) (front : List Record) (rows : List Row) : Type 0 where
+  pub all : (rest : List Record) → rows_from row_of 1 (front ++ rest) ≡ with_front rows (rows_from row_of (length front + 1) rest)
+
+-- a reader has given a good header and then records that say these rows; the next record has this number
+pub record HasRead {R Row : Type 0} (header_of : Record → Result (Unit {0}) What) (row_of : Record → Result Row What) (rem : R → Option (List ℕ)) (bytes : Option (List ℕ)) (number : ℕ) (rows : List Row) (reader : Reader R) : Type 0 where
+  pub header : Record
+  pub front : List Record
+  pub given : HasGiven rem bytes (header ∷ front) reader
+  pub count : length front + 1 ≡ number
+  pub good : header_of header ≡ Ok tt
+  pub passes : Passes row_of front rows
+
+-- no record has been read
+pub none_pass : {Row : Type 0} (row_of : Rows Row) → Passes row_of [] []
+none_pass {Row} row_of = record { all = λ rest. sym (in_front (rows_from row_of 1 rest)) }
+  where
+    in_front : (answer : Result (List Row) Fault) → with_front [] answer ≡ answer
+    in_front (Ok rows) = refl
+    in_front (Err fault) = refl
+
+-- what a refusal that is told says
+pub refusal_told : {A : Type 0} (answer : Result A What) (w : What) → is_refusal w ≡ true → IsTold answer w → answer ≡ Err w
+refusal_told answer what.Fields is told = told
+refusal_told answer what.Number is told = told
+refusal_told answer what.Word is told = told
+refusal_told answer (what.Job reason) is told = told
+refusal_told answer what.Read is told = absurd told
+refusal_told answer what.Write is told = absurd told
+refusal_told answer what.OutOfMemory is told = absurd (false≢true is)
+refusal_told answer what.TooMany is told = told
+refusal_told answer what.Spent is told = absurd told
+
+-- a file of no record
+pub no_record : {Row : Type 0} (header_of : Headers) (row_of : Rows Row) (bytes : Option (List ℕ)) → AreAll bytes [] → IfSome bytes (λ b. TellsFile (said header_of row_of b) (Err (record { row = 0; what = what.Fields })))
+unfolding file_of
+no_record header_of row_of None all = tt
+no_record header_of row_of (Some bytes) all = λ _. ap (file_of header_of row_of) (whole_records (strip_bom bytes) [] all)
+
+-- the records that were given are the first of the file
+given_first : {R : Type 0} (rem : R → Option (List ℕ)) (bytes : List ℕ) (records : List Record) (reader : Reader R) → HasGiven rem (Some bytes) records reader → (more : List Record) × (records_of bytes ≡ records ++ more)
+given_first rem bytes records reader given = first_records (strip_bom bytes) records (reader_state reader) given.0 given.2
+
+-- a header that is refused
+pub bad_header : {R Row : Type 0} (header_of : Headers) (row_of : Rows Row) (rem : R → Option (List ℕ)) (bytes : Option (List ℕ)) (header : Record) (w : What) (reader : Reader R) → HasGiven rem bytes (header ∷ []) reader → IsTold (header_of header) w → IfSome bytes (λ b. TellsFile (said header_of row_of b) (Err (record { row = 0; what = w })))
+unfolding file_of
+bad_header header_of row_of rem None header w reader given told = tt
+bad_header header_of row_of rem (Some bytes) header w reader given told = λ is.
+    let all = given_first rem bytes (header ∷ []) reader given in
+    ap (file_of header_of row_of) all.1 ∙ ap (λ (h : Result (Unit {0}) What). at_row 0 h >>= (λ _. rows_from row_of 1 all.0)) (refusal_told (header_of header) w is told)
+
+-- the rows of a file with a good header
+file_rows : {Row : Type 0} (header_of : Headers) (row_of : Rows Row) (header : Record) (records : List Record) → header_of header ≡ Ok tt → file_of header_of row_of (header ∷ records) ≡ rows_from row_of 1 records
+unfolding file_of
+file_rows header_of row_of header records good = ap (λ (h : Result (Unit {0}) What). at_row 0 h >>= (λ _. rows_from row_of 1 records)) good
+
+no_more_rows : {Row : Type 0} (row_of : Rows Row) (number : ℕ) → rows_from row_of number [] ≡ Ok []
+unfolding rows_from
+no_more_rows row_of number = refl
+
+first_fault : {Row : Type 0} (row_of : Rows Row) (number : ℕ) (fields : Record) (records : List Record) (fault : Fault) → numbered_row row_of number fields ≡ Err fault → rows_from row_of number (fields ∷ records) ≡ Err fault
+unfolding rows_from
+first_fault {Row} row_of number fields records fault e = ap (λ (r : Result Row Fault). r >>= (λ row. rows_from row_of (number + 1) records >>= (λ rows. Ok (row ∷ rows)))) e
+
+behind_row : {Row : Type 0} (row : Row) (rest : Result (List Row) Fault) → (rest >>= (λ rows. Ok (row ∷ rows))) ≡ with_front (row ∷ []) rest
+behind_row row (Ok rows) = refl
+behind_row row (Err fault) = refl
+
+first_row : {Row : Type 0} (row_of : Rows Row) (number : ℕ) (fields : Record) (records : List Record) (row : Row) → numbered_row row_of number fields ≡ Ok row → rows_from row_of number (fields ∷ records) ≡ with_front (row ∷ []) (rows_from row_of (number + 1) records)
+unfolding rows_from
+first_row {Row} row_of number fields records row e = ap (λ (r : Result Row Fault). r >>= (λ row. rows_from row_of (number + 1) records >>= (λ rows. Ok (row ∷ rows)))) e ∙ behind_row row (rows_from row_of (number + 1) records)
+
+both_fronts : {Row : Type 0} (rows : List Row) (row : Row) (rest : Result (List Row) Fault) → with_front rows (with_front (row ∷ []) rest) ≡ with_front (rows ++ row ∷ []) rest
+both_fronts rows row (Ok more) = ap Ok (sym (append_assoc rows (row ∷ []) more))
+both_fronts rows row (Err fault) = refl
+
+-- a record of those that a file may have
+in_range : {Row : Type 0} (row_of : Rows Row) (number : ℕ) (fields : Record) → number ≤ MAX_RECORDS → numbered_row row_of number fields ≡ at_row number (row_of fields)
+in_range row_of number fields within =
+    let inside : nat_lt MAX_RECORDS number ≡ false = grind (arith, nat_tests) in
+    ap (λ (over : Bool). if over then Err (record { row = number; what = what.TooMany }) else at_row number (row_of fields)) inside
+
+-- the end of the file
+pub whole_file : {R Row : Type 0} (header_of : Headers) (row_of : Rows Row) (rem : R → Option (List ℕ)) (bytes : Option (List ℕ)) (number : ℕ) (rows : Vec Row Global) (reader : Reader R) → (k : HasRead header_of row_of rem bytes number rows.items reader) → AreAll bytes (k.header ∷ k.front) → IfSome bytes (λ b. TellsFile (said header_of row_of b) (Ok rows))
+whole_file header_of row_of rem None number rows reader k all = tt
+whole_file header_of row_of rem (Some bytes) number rows reader k all =
+    ap (file_of header_of row_of) (whole_records (strip_bom bytes) (k.header ∷ k.front) all)
+    ∙ file_rows header_of row_of k.header k.front k.good
+    ∙ ap (rows_from row_of 1) (sym (append-nil k.front))
+    ∙ k.passes.all []
+    ∙ ap (with_front rows.items) (no_more_rows row_of (length k.front + 1))
+    ∙ ap Ok (append-nil rows.items)
+
+-- what the file says from the next record on
+from_next : {R Row : Type 0} (header_of : Headers) (row_of : Rows Row) (rem : R → Option (List ℕ)) (bytes : List ℕ) (number : ℕ) (rows : List Row) (reader next : Reader R) (fields : Record) → (k : HasRead header_of row_of rem (Some bytes) number rows reader) → HasGiven rem (Some bytes) ((k.header ∷ k.front) ++ fields ∷ []) next → (more : List Record) × (said header_of row_of bytes ≡ with_front rows (rows_from row_of number (fields ∷ more)))
+from_next header_of row_of rem bytes number rows reader next fields k given =
+    let all = given_first rem bytes ((k.header ∷ k.front) ++ fields ∷ []) next given in (
+      all.0,
+      ap (file_of header_of row_of) all.1
+          ∙ file_rows header_of row_of k.header ((k.front ++ fields ∷ []) ++ all.0) k.good
+          ∙ ap (rows_from row_of 1) (append_assoc k.front (fields ∷ []) all.0)
+          ∙ k.passes.all (fields ∷ all.0)
+          ∙ ap (λ (n : ℕ). with_front rows (rows_from row_of n (fields ∷ all.0))) k.count,
+    )
+
+-- a record with a fault
+bad_record : {R Row : Type 0} (header_of : Headers) (row_of : Rows Row) (rem : R → Option (List ℕ)) (bytes : List ℕ) (number : ℕ) (rows : List Row) (reader next : Reader R) (fields : Record) (fault : Fault) → (k : HasRead header_of row_of rem (Some bytes) number rows reader) → HasGiven rem (Some bytes) ((k.header ∷ k.front) ++ fields ∷ []) next → numbered_row row_of number fields ≡ Err fault → said header_of row_of bytes ≡ Err fault
+bad_record header_of row_of rem bytes number rows reader next fields fault k given e =
+    let rest = from_next header_of row_of rem bytes number rows reader next fields k given in
+    rest.1 ∙ ap (with_front rows) (first_fault row_of number fields rest.0 fault e)
+
+-- a record whose fields are refused
+pub bad_row : {R Row : Type 0} (header_of : Headers) (row_of : Rows Row) (rem : R → Option (List ℕ)) (bytes : Option (List ℕ)) (number : ℕ) (rows : List Row) (reader next : Reader R) (fields : Record) (w : What) → (k : HasRead header_of row_of rem bytes number rows reader) → HasGiven rem bytes ((k.header ∷ k.front) ++ fields ∷ []) next → number ≤ MAX_RECORDS → IsTold (row_of fields) w → IfSome bytes (λ b. TellsFile (said header_of row_of b) (Err (record { row = (if is_refusal w then number else 0); what = w })))
+bad_row header_of row_of rem None number rows reader next fields w k given within told = tt
+bad_row header_of row_of rem (Some bytes) number rows reader next fields w k given within told = λ is.
+    rw is (bad_record header_of row_of rem bytes number rows reader next fields (record { row = number; what = w }) k given (in_range row_of number fields within ∙ ap (at_row number) (refusal_told (row_of fields) w is told)))
+
+-- one record more than a file may have
+pub too_many : {R Row : Type 0} (header_of : Headers) (row_of : Rows Row) (rem : R → Option (List ℕ)) (bytes : Option (List ℕ)) (number : ℕ) (rows : List Row) (reader next : Reader R) (fields : Record) → (k : HasRead header_of row_of rem bytes number rows reader) → HasGiven rem bytes ((k.header ∷ k.front) ++ fields ∷ []) next → number ≡ MAX_RECORDS + 1 → IfSome bytes (λ b. TellsFile (said header_of row_of b) (Err (record { row = MAX_RECORDS + 1; what = what.TooMany })))
+too_many header_of row_of rem None number rows reader next fields k given past = tt
+too_many header_of row_of rem (Some bytes) number rows reader next fields k given past = λ is.
+    bad_record header_of row_of rem bytes number rows reader next fields (record { row = MAX_RECORDS + 1; what = what.TooMany }) k given (ap (λ (n : ℕ). numbered_row row_of n fields) past)
+
+-- one row more
+pub one_more_read : {R Row : Type 0} (header_of : Headers) (row_of : Rows Row) (rem : R → Option (List ℕ)) (bytes : Option (List ℕ)) (number : ℕ) (rows : List Row) (reader next : Reader R) (fields : Record) (row : Row) → (k : HasRead header_of row_of rem bytes number rows reader) → HasGiven rem bytes ((k.header ∷ k.front) ++ fields ∷ []) next → number ≤ MAX_RECORDS → row_of fields ≡ Ok row → HasRead header_of row_of rem bytes (number + 1) (rows ++ row ∷ []) next
+one_more_read header_of row_of rem bytes number rows reader next fields row k given within e =
+    let length_more : length (k.front ++ fields ∷ []) ≡ length k.front + 1 = length_push k.front fields in
+    let good : numbered_row row_of (length k.front + 1) fields ≡ Ok row = in_range row_of (length k.front + 1) fields (omega (arith, k.count)) ∙ ap (at_row (length k.front + 1)) e in
+    record {
+      header = k.header;
+      front = k.front ++ fields ∷ [];
+      given = given;
+      count = omega (arith, length_more, k.count);
+      good = k.good;
+      passes = record {
+        all = λ rest.
+            ap (rows_from row_of 1) (append_assoc k.front (fields ∷ []) rest)
+            ∙ k.passes.all (fields ∷ rest)
+            ∙ ap (with_front rows) (first_row row_of (length k.front + 1) fields rest row good)
+            ∙ both_fronts rows row (rows_from row_of (length k.front + 1 + 1) rest)
+            ∙ ap (λ (n : ℕ). with_front (rows ++ row ∷ []) (rows_from row_of (n + 1) rest)) (sym length_more);
+      };
+    }
+
+-- a good header, and no row yet
+pub header_read : {R Row : Type 0} (header_of : Headers) (row_of : Rows Row) (rem : R → Option (List ℕ)) (bytes : Option (List ℕ)) (header : Record) (reader : Reader R) → HasGiven rem bytes (header ∷ []) reader → header_of header ≡ Ok tt → HasRead header_of row_of rem bytes 1 [] reader
+header_read header_of row_of rem bytes header reader given good = record { header = header; front = []; given = given; count = refl; good = good; passes = none_pass row_of }

@@ -1,0 +1,14 @@
+pub mod CsvRecords
+pub mod Given
+pub mod FileLemmas
+pub mod NameLemmas
+pub mod ColumnLemmas
+pub mod CommandLemmas
+pub mod LineLemmas
+pub mod PlainLemmas
+pub mod WrittenLemmas
+pub mod RowLemmas
+pub mod LinesLemmas
+pub mod JobLemmas
+pub mod PlaceTextLemmas
+pub mod SentLemmas

@@ -1,0 +1,7 @@
+use Rattle.std.proofs.Common.{arith}
+use Rattle.csv.specs.Records.{fields_of}
+use Rattle.jobs_csv.proofs.ColumnLemmas.{three}
+use Rattle.jobs_csv.proofs.columns.three_fields.Goals as goal
+
+pub returns-clause-some : goal.returns-clause-some
+returns-clause-some c = three (fields_of c.args.row.now) _ _ _ (omega arith) c.field.ensures c.field-2.ensures c.field-3.ensures

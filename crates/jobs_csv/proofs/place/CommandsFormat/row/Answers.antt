@@ -1,0 +1,6 @@
+use Rattle.csv.specs.Records.{fields_of}
+use Rattle.jobs_csv.proofs.CommandLemmas.{no_command}
+use Rattle.jobs_csv.proofs.place.CommandsFormat.row.Goals as goal
+
+pub returns-in-None-clause-told : goal.returns-in-None-clause-told
+returns-in-None-clause-told c = no_command c.args.self.now.n (fields_of c.args.row.now) c.in-None.ensures.none

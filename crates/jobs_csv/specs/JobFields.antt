@@ -1,0 +1,75 @@
+-- What each field of a job's record says.
+use Rattle.std.specs.Prelude.{ℕ, ◌-◌, ◌==◌, Bool, false, not, List, [], ◌∷◌, codes, Option, Some, None, option_and_then, Result, Ok, Err, if◌then◌else◌}
+use Rattle.std.specs.List.{slice_split}
+use Rattle.std.specs.Str.{bytes_eq}
+use Rattle.job_types.specs.declared.kind.Kind.{Kind}
+use Rattle.job_types.specs.declared.kind.Kind.TheVariants as kind
+use Rattle.job_types.specs.declared.kind.Op.{Op}
+use Rattle.job_types.specs.declared.kind.Op.TheVariants as op
+use Rattle.job_types.specs.declared.job.TheConstants.{MAX_LANES}
+use Rattle.jobs_csv.specs.declared.fault.What.{What}
+use Rattle.jobs_csv.specs.declared.fault.What.TheVariants as what
+use Rattle.jobs_csv.specs.declared.job_fields.Collective.{Collective}
+use Rattle.jobs_csv.specs.declared.job_fields.Collective.TheVariants as collective
+use Rattle.jobs_csv.specs.Fields.{dash_of, number_of, number_within}
+use Rattle.jobs_csv.specs.Outcome.{or_refuse, ◌>>=◌}
+
+-- the lane is a number below MAX_LANES
+abbrev pub lane_of : List ℕ → Result ℕ What
+lane_of field = number_within 0 (MAX_LANES - 1) field
+
+-- the operation
+unfoldable pub op_of : List ℕ → Result Op What
+op_of field =
+    if bytes_eq field (codes "add") then Ok op.Add
+    else if bytes_eq field (codes "min") then Ok op.Min
+    else if bytes_eq field (codes "max") then Ok op.Max
+    else if bytes_eq field (codes "xor") then Ok op.Xor
+    else if bytes_eq field (codes "and") then Ok op.And
+    else if bytes_eq field (codes "or") then Ok op.Or
+    else Err what.Word
+
+-- the collective without its root, which two fields say; a broadcast has no operation
+unfoldable pub collective_of : List ℕ → List ℕ → Result Collective What
+collective_of word join =
+    if bytes_eq word (codes "broadcast") then (do
+      nothing ← dash_of join
+      Ok collective.Broadcast)
+    else if bytes_eq word (codes "reduce") then (do
+      o ← op_of join
+      Ok (collective.Reduce o))
+    else if bytes_eq word (codes "allreduce") then (do
+      o ← op_of join
+      Ok (collective.AllReduce o))
+    else if bytes_eq word (codes "scan") then (do
+      o ← op_of join
+      Ok (collective.Scan o))
+    else Err what.Word
+
+-- the collective with its root, if it has one
+abbrev pub with_root : ℕ → Collective → Kind
+with_root root collective.Broadcast = kind.Broadcast root
+with_root root (collective.Reduce op) = kind.Reduce op root
+with_root root (collective.AllReduce op) = kind.AllReduce op
+with_root root (collective.Scan op) = kind.Scan op
+
+-- a root is given to a collective that has none: another one than 0
+abbrev pub has_spare_root : ℕ → Collective → Bool
+has_spare_root root collective.Broadcast = false
+has_spare_root root (collective.Reduce op) = false
+has_spare_root root (collective.AllReduce op) = not (root == 0)
+has_spare_root root (collective.Scan op) = not (root == 0)
+
+-- the numbers of all pieces, if each has one
+unfoldable pub all_numbers : List (List ℕ) → Option (List ℕ)
+all_numbers [] = Some []
+all_numbers (piece ∷ pieces) = option_and_then (λ x. option_and_then (λ xs. Some (x ∷ xs)) (all_numbers pieces)) (number_of piece)
+
+-- numbers with one space between each two; an empty field has none
+unfoldable pub numbers_of : List ℕ → Option (List ℕ)
+numbers_of [] = Some []
+numbers_of (first ∷ rest) = all_numbers (slice_split (λ byte. byte == 32) (first ∷ rest))
+
+-- the items of a job
+unfoldable pub items_of : List ℕ → Result (List ℕ) What
+items_of field = or_refuse what.Number (numbers_of field)

@@ -1,0 +1,17 @@
+pub mod Device
+pub mod Fault
+pub mod Outcome
+pub mod Files
+pub mod Input
+pub mod Fields
+pub mod Columns
+pub mod Name
+pub mod Place
+pub mod Schedule
+pub mod Text
+pub mod Output
+pub mod PlaceRows
+pub mod ReplayRows
+pub mod JobFields
+pub mod Jobs
+pub mod Replies

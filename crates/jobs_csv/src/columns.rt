@@ -1,0 +1,62 @@
+// The fields of a record, which should be so many.
+ghost use Rattle.std.specs.Prelude.{◌≡◌, ◌≢◌, ◌<◌, ◌&&◌, [], ◌∷◌, length, Some, IfSome, IfNone};
+ghost use Rattle.std.specs.Str.{bytes_eq};
+ghost use Rattle.csv.specs.Records.{field_at, fields_of};
+ghost use Rattle.jobs_csv.specs.Columns.{three_header};
+ghost use Rattle.jobs_csv.specs.Outcome.{Tells};
+
+use crate::fault::What;
+use csv::ByteRecord;
+
+/// The fields of a record that has three.
+#[derive(Drop)]
+pub struct ThreeFields<'a> {
+    pub first: &'a [u8],
+    pub second: &'a [u8],
+    pub third: &'a [u8],
+}
+
+/// The field at a place.
+pub fn field(row: &ByteRecord, place: usize) -> &[u8]
+    requires { place < length (fields_of row.now) }
+    ensures { field_at (fields_of row.now) place ≡ Some result.now }
+{
+    row.get(place).unwrap()
+}
+
+/// The fields of a record, if there are three.
+pub fn three_fields(row: &ByteRecord) -> Option<ThreeFields<'_>>
+    ensures some { IfSome result (λ three. fields_of row.now ≡ three.first.now ∷ three.second.now ∷ three.third.now ∷ []) }
+    ensures none { IfNone result (length (fields_of row.now) ≢ 3) }
+{
+    if row.len() != 3 {
+        return None;
+    }
+    Some(ThreeFields {
+        first: field(row, 0),
+        second: field(row, 1),
+        third: field(row, 2),
+    })
+}
+
+// Whether the fields have these texts.
+fn are_texts(fields: &ThreeFields<'_>, first: &[u8], second: &[u8], third: &[u8]) -> bool
+    ensures { result ≡ (bytes_eq fields.now.first.now first.now && bytes_eq fields.now.second.now second.now && bytes_eq fields.now.third.now third.now) }
+{
+    fields.first == first && fields.second == second && fields.third == third
+}
+
+/// Checks a header of three fields: their number, and then their texts.
+pub fn three_header(row: &ByteRecord, first: &[u8], second: &[u8], third: &[u8]) -> Result<(), What>
+    ensures { Tells (λ good. good) (three_header first.now second.now third.now (fields_of row.now)) result }
+{
+    let fields = match three_fields(row) {
+        Some(fields) => fields,
+        None => return Err(What::Fields),
+    };
+    if are_texts(&fields, first, second, third) {
+        Ok(())
+    } else {
+        Err(What::Word)
+    }
+}

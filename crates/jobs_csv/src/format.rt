@@ -1,0 +1,107 @@
+// Reading a file of any format: the loop over its records, and its first fault.
+ghost use Rattle.std.specs.Prelude.{◌≡◌, ◌⊎◌, ℕ, List, Result, true, All, IfOk, IfErr, IfSome};
+ghost use Rattle.csv.specs.Records.{fields_of};
+ghost use Rattle.jobs_csv.specs.Fault.{IsFailure, IsReadFailure, is_refusal};
+ghost use Rattle.jobs_csv.specs.Files.{Record, said};
+ghost use Rattle.jobs_csv.specs.Outcome.{Tells, TellsFile};
+ghost use Rattle.jobs_csv.specs.declared.fault.What.{What};
+
+use crate::device::Device;
+use crate::fault::{Fault, What};
+use crate::input::{self, MAX_RECORDS};
+use csv::ByteRecord;
+use std::alloc::Global;
+use std::io::Read;
+
+/// A format of files: what their header is, and what the records behind it say.
+pub trait Format {
+    /// What a record says.
+    type Row: Drop;
+
+    // What is said of a header.
+    ghost header_of: { Record → Result (Unit {0}) What };
+
+    // What a record says, or its first fault.
+    ghost row_of: { Self → Record → Result Self.Row What };
+
+    // What is true of each row of a file.
+    ghost is_row: { Self → Self.Row → Type 0 };
+
+    /// Checks the header: the number of its fields, and then their texts.
+    fn header(&self, row: &ByteRecord) -> Result<(), What>
+        ensures { Tells (λ good. good) (header_of (fields_of row.now)) result };
+
+    /// What a record says: the number of its fields is checked, and then the fields from left to
+    /// right.
+    fn row(&self, alloc: Global, row: &ByteRecord) -> Result<Self::Row, What>
+        ensures told { Tells (λ row. row) (row_of self.now (fields_of row.now)) result }
+        ensures good { IfOk result (λ row. is_row self.now row) };
+}
+
+/// Reads the rows of a whole file.
+///
+/// A fault of the input is the first one in it. The others are `Read`, where the reader failed,
+/// and `OutOfMemory`; these have no record.
+pub fn read_records<F: Format, R: Read + Drop>(
+    alloc: Global,
+    format: &F,
+    text: R,
+) -> Result<Vec<F::Row>, Fault>
+    ensures told { IfSome (R.remaining text) (λ bytes. TellsFile (said F.header_of (F.row_of format.now) bytes) result) }
+    ensures good { IfOk result (λ rows. All (λ row. F.is_row format.now row) rows.items) }
+    ensures failed { IfErr result (λ fault. (is_refusal fault.what ≡ true) ⊎ IsReadFailure fault) }
+{
+    let mut reader = input::open(alloc, text);
+    let mut record = ByteRecord::new(alloc);
+    if !input::next_row(&mut reader, &mut record)? {
+        let what = What::Fields;
+        return Err(Fault { row: 0, what });
+    }
+    if let Err(what) = format.header(&record) {
+        return Err(Fault { row: 0, what });
+    }
+    let mut rows = Vec::new(alloc);
+    for number in 1..MAX_RECORDS + 1 {
+        if !input::next_row(&mut reader, &mut record)? {
+            return Ok(rows);
+        }
+        let row = match format.row(alloc, &record) {
+            Ok(row) => row,
+            Err(what) => return Err(input::fault_at(number, what)),
+        };
+        if rows.push(row).is_err() {
+            return Err(input::fault_at(number, What::OutOfMemory));
+        }
+    }
+    if input::next_row(&mut reader, &mut record)? {
+        let row = MAX_RECORDS + 1;
+        let what = What::TooMany;
+        return Err(Fault { row, what });
+    }
+    Ok(rows)
+}
+
+/// Reads the rows of a whole file from a reader that is lent, and blames the reader only where it
+/// has failed.
+pub fn read_file<F: Format, R: Read + Device>(
+    alloc: Global,
+    format: &F,
+    reader: &mut R,
+) -> Result<Vec<F::Row>, Fault>
+    ensures told { IfSome (R.remaining reader.old) (λ bytes. TellsFile (said F.header_of (F.row_of format.now) bytes) result) }
+    ensures good { IfOk result (λ rows. All (λ row. F.is_row format.now row) rows.items) }
+    ensures failed { IfErr result (λ fault. (is_refusal fault.what ≡ true) ⊎ IsFailure What.Read (R.failures reader.old) (R.failures reader.new) fault) }
+{
+    let before = reader.failures();
+    let fault = match read_records(alloc, format, &mut *reader) {
+        Ok(rows) => return Ok(rows),
+        Err(fault) => fault,
+    };
+    if fault.what.is_refusal() {
+        return Err(fault);
+    }
+    if fault.what == What::OutOfMemory {
+        return Err(fault);
+    }
+    Err(Fault::blamed(What::Read, before, reader.failures()))
+}

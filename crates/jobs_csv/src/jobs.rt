@@ -1,0 +1,155 @@
+// Reading a file of jobs.
+ghost use Rattle.std.specs.Prelude.{◌≡◌, ◌≢◌, ◌<◌, ◌≤◌, ◌&&◌, ◌⊎◌, [], ◌∷◌, codes, length, true, All, IfOk, IfErr, IfSome, IfNone};
+ghost use Rattle.std.specs.Str.{bytes_eq};
+ghost use Rattle.csv.specs.Records.{fields_of};
+ghost use Rattle.cube_shape.specs.declared.limits.TheConstants.{MAX_DIM};
+ghost use Rattle.jobs_csv.specs.Fault.{IsFailure, is_refusal};
+ghost use Rattle.jobs_csv.specs.Jobs.{accepted, job_of, jobs_header, jobs_said};
+ghost use Rattle.jobs_csv.specs.Outcome.{Tells, TellsFile};
+
+use crate::device::Device;
+use crate::fault::{Fault, What};
+use crate::format::{self, Format};
+use crate::{columns, fields, job_fields};
+use csv::ByteRecord;
+use cube_shape::MAX_DIM;
+use job_types::{Job, JobRefused, Kind, MAX_LANES};
+use std::alloc::Global;
+use std::io::Read;
+
+// The jobs for a machine of this dimension.
+#[derive(Clone, Copy)]
+struct Jobs {
+    n: u32,
+    ghost limit: { n ≤ MAX_DIM },
+}
+
+// The fields of a record that has as many as it should.
+#[derive(Drop)]
+struct FiveFields<'a> {
+    lane: &'a [u8],
+    kind: &'a [u8],
+    op: &'a [u8],
+    root: &'a [u8],
+    items: &'a [u8],
+}
+
+// The fields of a record, if there are five.
+fn five_fields(row: &ByteRecord) -> Option<FiveFields<'_>>
+    ensures some { IfSome result (λ five. fields_of row.now ≡ five.lane.now ∷ five.kind.now ∷ five.op.now ∷ five.root.now ∷ five.items.now ∷ []) }
+    ensures none { IfNone result (length (fields_of row.now) ≢ 5) }
+{
+    if row.len() != 5 {
+        return None;
+    }
+    Some(FiveFields {
+        lane: columns::field(row, 0),
+        kind: columns::field(row, 1),
+        op: columns::field(row, 2),
+        root: columns::field(row, 3),
+        items: columns::field(row, 4),
+    })
+}
+
+// Whether the fields are those of a header.
+fn is_header(five: &FiveFields<'_>) -> bool
+    ensures { result ≡ (bytes_eq five.now.lane.now (codes "lane") && bytes_eq five.now.kind.now (codes "kind") && bytes_eq five.now.op.now (codes "op") && bytes_eq five.now.root.now (codes "root") && bytes_eq five.now.items.now (codes "items")) }
+{
+    five.lane == b"lane".as_slice()
+        && five.kind == b"kind".as_slice()
+        && five.op == b"op".as_slice()
+        && five.root == b"root".as_slice()
+        && five.items == b"items".as_slice()
+}
+
+// The job that five fields ask for. They are read from left to right, and the first one that is
+// not good is told.
+#[tactic(auto, unfolding(crate::specs::Jobs::job_of))]
+fn read_fields(alloc: Global, n: u32, five: &FiveFields<'_>) -> Result<Job, What>
+    requires { n ≤ MAX_DIM }
+    ensures machine { IfOk result (λ job. job.machine ≡ n) }
+    ensures told { Tells (λ job. job) (job_of n (five.now.lane.now ∷ five.now.kind.now ∷ five.now.op.now ∷ five.now.root.now ∷ five.now.items.now ∷ [])) result }
+{
+    let lane = job_fields::lane(five.lane)?;
+    let collective = job_fields::read_collective(five.kind, five.op)?;
+    let root = fields::any_number(five.root)?;
+    let items = job_fields::items(alloc, five.items)?;
+    let has_spare = collective.has_spare_root(root);
+    accept(alloc, n, lane, collective.with_root(root), items, has_spare)
+}
+
+// The job, unless a rule refuses it. A root that is given to a collective that has none is refused
+// where no rule of every job is broken.
+#[tactic(auto, unfolding(crate::specs::Jobs::accepted))]
+fn accept(
+    alloc: Global,
+    n: u32,
+    lane: u32,
+    kind: Kind,
+    items: Vec<u64>,
+    has_spare: bool,
+) -> Result<Job, What>
+    requires machine { n ≤ MAX_DIM }
+    requires lane { lane < MAX_LANES }
+    ensures machine { IfOk result (λ job. job.machine ≡ n) }
+    ensures told { Tells (λ job. job) (accepted (record { machine = n; lane = lane; kind = kind; items = items.items }) has_spare) result }
+{
+    match Job::new(alloc, n, lane, kind, items) {
+        Ok(job) => {
+            if has_spare {
+                return Err(What::Job(JobRefused::BadRoot));
+            }
+            Ok(job)
+        }
+        Err((_, JobRefused::OutOfMemory)) => {
+            if has_spare {
+                return Err(What::Job(JobRefused::BadRoot));
+            }
+            return Err(What::OutOfMemory);
+        }
+        Err((_, refused)) => return Err(What::Job(refused)),
+    }
+}
+
+impl Format for Jobs {
+    type Row = Job;
+
+    ghost header_of = { jobs_header };
+
+    ghost row_of = { λ jobs. job_of jobs.n };
+
+    ghost is_row = { λ jobs job. job.machine ≡ jobs.n };
+
+    fn header(&self, row: &ByteRecord) -> Result<(), What> {
+        let five = match five_fields(row) {
+            Some(five) => five,
+            None => return Err(What::Fields),
+        };
+        if is_header(&five) {
+            Ok(())
+        } else {
+            Err(What::Word)
+        }
+    }
+
+    fn row(&self, alloc: Global, row: &ByteRecord) -> Result<Job, What> {
+        match five_fields(row) {
+            Some(five) => read_fields(alloc, self.n, &five),
+            None => return Err(What::Fields),
+        }
+    }
+}
+
+/// Reads the jobs of a whole file, for a machine of dimension `n`.
+///
+/// A refusal is the first fault of the file. `Read` comes only where the reader's count of failed
+/// calls rose in this call, or stood at `u64::MAX`; every other want is `OutOfMemory`. At most
+/// `MAX_RECORDS + 1` records behind the header are asked for.
+pub fn read_jobs<R: Read + Device>(alloc: Global, n: u32, reader: &mut R) -> Result<Vec<Job>, Fault>
+    requires { n ≤ MAX_DIM }
+    ensures told { IfSome (R.remaining reader.old) (λ bytes. TellsFile (jobs_said n bytes) result) }
+    ensures machine { IfOk result (λ jobs. All (λ job. job.machine ≡ n) jobs.items) }
+    ensures failed { IfErr result (λ fault. (is_refusal fault.what ≡ true) ⊎ IsFailure What.Read (R.failures reader.old) (R.failures reader.new) fault) }
+{
+    format::read_file(alloc, &Jobs { n }, reader)
+}

@@ -1,0 +1,228 @@
+// Lines on their way to a writer that is lent.
+ghost use Rattle.std.specs.Prelude.{◌≡◌, [], ◌++◌, ℕ, List, IfErr, IfOk, OnOk};
+ghost use Rattle.std.specs.Io.KnownBytes.{Appends, Keeps};
+ghost use Rattle.jobs_csv.specs.Fault.{IsFailure};
+ghost use Rattle.jobs_csv.specs.PlaceRows.{place_columns, place_fields};
+ghost use Rattle.jobs_csv.specs.ReplayRows.{replay_columns, replay_fields};
+ghost use Rattle.jobs_csv.specs.Replies.{reply_columns, reply_fields};
+ghost use Rattle.jobs_csv.specs.Text.{line_of};
+
+use crate::device::Device;
+use crate::fault::{Fault, What};
+use crate::place_rows::{self, PlaceRow};
+use crate::replay_rows::{self, ReplayRow};
+use crate::replies;
+use csv::Writer;
+use job_types::Reply;
+use std::alloc::{AllocError, Global};
+use std::io::Write;
+use std::marker::Model;
+
+// Lines are sent when there are so many bytes of them.
+const BATCH: usize = 65_536;
+
+/// Lines of one file on their way to a writer: they are gathered, and sent many at a time.
+///
+/// A contract sees the text that is gathered and not sent yet. A call that fails for memory takes
+/// the lines with it.
+#[derive(Drop)]
+pub struct Lines {
+    writer: Writer<Vec<u8>>,
+    field: String,
+    alloc: Global,
+}
+
+impl Model for Lines {
+    ghost use Rattle.std.specs.Prelude.{List, ℕ};
+    ghost use Rattle.jobs_csv.specs.Output.{HasText, gathered, items_held};
+
+    ghost Value = { List ℕ };
+
+    ghost view = { λ l. gathered l.writer };
+
+    ghost invariant = { λ l. HasText items_held l.writer (gathered l.writer) };
+}
+
+// Sends all of a text to a writer that had so many failures before.
+fn send<W: Write + Device>(text: &[u8], before: u64, writer: &mut W) -> Result<(), Fault>
+    ensures sent { OnOk result (Appends (W.contents writer.old) (W.contents writer.new) text.now) }
+    ensures failed { IfErr result (λ fault. IsFailure What.Write before (W.failures writer.new) fault) }
+{
+    if writer.write_all(text).is_err() {
+        return Err(Fault::blamed(What::Write, before, writer.failures()));
+    }
+    Ok(())
+}
+
+// Sees to it that what was sent goes out.
+fn flush<W: Write + Device>(before: u64, writer: &mut W) -> Result<(), Fault>
+    ensures kept { OnOk result (Keeps (W.contents writer.old) (W.contents writer.new)) }
+    ensures failed { IfErr result (λ fault. IsFailure What.Write before (W.failures writer.new) fault) }
+{
+    if writer.flush().is_err() {
+        return Err(Fault::blamed(What::Write, before, writer.failures()));
+    }
+    Ok(())
+}
+
+impl Lines {
+    /// No line is gathered yet.
+    pub fn new(alloc: Global) -> Self
+        ensures { result ≡ [] }
+    {
+        Lines {
+            writer: Writer::from_writer(Vec::new(alloc)),
+            field: String::new(alloc),
+            alloc,
+        }
+    }
+
+    /// Gathers the header of the replies.
+    pub fn with_reply_header(self) -> Result<Self, AllocError>
+        ensures { IfOk result (λ lines. lines ≡ self ++ line_of reply_columns) }
+    {
+        let Lines {
+            mut writer,
+            field,
+            alloc,
+        } = self;
+        replies::write_header(&mut writer)?;
+        Ok(Lines {
+            writer,
+            field,
+            alloc,
+        })
+    }
+
+    /// Gathers a reply.
+    pub fn with_reply(self, reply: &Reply) -> Result<Self, AllocError>
+        ensures { IfOk result (λ lines. lines ≡ self ++ line_of (reply_fields reply.now.id reply.now.job)) }
+    {
+        let Lines {
+            mut writer,
+            mut field,
+            alloc,
+        } = self;
+        replies::write_reply(reply, &mut field, &mut writer)?;
+        Ok(Lines {
+            writer,
+            field,
+            alloc,
+        })
+    }
+
+    /// Gathers the header of the answers to commands.
+    pub fn with_place_header(self) -> Result<Self, AllocError>
+        ensures { IfOk result (λ lines. lines ≡ self ++ line_of place_columns) }
+    {
+        let Lines {
+            mut writer,
+            field,
+            alloc,
+        } = self;
+        place_rows::write_header(&mut writer)?;
+        Ok(Lines {
+            writer,
+            field,
+            alloc,
+        })
+    }
+
+    /// Gathers the answer to a command.
+    pub fn with_place_row(self, row: &PlaceRow) -> Result<Self, AllocError>
+        ensures { IfOk result (λ lines. lines ≡ self ++ line_of (place_fields row.now)) }
+    {
+        let Lines {
+            mut writer,
+            mut field,
+            alloc,
+        } = self;
+        place_rows::write_row(row, &mut field, &mut writer)?;
+        Ok(Lines {
+            writer,
+            field,
+            alloc,
+        })
+    }
+
+    /// Gathers the header of what a schedule leads to.
+    pub fn with_replay_header(self) -> Result<Self, AllocError>
+        ensures { IfOk result (λ lines. lines ≡ self ++ line_of replay_columns) }
+    {
+        let Lines {
+            mut writer,
+            field,
+            alloc,
+        } = self;
+        replay_rows::write_header(&mut writer)?;
+        Ok(Lines {
+            writer,
+            field,
+            alloc,
+        })
+    }
+
+    /// Gathers what a schedule led to.
+    pub fn with_replay_row(self, row: &ReplayRow) -> Result<Self, AllocError>
+        ensures { IfOk result (λ lines. lines ≡ self ++ line_of (replay_fields row.now)) }
+    {
+        let Lines {
+            mut writer,
+            mut field,
+            alloc,
+        } = self;
+        replay_rows::write_row(alloc, row, &mut field, &mut writer)?;
+        Ok(Lines {
+            writer,
+            field,
+            alloc,
+        })
+    }
+
+    /// Sends the lines to a writer that had failed so often before, and gathers anew.
+    ///
+    /// `Write` comes only where the writer's count of failed calls is above `before`, or `before`
+    /// is `u64::MAX`; every other want is `OutOfMemory`.
+    pub fn send<W: Write + Device>(self, before: u64, writer: &mut W) -> Result<Self, Fault>
+        ensures sent { OnOk result (Appends (W.contents writer.old) (W.contents writer.new) self) }
+        ensures none { IfOk result (λ lines. lines ≡ []) }
+        ensures failed { IfErr result (λ fault. IsFailure What.Write before (W.failures writer.new) fault) }
+    {
+        let Lines {
+            writer: gathered,
+            field,
+            alloc,
+        } = self;
+        let Ok(mut text) = gathered.into_inner() else {
+            return Err(Fault::no_memory());
+        };
+        send(&text, before, writer)?;
+        text.clear();
+        Ok(Lines {
+            writer: Writer::from_writer(text),
+            field,
+            alloc,
+        })
+    }
+
+    /// Sends the lines, as `send` does, if there are many of them.
+    pub fn send_many<W: Write + Device>(self, before: u64, writer: &mut W) -> Result<Self, Fault>
+        ensures sent { IfOk result (λ lines. (out : List ℕ) × Appends (W.contents writer.old) (W.contents writer.new) out × (out ++ lines ≡ self)) }
+        ensures failed { IfErr result (λ fault. IsFailure What.Write before (W.failures writer.new) fault) }
+    {
+        if self.writer.get_ref().len() >= BATCH {
+            self.send(before, writer)
+        } else {
+            Ok(self)
+        }
+    }
+
+    /// Sends the last lines, as `send` does, and sees to it that all goes out.
+    pub fn finish<W: Write + Device>(self, before: u64, writer: &mut W) -> Result<(), Fault>
+        ensures sent { OnOk result (Appends (W.contents writer.old) (W.contents writer.new) self) }
+        ensures failed { IfErr result (λ fault. IsFailure What.Write before (W.failures writer.new) fault) }
+    {
+        let _none = self.send(before, writer)?;
+        flush(before, writer)
+    }
+}

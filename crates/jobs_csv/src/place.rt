@@ -1,0 +1,132 @@
+// Reading a file of commands: takes and frees of regions under names.
+ghost use Rattle.std.specs.Prelude.{◌≡◌, ◌⊎◌, [], ◌∷◌, ◌≤◌, true, All, IfOk, IfErr, IfSome};
+ghost use Rattle.csv.specs.Records.{fields_of};
+ghost use Rattle.jobs_csv.specs.Fault.{IsFailure, is_refusal};
+ghost use Rattle.jobs_csv.specs.Outcome.{Tells, TellsFile};
+ghost use Rattle.jobs_csv.specs.Place.{Fits, asked, command_of, commands_said, name_of, place_header, verb_of};
+
+use crate::columns::{self, ThreeFields};
+use crate::device::Device;
+use crate::fault::{Fault, What};
+use crate::fields;
+use crate::format::{self, Format};
+use crate::name::Name;
+use csv::ByteRecord;
+use std::alloc::Global;
+use std::io::Read;
+
+/// What a record of a place file asks for.
+#[derive(Clone, Copy, Debug, PartialEq, Eq)]
+pub enum Command {
+    /// A region of dimension `dim`, to be held under a name.
+    Take { name: Name, dim: u32 },
+    /// The region that is held under a name is given back.
+    Free { name: Name },
+}
+
+// The word of a command.
+#[derive(Clone, Copy)]
+enum Verb {
+    Take,
+    Free,
+}
+
+// The commands for a machine of this dimension.
+#[derive(Clone, Copy)]
+struct Commands {
+    n: u32,
+}
+
+// The word in a field.
+#[tactic(auto, unfolding(crate::specs::Place::verb_of))]
+fn read_verb(field: &[u8]) -> Result<Verb, What>
+    ensures { Tells (λ verb. verb) (verb_of field.now) result }
+{
+    if field == b"take".as_slice() {
+        Ok(Verb::Take)
+    } else if field == b"free".as_slice() {
+        Ok(Verb::Free)
+    } else {
+        Err(What::Word)
+    }
+}
+
+// The name in a field.
+#[tactic(auto, unfolding(crate::specs::Place::name_of))]
+fn read_name(field: &[u8]) -> Result<Name, What>
+    ensures { Tells (λ name. name) (name_of field.now) result }
+{
+    Name::new(field).ok_or(What::Word)
+}
+
+// The command of this word, with what its last field says.
+#[tactic(auto, unfolding(crate::specs::Place::asked))]
+fn read_last(n: u32, verb: Verb, name: Name, dim: &[u8]) -> Result<Command, What>
+    ensures told { Tells (λ command. command) (asked n verb name dim.now) result }
+    ensures fits { IfOk result (λ command. Fits n command) }
+{
+    match verb {
+        Verb::Take => {
+            let dim = fields::number_within(dim, 0, u64::from(n))? as u32;
+            return Ok(Command::Take { name, dim });
+        }
+        Verb::Free => {
+            fields::dash(dim)?;
+            return Ok(Command::Free { name });
+        }
+    }
+}
+
+// The command that three fields ask for.
+#[tactic(auto, unfolding(crate::specs::Place::command_of))]
+fn read_fields(n: u32, three: &ThreeFields<'_>) -> Result<Command, What>
+    ensures told { Tells (λ command. command) (command_of n (three.now.first.now ∷ three.now.second.now ∷ three.now.third.now ∷ [])) result }
+    ensures fits { IfOk result (λ command. Fits n command) }
+{
+    let verb = read_verb(three.first)?;
+    let name = read_name(three.second)?;
+    read_last(n, verb, name, three.third)
+}
+
+impl Format for Commands {
+    type Row = Command;
+
+    ghost header_of = { place_header };
+
+    ghost row_of = { λ commands. command_of commands.n };
+
+    ghost is_row = { λ commands. Fits commands.n };
+
+    fn header(&self, row: &ByteRecord) -> Result<(), What> {
+        columns::three_header(
+            row,
+            b"command".as_slice(),
+            b"name".as_slice(),
+            b"dim".as_slice(),
+        )
+    }
+
+    fn row(&self, _alloc: Global, row: &ByteRecord) -> Result<Command, What> {
+        match columns::three_fields(row) {
+            Some(three) => read_fields(self.n, &three),
+            None => return Err(What::Fields),
+        }
+    }
+}
+
+/// Reads the commands of a whole file, for a machine of dimension `n`.
+///
+/// A refusal is the first fault of the file. `Read` comes only where the reader's count of failed
+/// calls rose in this call, or stood at `u64::MAX`; every other want is `OutOfMemory`. At most
+/// `MAX_RECORDS + 1` records behind the header are asked for.
+pub fn read_place<R: Read + Device>(
+    alloc: Global,
+    n: u32,
+    reader: &mut R,
+) -> Result<Vec<Command>, Fault>
+    ensures told { IfSome (R.remaining reader.old) (λ bytes. TellsFile (commands_said n bytes) result) }
+    ensures fits { IfOk result (λ commands. All (λ command. Fits n command) commands.items) }
+    ensures failed { IfErr result (λ fault. (is_refusal fault.what ≡ true) ⊎ IsFailure What.Read (R.failures reader.old) (R.failures reader.new) fault) }
+{
+    format::read_file(alloc, &Commands { n }, reader)
+}
