@@ -1,14 +1,12 @@
 -- Facts that carry over from the jobs of a file to their lines.
 use Rattle.std.proofs.Common.{◌≡◌, ℕ, List, [], ◌∷◌, ◌++◌, All, suc, sym, ap, ◌∙◌, append-nil, append_assoc, arith}
-use Rattle.std.specs.List.{flat_map}
-use Rattle.std.proofs.lemmas.Grind.{flat_map-append}
 use Rattle.std.proofs.lemmas.List.Elements.{All-append, All-push}
 use Rattle.std.proofs.lemmas.List.Sorted.{All-permutation}
 use Rattle.job_types.specs.Job.{JobData}
 use Rattle.job_types.specs.declared.reply.JobId.{JobId}
 use Rattle.jobs_cli.specs.declared.numbering.Numbered.{Numbered}
 use Rattle.jobs_cli.specs.Numbering.{named_after, numbered_after}
-use Rattle.jobs_cli.specs.Replies.{AreInOrder, fields_for, header_fields, line_of, text_of}
+use Rattle.jobs_cli.specs.Replies.{AreInOrder}
 
 -- the jobs keep their machine under their names
 numbered_on : (n : ℕ) (before jobs : List JobData) → All (λ job. job.machine ≡ n) jobs → All (λ entry. entry.job.machine ≡ n) (numbered_after before jobs)
@@ -21,17 +19,6 @@ numbered_on n before (job ∷ jobs) all =
 
 pub ordered_on : (n : ℕ) (jobs : List JobData) (entries : List Numbered) → AreInOrder jobs entries → All (λ job. job.machine ≡ n) jobs → All (λ entry. entry.job.machine ≡ n) entries
 ordered_on n jobs entries order all = All-permutation (λ (entry : Numbered). entry.job.machine ≡ n) _ entries order.same (numbered_on n [] jobs all)
-
--- one line more
-pub text_push : (entries : List Numbered) (entry : Numbered) → text_of entries ++ line_of (fields_for entry) ≡ text_of (entries ++ entry ∷ [])
-text_push entries entry =
-    let lines : List Numbered → List ℕ = flat_map (λ (e : Numbered). line_of (fields_for e)) in
-    append_assoc (line_of header_fields) (lines entries) (line_of (fields_for entry))
-    ∙ ap (λ (rest : List ℕ). line_of header_fields ++ rest) (ap (λ (last : List ℕ). lines entries ++ last) (sym (append-nil (line_of (fields_for entry)))) ∙ sym (flat_map-append (λ (e : Numbered). line_of (fields_for e)) entries (entry ∷ [])))
-
--- the header alone
-pub text_none : text_of [] ≡ line_of header_fields
-text_none = append-nil (line_of header_fields)
 
 -- a job with its name, by its parts
 pub same_entry : (id : JobId) (job : JobData) (entry : Numbered) → id ≡ entry.id → job ≡ entry.job → (let made : Numbered = record { id = id; job = job } in made ≡ entry)

@@ -1,10 +1,5 @@
-pub mod CsvRecords
-pub mod RecordFields
 pub mod NumberingLemmas
-pub mod Given
-pub mod JobsRead
-pub mod Lines
-pub mod Places
-pub mod FieldLemmas
-pub mod SentLemmas
 pub mod Answering
+pub mod TurnLemmas
+pub mod StationLemmas
+pub mod ReplayLemmas

@@ -1,11 +1,8 @@
-pub mod Device
-pub mod Fault
-pub mod Outcome
-pub mod Collective
-pub mod Fields
-pub mod Said
 pub mod Numbering
-pub mod Input
 pub mod Replies
-pub mod Output
 pub mod Run
+pub mod InTurn
+pub mod Place
+pub mod Stations
+pub mod Replay
+pub mod CommandLine

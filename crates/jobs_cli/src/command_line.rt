@@ -1,9 +1,10 @@
 // The command line.
 ghost use Rattle.std.specs.Prelude.{◌≤◌, IfOk, IfSome};
+ghost use Rattle.jobs_cli.specs.CommandLine.{IsWithinLimits};
 
 use clap::error::ErrorKind;
 use clap::{Arg, ArgMatches, Command, Error, value_parser};
-use cube_shape::{Dim, MAX_DIM};
+use cube_shape::{Dim, MAX_DIM, MAX_STATIONS};
 use std::alloc::{AllocError, Global};
 
 const ABOUT: &str = "Dispatches jobs to the subcubes of a hypercube machine";
@@ -23,49 +24,149 @@ The output is CSV with the header lane,seq,kind,dim,result,rounds,messages, and 
 job, by lane and in a lane in the order of the file. Its result has a number, or - for nothing, for \
 each rank.";
 
-const AFTER_HELP_RUN: &str = "Exit status:
+const ABOUT_PLACE: &str = "Takes and frees subcubes under names";
+
+const LONG_ABOUT_PLACE: &str =
+    "Reads commands from standard input, takes and frees subcubes of the \
+machine under names, and writes what became of each command to standard output.
+
+The input is CSV with the header command,name,dim. The command take asks for a subcube of dimension \
+dim, from 0 to N, to be held under the name. The command free gives the name's subcube back, and \
+has the dim -. A name has 1 to 16 bytes, each of them a to z or a digit.
+
+The output is CSV with the header command,name,dim,base,outcome, and has a line for each command in \
+the order of the file. A take is given the first aligned subcube that is free, whose processors are \
+base and those behind it. Otherwise it is held, where the name holds a subcube already; or \
+nostation, where 32 names hold one; or nosubcube, where none of its dimension is free. A free is \
+freed, or nothingheld where the name holds nothing.";
+
+const ABOUT_REPLAY: &str = "Plays a schedule of stations, event by event";
+
+const LONG_ABOUT_REPLAY: &str = "Reads a schedule from standard input, plays it on the tree by \
+which stations take and release subcubes with no lock, and writes each event to standard output.
+
+The input is CSV with the header station,call,arg. The call take has a node of the tree as arg, \
+where 1 is the whole machine and the halves of node v are 2v and 2v+1; step has the number of \
+steps, from 1 to 100; release, run and retire have -. A take and a release only begin; each step \
+makes one atomic event, and run makes steps until the station rests.
+
+The output is CSV with the header station,event,node,word,note. An event shows the word that it \
+left at its node: O for occupied, L and R for a side in use, and + with each station that has a mark \
+there. A refused call has the event refused and the reason as note. Lines with the event end \
+follow: one for each node whose word is not 0, and one with the number of these.";
+
+const AFTER_HELP: &str = "Exit status:
   0  done
   1  the input is refused, and nothing is written; standard error names the record
   2  bad command line
   3  the input or output failed, or there was no memory";
 
-// What the program can be asked for.
-fn program<'a>(alloc: Global) -> Result<Command<'a>, AllocError> {
-    let dim = Arg::new(alloc, "dim")
+/// What a command line asks for, on a machine of dimension `n`.
+#[derive(Clone, Copy, Debug, PartialEq, Eq)]
+pub enum Asked {
+    /// A file of jobs is to be answered.
+    Run { n: u32 },
+    /// A file of commands is to be answered.
+    Place { n: u32 },
+    /// A schedule of so many stations is to be played.
+    Replay { n: u32, stations: u32 },
+}
+
+// The option for the dimension of the machine.
+fn dim_option<'a>(alloc: Global) -> Arg<'a> {
+    Arg::new(alloc, "dim")
         .long("dim")
         .value_name("N")
         .help("The dimension of the machine, which has 2^N processors")
         .required(true)
-        .value_parser(value_parser!(u32).range(0..=i64::from(MAX_DIM)));
-    let run = Command::new(alloc, "run")
-        .about(ABOUT_RUN)
-        .long_about(LONG_ABOUT_RUN)
-        .after_help(AFTER_HELP_RUN)
-        .arg(dim)?;
+        .value_parser(value_parser!(u32).range(0..=i64::from(MAX_DIM)))
+}
+
+// The option for the number of stations.
+fn stations_option<'a>(alloc: Global) -> Arg<'a> {
+    Arg::new(alloc, "stations")
+        .long("stations")
+        .value_name("S")
+        .help("The number of stations, which are numbered from 0")
+        .required(true)
+        .value_parser(value_parser!(u32).range(1..=i64::from(MAX_STATIONS)))
+}
+
+// A command on a machine of some dimension.
+fn command<'a>(
+    alloc: Global,
+    name: &'a str,
+    about: &'a str,
+    long_about: &'a str,
+) -> Result<Command<'a>, AllocError> {
+    Command::new(alloc, name)
+        .about(about)
+        .long_about(long_about)
+        .after_help(AFTER_HELP)
+        .arg(dim_option(alloc))
+}
+
+// What the program can be asked for.
+fn program<'a>(alloc: Global) -> Result<Command<'a>, AllocError> {
+    let run = command(alloc, "run", ABOUT_RUN, LONG_ABOUT_RUN)?;
+    let place = command(alloc, "place", ABOUT_PLACE, LONG_ABOUT_PLACE)?;
+    let replay = command(alloc, "replay", ABOUT_REPLAY, LONG_ABOUT_REPLAY)?;
     Command::new(alloc, "cubejobs")
         .about(ABOUT)
         .subcommand_required(true)
-        .subcommand(run)
+        .subcommand(run)?
+        .subcommand(place)?
+        .subcommand(replay.arg(stations_option(alloc))?)
 }
 
-// The dimension that was asked for.
+// The dimension that a command was given.
 fn dim_in(matches: &ArgMatches<'_>) -> Option<u32>
     ensures { IfSome result (λ n. n ≤ MAX_DIM) }
 {
-    let n = matches.subcommand_matches("run")?.get_one::<u32>("dim")?;
+    let n = matches.get_one::<u32>("dim")?;
     if Dim(n).fits(MAX_DIM) { Some(n) } else { None }
 }
 
-/// The dimension of the machine that a command line asks for. Its first word is the program's name.
+// The number of stations that a command was given.
+fn stations_in(matches: &ArgMatches<'_>) -> Option<u32>
+    ensures { IfSome result (λ stations. (1 ≤ stations) × (stations ≤ MAX_STATIONS)) }
+{
+    let stations = matches.get_one::<u32>("stations")?;
+    if stations >= 1 && stations <= MAX_STATIONS {
+        Some(stations)
+    } else {
+        None
+    }
+}
+
+// What was asked for.
+fn asked_in(matches: &ArgMatches<'_>) -> Option<Asked>
+    ensures { IfSome result (λ asked. IsWithinLimits asked) }
+{
+    if let Some(run) = matches.subcommand_matches("run") {
+        let n = dim_in(run)?;
+        return Some(Asked::Run { n });
+    }
+    if let Some(place) = matches.subcommand_matches("place") {
+        let n = dim_in(place)?;
+        return Some(Asked::Place { n });
+    }
+    let replay = matches.subcommand_matches("replay")?;
+    let n = dim_in(replay)?;
+    let stations = stations_in(replay)?;
+    Some(Asked::Replay { n, stations })
+}
+
+/// What a command line asks for. Its first word is the program's name.
 ///
 /// An error is help that was asked for, a bad command line, or want of memory.
-pub fn dim_asked<'a>(alloc: Global, words: &'a [String]) -> Result<u32, Error>
-    ensures { IfOk result (λ n. n ≤ MAX_DIM) }
+pub fn asked_for<'a>(alloc: Global, words: &'a [String]) -> Result<Asked, Error>
+    ensures { IfOk result (λ asked. IsWithinLimits asked) }
 {
     let command: Command<'a> = program(alloc)?;
     let matches = command.try_get_matches_from(words)?;
-    if let Some(n) = dim_in(&matches) {
-        return Ok(n);
+    if let Some(asked) = asked_in(&matches) {
+        return Ok(asked);
     }
     let mut command: Command<'a> = program(alloc)?;
     let error = command.error(ErrorKind::MissingSubcommand, "no command is given")?;

@@ -1,27 +1,28 @@
-//! Runs a file of jobs on a hypercube machine: `cubejobs run --dim N`.
+//! Jobs, regions and schedules of a hypercube machine: `cubejobs run --dim N`,
+//! `cubejobs place --dim N` and `cubejobs replay --dim N --stations S`.
 //!
-//! The jobs come as CSV from standard input, and their replies go as CSV to standard output. The
-//! whole of it is `run::run_on`, over any reader and writer; this file ties it to the process.
+//! The input comes as CSV from standard input, and what answers it goes as CSV to standard output.
+//! The whole of it is `run::run_on`, `place::place_on` and `replay::replay_on`, over any reader and
+//! writer; this file ties them to the process.
 #![tactic(auto)]
 
-mod answers;
-mod collective;
-mod command_line;
-mod device;
-mod fault;
-mod fields;
-mod input;
-mod numbering;
-mod output;
-mod requests;
-mod run;
-mod sending;
+ghost use Rattle.jobs_cli.specs.CommandLine.{IsWithinLimits};
 
-use crate::device::Counted;
-use crate::fault::{Fault, What};
+mod answers;
+mod command_line;
+mod numbering;
+mod place;
+mod play;
+mod replay;
+mod run;
+mod stations;
+
+use crate::command_line::Asked;
 use clap::error::ErrorKind;
+use jobs_csv::{Counted, Device, Fault, What};
 use std::alloc::Global;
 use std::io;
+use std::io::{Read, Write};
 use std::process::ExitCode;
 use std::rt::Env;
 
@@ -60,6 +61,22 @@ fn words<R: Env + AllocGlobal>(rt: &R) -> io::Result<Vec<String>> {
     Ok(words)
 }
 
+// Does what the command line asks for.
+fn answer<R: Read + Device, W: Write + Device>(
+    alloc: Global,
+    asked: Asked,
+    reader: &mut R,
+    writer: &mut W,
+) -> Result<(), Fault>
+    requires { IsWithinLimits asked }
+{
+    match asked {
+        Asked::Run { n } => run::run_on(alloc, n, reader, writer),
+        Asked::Place { n } => place::place_on(alloc, n, reader, writer),
+        Asked::Replay { n, stations } => replay::replay_on(alloc, n, stations, reader, writer),
+    }
+}
+
 fn main(rt: HostRuntime) -> ExitCode {
     let words = match words(&rt) {
         Ok(words) => words,
@@ -69,13 +86,13 @@ fn main(rt: HostRuntime) -> ExitCode {
             return ExitCode::from(2);
         }
     };
-    let n = match command_line::dim_asked(rt.alloc(), &words) {
-        Ok(n) => n,
+    let asked = match command_line::asked_for(rt.alloc(), &words) {
+        Ok(asked) => asked,
         Err(error) => return tell_usage(&rt, &error),
     };
     let mut reader = Counted::new(rt.stdin());
     let mut writer = Counted::new(rt.stdout());
-    match run::run_on(rt.alloc(), n, &mut reader, &mut writer) {
+    match answer(rt.alloc(), asked, &mut reader, &mut writer) {
         Ok(()) => ExitCode::SUCCESS,
         Err(fault) => tell(&rt, fault),
     }

@@ -1,18 +1,18 @@
 // Whole runs: the bytes that go in, and the bytes that come out.
-use crate::collective::Collective;
-use crate::command_line::dim_asked;
-use crate::device::{Counted, Device};
-use crate::fault::{Fault, What};
-use crate::fields;
+use crate::command_line::{Asked, asked_for};
 use crate::run::run_on;
 use clap::error::ErrorKind;
 use cube_shape::MAX_DIM;
-use job_types::{JobRefused, Kind, Op};
+use job_types::JobRefused;
+use jobs_csv::{Counted, Device, Fault, What};
 use std::alloc::Global;
 use std::io;
 use std::io::{Read, Write};
 use std::process::Abort;
 use std::test::Fail;
+
+mod place;
+mod replay;
 
 const JOBS: &[u8] = b"lane,kind,op,root,items\n";
 
@@ -304,6 +304,15 @@ struct FailsAt<D> {
 }
 
 impl<D> FailsAt<D> {
+    // A device that fails at this call, and gives an error there.
+    fn new(device: D, calls: u64) -> Self {
+        FailsAt {
+            device,
+            calls,
+            gives_zero: false,
+        }
+    }
+
     // Whether this call is the one that fails.
     fn fails(&mut self) -> bool {
         let fails = self.calls == 0;
@@ -440,82 +449,19 @@ fn writes_long_files(rt: HostRuntime) -> Result<(), Fail> {
     let what = What::Write;
     assert!(rt; answer == Err(Fault { row: 0, what }));
     let written = &writer.get_ref().device;
-    assert!(rt; written.len() > 139_000 && wanted.starts_with(written));
+    assert!(rt; written.len() > 139_900 && written.len() <= 140_000);
+    assert!(rt; wanted.starts_with(written));
     Ok(())
 }
 
-// A fault has this status and this line.
-fn expect_line(
-    rt: &(impl AllocGlobal + Abort),
-    row: u64,
-    what: What,
-    status: u8,
-    line: &str,
-) -> Result<(), Fail> {
-    let fault = Fault { row, what };
-    assert!(rt; fault.status() == status, "{line}");
-    assert!(rt; what.is_refusal() == (status == 1), "{line}");
-    let told = fault.to_string(rt.alloc())?;
-    assert!(rt; told.as_str() == line, "{line}");
-    Ok(())
-}
-
-#[test]
-fn prints_faults(rt: HostRuntime) -> Result<(), Fail> {
-    expect_line(&rt, 0, What::Fields, 1, "refused: record 0: Fields")?;
-    expect_line(&rt, 7, What::Number, 1, "refused: record 7: Number")?;
-    expect_line(&rt, 1, What::Word, 1, "refused: record 1: Word")?;
-    let what = What::Job(JobRefused::Empty);
-    expect_line(&rt, 1, what, 1, "refused: record 1: Job Empty")?;
-    let what = What::Job(JobRefused::NotPowerOfTwo);
-    expect_line(&rt, 2, what, 1, "refused: record 2: Job NotPowerOfTwo")?;
-    let what = What::Job(JobRefused::TooLarge);
-    expect_line(&rt, 3, what, 1, "refused: record 3: Job TooLarge")?;
-    let what = What::Job(JobRefused::BadRoot);
-    expect_line(&rt, 4, what, 1, "refused: record 4: Job BadRoot")?;
-    let line = "refused: record 1000001: TooMany";
-    expect_line(&rt, 1_000_001, What::TooMany, 1, line)?;
-    expect_line(&rt, 0, What::Read, 3, "failed: record 0: Read")?;
-    expect_line(&rt, 0, What::Write, 3, "failed: record 0: Write")?;
-    expect_line(
-        &rt,
-        0,
-        What::OutOfMemory,
-        3,
-        "failed: record 0: OutOfMemory",
-    )
-}
-
-#[test]
-fn reads_fields(rt: HostRuntime) -> Result<(), Fail> {
-    assert!(rt; fields::number(b"0") == Some(0));
-    assert!(rt; fields::number(b"18446744073709551615") == Some(18446744073709551615));
-    assert!(rt; fields::number(b"18446744073709551616") == None);
-    assert!(rt; fields::number(b"") == None && fields::number(b"01") == None);
-    assert!(rt; fields::lane(b"15") == Ok(15) && fields::lane(b"16") == Err(What::Number));
-    assert!(rt; fields::root(b"16") == Ok(16) && fields::root(b"-") == Err(What::Number));
-    assert!(rt; fields::op(b"add") == Ok(Op::Add) && fields::op(b"Add") == Err(What::Word));
-    assert!(rt; fields::op(b"or") == Ok(Op::Or) && fields::op(b"-") == Err(What::Word));
-    let op = Op::Min;
-    assert!(rt; fields::collective(b"scan", b"min") == Ok(Collective::Scan { op }));
-    assert!(rt; fields::collective(b"broadcast", b"-") == Ok(Collective::Broadcast));
-    assert!(rt; fields::collective(b"broadcast", b"min") == Err(What::Word));
-    assert!(rt; Collective::Reduce { op }.rooted(3) == Kind::Reduce { op, root: 3 });
-    assert!(rt; Collective::AllReduce { op }.has_spare_root(3));
-    assert!(rt; !Collective::Broadcast.has_spare_root(3));
-    let items = fields::items(rt.alloc(), b"3 0 12")?;
-    assert!(rt; items.as_slice() == [3, 0, 12].as_slice());
-    Ok(())
-}
-
-// The dimension that these words ask for, or why there is none.
-fn asked(rt: &(impl AllocGlobal + Abort), words: &[&str]) -> Result<Result<u32, ErrorKind>, Fail> {
+// What these words ask for, or why they ask for nothing.
+fn ask(rt: &(impl AllocGlobal + Abort), words: &[&str]) -> Result<Result<Asked, ErrorKind>, Fail> {
     let mut all = Vec::new(rt.alloc());
     for word in words {
         all.push(word.to_string(rt.alloc())?)?;
     }
-    let answer = match dim_asked(rt.alloc(), &all) {
-        Ok(n) => Ok(n),
+    let answer = match asked_for(rt.alloc(), &all) {
+        Ok(asked) => Ok(asked),
         Err(error) => Err(error.kind()),
     };
     Ok(answer)
@@ -524,20 +470,40 @@ fn asked(rt: &(impl AllocGlobal + Abort), words: &[&str]) -> Result<Result<u32, 
 #[test]
 fn reads_command_lines(rt: HostRuntime) -> Result<(), Fail> {
     let run = ["cubejobs", "run", "--dim", "0"];
-    assert!(rt; asked(&rt, run.as_slice())? == Ok(0));
+    assert!(rt; ask(&rt, run.as_slice())? == Ok(Asked::Run { n: 0 }));
     let run = ["cubejobs", "run", "--dim=10"];
-    assert!(rt; asked(&rt, run.as_slice())? == Ok(10));
+    assert!(rt; ask(&rt, run.as_slice())? == Ok(Asked::Run { n: 10 }));
     let run = ["cubejobs", "run", "--dim", "11"];
-    assert!(rt; asked(&rt, run.as_slice())? == Err(ErrorKind::ValueValidation));
+    assert!(rt; ask(&rt, run.as_slice())? == Err(ErrorKind::ValueValidation));
     let run = ["cubejobs", "run"];
-    assert!(rt; asked(&rt, run.as_slice())? == Err(ErrorKind::MissingRequiredArgument));
-    let run = ["cubejobs"];
-    assert!(rt; asked(&rt, run.as_slice())? == Err(ErrorKind::MissingSubcommand));
-    let run = ["cubejobs", "place", "--dim", "3"];
-    assert!(rt; asked(&rt, run.as_slice())? == Err(ErrorKind::InvalidSubcommand));
-    let run = ["cubejobs", "--help"];
-    assert!(rt; asked(&rt, run.as_slice())? == Err(ErrorKind::DisplayHelp));
-    let run = ["cubejobs", "run", "--help"];
-    assert!(rt; asked(&rt, run.as_slice())? == Err(ErrorKind::DisplayHelp));
+    assert!(rt; ask(&rt, run.as_slice())? == Err(ErrorKind::MissingRequiredArgument));
+    let none = ["cubejobs"];
+    assert!(rt; ask(&rt, none.as_slice())? == Err(ErrorKind::MissingSubcommand));
+    let other = ["cubejobs", "walk", "--dim", "3"];
+    assert!(rt; ask(&rt, other.as_slice())? == Err(ErrorKind::InvalidSubcommand));
+    let help = ["cubejobs", "--help"];
+    assert!(rt; ask(&rt, help.as_slice())? == Err(ErrorKind::DisplayHelp));
+    Ok(())
+}
+
+#[test]
+fn reads_commands_of_regions(rt: HostRuntime) -> Result<(), Fail> {
+    let place = ["cubejobs", "place", "--dim", "3"];
+    assert!(rt; ask(&rt, place.as_slice())? == Ok(Asked::Place { n: 3 }));
+    let place = ["cubejobs", "place", "--dim", "3", "--stations", "1"];
+    assert!(rt; ask(&rt, place.as_slice())? == Err(ErrorKind::UnknownArgument));
+    let replay = ["cubejobs", "replay", "--dim", "2", "--stations", "32"];
+    let wanted = Asked::Replay { n: 2, stations: 32 };
+    assert!(rt; ask(&rt, replay.as_slice())? == Ok(wanted));
+    let replay = ["cubejobs", "replay", "--dim", "2", "--stations", "33"];
+    assert!(rt; ask(&rt, replay.as_slice())? == Err(ErrorKind::ValueValidation));
+    let replay = ["cubejobs", "replay", "--dim", "2", "--stations", "0"];
+    assert!(rt; ask(&rt, replay.as_slice())? == Err(ErrorKind::ValueValidation));
+    let replay = ["cubejobs", "replay", "--dim", "2"];
+    assert!(rt; ask(&rt, replay.as_slice())? == Err(ErrorKind::MissingRequiredArgument));
+    for name in ["run", "place", "replay"] {
+        let help = ["cubejobs", name, "--help"];
+        assert!(rt; ask(&rt, help.as_slice())? == Err(ErrorKind::DisplayHelp));
+    }
     Ok(())
 }

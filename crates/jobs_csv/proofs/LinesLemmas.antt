@@ -1,7 +1,7 @@
 -- What is gathered, and what was sent.
-use Rattle.std.proofs.Common.{◌≡◌, ℕ, false, List, [], ◌++◌, Option, Some, None, Vec, Global, refl, sym, ap, ◌∙◌}
+use Rattle.std.proofs.Common.{◌≡◌, ℕ, false, List, [], Option, Some, None, Vec, Global, ap, ◌∙◌}
 use Rattle.std.specs.Io.KnownBytes.{Appends, Keeps, append_known}
-use Rattle.csv.specs.Writing.{default_writer, fields_written, has_written, text_written, writer_pending, writer_setup, writer_under}
+use Rattle.csv.specs.Writing.{default_writer, fields_written, has_written, writer_pending, writer_setup, writer_under}
 use Rattle.csv.specs.declared.writer.Writer.{Writer}
 use Rattle.jobs_csv.specs.Output.{HasText, gathered, items_held, known}
 

@@ -4,7 +4,6 @@ use Rattle.std.specs.Fmt.{decimal}
 use Rattle.status_word.specs.Text.{word_text}
 use Rattle.cube_core.specs.declared.act.Refused.{Refused}
 use Rattle.cube_core.specs.declared.act.Refused.TheVariants as why
-use Rattle.cube_core.specs.declared.event.Event.{Event}
 use Rattle.cube_core.specs.declared.event.Kind.{Kind}
 use Rattle.cube_core.specs.declared.event.Kind.TheVariants as kind
 use Rattle.cube_core.specs.declared.event.Note.{Note}

@@ -17,7 +17,7 @@ use job_types::{Job, JobRefused, Kind, MAX_LANES};
 use std::alloc::Global;
 use std::io::Read;
 
-// The jobs for a machine of this dimension.
+// The format of jobs, for a machine of this dimension.
 #[derive(Clone, Copy)]
 struct Jobs {
     n: u32,

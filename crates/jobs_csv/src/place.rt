@@ -31,7 +31,7 @@ enum Verb {
     Free,
 }
 
-// The commands for a machine of this dimension.
+// The format of commands, for a machine of this dimension.
 #[derive(Clone, Copy)]
 struct Commands {
     n: u32,

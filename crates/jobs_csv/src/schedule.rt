@@ -42,9 +42,9 @@ enum Call {
     Retire,
 }
 
-// The lines of a schedule.
+// The format of schedules.
 #[derive(Clone, Copy)]
-struct Lines;
+struct Schedule;
 
 // The word in a field.
 #[tactic(auto, unfolding(crate::specs::Schedule::call_of))]
@@ -107,7 +107,7 @@ fn read_fields(three: &ThreeFields<'_>) -> Result<Line, What>
     read_last(station, call, three.third)
 }
 
-impl Format for Lines {
+impl Format for Schedule {
     type Row = Line;
 
     ghost header_of = { schedule_header };
@@ -143,5 +143,5 @@ pub fn read_schedule<R: Read + Device>(alloc: Global, reader: &mut R) -> Result<
     ensures times { IfOk result (λ lines. All (λ line. HasTimes line) lines.items) }
     ensures failed { IfErr result (λ fault. (is_refusal fault.what ≡ true) ⊎ IsFailure What.Read (R.failures reader.old) (R.failures reader.new) fault) }
 {
-    format::read_file(alloc, &Lines, reader)
+    format::read_file(alloc, &Schedule, reader)
 }

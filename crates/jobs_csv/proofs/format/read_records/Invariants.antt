@@ -1,4 +1,4 @@
-use Rattle.std.proofs.Common.{◌≡◌, All}
+use Rattle.std.proofs.Common.{All}
 use Rattle.jobs_csv.specs.Input.{IsPlain}
 use Rattle.jobs_csv.proofs.FileLemmas.{HasRead}
 use Rattle.jobs_csv.proofs.format.read_records.Given as goal

@@ -1,6 +1,6 @@
-use Rattle.std.proofs.Common.{◌≡◌, List, ℕ, ap, sym, ◌∙◌}
+use Rattle.std.proofs.Common.{◌≡◌, ap, sym, ◌∙◌}
 use Rattle.std.proofs.lemmas.Result.{on_ok_weaker}
-use Rattle.jobs_csv.specs.PlaceRows.{base_in, command_text, dim_in, name_in, outcome_text, place_fields}
+use Rattle.jobs_csv.specs.PlaceRows.{command_text, outcome_text, place_fields}
 use Rattle.jobs_csv.specs.Text.{number_text}
 use Rattle.jobs_csv.proofs.RowLemmas.{five_texts, place_by_columns}
 use Rattle.jobs_csv.proofs.WrittenLemmas.{five_written}

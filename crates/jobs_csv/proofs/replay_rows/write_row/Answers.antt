@@ -1,6 +1,6 @@
-use Rattle.std.proofs.Common.{◌≡◌, List, ℕ, ap, sym, refl, ◌∙◌}
+use Rattle.std.proofs.Common.{◌≡◌, ap, sym, refl, ◌∙◌}
 use Rattle.std.proofs.lemmas.Result.{on_ok_weaker}
-use Rattle.jobs_csv.specs.ReplayRows.{end_text, event_text, node_in, replay_fields, station_in, word_in}
+use Rattle.jobs_csv.specs.ReplayRows.{end_text, event_text, replay_fields, word_in}
 use Rattle.jobs_csv.specs.Text.{number_text}
 use Rattle.jobs_csv.proofs.RowLemmas.{five_texts, replay_by_columns}
 use Rattle.jobs_csv.proofs.WrittenLemmas.{five_written}

@@ -1,11 +1,11 @@
-use Rattle.std.proofs.Common.{◌≡◌, ◌++◌, ◌∷◌, rules, refl, sym, [], ap, subst, ◌∙◌}
+use Rattle.std.proofs.Common.{◌≡◌, ◌++◌, rules, refl, sym, subst, ◌∙◌}
 use Rattle.std.proofs.lemmas.Result.{on_ok_weaker}
 use Rattle.std.proofs.lemmas.Iterator.Adapters.{YieldsList-from_vec}
 use Rattle.std.proofs.lemmas.Iterator.Consumers.{YieldsList-end}
 use Rattle.std.proofs.lemmas.List.{map-id}
 use Rattle.jobs_csv.specs.Replies.{replies_text, reply_fields}
 use Rattle.jobs_csv.specs.Text.{line_of}
-use Rattle.jobs_csv.proofs.SentLemmas.{HasSent, all_sent, more_gathered, more_sent, none_sent, text_none, text_push}
+use Rattle.jobs_csv.proofs.SentLemmas.{HasSent, all_sent, more_gathered, more_sent, none_sent, text_push}
 use Rattle.jobs_csv.proofs.replies.write_replies.Goals as goal
 
 pub loop-reply-init : goal.loop-reply-init

@@ -1,9 +1,0 @@
-use Rattle.std.proofs.Common.{rules, ◌≡◌, true, is_some}
-use Rattle.csv.specs.Records.{fields_of, field_at}
-use Rattle.jobs_cli.proofs.RecordFields.{has_field}
-use Rattle.jobs_cli.proofs.requests.field.Goals as goal
-
-pub unwrap-requires : goal.unwrap-requires
-unwrap-requires c =
-    let there : is_some (field_at (fields_of c.args.row.now) c.args.place) ≡ true = has_field _ _ c.requires in
-    search (rules, c.get.ensures.value, there)

@@ -1,6 +1,0 @@
-use Rattle.csv.specs.Records.{fields_of}
-use Rattle.jobs_cli.proofs.RecordFields.{no_job}
-use Rattle.jobs_cli.proofs.requests.job_from.Goals as goal
-
-pub returns-in-None-clause-told : goal.returns-in-None-clause-told
-returns-in-None-clause-told c = no_job c.args.n (fields_of c.args.row.now) c.in-None.ensures.none
