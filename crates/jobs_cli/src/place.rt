@@ -27,7 +27,7 @@ fn answer_all<W: Write + Device>(
 {
     let before = writer.failures();
     let mut stations = Stations::new(alloc, n)?;
-    let mut lines = Lines::new(alloc).with_place_header()?;
+    let mut lines = Lines::new(alloc)?.with_place_header()?;
     for command in commands {
         let row = stations.answer(command);
         lines = lines.with_place_row(&row)?.send_many(before, writer)?;

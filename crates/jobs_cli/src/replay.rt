@@ -44,7 +44,7 @@ fn play_all<W: Write + Device>(
 {
     let before = writer.failures();
     let mut world = World::new(alloc, n, stations)?;
-    let mut lines = Lines::new(alloc).with_replay_header()?;
+    let mut lines = Lines::new(alloc)?.with_replay_header()?;
     for line in schedule {
         let rows = play::play(alloc, stations, &mut world, line)?;
         lines = with_rows(lines, rows)?.send_many(before, writer)?;

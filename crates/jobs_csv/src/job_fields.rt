@@ -103,8 +103,8 @@ pub fn items(alloc: Global, field: &[u8]) -> Result<Vec<u64>, What>
     if field.is_empty() {
         return Ok(Vec::new(alloc));
     }
-    let spaces = field.iter().filter(|byte| **byte == b' ').count();
-    let Ok(mut items) = Vec::with_capacity(alloc, spaces + 1) else {
+    // A job has a power of two of items, so room that doubles from 1 on fits it exactly.
+    let Ok(mut items) = Vec::with_capacity(alloc, 1) else {
         return Err(What::OutOfMemory);
     };
     for piece in field.split(|byte| *byte == b' ') {

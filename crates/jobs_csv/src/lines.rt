@@ -27,7 +27,8 @@ const BATCH: usize = 65_536;
 /// the lines with it.
 #[derive(Drop)]
 pub struct Lines {
-    writer: Writer<Vec<u8>>,
+    // `Writer` is a large struct, and lines are passed by value.
+    writer: Box<Writer<Vec<u8>>>,
     field: String,
     alloc: Global,
 }
@@ -38,9 +39,9 @@ impl Model for Lines {
 
     ghost Value = { List ℕ };
 
-    ghost view = { λ l. gathered l.writer };
+    ghost view = { λ l. gathered l.writer.value };
 
-    ghost invariant = { λ l. HasText items_held l.writer (gathered l.writer) };
+    ghost invariant = { λ l. HasText items_held l.writer.value (gathered l.writer.value) };
 }
 
 // Sends all of a text to a writer that had so many failures before.
@@ -67,116 +68,62 @@ fn flush<W: Write + Device>(before: u64, writer: &mut W) -> Result<(), Fault>
 
 impl Lines {
     /// No line is gathered yet.
-    pub fn new(alloc: Global) -> Self
-        ensures { result ≡ [] }
+    pub fn new(alloc: Global) -> Result<Self, AllocError>
+        ensures { IfOk result (λ lines. lines ≡ []) }
     {
-        Lines {
-            writer: Writer::from_writer(Vec::new(alloc)),
+        Ok(Lines {
+            writer: Box::new(alloc, Writer::from_writer(Vec::new(alloc)))?,
             field: String::new(alloc),
             alloc,
-        }
+        })
     }
 
     /// Gathers the header of the replies.
-    pub fn with_reply_header(self) -> Result<Self, AllocError>
+    pub fn with_reply_header(mut self) -> Result<Self, AllocError>
         ensures { IfOk result (λ lines. lines ≡ self ++ line_of reply_columns) }
     {
-        let Lines {
-            mut writer,
-            field,
-            alloc,
-        } = self;
-        replies::write_header(&mut writer)?;
-        Ok(Lines {
-            writer,
-            field,
-            alloc,
-        })
+        replies::write_header(&mut self.writer)?;
+        Ok(self)
     }
 
     /// Gathers a reply.
-    pub fn with_reply(self, reply: &Reply) -> Result<Self, AllocError>
+    pub fn with_reply(mut self, reply: &Reply) -> Result<Self, AllocError>
         ensures { IfOk result (λ lines. lines ≡ self ++ line_of (reply_fields reply.now.id reply.now.job)) }
     {
-        let Lines {
-            mut writer,
-            mut field,
-            alloc,
-        } = self;
-        replies::write_reply(reply, &mut field, &mut writer)?;
-        Ok(Lines {
-            writer,
-            field,
-            alloc,
-        })
+        replies::write_reply(reply, &mut self.field, &mut self.writer)?;
+        Ok(self)
     }
 
     /// Gathers the header of the answers to commands.
-    pub fn with_place_header(self) -> Result<Self, AllocError>
+    pub fn with_place_header(mut self) -> Result<Self, AllocError>
         ensures { IfOk result (λ lines. lines ≡ self ++ line_of place_columns) }
     {
-        let Lines {
-            mut writer,
-            field,
-            alloc,
-        } = self;
-        place_rows::write_header(&mut writer)?;
-        Ok(Lines {
-            writer,
-            field,
-            alloc,
-        })
+        place_rows::write_header(&mut self.writer)?;
+        Ok(self)
     }
 
     /// Gathers the answer to a command.
-    pub fn with_place_row(self, row: &PlaceRow) -> Result<Self, AllocError>
+    pub fn with_place_row(mut self, row: &PlaceRow) -> Result<Self, AllocError>
         ensures { IfOk result (λ lines. lines ≡ self ++ line_of (place_fields row.now)) }
     {
-        let Lines {
-            mut writer,
-            mut field,
-            alloc,
-        } = self;
-        place_rows::write_row(row, &mut field, &mut writer)?;
-        Ok(Lines {
-            writer,
-            field,
-            alloc,
-        })
+        place_rows::write_row(row, &mut self.field, &mut self.writer)?;
+        Ok(self)
     }
 
     /// Gathers the header of what a schedule leads to.
-    pub fn with_replay_header(self) -> Result<Self, AllocError>
+    pub fn with_replay_header(mut self) -> Result<Self, AllocError>
         ensures { IfOk result (λ lines. lines ≡ self ++ line_of replay_columns) }
     {
-        let Lines {
-            mut writer,
-            field,
-            alloc,
-        } = self;
-        replay_rows::write_header(&mut writer)?;
-        Ok(Lines {
-            writer,
-            field,
-            alloc,
-        })
+        replay_rows::write_header(&mut self.writer)?;
+        Ok(self)
     }
 
     /// Gathers what a schedule led to.
-    pub fn with_replay_row(self, row: &ReplayRow) -> Result<Self, AllocError>
+    pub fn with_replay_row(mut self, row: &ReplayRow) -> Result<Self, AllocError>
         ensures { IfOk result (λ lines. lines ≡ self ++ line_of (replay_fields row.now)) }
     {
-        let Lines {
-            mut writer,
-            mut field,
-            alloc,
-        } = self;
-        replay_rows::write_row(alloc, row, &mut field, &mut writer)?;
-        Ok(Lines {
-            writer,
-            field,
-            alloc,
-        })
+        replay_rows::write_row(self.alloc, row, &mut self.field, &mut self.writer)?;
+        Ok(self)
     }
 
     /// Sends the lines to a writer that had failed so often before, and gathers anew.
@@ -193,13 +140,16 @@ impl Lines {
             field,
             alloc,
         } = self;
-        let Ok(mut text) = gathered.into_inner() else {
+        let Ok(mut text) = Box::into_inner(gathered).into_inner() else {
             return Err(Fault::no_memory());
         };
         send(&text, before, writer)?;
         text.clear();
+        let Ok(writer) = Box::new(alloc, Writer::from_writer(text)) else {
+            return Err(Fault::no_memory());
+        };
         Ok(Lines {
-            writer: Writer::from_writer(text),
+            writer,
             field,
             alloc,
         })

@@ -123,7 +123,7 @@ pub fn write_replies<W: Write + Device>(
     ensures failed { IfErr result (λ fault. IsFailure What.Write (W.failures writer.old) (W.failures writer.new) fault) }
 {
     let before = writer.failures();
-    let mut lines = Lines::new(alloc).with_reply_header()?;
+    let mut lines = Lines::new(alloc)?.with_reply_header()?;
     for reply in replies {
         lines = write_next(lines, reply, before, writer)?;
     }

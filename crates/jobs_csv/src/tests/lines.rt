@@ -15,7 +15,7 @@ fn expect_place(
     wanted: &str,
 ) -> Result<(), Fail> {
     let mut writer = Counted::new(Vec::new(rt.alloc()));
-    let mut lines = Lines::new(rt.alloc()).with_place_header()?;
+    let mut lines = Lines::new(rt.alloc())?.with_place_header()?;
     for row in rows {
         lines = lines.with_place_row(row)?;
     }
@@ -87,7 +87,7 @@ fn expect_replay(
     wanted: &str,
 ) -> Result<(), Fail> {
     let mut writer = Counted::new(Vec::new(rt.alloc()));
-    let mut lines = Lines::new(rt.alloc()).with_replay_header()?;
+    let mut lines = Lines::new(rt.alloc())?.with_replay_header()?;
     for row in rows {
         lines = lines.with_replay_row(row)?;
         lines = match lines.send(0, &mut writer) {
