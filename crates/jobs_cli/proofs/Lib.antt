@@ -1,5 +1,4 @@
-pub mod NumberingLemmas
-pub mod Answering
+pub mod LaneLemmas
 pub mod TurnLemmas
 pub mod StationLemmas
 pub mod ReplayLemmas

@@ -14,7 +14,3 @@ one_more becomes (other ∷ things) thing first now last rows told (next, here, 
 -- the lines of more rows behind those of the rows before
 pub more_lines : {Row : Type 0} (header : List ℕ) (line : Row → List ℕ) (rows more : List Row) → (header ++ flat_map line rows) ++ flat_map line more ≡ header ++ flat_map line (rows ++ more)
 more_lines header line rows more = append_assoc header (flat_map line rows) (flat_map line more) ∙ ap (λ text. header ++ text) (sym (flat_map-append line rows more))
-
--- and the line of one row
-pub one_line : {Row : Type 0} (header : List ℕ) (line : Row → List ℕ) (rows : List Row) (last : Row) → (header ++ flat_map line rows) ++ line last ≡ header ++ flat_map line (rows ++ last ∷ [])
-one_line header line rows last = ap (λ text. (header ++ flat_map line rows) ++ text) (sym (append-nil (line last))) ∙ more_lines header line rows (last ∷ [])

@@ -1,4 +1,4 @@
-pub mod Numbering
+pub mod Lanes
 pub mod Replies
 pub mod Run
 pub mod InTurn

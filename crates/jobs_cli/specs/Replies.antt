@@ -4,20 +4,19 @@ use Rattle.std.specs.Ordering.{nat_cmp, ordering_then}
 use Rattle.std.specs.declared.cmp.Ordering.{Ordering}
 use Rattle.job_types.specs.Job.{JobData}
 use Rattle.job_types.specs.Reply.{ReplyData}
-use Rattle.jobs_cli.specs.declared.numbering.Numbered.{Numbered}
-use Rattle.jobs_cli.specs.Numbering.{numbered}
+use Rattle.jobs_cli.specs.Lanes.{Named, all_named}
 
 -- by lane, and in a lane by number
-abbrev pub by_name : Numbered → Numbered → Ordering
+abbrev pub by_name : Named → Named → Ordering
 by_name a b = ordering_then (nat_cmp a.id.lane b.id.lane) (nat_cmp a.id.seq b.id.seq)
 
 -- the jobs of a file with their names, in the order of their replies
-pub record AreInOrder (jobs : List JobData) (entries : List Numbered) : Type 0 where
-  pub same : IsPermutation (numbered jobs) entries
-  pub sorted : IsSorted by_name entries
+pub record AreInOrder (jobs : List JobData) (named : List Named) : Type 0 where
+  pub same : IsPermutation (all_named jobs) named
+  pub sorted : IsSorted by_name named
 
 -- the job that a reply is to, with its name
-abbrev pub answered : ReplyData → Numbered
+abbrev pub answered : ReplyData → Named
 answered reply = record { id = reply.id; job = reply.job }
 
 -- these are replies to the jobs of a file, in their order

@@ -1,46 +1,31 @@
-// Answering the jobs of a file, one after the other.
-ghost use Rattle.std.specs.Prelude.{◌≡◌, ℕ, ◌≤◌, All, IfOk, None, map};
+// Answering jobs, one after the other.
+ghost use Rattle.std.specs.Prelude.{◌≡◌, ℕ, ◌≤◌, ◌++◌, All, IfErr, IfOk, List, None, OnOk, map};
+ghost use Rattle.std.specs.Io.KnownBytes.{Appends};
 ghost use Rattle.alloc_bits.specs.Allocation.{held_in};
-ghost use Rattle.jobs_cli.specs.Replies.{AreInOrder, answered};
+ghost use Rattle.job_types.specs.Reply.{ReplyData};
+ghost use Rattle.jobs_csv.specs.Fault.{IsFailure};
+ghost use Rattle.jobs_csv.specs.Replies.{replies_text, reply_lines};
+ghost use Rattle.jobs_cli.specs.Lanes.{lane_by_lane, named_from};
+ghost use Rattle.jobs_cli.specs.Replies.{answered};
 
-use crate::numbering::{JobList, Numbered};
 use alloc_bits::AllocBits;
 use cube_shape::MAX_DIM;
-use job_types::{Job, Reply};
-use std::alloc::{AllocError, Global};
+use job_types::{Job, JobId, Reply};
+use jobs_csv::{Device, Fault, Lines, What};
+use std::alloc::Global;
+use std::io::Write;
 
 // The one station: it holds the region of the job that is being answered.
 const STATION: u32 = 0;
 
-// The jobs in the order of the file, to be named.
-fn listed(alloc: Global, jobs: Vec<Job>) -> Result<JobList, AllocError>
-    ensures { IfOk result (λ list. list ≡ jobs.items) }
-{
-    let mut list = JobList::new(alloc);
-    for job in jobs {
-        list.push(job)?;
-    }
-    Ok(list)
-}
-
-/// The jobs with their names, by lane, and in a lane by number.
-pub fn in_order(alloc: Global, jobs: Vec<Job>) -> Result<Vec<Numbered>, AllocError>
-    ensures { IfOk result (λ entries. AreInOrder jobs.items entries.items) }
-{
-    let mut entries = listed(alloc, jobs)?.into_numbered();
-    entries.sort_unstable_by_key(|entry| (entry.id.lane, entry.id.seq));
-    Ok(entries)
-}
-
 // Answers a job on the first region of its dimension, of a machine on which nothing is held.
-fn answer(bits: &mut AllocBits, entry: Numbered) -> Reply
+fn answer(bits: &mut AllocBits, id: JobId, job: Job) -> Reply
     requires free { (s : ℕ) → held_in bits.old s ≡ None }
-    requires machine { entry.job.machine ≡ bits.old.dim }
-    ensures reply { answered result ≡ entry }
+    requires machine { job.machine ≡ bits.old.dim }
+    ensures reply { answered result ≡ record { id = id; job = job } }
     ensures free { (s : ℕ) → held_in bits.new s ≡ None }
     ensures dim { bits.new.dim ≡ bits.old.dim }
 {
-    let Numbered { id, job } = entry;
     let dim = job.dim();
     let region = bits.take(STATION, dim).unwrap();
     let reply = job.answer(id, region);
@@ -48,16 +33,50 @@ fn answer(bits: &mut AllocBits, entry: Numbered) -> Reply
     reply
 }
 
-/// Answers the jobs in their order.
-pub fn answer_all(alloc: Global, n: u32, entries: Vec<Numbered>) -> Result<Vec<Reply>, AllocError>
-    requires limit { n ≤ MAX_DIM }
-    requires machine { All (λ entry. entry.job.machine ≡ n) entries.items }
-    ensures { IfOk result (λ replies. map answered replies.items ≡ entries.items) }
+// Answers the jobs of a lane in their order, and sends the replies as they come.
+fn answer_lane<W: Write + Device>(
+    bits: &mut AllocBits,
+    jobs: Vec<Job>,
+    lines: Lines,
+    before: u64,
+    writer: &mut W,
+) -> Result<Lines, Fault>
+    requires free { (s : ℕ) → held_in bits.old s ≡ None }
+    requires machine { All (λ job. job.machine ≡ bits.old.dim) jobs.items }
+    ensures sent { IfOk result (λ more. (replies : List ReplyData) × (map answered replies ≡ named_from 0 jobs.items) × (out : List ℕ) × Appends (W.contents writer.old) (W.contents writer.new) out × (out ++ more ≡ lines ++ reply_lines replies)) }
+    ensures failed { IfErr result (λ fault. IsFailure What.Write before (W.failures writer.new) fault) }
+    ensures free { (s : ℕ) → held_in bits.new s ≡ None }
+    ensures dim { bits.new.dim ≡ bits.old.dim }
 {
-    let mut bits = AllocBits::new(alloc, n)?;
-    let mut replies = Vec::with_capacity(alloc, entries.len())?;
-    for entry in entries {
-        replies.push(answer(&mut bits, entry))?;
+    let mut lines = lines;
+    let mut seq = 0;
+    for job in jobs {
+        let lane = job.lane();
+        let reply = answer(bits, JobId { lane, seq }, job);
+        lines = lines.add_reply(reply, before, writer)?;
+        seq += 1;
     }
-    Ok(replies)
+    Ok(lines)
+}
+
+/// Answers the jobs of lanes, lane by lane and in a lane in their order, and writes the replies
+/// under their header as they come.
+pub fn answer_all<W: Write + Device>(
+    alloc: Global,
+    n: u32,
+    lanes: Vec<Vec<Job>>,
+    writer: &mut W,
+) -> Result<(), Fault>
+    requires limit { n ≤ MAX_DIM }
+    requires machine { All (λ lane. All (λ job. job.machine ≡ n) lane.items) lanes.items }
+    ensures sent { OnOk result ((replies : List ReplyData) × (map answered replies ≡ lane_by_lane lanes.items) × Appends (W.contents writer.old) (W.contents writer.new) (replies_text replies)) }
+    ensures failed { IfErr result (λ fault. IsFailure What.Write (W.failures writer.old) (W.failures writer.new) fault) }
+{
+    let before = writer.failures();
+    let mut bits = AllocBits::new(alloc, n)?;
+    let mut lines = Lines::new(alloc)?.with_reply_header()?;
+    for jobs in lanes {
+        lines = answer_lane(&mut bits, jobs, lines, before, writer)?;
+    }
+    lines.finish(before, writer)
 }

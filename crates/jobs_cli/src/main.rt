@@ -10,7 +10,7 @@ ghost use Rattle.jobs_cli.specs.CommandLine.{IsWithinLimits};
 
 mod answers;
 mod command_line;
-mod numbering;
+mod lanes;
 mod place;
 mod play;
 mod replay;

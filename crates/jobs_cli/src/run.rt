@@ -3,7 +3,7 @@ ghost use Rattle.std.specs.Prelude.{◌≡◌, ◌≤◌, ◌⊎◌, true, IfErr
 ghost use Rattle.jobs_csv.specs.Fault.{IsFailure, is_refusal};
 ghost use Rattle.jobs_cli.specs.Run.{IsAnswer};
 
-use crate::answers;
+use crate::{answers, lanes};
 use cube_shape::MAX_DIM;
 use jobs_csv::{Device, Fault, What};
 use std::alloc::Global;
@@ -11,7 +11,7 @@ use std::io::{Read, Write};
 
 /// Reads a file of jobs for a machine of dimension `n`, answers them, and writes their replies.
 ///
-/// All jobs are read and answered before the first reply is written. A fault of the input is the
+/// All jobs are read before the first of them is answered. A fault of the input is the
 /// first one in it, and then nothing is written. `Read` and `Write` come only where that device's
 /// count of failed calls rose in this call, or stood at `u64::MAX`; every other want is
 /// `OutOfMemory`. After `Write` or `OutOfMemory` the first replies may be out.
@@ -27,7 +27,6 @@ pub fn run_on<R: Read + Device, W: Write + Device>(
     ensures untouched { IfErr result (λ fault. (is_refusal fault.what ≡ true) ⊎ (fault.what ≡ What.Read) → writer.new ≡ writer.old) }
 {
     let jobs = jobs_csv::read_jobs(alloc, n, reader)?;
-    let entries = answers::in_order(alloc, jobs)?;
-    let replies = answers::answer_all(alloc, n, entries)?;
-    jobs_csv::write_replies(alloc, replies, writer)
+    let lanes = lanes::by_lane(alloc, jobs)?;
+    answers::answer_all(alloc, n, lanes, writer)
 }

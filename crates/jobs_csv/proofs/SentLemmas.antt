@@ -37,14 +37,3 @@ more_sent old now next lines rest out text k sends same = record {
 -- all of it is sent
 pub all_sent : (old now next : Option (List ℕ)) (lines text : List ℕ) → HasSent old now lines text → Appends now next lines → Appends old next text
 all_sent old now next lines text k sends = rw (← k.all) (appends-more old now next k.sent lines k.out sends)
-
--- one reply more
-pub text_push : (replies : List ReplyData) (reply : ReplyData) → replies_text replies ++ line_of (reply_fields reply.id reply.job) ≡ replies_text (replies ++ reply ∷ [])
-text_push replies reply =
-    let line : ReplyData → List ℕ = λ (r : ReplyData). line_of (reply_fields r.id r.job) in
-    append_assoc (line_of reply_columns) (flat_map line replies) (line reply)
-    ∙ ap (λ (rest : List ℕ). line_of reply_columns ++ rest) (ap (λ (last : List ℕ). flat_map line replies ++ last) (sym (append-nil (line reply))) ∙ sym (flat_map-append line replies (reply ∷ [])))
-
--- the header alone
-pub text_none : replies_text [] ≡ line_of reply_columns
-text_none = append-nil (line_of reply_columns)

@@ -38,6 +38,10 @@ reply_fields id job =
     decimal id.lane ∷ decimal id.seq ∷ collective_text job.kind ∷ decimal (dim_of (length job.items))
     ∷ places_text (length job.items) job ∷ decimal (tally_for job).rounds ∷ decimal (tally_for job).messages ∷ []
 
--- the lines of these replies, under the header
+-- the lines of these replies
+abbrev pub reply_lines : List ReplyData → List ℕ
+reply_lines replies = flat_map (λ reply. line_of (reply_fields reply.id reply.job)) replies
+
+-- the same, under the header
 abbrev pub replies_text : List ReplyData → List ℕ
-replies_text replies = line_of reply_columns ++ flat_map (λ reply. line_of (reply_fields reply.id reply.job)) replies
+replies_text replies = line_of reply_columns ++ reply_lines replies

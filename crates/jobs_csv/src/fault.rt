@@ -1,6 +1,6 @@
 // What can be wrong with an input or a device, and how it is told.
 ghost use Rattle.std.specs.Prelude.{◌≡◌};
-ghost use Rattle.jobs_csv.specs.Fault.{IsFailure, is_refusal, status_of};
+ghost use Rattle.jobs_csv.specs.Fault.{HasFailed, IsFailure, is_refusal, status_of};
 
 use job_types::JobRefused;
 use std::alloc::AllocError;
@@ -84,7 +84,8 @@ impl Fault {
     /// The fault of a call that failed: the device's, where its count of failures tells so, and
     /// want of memory otherwise. The counts are those before the call and after it.
     pub fn blamed(device: What, before: u64, after: u64) -> Self
-        ensures { IsFailure device before after result }
+        ensures failure { IsFailure device before after result }
+        ensures told { HasFailed before after → result.what ≡ device }
     {
         let has_failed = before < after || before == u64::MAX;
         let what = if has_failed {

@@ -94,6 +94,21 @@ impl Lines {
         Ok(self)
     }
 
+    /// Gathers a reply and lets it go, and sends the lines, as `send` does, if there are many.
+    pub fn add_reply<W: Write + Device>(
+        self,
+        reply: Reply,
+        before: u64,
+        writer: &mut W,
+    ) -> Result<Self, Fault>
+        ensures sent { IfOk result (λ lines. (out : List ℕ) × Appends (W.contents writer.old) (W.contents writer.new) out × (out ++ lines ≡ self ++ line_of (reply_fields reply.id reply.job))) }
+        ensures failed { IfErr result (λ fault. IsFailure What.Write before (W.failures writer.new) fault) }
+    {
+        let lines = self.with_reply(&reply)?;
+        let lines = lines.send_many(before, writer)?;
+        Ok(lines)
+    }
+
     /// Gathers the header of the answers to commands.
     pub fn with_place_header(mut self) -> Result<Self, AllocError>
         ensures { IfOk result (λ lines. lines ≡ self ++ line_of place_columns) }

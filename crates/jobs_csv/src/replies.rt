@@ -94,21 +94,6 @@ pub fn write_reply<W: Write + Drop>(
     output::end_line(writer)
 }
 
-// Gathers a reply and lets it go, and sends the lines if there are many of them.
-fn write_next<W: Write + Device>(
-    lines: Lines,
-    reply: Reply,
-    before: u64,
-    writer: &mut W,
-) -> Result<Lines, Fault>
-    ensures sent { IfOk result (λ more. (out : List ℕ) × Appends (W.contents writer.old) (W.contents writer.new) out × (out ++ more ≡ lines ++ line_of (reply_fields reply.id reply.job))) }
-    ensures failed { IfErr result (λ fault. IsFailure What.Write before (W.failures writer.new) fault) }
-{
-    let lines = lines.with_reply(&reply)?;
-    let lines = lines.send_many(before, writer)?;
-    Ok(lines)
-}
-
 /// Writes the lines of these replies under their header, and lets each reply go once its line is
 /// made.
 ///
@@ -125,7 +110,7 @@ pub fn write_replies<W: Write + Device>(
     let before = writer.failures();
     let mut lines = Lines::new(alloc)?.with_reply_header()?;
     for reply in replies {
-        lines = write_next(lines, reply, before, writer)?;
+        lines = lines.add_reply(reply, before, writer)?;
     }
     lines.finish(before, writer)
 }

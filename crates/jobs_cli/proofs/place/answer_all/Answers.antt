@@ -1,11 +1,12 @@
 use Rattle.std.proofs.Common.{◌≡◌, List, ℕ, [], ◌∷◌, ◌++◌, refl, sym, ap, subst, ◌∙◌, append-nil, rules}
+use Rattle.std.proofs.lemmas.List.{flat_map_more}
 use Rattle.jobs_csv.specs.declared.place_rows.PlaceRow.{PlaceRow}
 use Rattle.jobs_csv.specs.PlaceRows.{place_columns, place_fields}
 use Rattle.jobs_csv.specs.Text.{line_of}
 use Rattle.jobs_csv.proofs.SentLemmas.{HasSent, more_gathered, more_sent, none_sent}
 use Rattle.jobs_cli.specs.Place.{IsPlaced, Table, Tells, nobody, place_text}
 use Rattle.jobs_cli.specs.Stations.{dim_of, table_of}
-use Rattle.jobs_cli.proofs.TurnLemmas.{one_line, one_more}
+use Rattle.jobs_cli.proofs.TurnLemmas.{one_more}
 use Rattle.jobs_cli.proofs.place.answer_all.Goals as goal
 
 pub loop-command-init : goal.loop-command-init
@@ -37,6 +38,6 @@ loop-command-preserved g c =
       sent = (
         rows ++ row ∷ [],
         one_more (IsPlaced c.args.n) c.loop-command.yielded c.in-Some.command nobody before behind rows (row ∷ []) turns placed,
-        subst (HasSent old _ _) (one_line (line_of place_columns) text rows row) (more_sent old now _ _ _ out _ gathered sends same),
+        subst (HasSent old _ _) (flat_map_more text (line_of place_columns) rows row) (more_sent old now _ _ _ out _ gathered sends same),
       );
     }
