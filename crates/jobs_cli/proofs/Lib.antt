@@ -1,4 +1,4 @@
-pub mod LaneLemmas
+pub mod OrderLemmas
 pub mod TurnLemmas
 pub mod StationLemmas
 pub mod ReplayLemmas

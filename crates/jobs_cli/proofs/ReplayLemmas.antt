@@ -1,5 +1,5 @@
 -- What the calls of a world tell of its acts.
-use Rattle.std.proofs.Common.{◌≡◌, ◌≢◌, ℕ, zero, suc, ◌+◌, ◌-◌, ◌^◌, ◌<◌, ◌==◌, Bool, true, false, List, [], ◌∷◌, ◌++◌, length, replicate, nat_lt, Option, Some, None, cond, refl, sym, ap, subst, ◌∙◌, append-nil, add-zero, ◌≤◌, arith}
+use Rattle.std.proofs.Common.{◌≡◌, ◌≢◌, ℕ, zero, suc, ◌+◌, ◌-◌, ◌^◌, ◌<◌, ◌==◌, true, false, List, [], ◌∷◌, ◌++◌, length, replicate, nat_lt, Option, Some, None, cond, refl, sym, ap, subst, ◌∙◌, append-nil, add-zero, ◌≤◌, arith}
 use Rattle.std.specs.List.{flat_map, range_with_len}
 use Rattle.std.proofs.lemmas.Bool.Decides.{nat_tests}
 use Rattle.std.proofs.lemmas.Grind.{flat_map-append}
@@ -7,17 +7,17 @@ use Rattle.std.proofs.lemmas.List.{replicate_more}
 use Rattle.cube_core.specs.declared.act.Act.{Act}
 use Rattle.cube_core.specs.declared.act.Act.TheVariants as act
 use Rattle.cube_core.specs.declared.act.Refused.{Refused}
-use Rattle.cube_core.specs.declared.act.Refused.TheVariants.{NoStation, Resting}
+use Rattle.cube_core.specs.declared.act.Refused.TheVariants.{NoStation}
 use Rattle.cube_core.specs.declared.phase.Phase.{Phase}
 use Rattle.cube_core.specs.declared.phase.Phase.TheVariants.{Idle, Looking, Looked, Climbing, Swept, Holding, Leaving, Backing, Arriving, Unmarked, Marked, Retired}
 use Rattle.cube_core.specs.Phase.{IsAtRest}
-use Rattle.cube_core.specs.Schedule.{State, acted, phase_of, refusal, station_of, phase_refusal, step_refusal, word_of}
+use Rattle.cube_core.specs.Schedule.{State, acted, phase_of, refusal, step_refusal, word_of}
 use Rattle.cube_core.specs.World.{HasShapeOf, silent}
 use Rattle.jobs_csv.specs.declared.replay_rows.ReplayRow.{ReplayRow}
 use Rattle.jobs_csv.specs.declared.replay_rows.ReplayRow.TheVariants as row
 use Rattle.jobs_cli.specs.InTurn.{InTurn}
 use Rattle.jobs_csv.specs.declared.schedule.Line.TheVariants as line
-use Rattle.jobs_cli.specs.Replay.{Acts, ActsUnless, AreRows, IsPlayed, Moves, RestsAfter, Runs, end_rows, refused_row, word_row, words_left}
+use Rattle.jobs_cli.specs.Replay.{Acts, ActsUnless, AreRows, IsPlayed, RestsAfter, Runs, end_rows, refused_row, word_row, words_left}
 use Rattle.jobs_cli.proofs.TurnLemmas.{one_more}
 
 -- a refused act has its row, and changes nothing

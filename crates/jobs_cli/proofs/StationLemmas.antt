@@ -1,12 +1,12 @@
 -- What the names and the regions of the stations tell of their table, and how it changes.
-use Rattle.std.proofs.Common.{◌≡◌, ◌≢◌, ℕ, ◌+◌, ◌*◌, ◌^◌, ◌<◌, ◌≤◌, ◌⊎◌, inl, inr, List, length, replicate, slice_set, slice_index_or, Option, Some, None, refl, sym, ap, subst, ◌∙◌, arith, get_or-set_other, get_or-set_same, length-set}
+use Rattle.std.proofs.Common.{◌≡◌, ◌≢◌, ℕ, ◌<◌, inl, inr, List, length, replicate, slice_set, Option, Some, None, refl, sym, ap, subst, ◌∙◌, get_or-set_other, get_or-set_same, length-set}
 use Rattle.std.proofs.lemmas.Bool.{cases_eq, cases_lt}
 use Rattle.std.proofs.lemmas.List.{get_or-replicate, get_or_past, length-replicate}
 use Rattle.cube_shape.specs.declared.limits.TheConstants.{MAX_STATIONS}
 use Rattle.cube_shape.specs.declared.region.Region.{Region}
 use Rattle.cube_shape.specs.Region.{block}
-use Rattle.cube_shape.specs.Machine.{Gives, HasNoFit, Holdings, IsFirstFit, TakesBack}
-use Rattle.jobs_cli.specs.Place.{Holding, HoldsSome, IsFirstIdle, IsFreed, IsFull, IsGiven, Stays, Table, nobody, region_of, regions}
+use Rattle.cube_shape.specs.Machine.{Gives, Holdings, IsFirstFit, TakesBack}
+use Rattle.jobs_cli.specs.Place.{Holding, HoldsSome, IsFirstIdle, IsFreed, IsFull, IsGiven, nobody, region_of, regions}
 use Rattle.jobs_cli.specs.Stations.{Agree, held_under, name_at, table_with}
 
 -- a list of names, some of which are empty

@@ -1,5 +1,5 @@
 -- Which command lines are within the limits of the machine.
-use Rattle.std.specs.Prelude.{ℕ, ◌≤◌}
+use Rattle.std.specs.Prelude.{◌≤◌}
 use Rattle.cube_shape.specs.declared.limits.TheConstants.{MAX_DIM, MAX_STATIONS}
 use Rattle.jobs_cli.specs.declared.command_line.Asked.{Asked}
 use Rattle.jobs_cli.specs.declared.command_line.Asked.TheVariants.{Run, Place, Replay}

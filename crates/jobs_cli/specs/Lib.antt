@@ -1,4 +1,4 @@
-pub mod Lanes
+pub mod Names
 pub mod Replies
 pub mod Run
 pub mod InTurn

@@ -4,7 +4,7 @@ use Rattle.std.specs.Ordering.{nat_cmp, ordering_then}
 use Rattle.std.specs.declared.cmp.Ordering.{Ordering}
 use Rattle.job_types.specs.Job.{JobData}
 use Rattle.job_types.specs.Reply.{ReplyData}
-use Rattle.jobs_cli.specs.Lanes.{Named, all_named}
+use Rattle.jobs_cli.specs.Names.{Named, all_named}
 
 -- by lane, and in a lane by number
 abbrev pub by_name : Named → Named → Ordering

@@ -5,7 +5,7 @@ ghost use Rattle.alloc_bits.specs.Allocation.{held_in};
 ghost use Rattle.job_types.specs.Reply.{ReplyData};
 ghost use Rattle.jobs_csv.specs.Fault.{IsFailure};
 ghost use Rattle.jobs_csv.specs.Replies.{replies_text, reply_lines};
-ghost use Rattle.jobs_cli.specs.Lanes.{lane_by_lane, named_from};
+ghost use Rattle.jobs_cli.specs.Names.{lane_by_lane, named_from};
 ghost use Rattle.jobs_cli.specs.Replies.{answered};
 
 use alloc_bits::AllocBits;

@@ -10,7 +10,6 @@ ghost use Rattle.jobs_cli.specs.CommandLine.{IsWithinLimits};
 
 mod answers;
 mod command_line;
-mod lanes;
 mod place;
 mod play;
 mod replay;

@@ -3,7 +3,7 @@ ghost use Rattle.std.specs.Prelude.{◌≡◌, ◌≤◌, ◌⊎◌, true, IfErr
 ghost use Rattle.jobs_csv.specs.Fault.{IsFailure, is_refusal};
 ghost use Rattle.jobs_cli.specs.Run.{IsAnswer};
 
-use crate::{answers, lanes};
+use crate::answers;
 use cube_shape::MAX_DIM;
 use jobs_csv::{Device, Fault, What};
 use std::alloc::Global;
@@ -26,7 +26,6 @@ pub fn run_on<R: Read + Device, W: Write + Device>(
     ensures failed { IfErr result (λ fault. (is_refusal fault.what ≡ true) ⊎ IsFailure What.Read (R.failures reader.old) (R.failures reader.new) fault ⊎ IsFailure What.Write (W.failures writer.old) (W.failures writer.new) fault) }
     ensures untouched { IfErr result (λ fault. (is_refusal fault.what ≡ true) ⊎ (fault.what ≡ What.Read) → writer.new ≡ writer.old) }
 {
-    let jobs = jobs_csv::read_jobs(alloc, n, reader)?;
-    let lanes = lanes::by_lane(alloc, jobs)?;
+    let lanes = jobs_csv::read_lanes(alloc, n, reader)?;
     answers::answer_all(alloc, n, lanes, writer)
 }

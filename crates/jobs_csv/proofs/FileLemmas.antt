@@ -1,6 +1,5 @@
 -- What the rows that were read so far say of the whole file.
-use Rattle.std.proofs.Common.{◌≡◌, ℕ, ◌+◌, ◌≤◌, Bool, true, false, nat_lt, List, [], ◌∷◌, ◌++◌, length, Vec, Option, Some, None, IfSome, Result, Ok, Err, if◌then◌else◌, refl, sym, ap, ◌∙◌, append-nil, append_assoc, arith}
-use Rattle.std.specs.Global.{Global}
+use Rattle.std.proofs.Common.{◌≡◌, ℕ, ◌+◌, ◌≤◌, Bool, true, false, nat_lt, List, [], ◌∷◌, ◌++◌, length, Option, Some, None, IfSome, Result, Ok, Err, if◌then◌else◌, refl, sym, ap, ◌∙◌, append-nil, append_assoc, arith}
 use Rattle.std.proofs.lemmas.List.{length_push}
 use Rattle.std.proofs.lemmas.Bool.{false≢true}
 use Rattle.std.proofs.lemmas.Bool.Decides.{nat_tests}
@@ -11,7 +10,7 @@ use Rattle.jobs_csv.specs.declared.fault.What.{What}
 use Rattle.jobs_csv.specs.declared.fault.What.TheVariants as what
 use Rattle.jobs_csv.specs.declared.input.TheConstants.{MAX_RECORDS}
 use Rattle.jobs_csv.specs.Fault.{is_refusal}
-use Rattle.jobs_csv.specs.Outcome.{IsTold, TellsFile, ◌>>=◌}
+use Rattle.jobs_csv.specs.Outcome.{IsTold, TellsFile, TellsRows, ◌>>=◌}
 use Rattle.jobs_csv.specs.Files.{Record, at_row, file_of, numbered_row, records_of, rows_from, said}
 use Rattle.jobs_csv.specs.Input.{AreAll, HasGiven}
 use Rattle.jobs_csv.proofs.CsvRecords.{first_records, whole_records}
@@ -111,15 +110,19 @@ in_range row_of number fields within =
     ap (λ (over : Bool). if over then Err (record { row = number; what = what.TooMany }) else at_row number (row_of fields)) inside
 
 -- the end of the file
-pub whole_file : {R Row : Type 0} (header_of : Headers) (row_of : Rows Row) (rem : R → Option (List ℕ)) (bytes : Option (List ℕ)) (number : ℕ) (rows : Vec Row Global) (reader : Reader R) → (k : HasRead header_of row_of rem bytes number rows.items reader) → AreAll bytes (k.header ∷ k.front) → IfSome bytes (λ b. TellsFile (said header_of row_of b) (Ok rows))
-whole_file header_of row_of rem None number rows reader k all = tt
-whole_file header_of row_of rem (Some bytes) number rows reader k all =
+whole_file : {R Row : Type 0} (header_of : Headers) (row_of : Rows Row) (rem : R → Option (List ℕ)) (bytes : List ℕ) (number : ℕ) (rows : List Row) (reader : Reader R) → (k : HasRead header_of row_of rem (Some bytes) number rows reader) → AreAll (Some bytes) (k.header ∷ k.front) → said header_of row_of bytes ≡ Ok rows
+whole_file header_of row_of rem bytes number rows reader k all =
     ap (file_of header_of row_of) (whole_records (strip_bom bytes) (k.header ∷ k.front) all)
     ∙ file_rows header_of row_of k.header k.front k.good
     ∙ ap (rows_from row_of 1) (sym (append-nil k.front))
     ∙ k.passes.all []
-    ∙ ap (with_front rows.items) (no_more_rows row_of (length k.front + 1))
-    ∙ ap Ok (append-nil rows.items)
+    ∙ ap (with_front rows) (no_more_rows row_of (length k.front + 1))
+    ∙ ap Ok (append-nil rows)
+
+-- its rows are gathered
+pub all_gathered : {R Row G : Type 0} (holds : G → List Row → Type 0) (header_of : Headers) (row_of : Rows Row) (rem : R → Option (List ℕ)) (bytes : Option (List ℕ)) (number : ℕ) (rows : List Row) (gathered : G) (reader : Reader R) → holds gathered rows → (k : HasRead header_of row_of rem bytes number rows reader) → AreAll bytes (k.header ∷ k.front) → IfSome bytes (λ b. TellsRows holds (said header_of row_of b) (Ok gathered))
+all_gathered holds header_of row_of rem None number rows gathered reader held k all = tt
+all_gathered holds header_of row_of rem (Some bytes) number rows gathered reader held k all = (rows, whole_file header_of row_of rem bytes number rows reader k all, held)
 
 -- what the file says from the next record on
 from_next : {R Row : Type 0} (header_of : Headers) (row_of : Rows Row) (rem : R → Option (List ℕ)) (bytes : List ℕ) (number : ℕ) (rows : List Row) (reader next : Reader R) (fields : Record) → (k : HasRead header_of row_of rem (Some bytes) number rows reader) → HasGiven rem (Some bytes) ((k.header ∷ k.front) ++ fields ∷ []) next → (more : List Record) × (said header_of row_of bytes ≡ with_front rows (rows_from row_of number (fields ∷ more)))

@@ -12,3 +12,4 @@ pub mod LinesLemmas
 pub mod JobLemmas
 pub mod PlaceTextLemmas
 pub mod SentLemmas
+pub mod LaneLemmas

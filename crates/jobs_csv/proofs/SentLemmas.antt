@@ -1,12 +1,7 @@
 -- What was sent to a writer, and what is gathered to be sent.
-use Rattle.std.proofs.Common.{◌≡◌, ℕ, List, [], ◌∷◌, ◌++◌, Option, sym, ap, ◌∙◌, append-nil, append_assoc}
+use Rattle.std.proofs.Common.{◌≡◌, ℕ, List, [], ◌++◌, Option, sym, ap, ◌∙◌, append_assoc}
 use Rattle.std.specs.Io.KnownBytes.{Appends}
-use Rattle.std.specs.List.{flat_map}
-use Rattle.std.proofs.lemmas.Grind.{flat_map-append}
 use Rattle.csv.proofs.WriteFacts.{appends-more, appends-none}
-use Rattle.job_types.specs.Reply.{ReplyData}
-use Rattle.jobs_csv.specs.Replies.{replies_text, reply_columns, reply_fields}
-use Rattle.jobs_csv.specs.Text.{line_of}
 
 -- the text is what was sent to a writer, and behind it what is gathered
 pub record HasSent (old now : Option (List ℕ)) (lines text : List ℕ) : Type 0 where

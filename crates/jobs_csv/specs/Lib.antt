@@ -15,3 +15,4 @@ pub mod ReplayRows
 pub mod JobFields
 pub mod Jobs
 pub mod Replies
+pub mod Lanes

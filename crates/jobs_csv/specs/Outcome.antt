@@ -38,3 +38,8 @@ Tells view said (Err w) = IsTold said w
 abbrev pub TellsFile : {Row : Type 0} → Result (List Row) Fault → Result (Vec Row Global) Fault → Type 0
 TellsFile said (Ok rows) = said ≡ Ok rows.items
 TellsFile said (Err fault) = is_refusal fault.what ≡ true → said ≡ Err fault
+
+-- the same, where the rows are gathered in something that holds them
+abbrev pub TellsRows : {Row G : Type 0} → (G → List Row → Type 0) → Result (List Row) Fault → Result G Fault → Type 0
+TellsRows {Row} holds said (Ok gathered) = (rows : List Row) × (said ≡ Ok rows) × holds gathered rows
+TellsRows holds said (Err fault) = is_refusal fault.what ≡ true → said ≡ Err fault

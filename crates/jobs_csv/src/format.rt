@@ -1,16 +1,16 @@
 // Reading a file of any format: the loop over its records, and its first fault.
-ghost use Rattle.std.specs.Prelude.{◌≡◌, ◌⊎◌, ℕ, List, Result, true, All, IfOk, IfErr, IfSome};
+ghost use Rattle.std.specs.Prelude.{◌≡◌, ◌∷◌, [], ◌++◌, ◌⊎◌, ℕ, List, Result, true, All, IfOk, IfErr, IfSome, OnOk};
 ghost use Rattle.csv.specs.Records.{fields_of};
 ghost use Rattle.jobs_csv.specs.Fault.{IsFailure, IsReadFailure, is_refusal};
 ghost use Rattle.jobs_csv.specs.Files.{Record, said};
-ghost use Rattle.jobs_csv.specs.Outcome.{Tells, TellsFile};
+ghost use Rattle.jobs_csv.specs.Outcome.{Tells, TellsFile, TellsRows};
 ghost use Rattle.jobs_csv.specs.declared.fault.What.{What};
 
 use crate::device::Device;
 use crate::fault::{Fault, What};
 use crate::input::{self, MAX_RECORDS};
 use csv::ByteRecord;
-use std::alloc::Global;
+use std::alloc::{AllocError, Global};
 use std::io::Read;
 
 /// A format of files: what their header is, and what the records behind it say.
@@ -38,19 +38,42 @@ pub trait Format {
         ensures good { IfOk result (λ row. is_row self.now row) };
 }
 
-/// Reads the rows of a whole file.
+/// What rows are gathered in.
+pub trait Gather<Row>: Drop {
+    // It holds these rows, which came in this order.
+    ghost holds: { Self → List Row → Type 0 };
+
+    /// One more row comes in.
+    fn gather(&mut self, row: Row) -> Result<(), AllocError>
+        requires { (rows : List Row) × holds self.old rows }
+        ensures { (rows : List Row) → holds self.old rows → OnOk result (holds self.new (rows ++ row ∷ [])) };
+}
+
+impl<Row: Drop> Gather<Row> for Vec<Row> {
+    ghost holds = { λ list rows. rows ≡ list.items };
+
+    fn gather(&mut self, row: Row) -> Result<(), AllocError> {
+        self.push(row)?;
+        Ok(())
+    }
+}
+
+/// Reads the rows of a whole file, and gathers them behind nothing.
 ///
 /// A fault of the input is the first one in it. The others are `Read`, where the reader failed,
 /// and `OutOfMemory`; these have no record.
-pub fn read_records<F: Format, R: Read + Drop>(
+pub fn read_records<F: Format, G: Gather<F::Row>, R: Read + Drop>(
     alloc: Global,
     format: &F,
+    rows: G,
     text: R,
-) -> Result<Vec<F::Row>, Fault>
-    ensures told { IfSome (R.remaining text) (λ bytes. TellsFile (said F.header_of (F.row_of format.now) bytes) result) }
-    ensures good { IfOk result (λ rows. All (λ row. F.is_row format.now row) rows.items) }
+) -> Result<G, Fault>
+    requires { G.holds rows [] }
+    ensures told { IfSome (R.remaining text) (λ bytes. TellsRows G.holds (said F.header_of (F.row_of format.now) bytes) result) }
+    ensures good { IfOk result (λ gathered. (list : List F.Row) × G.holds gathered list × All (λ row. F.is_row format.now row) list) }
     ensures failed { IfErr result (λ fault. (is_refusal fault.what ≡ true) ⊎ IsReadFailure fault) }
 {
+    let mut rows = rows;
     let mut reader = input::open(alloc, text);
     let mut record = ByteRecord::new(alloc);
     if !input::next_row(&mut reader, &mut record)? {
@@ -60,7 +83,6 @@ pub fn read_records<F: Format, R: Read + Drop>(
     if let Err(what) = format.header(&record) {
         return Err(Fault { row: 0, what });
     }
-    let mut rows = Vec::new(alloc);
     for number in 1..MAX_RECORDS + 1 {
         if !input::next_row(&mut reader, &mut record)? {
             return Ok(rows);
@@ -69,7 +91,7 @@ pub fn read_records<F: Format, R: Read + Drop>(
             Ok(row) => row,
             Err(what) => return Err(input::fault_at(number, what)),
         };
-        if rows.push(row).is_err() {
+        if rows.gather(row).is_err() {
             return Err(input::fault_at(number, What::OutOfMemory));
         }
     }
@@ -82,18 +104,20 @@ pub fn read_records<F: Format, R: Read + Drop>(
 }
 
 /// Reads the rows of a whole file from a reader that is lent, and blames the reader only where it
-/// has failed.
-pub fn read_file<F: Format, R: Read + Device>(
+/// has failed. They are gathered behind nothing.
+pub fn read_file<F: Format, G: Gather<F::Row>, R: Read + Device>(
     alloc: Global,
     format: &F,
+    rows: G,
     reader: &mut R,
-) -> Result<Vec<F::Row>, Fault>
-    ensures told { IfSome (R.remaining reader.old) (λ bytes. TellsFile (said F.header_of (F.row_of format.now) bytes) result) }
-    ensures good { IfOk result (λ rows. All (λ row. F.is_row format.now row) rows.items) }
+) -> Result<G, Fault>
+    requires { G.holds rows [] }
+    ensures told { IfSome (R.remaining reader.old) (λ bytes. TellsRows G.holds (said F.header_of (F.row_of format.now) bytes) result) }
+    ensures good { IfOk result (λ gathered. (list : List F.Row) × G.holds gathered list × All (λ row. F.is_row format.now row) list) }
     ensures failed { IfErr result (λ fault. (is_refusal fault.what ≡ true) ⊎ IsFailure What.Read (R.failures reader.old) (R.failures reader.new) fault) }
 {
     let before = reader.failures();
-    let fault = match read_records(alloc, format, &mut *reader) {
+    let fault = match read_records(alloc, format, rows, &mut *reader) {
         Ok(rows) => return Ok(rows),
         Err(fault) => fault,
     };
@@ -104,4 +128,17 @@ pub fn read_file<F: Format, R: Read + Device>(
         return Err(fault);
     }
     Err(Fault::blamed(What::Read, before, reader.failures()))
+}
+
+/// Reads the rows of a whole file as a list, as `read_file` does.
+pub fn read_list<F: Format, R: Read + Device>(
+    alloc: Global,
+    format: &F,
+    reader: &mut R,
+) -> Result<Vec<F::Row>, Fault>
+    ensures told { IfSome (R.remaining reader.old) (λ bytes. TellsFile (said F.header_of (F.row_of format.now) bytes) result) }
+    ensures good { IfOk result (λ rows. All (λ row. F.is_row format.now row) rows.items) }
+    ensures failed { IfErr result (λ fault. (is_refusal fault.what ≡ true) ⊎ IsFailure What.Read (R.failures reader.old) (R.failures reader.new) fault) }
+{
+    read_file(alloc, format, Vec::new(alloc), reader)
 }

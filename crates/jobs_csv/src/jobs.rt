@@ -5,11 +5,13 @@ ghost use Rattle.csv.specs.Records.{fields_of};
 ghost use Rattle.cube_shape.specs.declared.limits.TheConstants.{MAX_DIM};
 ghost use Rattle.jobs_csv.specs.Fault.{IsFailure, is_refusal};
 ghost use Rattle.jobs_csv.specs.Jobs.{accepted, job_of, jobs_header, jobs_said};
+ghost use Rattle.jobs_csv.specs.Lanes.{TellsLanes};
 ghost use Rattle.jobs_csv.specs.Outcome.{Tells, TellsFile};
 
 use crate::device::Device;
 use crate::fault::{Fault, What};
 use crate::format::{self, Format};
+use crate::lanes::Lanes;
 use crate::{columns, fields, job_fields};
 use csv::ByteRecord;
 use cube_shape::MAX_DIM;
@@ -151,5 +153,21 @@ pub fn read_jobs<R: Read + Device>(alloc: Global, n: u32, reader: &mut R) -> Res
     ensures machine { IfOk result (λ jobs. All (λ job. job.machine ≡ n) jobs.items) }
     ensures failed { IfErr result (λ fault. (is_refusal fault.what ≡ true) ⊎ IsFailure What.Read (R.failures reader.old) (R.failures reader.new) fault) }
 {
-    format::read_file(alloc, &Jobs { n }, reader)
+    format::read_list(alloc, &Jobs { n }, reader)
+}
+
+/// Reads the jobs of a whole file, as `read_jobs` does, and takes them apart by their lanes: it gives
+/// a list for each lane, in which the lane's jobs are in the order of the file.
+pub fn read_lanes<R: Read + Device>(
+    alloc: Global,
+    n: u32,
+    reader: &mut R,
+) -> Result<Vec<Vec<Job>>, Fault>
+    requires { n ≤ MAX_DIM }
+    ensures told { IfSome (R.remaining reader.old) (λ bytes. TellsLanes (jobs_said n bytes) result) }
+    ensures machine { IfOk result (λ lanes. All (λ lane. All (λ job. job.machine ≡ n) lane.items) lanes.items) }
+    ensures failed { IfErr result (λ fault. (is_refusal fault.what ≡ true) ⊎ IsFailure What.Read (R.failures reader.old) (R.failures reader.new) fault) }
+{
+    let lanes = format::read_file(alloc, &Jobs { n }, Lanes::new(alloc)?, reader)?;
+    Ok(lanes.jobs)
 }

@@ -128,5 +128,5 @@ pub fn read_place<R: Read + Device>(
     ensures fits { IfOk result (λ commands. All (λ command. Fits n command) commands.items) }
     ensures failed { IfErr result (λ fault. (is_refusal fault.what ≡ true) ⊎ IsFailure What.Read (R.failures reader.old) (R.failures reader.new) fault) }
 {
-    format::read_file(alloc, &Commands { n }, reader)
+    format::read_list(alloc, &Commands { n }, reader)
 }

@@ -143,5 +143,5 @@ pub fn read_schedule<R: Read + Device>(alloc: Global, reader: &mut R) -> Result<
     ensures times { IfOk result (λ lines. All (λ line. HasTimes line) lines.items) }
     ensures failed { IfErr result (λ fault. (is_refusal fault.what ≡ true) ⊎ IsFailure What.Read (R.failures reader.old) (R.failures reader.new) fault) }
 {
-    format::read_file(alloc, &Schedule, reader)
+    format::read_list(alloc, &Schedule, reader)
 }

@@ -8,7 +8,7 @@ use Rattle.job_types.specs.Reply.{ReplyData}
 use Rattle.jobs_csv.specs.Replies.{replies_text, reply_columns, reply_fields, reply_lines}
 use Rattle.jobs_csv.specs.Text.{line_of}
 use Rattle.jobs_csv.proofs.SentLemmas.{HasSent, all_sent, more_gathered, more_sent, none_sent}
-use Rattle.jobs_cli.specs.Lanes.{Named, lane_by_lane, named_from}
+use Rattle.jobs_cli.specs.Names.{Named, lane_by_lane, named_from}
 use Rattle.jobs_cli.specs.Replies.{answered}
 use Rattle.jobs_cli.proofs.TurnLemmas.{more_lines}
 use Rattle.jobs_cli.proofs.answers.answer_all.Goals as goal

@@ -1,10 +1,9 @@
 use Rattle.std.proofs.Common.{◌≡◌, ℕ, List, None, map}
-use Rattle.std.specs.List.{flat_map}
 use Rattle.alloc_bits.specs.Allocation.{held_in}
 use Rattle.job_types.specs.Reply.{ReplyData}
 use Rattle.jobs_csv.specs.Replies.{replies_text}
 use Rattle.jobs_csv.proofs.SentLemmas.{HasSent}
-use Rattle.jobs_cli.specs.Lanes.{lane_by_lane}
+use Rattle.jobs_cli.specs.Names.{lane_by_lane}
 use Rattle.jobs_cli.specs.Replies.{answered}
 use Rattle.jobs_cli.proofs.answers.answer_all.Given as goal
 

@@ -1,4 +1,4 @@
-use Rattle.std.proofs.Common.{◌≡◌, List, [], ◌∷◌, ◌++◌, refl, sym, subst, ◌∙◌, append-nil, length, rules, arith}
+use Rattle.std.proofs.Common.{◌≡◌, [], ◌∷◌, ◌++◌, refl, sym, subst, ◌∙◌, append-nil, rules, arith}
 use Rattle.std.proofs.lemmas.Iterator.Adapters.{YieldsList-from_vec}
 use Rattle.std.proofs.lemmas.Iterator.Consumers.{YieldsList-end}
 use Rattle.std.proofs.lemmas.List.{flat_map_more, length_push, map-id}
@@ -6,8 +6,7 @@ use Rattle.job_types.specs.Reply.{ReplyData}
 use Rattle.jobs_csv.specs.Replies.{reply_fields, reply_lines}
 use Rattle.jobs_csv.specs.Text.{line_of}
 use Rattle.jobs_csv.proofs.SentLemmas.{HasSent, more_gathered, more_sent, none_sent}
-use Rattle.jobs_cli.specs.Lanes.{named_from}
-use Rattle.jobs_cli.proofs.LaneLemmas.{no_name, reply_push}
+use Rattle.jobs_cli.proofs.OrderLemmas.{no_name, reply_push}
 use Rattle.jobs_cli.proofs.answers.answer_lane.Goals as goal
 
 pub loop-job-init : goal.loop-job-init

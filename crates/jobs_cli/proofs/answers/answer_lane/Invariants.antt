@@ -3,7 +3,7 @@ use Rattle.alloc_bits.specs.Allocation.{held_in}
 use Rattle.job_types.specs.Reply.{ReplyData}
 use Rattle.jobs_csv.specs.Replies.{reply_lines}
 use Rattle.jobs_csv.proofs.SentLemmas.{HasSent}
-use Rattle.jobs_cli.specs.Lanes.{named_from}
+use Rattle.jobs_cli.specs.Names.{named_from}
 use Rattle.jobs_cli.specs.Replies.{answered}
 use Rattle.jobs_cli.proofs.answers.answer_lane.Given as goal
 

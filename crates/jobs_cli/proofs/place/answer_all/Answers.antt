@@ -1,11 +1,11 @@
-use Rattle.std.proofs.Common.{◌≡◌, List, ℕ, [], ◌∷◌, ◌++◌, refl, sym, ap, subst, ◌∙◌, append-nil, rules}
+use Rattle.std.proofs.Common.{◌≡◌, List, ℕ, [], ◌∷◌, ◌++◌, refl, sym, subst, ◌∙◌, append-nil, rules}
 use Rattle.std.proofs.lemmas.List.{flat_map_more}
 use Rattle.jobs_csv.specs.declared.place_rows.PlaceRow.{PlaceRow}
 use Rattle.jobs_csv.specs.PlaceRows.{place_columns, place_fields}
 use Rattle.jobs_csv.specs.Text.{line_of}
 use Rattle.jobs_csv.proofs.SentLemmas.{HasSent, more_gathered, more_sent, none_sent}
 use Rattle.jobs_cli.specs.Place.{IsPlaced, Table, Tells, nobody, place_text}
-use Rattle.jobs_cli.specs.Stations.{dim_of, table_of}
+use Rattle.jobs_cli.specs.Stations.{table_of}
 use Rattle.jobs_cli.proofs.TurnLemmas.{one_more}
 use Rattle.jobs_cli.proofs.place.answer_all.Goals as goal
 

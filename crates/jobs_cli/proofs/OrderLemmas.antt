@@ -1,30 +1,36 @@
 -- From the lanes of jobs to the order of their replies: lane by lane, all jobs are there, and their
 -- names rise.
-use Rattle.std.proofs.Common.{◌≡◌, ◌≢◌, ℕ, zero, suc, ◌+◌, ◌<◌, ◌≤◌, ◌==◌, ◌⊎◌, inl, inr, Bool, true, false, List, [], ◌∷◌, ◌++◌, All, length, map, slice_index_or, slice_set, Vec, Global, if◌then◌else◌, refl, sym, ap, subst, ◌∙◌, append-nil, append_assoc, get_or-set_other, get_or-set_same, length-set, arith}
+use Rattle.std.proofs.Common.{◌≡◌, ◌≢◌, ℕ, zero, suc, ◌+◌, ◌<◌, ◌≤◌, ◌==◌, inl, inr, Bool, true, false, List, [], ◌∷◌, ◌++◌, All, length, map, slice_index_or, Vec, Global, Option, Some, None, IfSome, Result, Ok, Err, IfErr, OnOk, if◌then◌else◌, refl, sym, ap, subst, ◌∙◌, arith}
 use Rattle.std.specs.Bool.{⊤}
-use Rattle.std.specs.List.{filter, flat_map}
 use Rattle.std.specs.List.Sorted.{IsPermutation, IsSorted}
 use Rattle.std.specs.Cmp.{nat_cmp_is}
 use Rattle.std.specs.Ordering.{is_lt, nat_cmp, ordering_then}
 use Rattle.std.specs.declared.cmp.Ordering.{Ordering}
 use Rattle.std.specs.declared.cmp.Ordering.TheVariants.{Equal, Greater}
-use Rattle.std.proofs.lemmas.Bool.{cases_eq}
+use Rattle.std.specs.Io.KnownBytes.{Appends}
+use Rattle.std.proofs.lemmas.Bool.{cases_eq, false≢true}
 use Rattle.std.proofs.lemmas.Bool.Decides.{nat_tests}
-use Rattle.std.proofs.lemmas.List.{length_push, map-append}
+use Rattle.std.proofs.lemmas.List.{map-append}
 use Rattle.std.proofs.lemmas.List.Concat.{flat_map-cons}
-use Rattle.std.proofs.lemmas.List.Elements.{All-cons, All-filter, All-push, filter-append}
+use Rattle.std.proofs.lemmas.List.Elements.{All-cons}
 use Rattle.std.proofs.lemmas.List.Sorted.{IsPermutation-append_right, IsPermutation-cons, IsPermutation-middle, IsPermutation-refl, IsPermutation-sym, IsPermutation-trans}
 use Rattle.std.proofs.lemmas.List.Sums.{sum_by_push}
 use Rattle.job_types.specs.Job.{JobData}
 use Rattle.job_types.specs.declared.job.TheConstants.{MAX_LANES}
 use Rattle.job_types.specs.Reply.{ReplyData}
-use Rattle.job_types.specs.declared.reply.JobId.{JobId}
-use Rattle.jobs_cli.specs.Lanes.{AreLanes, Named, all_named, all_named_after, in_lane, lane_by_lane, lane_count, named_after, named_from}
+use Rattle.jobs_csv.specs.declared.fault.Fault.{Fault}
+use Rattle.jobs_csv.specs.declared.fault.What.TheVariants as what
+use Rattle.jobs_csv.specs.Fault.{IsFailure, is_refusal}
+use Rattle.jobs_csv.specs.Jobs.{jobs_said}
+use Rattle.jobs_csv.specs.Lanes.{AreLanes, TellsLanes, in_lane}
+use Rattle.jobs_csv.specs.Replies.{replies_text}
+use Rattle.jobs_cli.specs.Names.{Named, all_named_after, lane_by_lane, lane_count, named_after, named_from}
 use Rattle.jobs_cli.specs.Replies.{AreInOrder, answered, by_name}
+use Rattle.jobs_cli.specs.Run.{IsAnswer}
 
--- ---- one job more
+-- ---- one job more in front
 
--- it comes last in its own lane
+-- it is in its own lane
 lane_front : (lane : ℕ) (job : JobData) (jobs : List JobData) → job.lane ≡ lane → in_lane lane (job ∷ jobs) ≡ job ∷ in_lane lane jobs
 lane_front lane job jobs same =
     let here : (job.lane == lane) ≡ true = grind (arith, nat_tests) in
@@ -35,32 +41,6 @@ other_front : (lane : ℕ) (job : JobData) (jobs : List JobData) → lane ≢ jo
 other_front lane job jobs other =
     let apart : (job.lane == lane) ≡ false = grind (arith, nat_tests) in
     ap (λ (b : Bool). if b then job ∷ in_lane lane jobs else in_lane lane jobs) apart
-
-lane_push : (lane : ℕ) (jobs : List JobData) (job : JobData) → job.lane ≡ lane → in_lane lane (jobs ++ job ∷ []) ≡ in_lane lane jobs ++ job ∷ []
-lane_push lane jobs job same = filter-append (λ (j : JobData). j.lane == lane) jobs (job ∷ []) ∙ ap (λ (last : List JobData). in_lane lane jobs ++ last) (lane_front lane job [] same)
-
-other_push : (lane : ℕ) (jobs : List JobData) (job : JobData) → lane ≢ job.lane → in_lane lane (jobs ++ job ∷ []) ≡ in_lane lane jobs
-other_push lane jobs job other = filter-append (λ (j : JobData). j.lane == lane) jobs (job ∷ []) ∙ ap (λ (last : List JobData). in_lane lane jobs ++ last) (other_front lane job [] other) ∙ append-nil (in_lane lane jobs)
-
--- the lanes of one job more
-pub one_more_in_lane : (jobs : List JobData) (job : JobData) (lanes : List (Vec JobData Global)) (longer none : Vec JobData Global) → AreLanes jobs lanes → job.lane < MAX_LANES → longer.items ≡ (slice_index_or lanes job.lane none).items ++ job ∷ [] → AreLanes (jobs ++ job ∷ []) (slice_set lanes job.lane longer)
-one_more_in_lane jobs job lanes longer none k lt put = record {
-  count = length-set _ _ _ ∙ k.count;
-  below = All-push (λ (j : JobData). j.lane < MAX_LANES) jobs job k.below lt;
-  each = λ lane d within. elim (cases_eq lane job.lane) [
-    | inl same ↦
-        ap (λ (l : ℕ). (slice_index_or (slice_set lanes job.lane longer) l d).items) same
-        ∙ ap (λ (v : Vec JobData Global). v.items) (get_or-set_same lanes job.lane longer d (omega (arith, k.count, lt)))
-        ∙ put
-        ∙ ap (λ (front : List JobData). front ++ job ∷ []) (k.each job.lane none lt)
-        ∙ sym (lane_push job.lane jobs job refl)
-        ∙ ap (λ (l : ℕ). in_lane l (jobs ++ job ∷ [])) (sym same)
-    | inr other ↦
-        ap (λ (v : Vec JobData Global). v.items) (get_or-set_other lanes job.lane lane longer d other)
-        ∙ k.each lane d within
-        ∙ sym (other_push lane jobs job other)
-  ];
-}
 
 -- ---- the lists of lanes one behind the other
 
@@ -204,7 +184,7 @@ as_gathered jobs_of (lane ∷ lanes) first each =
     ∙ ap (λ (rest : List Named). named_from 0 (jobs_of first) ++ rest) (as_gathered jobs_of lanes (suc first) (λ k l none lt at. each (suc k) l none (omega (arith, lt)) (omega (arith, at))))
 
 -- the lanes of jobs, lane by lane, are the jobs in the order of their replies
-pub in_order : (jobs : List JobData) (lanes : List (Vec JobData Global)) → AreLanes jobs lanes → AreInOrder jobs (lane_by_lane lanes)
+pub in_order : (jobs : List JobData) (lanes : List (Vec JobData Global)) → AreLanes lanes jobs → AreInOrder jobs (lane_by_lane lanes)
 unfolding lane_named
 in_order jobs lanes k =
     let gathered : lane_by_lane lanes ≡ gather (lane_named [] jobs) 0 MAX_LANES =
@@ -213,10 +193,6 @@ in_order jobs lanes k =
       same = rw gathered (all_there [] jobs k.below);
       sorted = rw gathered (gather_sorted (λ lane. in_lane lane jobs) (λ lane. own_lane lane jobs) 0 MAX_LANES);
     }
-
--- what holds of all jobs holds of those of each lane
-pub all_in_lanes : (P : JobData → Type 0) (jobs : List JobData) (lanes : List (Vec JobData Global)) → AreLanes jobs lanes → All P jobs → All (λ lane. All P lane.items) lanes
-all_in_lanes P jobs lanes k all = λ lane none lt. subst (All P) (sym (k.each lane none (omega (arith, lt, k.count)))) (All-filter (λ (job : JobData). job.lane == lane) P jobs all)
 
 -- ---- the names of a lane, one by one
 
@@ -239,25 +215,20 @@ reply_push replies jobs reply job seq same answers count =
     ∙ ap (λ (last : Named). named_from 0 jobs ++ last ∷ []) (answers ∙ ap {B = Named} (λ (number : ℕ). record { id = record { lane = job.lane; seq = number }; job = job }) number)
     ∙ sym (named_push 0 jobs job)
 
--- ---- no jobs
+-- ---- what a run answers
 
--- so many lists, with no job in any
-pub record AreEmpty (lanes : List (Vec JobData Global)) (count : ℕ) : Type 0 where
-  pub length : length lanes ≡ count
-  pub empty : All (λ lane. lane.items ≡ []) lanes
-
-pub one_more_empty : (lanes : List (Vec JobData Global)) (count : ℕ) (lane : Vec JobData Global) → AreEmpty lanes count → lane.items ≡ [] → AreEmpty (lanes ++ lane ∷ []) (count + 1)
-one_more_empty lanes count lane k none = record {
-  length = omega (arith, k.length, length_push lanes lane);
-  empty = All-push (λ (l : Vec JobData Global). l.items ≡ []) lanes lane k.empty none;
+-- where the lanes are those of a good file, and the replies to them were written, all is done; and a
+-- fault of writing is no refusal
+pub run_answered : (n : ℕ) (read : Option (List ℕ)) (lanes : Vec (Vec JobData Global) Global) (result : Result (Unit {0}) Fault) (before after : ℕ) (old new : Option (List ℕ)) → IfSome read (λ bytes. TellsLanes (jobs_said n bytes) (Ok lanes)) → OnOk result ((replies : List ReplyData) × (map answered replies ≡ lane_by_lane lanes.items) × Appends old new (replies_text replies)) → IfErr result (λ fault. IsFailure what.Write before after fault) → IfSome read (λ bytes. IsAnswer n bytes old new result)
+run_answered n None lanes result before after old new told sent failed = tt
+run_answered n (Some bytes) lanes (Ok done) before after old new (jobs, good, are) (replies, same, out) failed = record {
+  jobs = jobs;
+  replies = replies;
+  good = good;
+  answered = subst (AreInOrder jobs) (sym same) (in_order jobs lanes.items are);
+  written = out;
 }
-
-pub no_lanes : AreEmpty [] 0
-no_lanes = record { length = refl; empty = λ k d lt. absurd (omega (arith, lt)) }
-
-pub none_in_lanes : (lanes : List (Vec JobData Global)) → AreEmpty lanes MAX_LANES → AreLanes [] lanes
-none_in_lanes lanes k = record {
-  count = k.length;
-  below = λ j d lt. absurd (omega (arith, lt));
-  each = λ lane none lt. k.empty lane none (omega (arith, lt, k.length));
-}
+run_answered n (Some bytes) lanes (Err fault) before after old new told sent failed = λ is. elim failed.blamed [
+  | inl memory ↦ absurd (false≢true (ap is_refusal (sym memory) ∙ is))
+  | inr device ↦ absurd (false≢true (ap is_refusal (sym device.0) ∙ is))
+]

@@ -1,0 +1,32 @@
+-- Lanes of jobs.
+use Rattle.std.proofs.Common.{◌≡◌, ℕ, ◌+◌, ◌==◌, List, [], ◌∷◌, ◌++◌, All, length, Vec, Global, refl, sym, subst, arith}
+use Rattle.std.proofs.lemmas.List.{length_push}
+use Rattle.std.proofs.lemmas.List.Elements.{All-filter, All-push}
+use Rattle.job_types.specs.Job.{JobData}
+use Rattle.job_types.specs.declared.job.TheConstants.{MAX_LANES}
+use Rattle.jobs_csv.specs.Lanes.{AreLanes}
+
+-- what holds of all jobs holds of those of each lane
+pub all_in_lanes : (P : JobData → Type 0) (lanes : List (Vec JobData Global)) (jobs : List JobData) → AreLanes lanes jobs → All P jobs → All (λ lane. All P lane.items) lanes
+all_in_lanes P lanes jobs k all = λ lane none lt. subst (All P) (sym (k.each lane none (omega (arith, lt, k.count)))) (All-filter (λ (job : JobData). job.lane == lane) P jobs all)
+
+-- so many lists, with no job in any
+pub record AreEmpty (lanes : List (Vec JobData Global)) (count : ℕ) : Type 0 where
+  pub length : length lanes ≡ count
+  pub empty : All (λ lane. lane.items ≡ []) lanes
+
+pub one_more_empty : (lanes : List (Vec JobData Global)) (count : ℕ) (lane : Vec JobData Global) → AreEmpty lanes count → lane.items ≡ [] → AreEmpty (lanes ++ lane ∷ []) (count + 1)
+one_more_empty lanes count lane k none = record {
+  length = omega (arith, k.length, length_push lanes lane);
+  empty = All-push (λ (l : Vec JobData Global). l.items ≡ []) lanes lane k.empty none;
+}
+
+pub no_lanes : AreEmpty [] 0
+no_lanes = record { length = refl; empty = λ k d lt. absurd (omega (arith, lt)) }
+
+pub none_in_lanes : (lanes : List (Vec JobData Global)) → AreEmpty lanes MAX_LANES → AreLanes lanes []
+none_in_lanes lanes k = record {
+  count = k.length;
+  below = λ j d lt. absurd (omega (arith, lt));
+  each = λ lane none lt. k.empty lane none (omega (arith, lt, k.length));
+}

@@ -1,0 +1,22 @@
+-- Jobs taken apart by their lanes, and what a file of jobs says so.
+use Rattle.std.specs.Prelude.{◌≡◌, ℕ, ◌<◌, ◌==◌, List, All, length, slice_index_or, Vec, Result}
+use Rattle.std.specs.List.{filter}
+use Rattle.std.specs.Global.{Global}
+use Rattle.job_types.specs.Job.{JobData}
+use Rattle.job_types.specs.declared.job.TheConstants.{MAX_LANES}
+use Rattle.jobs_csv.specs.declared.fault.Fault.{Fault}
+use Rattle.jobs_csv.specs.Outcome.{TellsRows}
+
+-- the jobs of a lane, in the order in which they are given
+abbrev pub in_lane : ℕ → List JobData → List JobData
+in_lane lane jobs = filter (λ job. job.lane == lane) jobs
+
+-- the lists are the lanes of these jobs
+pub record AreLanes (lanes : List (Vec JobData Global)) (jobs : List JobData) : Type 0 where
+  pub count : length lanes ≡ MAX_LANES
+  pub below : All (λ job. job.lane < MAX_LANES) jobs
+  pub each : (lane : ℕ) (none : Vec JobData Global) → lane < MAX_LANES → (slice_index_or lanes lane none).items ≡ in_lane lane jobs
+
+-- the lists are the lanes of the jobs that a file says, and a refusal is the one that it says
+abbrev pub TellsLanes : Result (List JobData) Fault → Result (Vec (Vec JobData Global) Global) Fault → Type 0
+TellsLanes said result = TellsRows (λ lanes jobs. AreLanes lanes.items jobs) said result

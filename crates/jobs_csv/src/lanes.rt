@@ -1,0 +1,38 @@
+// Jobs, lane by lane.
+ghost use Rattle.std.specs.Prelude.{[], IfOk};
+ghost use Rattle.jobs_csv.specs.Lanes.{AreLanes};
+
+use crate::format::Gather;
+use job_types::{Job, MAX_LANES};
+use std::alloc::{AllocError, Global};
+
+/// A list of jobs for each lane, in which the jobs of the lane are in the order in which they came.
+#[derive(Drop)]
+pub struct Lanes {
+    pub jobs: Vec<Vec<Job>>,
+}
+
+impl Lanes {
+    /// No job has come.
+    pub fn new(alloc: Global) -> Result<Self, AllocError>
+        ensures { IfOk result (λ lanes. AreLanes lanes.jobs.items []) }
+    {
+        let mut jobs = Vec::with_capacity(alloc, MAX_LANES as usize)?;
+        for _lane in 0..MAX_LANES {
+            jobs.push(Vec::new(alloc))?;
+        }
+        Ok(Lanes { jobs })
+    }
+}
+
+impl Gather<Job> for Lanes {
+    ghost use Rattle.jobs_csv.specs.Lanes.{AreLanes};
+
+    ghost holds = { λ lanes jobs. AreLanes lanes.jobs.items jobs };
+
+    fn gather(&mut self, job: Job) -> Result<(), AllocError> {
+        let lane = job.lane() as usize;
+        self.jobs[lane].push(job)?;
+        Ok(())
+    }
+}
