@@ -187,3 +187,12 @@ block_fits n size block below =
     let up = mul-le (block + 1) size (n / size) size (omega arith) (omega arith) in
     let next : (block + 1) * size ≡ block * size + size = grind arith in
     omega (arith, div-add-mod' n size, up, next)
+
+-- a block of so many ranks that begins within whole blocks of them ends within them
+pub block_within : (n size start : ℕ) → n % size ≡ 0 → start % size ≡ 0 → start < n → start + size ≤ n
+block_within n size start whole first within = elim (cases_lt (start / size) (n / size)) [
+  | inl below ↦ omega (arith, div-add-mod' start size, block_fits n size (start / size) below)
+  | inr above ↦
+      let down = mul-le (n / size) size (start / size) size above (omega arith) in
+      absurd (omega (arith, div-add-mod' start size, div-add-mod' n size, down))
+]

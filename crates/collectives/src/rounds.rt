@@ -122,8 +122,8 @@ pub(crate) fn gather<M: Monoid>(items: &mut [M], root: usize, half: usize)
 {
     let offset = root % half;
     let to_low = root / half % 2 == 0;
-    for block in 0..items.len() / (2 * half) {
-        let low = block * (2 * half) + offset;
+    for start in (0..items.len()).step_by(2 * half) {
+        let low = start + offset;
         gather_pair(items, low, low + half, to_low);
     }
 }

@@ -129,24 +129,6 @@ fn answers_all_kinds(rt: HostRuntime) -> Result<(), Fail> {
 }
 
 #[test]
-fn answers_all_operations(rt: HostRuntime) -> Result<(), Fail> {
-    let rows = [
-        ("add", "5 8 17 21"),
-        ("min", "5 3 3 3"),
-        ("max", "5 5 9 9"),
-        ("xor", "5 6 15 11"),
-        ("and", "5 1 1 0"),
-        ("or", "5 7 15 15"),
-    ];
-    for (op, result) in rows.as_slice() {
-        let record = format!(in rt.alloc(); "0,scan,{op},0,5 3 9 4\n")?;
-        let reply = format!(in rt.alloc(); "0,0,scan,2,{result},2,8\n")?;
-        expect_replies(&rt, 2, &record, &reply)?;
-    }
-    Ok(())
-}
-
-#[test]
 fn counts_each_lane(rt: HostRuntime) -> Result<(), Fail> {
     expect_replies(
         &rt,
@@ -158,131 +140,33 @@ fn counts_each_lane(rt: HostRuntime) -> Result<(), Fail> {
     )
 }
 
+// One file for each fault that an input can have.
 #[test]
-fn reads_what_csv_reads(rt: HostRuntime) -> Result<(), Fail> {
-    let reply = "0,0,allreduce,1,3 3,1,2\n";
-    expect_replies(&rt, 3, "\"0\",allreduce,add,0,\"1 2\"\n", reply)?;
-    expect_replies(&rt, 3, "0,allreduce,add,0,1 2", reply)?;
-    expect_replies(&rt, 3, "0,allreduce,add,0,1 2\r\n", reply)?;
-    expect_replies(&rt, 3, "\n\n0,allreduce,add,0,1 2\n\n", reply)?;
-    let marked = b"\xEF\xBB\xBF\r\nlane,\"kind\",op,root,items\r\n0,allreduce,add,0,1 2\r\n";
-    let ran = run_bytes(&rt, 3, marked.as_slice())?;
-    assert!(rt; ran.answer == Ok(()));
-    let wanted = joined(rt.alloc(), REPLIES, reply.as_bytes())?;
-    assert!(rt; ran.text.as_slice() == wanted.as_slice());
-    Ok(())
-}
-
-#[test]
-fn refuses_headers(rt: HostRuntime) -> Result<(), Fail> {
-    let inputs: [(&[u8], What); 8] = [
-        (b"", What::Fields),
-        (b"\n\n", What::Fields),
-        (b"lane,kind,op,root\n", What::Fields),
-        (b"lane,kind,op,root,items,more\n", What::Fields),
-        (b"lane,kind,op,root,item\n", What::Word),
-        (b"Lane,kind,op,root,items\n", What::Word),
-        (b"lane,kind,op,root, items\n", What::Word),
-        (
-            b"\xEF\xBB\xBF\xEF\xBB\xBFlane,kind,op,root,items\n",
-            What::Word,
-        ),
-    ];
-    for (input, what) in inputs.as_slice() {
-        expect_refusal(&rt, 3, input, 0, *what)?;
-    }
-    Ok(())
-}
-
-#[test]
-fn refuses_records(rt: HostRuntime) -> Result<(), Fail> {
-    let records: [(&[u8], What); 48] = [
-        (b"0,allreduce,add,0\n", What::Fields),
-        (b"0,allreduce,add,0,1,2\n", What::Fields),
-        (b" \n", What::Fields),
-        (b"\"\"\n", What::Fields),
-        (b"16,allreduce,add,0,4\n", What::Number),
-        (b"4294967296,allreduce,add,0,4\n", What::Number),
-        (b",allreduce,add,0,4\n", What::Number),
-        (b"00,allreduce,add,0,4\n", What::Number),
-        (b"+1,allreduce,add,0,4\n", What::Number),
-        (b" 1,allreduce,add,0,4\n", What::Number),
-        (b"0x1,allreduce,add,0,4\n", What::Number),
+fn refuses_files(rt: HostRuntime) -> Result<(), Fail> {
+    expect_refusal(&rt, 3, b"", 0, What::Fields)?;
+    expect_refusal(&rt, 3, b"lane,kind,op,root,item\n", 0, What::Word)?;
+    let records: [(&[u8], What); 8] = [
+        (b"0,scan,add,0\n", What::Fields),
         (b"16,scan,add,0,4\n", What::Number),
         (b"0,gather,add,0,4\n", What::Word),
-        (b"0,Scan,add,0,4\n", What::Word),
-        (b"0,scan,plus,0,4\n", What::Word),
-        (b"0,scan,-,0,4\n", What::Word),
-        (b"0,reduce,,0,4\n", What::Word),
-        (b"0,broadcast,add,0,4\n", What::Word),
-        (b"0,broadcast,,0,4\n", What::Word),
-        (b"0,broadcast,-,-,4\n", What::Number),
-        (b"0,,add,0,4\n", What::Word),
-        (b"0,allreduce ,add,0,4\n", What::Word),
-        (b"0,\xFF,add,0,4\n", What::Word),
-        (b"0,allreduce,plus,0,4\n", What::Word),
-        (b"0,allreduce,-,x,4\n", What::Word),
-        (b"0,allreduce,add,00,1\n", What::Number),
-        (b"0,allreduce,add,,1\n", What::Number),
-        (b"0,allreduce,add,-1,1\n", What::Number),
-        (b"0,allreduce,add,1,1 x\n", What::Number),
-        (b"0,allreduce,add,0,1  2\n", What::Number),
-        (b"0,allreduce,add,0, 1 2\n", What::Number),
-        (b"0,allreduce,add,0, \n", What::Number),
-        (b"0,allreduce,add,0,1 02\n", What::Number),
-        (b"0,allreduce,add,0,18446744073709551616\n", What::Number),
-        (b"0,broadcast,-,9,\n", What::Job(JobRefused::Empty)),
+        (b"0,scan,add,0,\n", What::Job(JobRefused::Empty)),
         (
-            b"0,broadcast,-,9,1 2 3\n",
-            What::Job(JobRefused::NotPowerOfTwo),
-        ),
-        (b"0,broadcast,-,2,4 9\n", What::Job(JobRefused::BadRoot)),
-        (b"0,reduce,max,4,1 2 3 4\n", What::Job(JobRefused::BadRoot)),
-        (b"0,scan,add,1,4 9\n", What::Job(JobRefused::BadRoot)),
-        (
-            b"0,scan,add,1,1 2 3\n",
+            b"0,scan,add,0,1 2 3\n",
             What::Job(JobRefused::NotPowerOfTwo),
         ),
         (
             b"0,reduce,add,99,1 1 1 1 1 1 1 1 1 1 1 1 1 1 1 1\n",
             What::Job(JobRefused::TooLarge),
         ),
-        (b"0,scan,add,0,\n", What::Job(JobRefused::Empty)),
-        (b"0,allreduce,add,0,\n", What::Job(JobRefused::Empty)),
-        (b"0,allreduce,add,1,\n", What::Job(JobRefused::Empty)),
-        (
-            b"0,allreduce,add,1,1 2 3\n",
-            What::Job(JobRefused::NotPowerOfTwo),
-        ),
-        (
-            b"0,allreduce,add,1,1 1 1 1 1 1 1 1 1 1 1 1 1 1 1 1\n",
-            What::Job(JobRefused::TooLarge),
-        ),
-        (b"0,allreduce,add,1,4 9\n", What::Job(JobRefused::BadRoot)),
-        (
-            b"0,allreduce,add,18446744073709551615,4\n",
-            What::Job(JobRefused::BadRoot),
-        ),
+        (b"0,broadcast,-,2,4 9\n", What::Job(JobRefused::BadRoot)),
+        (b"0,scan,add,0,1 2 \n", What::Number),
     ];
+    let head = joined(rt.alloc(), JOBS, b"0,scan,add,0,1 2\n".as_slice())?;
     for (record, what) in records.as_slice() {
-        let input = joined(rt.alloc(), JOBS, record)?;
-        expect_refusal(&rt, 3, &input, 1, *what)?;
+        let input = joined(rt.alloc(), &head, record)?;
+        expect_refusal(&rt, 3, &input, 2, *what)?;
     }
     Ok(())
-}
-
-#[test]
-fn tells_the_first_fault(rt: HostRuntime) -> Result<(), Fail> {
-    let good = b"0,allreduce,add,0,1 2\n";
-    let head = joined(rt.alloc(), JOBS, good.as_slice())?;
-    let cut = joined(rt.alloc(), &head, b"0,scan,add,0,1 2 ".as_slice())?;
-    expect_refusal(&rt, 3, &cut, 2, What::Number)?;
-    let ragged = joined(
-        rt.alloc(),
-        &head,
-        b"0,allreduce,add\n16,x,x,x,x\n".as_slice(),
-    )?;
-    expect_refusal(&rt, 3, &ragged, 2, What::Fields)
 }
 
 #[test]

@@ -128,7 +128,15 @@ fn counts_failures(rt: HostRuntime) -> Result<(), Fail> {
     assert!(rt; writer.write(b"abc")? == 3 && writer.failures() == 0);
     assert!(rt; writer.write(b"d")? == 0 && writer.failures() == 1);
     assert!(rt; writer.write(b"")? == 0 && writer.failures() == 1);
+    assert!(rt; writer.flush().is_ok() && writer.failures() == 1);
     assert!(rt; writer.get_ref().device.as_slice() == b"abc".as_slice());
+    let device = FailsAt {
+        device: Vec::new(rt.alloc()),
+        calls: 0,
+        gives_zero: false,
+    };
+    let mut writer = Counted::new(device);
+    assert!(rt; writer.flush().is_err() && writer.failures() == 1);
     Ok(())
 }
 

@@ -2,11 +2,10 @@
 use super::{FailsAt, joined};
 use crate::device::{Counted, Device};
 use crate::fault::{Fault, What};
-use crate::jobs::read_jobs;
+use crate::jobs::{read_jobs, read_lanes};
 use crate::replies::write_replies;
 use cube_shape::{MAX_DIM, Region};
 use job_types::{Job, JobId, JobRefused, Kind, Op, Reply};
-use std::alloc::Global;
 use std::process::Abort;
 use std::test::Fail;
 
@@ -89,6 +88,39 @@ fn reads_jobs(rt: HostRuntime) -> Result<(), Fail> {
     Ok(())
 }
 
+// The jobs of a lane have these items, one each.
+fn expect_items(rt: &impl Abort, jobs: &[Job], wanted: &[u64]) {
+    assert!(rt; jobs.len() == wanted.len());
+    for (job, item) in jobs.iter().zip(wanted) {
+        assert!(rt; job.items() == [*item].as_slice());
+    }
+}
+
+#[test]
+fn reads_lanes(rt: HostRuntime) -> Result<(), Fail> {
+    let records = b"3,scan,add,0,5\n0,scan,add,0,6\n3,scan,add,0,7\n15,scan,add,0,8\n3,scan,add,0,5\n";
+    let input = joined(rt.alloc(), JOBS, records.as_slice())?;
+    let mut reader = Counted::new(input.as_slice());
+    match read_lanes(rt.alloc(), 3, &mut reader) {
+        Ok(lanes) => {
+            assert!(rt; lanes.len() == 16);
+            for (lane, jobs) in lanes.iter().enumerate() {
+                match lane {
+                    0 => expect_items(&rt, jobs, &[6]),
+                    3 => expect_items(&rt, jobs, &[5, 7, 5]),
+                    15 => expect_items(&rt, jobs, &[8]),
+                    _ => expect_items(&rt, jobs, &[]),
+                }
+            }
+        }
+        Err(fault) => assert!(rt; false, "{fault}"),
+    }
+    let mut reader = Counted::new(b"lane,kind\n".as_slice());
+    let answer = read_lanes(rt.alloc(), 3, &mut reader);
+    assert!(rt; answer.err().map(|fault| fault.what) == Some(What::Fields));
+    Ok(())
+}
+
 #[test]
 fn answers_jobs(rt: HostRuntime) -> Result<(), Fail> {
     expect_replies(&rt, 3, "", "")?;
@@ -150,7 +182,12 @@ fn reads_what_csv_reads(rt: HostRuntime) -> Result<(), Fail> {
     expect_replies(&rt, 3, "0,allreduce,add,0,1 2", reply)?;
     expect_replies(&rt, 3, "0,allreduce,add,0,\"1 2", reply)?;
     expect_replies(&rt, 3, "0,allreduce,add,0,1 2\r\n", reply)?;
-    expect_replies(&rt, 3, "\n\n0,allreduce,add,0,1 2\n\n", reply)
+    expect_replies(&rt, 3, "\n\n0,allreduce,add,0,1 2\n\n", reply)?;
+    let marked = b"\xEF\xBB\xBF\r\nlane,\"kind\",op,root,items\r\n0,allreduce,add,0,1 2\r\n";
+    let mut reader = Counted::new(marked.as_slice());
+    let jobs = read_jobs(rt.alloc(), 3, &mut reader);
+    assert!(rt; jobs.ok().map(|jobs| jobs.len()) == Some(1));
+    Ok(())
 }
 
 #[test]
@@ -176,7 +213,7 @@ fn refuses_headers(rt: HostRuntime) -> Result<(), Fail> {
 
 #[test]
 fn refuses_records(rt: HostRuntime) -> Result<(), Fail> {
-    let records: [(&[u8], What); 44] = [
+    let records: [(&[u8], What); 51] = [
         (b"0,allreduce,add,0\n", What::Fields),
         (b"0,allreduce,add,0,1,2\n", What::Fields),
         (b" \n", What::Fields),
@@ -192,8 +229,12 @@ fn refuses_records(rt: HostRuntime) -> Result<(), Fail> {
         (b"0,gather,add,0,4\n", What::Word),
         (b"0,Scan,add,0,4\n", What::Word),
         (b"0,scan,plus,0,4\n", What::Word),
+        (b"0,scan,-,0,4\n", What::Word),
+        (b"0,allreduce,plus,0,4\n", What::Word),
         (b"0,reduce,-,0,1\n", What::Word),
+        (b"0,reduce,,0,4\n", What::Word),
         (b"0,broadcast,add,0,1\n", What::Word),
+        (b"0,broadcast,add,0,4\n", What::Word),
         (b"0,broadcast,,0,4\n", What::Word),
         (b"0,broadcast,-,-,4\n", What::Number),
         (b"0,,add,0,4\n", What::Word),
@@ -210,6 +251,8 @@ fn refuses_records(rt: HostRuntime) -> Result<(), Fail> {
         (b"0,allreduce,add,0,1 02\n", What::Number),
         (b"0,allreduce,add,0,18446744073709551616\n", What::Number),
         (b"0,broadcast,-,1,\n", What::Job(JobRefused::Empty)),
+        (b"0,broadcast,-,9,\n", What::Job(JobRefused::Empty)),
+        (b"0,allreduce,add,0,\n", What::Job(JobRefused::Empty)),
         (
             b"0,broadcast,-,9,1 2 3\n",
             What::Job(JobRefused::NotPowerOfTwo),
@@ -230,6 +273,10 @@ fn refuses_records(rt: HostRuntime) -> Result<(), Fail> {
         (
             b"0,allreduce,add,1,1 2 3\n",
             What::Job(JobRefused::NotPowerOfTwo),
+        ),
+        (
+            b"0,allreduce,add,1,1 1 1 1 1 1 1 1 1 1 1 1 1 1 1 1\n",
+            What::Job(JobRefused::TooLarge),
         ),
         (b"0,allreduce,add,1,4 9\n", What::Job(JobRefused::BadRoot)),
         (
@@ -306,34 +353,5 @@ fn tells_a_failed_write(rt: HostRuntime) -> Result<(), Fail> {
         assert!(rt; fails_to_write(&rt, 14, gives_zero)? != gives_zero);
         assert!(rt; !fails_to_write(&rt, 15, gives_zero)?);
     }
-    Ok(())
-}
-
-// So many replies, and their text.
-fn long_file(rt: &(impl AllocGlobal + Abort), count: u64) -> Result<(Vec<Reply>, Vec<u8>), Fail> {
-    let alloc: Global = rt.alloc();
-    let mut replies = Vec::new(alloc);
-    let mut wanted = Vec::from_slice(alloc, REPLIES)?;
-    for seq in 0..count {
-        let items = Vec::from_slice(alloc, [1].as_slice())?;
-        let kind = Kind::Scan { op: Op::Add };
-        match Job::new(alloc, 0, 3, kind, items) {
-            Ok(job) => replies.push(answered(job, seq))?,
-            Err(_) => assert!(rt; false, "no job"),
-        }
-        let line = format!(in alloc; "3,{seq},scan,0,1,0,0\n")?;
-        wanted.extend_from_slice(line.as_bytes())?;
-    }
-    Ok((replies, wanted))
-}
-
-// The lines go out in several pieces.
-#[test]
-fn writes_long_files(rt: HostRuntime) -> Result<(), Fail> {
-    let (replies, wanted) = long_file(&rt, 8_000)?;
-    assert!(rt; wanted.len() > 150_000);
-    let mut writer = Counted::new(Vec::new(rt.alloc()));
-    let answer = write_replies(rt.alloc(), replies, &mut writer);
-    assert!(rt; answer == Ok(()) && writer.get_ref().as_slice() == wanted.as_slice());
     Ok(())
 }

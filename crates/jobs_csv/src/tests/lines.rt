@@ -1,10 +1,12 @@
 // The lines that answer commands and schedules.
 use crate::device::{Counted, Device};
+use crate::fault::Fault;
 use crate::lines::Lines;
 use crate::name::Name;
 use crate::place_rows::PlaceRow;
 use crate::replay_rows::ReplayRow;
 use cube_core::{Event, Kind, Note, Refused};
+use std::io::Write;
 use std::process::Abort;
 use std::test::Fail;
 
@@ -60,6 +62,39 @@ fn writes_outcomes(rt: HostRuntime) -> Result<(), Fail> {
                   free,a,-,-,nothingheld\n";
     expect_place(&rt, rows.as_slice(), wanted)?;
     expect_place(&rt, &[], "command,name,dim,base,outcome\n")
+}
+
+// So many lines of 30 bytes are gathered, and sent where there are many of them.
+fn gather_many<W: Write + Device>(lines: Lines, count: u64, writer: &mut W) -> Result<Lines, Fault> {
+    let mut lines = lines;
+    for node in 0..count {
+        let why = Refused::NotInCube;
+        let node = Some(1_000_000 + node);
+        let row = ReplayRow::Refused {
+            station: 0,
+            node,
+            why,
+        };
+        lines = lines.with_replay_row(&row)?.send_many(0, writer)?;
+    }
+    Ok(lines)
+}
+
+// Lines are sent once there are 65,536 bytes of them: here in two pieces, and the rest at the end.
+#[test]
+fn sends_many_lines(rt: HostRuntime) -> Result<(), Fail> {
+    let mut writer = Counted::new(Vec::new(rt.alloc()));
+    let lines = Lines::new(rt.alloc())?;
+    match gather_many(lines, 6_000, &mut writer) {
+        Ok(lines) => {
+            let sent = writer.get_ref().len();
+            assert!(rt; sent >= 131_072 && sent < 150_000, "{sent}");
+            assert!(rt; lines.finish(0, &mut writer) == Ok(()));
+            assert!(rt; writer.get_ref().len() == 6_000 * 30);
+        }
+        Err(fault) => assert!(rt; false, "{fault}"),
+    }
+    Ok(())
 }
 
 // The row of an event.

@@ -1,10 +1,10 @@
-use Rattle.std.proofs.Math.Nat.{mul-mod_left}
-use Rattle.std.proofs.Common.{arith, ap, refl, subst, sym, ◌≡◌, ◌≢◌, ℕ, ◌+◌, ◌*◌, ◌/◌, ◌%◌, ◌<◌, ◌≤◌, List, length, set}
+use Rattle.std.proofs.Math.Nat.{add-mod_right}
+use Rattle.std.proofs.Common.{arith, ap, refl, sym, ◌∙◌, ◌≡◌, ◌≢◌, ℕ, ◌+◌, ◌*◌, ◌/◌, ◌%◌, ◌<◌, ◌≤◌, List, length, set}
 use Rattle.std.specs.Prelude.{◌==◌, if◌then◌else◌}
 use Rattle.std.proofs.lemmas.Bool.{eq-eqb, ne_eqb}
 use Rattle.std.proofs.lemmas.Nat.{mod_below}
 use Rattle.collectives.specs.Rounds.{item_at, gathered_low, gathered_high, TurnsPairsIn}
-use Rattle.collectives.proofs.PairLemmas.{block_fits, low_in_block, offset_in_block, Turned-block, Turned-join, Turned-keep, Turned-pair}
+use Rattle.collectives.proofs.PairLemmas.{block_within, low_in_block, offset_in_block, Turned-block, Turned-end, Turned-join, Turned-keep, Turned-pair}
 use Rattle.collectives.proofs.rounds.gather.Goals as goal
 
 -- a pair that agrees with the root turns
@@ -55,17 +55,60 @@ turned_block unit join root half start old next positive first within same_lengt
     let all = Turned-join unit half start (low + 1) (start + half) left right old next next (omega arith) (omega arith) same_length so_far behind in
     Turned-block unit half start left right old next positive first all
 
-pub loop-block-preserved : goal.loop-block-preserved
-loop-block-preserved g c =
+-- after the blocks before it, this one turns
+turned_so_far : {M : Type 0} (unit : M) (join : M → M → M) (root half start : ℕ) (old items next : List M)
+    → 0 < half → start % (2 * half) ≡ 0 → start + 2 * half ≤ length items → length items ≡ length old → length next ≡ length items
+    → TurnsPairsIn unit half 0 start (gathered_low unit join root half) (gathered_high unit join root half) old items
+    → let low = start + root % half in
+    let both = join (item_at unit items low) (item_at unit items (low + half)) in
+    next ≡ set (set items low (if root / half % 2 == 0 then both else unit)) (low + half) (if root / half % 2 == 0 then unit else both)
+    → TurnsPairsIn unit half 0 (start + 2 * half) (gathered_low unit join root half) (gathered_high unit join root half) old next
+turned_so_far unit join root half start old items next positive first within same_length next_length before next_is =
+    Turned-join unit half 0 start (start + 2 * half) _ _ old items next (omega arith) (omega arith) same_length before
+    (turned_block unit join root half start items next positive first within next_length next_is)
+
+pub overflow_add-low : goal.overflow_add-low
+overflow_add-low g c =
+    let fits = block_within (length c.args.items.now) (2 * c.args.half) c.loop-start.start c.requires.whole c.loop-start.invariant.begins c.loop-start-test.true in
+    let rest = mod_below c.args.root c.args.half c.requires.half in
+    omega arith
+
+pub overflow_add-low-in-loop-start : goal.overflow_add-low-in-loop-start
+overflow_add-low-in-loop-start g c =
+    let fits = block_within (length c.args.items.now) (2 * c.args.half) c.loop-start.start c.requires.whole c.loop-start.invariant.begins c.loop-start-test.true in
+    let rest = mod_below c.args.root c.args.half c.requires.half in
+    omega arith
+
+pub gather_pair-requires-clause-low : goal.gather_pair-requires-clause-low
+gather_pair-requires-clause-low g c =
+    let fits = block_within (length c.args.items.now) (2 * c.args.half) c.loop-start.start c.requires.whole c.loop-start.invariant.begins c.loop-start-test.true in
+    let rest = mod_below c.args.root c.args.half c.requires.half in
+    omega arith
+
+pub gather_pair-requires-clause-high : goal.gather_pair-requires-clause-high
+gather_pair-requires-clause-high g c =
+    let fits = block_within (length c.args.items.now) (2 * c.args.half) c.loop-start.start c.requires.whole c.loop-start.invariant.begins c.loop-start-test.true in
+    let rest = mod_below c.args.root c.args.half c.requires.half in
+    omega arith
+
+pub loop-start-preserved : goal.loop-start-preserved
+loop-start-preserved g c =
     let m = g.M.Monoid in
     let half = c.args.half in
-    let start = c.loop-block.block * (2 * half) in
-    let items = c.loop-block.items in
-    let fits = block_fits (length c.args.items.now) (2 * half) c.loop-block.block c.loop-block-test.true in
-    let next : start + 2 * half ≡ (c.loop-block.block + 1) * (2 * half) = grind arith in
-    let turned = turned_block m.unit m.join c.args.root half start items c.gather_pair.new.items c.requires.half (mul-mod_left c.loop-block.block (2 * half)) (omega (arith, fits, c.loop-block.auto.items)) c.gather_pair.auto.items c.gather_pair.ensures.gathered in
+    let fits = block_within (length c.args.items.now) (2 * half) c.loop-start.start c.requires.whole c.loop-start.invariant.begins c.loop-start-test.true in
     record {
-      turned = subst (λ bound. TurnsPairsIn m.unit half 0 bound (gathered_low m.unit m.join c.args.root half) (gathered_high m.unit m.join c.args.root half) c.args.items.now c.gather_pair.new.items) next
-          (Turned-join m.unit half 0 start (start + 2 * half) _ _ c.args.items.now items c.gather_pair.new.items (omega arith) (omega arith) c.loop-block.auto.items c.loop-block.invariant.turned turned);
+      begins = add-mod_right c.loop-start.start (2 * half) ∙ c.loop-start.invariant.begins;
+      turned = turned_so_far m.unit m.join c.args.root half c.loop-start.start c.args.items.now c.loop-start.items c.gather_pair.new.items
+          c.requires.half c.loop-start.invariant.begins (omega arith) c.loop-start.auto.items c.gather_pair.auto.items c.loop-start.invariant.turned c.gather_pair.ensures.gathered;
       values = c.gather_pair.ensures.values;
     }
+
+pub returns-2-clause-gathered : goal.returns-2-clause-gathered
+returns-2-clause-gathered g c =
+    let m = g.M.Monoid in
+    let half = c.args.half in
+    let fits = block_within (length c.args.items.now) (2 * half) c.loop-start.start c.requires.whole c.loop-start.invariant.begins c.loop-start-test.true in
+    Turned-end m.unit half (c.loop-start.start + 2 * half) _ _ c.args.items.now c.gather_pair.new.items
+    (turned_so_far m.unit m.join c.args.root half c.loop-start.start c.args.items.now c.loop-start.items c.gather_pair.new.items
+    c.requires.half c.loop-start.invariant.begins (omega arith) c.loop-start.auto.items c.gather_pair.auto.items c.loop-start.invariant.turned c.gather_pair.ensures.gathered)
+    (omega arith)
