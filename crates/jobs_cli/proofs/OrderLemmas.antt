@@ -121,6 +121,7 @@ sorted_front x (y ∷ ys) first sorted = rises
   where
     next : (k : ℕ) → suc (k + 1) ≡ suc k + 1
     next k = omega arith
+
     rises : IsSorted by_name (x ∷ y ∷ ys)
     rises zero d le lt = first
     rises (suc k) d le lt = subst (λ (i : ℕ). is_lt (by_name (slice_index_or (x ∷ y ∷ ys) i d) (slice_index_or (y ∷ ys) k d)) ≡ false) (next k) (sorted k d (omega arith) (omega (arith, lt)))
@@ -188,7 +189,7 @@ pub in_order : (jobs : List JobData) (lanes : List (Vec JobData Global)) → Are
 unfolding lane_named
 in_order jobs lanes k =
     let gathered : lane_by_lane lanes ≡ gather (lane_named [] jobs) 0 MAX_LANES =
-        as_gathered (λ lane. in_lane lane jobs) lanes 0 (λ place lane none lt at. k.each place none (omega (arith, lt, k.count)) ∙ ap (λ (l : ℕ). in_lane l jobs) (omega (arith, at))) ∙ ap (gather (lane_named [] jobs) 0) k.count in
+    as_gathered (λ lane. in_lane lane jobs) lanes 0 (λ place lane none lt at. k.each place none (omega (arith, lt, k.count)) ∙ ap (λ (l : ℕ). in_lane l jobs) (omega (arith, at))) ∙ ap (gather (lane_named [] jobs) 0) k.count in
     record {
       same = rw gathered (all_there [] jobs k.below);
       sorted = rw gathered (gather_sorted (λ lane. in_lane lane jobs) (λ lane. own_lane lane jobs) 0 MAX_LANES);

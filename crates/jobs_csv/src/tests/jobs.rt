@@ -98,7 +98,8 @@ fn expect_items(rt: &impl Abort, jobs: &[Job], wanted: &[u64]) {
 
 #[test]
 fn reads_lanes(rt: HostRuntime) -> Result<(), Fail> {
-    let records = b"3,scan,add,0,5\n0,scan,add,0,6\n3,scan,add,0,7\n15,scan,add,0,8\n3,scan,add,0,5\n";
+    let records =
+        b"3,scan,add,0,5\n0,scan,add,0,6\n3,scan,add,0,7\n15,scan,add,0,8\n3,scan,add,0,5\n";
     let input = joined(rt.alloc(), JOBS, records.as_slice())?;
     let mut reader = Counted::new(input.as_slice());
     match read_lanes(rt.alloc(), 3, &mut reader) {

@@ -65,11 +65,15 @@ fn writes_outcomes(rt: HostRuntime) -> Result<(), Fail> {
 }
 
 // So many lines of 30 bytes are gathered, and sent where there are many of them.
-fn gather_many<W: Write + Device>(lines: Lines, count: u64, writer: &mut W) -> Result<Lines, Fault> {
+fn gather_many<W: Write + Device>(
+    lines: Lines,
+    count: u64,
+    writer: &mut W,
+) -> Result<Lines, Fault> {
     let mut lines = lines;
-    for node in 0..count {
+    for _row in 0..count {
         let why = Refused::NotInCube;
-        let node = Some(1_000_000 + node);
+        let node = Some(1_000_000);
         let row = ReplayRow::Refused {
             station: 0,
             node,
