@@ -4,6 +4,11 @@
 //! It reads jobs as CSV (without quotes) from standard input, and writes their replies sorted by
 //! lane, then by their number in the lane. Build it with `rustc -O`.
 
+mod plain_machine;
+mod plain_number;
+
+use plain_machine::Machine;
+use plain_number::number;
 use std::env;
 use std::io::{self, BufRead, BufWriter, Write};
 use std::process::ExitCode;
@@ -29,34 +34,6 @@ struct Reply {
     result: Vec<u64>,
     rounds: u32,
     messages: u64,
-}
-
-/// The allocation bits of a machine, with first fit.
-struct Machine {
-    taken: Vec<bool>,
-}
-
-impl Machine {
-    fn take(&mut self, dim: u32) -> Option<usize> {
-        let size = 1 << dim;
-        let base = (0..self.taken.len())
-            .step_by(size)
-            .find(|&base| self.taken[base..base + size].iter().all(|taken| !taken))?;
-        self.taken[base..base + size].fill(true);
-        Some(base)
-    }
-
-    fn release(&mut self, base: usize, dim: u32) {
-        self.taken[base..base + (1 << dim)].fill(false);
-    }
-}
-
-fn number(text: &str) -> Result<u64, &'static str> {
-    let plain = text == "0" || text.starts_with(|c: char| ('1'..='9').contains(&c));
-    if !plain {
-        return Err("Number");
-    }
-    text.parse().map_err(|_| "Number")
 }
 
 fn job(line: &str, machine_dim: u32, next_seq: &mut [u64; 16]) -> Result<Job, &'static str> {
@@ -177,9 +154,7 @@ fn main() -> ExitCode {
             return ExitCode::from(1);
         }
     };
-    let mut machine = Machine {
-        taken: vec![false; 1 << dim],
-    };
+    let mut machine = Machine::new(dim);
     let mut replies: Vec<Reply> = jobs
         .into_iter()
         .filter_map(|job| answer(job, &mut machine))

@@ -3,6 +3,11 @@
 //! It reads commands as CSV (without quotes) from standard input, and writes what became of each.
 //! Build it with `rustc -O`.
 
+mod plain_machine;
+mod plain_number;
+
+use plain_machine::Machine;
+use plain_number::number;
 use std::collections::HashMap;
 use std::env;
 use std::io::{self, BufRead, BufWriter, Write};
@@ -13,34 +18,6 @@ const STATIONS: usize = 32;
 enum Command {
     Take { name: String, dim: u32 },
     Free { name: String },
-}
-
-/// The allocation bits of a machine, with first fit.
-struct Machine {
-    taken: Vec<bool>,
-}
-
-impl Machine {
-    fn take(&mut self, dim: u32) -> Option<usize> {
-        let size = 1 << dim;
-        let base = (0..self.taken.len())
-            .step_by(size)
-            .find(|&base| self.taken[base..base + size].iter().all(|taken| !taken))?;
-        self.taken[base..base + size].fill(true);
-        Some(base)
-    }
-
-    fn release(&mut self, base: usize, dim: u32) {
-        self.taken[base..base + (1 << dim)].fill(false);
-    }
-}
-
-fn number(text: &str) -> Result<u64, &'static str> {
-    let plain = text == "0" || text.starts_with(|c: char| ('1'..='9').contains(&c));
-    if !plain {
-        return Err("Number");
-    }
-    text.parse().map_err(|_| "Number")
 }
 
 fn name(text: &str) -> Result<String, &'static str> {
@@ -93,7 +70,7 @@ fn read(n: u32) -> Result<Vec<Command>, String> {
 
 fn answer(n: u32, commands: Vec<Command>) -> io::Result<()> {
     let mut out = BufWriter::new(io::stdout().lock());
-    let mut machine = Machine { taken: vec![false; 1 << n] };
+    let mut machine = Machine::new(n);
     let mut held: HashMap<String, (usize, u32)> = HashMap::new();
     writeln!(out, "command,name,dim,base,outcome")?;
     for command in commands {

@@ -3,6 +3,9 @@
 //! It reads a schedule as CSV (without quotes) from standard input, and writes its events. Build it
 //! with `rustc -O`.
 
+mod plain_number;
+
+use plain_number::number;
 use std::env;
 use std::fmt::Write as _;
 use std::io::{self, BufRead, BufWriter, Write};
@@ -159,14 +162,6 @@ impl World {
         self.phases[station as usize] = next;
         Ok(Event { kind, node, word, note })
     }
-}
-
-fn number(text: &str) -> Result<u64, &'static str> {
-    let plain = text == "0" || text.starts_with(|c: char| ('1'..='9').contains(&c));
-    if !plain {
-        return Err("Number");
-    }
-    text.parse().map_err(|_| "Number")
 }
 
 fn line(text: &str) -> Result<Line, &'static str> {

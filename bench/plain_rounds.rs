@@ -1,34 +1,30 @@
-//! The rounds of the four collectives on 1,024 places, as plain Rust without crates.
+//! The rounds of the four collectives on `2^DIM` places, as plain Rust without crates.
 //!
-//! `plain_rounds COLLECTIVE TIMES` does the work of the program `rounds_bench`: it repeats one
+//! `plain_rounds COLLECTIVE DIM TIMES` does the work of the program `rounds_bench`: it repeats one
 //! collective of sums and prints a number that all places determine. Build it with
 //! `rustc --edition 2021 -O`.
 
 use std::env;
 use std::hint::black_box;
 
-const PLACES: usize = 1024;
-
-const ROOT: usize = 3;
-
-fn broadcast(items: &mut [u64]) {
+fn broadcast(items: &mut [u64], root: usize) {
     let mut half = 1;
     while half < items.len() {
         for v in 0..half {
-            items[(v + half) ^ ROOT] = items[v ^ ROOT];
+            items[(v + half) ^ root] = items[v ^ root];
         }
         half *= 2;
     }
 }
 
-fn reduce(items: &mut [u64]) {
+fn reduce(items: &mut [u64], root: usize) {
     let mut half = 1;
     while half < items.len() {
         for block in items.chunks_exact_mut(2 * half) {
             let (low, high) = block.split_at_mut(half);
-            let at = ROOT % half;
+            let at = root % half;
             let both = low[at].wrapping_add(high[at]);
-            let to_low = ROOT & half == 0;
+            let to_low = root & half == 0;
             low[at] = if to_low { both } else { 0 };
             high[at] = if to_low { 0 } else { both };
         }
@@ -72,14 +68,16 @@ fn scan(items: &mut [u64], totals: &mut [u64]) {
 
 fn main() {
     let words: Vec<String> = env::args().collect();
-    let times: u64 = words[2].parse().expect("a number of times");
-    let mut items: Vec<u64> = (0..PLACES as u64).collect();
-    let mut totals = vec![0; PLACES];
+    let dim: u32 = words[2].parse().expect("a dimension");
+    let times: u64 = words[3].parse().expect("a number of times");
+    let places = 1 << dim;
+    let mut items: Vec<u64> = (0..places as u64).collect();
+    let mut totals = vec![0; places];
     for _ in 0..times {
         let items = black_box(&mut items[..]);
         match words[1].as_str() {
-            "broadcast" => broadcast(items),
-            "reduce" => reduce(items),
+            "broadcast" => broadcast(items, places - 1),
+            "reduce" => reduce(items, places - 1),
             "allreduce" => all_reduce(items),
             "scan" => scan(items, &mut totals),
             name => panic!("no collective is called {name}"),

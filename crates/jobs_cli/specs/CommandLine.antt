@@ -1,5 +1,8 @@
--- Which command lines are within the limits of the machine.
-use Rattle.std.specs.Prelude.{◌≤◌}
+-- What a command line asks for, and what is within the limits of the machine.
+use Rattle.std.specs.Prelude.{◌≡◌, ℕ, ◌≤◌, List, Some, codes}
+use Rattle.std.specs.Str.Parse.{digits_value, without_leading_plus}
+use Rattle.clap.specs.Words.{found_of, one_text}
+use Rattle.clap.specs.declared.parser.matches.ArgMatches.{ArgMatches}
 use Rattle.cube_shape.specs.declared.limits.TheConstants.{MAX_DIM, MAX_STATIONS}
 use Rattle.jobs_cli.specs.declared.command_line.Asked.{Asked}
 use Rattle.jobs_cli.specs.declared.command_line.Asked.TheVariants.{Run, Place, Replay}
@@ -9,3 +12,13 @@ abbrev pub IsWithinLimits : Asked → Type 0
 IsWithinLimits (Run n) = n ≤ MAX_DIM
 IsWithinLimits (Place n) = n ≤ MAX_DIM
 IsWithinLimits (Replay n stations) = (n ≤ MAX_DIM) × (1 ≤ stations) × (stations ≤ MAX_STATIONS)
+
+-- the option has this number, in digits
+abbrev pub IsWritten : ArgMatches → List ℕ → ℕ → Type 0
+IsWritten matches option n = (text : List ℕ) × (one_text (found_of matches) option ≡ Some text) × (n ≡ digits_value 10 (without_leading_plus text))
+
+-- the command that asks for it
+abbrev pub command_of : Asked → List ℕ
+command_of (Run n) = codes "run"
+command_of (Place n) = codes "place"
+command_of (Replay n stations) = codes "replay"

@@ -1,6 +1,7 @@
 // The command line.
-ghost use Rattle.std.specs.Prelude.{◌≤◌, IfOk, IfSome};
-ghost use Rattle.jobs_cli.specs.CommandLine.{IsWithinLimits};
+ghost use Rattle.std.specs.Prelude.{◌≡◌, ◌≤◌, IfOk, IfSome, Some, codes};
+ghost use Rattle.clap.specs.Words.{subcommand_name_of};
+ghost use Rattle.jobs_cli.specs.CommandLine.{IsWithinLimits, IsWritten, command_of};
 
 use clap::error::ErrorKind;
 use clap::{Arg, ArgMatches, Command, Error, value_parser};
@@ -121,7 +122,8 @@ fn program<'a>(alloc: Global) -> Result<Command<'a>, AllocError> {
 
 // The dimension that a command was given.
 fn dim_in(matches: &ArgMatches<'_>) -> Option<u32>
-    ensures { IfSome result (λ n. n ≤ MAX_DIM) }
+    ensures limit { IfSome result (λ n. n ≤ MAX_DIM) }
+    ensures written { IfSome result (λ n. IsWritten matches.now (codes "dim") n) }
 {
     let n = matches.get_one::<u32>("dim")?;
     if Dim(n).fits(MAX_DIM) { Some(n) } else { None }
@@ -129,7 +131,8 @@ fn dim_in(matches: &ArgMatches<'_>) -> Option<u32>
 
 // The number of stations that a command was given.
 fn stations_in(matches: &ArgMatches<'_>) -> Option<u32>
-    ensures { IfSome result (λ stations. (1 ≤ stations) × (stations ≤ MAX_STATIONS)) }
+    ensures limits { IfSome result (λ stations. (1 ≤ stations) × (stations ≤ MAX_STATIONS)) }
+    ensures written { IfSome result (λ stations. IsWritten matches.now (codes "stations") stations) }
 {
     let stations = matches.get_one::<u32>("stations")?;
     if stations >= 1 && stations <= MAX_STATIONS {
@@ -141,7 +144,8 @@ fn stations_in(matches: &ArgMatches<'_>) -> Option<u32>
 
 // What was asked for.
 fn asked_in(matches: &ArgMatches<'_>) -> Option<Asked>
-    ensures { IfSome result (λ asked. IsWithinLimits asked) }
+    ensures limits { IfSome result (λ asked. IsWithinLimits asked) }
+    ensures command { IfSome result (λ asked. subcommand_name_of matches.now ≡ Some (command_of asked)) }
 {
     if let Some(run) = matches.subcommand_matches("run") {
         let n = dim_in(run)?;

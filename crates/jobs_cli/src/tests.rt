@@ -2,7 +2,7 @@
 use crate::command_line::{Asked, asked_for};
 use crate::run::run_on;
 use clap::error::ErrorKind;
-use cube_shape::MAX_DIM;
+use cube_shape::{MAX_DIM, MAX_STATIONS};
 use job_types::JobRefused;
 use jobs_csv::{Counted, Device, Fault, What};
 use std::alloc::Global;
@@ -91,6 +91,7 @@ fn answers_jobs(rt: HostRuntime) -> Result<(), Fail> {
         "0,0,allreduce,1,0 0,1,2\n",
     )?;
     expect_replies(&rt, 0, "15,allreduce,add,0,7\n", "15,0,allreduce,0,7,0,0\n")?;
+    expect_replies(&rt, 0, "15,allreduce,add,0,7", "15,0,allreduce,0,7,0,0\n")?;
     expect_replies(
         &rt,
         3,
@@ -388,6 +389,24 @@ fn reads_commands_of_regions(rt: HostRuntime) -> Result<(), Fail> {
     for name in ["run", "place", "replay"] {
         let help = ["cubejobs", name, "--help"];
         assert!(rt; ask(&rt, help.as_slice())? == Err(ErrorKind::DisplayHelp));
+    }
+    Ok(())
+}
+
+// The help says how many names can hold a region.
+#[test]
+fn help_names_the_limit(rt: HostRuntime) -> Result<(), Fail> {
+    let mut words = Vec::new(rt.alloc());
+    for word in ["cubejobs", "place", "--help"].as_slice() {
+        words.push(word.to_string(rt.alloc())?)?;
+    }
+    match asked_for(rt.alloc(), &words) {
+        Ok(_) => assert!(rt; false, "no help"),
+        Err(error) => {
+            let help = error.to_string(rt.alloc())?;
+            let limit = format!(in rt.alloc(); "where {MAX_STATIONS} names hold one")?;
+            assert!(rt; help.contains(limit.as_str()), "{help}");
+        }
     }
     Ok(())
 }

@@ -1,21 +1,20 @@
-//! Repeats one collective on 1,024 places, so that it can be timed: `rounds_bench COLLECTIVE TIMES`.
-//! The collective is `broadcast`, `reduce`, `allreduce` or `scan`, of sums.
+//! Repeats one collective on `2^DIM` places, so that it can be timed:
+//! `rounds_bench COLLECTIVE DIM TIMES`. The collective is `broadcast`, `reduce`, `allreduce` or `scan`,
+//! of sums; its root is the last place.
 //!
 //! It prints a number that all places determine in the end.
 #![tactic(auto)]
 
-ghost use Rattle.std.specs.Prelude.{◌≡◌, ◌^◌, ◌<◌, All, length};
+ghost use Rattle.std.specs.Prelude.{◌≡◌, ◌^◌, ◌<◌, ◌≤◌, All, IfSome, length};
 
 use collectives::{Add, Shape, all_reduce, broadcast, reduce, scan};
+use std::alloc::{AllocError, Global};
 use std::io;
 use std::process::ExitCode;
 use std::rt::Env;
 
-const DIM: u32 = 10;
-
-const PLACES: usize = 1 << 10;
-
-const ROOT: usize = 3;
+// The greatest dimension that can be asked for.
+const MAX_DIM: u32 = 20;
 
 // A number that all places determine.
 fn digest(items: &[Add]) -> u64 {
@@ -27,19 +26,21 @@ fn digest(items: &[Add]) -> u64 {
 }
 
 // Runs a collective once.
-fn run(shape: Shape, items: &mut [Add], scratch: &mut [Add])
-    requires places { length items.old ≡ 2 ^ DIM }
-    requires scratch { length scratch.old ≡ 2 ^ DIM }
+fn run(shape: Shape, dim: u32, items: &mut [Add], scratch: &mut [Add])
+    requires dim { dim ≤ MAX_DIM }
+    requires places { length items.old ≡ 2 ^ dim }
+    requires scratch { length scratch.old ≡ 2 ^ dim }
     requires values { All (λ item. item.0 < 2 ^ 64) items.old }
-    ensures places { length items.new ≡ 2 ^ DIM }
-    ensures scratch { length scratch.new ≡ 2 ^ DIM }
+    ensures places { length items.new ≡ 2 ^ dim }
+    ensures scratch { length scratch.new ≡ 2 ^ dim }
     ensures values { All (λ item. item.0 < 2 ^ 64) items.new }
 {
+    let root = items.len() - 1;
     let _tally = match shape {
-        Shape::Broadcast => broadcast(items, DIM, ROOT),
-        Shape::Reduce => reduce(items, DIM, ROOT),
-        Shape::AllReduce => all_reduce(items, DIM),
-        Shape::Scan => scan(items, scratch, DIM),
+        Shape::Broadcast => broadcast(items, dim, root),
+        Shape::Reduce => reduce(items, dim, root),
+        Shape::AllReduce => all_reduce(items, dim),
+        Shape::Scan => scan(items, scratch, dim),
     };
 }
 
@@ -55,23 +56,27 @@ fn number(items: &mut [Add])
 }
 
 // Runs a collective so many times, each on what the one before it left.
-fn repeat(shape: Shape, times: u64, items: &mut [Add], scratch: &mut [Add])
-    requires places { length items.old ≡ 2 ^ DIM }
-    requires scratch { length scratch.old ≡ 2 ^ DIM }
+fn repeat(shape: Shape, dim: u32, times: u64, items: &mut [Add], scratch: &mut [Add])
+    requires dim { dim ≤ MAX_DIM }
+    requires places { length items.old ≡ 2 ^ dim }
+    requires scratch { length scratch.old ≡ 2 ^ dim }
     requires values { All (λ item. item.0 < 2 ^ 64) items.old }
 {
     for _ in 0..times {
-        run(shape, items, scratch);
+        run(shape, dim, items, scratch);
     }
 }
 
 // What a collective leaves of the numbers from 0 on, after so many times.
-fn repeated(shape: Shape, times: u64) -> u64 {
-    let mut items = [Add(0); PLACES];
-    let mut scratch = [Add(0); PLACES];
+fn repeated(alloc: Global, shape: Shape, dim: u32, times: u64) -> Result<u64, AllocError>
+    requires { dim ≤ MAX_DIM }
+{
+    let places = 1usize << dim;
+    let mut items = vec![in alloc; Add(0); places]?;
+    let mut scratch = vec![in alloc; Add(0); places]?;
     number(&mut items);
-    repeat(shape, times, &mut items, &mut scratch);
-    digest(&items)
+    repeat(shape, dim, times, &mut items, &mut scratch);
+    Ok(digest(&items))
 }
 
 // The collective of this name.
@@ -91,24 +96,41 @@ fn words<R: Env + AllocGlobal>(rt: &R) -> io::Result<Vec<String>> {
     Ok(words)
 }
 
-// The collective and the number of times that are asked for.
-fn asked(words: &[String]) -> Option<(Shape, u64)> {
-    if words.len() != 3 {
+// What is asked for.
+#[derive(Clone, Copy)]
+struct Asked {
+    shape: Shape,
+    dim: u32,
+    times: u64,
+}
+
+// The collective, the dimension and the number of times that are asked for.
+fn read_words(words: &[String]) -> Option<Asked>
+    ensures { IfSome result (λ asked. asked.dim ≤ MAX_DIM) }
+{
+    if words.len() != 4 {
         return None;
     }
     let shape = shape_named(&words[1])?;
-    let times = words[2].parse::<u64>().ok()?;
-    Some((shape, times))
+    let dim = words[2].parse::<u32>().ok()?;
+    let times = words[3].parse::<u64>().ok()?;
+    if dim > MAX_DIM {
+        return None;
+    }
+    Some(Asked { shape, dim, times })
 }
 
 fn main(rt: HostRuntime) -> ExitCode {
     let Ok(words) = words(&rt) else {
         return ExitCode::from(3);
     };
-    let Some((shape, times)) = asked(&words) else {
+    let Some(asked) = read_words(&words) else {
         return ExitCode::from(2);
     };
-    match rt.println(repeated(shape, times)) {
+    let Ok(digest) = repeated(rt.alloc(), asked.shape, asked.dim, asked.times) else {
+        return ExitCode::from(3);
+    };
+    match rt.println(digest) {
         Ok(()) => ExitCode::SUCCESS,
         Err(_) => ExitCode::from(3),
     }

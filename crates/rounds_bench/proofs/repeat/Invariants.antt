@@ -3,8 +3,8 @@ use Rattle.rounds_bench.proofs.repeat.Given as goal
 
 -- both slices keep their places, and the items their values
 pub record Kept (l : goal.Live-loop) : Type 0 where
-  pub places : length l.items ≡ 2 ^ 10
-  pub scratch : length l.scratch ≡ 2 ^ 10
+  pub places : length l.items ≡ 2 ^ l.dim
+  pub scratch : length l.scratch ≡ 2 ^ l.dim
   pub values : All (λ item. item.0 < 2 ^ 64) l.items
 
 abbrev pub invariant-loop : goal.invariant-loop
