@@ -1,11 +1,11 @@
 //! The CSV files of the machine: what they say, and the lines that answer them.
 //!
 //! `read_jobs`, `read_place` and `read_schedule` read a whole file and give what its records say, or
-//! the file's first fault. One loop serves them all; a format says what its header is and what a
-//! record says. `Lines` gathers the lines of an answer and sends them many at a time to a writer
-//! that is lent, and `write_replies` does so for the replies of jobs. A reader or writer is a
-//! `Device`, which counts its failed calls, and `Counted` makes one of any: so a fault is the
-//! device's only where that count says so.
+//! the file's first fault; `read_lanes` gives the jobs lane by lane. One loop serves them all; a format
+//! says what its header is and what a record says. `Lines` gathers the lines of an answer and sends
+//! them many at a time to a writer that is lent, and `write_replies` does so for the replies of jobs. A
+//! reader or writer is a `Device`, which counts its failed calls, and `Counted` makes one of any: so a
+//! fault is the device's only where that count says so.
 #![tactic(auto)]
 
 mod columns;
