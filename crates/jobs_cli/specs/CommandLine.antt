@@ -1,7 +1,7 @@
 -- What a command line asks for, and what is within the limits of the machine.
-use Rattle.std.specs.Prelude.{◌≡◌, ℕ, ◌≤◌, List, Some, codes}
+use Rattle.std.specs.Prelude.{◌≡◌, ℕ, ◌≤◌, List, Some, codes, option_map}
 use Rattle.std.specs.Str.Parse.{digits_value, without_leading_plus}
-use Rattle.clap.specs.Words.{found_of, one_text}
+use Rattle.clap.specs.Words.{found_of, one_text, rows_of, subcommand_rows_of}
 use Rattle.clap.specs.declared.parser.matches.ArgMatches.{ArgMatches}
 use Rattle.cube_shape.specs.declared.limits.TheConstants.{MAX_DIM, MAX_STATIONS}
 use Rattle.jobs_cli.specs.declared.command_line.Asked.{Asked}
@@ -22,3 +22,13 @@ abbrev pub command_of : Asked → List ℕ
 command_of (Run n) = codes "run"
 command_of (Place n) = codes "place"
 command_of (Replay n stations) = codes "replay"
+
+-- these are the options of the command that was met
+abbrev pub AreOptions : ArgMatches → ArgMatches → Type 0
+AreOptions matches options = option_map (λ command. command.1) (subcommand_rows_of matches) ≡ Some (rows_of (found_of options))
+
+-- the numbers are those of the options
+abbrev pub AreWritten : ArgMatches → Asked → Type 0
+AreWritten options (Run n) = IsWritten options (codes "dim") n
+AreWritten options (Place n) = IsWritten options (codes "dim") n
+AreWritten options (Replay n stations) = IsWritten options (codes "dim") n × IsWritten options (codes "stations") stations

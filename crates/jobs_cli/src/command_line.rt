@@ -1,7 +1,8 @@
 // The command line.
 ghost use Rattle.std.specs.Prelude.{◌≡◌, ◌≤◌, IfOk, IfSome, Some, codes};
 ghost use Rattle.clap.specs.Words.{subcommand_name_of};
-ghost use Rattle.jobs_cli.specs.CommandLine.{IsWithinLimits, IsWritten, command_of};
+ghost use Rattle.jobs_cli.specs.CommandLine.{AreOptions, AreWritten, IsWithinLimits, IsWritten, command_of};
+ghost use Rattle.clap.specs.declared.parser.matches.ArgMatches.{ArgMatches};
 
 use clap::error::ErrorKind;
 use clap::{Arg, ArgMatches, Command, Error, value_parser};
@@ -146,6 +147,7 @@ fn stations_in(matches: &ArgMatches<'_>) -> Option<u32>
 fn asked_in(matches: &ArgMatches<'_>) -> Option<Asked>
     ensures limits { IfSome result (λ asked. IsWithinLimits asked) }
     ensures command { IfSome result (λ asked. subcommand_name_of matches.now ≡ Some (command_of asked)) }
+    ensures numbers { IfSome result (λ asked. (options : ArgMatches) × AreOptions matches.now options × AreWritten options asked) }
 {
     if let Some(run) = matches.subcommand_matches("run") {
         let n = dim_in(run)?;
