@@ -6,3 +6,4 @@ pub mod Place
 pub mod Stations
 pub mod Replay
 pub mod CommandLine
+pub mod Program

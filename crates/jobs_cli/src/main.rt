@@ -6,7 +6,10 @@
 //! writer; this file ties them to the process.
 #![tactic(auto)]
 
+ghost use Rattle.std.specs.Prelude.{◌≡◌, ◌⊎◌, true, IfErr, IfSome};
+ghost use Rattle.jobs_csv.specs.Fault.{IsFailure, is_refusal};
 ghost use Rattle.jobs_cli.specs.CommandLine.{IsWithinLimits};
+ghost use Rattle.jobs_cli.specs.Program.{IsAnswerTo};
 
 mod answers;
 mod command_line;
@@ -68,6 +71,9 @@ fn answer<R: Read + Device, W: Write + Device>(
     writer: &mut W,
 ) -> Result<(), Fault>
     requires { IsWithinLimits asked }
+    ensures answered { IfSome (R.remaining reader.old) (λ bytes. IsAnswerTo asked bytes (W.contents writer.old) (W.contents writer.new) result) }
+    ensures failed { IfErr result (λ fault. (is_refusal fault.what ≡ true) ⊎ IsFailure What.Read (R.failures reader.old) (R.failures reader.new) fault ⊎ IsFailure What.Write (W.failures writer.old) (W.failures writer.new) fault) }
+    ensures untouched { IfErr result (λ fault. (is_refusal fault.what ≡ true) ⊎ (fault.what ≡ What.Read) → writer.new ≡ writer.old) }
 {
     match asked {
         Asked::Run { n } => run::run_on(alloc, n, reader, writer),
