@@ -10,8 +10,8 @@ use Rattle.cube_core.specs.declared.phase.Seen.{Seen}
 use Rattle.cube_core.specs.declared.phase.Seen.TheVariants as seen
 use Rattle.cube_core.specs.declared.phase.Phase.{Phase}
 use Rattle.cube_core.specs.declared.phase.Phase.TheVariants.{Idle, Looking, Looked, Climbing, Swept, Holding, Leaving, Backing, Arriving, Unmarked, Marked, Retired}
-use Rattle.cube_core.specs.Phase.{side_of, owned, stop, node_held, swept_from, marked_at, Owes}
-use Rattle.cube_core.specs.Event.{Transition, transition, busy, risen, freed, is_free, is_occupied, cleared_as_seen, clear_at, seen_at}
+use Rattle.cube_core.specs.Phase.{side_of, owned, stop, node_held, swept_from, marked_at, MustClear}
+use Rattle.cube_core.specs.Event.{Transition, transition, busy, phase_after_raise, phase_after_zero, is_free, is_occupied, cleared_as_seen, clear_event, seen_at}
 use Rattle.cube_core.specs.Schedule.{step_refusal}
 use Rattle.cube_core.specs.Count.{depth, unseen, events_due}
 use Rattle.cube_core.proofs.LevelLemmas.{depth-parent}
@@ -68,8 +68,8 @@ pub record IsRisen (n h a : ℕ) (q : Phase) : Type 0 where
 path_in_cube : (n a h : ℕ) → OnPath a h → IsInCube n h → IsInCube n a
 path_in_cube n a h above in_cube = let order : a ≤ h = OnPath-le a h above in (above.0, omega (arith, in_cube.1))
 
-risen_is : (n h a : ℕ) → IsInCube n h → OnPath a h → IsRisen n h a (risen h a)
-risen_is n h a in_cube above = turn (eqb a 1) refl
+phase_after_raise_is : (n h a : ℕ) → IsInCube n h → OnPath a h → IsRisen n h a (phase_after_raise h a)
+phase_after_raise_is n h a in_cube above = turn (eqb a 1) refl
   where
     turn : (t : Bool) → eqb a 1 ≡ t → IsRisen n h a (cond t (Holding h) (Climbing h (a / 2)))
     turn true is =
@@ -90,7 +90,7 @@ pub record IsLeaving (n a y : ℕ) (q : Phase) : Type 0 where
   pub none : owned q ≡ 0
   pub holds_none : node_held q ≡ 0
   pub plain : IsPlain q
-  pub owes : IsFree y → 0 < a / 2 → (x : ℕ) → Owes q (a / 2) x
+  pub owes : IsFree y → 0 < a / 2 → (x : ℕ) → MustClear q (a / 2) x
   pub due : events_due n q ≤ 5 * depth n a
 
 pub double : (n : ℕ) → 2 ^ (n + 1) ≡ 2 * 2 ^ n
@@ -101,8 +101,8 @@ half_inner n a other in_cube =
     let whole : 2 ^ (n + 1) ≡ 2 * 2 ^ n = double n in
     (omega (arith, in_cube.0), omega (arith, in_cube.1))
 
-freed_is : (n a y : ℕ) → IsInCube n a → IsLeaving n a y (freed a)
-freed_is n a y in_cube = turn (eqb a 1) refl
+phase_after_zero_is : (n a y : ℕ) → IsInCube n a → IsLeaving n a y (phase_after_zero a)
+phase_after_zero_is n a y in_cube = turn (eqb a 1) refl
   where
     turn : (t : Bool) → eqb a 1 ≡ t → IsLeaving n a y (cond t Idle (Arriving (a / 2)))
     turn true is =
@@ -153,13 +153,13 @@ looked : (n u : ℕ) (W : ℕ → ℕ) (h : ℕ) → IsInCube n h → (t : Bool)
 looked n u W h in_cube true is = looks_free h in_cube (eqb-true (use_of (W h)) 0 is)
 looked n u W h in_cube false is = looks_used h in_cube
 
-claimed : (n u : ℕ) (W : ℕ → ℕ) (h w : ℕ) → IsInCube n h → IsFree w → (t : Bool) → eqb (W h) w ≡ t → Move n u W (Looked h w) h (cond t busy (W h)) (cond t (risen h h) Idle)
-claimed n u W h w in_cube free true is = claims h w (risen h h) in_cube free (eqb-true (W h) w is) (risen_is n h h in_cube (OnPath-self h in_cube.0))
+claimed : (n u : ℕ) (W : ℕ → ℕ) (h w : ℕ) → IsInCube n h → IsFree w → (t : Bool) → eqb (W h) w ≡ t → Move n u W (Looked h w) h (cond t busy (W h)) (cond t (phase_after_raise h h) Idle)
+claimed n u W h w in_cube free true is = claims h w (phase_after_raise h h) in_cube free (eqb-true (W h) w is) (phase_after_raise_is n h h in_cube (OnPath-self h in_cube.0))
 claimed n u W h w in_cube free false is = claims_lost h w in_cube
 
-raised : (n u : ℕ) (W : ℕ → ℕ) (h a : ℕ) → IsInCube n h → a < h → OnPath a h → (t : Bool) → is_occupied (W a) ≡ t → Move n u W (Swept h a) a (with_side (side_of (child_towards a h)) (W a)) (cond t (Backing h a) (risen h a))
+raised : (n u : ℕ) (W : ℕ → ℕ) (h a : ℕ) → IsInCube n h → a < h → OnPath a h → (t : Bool) → is_occupied (W a) ≡ t → Move n u W (Swept h a) a (with_side (side_of (child_towards a h)) (W a)) (cond t (Backing h a) (phase_after_raise h a))
 raised n u W h a in_cube less above true is = raises_under h a in_cube less above (eqb-true (bit_at (W a) 0) 1 is)
-raised n u W h a in_cube less above false is = raises h a (risen h a) in_cube less above (eqb-false (bit_at (W a) 0) 1 is) (risen_is n h a in_cube above)
+raised n u W h a in_cube less above false is = raises h a (phase_after_raise h a) in_cube less above (eqb-false (bit_at (W a) 0) 1 is) (phase_after_raise_is n h a in_cube above)
 
 marked : (n u : ℕ) (W : ℕ → ℕ) (a : ℕ) → IsInner n a → (t : Bool) → is_occupied (W a) ≡ t → Move n u W (Unmarked a) a (with_mark u (W a)) (cond t Idle (Marked a (with_mark u (W a)) seen.NotYet seen.NotYet))
 marked n u W a inner true is = marks_stop a inner (eqb-true (bit_at (W a) 0) 1 is)
@@ -169,8 +169,8 @@ in_cube-inner : (n a : ℕ) → IsInner n a → IsInCube n a
 in_cube-inner n a inner = let whole : 2 ^ (n + 1) ≡ 2 * 2 ^ n = double n in (inner.0, omega (arith, inner.1))
 
 -- a Clear, by whether the word is still the marked one and whether what it writes is free
-cleared_by : (n u : ℕ) (W : ℕ → ℕ) (a w : ℕ) (left right : Seen) → IsInner n a → left ≢ seen.NotYet → right ≢ seen.NotYet → (s t : Bool) → eqb (W a) w ≡ s → is_free (cleared_as_seen w left right) ≡ t → Move n u W (Marked a w left right) a (cond s (cleared_as_seen w left right) (W a)) (cond s (cond t (freed a) Idle) Idle)
-cleared_by n u W a w left right inner l r true true same free = clears a w left right (freed a) inner l r (eqb-true (W a) w same) (freed_is n a (cleared_as_seen w left right) (in_cube-inner n a inner))
+cleared_by : (n u : ℕ) (W : ℕ → ℕ) (a w : ℕ) (left right : Seen) → IsInner n a → left ≢ seen.NotYet → right ≢ seen.NotYet → (s t : Bool) → eqb (W a) w ≡ s → is_free (cleared_as_seen w left right) ≡ t → Move n u W (Marked a w left right) a (cond s (cleared_as_seen w left right) (W a)) (cond s (cond t (phase_after_zero a) Idle) Idle)
+cleared_by n u W a w left right inner l r true true same free = clears a w left right (phase_after_zero a) inner l r (eqb-true (W a) w same) (phase_after_zero_is n a (cleared_as_seen w left right) (in_cube-inner n a inner))
 cleared_by n u W a w left right inner l r true false same used = clears a w left right Idle inner l r (eqb-true (W a) w same) (record { fit = tt; none = refl; holds_none = refl; plain = plain_idle; owes = λ free _ _. absurd (eqb-false (use_of (cleared_as_seen w left right)) 0 used free); due = omega arith })
 cleared_by n u W a w left right inner l r false t other _ = clears_lost a w left right inner (eqb-false (W a) w other)
 
@@ -178,7 +178,7 @@ cleared_by n u W a w left right inner l r false t other _ = clears_lost a w left
 abbrev pub MoveOf : ℕ → ℕ → (ℕ → ℕ) → Phase → Transition → Type 0
 MoveOf n u W p d = Move n u W p d.node (d.writes (W d.node)) (d.next (W d.node))
 
-clear_move : (n u : ℕ) (W : ℕ → ℕ) (a w : ℕ) (left right : Seen) → IsInner n a → left ≢ seen.NotYet → right ≢ seen.NotYet → MoveOf n u W (Marked a w left right) (clear_at u a w (cleared_as_seen w left right))
+clear_move : (n u : ℕ) (W : ℕ → ℕ) (a w : ℕ) (left right : Seen) → IsInner n a → left ≢ seen.NotYet → right ≢ seen.NotYet → MoveOf n u W (Marked a w left right) (clear_event u a w (cleared_as_seen w left right))
 clear_move n u W a w left right inner l r = cleared_by n u W a w left right inner l r (eqb (W a) w) (is_free (cleared_as_seen w left right)) refl refl
 
 free_is_seen : seen.Free ≢ seen.NotYet
@@ -204,8 +204,8 @@ step_move n u W (Looked h w) fit none = claimed n u W h w fit.0 fit.1 (eqb (W h)
 step_move n u W (Climbing h a) fit none = sweeps h a fit.0 fit.1 fit.2
 step_move n u W (Swept h a) fit none = raised n u W h a fit.0 fit.1 fit.2 (is_occupied (W a)) refl
 step_move n u W (Holding h) fit none = absurd (cc)
-step_move n u W (Leaving h) fit none = zeroes h (freed h) fit (freed_is n h 0 fit)
-step_move n u W (Backing h a) fit none = zeroes_back h a (freed h) fit (freed_is n h 0 fit)
+step_move n u W (Leaving h) fit none = zeroes h (phase_after_zero h) fit (phase_after_zero_is n h 0 fit)
+step_move n u W (Backing h a) fit none = zeroes_back h a (phase_after_zero h) fit (phase_after_zero_is n h 0 fit)
 step_move n u W (Arriving a) fit none = unmarks a fit
 step_move n u W (Unmarked a) fit none = marked n u W a fit (is_occupied (W a)) refl
 step_move n u W (Marked a w left right) fit none = marked_move n u W a w left right fit
@@ -213,9 +213,9 @@ step_move n u W Retired fit none = absurd (cc)
 
 -- ---- the count of events
 
-unseen-told : (found : Seen) (w : ℕ) → Tells found w → unseen found ≡ 0
-unseen-told found w (inl told) = ap unseen told.0
-unseen-told found w (inr told) = ap unseen told.0
+unseen-seen : (found : Seen) (w : ℕ) → Tells found w → unseen found ≡ 0
+unseen-seen found w (inl told) = ap unseen told.0
+unseen-seen found w (inr told) = ap unseen told.0
 
 -- each event lowers the count of its station
 pub due_falls : {n u : ℕ} {W : ℕ → ℕ} {p : Phase} {v y : ℕ} {q : Phase} → Move n u W p v y q → step_refusal p ≡ None → events_due n q < events_due n p
@@ -234,7 +234,7 @@ due_falls (zeroes_back h a q _ leaving) step = omega (arith, leaving.due)
 due_falls (unmarks a _) step = omega arith
 due_falls (marks a _ _) step = omega arith
 due_falls (marks_stop a _ _) step = omega arith
-due_falls {W = W} (looks_left a w right found _ told) step = let none : unseen found ≡ 0 = unseen-told found (W (2 * a)) told in omega (arith, none)
-due_falls {W = W} (looks_right a w left found _ _ told) step = let none : unseen found ≡ 0 = unseen-told found (W (2 * a + 1)) told in omega (arith, none)
+due_falls {W = W} (looks_left a w right found _ told) step = let none : unseen found ≡ 0 = unseen-seen found (W (2 * a)) told in omega (arith, none)
+due_falls {W = W} (looks_right a w left found _ _ told) step = let none : unseen found ≡ 0 = unseen-seen found (W (2 * a + 1)) told in omega (arith, none)
 due_falls (clears a w left right q _ _ _ _ leaving) step = omega (arith, leaving.due)
 due_falls (clears_lost a w left right _ _) step = omega arith

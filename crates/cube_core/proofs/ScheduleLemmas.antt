@@ -14,16 +14,16 @@ use Rattle.cube_core.specs.declared.act.Act.TheVariants.{Take, Release, Step, Re
 use Rattle.cube_core.specs.declared.act.Refused.{Refused}
 use Rattle.cube_core.specs.Phase.{owned, node_held, Owns}
 use Rattle.cube_core.specs.Event.{Transition, transition, retirement}
-use Rattle.cube_core.specs.Schedule.{Record, State, record_of, phase_of, word_of, opened, begun, stepped, take_refusal, release_refusal, retire_refusal, phase_refusal, refusal, station_of, moved, unless_refused, acted, after}
+use Rattle.cube_core.specs.Schedule.{Record, State, record_of, phase_of, word_of, initial, apply_begin, apply_event, take_refusal, release_refusal, retire_refusal, phase_refusal, refusal, station_of, apply_accepted, unless_refused, apply, apply_all}
 use Rattle.cube_core.specs.Safety.{IsSafe}
-use Rattle.cube_core.specs.Debts.{HasDebtors}
+use Rattle.cube_core.specs.Debts.{HasDebts}
 use Rattle.cube_core.specs.Held.{IsMachineStep, region_held, held_of}
 use Rattle.cube_core.specs.Count.{depth, events_due, IsCounted}
 use Rattle.cube_core.specs.Law.{IsTreeLawful, EveryScheduleIsLawful}
 use Rattle.cube_core.proofs.ChangeLemmas.{Fit, IsInner, Change}
 use Rattle.cube_core.proofs.MoveLemmas.{Move, begins_take, begins_release, retires, zeroes, step_move, due_falls, double}
-use Rattle.cube_core.proofs.InvariantLemmas.{Invariant, invariant_kept, invariant_opened}
-use Rattle.cube_core.proofs.FollowLemmas.{in_use_engaged, rest_exact, retired_zero}
+use Rattle.cube_core.proofs.InvariantLemmas.{Invariant, invariant_kept, invariant_initial}
+use Rattle.cube_core.proofs.ConsequenceLemmas.{in_use_engaged, at_rest_exact, retired_zero}
 use Rattle.cube_core.proofs.HeldLemmas.{HeldMoves, machine_step, held_named, held_lawful}
 
 -- there is a word for each node and the roll, and the invariant holds
@@ -36,18 +36,18 @@ pub record Stands (w : State) : Type 0 where
 absent : Record
 absent = record { phase = Retired; trail = [] }
 
-begun_change : (s : ℕ) (phase : Phase) (w : State) → s < length w.records → Change (word_of w) (phase_of w) 0 (word_of w 0) s phase (word_of w) (phase_of (begun s phase w))
+apply_begin_change : (s : ℕ) (phase : Phase) (w : State) → s < length w.records → Change (word_of w) (phase_of w) 0 (word_of w 0) s phase (word_of w) (phase_of (apply_begin s phase w))
 unfolding absent
-begun_change s phase w there = record {
+apply_begin_change s phase w there = record {
   word_here = refl;
   word_else = λ _ _. refl;
   phase_here = ap (λ (r : Record). r.phase) (get_or-set_same w.records s (record (record_of w s) { phase = phase }) absent there);
   phase_else = λ t other. ap (λ (r : Record). r.phase) (get_or-set_other w.records s t (record (record_of w s) { phase = phase }) absent other);
 }
 
-stepped_change : (d : Transition) (s : ℕ) (w : State) → d.node < length w.words → s < length w.records → Change (word_of w) (phase_of w) d.node (d.writes (word_of w d.node)) s (d.next (word_of w d.node)) (word_of (stepped d s w)) (phase_of (stepped d s w))
+apply_event_change : (d : Transition) (s : ℕ) (w : State) → d.node < length w.words → s < length w.records → Change (word_of w) (phase_of w) d.node (d.writes (word_of w d.node)) s (d.next (word_of w d.node)) (word_of (apply_event d s w)) (phase_of (apply_event d s w))
 unfolding absent
-stepped_change d s w node_there there = record {
+apply_event_change d s w node_there there = record {
   word_here = get_or-set_same w.words d.node _ 0 node_there;
   word_else = λ a other. get_or-set_other w.words d.node a _ 0 other;
   phase_here = ap (λ (r : Record). r.phase) (get_or-set_same w.records s _ absent there);
@@ -174,27 +174,27 @@ move_leads w new u p v y q k dim words stations move is change =
       step = subst (λ n. IsMachineStep w.dim u (held_of w) (λ s. region_held n (node_held (phase_of new s)))) (sym dim) (machine_step change kept.agrees (subst (λ r. HeldMoves r q) (sym is) (held_moves move)));
     }
 
-moved_leads : (act : Act) (w : State) → Stands w → (station_of act < length w.records) → phase_refusal w.dim act (phase_of w (station_of act)) ≡ None → LeadsTo w (station_of act) (moved act w)
-moved_leads (Take s v) w k there none =
+apply_accepted_leads : (act : Act) (w : State) → Stands w → (station_of act < length w.records) → phase_refusal w.dim act (phase_of w (station_of act)) ≡ None → LeadsTo w (station_of act) (apply_accepted act w)
+apply_accepted_leads (Take s v) w k there none =
     let idle = take_idle w.dim v (phase_of w s) none in
-    move_leads w _ s Idle 0 (word_of w 0) (Looking v) k refl refl (length-set w.records s _) (begins_take v idle.1) idle.0 (begun_change s (Looking v) w there)
-moved_leads (Release s) w k there none =
+    move_leads w _ s Idle 0 (word_of w 0) (Looking v) k refl refl (length-set w.records s _) (begins_take v idle.1) idle.0 (apply_begin_change s (Looking v) w there)
+apply_accepted_leads (Release s) w k there none =
     let holds = release_holds (phase_of w s) none in
-    move_leads w _ s (Holding (owned (phase_of w s))) 0 (word_of w 0) (Leaving (owned (phase_of w s))) k refl refl (length-set w.records s _) (begins_release (owned (phase_of w s)) (subst (Fit w.dim) holds (k.holds.agrees.fit s))) holds (begun_change s (Leaving (owned (phase_of w s))) w there)
-moved_leads (Step s) w k there none =
+    move_leads w _ s (Holding (owned (phase_of w s))) 0 (word_of w 0) (Leaving (owned (phase_of w s))) k refl refl (length-set w.records s _) (begins_release (owned (phase_of w s)) (subst (Fit w.dim) holds (k.holds.agrees.fit s))) holds (apply_begin_change s (Leaving (owned (phase_of w s))) w there)
+apply_accepted_leads (Step s) w k there none =
     let in_range = subst (λ m. (transition s (phase_of w s)).node < m) (sym k.word_count) (node_there w.dim s (phase_of w s) (k.holds.agrees.fit s)) in
-    move_leads w _ s (phase_of w s) _ _ _ k refl (length-set w.words (transition s (phase_of w s)).node _) (length-set w.records s _) (step_move w.dim s (word_of w) (phase_of w s) (k.holds.agrees.fit s) none) refl (stepped_change (transition s (phase_of w s)) s w in_range there)
-moved_leads (Retire s) w k there none =
+    move_leads w _ s (phase_of w s) _ _ _ k refl (length-set w.words (transition s (phase_of w s)).node _) (length-set w.records s _) (step_move w.dim s (word_of w) (phase_of w s) (k.holds.agrees.fit s) none) refl (apply_event_change (transition s (phase_of w s)) s w in_range there)
+apply_accepted_leads (Retire s) w k there none =
     let idle = retire_idle (phase_of w s) none in
     let in_range = subst (λ m. 0 < m) (sym k.word_count) (pow_pos (w.dim + 1)) in
-    move_leads w _ s Idle _ _ _ k refl (length-set w.words 0 _) (length-set w.records s _) retires idle (stepped_change (retirement s) s w in_range there)
+    move_leads w _ s Idle _ _ _ k refl (length-set w.words 0 _) (length-set w.records s _) retires idle (apply_event_change (retirement s) s w in_range there)
 
 -- a refused act changes nothing
-acted_leads : (act : Act) (w : State) → Stands w → LeadsTo w (station_of act) (acted act w)
-acted_leads act w k = turn (refusal act w) refl
+apply_leads : (act : Act) (w : State) → Stands w → LeadsTo w (station_of act) (apply act w)
+apply_leads act w k = turn (refusal act w) refl
   where
     turn : (r : Option Refused) → refusal act w ≡ r → LeadsTo w (station_of act) (unless_refused r act w)
-    turn None is = let yes_there = accepted act w is in moved_leads act w k yes_there.0 yes_there.1
+    turn None is = let yes_there = accepted act w is in apply_accepted_leads act w k yes_there.0 yes_there.1
     turn (Some why) is = record { dim = refl; stations = refl; stands = k; step = inr (inr (λ _. refl)) }
 
 -- ---- every schedule
@@ -207,28 +207,28 @@ copies count i a d = elim (cases_lt i count) [
 ]
 
 -- in the opened world all words are 0, and all stations idle or absent
-pub opened_stands : (n stations : ℕ) → Stands (opened n stations)
-opened_stands n stations = record { word_count = length-replicate (2 ^ (n + 1)) 0; holds = holds }
+pub initial_stands : (n stations : ℕ) → Stands (initial n stations)
+initial_stands n stations = record { word_count = length-replicate (2 ^ (n + 1)) 0; holds = holds }
   where
-    word : (v : ℕ) → word_of (opened n stations) v ≡ 0
+    word : (v : ℕ) → word_of (initial n stations) v ≡ 0
     word v = elim (copies (2 ^ (n + 1)) v 0 0) [ inl is ↦ is | inr is ↦ is ]
 
     -- what an idle station and an absent one have in common
-    station : (F : Phase → Type 0) → F Idle → F Retired → (s : ℕ) → F (phase_of (opened n stations) s)
+    station : (F : Phase → Type 0) → F Idle → F Retired → (s : ℕ) → F (phase_of (initial n stations) s)
     station F idle retired s = elim (copies stations s (record { phase = Idle; trail = [] }) (record { phase = Retired; trail = [] })) [
       | inl is ↦ subst F (sym (ap (λ (r : Record). r.phase) is)) idle
       | inr is ↦ subst F (sym (ap (λ (r : Record). r.phase) is)) retired
     ]
 
-    there : (s : ℕ) → s < length (opened n stations).records → phase_of (opened n stations) s ≡ Idle
+    there : (s : ℕ) → s < length (initial n stations).records → phase_of (initial n stations) s ≡ Idle
     there s below = ap (λ (r : Record). r.phase) (get_or-replicate stations s (record { phase = Idle; trail = [] }) (record { phase = Retired; trail = [] }) (subst (λ count. s < count) (length-replicate stations (record { phase = Idle; trail = [] })) below))
 
-    holds : Invariant n (length (opened n stations).records) (word_of (opened n stations)) (phase_of (opened n stations))
-    holds = invariant_opened n (length (opened n stations).records) (word_of (opened n stations)) (phase_of (opened n stations)) word (station (λ p. (p ≡ Idle) ⊎ (p ≡ Retired)) (inl refl) (inr refl)) there
+    holds : Invariant n (length (initial n stations).records) (word_of (initial n stations)) (phase_of (initial n stations))
+    holds = invariant_initial n (length (initial n stations).records) (word_of (initial n stations)) (phase_of (initial n stations)) word (station (λ p. (p ≡ Idle) ⊎ (p ≡ Retired)) (inl refl) (inr refl)) there
 
-pub after_stands : (acts : List Act) (w : State) → Stands w → Stands (after acts w)
-after_stands [] w k = k
-after_stands (act ∷ earlier) w k = (acted_leads act (after earlier w) (after_stands earlier w k)).stands
+pub apply_all_stands : (acts : List Act) (w : State) → Stands w → Stands (apply_all acts w)
+apply_all_stands [] w k = k
+apply_all_stands (act ∷ earlier) w k = (apply_leads act (apply_all earlier w) (apply_all_stands earlier w k)).stands
 
 -- what the invariant says in the words of the law
 pub Stands-safe : (w : State) → Stands w → IsSafe w
@@ -252,7 +252,7 @@ Stands-safe w k = record {
           absurd (omega (arith, none, by_s.0))
     ]
 
-pub Stands-debts : (w : State) → Stands w → HasDebtors w
+pub Stands-debts : (w : State) → Stands w → HasDebts w
 Stands-debts w k = record {
   in_use = k.holds.owing.owed;
   marked = λ v positive free some. let found = k.holds.witnessed.witness v positive free some in (found.0, (positive, found.1.0), found.1.1);
@@ -260,47 +260,47 @@ Stands-debts w k = record {
 }
 
 -- the act that is not refused, and its count afterwards
-pub acted-accepted : (act : Act) (w : State) → refusal act w ≡ None → acted act w ≡ moved act w
-acted-accepted act w none = ap (λ r. unless_refused r act w) none
+pub apply-accepted : (act : Act) (w : State) → refusal act w ≡ None → apply act w ≡ apply_accepted act w
+apply-accepted act w none = ap (λ r. unless_refused r act w) none
 
-phase_here : (act : Act) (w : State) (q : Phase) → refusal act w ≡ None → phase_of (moved act w) (station_of act) ≡ q → events_due w.dim (phase_of (acted act w) (station_of act)) ≡ events_due w.dim q
-phase_here act w q none is = ap (λ u. events_due w.dim (phase_of u (station_of act))) (acted-accepted act w none) ∙ ap (events_due w.dim) is
+phase_here : (act : Act) (w : State) (q : Phase) → refusal act w ≡ None → phase_of (apply_accepted act w) (station_of act) ≡ q → events_due w.dim (phase_of (apply act w) (station_of act)) ≡ events_due w.dim q
+phase_here act w q none is = ap (λ u. events_due w.dim (phase_of u (station_of act))) (apply-accepted act w none) ∙ ap (events_due w.dim) is
 
-pub begun_phase : (s : ℕ) (q : Phase) (w : State) → s < length w.records → phase_of (begun s q w) s ≡ q
-begun_phase s q w there = (begun_change s q w there).phase_here
+pub apply_begin_phase : (s : ℕ) (q : Phase) (w : State) → s < length w.records → phase_of (apply_begin s q w) s ≡ q
+apply_begin_phase s q w there = (apply_begin_change s q w there).phase_here
 
 -- what a release leaves to do is that of the node that is held
 release_due : (n : ℕ) (p : Phase) → p ≡ Holding (owned p) → events_due n (Leaving (owned p)) ≡ 1 + 5 * depth n (node_held p)
 release_due n p holds = ap (λ h. 1 + 5 * depth n h) (sym (ap node_held holds))
 
 -- no act changes another station's phase
-others_phase : (act : Act) (w : State) (t : ℕ) → t ≢ station_of act → phase_of (acted act w) t ≡ phase_of w t
+others_phase : (act : Act) (w : State) (t : ℕ) → t ≢ station_of act → phase_of (apply act w) t ≡ phase_of w t
 unfolding absent
 others_phase act w t other = turn (refusal act w)
   where
-    moved_phase : (a : Act) → t ≢ station_of a → phase_of (moved a w) t ≡ phase_of w t
-    moved_phase (Take s v) differ = ap (λ (r : Record). r.phase) (get_or-set_other w.records s t _ absent differ)
-    moved_phase (Release s) differ = ap (λ (r : Record). r.phase) (get_or-set_other w.records s t _ absent differ)
-    moved_phase (Step s) differ = ap (λ (r : Record). r.phase) (get_or-set_other w.records s t _ absent differ)
-    moved_phase (Retire s) differ = ap (λ (r : Record). r.phase) (get_or-set_other w.records s t _ absent differ)
+    apply_accepted_phase : (a : Act) → t ≢ station_of a → phase_of (apply_accepted a w) t ≡ phase_of w t
+    apply_accepted_phase (Take s v) differ = ap (λ (r : Record). r.phase) (get_or-set_other w.records s t _ absent differ)
+    apply_accepted_phase (Release s) differ = ap (λ (r : Record). r.phase) (get_or-set_other w.records s t _ absent differ)
+    apply_accepted_phase (Step s) differ = ap (λ (r : Record). r.phase) (get_or-set_other w.records s t _ absent differ)
+    apply_accepted_phase (Retire s) differ = ap (λ (r : Record). r.phase) (get_or-set_other w.records s t _ absent differ)
 
     turn : (r : Option Refused) → phase_of (unless_refused r act w) t ≡ phase_of w t
-    turn None = moved_phase act other
+    turn None = apply_accepted_phase act other
     turn (Some why) = refl
 
 pub Stands-counted : (w : State) → Stands w → IsCounted w
 Stands-counted w k = record {
-  take = λ s v none. phase_here (Take s v) w (Looking v) none (begun_phase s (Looking v) w (accepted (Take s v) w none).0);
-  release = λ s none. phase_here (Release s) w (Leaving (owned (phase_of w s))) none (begun_phase s (Leaving (owned (phase_of w s))) w (accepted (Release s) w none).0) ∙ release_due w.dim (phase_of w s) (release_holds (phase_of w s) (accepted (Release s) w none).1);
+  take = λ s v none. phase_here (Take s v) w (Looking v) none (apply_begin_phase s (Looking v) w (accepted (Take s v) w none).0);
+  release = λ s none. phase_here (Release s) w (Leaving (owned (phase_of w s))) none (apply_begin_phase s (Leaving (owned (phase_of w s))) w (accepted (Release s) w none).0) ∙ release_due w.dim (phase_of w s) (release_holds (phase_of w s) (accepted (Release s) w none).1);
   falls = falls;
   others = λ act t other. others_phase act w t other;
 }
   where
-    falls : (s : ℕ) → refusal (Step s) w ≡ None → events_due w.dim (phase_of (acted (Step s) w) s) < events_due w.dim (phase_of w s)
+    falls : (s : ℕ) → refusal (Step s) w ≡ None → events_due w.dim (phase_of (apply (Step s) w) s) < events_due w.dim (phase_of w s)
     falls s none =
         let here = accepted (Step s) w none in
         let in_range = subst (λ m. (transition s (phase_of w s)).node < m) (sym k.word_count) (node_there w.dim s (phase_of w s) (k.holds.agrees.fit s)) in
-        let change = stepped_change (transition s (phase_of w s)) s w in_range here.0 in
+        let change = apply_event_change (transition s (phase_of w s)) s w in_range here.0 in
         subst (λ d. d < events_due w.dim (phase_of w s)) (sym (phase_here (Step s) w _ none change.phase_here))
         (due_falls (step_move w.dim s (word_of w) (phase_of w s) (k.holds.agrees.fit s) here.1) here.1)
 
@@ -314,9 +314,9 @@ Stands-lawful w k = record {
   debts = Stands-debts w k;
   named = held_named k.holds.agrees;
   apart = held_lawful k.holds.agrees;
-  steps = λ act. (acted_leads act w k).step;
+  steps = λ act. (apply_leads act w k).step;
   engaged = in_use_engaged k.holds (2 ^ (w.dim + 1)) (no_word w k);
-  at_rest = rest_exact k.holds (2 ^ (w.dim + 1)) (no_word w k);
+  at_rest = at_rest_exact k.holds (2 ^ (w.dim + 1)) (no_word w k);
   retired = retired_zero k.holds (2 ^ (w.dim + 1)) (no_word w k);
   roll = k.holds.rolled.roll;
   counted = Stands-counted w k;
@@ -324,4 +324,4 @@ Stands-lawful w k = record {
 
 pub every_schedule : EveryScheduleIsLawful
 every_schedule n stations acts =
-    Stands-lawful (after acts (opened n stations)) (after_stands acts (opened n stations) (opened_stands n stations))
+    Stands-lawful (apply_all acts (initial n stations)) (apply_all_stands acts (initial n stations) (initial_stands n stations))

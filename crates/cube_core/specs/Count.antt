@@ -8,7 +8,7 @@ use Rattle.cube_core.specs.declared.act.Act.{Act}
 use Rattle.cube_core.specs.declared.act.Act.TheVariants.{Take, Release, Step}
 use Rattle.cube_core.specs.Phase.{node_held}
 use Rattle.cube_core.specs.Held.{dim_at}
-use Rattle.cube_core.specs.Schedule.{State, phase_of, refusal, station_of, acted}
+use Rattle.cube_core.specs.Schedule.{State, phase_of, refusal, station_of, apply}
 
 -- how many levels below the root a node is: n - k for the node of a region of dimension k
 abbrev pub depth : ℕ → ℕ → ℕ
@@ -38,9 +38,9 @@ events_due n Retired = 0
 
 pub record IsCounted (w : State) : Type 0 where
   -- a take has at most 3 + 7 j events, and a release 1 + 5 j, at a node that is j levels below the root
-  pub take : (s v : ℕ) → refusal (Take s v) w ≡ None → events_due w.dim (phase_of (acted (Take s v) w) s) ≡ 3 + 7 * depth w.dim v
-  pub release : (s : ℕ) → refusal (Release s) w ≡ None → events_due w.dim (phase_of (acted (Release s) w) s) ≡ 1 + 5 * depth w.dim (node_held (phase_of w s))
+  pub take : (s v : ℕ) → refusal (Take s v) w ≡ None → events_due w.dim (phase_of (apply (Take s v) w) s) ≡ 3 + 7 * depth w.dim v
+  pub release : (s : ℕ) → refusal (Release s) w ≡ None → events_due w.dim (phase_of (apply (Release s) w) s) ≡ 1 + 5 * depth w.dim (node_held (phase_of w s))
   -- each event of a station lowers its own count
-  pub falls : (s : ℕ) → refusal (Step s) w ≡ None → events_due w.dim (phase_of (acted (Step s) w) s) < events_due w.dim (phase_of w s)
+  pub falls : (s : ℕ) → refusal (Step s) w ≡ None → events_due w.dim (phase_of (apply (Step s) w) s) < events_due w.dim (phase_of w s)
   -- and no act changes another station's phase, and so its count
-  pub others : (act : Act) (t : ℕ) → t ≢ station_of act → phase_of (acted act w) t ≡ phase_of w t
+  pub others : (act : Act) (t : ℕ) → t ≢ station_of act → phase_of (apply act w) t ≡ phase_of w t

@@ -7,9 +7,9 @@ use Rattle.status_word.specs.Word.{IsSet, IsFree, IsInUse}
 use Rattle.cube_core.specs.declared.phase.Phase.TheVariants.{Retired}
 use Rattle.cube_core.specs.declared.act.Act.{Act}
 use Rattle.cube_core.specs.Phase.{node_held, IsEngagedAt, IsAtRest}
-use Rattle.cube_core.specs.Schedule.{State, phase_of, word_of, station_of, acted, after, opened}
+use Rattle.cube_core.specs.Schedule.{State, phase_of, word_of, station_of, apply, apply_all, initial}
 use Rattle.cube_core.specs.Safety.{IsSafe}
-use Rattle.cube_core.specs.Debts.{HasDebtors}
+use Rattle.cube_core.specs.Debts.{HasDebts}
 use Rattle.cube_core.specs.Held.{held_of, IsMachineStep}
 use Rattle.cube_core.specs.Count.{IsCounted}
 
@@ -17,13 +17,13 @@ pub record IsTreeLawful (w : State) : Type 0 where
   -- words, owners and marks agree
   pub safe : IsSafe w
   -- what is in use has an owner below it, or someone who is to clear it
-  pub debts : HasDebtors w
+  pub debts : HasDebts w
   -- a station that holds a region holds the one that its node names
   pub named : (s : ℕ) (r : Region) → held_of w s ≡ Some r → IsNodeOf w.dim (node_held (phase_of w s)) r
   -- the held regions are aligned, and those of two stations are apart
   pub apart : IsLawful w.dim (held_of w)
   -- each further act is a step of its station on the machine of pairs, or leaves the held set alone
-  pub steps : (act : Act) → IsMachineStep w.dim (station_of act) (held_of w) (held_of (acted act w))
+  pub steps : (act : Act) → IsMachineStep w.dim (station_of act) (held_of w) (held_of (apply act w))
   -- where the word of a node is in use, some station owns a node at or under it, or is to clear one
   pub engaged : (v : ℕ) → 0 < v → IsInUse (word_of w v) → (s : ℕ) × IsEngagedAt (phase_of w s) v
   -- when all are at rest, the word of a node is free exactly where no held node is at or under it
@@ -37,4 +37,4 @@ pub record IsTreeLawful (w : State) : Type 0 where
 
 -- after every list of acts from an opened world, for every dimension and number of stations
 abbrev pub EveryScheduleIsLawful : Type 0
-EveryScheduleIsLawful = (n stations : ℕ) (acts : List Act) → IsTreeLawful (after acts (opened n stations))
+EveryScheduleIsLawful = (n stations : ℕ) (acts : List Act) → IsTreeLawful (apply_all acts (initial n stations))

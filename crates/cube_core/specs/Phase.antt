@@ -143,19 +143,19 @@ engaged_at Retired = 0
 
 -- it is to clear the node v, where the word x stands: Arriving or Unmarked there, or Marked there
 -- with x still the word that its mark made, and no child seen in use
-abbrev pub Owes : Phase → ℕ → ℕ → Type 0
-Owes Idle v x = ⊥
-Owes (Looking h) v x = ⊥
-Owes (Looked h w) v x = ⊥
-Owes (Climbing h a) v x = ⊥
-Owes (Swept h a) v x = ⊥
-Owes (Holding h) v x = ⊥
-Owes (Leaving h) v x = ⊥
-Owes (Backing h a) v x = ⊥
-Owes (Arriving a) v x = a ≡ v
-Owes (Unmarked a) v x = a ≡ v
-Owes (Marked a w left right) v x = (a ≡ v) × (w ≡ x) × (left ≢ seen.Used) × (right ≢ seen.Used)
-Owes Retired v x = ⊥
+abbrev pub MustClear : Phase → ℕ → ℕ → Type 0
+MustClear Idle v x = ⊥
+MustClear (Looking h) v x = ⊥
+MustClear (Looked h w) v x = ⊥
+MustClear (Climbing h a) v x = ⊥
+MustClear (Swept h a) v x = ⊥
+MustClear (Holding h) v x = ⊥
+MustClear (Leaving h) v x = ⊥
+MustClear (Backing h a) v x = ⊥
+MustClear (Arriving a) v x = a ≡ v
+MustClear (Unmarked a) v x = a ≡ v
+MustClear (Marked a w left right) v x = (a ≡ v) × (w ≡ x) × (left ≢ seen.Used) × (right ≢ seen.Used)
+MustClear Retired v x = ⊥
 
 -- it makes no event before the next call: Idle, Holding or Retired
 abbrev pub IsAtRest : Phase → Type 0

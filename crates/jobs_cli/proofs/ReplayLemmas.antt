@@ -11,8 +11,8 @@ use Rattle.cube_core.specs.declared.act.Refused.TheVariants.{NoStation}
 use Rattle.cube_core.specs.declared.phase.Phase.{Phase}
 use Rattle.cube_core.specs.declared.phase.Phase.TheVariants.{Idle, Looking, Looked, Climbing, Swept, Holding, Leaving, Backing, Arriving, Unmarked, Marked, Retired}
 use Rattle.cube_core.specs.Phase.{IsAtRest}
-use Rattle.cube_core.specs.Schedule.{State, acted, phase_of, refusal, step_refusal, word_of}
-use Rattle.cube_core.specs.World.{HasShapeOf, silent}
+use Rattle.cube_core.specs.Schedule.{State, apply, phase_of, refusal, step_refusal, word_of}
+use Rattle.cube_core.specs.World.{HasShapeOf, without_trails}
 use Rattle.jobs_csv.specs.declared.replay_rows.ReplayRow.{ReplayRow}
 use Rattle.jobs_csv.specs.declared.replay_rows.ReplayRow.TheVariants as row
 use Rattle.jobs_cli.specs.InTurn.{InTurn}
@@ -24,7 +24,7 @@ use Rattle.jobs_cli.proofs.TurnLemmas.{one_more}
 pub is_refused : (a : Act) (old new : State) (why : Refused) → refusal a old ≡ Some why → new ≡ old → Acts a old new (refused_row a why ∷ [])
 is_refused a old new why is same = subst (λ r. ActsUnless r a old new (refused_row a why ∷ [])) (sym is) (same, refl)
 
-pub is_accepted : (a : Act) (old new : State) (rows : List ReplayRow) → refusal a old ≡ None → new ≡ silent (acted a old) → AreRows a old rows → Acts a old new rows
+pub is_accepted : (a : Act) (old new : State) (rows : List ReplayRow) → refusal a old ≡ None → new ≡ without_trails (apply a old) → AreRows a old rows → Acts a old new rows
 is_accepted a old new rows is made told = subst (λ r. ActsUnless r a old new rows) (sym is) (made, told)
 
 not_refused : (why : Refused) → ◌≡◌ {A = Option Refused} None (Some why) → ⊥

@@ -8,8 +8,8 @@ use Rattle.cube_core.specs.declared.act.Act.TheVariants as act
 use Rattle.cube_core.specs.declared.act.Refused.{Refused}
 use Rattle.cube_core.specs.declared.event.Event.{Event}
 use Rattle.cube_core.specs.Phase.{IsAtRest}
-use Rattle.cube_core.specs.Schedule.{State, acted, opened, phase_of, record_of, refusal, word_of}
-use Rattle.cube_core.specs.World.{silent}
+use Rattle.cube_core.specs.Schedule.{State, apply, initial, phase_of, record_of, refusal, word_of}
+use Rattle.cube_core.specs.World.{without_trails}
 use Rattle.jobs_csv.specs.declared.fault.Fault.{Fault}
 use Rattle.jobs_csv.specs.declared.schedule.Line.{Line}
 use Rattle.jobs_csv.specs.declared.schedule.Line.TheVariants as line
@@ -23,7 +23,7 @@ use Rattle.jobs_cli.specs.InTurn.{InTurn}
 
 -- the station makes this event: its trail has one more
 abbrev pub Makes : Act → ℕ → State → Event → Type 0
-Makes a station w event = (record_of (acted a w) station).trail ≡ event ∷ (record_of w station).trail
+Makes a station w event = (record_of (apply a w) station).trail ≡ event ∷ (record_of w station).trail
 
 -- the rows of an act that is not refused: one for an event, and none for a take or a release that begins
 abbrev pub AreRows : Act → State → List ReplayRow → Type 0
@@ -48,7 +48,7 @@ rows_in (Some r) = r ∷ []
 -- is the one that it makes, and keeps no trails
 abbrev pub ActsUnless : Option Refused → Act → State → State → List ReplayRow → Type 0
 ActsUnless (Some why) a old new rows = (new ≡ old) × (rows ≡ refused_row a why ∷ [])
-ActsUnless None a old new rows = (new ≡ silent (acted a old)) × AreRows a old rows
+ActsUnless None a old new rows = (new ≡ without_trails (apply a old)) × AreRows a old rows
 
 abbrev pub Acts : Act → State → State → List ReplayRow → Type 0
 Acts a old new rows = ActsUnless (refusal a old) a old new rows
@@ -98,7 +98,7 @@ pub record IsDone (n stations : ℕ) (bytes : List ℕ) (old new : Option (List 
   pub last : State
   pub rows : List ReplayRow
   pub good : schedule_said bytes ≡ Ok lines
-  pub played : InTurn IsPlayed lines (opened n stations) last rows
+  pub played : InTurn IsPlayed lines (initial n stations) last rows
   pub written : Appends old new (replay_text (rows ++ end_rows last))
 
 -- what an answer says of the bytes that were read: all was done, or the first fault is the one told

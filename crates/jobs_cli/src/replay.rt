@@ -2,7 +2,7 @@
 ghost use Rattle.std.specs.Prelude.{◌≡◌, ◌≤◌, ◌++◌, ◌⊎◌, true, IfErr, IfOk, IfSome, List, OnOk};
 ghost use Rattle.std.specs.Io.KnownBytes.{Appends};
 ghost use Rattle.std.specs.List.{flat_map};
-ghost use Rattle.cube_core.specs.Schedule.{State, opened};
+ghost use Rattle.cube_core.specs.Schedule.{State, initial};
 ghost use Rattle.jobs_csv.specs.Fault.{IsFailure, is_refusal};
 ghost use Rattle.jobs_csv.specs.ReplayRows.{replay_fields};
 ghost use Rattle.jobs_csv.specs.Text.{line_of};
@@ -39,7 +39,7 @@ fn play_all<W: Write + Device>(
 ) -> Result<(), Fault>
     requires dim { n ≤ MAX_DIM }
     requires stations { stations ≤ MAX_STATIONS }
-    ensures played { OnOk result ((last : State) × (rows : List Row) × InTurn IsPlayed schedule.items (opened n stations) last rows × Appends (W.contents writer.old) (W.contents writer.new) (replay_text (rows ++ end_rows last))) }
+    ensures played { OnOk result ((last : State) × (rows : List Row) × InTurn IsPlayed schedule.items (initial n stations) last rows × Appends (W.contents writer.old) (W.contents writer.new) (replay_text (rows ++ end_rows last))) }
     ensures failed { IfErr result (λ fault. IsFailure What.Write (W.failures writer.old) (W.failures writer.new) fault) }
 {
     let before = writer.failures();

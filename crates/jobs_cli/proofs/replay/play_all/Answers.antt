@@ -5,7 +5,7 @@ use Rattle.std.proofs.lemmas.List.{length-replicate, map-id}
 use Rattle.std.proofs.lemmas.Result.{on_ok_weaker}
 use Rattle.std.specs.Io.KnownBytes.{Appends}
 use Rattle.std.specs.List.{flat_map}
-use Rattle.cube_core.specs.Schedule.{Record, State, opened}
+use Rattle.cube_core.specs.Schedule.{Record, State, initial}
 use Rattle.jobs_csv.specs.declared.replay_rows.ReplayRow.{ReplayRow}
 use Rattle.jobs_csv.specs.ReplayRows.{replay_columns, replay_fields}
 use Rattle.jobs_csv.specs.Text.{line_of}
@@ -38,7 +38,7 @@ loop-line-preserved g c =
       stations = c.play.ensures.shape.stations ∙ c.loop-line.invariant.stations;
       sent = (
         rows ++ more,
-        one_more IsPlayed c.loop-line.yielded c.in-Some.line (opened c.args.n c.args.stations) c.loop-line.world c.play.new.world rows more turns c.in_ok-rows.ensures.played,
+        one_more IsPlayed c.loop-line.yielded c.in-Some.line (initial c.args.n c.args.stations) c.loop-line.world c.play.new.world rows more turns c.in_ok-rows.ensures.played,
         subst (HasSent old _ _) (more_lines (line_of replay_columns) text rows more) (more_sent old now _ _ _ out _ gathered sends same),
       );
     }
@@ -59,6 +59,6 @@ returns-clause-played g c =
     on_ok_weaker c.finish.result (λ sends. (
       c.loop-line.world,
       rows,
-      subst (λ lines. InTurn IsPlayed lines (opened c.args.n c.args.stations) c.loop-line.world rows) all turns,
+      subst (λ lines. InTurn IsPlayed lines (initial c.args.n c.args.stations) c.loop-line.world rows) all turns,
       subst (Appends old next) written (all_sent old now next c.in_ok-with_rows-2.field-0 _ gathered sends),
     )) c.finish.ensures.sent

@@ -1,7 +1,7 @@
 -- Marks at one node: a mark that stands says that the word has only grown, a station that is about to
 -- mark has no mark there, and no two stations marked the same word.
 use Rattle.std.proofs.Common.{◌≡◌, ◌≢◌, ℕ, ◌<◌, refl, sym, ◌∙◌, ap, subst, arith}
-use Rattle.status_word.specs.Word.{mark_place, IsSet, IsMarked, with_mark}
+use Rattle.status_word.specs.Word.{mark_bit, IsSet, IsMarked, with_mark}
 use Rattle.status_word.proofs.WordLemmas.{use_of-unmarked, with_mark-has}
 use Rattle.cube_core.specs.declared.phase.Phase.{Phase}
 use Rattle.cube_core.specs.declared.phase.Phase.TheVariants.{Unmarked}
@@ -9,7 +9,7 @@ use Rattle.cube_core.specs.Phase.{marked_at, marked_word}
 use Rattle.cube_core.proofs.BitLemmas.{with_mark-other}
 use Rattle.cube_core.proofs.ChangeLemmas.{Change, each, each_word}
 use Rattle.cube_core.proofs.MoveLemmas.{unmarked_at, Move, claims, raises, zeroes, zeroes_back, unmarks, marks, looks_left, looks_right, clears}
-use Rattle.cube_core.proofs.ShutLemmas.{Shut, marks_stood}
+use Rattle.cube_core.proofs.SeenFreeLemmas.{Shut, marks_stood}
 
 pub record Stamped (W : ℕ → ℕ) (P : ℕ → Phase) : Type 0 where
   pub grown : (s : ℕ) → 0 < marked_at (P s) → IsMarked s (W (marked_at (P s))) → (i : ℕ) → IsSet (marked_word (P s)) i → IsSet (W (marked_at (P s))) i
@@ -80,7 +80,7 @@ mark_is_new {W = W} {P = P} u a t shut k is positive other at equal =
     other_mark = subst (λ b. IsMarked t (W b)) at (with_mark-other u t (W a) other (subst (IsMarked t) (sym equal) (shut.own_mark t positive_t)))
 
     mark_before : IsMarked u (W a)
-    mark_before = subst (λ b. IsMarked u (W b)) (sym at) (k.grown t positive_t other_mark (mark_place u) (subst (IsMarked u) equal (with_mark-has u (W a))))
+    mark_before = subst (λ b. IsMarked u (W b)) (sym at) (k.grown t positive_t other_mark (mark_bit u) (subst (IsMarked u) equal (with_mark-has u (W a))))
 
 pub stamped_kept : {n : ℕ} {W : ℕ → ℕ} {P : ℕ → Phase} {p : Phase} {u v y : ℕ} {q : Phase} {V : ℕ → ℕ} {Q : ℕ → Phase} → Move n u W p v y q → P u ≡ p → Change W P v y u q V Q → Shut W P → Stamped W P → Stamped V Q
 stamped_kept (claims h w q i f e risen) is x shut k = stamped_plain (claims h w q i f e risen) x k risen.plain.not_marked risen.plain.not_unmarked

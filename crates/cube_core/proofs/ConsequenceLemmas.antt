@@ -9,9 +9,9 @@ use Rattle.cube_shape.proofs.PathLemmas.{OnPath-self, OnPath-zero, OnPath-trans,
 use Rattle.status_word.specs.Word.{IsFree, IsInUse, use_of}
 use Rattle.cube_core.specs.declared.phase.Phase.{Phase}
 use Rattle.cube_core.specs.declared.phase.Phase.TheVariants.{Idle, Looking, Looked, Climbing, Swept, Holding, Leaving, Backing, Arriving, Unmarked, Marked, Retired}
-use Rattle.cube_core.specs.Phase.{owned, node_held, marked_at, engaged_at, Owes, IsAtRest, IsEngagedAt}
+use Rattle.cube_core.specs.Phase.{owned, node_held, marked_at, engaged_at, MustClear, IsAtRest, IsEngagedAt}
 use Rattle.cube_core.proofs.HeldLemmas.{holder_is}
-use Rattle.cube_core.proofs.ShutLemmas.{used_on_path}
+use Rattle.cube_core.proofs.SeenFreeLemmas.{used_on_path}
 use Rattle.cube_core.proofs.InvariantLemmas.{Invariant}
 
 -- ---- who is engaged
@@ -30,7 +30,7 @@ owner_engaged (Unmarked a) owns = absurd (omega arith)
 owner_engaged (Marked a w left right) owns = absurd (omega arith)
 owner_engaged Retired owns = absurd (omega arith)
 
-debtor_engaged : (p : Phase) (v x : ℕ) → Owes p v x → engaged_at p ≡ v
+debtor_engaged : (p : Phase) (v x : ℕ) → MustClear p v x → engaged_at p ≡ v
 debtor_engaged Idle v x owes = absurd owes
 debtor_engaged (Looking h) v x owes = absurd owes
 debtor_engaged (Looked h w) v x owes = absurd owes
@@ -68,22 +68,22 @@ in_use_engaged k nodes outside v positive used = engaged_from k nodes outside no
 
 -- ---- at rest
 
-rest_engaged : (p : Phase) → IsAtRest p → engaged_at p ≡ node_held p
-rest_engaged Idle rest = refl
-rest_engaged (Looking h) rest = absurd rest
-rest_engaged (Looked h w) rest = absurd rest
-rest_engaged (Climbing h a) rest = absurd rest
-rest_engaged (Swept h a) rest = absurd rest
-rest_engaged (Holding h) rest = refl
-rest_engaged (Leaving h) rest = absurd rest
-rest_engaged (Backing h a) rest = absurd rest
-rest_engaged (Arriving a) rest = absurd rest
-rest_engaged (Unmarked a) rest = absurd rest
-rest_engaged (Marked a w left right) rest = absurd rest
-rest_engaged Retired rest = refl
+at_rest_engaged : (p : Phase) → IsAtRest p → engaged_at p ≡ node_held p
+at_rest_engaged Idle rest = refl
+at_rest_engaged (Looking h) rest = absurd rest
+at_rest_engaged (Looked h w) rest = absurd rest
+at_rest_engaged (Climbing h a) rest = absurd rest
+at_rest_engaged (Swept h a) rest = absurd rest
+at_rest_engaged (Holding h) rest = refl
+at_rest_engaged (Leaving h) rest = absurd rest
+at_rest_engaged (Backing h a) rest = absurd rest
+at_rest_engaged (Arriving a) rest = absurd rest
+at_rest_engaged (Unmarked a) rest = absurd rest
+at_rest_engaged (Marked a w left right) rest = absurd rest
+at_rest_engaged Retired rest = refl
 
-pub rest_exact : {n count : ℕ} {W : ℕ → ℕ} {P : ℕ → Phase} → Invariant n count W P → (nodes : ℕ) → ((v : ℕ) → nodes ≤ v → W v ≡ 0) → ((s : ℕ) → IsAtRest (P s)) → (v : ℕ) → 0 < v → IsFree (W v) ↔ ((s : ℕ) → OnPath v (node_held (P s)) → ⊥)
-rest_exact {n = n} {W = W} {P = P} k nodes outside rest v positive = (λ free s on. held_used s on free, nobody)
+pub at_rest_exact : {n count : ℕ} {W : ℕ → ℕ} {P : ℕ → Phase} → Invariant n count W P → (nodes : ℕ) → ((v : ℕ) → nodes ≤ v → W v ≡ 0) → ((s : ℕ) → IsAtRest (P s)) → (v : ℕ) → 0 < v → IsFree (W v) ↔ ((s : ℕ) → OnPath v (node_held (P s)) → ⊥)
+at_rest_exact {n = n} {W = W} {P = P} k nodes outside rest v positive = (λ free s on. held_used s on free, nobody)
   where
     held_used : (s : ℕ) → OnPath v (node_held (P s)) → IsInUse (W v)
     held_used s on =
@@ -97,7 +97,7 @@ rest_exact {n = n} {W = W} {P = P} k nodes outside rest v positive = (λ free s 
     nobody : ((s : ℕ) → OnPath v (node_held (P s)) → ⊥) → IsFree (W v)
     nobody none = elim (cases_eq (use_of (W v)) 0) [
       | inl free ↦ free
-      | inr used ↦ let found = in_use_engaged k nodes outside v positive used in absurd (none found.0 (subst (OnPath v) (rest_engaged (P found.0) (rest found.0)) found.1))
+      | inr used ↦ let found = in_use_engaged k nodes outside v positive used in absurd (none found.0 (subst (OnPath v) (at_rest_engaged (P found.0) (rest found.0)) found.1))
     ]
 
 -- ---- when all have retired
