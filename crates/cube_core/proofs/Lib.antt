@@ -14,3 +14,4 @@ mod ConsequenceLemmas
 mod ScheduleLemmas
 mod WorldLemmas
 pub mod OneEventLemmas
+pub mod RunningLemmas
