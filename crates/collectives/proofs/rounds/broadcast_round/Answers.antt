@@ -2,7 +2,7 @@ use Rattle.std.proofs.Common.{arith, ap, sym, ◌∙◌, ◌≡◌, ◌≢◌, i
 use Rattle.std.specs.Prelude.{slice_get, bit_xor}
 use Rattle.std.proofs.lemmas.Bool.{cases_lt}
 use Rattle.collectives.proofs.XorLemmas.{xor_once}
-use Rattle.collectives.proofs.rounds.spread.Goals as goal
+use Rattle.collectives.proofs.rounds.broadcast_round.Goals as goal
 
 pub send-requires-clause-from : goal.send-requires-clause-from
 send-requires-clause-from g c =

@@ -1,8 +1,8 @@
 use Rattle.std.proofs.Common.{arith, ap, inr, refl, subst, sym, set, ◌∙◌, ◌≡◌, ◌+◌}
 use Rattle.std.proofs.lemmas.List.{set-get_or}
-use Rattle.collectives.specs.Rounds.{item_at, TurnsPairsIn}
+use Rattle.collectives.specs.Inner.Rounds.{item_at, TurnsPairsIn}
 use Rattle.collectives.proofs.PairLemmas.{low_in_block, Turned-alike, Turned-block, Turned-join, Turned-pair}
-use Rattle.collectives.proofs.rounds.extend_block.Goals as goal
+use Rattle.collectives.proofs.rounds.scan_block.Goals as goal
 
 pub loop-low-preserved : goal.loop-low-preserved
 loop-low-preserved g c =
@@ -23,10 +23,10 @@ loop-low-preserved g c =
           (Turned-alike m.unit half low (low + 1) (λ low a b. a) (λ low a b. m.join (item_at m.unit totals low) b) (λ low a b. m.join (item_at m.unit first_totals low) b) prefixes c.prepend_total.new.prefixes
           (λ x above below x_is within a b. ap (λ total. m.join total b) (c.loop-low.invariant.joined.others x x_is (omega arith) (inr above)).0)
           pair);
-      joined = Turned-join m.unit half c.args.start low (low + 1) _ _ first_totals totals c.exchange_pair.new.items (omega arith) (omega arith) c.loop-low.auto.totals c.loop-low.invariant.joined
-          (Turned-pair m.unit half low (λ low. m.join) (λ low. m.join) totals c.exchange_pair.new.items c.requires.half low_is (omega arith) both both refl refl c.exchange_pair.ensures.joined);
+      joined = Turned-join m.unit half c.args.start low (low + 1) _ _ first_totals totals c.all_reduce_pair.new.items (omega arith) (omega arith) c.loop-low.auto.totals c.loop-low.invariant.joined
+          (Turned-pair m.unit half low (λ low. m.join) (λ low. m.join) totals c.all_reduce_pair.new.items c.requires.half low_is (omega arith) both both refl refl c.all_reduce_pair.ensures.joined);
       values = c.prepend_total.ensures.values;
-      total_values = c.exchange_pair.ensures.values;
+      total_values = c.all_reduce_pair.ensures.values;
     }
 
 pub returns-clause-prepended : goal.returns-clause-prepended

@@ -1,6 +1,6 @@
 use Rattle.std.specs.Prelude.{All}
-use Rattle.collectives.specs.Rounds.{TurnsPairsIn}
-use Rattle.collectives.proofs.rounds.exchange_block.Given as goal
+use Rattle.collectives.specs.Inner.Rounds.{TurnsPairsIn}
+use Rattle.collectives.proofs.rounds.all_reduce_block.Given as goal
 
 abbrev pub invariant-loop-low : goal.invariant-loop-low
 invariant-loop-low g l = let m = g.M.Monoid in record {

@@ -1,6 +1,6 @@
 use Rattle.std.specs.Prelude.{All}
-use Rattle.collectives.specs.Rounds.{item_at, TurnsPairsIn}
-use Rattle.collectives.proofs.rounds.extend_block.Given as goal
+use Rattle.collectives.specs.Inner.Rounds.{item_at, TurnsPairsIn}
+use Rattle.collectives.proofs.rounds.scan_block.Given as goal
 
 abbrev pub invariant-loop-low : goal.invariant-loop-low
 invariant-loop-low g l = let m = g.M.Monoid in record {

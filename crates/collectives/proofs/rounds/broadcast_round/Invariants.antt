@@ -1,6 +1,6 @@
 use Rattle.std.proofs.Common.{◌≡◌, ℕ, ◌+◌, ◌<◌}
 use Rattle.std.specs.Prelude.{slice_get, bit_xor}
-use Rattle.collectives.proofs.rounds.spread.Given as goal
+use Rattle.collectives.proofs.rounds.broadcast_round.Given as goal
 
 abbrev pub invariant-loop-v : goal.invariant-loop-v
 invariant-loop-v g l = record {
