@@ -6,8 +6,9 @@ use Rattle.cube_core.specs.declared.event.Event.{Event}
 use Rattle.cube_core.specs.declared.act.Act.{Act}
 use Rattle.cube_core.specs.declared.act.Act.TheVariants.{Take, Release, Step, Retire}
 use Rattle.cube_core.specs.declared.act.Refused.{Refused}
-use Rattle.cube_core.specs.declared.act.Refused.TheVariants.{NotIdle, NotHolding, NoStation, NotInCube, Resting}
+use Rattle.cube_core.specs.declared.act.Refused.TheVariants.{NotIdle, NotHolding, NoStation, NotInCube}
 use Rattle.cube_core.specs.Phase.{owned}
+pub use Rattle.cube_core.specs.Phase.{step_refusal}
 use Rattle.cube_core.specs.Event.{Transition, transition, retirement}
 
 -- a station's record: its phase, and the list of its events, the newest first
@@ -66,21 +67,6 @@ retire_refusal _ = Some NotIdle
 abbrev pub release_refusal : Phase → Option Refused
 release_refusal (Holding h) = None
 release_refusal _ = Some NotHolding
-
--- a step
-abbrev pub step_refusal : Phase → Option Refused
-step_refusal Idle = Some Resting
-step_refusal (Looking h) = None
-step_refusal (Looked h w) = None
-step_refusal (Climbing h a) = None
-step_refusal (Swept h a) = None
-step_refusal (Holding h) = Some Resting
-step_refusal (Leaving h) = None
-step_refusal (Backing h a) = None
-step_refusal (Arriving a) = None
-step_refusal (Unmarked a) = None
-step_refusal (Marked a w left right) = None
-step_refusal Retired = Some Resting
 
 -- the station that an act is of
 abbrev pub station_of : Act → ℕ

@@ -10,9 +10,9 @@ use Rattle.jobs_csv.specs.declared.replay_rows.ReplayRow.{ReplayRow}
 use Rattle.jobs_csv.specs.ReplayRows.{replay_columns, replay_fields}
 use Rattle.jobs_csv.specs.Text.{line_of}
 use Rattle.jobs_csv.proofs.SentLemmas.{HasSent, all_sent, more_gathered, more_sent, none_sent}
-use Rattle.jobs_cli.specs.InTurn.{InTurn}
-use Rattle.jobs_cli.specs.Replay.{IsPlayed, end_rows, replay_text}
-use Rattle.jobs_cli.proofs.TurnLemmas.{more_lines, one_more}
+use Rattle.jobs_cli.specs.Trace.{IsTrace}
+use Rattle.jobs_cli.specs.Replay.{IsPlayed, final_rows, replay_text}
+use Rattle.jobs_cli.proofs.TraceLemmas.{more_lines, one_more}
 use Rattle.jobs_cli.proofs.replay.play_all.Goals as goal
 
 pub loop-line-init : goal.loop-line-init
@@ -52,13 +52,13 @@ returns-clause-played g c =
     let last = YieldsList-end (YieldsList-from_vec {s = c.into_iter-line-iterator.result} c.args.schedule.items (search rules) (search rules)) c.loop-line.yielded c.loop-line.line-iterator c.loop-line.yielded_by c.next.result c.next.new.self c.in-None.is c.next.ensures.steps in
     let all : c.loop-line.yielded ≡ c.args.schedule.items = sym (map-id c.loop-line.yielded) ∙ last.0 in
     let (rows, turns, sent) = c.loop-line.invariant.sent in
-    let ends : List ReplayRow = c.in_ok-rows-2.rows.items in
-    let gathered = more_gathered old now c.loop-line.lines c.in_ok-with_rows-2.field-0 (flat_map text ends) (replay_text rows) sent c.in_ok-with_rows-2.ensures in
-    let written : replay_text rows ++ flat_map text ends ≡ replay_text (rows ++ end_rows c.loop-line.world) =
-    more_lines (line_of replay_columns) text rows ends ∙ ap (λ (e : List ReplayRow). replay_text (rows ++ e)) c.in_ok-rows-2.ensures in
+    let ended : List ReplayRow = c.in_ok-rows-2.rows.items in
+    let gathered = more_gathered old now c.loop-line.lines c.in_ok-with_rows-2.field-0 (flat_map text ended) (replay_text rows) sent c.in_ok-with_rows-2.ensures in
+    let written : replay_text rows ++ flat_map text ended ≡ replay_text (rows ++ final_rows c.loop-line.world) =
+    more_lines (line_of replay_columns) text rows ended ∙ ap (λ (e : List ReplayRow). replay_text (rows ++ e)) c.in_ok-rows-2.ensures in
     on_ok_weaker c.finish.result (λ sends. (
       c.loop-line.world,
       rows,
-      subst (λ lines. InTurn IsPlayed lines (initial c.args.n c.args.stations) c.loop-line.world rows) all turns,
+      subst (λ lines. IsTrace IsPlayed lines (initial c.args.n c.args.stations) c.loop-line.world rows) all turns,
       subst (Appends old next) written (all_sent old now next c.in_ok-with_rows-2.field-0 _ gathered sends),
     )) c.finish.ensures.sent

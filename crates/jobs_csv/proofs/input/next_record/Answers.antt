@@ -1,7 +1,7 @@
 use Rattle.std.proofs.Common.{inl, ◌∙◌}
 use Rattle.csv.specs.Records.{fields_of}
 use Rattle.jobs_csv.proofs.Given.{all_given, more_given, stops}
-use Rattle.jobs_csv.proofs.input.next_row.Goals as goal
+use Rattle.jobs_csv.proofs.input.next_record.Goals as goal
 
 pub stopped_for-requires : goal.stopped_for-requires
 stopped_for-requires g c =

@@ -1,6 +1,6 @@
 use Rattle.std.proofs.Common.{◌≡◌, ◌≤◌}
 use Rattle.jobs_cli.proofs.ReplayLemmas.{rows_before}
-use Rattle.jobs_cli.proofs.play.ends.Given as goal
+use Rattle.jobs_cli.proofs.play.final_rows.Given as goal
 
 abbrev pub invariant-loop-node : goal.invariant-loop-node
 invariant-loop-node l = record {

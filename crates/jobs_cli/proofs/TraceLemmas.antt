@@ -2,10 +2,10 @@
 use Rattle.std.proofs.Common.{◌≡◌, ℕ, List, [], ◌∷◌, ◌++◌, refl, sym, ap, subst, ◌∙◌, append-nil, append_assoc}
 use Rattle.std.specs.List.{flat_map}
 use Rattle.std.proofs.lemmas.Grind.{flat_map-append}
-use Rattle.jobs_cli.specs.InTurn.{InTurn, Outcome}
+use Rattle.jobs_cli.specs.Trace.{IsTrace, StepRelation}
 
-pub one_more : {Thing State Row : Type 0} (becomes : Outcome Thing State Row) (things : List Thing) (thing : Thing) (first now last : State) (rows told : List Row)
-    → InTurn becomes things first now rows → becomes thing now last told → InTurn becomes (things ++ thing ∷ []) first last (rows ++ told)
+pub one_more : {Thing State Row : Type 0} (becomes : StepRelation Thing State Row) (things : List Thing) (thing : Thing) (first now last : State) (rows told : List Row)
+    → IsTrace becomes things first now rows → becomes thing now last told → IsTrace becomes (things ++ thing ∷ []) first last (rows ++ told)
 one_more becomes [] thing first now last rows told (at, none) b =
     (last, told, [], subst (λ s. becomes thing s last told) at b, (refl, refl), ap (λ r. r ++ told) none ∙ sym (append-nil told))
 one_more becomes (other ∷ things) thing first now last rows told (next, here, more, a, rest, same) b =

@@ -1,8 +1,8 @@
 use Rattle.std.proofs.Common.{◌≡◌, ◌≢◌, ◌++◌, ◌∷◌, [], length, arith, rules}
 use Rattle.jobs_csv.specs.declared.replay_rows.ReplayRow.TheVariants as row
 use Rattle.jobs_cli.proofs.ReplayLemmas.{all_ended, word_added, word_skipped}
-use Rattle.jobs_cli.proofs.play.ends.Goals.{then-word-ne0+in_ok-push, else-word-ne0}
-use Rattle.jobs_cli.proofs.play.ends.Goals as goal
+use Rattle.jobs_cli.proofs.play.final_rows.Goals.{then-word-ne0+in_ok-push, else-word-ne0}
+use Rattle.jobs_cli.proofs.play.final_rows.Goals as goal
 
 pub loop-node-init : goal.loop-node-init
 loop-node-init c = record { from = omega arith; same = c.new-rows.ensures.items }
@@ -27,6 +27,6 @@ loop-node-preserved c = elim c.if-word-ne0.branch [
 
 pub returns : goal.returns
 returns c =
-    let last : c.loop-node.node ≡ c.past_nodes-node-end.result = search rules in
+    let last : c.loop-node.node ≡ c.node_limit-node-end.result = search rules in
     let pushed : c.push-2.new.self.items ≡ c.loop-node.rows.items ++ row.End (length c.loop-node.rows.items) ∷ [] = search rules in
-    all_ended c.args.world.now c.args.n c.loop-node.node c.past_nodes-node-end.result c.loop-node.rows.items _ c.requires.dim c.past_nodes-node-end.ensures last c.loop-node.invariant.same pushed
+    all_ended c.args.world.now c.args.n c.loop-node.node c.node_limit-node-end.result c.loop-node.rows.items _ c.requires.dim c.node_limit-node-end.ensures last c.loop-node.invariant.same pushed
