@@ -16,7 +16,7 @@ use Rattle.std.proofs.lemmas.List.Elements.{All-cons}
 use Rattle.std.proofs.lemmas.List.Sorted.{IsPermutation-append_right, IsPermutation-cons, IsPermutation-middle, IsPermutation-refl, IsPermutation-sym, IsPermutation-trans}
 use Rattle.std.proofs.lemmas.List.Sums.{sum_by_push}
 use Rattle.job_types.specs.Job.{JobData}
-use Rattle.job_types.specs.declared.job.TheConstants.{MAX_LANES}
+use Rattle.job_types.specs.declared.request.TheConstants.{MAX_LANES}
 use Rattle.job_types.specs.Reply.{ReplyData}
 use Rattle.jobs_csv.specs.declared.fault.Fault.{Fault}
 use Rattle.jobs_csv.specs.declared.fault.FaultKind.TheVariants as what

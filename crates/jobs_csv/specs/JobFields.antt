@@ -6,7 +6,7 @@ use Rattle.job_types.specs.declared.kind.Kind.{Kind}
 use Rattle.job_types.specs.declared.kind.Kind.TheVariants as kind
 use Rattle.job_types.specs.declared.kind.Op.{Op}
 use Rattle.job_types.specs.declared.kind.Op.TheVariants as op
-use Rattle.job_types.specs.declared.job.TheConstants.{MAX_LANES}
+use Rattle.job_types.specs.declared.request.TheConstants.{MAX_LANES}
 use Rattle.jobs_csv.specs.declared.fault.FaultKind.{FaultKind}
 use Rattle.jobs_csv.specs.declared.fault.FaultKind.TheVariants as what
 use Rattle.jobs_csv.specs.declared.job_fields.Collective.{Collective}

@@ -2,8 +2,8 @@
 use Rattle.std.specs.Prelude.{ℕ, ◌&&◌, Bool, List, [], ◌∷◌, codes, Option, Some, None, Result, Ok, Err, if◌then◌else◌}
 use Rattle.std.specs.Str.{bytes_eq}
 use Rattle.job_types.specs.Job.{JobData, refusal_of}
-use Rattle.job_types.specs.declared.job.JobRefused.{JobRefused}
-use Rattle.job_types.specs.declared.job.JobRefused.TheVariants.{BadRoot}
+use Rattle.job_types.specs.declared.request.JobRefused.{JobRefused}
+use Rattle.job_types.specs.declared.request.JobRefused.TheVariants.{BadRoot}
 use Rattle.jobs_csv.specs.declared.fault.Fault.{Fault}
 use Rattle.jobs_csv.specs.declared.fault.FaultKind.{FaultKind}
 use Rattle.jobs_csv.specs.declared.fault.FaultKind.TheVariants as what

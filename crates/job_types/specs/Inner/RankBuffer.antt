@@ -1,7 +1,7 @@
--- What a contract sees of the places of a region.
+-- What a contract sees of a rank buffer.
 use Rattle.std.specs.Prelude.{ℕ, List}
 
--- the number at each place, and how many places there are beside them for a scan's totals
-pub record PlacesData : Type 0 where
+-- the number at each rank's place, and how many scratch items there are
+pub record RankBufferData : Type 0 where
   pub numbers : List ℕ
-  pub spare : ℕ
+  pub scratch_len : ℕ

@@ -1,11 +1,11 @@
--- The rounds' contracts, told of the numbers that the items stand for.
+-- The rounds' contracts, stated of the numbers that the items stand for.
 use Rattle.std.proofs.Common.{◌∙◌, sym, ap, subst}
 use Rattle.std.specs.Prelude.{map}
 use Rattle.job_types.specs.declared.kind.Kind.TheVariants.{Reduce, AllReduce, Scan}
-use Rattle.job_types.specs.Collective.{operation_of, IsResult}
+use Rattle.job_types.specs.Inner.Collective.{operation_of, IsResult}
 use Rattle.job_types.proofs.NumberLemmas.{broadcast_result, reduce_result, all_reduce_result, scan_result, all_values}
 use Rattle.job_types.proofs.RefusalLemmas.{root_within}
-use Rattle.job_types.proofs.places.run_rounds.Goals as goal
+use Rattle.job_types.proofs.rank_buffer.run_rounds.Goals as goal
 
 pub returns-in-Broadcast-clause-result : goal.returns-in-Broadcast-clause-result
 returns-in-Broadcast-clause-result g c =

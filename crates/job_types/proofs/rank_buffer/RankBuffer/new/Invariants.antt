@@ -1,7 +1,7 @@
 -- So far, the values stand for the items read.
 use Rattle.std.proofs.Common.{◌≡◌, take}
 use Rattle.std.specs.Prelude.{map, All}
-use Rattle.job_types.proofs.places.Places.new.Given as goal
+use Rattle.job_types.proofs.rank_buffer.RankBuffer.new.Given as goal
 
 abbrev pub invariant-loop-item : goal.invariant-loop-item
 invariant-loop-item g l = record {
