@@ -8,6 +8,7 @@
 #![tactic(auto)]
 
 mod collective;
+mod message;
 mod messages;
 mod monoid;
 mod operations;
@@ -15,7 +16,8 @@ mod rounds;
 mod shape;
 
 pub use collective::{all_reduce, broadcast, reduce, scan};
-pub use messages::{Message, message_at};
+pub use message::Message;
+pub use messages::message_at;
 pub use monoid::Monoid;
 pub use operations::{Add, Affine, And, Max, Min, Or, Xor};
 pub use shape::{DIM_LIMIT, Shape, Tally};

@@ -15,7 +15,7 @@ use Rattle.cube_core.specs.Event.{cleared_as_seen}
 use Rattle.cube_core.proofs.BitLemmas.{with_mark-use}
 use Rattle.cube_core.proofs.ChangeLemmas.{Fit, Agrees, Change, quiet, claimed, raised, zeroed, cleared_kept, with_side-occupied}
 use Rattle.cube_core.proofs.MoveLemmas.{Move, begins_take, begins_release, retires, looks_free, looks_used, claims, claims_lost, sweeps, raises, raises_under, zeroes, zeroes_back, unmarks, marks, marks_stop, looks_left, looks_right, clears, clears_lost}
-use Rattle.cube_core.proofs.ShutLemmas.{Shut, passed_swept}
+use Rattle.cube_core.proofs.SeenFreeLemmas.{Shut, passed_swept}
 
 -- quiet from a phase that is written out
 quiet_from : {n : ℕ} {W : ℕ → ℕ} {P : ℕ → Phase} {v y u : ℕ} {q : Phase} {V : ℕ → ℕ} {Q : ℕ → Phase} (p : Phase) → P u ≡ p → Change W P v y u q V Q → Agrees n W P → Fit n q → owned q ≡ owned p → stop q ≡ stop p → (0 < v → IsOccupied y ↔ IsOccupied (W v)) → (0 < v → (i : ℕ) → i < 3 → IsSet (W v) i → IsSet y i) → Agrees n V Q

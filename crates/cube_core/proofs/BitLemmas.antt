@@ -6,12 +6,12 @@ use Rattle.std.proofs.lemmas.Nat.{and_mask, and_le_r}
 use Rattle.std.proofs.Math.Nat.{mod-eq_of_lt}
 use Rattle.cube_shape.specs.declared.node.Side.{Side}
 use Rattle.cube_shape.specs.declared.node.Side.TheVariants.{Left, Right}
-use Rattle.status_word.specs.Word.{side_place, mark_place, IsSet, IsOccupied, IsMarked, use_of, IsInUse, with_side, with_mark, kept_bits, cleared}
+use Rattle.status_word.specs.Word.{side_bit, mark_bit, IsSet, IsOccupied, IsMarked, use_of, IsInUse, with_side, with_mark, kept_bits, cleared}
 use Rattle.status_word.proofs.WordLemmas.{IsSet-and_left, IsInUse-cases, IsOccupied-in_use, HasSide-in_use, with_side-has, with_side-others, with_mark-keeps, with_mark-others, cleared-occupied, cleared-left, cleared-right}
 
-pub side_place-low : (side : Side) → side_place side < 3
-side_place-low Left = lit< tt
-side_place-low Right = lit< tt
+pub side_bit-low : (side : Side) → side_bit side < 3
+side_bit-low Left = lit< tt
+side_bit-low Right = lit< tt
 
 -- ---- words with no bit but those of use
 
@@ -41,7 +41,7 @@ pub IsInUse-use_of : (w : ℕ) → IsInUse (use_of w) ↔ IsInUse w
 IsInUse-use_of w = (λ used free. used (use_of-twice w ∙ free), λ used free. used (sym (use_of-twice w) ∙ free))
 
 -- a mark changes no bit of use
-mark_far : (s i : ℕ) → i < 3 → i ≢ mark_place s
+mark_far : (s i : ℕ) → i < 3 → i ≢ mark_bit s
 mark_far s i low is = omega arith
 
 pub with_mark-use : (s w i : ℕ) → i < 3 → IsSet (with_mark s w) i ↔ IsSet w i
@@ -55,14 +55,14 @@ IsInUse-with_side side w = HasSide-in_use side (with_side side w) (with_side-has
 
 -- and a side no mark
 pub with_side-marks : (side : Side) (w s : ℕ) → IsMarked s (with_side side w) → IsMarked s w
-with_side-marks side w s marked = with_side-others side w (mark_place s) (λ is. far (side_place-low side) is) marked
+with_side-marks side w s marked = with_side-others side w (mark_bit s) (λ is. far (side_bit-low side) is) marked
   where
-    far : side_place side < 3 → mark_place s ≡ side_place side → ⊥
+    far : side_bit side < 3 → mark_bit s ≡ side_bit side → ⊥
     far low is = omega arith
 
 -- the mark of another station
 pub with_mark-other : (s t w : ℕ) → t ≢ s → IsMarked t (with_mark s w) → IsMarked t w
-with_mark-other s t w other marked = with_mark-others s w (mark_place t) (λ is. other (omega arith)) marked
+with_mark-other s t w other marked = with_mark-others s w (mark_bit t) (λ is. other (omega arith)) marked
 
 -- ---- words that a Clear writes
 

@@ -6,9 +6,9 @@ use Rattle.cube_shape.specs.declared.node.Side.{Side}
 use Rattle.cube_shape.specs.declared.node.Side.TheVariants.{Left, Right}
 use Rattle.cube_shape.specs.Node.{OnPath, IsInCube, child_towards}
 use Rattle.cube_shape.proofs.PathLemmas.{OnPath-le, OnPath-zero, OnPath-jump, OnPath-one_child, child_towards_is}
-use Rattle.status_word.specs.Word.{side_place, IsSet, IsOccupied, HasSide, IsFree, with_side}
+use Rattle.status_word.specs.Word.{side_bit, IsSet, IsOccupied, HasSide, IsFree, with_side}
 use Rattle.status_word.proofs.WordLemmas.{IsOccupied-in_use, HasSide-in_use, with_side-has, with_side-keeps, with_side-others}
-use Rattle.cube_core.proofs.BitLemmas.{side_place-low}
+use Rattle.cube_core.proofs.BitLemmas.{side_bit-low}
 use Rattle.cube_core.specs.declared.phase.Phase.{Phase}
 use Rattle.cube_core.specs.declared.phase.Phase.TheVariants.{Idle, Looking, Looked, Climbing, Swept, Holding, Leaving, Backing, Arriving, Unmarked, Marked, Retired}
 use Rattle.cube_core.specs.Phase.{side_of, owned, stop, HasPassed}
@@ -86,7 +86,7 @@ Agrees-same {n = n} same k = owners_kept k (λ s. ap owned (same s)) (λ v _. (�
 -- a word of a node keeps its bits of use, and a station owns what it owned and has passed no more:
 -- all moves but a Claim that wins, a Raise that finds no OCC, a Zero and a Clear that wins
 pub quiet : {n : ℕ} {W : ℕ → ℕ} {P : ℕ → Phase} {v y u : ℕ} {q : Phase} {V : ℕ → ℕ} {Q : ℕ → Phase} → Change W P v y u q V Q → Agrees n W P → Fit n q → owned q ≡ owned (P u) → stop (P u) ≤ stop q → (0 < v → IsOccupied y ↔ IsOccupied (W v)) → (0 < v → (i : ℕ) → i < 3 → IsSet (W v) i → IsSet y i) → Agrees n V Q
-quiet {n = n} {W = W} {P = P} {u = u} {V = V} {Q = Q} x k fit own further occ grows = owners_kept k owns occ_all fit_all (λ s c on. grown (c / 2) (omega (arith, on.1)) (side_place (side_of c)) (side_place-low (side_of c)) (k.sides s c (passed s c on))) (λ s t c o on. k.apart s t c (sym (owns s) ∙ o) (passed t c on))
+quiet {n = n} {W = W} {P = P} {u = u} {V = V} {Q = Q} x k fit own further occ grows = owners_kept k owns occ_all fit_all (λ s c on. grown (c / 2) (omega (arith, on.1)) (side_bit (side_of c)) (side_bit-low (side_of c)) (k.sides s c (passed s c on))) (λ s t c o on. k.apart s t c (sym (owns s) ∙ o) (passed t c on))
   where
     owns : (s : ℕ) → owned (Q s) ≡ owned (P s)
     owns = each x (λ s p. owned p ≡ owned (P s)) own (λ t _. refl)
@@ -200,7 +200,7 @@ raised {n = n} {W = W} {P = P} {a = a} {h = h} {u = u} {q = q} {V = V} {Q = Q} x
 
     sides : (s c : ℕ) → HasPassed (Q s) c → HasSide (side_of c) (V (c / 2))
     sides s c on = elim (passed s c on) [
-      | inl old ↦ grown (c / 2) (side_place (side_of c)) (k.sides s c old)
+      | inl old ↦ grown (c / 2) (side_bit (side_of c)) (k.sides s c old)
       | inr same ↦ raised_side c same
     ]
 

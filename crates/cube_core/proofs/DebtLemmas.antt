@@ -9,17 +9,17 @@ use Rattle.cube_core.specs.declared.phase.Seen.{Seen}
 use Rattle.cube_core.specs.declared.phase.Seen.TheVariants as seen
 use Rattle.cube_core.specs.declared.phase.Phase.{Phase}
 use Rattle.cube_core.specs.declared.phase.Phase.TheVariants.{Idle, Looking, Looked, Climbing, Swept, Holding, Leaving, Backing, Arriving, Unmarked, Marked, Retired}
-use Rattle.cube_core.specs.Phase.{side_of, owned, stop, marked_at, marked_word, is_seen_free, Owes}
+use Rattle.cube_core.specs.Phase.{side_of, owned, stop, marked_at, marked_word, is_seen_free, MustClear}
 use Rattle.cube_core.specs.Event.{cleared_as_seen}
 use Rattle.cube_core.proofs.BitLemmas.{IsInUse-use_of, IsInUse-more, IsInUse-with_mark, IsInUse-with_side, cleared-had, cleared-none, with_mark-use}
 use Rattle.cube_core.proofs.ChangeLemmas.{Agrees, Change, each_word}
 use Rattle.cube_core.proofs.MoveLemmas.{Move, begins_take, begins_release, retires, looks_free, looks_used, claims, claims_lost, sweeps, raises, raises_under, zeroes, zeroes_back, unmarks, marks, marks_stop, looks_left, looks_right, clears, clears_lost}
-use Rattle.cube_core.proofs.ShutLemmas.{used_on_path}
-use Rattle.cube_core.proofs.StampLemmas.{Stamped}
+use Rattle.cube_core.proofs.SeenFreeLemmas.{used_on_path}
+use Rattle.cube_core.proofs.MarkLemmas.{Stamped}
 
 -- a child in use, or a station that owes
 abbrev pub Owed : (ℕ → ℕ) → (ℕ → Phase) → ℕ → Type 0
-Owed W P v = IsInUse (W (2 * v)) ⊎ (IsInUse (W (2 * v + 1)) ⊎ ((s : ℕ) × Owes (P s) v (W v)))
+Owed W P v = IsInUse (W (2 * v)) ⊎ (IsInUse (W (2 * v + 1)) ⊎ ((s : ℕ) × MustClear (P s) v (W v)))
 
 pub record Owing (W : ℕ → ℕ) (P : ℕ → Phase) : Type 0 where
   pub owed : (v : ℕ) → 0 < v → IsInUse (W v) → (IsOccupied (W v) → ⊥) → Owed W P v
@@ -33,7 +33,7 @@ child_owed W P a c node used = elim (child_cases c a node) [
 ]
 
 -- with what is owed where the word changes, at its parent, and by the mover elsewhere
-owing_by : {W : ℕ → ℕ} {P : ℕ → Phase} {u v y : ℕ} {q : Phase} {V : ℕ → ℕ} {Q : ℕ → Phase} → Change W P v y u q V Q → Owing W P → (0 < v → IsInUse y → (IsOccupied y → ⊥) → Owed V Q v) → (0 < v / 2 → IsInUse (W v) → IsInUse y ⊎ ((x : ℕ) → Owes q (v / 2) x)) → ((a : ℕ) → 0 < a → a ≢ v → Owes (P u) a (W a) → Owed V Q a) → Owing V Q
+owing_by : {W : ℕ → ℕ} {P : ℕ → Phase} {u v y : ℕ} {q : Phase} {V : ℕ → ℕ} {Q : ℕ → Phase} → Change W P v y u q V Q → Owing W P → (0 < v → IsInUse y → (IsOccupied y → ⊥) → Owed V Q v) → (0 < v / 2 → IsInUse (W v) → IsInUse y ⊎ ((x : ℕ) → MustClear q (v / 2) x)) → ((a : ℕ) → 0 < a → a ≢ v → MustClear (P u) a (W a) → Owed V Q a) → Owing V Q
 owing_by {W = W} {P = P} {u = u} {v = v} {y = y} {q = q} {V = V} {Q = Q} x k here above own = record {
   owed = each_word x (λ a w. 0 < a → IsInUse w → (IsOccupied w → ⊥) → Owed V Q a) here elsewhere;
 }
@@ -43,14 +43,14 @@ owing_by {W = W} {P = P} {u = u} {v = v} {y = y} {q = q} {V = V} {Q = Q} x k her
       | inr other ↦ child_owed V Q a c node (subst IsInUse (sym (x.word_else c other)) used)
       | inl same ↦ elim (above (subst (λ b. 0 < b) (sym node ∙ ap (λ b. b / 2) same) positive) (subst (λ b. IsInUse (W b)) same used)) [
         | inl still ↦ child_owed V Q a c node (subst (λ b. IsInUse (V b)) (sym same) (subst IsInUse (sym x.word_here) still))
-        | inr owes ↦ inr (inr (u, subst (λ r. Owes r a (V a)) (sym x.phase_here) (subst (λ b. Owes q b (V a)) (sym (ap (λ b. b / 2) same) ∙ node) (owes (V a)))))
+        | inr owes ↦ inr (inr (u, subst (λ r. MustClear r a (V a)) (sym x.phase_here) (subst (λ b. MustClear q b (V a)) (sym (ap (λ b. b / 2) same) ∙ node) (owes (V a)))))
       ]
     ]
 
-    debtor : (a : ℕ) → 0 < a → a ≢ v → (s : ℕ) → Owes (P s) a (W a) → Owed V Q a
+    debtor : (a : ℕ) → 0 < a → a ≢ v → (s : ℕ) → MustClear (P s) a (W a) → Owed V Q a
     debtor a positive other s owes = elim (cases_eq s u) [
-      | inl same ↦ own a positive other (subst (λ t. Owes (P t) a (W a)) same owes)
-      | inr differ ↦ inr (inr (s, subst (λ r. Owes r a (V a)) (sym (x.phase_else s differ)) (subst (Owes (P s) a) (sym (x.word_else a other)) owes)))
+      | inl same ↦ own a positive other (subst (λ t. MustClear (P t) a (W a)) same owes)
+      | inr differ ↦ inr (inr (s, subst (λ r. MustClear r a (V a)) (sym (x.phase_else s differ)) (subst (MustClear (P s) a) (sym (x.word_else a other)) owes)))
     ]
 
     elsewhere : (a : ℕ) → a ≢ v → 0 < a → IsInUse (W a) → (IsOccupied (W a) → ⊥) → Owed V Q a
@@ -61,7 +61,7 @@ owing_by {W = W} {P = P} {u = u} {v = v} {y = y} {q = q} {V = V} {Q = Q} x k her
     ]
 
 -- where no word changes
-owing_same : {W : ℕ → ℕ} {P : ℕ → Phase} {u v y : ℕ} {q : Phase} {V : ℕ → ℕ} {Q : ℕ → Phase} → Change W P v y u q V Q → Owing W P → y ≡ W v → ((a : ℕ) → 0 < a → Owes (P u) a (W a) → IsInUse (W (2 * a)) ⊎ (IsInUse (W (2 * a + 1)) ⊎ Owes q a (W a))) → Owing V Q
+owing_same : {W : ℕ → ℕ} {P : ℕ → Phase} {u v y : ℕ} {q : Phase} {V : ℕ → ℕ} {Q : ℕ → Phase} → Change W P v y u q V Q → Owing W P → y ≡ W v → ((a : ℕ) → 0 < a → MustClear (P u) a (W a) → IsInUse (W (2 * a)) ⊎ (IsInUse (W (2 * a + 1)) ⊎ MustClear q a (W a))) → Owing V Q
 owing_same {W = W} {P = P} {u = u} {q = q} {V = V} {Q = Q} x k same own = record {
   owed = λ a positive used unoccupied. elim (k.owed a positive (subst IsInUse (words a) used) (λ is. unoccupied (subst IsOccupied (sym (words a)) is))) [
     | inl left ↦ inl (subst IsInUse (sym (words (2 * a))) left)
@@ -73,19 +73,19 @@ owing_same {W = W} {P = P} {u = u} {q = q} {V = V} {Q = Q} x k same own = record
     words : (b : ℕ) → V b ≡ W b
     words = each_word x (λ b z. z ≡ W b) same (λ b _. refl)
 
-    debtor : (a : ℕ) → 0 < a → (s : ℕ) → Owes (P s) a (W a) → Owed V Q a
+    debtor : (a : ℕ) → 0 < a → (s : ℕ) → MustClear (P s) a (W a) → Owed V Q a
     debtor a positive s owes = elim (cases_eq s u) [
-      | inr differ ↦ inr (inr (s, subst (λ r. Owes r a (V a)) (sym (x.phase_else s differ)) (subst (Owes (P s) a) (sym (words a)) owes)))
-      | inl at ↦ elim (own a positive (subst (λ t. Owes (P t) a (W a)) at owes)) [
+      | inr differ ↦ inr (inr (s, subst (λ r. MustClear r a (V a)) (sym (x.phase_else s differ)) (subst (MustClear (P s) a) (sym (words a)) owes)))
+      | inl at ↦ elim (own a positive (subst (λ t. MustClear (P t) a (W a)) at owes)) [
         | inl left ↦ inl (subst IsInUse (sym (words (2 * a))) left)
         | inr (inl right) ↦ inr (inl (subst IsInUse (sym (words (2 * a + 1))) right))
-        | inr (inr still) ↦ inr (inr (u, subst (λ r. Owes r a (V a)) (sym x.phase_here) (subst (Owes q a) (sym (words a)) still)))
+        | inr (inr still) ↦ inr (inr (u, subst (λ r. MustClear r a (V a)) (sym x.phase_here) (subst (MustClear q a) (sym (words a)) still)))
       ]
     ]
 
 -- a mover that owes nothing in its phase
-owes_none : {A : Type 0} (p r : Phase) (a w : ℕ) → p ≡ r → (Owes r a w → ⊥) → Owes p a w → A
-owes_none p r a w is none owes = absurd (none (subst (λ z. Owes z a w) is owes))
+owes_none : {A : Type 0} (p r : Phase) (a w : ℕ) → p ≡ r → (MustClear r a w → ⊥) → MustClear p a w → A
+owes_none p r a w is none owes = absurd (none (subst (λ z. MustClear z a w) is owes))
 
 -- where the mover owns a node below v and has stopped there, a child of v is in use, also afterwards
 child_on_way : {n : ℕ} {W : ℕ → ℕ} {P : ℕ → Phase} {u v y : ℕ} {q : Phase} {V : ℕ → ℕ} {Q : ℕ → Phase} → Change W P v y u q V Q → Agrees n W P → (h : ℕ) → owned (P u) ≡ h → stop (P u) ≡ v → v < h → OnPath v h → Owed V Q v
@@ -102,7 +102,7 @@ child_on_way {u = u} {v = v} {V = V} {Q = Q} x k h own at less above =
     differ c lower same = omega arith
 
 -- a station that owes is marked there by the word, or owes whatever the word is
-debt_cases : (p : Phase) (v x : ℕ) → Owes p v x → ((z : ℕ) → Owes p v z) ⊎ ((marked_at p ≡ v) × (marked_word p ≡ x))
+debt_cases : (p : Phase) (v x : ℕ) → MustClear p v x → ((z : ℕ) → MustClear p v z) ⊎ ((marked_at p ≡ v) × (marked_word p ≡ x))
 debt_cases Idle v x owes = absurd owes
 debt_cases (Looking h) v x owes = absurd owes
 debt_cases (Looked h w) v x owes = absurd owes
@@ -136,16 +136,16 @@ clear_owed {W = W} {P = P} {u = u} {V = V} {Q = Q} a w left right x stamped k is
     seen_free seen.Used not_yet not_used = absurd (not_used refl)
 
     -- the mover owes only where it has seen both children free, and then the word is free
-    not_mover : Owes (Marked a w left right) a (W a) → ⊥
+    not_mover : MustClear (Marked a w left right) a (W a) → ⊥
     not_mover owes = cleared-none w (λ occupied. unoccupied_before (subst IsOccupied (sym word) occupied))
         (subst (λ z. IsInUse (cleared_as_seen w seen.Free z)) (seen_free right r owes.3) (subst (λ z. IsInUse (cleared_as_seen w z right)) (seen_free left l owes.2) used))
 
     -- and no other station is marked by the word
-    debtor : (t : ℕ) → Owes (P t) a (W a) → Owed V Q a
+    debtor : (t : ℕ) → MustClear (P t) a (W a) → Owed V Q a
     debtor t owes = elim (cases_eq t u) [
-      | inl same ↦ absurd (not_mover (subst (λ p. Owes p a (W a)) (ap P same ∙ is) owes))
+      | inl same ↦ absurd (not_mover (subst (λ p. MustClear p a (W a)) (ap P same ∙ is) owes))
       | inr other ↦ elim (debt_cases (P t) a (W a) owes) [
-        | inl always ↦ inr (inr (t, subst (λ p. Owes p a (V a)) (sym (x.phase_else t other)) (always (V a))))
+        | inl always ↦ inr (inr (t, subst (λ p. MustClear p a (V a)) (sym (x.phase_else t other)) (always (V a))))
         | inr found ↦ absurd (stamped.unlike t u other (subst (λ b. 0 < b) (sym found.0) positive) (found.0 ∙ sym (ap marked_at is)) (found.1 ∙ word ∙ sym (ap marked_word is)))
       ]
     ]
@@ -164,23 +164,23 @@ owing_kept {W = W} (raises h a q i l o f risen) is x g m k = owing_by x k (λ _ 
 owing_kept {W = W} (raises_under h a i l o f) is x g m k = owing_by x k (λ _ _ _. child_on_way x g h (ap owned is) (ap stop is) l o) (λ _ _. inl (IsInUse-with_side (side_of (child_towards a h)) (W a))) (λ b _ _. owes_none _ _ b _ is (λ e. e))
 owing_kept (zeroes h q i leaving) is x g m k = owing_by x k (λ _ used. absurd (used refl)) (λ inner _. inr (leaving.owes refl inner)) (λ b _ _. owes_none _ _ b _ is (λ e. e))
 owing_kept (zeroes_back h a q i leaving) is x g m k = owing_by x k (λ _ used. absurd (used refl)) (λ inner _. inr (leaving.owes refl inner)) (λ b _ _. owes_none _ _ b _ is (λ e. e))
-owing_kept {W = W} {u = u} {V = V} (unmarks a i) is x g m k = owing_by x k (λ _ _ _. inr (inr (u, subst (λ r. Owes r a (V a)) (sym x.phase_here) refl))) (λ _ used. inl ((IsInUse-use_of (W a)).1 used)) (λ b _ other. owes_none _ _ b _ is (λ owes. other (sym owes)))
-owing_kept {W = W} {u = u} {V = V} (marks a i f) is x g m k = owing_by x k (λ _ _ _. inr (inr (u, subst (λ r. Owes r a (V a)) (sym x.phase_here) (refl, sym x.word_here, not_used, not_used)))) (λ _ used. inl ((IsInUse-with_mark u (W a)).1 used)) (λ b _ other. owes_none _ _ b _ is (λ owes. other (sym owes)))
+owing_kept {W = W} {u = u} {V = V} (unmarks a i) is x g m k = owing_by x k (λ _ _ _. inr (inr (u, subst (λ r. MustClear r a (V a)) (sym x.phase_here) refl))) (λ _ used. inl ((IsInUse-use_of (W a)).1 used)) (λ b _ other. owes_none _ _ b _ is (λ owes. other (sym owes)))
+owing_kept {W = W} {u = u} {V = V} (marks a i f) is x g m k = owing_by x k (λ _ _ _. inr (inr (u, subst (λ r. MustClear r a (V a)) (sym x.phase_here) (refl, sym x.word_here, not_used, not_used)))) (λ _ used. inl ((IsInUse-with_mark u (W a)).1 used)) (λ b _ other. owes_none _ _ b _ is (λ owes. other (sym owes)))
   where
     not_used : seen.NotYet ≢ seen.Used
     not_used e = cc
 owing_kept {W = W} {u = u} (marks_stop a i f) is x g m k = owing_by x k (λ _ _ free. absurd (free ((with_mark-use u (W a) 0 (omega arith)).1 f))) (λ _ used. inl ((IsInUse-with_mark u (W a)).1 used)) (λ b _ other. owes_none _ _ b _ is (λ owes. other (sym owes)))
-owing_kept {W = W} (looks_left a w right found i told) is x g m k = owing_same x k refl (λ b _ owes. turn b (subst (λ r. Owes r b (W b)) is owes) told)
+owing_kept {W = W} (looks_left a w right found i told) is x g m k = owing_same x k refl (λ b _ owes. turn b (subst (λ r. MustClear r b (W b)) is owes) told)
   where
-    turn : (b : ℕ) → Owes (Marked a w seen.NotYet right) b (W b) → ((found ≡ seen.Free) × IsFree (W (2 * a))) ⊎ ((found ≡ seen.Used) × IsInUse (W (2 * a))) → IsInUse (W (2 * b)) ⊎ (IsInUse (W (2 * b + 1)) ⊎ Owes (Marked a w found right) b (W b))
+    turn : (b : ℕ) → MustClear (Marked a w seen.NotYet right) b (W b) → ((found ≡ seen.Free) × IsFree (W (2 * a))) ⊎ ((found ≡ seen.Used) × IsInUse (W (2 * a))) → IsInUse (W (2 * b)) ⊎ (IsInUse (W (2 * b + 1)) ⊎ MustClear (Marked a w found right) b (W b))
     turn b owes (inl free) = inr (inr (owes.0, owes.1, λ e. not_used (sym free.0 ∙ e), owes.3))
       where
         not_used : seen.Free ≢ seen.Used
         not_used e = cc
     turn b owes (inr used) = inl (subst (λ c. IsInUse (W (2 * c))) owes.0 used.1)
-owing_kept {W = W} (looks_right a w left found i l told) is x g m k = owing_same x k refl (λ b _ owes. turn b (subst (λ r. Owes r b (W b)) is owes) told)
+owing_kept {W = W} (looks_right a w left found i l told) is x g m k = owing_same x k refl (λ b _ owes. turn b (subst (λ r. MustClear r b (W b)) is owes) told)
   where
-    turn : (b : ℕ) → Owes (Marked a w left seen.NotYet) b (W b) → ((found ≡ seen.Free) × IsFree (W (2 * a + 1))) ⊎ ((found ≡ seen.Used) × IsInUse (W (2 * a + 1))) → IsInUse (W (2 * b)) ⊎ (IsInUse (W (2 * b + 1)) ⊎ Owes (Marked a w left found) b (W b))
+    turn : (b : ℕ) → MustClear (Marked a w left seen.NotYet) b (W b) → ((found ≡ seen.Free) × IsFree (W (2 * a + 1))) ⊎ ((found ≡ seen.Used) × IsInUse (W (2 * a + 1))) → IsInUse (W (2 * b)) ⊎ (IsInUse (W (2 * b + 1)) ⊎ MustClear (Marked a w left found) b (W b))
     turn b owes (inl free) = inr (inr (owes.0, owes.1, owes.2, λ e. not_used (sym free.0 ∙ e)))
       where
         not_used : seen.Free ≢ seen.Used
@@ -188,7 +188,7 @@ owing_kept {W = W} (looks_right a w left found i l told) is x g m k = owing_same
     turn b owes (inr used) = inr (inl (subst (λ c. IsInUse (W (2 * c + 1))) owes.0 used.1))
 owing_kept {W = W} (clears a w left right q i l r e leaving) is x g m k = owing_by x k (λ positive. clear_owed a w left right x m k is positive l r e) above (λ b _ other. owes_none _ _ b _ is (λ owes. other (sym owes.0)))
   where
-    above : 0 < a / 2 → IsInUse (W a) → IsInUse (cleared_as_seen w left right) ⊎ ((z : ℕ) → Owes q (a / 2) z)
+    above : 0 < a / 2 → IsInUse (W a) → IsInUse (cleared_as_seen w left right) ⊎ ((z : ℕ) → MustClear q (a / 2) z)
     above inner _ = elim (cases_eq (use_of (cleared_as_seen w left right)) 0) [
       | inl free ↦ inr (leaving.owes free inner)
       | inr used ↦ inl used

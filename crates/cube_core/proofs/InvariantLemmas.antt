@@ -9,10 +9,10 @@ use Rattle.cube_core.specs.declared.phase.Phase.TheVariants.{Idle, Retired}
 use Rattle.cube_core.specs.Phase.{owned, marked_at, HasPassed}
 use Rattle.cube_core.proofs.ChangeLemmas.{Fit, Agrees, Change}
 use Rattle.cube_core.proofs.MoveLemmas.{unmarked_at, Move}
-use Rattle.cube_core.proofs.ShutLemmas.{Shut, shut_kept}
+use Rattle.cube_core.proofs.SeenFreeLemmas.{Shut, shut_kept}
 use Rattle.cube_core.proofs.AgreeLemmas.{agrees_kept}
-use Rattle.cube_core.proofs.StampLemmas.{Stamped, stamped_kept}
-use Rattle.cube_core.proofs.WitnessLemmas.{Witnessed, witnessed_kept}
+use Rattle.cube_core.proofs.MarkLemmas.{Stamped, stamped_kept}
+use Rattle.cube_core.proofs.FreeMarkLemmas.{Witnessed, witnessed_kept}
 use Rattle.cube_core.proofs.DebtLemmas.{Owing, owing_kept}
 use Rattle.cube_core.proofs.RollLemmas.{Rolled, rolled_kept}
 
@@ -36,8 +36,8 @@ invariant_kept move is x k = record {
 }
 
 -- where all words are 0, every station is idle, and those that are not there read as retired
-pub invariant_opened : (n count : ℕ) (W : ℕ → ℕ) (P : ℕ → Phase) → ((v : ℕ) → W v ≡ 0) → ((s : ℕ) → (P s ≡ Idle) ⊎ (P s ≡ Retired)) → ((s : ℕ) → s < count → P s ≡ Idle) → Invariant n count W P
-invariant_opened n count W P zeros idle there = record {
+pub invariant_initial : (n count : ℕ) (W : ℕ → ℕ) (P : ℕ → Phase) → ((v : ℕ) → W v ≡ 0) → ((s : ℕ) → (P s ≡ Idle) ⊎ (P s ≡ Retired)) → ((s : ℕ) → s < count → P s ≡ Idle) → Invariant n count W P
+invariant_initial n count W P zeros idle there = record {
   agrees = record {
     fit = λ s. of_both (Fit n) tt tt s;
     sides = λ s c passed. absurd (none_passed s c passed);

@@ -2,15 +2,18 @@ mod BitLemmas
 mod ChangeLemmas
 mod LevelLemmas
 mod MoveLemmas
-mod ShutLemmas
+mod SeenFreeLemmas
 mod AgreeLemmas
-mod StampLemmas
-mod WitnessLemmas
+mod MarkLemmas
+mod FreeMarkLemmas
 mod RollLemmas
 mod DebtLemmas
 mod InvariantLemmas
 mod HeldLemmas
-mod FollowLemmas
+mod ConsequenceLemmas
+mod StandsLemmas
+mod CountLemmas
 mod ScheduleLemmas
 mod WorldLemmas
 pub mod OneEventLemmas
+pub mod RunningLemmas

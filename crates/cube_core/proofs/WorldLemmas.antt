@@ -16,41 +16,41 @@ use Rattle.cube_core.specs.declared.act.Refused.{Refused}
 use Rattle.cube_core.specs.declared.act.Refused.TheVariants.{NotIdle, NoStation, NotInCube}
 use Rattle.cube_core.specs.Phase.{owned, node_held}
 use Rattle.cube_core.specs.Event.{Transition, transition, retirement}
-use Rattle.cube_core.specs.Schedule.{Record, State, record_of, phase_of, word_of, opened, begun, stepped, take_refusal, release_refusal, retire_refusal, step_refusal, phase_refusal, refusal, station_of, moved, unless_refused, acted, after}
-use Rattle.cube_core.specs.World.{untold, state_of, silent, IsReached, IsWorld, HasShapeOf}
+use Rattle.cube_core.specs.Schedule.{Record, State, record_of, phase_of, word_of, initial, apply_begin, apply_event, take_refusal, release_refusal, retire_refusal, step_refusal, phase_refusal, refusal, station_of, apply_accepted, unless_refused, apply, apply_all}
+use Rattle.cube_core.specs.World.{record_without_trail, state_of, without_trails, IsReached, IsWorld, HasShapeOf}
 use Rattle.cube_core.specs.Count.{depth, events_due, IsCounted}
 use Rattle.cube_core.specs.Law.{IsTreeLawful}
 use Rattle.cube_core.proofs.ChangeLemmas.{Fit, IsInner}
 use Rattle.cube_core.proofs.InvariantLemmas.{Invariant}
-use Rattle.cube_core.proofs.ScheduleLemmas.{Stands, Stands-lawful, Stands-counted, acted-accepted, opened_stands, after_stands, node_there}
+use Rattle.cube_core.proofs.ScheduleLemmas.{Stands, Stands-lawful, Stands-counted, apply-accepted, initial_stands, apply_all_stands, node_there}
 
 -- ---- records whose trails are left out
 
-forget_twice : (rs : List Record) → map (λ (r : Record). untold r.phase) (map (λ (r : Record). untold r.phase) rs) ≡ map (λ (r : Record). untold r.phase) rs
+forget_twice : (rs : List Record) → map (λ (r : Record). record_without_trail r.phase) (map (λ (r : Record). record_without_trail r.phase) rs) ≡ map (λ (r : Record). record_without_trail r.phase) rs
 forget_twice [] = refl
-forget_twice (r ∷ rs) = ap (λ l. untold r.phase ∷ l) (forget_twice rs)
+forget_twice (r ∷ rs) = ap (λ l. record_without_trail r.phase ∷ l) (forget_twice rs)
 
-forget_untold : (phases : List Phase) → map (λ (r : Record). untold r.phase) (map untold phases) ≡ map untold phases
-forget_untold [] = refl
-forget_untold (p ∷ phases) = ap (λ l. untold p ∷ l) (forget_untold phases)
+forget_record_without_trail : (phases : List Phase) → map (λ (r : Record). record_without_trail r.phase) (map record_without_trail phases) ≡ map record_without_trail phases
+forget_record_without_trail [] = refl
+forget_record_without_trail (p ∷ phases) = ap (λ l. record_without_trail p ∷ l) (forget_record_without_trail phases)
 
 -- of a record that is put only the phase counts
-forget-set_untold : (phases : List Phase) (s : ℕ) (r : Record) → map (λ (t : Record). untold t.phase) (set (map untold phases) s r) ≡ map untold (set phases s r.phase)
-forget-set_untold [] s r = refl
-forget-set_untold (p ∷ phases) zero r = ap (λ l. untold r.phase ∷ l) (forget_untold phases)
-forget-set_untold (p ∷ phases) (suc s) r = ap (λ l. untold p ∷ l) (forget-set_untold phases s r)
+forget-set_record_without_trail : (phases : List Phase) (s : ℕ) (r : Record) → map (λ (t : Record). record_without_trail t.phase) (set (map record_without_trail phases) s r) ≡ map record_without_trail (set phases s r.phase)
+forget-set_record_without_trail [] s r = refl
+forget-set_record_without_trail (p ∷ phases) zero r = ap (λ l. record_without_trail r.phase ∷ l) (forget_record_without_trail phases)
+forget-set_record_without_trail (p ∷ phases) (suc s) r = ap (λ l. record_without_trail p ∷ l) (forget-set_record_without_trail phases s r)
 
-forget-set_forgotten : (rs : List Record) (s : ℕ) (q r : Record) → q.phase ≡ r.phase → map (λ (t : Record). untold t.phase) (set (map (λ (t : Record). untold t.phase) rs) s q) ≡ map (λ (t : Record). untold t.phase) (set rs s r)
+forget-set_forgotten : (rs : List Record) (s : ℕ) (q r : Record) → q.phase ≡ r.phase → map (λ (t : Record). record_without_trail t.phase) (set (map (λ (t : Record). record_without_trail t.phase) rs) s q) ≡ map (λ (t : Record). record_without_trail t.phase) (set rs s r)
 forget-set_forgotten [] s q r same = refl
-forget-set_forgotten (t ∷ rs) zero q r same = ap (λ p. untold p ∷ map (λ (t : Record). untold t.phase) (map (λ (t : Record). untold t.phase) rs)) same ∙ ap (λ l. untold r.phase ∷ l) (forget_twice rs)
-forget-set_forgotten (t ∷ rs) (suc s) q r same = ap (λ l. untold t.phase ∷ l) (forget-set_forgotten rs s q r same)
+forget-set_forgotten (t ∷ rs) zero q r same = ap (λ p. record_without_trail p ∷ map (λ (t : Record). record_without_trail t.phase) (map (λ (t : Record). record_without_trail t.phase) rs)) same ∙ ap (λ l. record_without_trail r.phase ∷ l) (forget_twice rs)
+forget-set_forgotten (t ∷ rs) (suc s) q r same = ap (λ l. record_without_trail t.phase ∷ l) (forget-set_forgotten rs s q r same)
 
-phase_at : (rs : List Record) (s : ℕ) → (get_or (map (λ (r : Record). untold r.phase) rs) s (record { phase = Retired; trail = [] })).phase ≡ (get_or rs s (record { phase = Retired; trail = [] })).phase
+phase_at : (rs : List Record) (s : ℕ) → (get_or (map (λ (r : Record). record_without_trail r.phase) rs) s (record { phase = Retired; trail = [] })).phase ≡ (get_or rs s (record { phase = Retired; trail = [] })).phase
 phase_at [] s = refl
 phase_at (r ∷ rs) zero = refl
 phase_at (r ∷ rs) (suc s) = phase_at rs s
 
-length_forgotten : (rs : List Record) → length (map (λ (r : Record). untold r.phase) rs) ≡ length rs
+length_forgotten : (rs : List Record) → length (map (λ (r : Record). record_without_trail r.phase) rs) ≡ length rs
 length_forgotten [] = refl
 length_forgotten (r ∷ rs) = ap suc (length_forgotten rs)
 
@@ -60,127 +60,127 @@ phase_of-state n words [] s = refl
 phase_of-state n words (p ∷ phases) zero = refl
 phase_of-state n words (p ∷ phases) (suc s) = phase_of-state n words phases s
 
-pub stations_of-state : (phases : List Phase) → length (map untold phases) ≡ length phases
+pub stations_of-state : (phases : List Phase) → length (map record_without_trail phases) ≡ length phases
 stations_of-state [] = refl
 stations_of-state (p ∷ phases) = ap suc (stations_of-state phases)
 
 -- ---- what the program writes is what the state becomes
 
-pub silent-state : (n : ℕ) (words : List ℕ) (phases : List Phase) → silent (state_of n words phases) ≡ state_of n words phases
-silent-state n words phases = ap (λ rs. record { dim = n; words = words; records = rs }) (forget_untold phases)
+pub without_trails-state : (n : ℕ) (words : List ℕ) (phases : List Phase) → without_trails (state_of n words phases) ≡ state_of n words phases
+without_trails-state n words phases = ap (λ rs. record { dim = n; words = words; records = rs }) (forget_record_without_trail phases)
 
-pub silent-begun : (n : ℕ) (words : List ℕ) (phases : List Phase) (s : ℕ) (q : Phase) → silent (begun s q (state_of n words phases)) ≡ state_of n words (set phases s q)
-silent-begun n words phases s q = ap (λ rs. record { dim = n; words = words; records = rs }) (forget-set_untold phases s _)
+pub without_trails-apply_begin : (n : ℕ) (words : List ℕ) (phases : List Phase) (s : ℕ) (q : Phase) → without_trails (apply_begin s q (state_of n words phases)) ≡ state_of n words (set phases s q)
+without_trails-apply_begin n words phases s q = ap (λ rs. record { dim = n; words = words; records = rs }) (forget-set_record_without_trail phases s _)
 
-pub silent-stepped : (n : ℕ) (words : List ℕ) (phases : List Phase) (s : ℕ) (d : Transition) → silent (stepped d s (state_of n words phases)) ≡ state_of n (set words d.node (d.writes (get_or words d.node 0))) (set phases s (d.next (get_or words d.node 0)))
-silent-stepped n words phases s d = ap (λ rs. record { dim = n; words = set words d.node (d.writes (get_or words d.node 0)); records = rs }) (forget-set_untold phases s _)
+pub without_trails-apply_event : (n : ℕ) (words : List ℕ) (phases : List Phase) (s : ℕ) (d : Transition) → without_trails (apply_event d s (state_of n words phases)) ≡ state_of n (set words d.node (d.writes (get_or words d.node 0))) (set phases s (d.next (get_or words d.node 0)))
+without_trails-apply_event n words phases s d = ap (λ rs. record { dim = n; words = set words d.node (d.writes (get_or words d.node 0)); records = rs }) (forget-set_record_without_trail phases s _)
 
 -- an act makes the same of a state and of the state without its trails
-silent_twice : (w : State) → silent (silent w) ≡ silent w
-silent_twice w = ap (λ rs. record w { records = rs }) (forget_twice w.records)
+without_trails_twice : (w : State) → without_trails (without_trails w) ≡ without_trails w
+without_trails_twice w = ap (λ rs. record w { records = rs }) (forget_twice w.records)
 
-stepped-silent : (d : Transition) (s : ℕ) (w : State) → silent (stepped d s (silent w)) ≡ silent (stepped d s w)
-stepped-silent d s w = ap (λ rs. record { dim = w.dim; words = set w.words d.node (d.writes (word_of w d.node)); records = rs }) (forget-set_forgotten w.records s _ _ refl)
+apply_event-without_trails : (d : Transition) (s : ℕ) (w : State) → without_trails (apply_event d s (without_trails w)) ≡ without_trails (apply_event d s w)
+apply_event-without_trails d s w = ap (λ rs. record { dim = w.dim; words = set w.words d.node (d.writes (word_of w d.node)); records = rs }) (forget-set_forgotten w.records s _ _ refl)
 
-moved-silent : (act : Act) (w : State) → silent (moved act (silent w)) ≡ silent (moved act w)
-moved-silent (Take s v) w = ap (λ rs. record w { records = rs }) (forget-set_forgotten w.records s _ _ refl)
-moved-silent (Release s) w = ap (λ rs. record w { records = rs }) (forget-set_forgotten w.records s _ _ (ap (λ p. Leaving (owned p)) (phase_at w.records s)))
-moved-silent (Step s) w = ap (λ p. silent (stepped (transition s p) s (silent w))) (phase_at w.records s) ∙ stepped-silent (transition s (phase_of w s)) s w
-moved-silent (Retire s) w = stepped-silent (retirement s) s w
+apply_accepted-without_trails : (act : Act) (w : State) → without_trails (apply_accepted act (without_trails w)) ≡ without_trails (apply_accepted act w)
+apply_accepted-without_trails (Take s v) w = ap (λ rs. record w { records = rs }) (forget-set_forgotten w.records s _ _ refl)
+apply_accepted-without_trails (Release s) w = ap (λ rs. record w { records = rs }) (forget-set_forgotten w.records s _ _ (ap (λ p. Leaving (owned p)) (phase_at w.records s)))
+apply_accepted-without_trails (Step s) w = ap (λ p. without_trails (apply_event (transition s p) s (without_trails w))) (phase_at w.records s) ∙ apply_event-without_trails (transition s (phase_of w s)) s w
+apply_accepted-without_trails (Retire s) w = apply_event-without_trails (retirement s) s w
 
-refusal-silent : (act : Act) (w : State) → refusal act (silent w) ≡ refusal act w
-refusal-silent act w = ap (λ count. cond (ltb (station_of act) count) (phase_refusal w.dim act (phase_of (silent w) (station_of act))) (Some NoStation)) (length_forgotten w.records) ∙ ap (λ p. cond (ltb (station_of act) (length w.records)) (phase_refusal w.dim act p) (Some NoStation)) (phase_at w.records (station_of act))
+refusal-without_trails : (act : Act) (w : State) → refusal act (without_trails w) ≡ refusal act w
+refusal-without_trails act w = ap (λ count. cond (ltb (station_of act) count) (phase_refusal w.dim act (phase_of (without_trails w) (station_of act))) (Some NoStation)) (length_forgotten w.records) ∙ ap (λ p. cond (ltb (station_of act) (length w.records)) (phase_refusal w.dim act p) (Some NoStation)) (phase_at w.records (station_of act))
 
-pub acted-silent : (act : Act) (w : State) → silent (acted act (silent w)) ≡ silent (acted act w)
-acted-silent act w = ap (λ r. silent (unless_refused r act (silent w))) (refusal-silent act w) ∙ turn (refusal act w)
+pub apply-without_trails : (act : Act) (w : State) → without_trails (apply act (without_trails w)) ≡ without_trails (apply act w)
+apply-without_trails act w = ap (λ r. without_trails (unless_refused r act (without_trails w))) (refusal-without_trails act w) ∙ turn (refusal act w)
   where
-    turn : (r : Option Refused) → silent (unless_refused r act (silent w)) ≡ silent (unless_refused r act w)
-    turn None = moved-silent act w
-    turn (Some why) = silent_twice w
+    turn : (r : Option Refused) → without_trails (unless_refused r act (without_trails w)) ≡ without_trails (unless_refused r act w)
+    turn None = apply_accepted-without_trails act w
+    turn (Some why) = without_trails_twice w
 
 -- ---- a state that some schedule leads to
 
-pub reached-opened : (n stations : ℕ) → IsReached (silent (opened n stations))
-reached-opened n stations = (n, stations, [], refl)
+pub reached-initial : (n stations : ℕ) → IsReached (without_trails (initial n stations))
+reached-initial n stations = (n, stations, [], refl)
 
-pub reached-acted : (act : Act) (w : State) → IsReached w → IsReached (silent (acted act w))
-reached-acted act w (n, stations, acts, is) = (n, stations, act ∷ acts, ap (λ v. silent (acted act v)) is ∙ acted-silent act (after acts (opened n stations)))
+pub reached-apply : (act : Act) (w : State) → IsReached w → IsReached (without_trails (apply act w))
+reached-apply act w (n, stations, acts, is) = (n, stations, act ∷ acts, ap (λ v. without_trails (apply act v)) is ∙ apply-without_trails act (apply_all acts (initial n stations)))
 
-Stands-silent : (w : State) → Stands w → Stands (silent w)
-Stands-silent w k = record {
+Stands-without_trails : (w : State) → Stands w → Stands (without_trails w)
+Stands-without_trails w k = record {
   word_count = k.word_count;
-  holds = subst (λ count. Invariant w.dim count (word_of w) (phase_of (silent w))) (sym (length_forgotten w.records))
+  holds = subst (λ count. Invariant w.dim count (word_of w) (phase_of (without_trails w))) (sym (length_forgotten w.records))
       (subst (λ (P : ℕ → Phase). Invariant w.dim (length w.records) (word_of w) P) (λ i s. sym (phase_at w.records s) i) k.holds);
 }
 
 -- and so the invariant holds there
 pub reached-stands : (w : State) → IsReached w → Stands w
-reached-stands w (n, stations, acts, is) = subst Stands (sym is) (Stands-silent (after acts (opened n stations)) (after_stands acts (opened n stations) (opened_stands n stations)))
+reached-stands w (n, stations, acts, is) = subst Stands (sym is) (Stands-without_trails (apply_all acts (initial n stations)) (apply_all_stands acts (initial n stations) (initial_stands n stations)))
 
 pub reached-lawful : (w : State) → IsReached w → IsTreeLawful w
 reached-lawful w reached = Stands-lawful w (reached-stands w reached)
 
 -- ---- the calls of a world
 
-pub acted_dim : (act : Act) (w : State) → (acted act w).dim ≡ w.dim
-acted_dim act w = turn (refusal act w)
+pub apply_dim : (act : Act) (w : State) → (apply act w).dim ≡ w.dim
+apply_dim act w = turn (refusal act w)
   where
-    moved_dim : (a : Act) → (moved a w).dim ≡ w.dim
-    moved_dim (Take s v) = refl
-    moved_dim (Release s) = refl
-    moved_dim (Step s) = refl
-    moved_dim (Retire s) = refl
+    apply_accepted_dim : (a : Act) → (apply_accepted a w).dim ≡ w.dim
+    apply_accepted_dim (Take s v) = refl
+    apply_accepted_dim (Release s) = refl
+    apply_accepted_dim (Step s) = refl
+    apply_accepted_dim (Retire s) = refl
 
     turn : (r : Option Refused) → (unless_refused r act w).dim ≡ w.dim
-    turn None = moved_dim act
+    turn None = apply_accepted_dim act
     turn (Some why) = refl
 
-acted_stations : (act : Act) (w : State) → length (acted act w).records ≡ length w.records
-acted_stations act w = turn (refusal act w)
+pub apply_stations : (act : Act) (w : State) → length (apply act w).records ≡ length w.records
+apply_stations act w = turn (refusal act w)
   where
-    moved_stations : (a : Act) → length (moved a w).records ≡ length w.records
-    moved_stations (Take s v) = length-set w.records s _
-    moved_stations (Release s) = length-set w.records s _
-    moved_stations (Step s) = length-set w.records s _
-    moved_stations (Retire s) = length-set w.records s _
+    apply_accepted_stations : (a : Act) → length (apply_accepted a w).records ≡ length w.records
+    apply_accepted_stations (Take s v) = length-set w.records s _
+    apply_accepted_stations (Release s) = length-set w.records s _
+    apply_accepted_stations (Step s) = length-set w.records s _
+    apply_accepted_stations (Retire s) = length-set w.records s _
 
     turn : (r : Option Refused) → length (unless_refused r act w).records ≡ length w.records
-    turn None = moved_stations act
+    turn None = apply_accepted_stations act
     turn (Some why) = refl
 
-pub IsWorld-acted : (act : Act) (w new : State) → IsWorld w → new ≡ silent (acted act w) → IsWorld new
-IsWorld-acted act w new world is = subst IsWorld (sym is) (record {
-  dim_in_limits = subst (λ n. n ≤ MAX_DIM) (sym (acted_dim act w)) world.dim_in_limits;
-  stations_in_limits = subst (λ count. count ≤ MAX_STATIONS) (sym (length_forgotten (acted act w).records ∙ acted_stations act w)) world.stations_in_limits;
-  reached = reached-acted act w world.reached;
+pub IsWorld-apply : (act : Act) (w new : State) → IsWorld w → new ≡ without_trails (apply act w) → IsWorld new
+IsWorld-apply act w new world is = subst IsWorld (sym is) (record {
+  dim_in_limits = subst (λ n. n ≤ MAX_DIM) (sym (apply_dim act w)) world.dim_in_limits;
+  stations_in_limits = subst (λ count. count ≤ MAX_STATIONS) (sym (length_forgotten (apply act w).records ∙ apply_stations act w)) world.stations_in_limits;
+  reached = reached-apply act w world.reached;
 })
 
 -- what a program writes that begins something
-pub begun_by : (act : Act) (s : ℕ) (q : Phase) (n : ℕ) (words : List ℕ) (phases : List Phase) (w : State) → state_of n words phases ≡ w → refusal act w ≡ None → moved act w ≡ begun s q w → state_of n words (set phases s q) ≡ silent (acted act w)
-begun_by act s q n words phases w view none is =
-    sym (silent-begun n words phases s q) ∙ ap (λ v. silent (begun s q v)) view ∙ ap silent (sym is ∙ sym (acted-accepted act w none))
+pub apply_begin_by : (act : Act) (s : ℕ) (q : Phase) (n : ℕ) (words : List ℕ) (phases : List Phase) (w : State) → state_of n words phases ≡ w → refusal act w ≡ None → apply_accepted act w ≡ apply_begin s q w → state_of n words (set phases s q) ≡ without_trails (apply act w)
+apply_begin_by act s q n words phases w view none is =
+    sym (without_trails-apply_begin n words phases s q) ∙ ap (λ v. without_trails (apply_begin s q v)) view ∙ ap without_trails (sym is ∙ sym (apply-accepted act w none))
 
-pub made_opened : (n stations : ℕ) → n ≤ MAX_DIM → stations ≤ MAX_STATIONS → (words : List ℕ) (phases : List Phase) → words ≡ replicate (2 ^ (n + 1)) 0 → phases ≡ replicate stations Idle → IsWorld (state_of n words phases) × (state_of n words phases ≡ opened n stations)
-made_opened n stations limit few words phases zeros idle = (
+pub made_initial : (n stations : ℕ) → n ≤ MAX_DIM → stations ≤ MAX_STATIONS → (words : List ℕ) (phases : List Phase) → words ≡ replicate (2 ^ (n + 1)) 0 → phases ≡ replicate stations Idle → IsWorld (state_of n words phases) × (state_of n words phases ≡ initial n stations)
+made_initial n stations limit few words phases zeros idle = (
   subst IsWorld (sym is) (record {
     dim_in_limits = limit;
-    stations_in_limits = subst (λ count. count ≤ MAX_STATIONS) (sym (length-replicate stations (untold Idle))) few;
-    reached = subst IsReached silent_opened (reached-opened n stations);
+    stations_in_limits = subst (λ count. count ≤ MAX_STATIONS) (sym (length-replicate stations (record_without_trail Idle))) few;
+    reached = subst IsReached without_trails_initial (reached-initial n stations);
   }),
   is,
 )
   where
-    all_idle : (count : ℕ) → map untold (replicate count Idle) ≡ replicate count (untold Idle)
+    all_idle : (count : ℕ) → map record_without_trail (replicate count Idle) ≡ replicate count (record_without_trail Idle)
     all_idle zero = refl
-    all_idle (suc count) = ap (λ l. untold Idle ∷ l) (all_idle count)
+    all_idle (suc count) = ap (λ l. record_without_trail Idle ∷ l) (all_idle count)
 
-    is : state_of n words phases ≡ opened n stations
+    is : state_of n words phases ≡ initial n stations
     is = ap (λ ws. state_of n ws phases) zeros ∙ ap (λ ps. state_of n (replicate (2 ^ (n + 1)) 0) ps) idle ∙ ap (λ rs. record { dim = n; words = replicate (2 ^ (n + 1)) 0; records = rs }) (all_idle stations)
 
-    silent_opened : silent (opened n stations) ≡ opened n stations
-    silent_opened = ap silent (sym is_copies) ∙ silent-state n (replicate (2 ^ (n + 1)) 0) (replicate stations Idle) ∙ is_copies
+    without_trails_initial : without_trails (initial n stations) ≡ initial n stations
+    without_trails_initial = ap without_trails (sym is_copies) ∙ without_trails-state n (replicate (2 ^ (n + 1)) 0) (replicate stations Idle) ∙ is_copies
       where
-        is_copies : state_of n (replicate (2 ^ (n + 1)) 0) (replicate stations Idle) ≡ opened n stations
+        is_copies : state_of n (replicate (2 ^ (n + 1)) 0) (replicate stations Idle) ≡ initial n stations
         is_copies = ap (λ rs. record { dim = n; words = replicate (2 ^ (n + 1)) 0; records = rs }) (all_idle stations)
 
 -- a take of a station that is not idle, and a release of one that does not hold
@@ -252,40 +252,40 @@ pub step_accepted : (s : ℕ) (q : Phase) (w : State) → s < length w.records �
 step_accepted s q w there is moves = refusal-there (Step s) w there ∙ ap step_refusal (sym is) ∙ moves
 
 -- what a program writes that makes an event
-made_event : (act : Act) (s : ℕ) (d : Transition) (n : ℕ) (words : List ℕ) (phases : List Phase) (w : State) (made : Effect) → state_of n words phases ≡ w → acted act w ≡ stepped d s w → IsEffect d (word_of w d.node) made → state_of n (set words made.event.node made.word) (set phases s made.next) ≡ silent (acted act w)
+made_event : (act : Act) (s : ℕ) (d : Transition) (n : ℕ) (words : List ℕ) (phases : List Phase) (w : State) (made : Effect) → state_of n words phases ≡ w → apply act w ≡ apply_event d s w → IsEffect d (word_of w d.node) made → state_of n (set words made.event.node made.word) (set phases s made.next) ≡ without_trails (apply act w)
 made_event act s d n words phases w made view is effect =
     ap (λ v. state_of n (set words v made.word) (set phases s made.next)) effect.node
     ∙ ap (λ y. state_of n (set words d.node y) (set phases s made.next)) (effect.word ∙ ap d.writes same)
     ∙ ap (λ p. state_of n (set words d.node (d.writes (get_or words d.node 0))) (set phases s p)) (effect.next ∙ ap d.next same)
-    ∙ sym (silent-stepped n words phases s d)
-    ∙ ap (λ u. silent (stepped d s u)) view
-    ∙ ap silent (sym is)
+    ∙ sym (without_trails-apply_event n words phases s d)
+    ∙ ap (λ u. without_trails (apply_event d s u)) view
+    ∙ ap without_trails (sym is)
   where
     same : word_of w d.node ≡ get_or words d.node 0
     same = ap (λ u. word_of u d.node) (sym view)
 
-pub stepped_by : (s : ℕ) (q : Phase) (n : ℕ) (words : List ℕ) (phases : List Phase) (w : State) (made : Effect) → state_of n words phases ≡ w → refusal (Step s) w ≡ None → q ≡ phase_of w s → IsEffect (transition s q) (word_of w (transition s q).node) made → state_of n (set words made.event.node made.word) (set phases s made.next) ≡ silent (acted (Step s) w)
-stepped_by s q n words phases w made view none is effect =
-    made_event (Step s) s (transition s q) n words phases w made view (acted-accepted (Step s) w none ∙ ap (λ p. stepped (transition s p) s w) (sym is)) effect
+pub apply_event_by : (s : ℕ) (q : Phase) (n : ℕ) (words : List ℕ) (phases : List Phase) (w : State) (made : Effect) → state_of n words phases ≡ w → refusal (Step s) w ≡ None → q ≡ phase_of w s → IsEffect (transition s q) (word_of w (transition s q).node) made → state_of n (set words made.event.node made.word) (set phases s made.next) ≡ without_trails (apply (Step s) w)
+apply_event_by s q n words phases w made view none is effect =
+    made_event (Step s) s (transition s q) n words phases w made view (apply-accepted (Step s) w none ∙ ap (λ p. apply_event (transition s p) s w) (sym is)) effect
 
-pub retired_by : (s : ℕ) (n : ℕ) (words : List ℕ) (phases : List Phase) (w : State) (made : Effect) → state_of n words phases ≡ w → refusal (Retire s) w ≡ None → IsEffect (retirement s) (word_of w 0) made → state_of n (set words 0 made.word) (set phases s made.next) ≡ silent (acted (Retire s) w)
+pub retired_by : (s : ℕ) (n : ℕ) (words : List ℕ) (phases : List Phase) (w : State) (made : Effect) → state_of n words phases ≡ w → refusal (Retire s) w ≡ None → IsEffect (retirement s) (word_of w 0) made → state_of n (set words 0 made.word) (set phases s made.next) ≡ without_trails (apply (Retire s) w)
 retired_by s n words phases w made view none effect =
     ap (λ v. state_of n (set words v made.word) (set phases s made.next)) (sym effect.node)
-    ∙ made_event (Retire s) s (retirement s) n words phases w made view (acted-accepted (Retire s) w none) effect
+    ∙ made_event (Retire s) s (retirement s) n words phases w made view (apply-accepted (Retire s) w none) effect
 
 -- and the event is told at the head of the station's trail
-told_event : (act : Act) (s : ℕ) (d : Transition) (w : State) (made : Effect) → s < length w.records → acted act w ≡ stepped d s w → IsEffect d (word_of w d.node) made → (record_of (acted act w) s).trail ≡ made.event ∷ (record_of w s).trail
-told_event act s d w made there is effect =
+event_told_event : (act : Act) (s : ℕ) (d : Transition) (w : State) (made : Effect) → s < length w.records → apply act w ≡ apply_event d s w → IsEffect d (word_of w d.node) made → (record_of (apply act w) s).trail ≡ made.event ∷ (record_of w s).trail
+event_told_event act s d w made there is effect =
     ap (λ u. (record_of u s).trail) is
     ∙ ap (λ (r : Record). r.trail) (get_or-set_same w.records s _ (record { phase = Retired; trail = [] }) there)
     ∙ ap (λ l. l ++ (record_of w s).trail) effect.event
 
-pub told_by : (s : ℕ) (q : Phase) (w : State) (made : Effect) → s < length w.records → refusal (Step s) w ≡ None → q ≡ phase_of w s → IsEffect (transition s q) (word_of w (transition s q).node) made → (record_of (acted (Step s) w) s).trail ≡ made.event ∷ (record_of w s).trail
-told_by s q w made there none is effect =
-    told_event (Step s) s (transition s q) w made there (acted-accepted (Step s) w none ∙ ap (λ p. stepped (transition s p) s w) (sym is)) effect
+pub event_told_by : (s : ℕ) (q : Phase) (w : State) (made : Effect) → s < length w.records → refusal (Step s) w ≡ None → q ≡ phase_of w s → IsEffect (transition s q) (word_of w (transition s q).node) made → (record_of (apply (Step s) w) s).trail ≡ made.event ∷ (record_of w s).trail
+event_told_by s q w made there none is effect =
+    event_told_event (Step s) s (transition s q) w made there (apply-accepted (Step s) w none ∙ ap (λ p. apply_event (transition s p) s w) (sym is)) effect
 
-pub retire_told_by : (s : ℕ) (w : State) (made : Effect) → s < length w.records → refusal (Retire s) w ≡ None → IsEffect (retirement s) (word_of w 0) made → (record_of (acted (Retire s) w) s).trail ≡ made.event ∷ (record_of w s).trail
-retire_told_by s w made there none effect = told_event (Retire s) s (retirement s) w made there (acted-accepted (Retire s) w none) effect
+pub retire_told_by : (s : ℕ) (w : State) (made : Effect) → s < length w.records → refusal (Retire s) w ≡ None → IsEffect (retirement s) (word_of w 0) made → (record_of (apply (Retire s) w) s).trail ≡ made.event ∷ (record_of w s).trail
+retire_told_by s w made there none effect = event_told_event (Retire s) s (retirement s) w made there (apply-accepted (Retire s) w none) effect
 
 -- a station that is there has a number within the limits, and so has an inner node
 pub station_in_limits : (s : ℕ) (w : State) → IsWorld w → s < length w.records → s < MAX_STATIONS
@@ -302,22 +302,22 @@ inner_in_limits a w world inner = below a (2 ^ w.dim) (2 ^ MAX_DIM) inner.1 (pow
 
 -- ---- the count of events
 
-phase_after : (act : Act) (w new : State) (t : ℕ) → new ≡ silent (acted act w) → phase_of new t ≡ phase_of (acted act w) t
-phase_after act w new t is = ap (λ u. phase_of u t) is ∙ phase_at (acted act w).records t
+phase_after : (act : Act) (w new : State) (t : ℕ) → new ≡ without_trails (apply act w) → phase_of new t ≡ phase_of (apply act w) t
+phase_after act w new t is = ap (λ u. phase_of u t) is ∙ phase_at (apply act w).records t
 
 counted : (w : State) → IsWorld w → IsCounted w
 counted w world = Stands-counted w (reached-stands w world.reached)
 
-pub take_count : (s v : ℕ) (w new : State) → IsWorld w → refusal (Take s v) w ≡ None → new ≡ silent (acted (Take s v) w) → events_due w.dim (phase_of new s) ≡ 3 + 7 * depth w.dim v
+pub take_count : (s v : ℕ) (w new : State) → IsWorld w → refusal (Take s v) w ≡ None → new ≡ without_trails (apply (Take s v) w) → events_due w.dim (phase_of new s) ≡ 3 + 7 * depth w.dim v
 take_count s v w new world none is = ap (events_due w.dim) (phase_after (Take s v) w new s is) ∙ (counted w world).take s v none
 
-pub release_count : (s : ℕ) (w new : State) → IsWorld w → refusal (Release s) w ≡ None → new ≡ silent (acted (Release s) w) → events_due w.dim (phase_of new s) ≡ 1 + 5 * depth w.dim (node_held (phase_of w s))
+pub release_count : (s : ℕ) (w new : State) → IsWorld w → refusal (Release s) w ≡ None → new ≡ without_trails (apply (Release s) w) → events_due w.dim (phase_of new s) ≡ 1 + 5 * depth w.dim (node_held (phase_of w s))
 release_count s w new world none is = ap (events_due w.dim) (phase_after (Release s) w new s is) ∙ (counted w world).release s none
 
-pub step_count : (s : ℕ) (w new : State) → IsWorld w → refusal (Step s) w ≡ None → new ≡ silent (acted (Step s) w) → events_due w.dim (phase_of new s) < events_due w.dim (phase_of w s)
+pub step_count : (s : ℕ) (w new : State) → IsWorld w → refusal (Step s) w ≡ None → new ≡ without_trails (apply (Step s) w) → events_due w.dim (phase_of new s) < events_due w.dim (phase_of w s)
 step_count s w new world none is = subst (λ p. events_due w.dim p < events_due w.dim (phase_of w s)) (sym (phase_after (Step s) w new s is)) ((counted w world).falls s none)
 
-pub others_same : (act : Act) (w new : State) → IsWorld w → new ≡ silent (acted act w) → (t : ℕ) → t ≢ station_of act → phase_of new t ≡ phase_of w t
+pub others_same : (act : Act) (w new : State) → IsWorld w → new ≡ without_trails (apply act w) → (t : ℕ) → t ≢ station_of act → phase_of new t ≡ phase_of w t
 others_same act w new world is t other = phase_after act w new t is ∙ (counted w world).others act t other
 
 pub IsWorld-lawful : (w : State) → IsWorld w → IsTreeLawful w
@@ -329,29 +329,29 @@ IsWorld-of is world = subst IsWorld is world
 
 -- ---- acts one after another
 
-pub silent_of : (n : ℕ) (words : List ℕ) (phases : List Phase) (w : State) → state_of n words phases ≡ w → silent w ≡ w
-silent_of n words phases w view = ap silent (sym view) ∙ silent-state n words phases ∙ view
+pub without_trails_of : (n : ℕ) (words : List ℕ) (phases : List Phase) (w : State) → state_of n words phases ≡ w → without_trails w ≡ w
+without_trails_of n words phases w view = ap without_trails (sym view) ∙ without_trails-state n words phases ∙ view
 
 -- a call that is refused and one that is not make of a world what the act makes
-pub made_by : {A : Type 0} (act : Act) (w new : State) (r : Result A Refused) → IsWorld w → silent w ≡ w → IfErr r (λ why. refusal act w ≡ Some why) → OnErr r (new ≡ w) → OnOk r (new ≡ silent (acted act w)) → (new ≡ silent (acted act w)) × IsTreeLawful new
-made_by act w new r world quiet refused unchanged made = (is r refused unchanged made, reached-lawful new (IsWorld-acted act w new world (is r refused unchanged made)).reached)
+pub made_by : {A : Type 0} (act : Act) (w new : State) (r : Result A Refused) → IsWorld w → without_trails w ≡ w → IfErr r (λ why. refusal act w ≡ Some why) → OnErr r (new ≡ w) → OnOk r (new ≡ without_trails (apply act w)) → (new ≡ without_trails (apply act w)) × IsTreeLawful new
+made_by act w new r world quiet refused unchanged made = (is r refused unchanged made, reached-lawful new (IsWorld-apply act w new world (is r refused unchanged made)).reached)
   where
-    is : {A : Type 0} (x : Result A Refused) → IfErr x (λ why. refusal act w ≡ Some why) → OnErr x (new ≡ w) → OnOk x (new ≡ silent (acted act w)) → new ≡ silent (acted act w)
+    is : {A : Type 0} (x : Result A Refused) → IfErr x (λ why. refusal act w ≡ Some why) → OnErr x (new ≡ w) → OnOk x (new ≡ without_trails (apply act w)) → new ≡ without_trails (apply act w)
     is (Ok a) _ _ became = became
-    is (Err why) reason same _ = same ∙ sym (ap silent (ap (λ x. unless_refused x act w) reason) ∙ quiet)
+    is (Err why) reason same _ = same ∙ sym (ap without_trails (ap (λ x. unless_refused x act w) reason) ∙ quiet)
 
 -- one act more at the end of those that were made
-pub one_more : (acts : List Act) (i : ℕ) (none : Act) (first old new : State) → i < length acts → old ≡ silent (after (reverse (take i acts)) first) → new ≡ silent (acted (get_or acts i none) old) → new ≡ silent (after (reverse (take (i + 1) acts)) first)
+pub one_more : (acts : List Act) (i : ℕ) (none : Act) (first old new : State) → i < length acts → old ≡ without_trails (apply_all (reverse (take i acts)) first) → new ≡ without_trails (apply (get_or acts i none) old) → new ≡ without_trails (apply_all (reverse (take (i + 1) acts)) first)
 one_more acts i none first old new below before made =
-    made ∙ ap (λ w. silent (acted (get_or acts i none) w)) before ∙ acted-silent (get_or acts i none) (after (reverse (take i acts)) first)
-    ∙ ap (λ earlier. silent (after earlier first)) (sym (ap reverse (take_more acts i none below) ∙ reverse-append (take i acts) (get_or acts i none ∷ [])))
+    made ∙ ap (λ w. without_trails (apply (get_or acts i none) w)) before ∙ apply-without_trails (get_or acts i none) (apply_all (reverse (take i acts)) first)
+    ∙ ap (λ earlier. without_trails (apply_all earlier first)) (sym (ap reverse (take_more acts i none below) ∙ reverse-append (take i acts) (get_or acts i none ∷ [])))
 
 -- ---- the shape stays
 
-pub shape_kept : (act : Act) (w new : State) → new ≡ silent (acted act w) → HasShapeOf w new
+pub shape_kept : (act : Act) (w new : State) → new ≡ without_trails (apply act w) → HasShapeOf w new
 shape_kept act w new is = subst (HasShapeOf w) (sym is) (record {
-  dim = acted_dim act w;
-  stations = length_forgotten (acted act w).records ∙ acted_stations act w;
+  dim = apply_dim act w;
+  stations = length_forgotten (apply act w).records ∙ apply_stations act w;
 })
 
 pub shape_same : (w new : State) → new ≡ w → HasShapeOf w new

@@ -35,22 +35,22 @@ abbrev pub is_occupied : ℕ → Bool
 is_occupied w = bit_at w 0 == 1
 
 -- one event, as it is told
-abbrev pub told : ℕ → Kind → ℕ → ℕ → Note → List Event
-told station kind node word note = record { station = station; kind = kind; node = node; word = word; note = note } ∷ []
+abbrev pub single_event : ℕ → Kind → ℕ → ℕ → Note → List Event
+single_event station kind node word note = record { station = station; kind = kind; node = node; word = word; note = note } ∷ []
 
 -- past a on the way up from h: the station holds h where a is the root, else it climbs on
-abbrev pub risen : ℕ → ℕ → Phase
-risen h a = if a == 1 then Holding h else Climbing h (parent_of a)
+abbrev pub phase_after_raise : ℕ → ℕ → Phase
+phase_after_raise h a = if a == 1 then Holding h else Climbing h (parent_of a)
 
-abbrev pub risen_note : ℕ → Note
-risen_note a = if a == 1 then note.Held else note.Climb
+abbrev pub note_after_raise : ℕ → Note
+note_after_raise a = if a == 1 then note.Held else note.Climb
 
 -- past a on the way up after a node was given back: nothing more is to do where a is the root
-abbrev pub freed : ℕ → Phase
-freed a = if a == 1 then Idle else Arriving (parent_of a)
+abbrev pub phase_after_zero : ℕ → Phase
+phase_after_zero a = if a == 1 then Idle else Arriving (parent_of a)
 
-abbrev pub freed_note : ℕ → Note
-freed_note a = if a == 1 then note.Done else note.Climb
+abbrev pub note_after_zero : ℕ → Note
+note_after_zero a = if a == 1 then note.Done else note.Climb
 
 -- what a station that finds the word w at a child has seen of it
 abbrev pub seen_at : ℕ → Seen
@@ -60,25 +60,25 @@ abbrev pub seen_note : ℕ → Note
 seen_note w = if is_free w then note.Free else note.Used
 
 -- no event: the phase stays
-abbrev pub rest : Phase → Transition
-rest phase = record { node = 0; writes = λ w. w; next = λ w. phase; events = λ w. [] }
+abbrev pub no_event : Phase → Transition
+no_event phase = record { node = 0; writes = λ w. w; next = λ w. phase; events = λ w. [] }
 
 -- the node gets the word 0, whatever is found
-abbrev pub zero_at : ℕ → ℕ → Transition
-zero_at s h = record {
+abbrev pub zero_event : ℕ → ℕ → Transition
+zero_event s h = record {
   node = h;
   writes = λ w. 0;
-  next = λ w. freed h;
-  events = λ w. told s Zero h 0 (freed_note h);
+  next = λ w. phase_after_zero h;
+  events = λ w. single_event s Zero h 0 (note_after_zero h);
 }
 
 -- a load of a child, and what the station does with what it sees
-abbrev pub child_at : ℕ → ℕ → (Seen → Phase) → Transition
-child_at s c next = record {
+abbrev pub child_event : ℕ → ℕ → (Seen → Phase) → Transition
+child_event s c next = record {
   node = c;
   writes = λ w. w;
   next = λ w. next (seen_at w);
-  events = λ w. told s Child c w (seen_note w);
+  events = λ w. single_event s Child c w (seen_note w);
 }
 
 -- the word that a Clear writes: the marked word without its marks, and without each side whose
@@ -87,12 +87,12 @@ abbrev pub cleared_as_seen : ℕ → Seen → Seen → ℕ
 cleared_as_seen w left right = cleared w (is_seen_free left) (is_seen_free right)
 
 -- one exchange of the word that the station made by its mark; a node that stays in use ends the way up
-abbrev pub clear_at : ℕ → ℕ → ℕ → ℕ → Transition
-clear_at s a marked y = record {
+abbrev pub clear_event : ℕ → ℕ → ℕ → ℕ → Transition
+clear_event s a marked y = record {
   node = a;
   writes = λ w. if w == marked then y else w;
-  next = λ w. if w == marked then if is_free y then freed a else Idle else Idle;
-  events = λ w. told s Clear a (if w == marked then y else w) (if w == marked then if is_free y then freed_note a else note.Keep else note.Lost);
+  next = λ w. if w == marked then if is_free y then phase_after_zero a else Idle else Idle;
+  events = λ w. single_event s Clear a (if w == marked then y else w) (if w == marked then if is_free y then note_after_zero a else note.Keep else note.Lost);
 }
 
 -- the first while a child is not seen yet, then the second
@@ -103,58 +103,58 @@ if_unseen seen.Used first second = second
 
 -- what a station does in its phase
 abbrev pub transition : ℕ → Phase → Transition
-transition s Idle = rest Idle
+transition s Idle = no_event Idle
 -- a load
 transition s (Looking h) = record {
   node = h;
   writes = λ w. w;
   next = λ w. if is_free w then Looked h w else Idle;
-  events = λ w. told s Look h w (if is_free w then note.Free else note.InUse);
+  events = λ w. single_event s Look h w (if is_free w then note.Free else note.InUse);
 }
 -- one exchange of the word that was seen
 transition s (Looked h seen) = record {
   node = h;
   writes = λ w. if w == seen then busy else w;
-  next = λ w. if w == seen then risen h h else Idle;
-  events = λ w. told s Claim h (if w == seen then busy else w) (if w == seen then risen_note h else note.Lost);
+  next = λ w. if w == seen then phase_after_raise h h else Idle;
+  events = λ w. single_event s Claim h (if w == seen then busy else w) (if w == seen then note_after_raise h else note.Lost);
 }
 -- all marks go
 transition s (Climbing h a) = record {
   node = a;
   writes = λ w. use_of w;
   next = λ w. Swept h a;
-  events = λ w. told s Sweep a (use_of w) note.Ok;
+  events = λ w. single_event s Sweep a (use_of w) note.Ok;
 }
 -- the side of the child towards h is set, and an occupied word ends the climb
 transition s (Swept h a) = record {
   node = a;
   writes = λ w. with_side (side_of (child_towards a h)) w;
-  next = λ w. if is_occupied w then Backing h a else risen h a;
-  events = λ w. told s Raise a (with_side (side_of (child_towards a h)) w) (if is_occupied w then note.Under else risen_note a);
+  next = λ w. if is_occupied w then Backing h a else phase_after_raise h a;
+  events = λ w. single_event s Raise a (with_side (side_of (child_towards a h)) w) (if is_occupied w then note.Under else note_after_raise a);
 }
-transition s (Holding h) = rest (Holding h)
-transition s (Leaving h) = zero_at s h
-transition s (Backing h a) = zero_at s h
+transition s (Holding h) = no_event (Holding h)
+transition s (Leaving h) = zero_event s h
+transition s (Backing h a) = zero_event s h
 -- all marks go
 transition s (Arriving a) = record {
   node = a;
   writes = λ w. use_of w;
   next = λ w. Unmarked a;
-  events = λ w. told s Unmark a (use_of w) note.Ok;
+  events = λ w. single_event s Unmark a (use_of w) note.Ok;
 }
 -- the station's mark is set; an occupied node is no longer its matter
 transition s (Unmarked a) = record {
   node = a;
   writes = λ w. with_mark s w;
   next = λ w. if is_occupied w then Idle else Marked a (with_mark s w) seen.NotYet seen.NotYet;
-  events = λ w. told s Mark a (with_mark s w) (if is_occupied w then note.Stop else note.Ok);
+  events = λ w. single_event s Mark a (with_mark s w) (if is_occupied w then note.Stop else note.Ok);
 }
 -- the left child, then the right one, then the exchange
 transition s (Marked a w left right) =
-    if_unseen left (child_at s (child_of a Left) (λ found. Marked a w found right))
-    (if_unseen right (child_at s (child_of a Right) (λ found. Marked a w left found))
-    (clear_at s a w (cleared_as_seen w left right)))
-transition s Retired = rest Retired
+    if_unseen left (child_event s (child_of a Left) (λ found. Marked a w found right))
+    (if_unseen right (child_event s (child_of a Right) (λ found. Marked a w left found))
+    (clear_event s a w (cleared_as_seen w left right)))
+transition s Retired = no_event Retired
 
 -- an idle station sets its bit in the roll, and makes no event any more
 abbrev pub retirement : ℕ → Transition
@@ -162,5 +162,5 @@ retirement s = record {
   node = 0;
   writes = λ w. bit_or w (2 ^ s);
   next = λ w. Retired;
-  events = λ w. told s Retire 0 (bit_or w (2 ^ s)) note.Retired;
+  events = λ w. single_event s Retire 0 (bit_or w (2 ^ s)) note.Retired;
 }

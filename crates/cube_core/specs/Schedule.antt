@@ -6,8 +6,9 @@ use Rattle.cube_core.specs.declared.event.Event.{Event}
 use Rattle.cube_core.specs.declared.act.Act.{Act}
 use Rattle.cube_core.specs.declared.act.Act.TheVariants.{Take, Release, Step, Retire}
 use Rattle.cube_core.specs.declared.act.Refused.{Refused}
-use Rattle.cube_core.specs.declared.act.Refused.TheVariants.{NotIdle, NotHolding, NoStation, NotInCube, Resting}
+use Rattle.cube_core.specs.declared.act.Refused.TheVariants.{NotIdle, NotHolding, NoStation, NotInCube}
 use Rattle.cube_core.specs.Phase.{owned}
+pub use Rattle.cube_core.specs.Phase.{step_refusal}
 use Rattle.cube_core.specs.Event.{Transition, transition, retirement}
 
 -- a station's record: its phase, and the list of its events, the newest first
@@ -28,24 +29,27 @@ record_of w s = slice_index_or w.records s (record { phase = Retired; trail = []
 abbrev pub phase_of : State → ℕ → Phase
 phase_of w s = (record_of w s).phase
 
+abbrev pub trail_of : State → ℕ → List Event
+trail_of w s = (record_of w s).trail
+
 abbrev pub word_of : State → ℕ → ℕ
 word_of w v = slice_index_or w.words v 0
 
 -- the opened world: all words 0, all stations idle
-abbrev pub opened : ℕ → ℕ → State
-opened n stations = record {
+abbrev pub initial : ℕ → ℕ → State
+initial n stations = record {
   dim = n;
   words = replicate (2 ^ (n + 1)) 0;
   records = replicate stations (record { phase = Idle; trail = [] });
 }
 
 -- a station begins something: its phase changes, and nothing else
-abbrev pub begun : ℕ → Phase → State → State
-begun s phase w = record w { records = slice_set w.records s (record (record_of w s) { phase = phase }) }
+abbrev pub apply_begin : ℕ → Phase → State → State
+apply_begin s phase w = record w { records = slice_set w.records s (record (record_of w s) { phase = phase }) }
 
 -- an event: one word and the station's record change
-abbrev pub stepped : Transition → ℕ → State → State
-stepped d s w =
+abbrev pub apply_event : Transition → ℕ → State → State
+apply_event d s w =
     let found = word_of w d.node in record {
       dim = w.dim;
       words = slice_set w.words d.node (d.writes found);
@@ -67,21 +71,6 @@ abbrev pub release_refusal : Phase → Option Refused
 release_refusal (Holding h) = None
 release_refusal _ = Some NotHolding
 
--- a step
-abbrev pub step_refusal : Phase → Option Refused
-step_refusal Idle = Some Resting
-step_refusal (Looking h) = None
-step_refusal (Looked h w) = None
-step_refusal (Climbing h a) = None
-step_refusal (Swept h a) = None
-step_refusal (Holding h) = Some Resting
-step_refusal (Leaving h) = None
-step_refusal (Backing h a) = None
-step_refusal (Arriving a) = None
-step_refusal (Unmarked a) = None
-step_refusal (Marked a w left right) = None
-step_refusal Retired = Some Resting
-
 -- the station that an act is of
 abbrev pub station_of : Act → ℕ
 station_of (Take s v) = s
@@ -102,26 +91,31 @@ refusal act w =
     if nat_lt (station_of act) (length w.records) then phase_refusal w.dim act (phase_of w (station_of act)) else Some NoStation
 
 -- what an act that is not refused makes of the world
-abbrev pub moved : Act → State → State
-moved (Take s v) w = begun s (Looking v) w
-moved (Release s) w = begun s (Leaving (owned (phase_of w s))) w
-moved (Step s) w = stepped (transition s (phase_of w s)) s w
-moved (Retire s) w = stepped (retirement s) s w
+abbrev pub apply_accepted : Act → State → State
+apply_accepted (Take s v) w = apply_begin s (Looking v) w
+apply_accepted (Release s) w = apply_begin s (Leaving (owned (phase_of w s))) w
+apply_accepted (Step s) w = apply_event (transition s (phase_of w s)) s w
+apply_accepted (Retire s) w = apply_event (retirement s) s w
 
 -- what an act makes of the world: a refused one changes nothing
 abbrev pub unless_refused : Option Refused → Act → State → State
-unless_refused None act w = moved act w
+unless_refused None act w = apply_accepted act w
 unless_refused (Some why) act w = w
 
-abbrev pub acted : Act → State → State
-acted act w = unless_refused (refusal act w) act w
+abbrev pub apply : Act → State → State
+apply act w = unless_refused (refusal act w) act w
 
 -- the world after a schedule: a list of acts, the newest first
-abbrev pub after : List Act → State → State
-after [] w = w
-after (act ∷ earlier) w = acted act (after earlier w)
+abbrev pub apply_all : List Act → State → State
+apply_all [] w = w
+apply_all (act ∷ earlier) w = apply act (apply_all earlier w)
+
+-- all acts of the station among these are steps
+abbrev pub HasOnlySteps : ℕ → List Act → Type 0
+HasOnlySteps s [] = Unit {0}
+HasOnlySteps s (act ∷ earlier) = (station_of act ≡ s → act ≡ Step s) × HasOnlySteps s earlier
 
 -- these acts of a station, the newest first, are one event: on every world of dimension n where the
 -- station has this record, they make of the world what the event makes
 abbrev pub AreOneEvent : ℕ → List Act → ℕ → Record → Transition → Type 0
-AreOneEvent n acts s r d = (w : State) → w.dim ≡ n → s < length w.records → record_of w s ≡ r → after acts w ≡ stepped d s w
+AreOneEvent n acts s r d = (w : State) → w.dim ≡ n → s < length w.records → record_of w s ≡ r → apply_all acts w ≡ apply_event d s w

@@ -1,6 +1,6 @@
 ghost use Rattle.std.specs.Prelude.{◌≡◌, ◌≢◌, ℕ, ◌^◌, ◌<◌};
 ghost use Rattle.cube_shape.specs.Node.{OnPath};
-ghost use Rattle.cube_core.specs.Event.{transition, risen, risen_note, freed, freed_note, seen_at, seen_note, zero_at, clear_at, cleared_as_seen, retirement};
+ghost use Rattle.cube_core.specs.Event.{transition, phase_after_raise, note_after_raise, phase_after_zero, note_after_zero, seen_at, seen_note, zero_event, clear_event, cleared_as_seen, retirement};
 ghost use Rattle.cube_core.specs.Effect.{IsEffect};
 
 use crate::event::{Event, Kind, Note};
@@ -19,8 +19,8 @@ pub struct Effect {
 // The phase of the station that takes `node`, and the note, once it has passed `at`.
 fn rise(node: u64, at: u64) -> (Phase, Note)
     requires { 0 < at }
-    ensures phase { result.0 ≡ risen node at }
-    ensures note { result.1 ≡ risen_note at }
+    ensures phase { result.0 ≡ phase_after_raise node at }
+    ensures note { result.1 ≡ note_after_raise at }
 {
     if at == 1 {
         (Phase::Holding { node }, Note::Held)
@@ -34,8 +34,8 @@ fn rise(node: u64, at: u64) -> (Phase, Note)
 // node was given back.
 fn leave(at: u64) -> (Phase, Note)
     requires { 0 < at }
-    ensures phase { result.0 ≡ freed at }
-    ensures note { result.1 ≡ freed_note at }
+    ensures phase { result.0 ≡ phase_after_zero at }
+    ensures note { result.1 ≡ note_after_zero at }
 {
     if at == 1 {
         (Phase::Idle, Note::Done)
@@ -152,7 +152,7 @@ pub fn raise(station: u64, node: u64, at: u64, word: u64) -> Effect
 /// The node is given back: its word becomes 0.
 pub fn zero(station: u64, node: u64) -> Effect
     requires { 0 < node }
-    ensures { (found : ℕ) → IsEffect (zero_at station node) found result }
+    ensures { (found : ℕ) → IsEffect (zero_event station node) found result }
 {
     let written = 0;
     let (next, note) = leave(node);
@@ -270,7 +270,7 @@ pub fn look_right(station: u64, at: u64, marked: u64, left: Seen, word: u64) -> 
 /// without each side whose child was seen free.
 pub fn clear(station: u64, at: u64, marked: u64, left: Seen, right: Seen, word: u64) -> Effect
     requires { 0 < at }
-    ensures { IsEffect (clear_at station at marked (cleared_as_seen marked left right)) word result }
+    ensures { IsEffect (clear_event station at marked (cleared_as_seen marked left right)) word result }
 {
     let cleared = Word(marked).cleared(left.is_free(), right.is_free());
     let (written, next, note) = if word != marked {

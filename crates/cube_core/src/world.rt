@@ -1,11 +1,11 @@
 ghost use Rattle.std.specs.Prelude.{◌≡◌, ◌≢◌, ℕ, ◌+◌, ◌*◌, ◌^◌, ◌<◌, ◌≤◌, ◌∷◌, Some, None, length, reverse, IfSome, IfNone, IfOk, IfErr, OnOk, OnErr};
-ghost use Rattle.cube_core.specs.Schedule.{acted, after, opened, phase_of, record_of, refusal, step_refusal, word_of};
-ghost use Rattle.cube_core.specs.World.{HasShapeOf, silent};
+ghost use Rattle.cube_core.specs.Schedule.{apply, apply_all, initial, phase_of, record_of, refusal, step_refusal, word_of};
+ghost use Rattle.cube_core.specs.World.{HasShapeOf, without_trails};
 ghost use Rattle.cube_core.specs.Event.{transition, retirement};
 ghost use Rattle.cube_core.specs.Effect.{IsEffect};
 ghost use Rattle.cube_core.specs.Count.{depth, events_due};
 ghost use Rattle.cube_core.specs.Phase.{node_held};
-ghost use Rattle.cube_core.specs.Law.{IsTreeLawful, EveryScheduleIsLawful};
+ghost use Rattle.cube_core.specs.Law.{CallsAreSingleEvents, EveryScheduleIsLawful, IsTreeLawful};
 
 use crate::act::{Act, Refused};
 use crate::effect::{self, Effect};
@@ -42,7 +42,8 @@ impl World {
     pub fn new(alloc: Global, n: u32, stations: u32) -> Result<Self, AllocError>
         requires dim { n ≤ MAX_DIM }
         requires stations { stations ≤ MAX_STATIONS }
-        ensures { IfOk result (λ made. made ≡ opened n stations) }
+        ensures opened { IfOk result (λ made. made ≡ initial n stations) }
+        ensures lawful { IfOk result (λ made. IsTreeLawful made) }
     {
         Ok(World {
             dim: n,
@@ -74,8 +75,9 @@ impl World {
         ensures refused { IfErr result (λ why. refusal (Act.Take station node) self.old ≡ Some why) }
         ensures accepted { IfOk result (λ _. refusal (Act.Take station node) self.old ≡ None) }
         ensures unchanged { OnErr result (self.new ≡ self.old) }
-        ensures world { OnOk result (self.new ≡ silent (acted (Act.Take station node) self.old)) }
+        ensures world { OnOk result (self.new ≡ without_trails (apply (Act.Take station node) self.old)) }
         ensures shape { HasShapeOf self.old self.new }
+        ensures lawful { IsTreeLawful self.new }
         ensures count { OnOk result (events_due self.old.dim (phase_of self.new station) ≡ 3 + 7 * depth self.old.dim node) }
     {
         match self.find(station)? {
@@ -94,8 +96,9 @@ impl World {
         ensures refused { IfErr result (λ why. refusal (Act.Release station) self.old ≡ Some why) }
         ensures accepted { IfOk result (λ _. refusal (Act.Release station) self.old ≡ None) }
         ensures unchanged { OnErr result (self.new ≡ self.old) }
-        ensures world { OnOk result (self.new ≡ silent (acted (Act.Release station) self.old)) }
+        ensures world { OnOk result (self.new ≡ without_trails (apply (Act.Release station) self.old)) }
         ensures shape { HasShapeOf self.old self.new }
+        ensures lawful { IsTreeLawful self.new }
         ensures count { OnOk result (events_due self.old.dim (phase_of self.new station)
             ≡ 1 + 5 * depth self.old.dim (node_held (phase_of self.old station))) }
     {
@@ -112,12 +115,12 @@ impl World {
         ensures refused { IfErr result (λ why. refusal (Act.Step station) self.old ≡ Some why) }
         ensures accepted { IfOk result (λ _. refusal (Act.Step station) self.old ≡ None) }
         ensures unchanged { OnErr result (self.new ≡ self.old) }
-        ensures world { OnOk result (self.new ≡ silent (acted (Act.Step station) self.old)) }
+        ensures world { OnOk result (self.new ≡ without_trails (apply (Act.Step station) self.old)) }
         ensures shape { HasShapeOf self.old self.new }
         ensures lawful { IsTreeLawful self.new }
         ensures count { OnOk result (events_due self.old.dim (phase_of self.new station) < events_due self.old.dim (phase_of self.old station)) }
         ensures others { (t : ℕ) → t ≢ station → phase_of self.new t ≡ phase_of self.old t }
-        ensures event { IfOk result (λ event. (record_of (acted (Act.Step station) self.old) station).trail
+        ensures event { IfOk result (λ event. (record_of (apply (Act.Step station) self.old) station).trail
             ≡ event ∷ (record_of self.old station).trail) }
     {
         let phase = self.find(station)?;
@@ -134,9 +137,10 @@ impl World {
         ensures refused { IfErr result (λ why. refusal (Act.Retire station) self.old ≡ Some why) }
         ensures accepted { IfOk result (λ _. refusal (Act.Retire station) self.old ≡ None) }
         ensures unchanged { OnErr result (self.new ≡ self.old) }
-        ensures world { OnOk result (self.new ≡ silent (acted (Act.Retire station) self.old)) }
+        ensures world { OnOk result (self.new ≡ without_trails (apply (Act.Retire station) self.old)) }
         ensures shape { HasShapeOf self.old self.new }
-        ensures event { IfOk result (λ event. (record_of (acted (Act.Retire station) self.old) station).trail
+        ensures lawful { IsTreeLawful self.new }
+        ensures event { IfOk result (λ event. (record_of (apply (Act.Retire station) self.old) station).trail
             ≡ event ∷ (record_of self.old station).trail) }
     {
         let Phase::Idle = self.find(station)? else {
@@ -150,7 +154,7 @@ impl World {
 
     /// Makes these acts one after another. A refused one changes nothing, and the next one follows.
     pub fn run(&mut self, acts: &[Act])
-        ensures world { self.new ≡ silent (after (reverse acts.now) self.old) }
+        ensures world { self.new ≡ without_trails (apply_all (reverse acts.now) self.old) }
         ensures shape { HasShapeOf self.old self.new }
         ensures lawful { IsTreeLawful self.new }
     {
@@ -162,7 +166,7 @@ impl World {
 
     // One act, of which nothing is told.
     fn make(&mut self, act: Act)
-        ensures world { self.new ≡ silent (acted act self.old) }
+        ensures world { self.new ≡ without_trails (apply act self.old) }
         ensures shape { HasShapeOf self.old self.new }
         ensures lawful { IsTreeLawful self.new }
     {
@@ -261,4 +265,13 @@ impl World {
 ///   alone.
 pub fn every_schedule_is_lawful()
     ensures { EveryScheduleIsLawful }
+{}
+
+/// What a station that runs on shared words makes in one atomic step is one event: a step, a take
+/// or a release with the step after it, or a retirement.
+///
+/// On every world in which a station has this phase, the calls make of the world what the one event
+/// makes of it, whatever the words are.
+pub fn calls_are_single_events()
+    ensures { CallsAreSingleEvents }
 {}

@@ -1,5 +1,5 @@
 -- Nodes of the tree of aligned regions, and the paths between them. A node is a number from 1 on.
-use Rattle.std.specs.Prelude.{◌≡◌, ℕ, zero, suc, ◌+◌, ◌-◌, ◌*◌, ◌/◌, ◌^◌, ◌<◌, ◌≤◌, ◌==◌, if◌then◌else◌}
+use Rattle.std.specs.Prelude.{◌≡◌, ℕ, zero, suc, ◌+◌, ◌-◌, ◌*◌, ◌/◌, ◌%◌, ◌^◌, ◌<◌, ◌≤◌, ◌==◌, if◌then◌else◌}
 use Rattle.cube_shape.specs.declared.region.Region.{Region}
 use Rattle.cube_shape.specs.declared.node.Side.{Side}
 use Rattle.cube_shape.specs.declared.node.Side.TheVariants.{Left, Right}
@@ -13,6 +13,10 @@ IsInCube n v = (0 < v) × (v < 2 ^ (n + 1))
 abbrev pub child_of : ℕ → Side → ℕ
 child_of v Left = 2 * v
 child_of v Right = 2 * v + 1
+
+-- which child of its parent a node is: the even number or the odd one
+abbrev pub side_of : ℕ → Side
+side_of v = if v % 2 == 0 then Left else Right
 
 -- the parent of a node; that of the root is 0, which is no node
 abbrev pub parent_of : ℕ → ℕ

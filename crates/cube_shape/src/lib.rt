@@ -12,11 +12,13 @@
 #![tactic(auto)]
 
 mod limits;
+mod neighbours;
 mod node;
 mod paths;
 mod region;
 
 pub use limits::{Dim, MAX_DIM, MAX_STATIONS};
+pub use neighbours::neighbour;
 pub use node::{Node, Side};
 pub use paths::{child_towards, on_path, parent, side};
 pub use region::{Region, node_of, region_of, regions_apart};

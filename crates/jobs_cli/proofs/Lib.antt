@@ -1,4 +1,4 @@
 pub mod OrderLemmas
-pub mod TurnLemmas
+pub mod TraceLemmas
 pub mod StationLemmas
 pub mod ReplayLemmas

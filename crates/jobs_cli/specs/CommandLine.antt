@@ -4,31 +4,31 @@ use Rattle.std.specs.Str.Parse.{digits_value, without_leading_plus}
 use Rattle.clap.specs.Words.{found_of, one_text, rows_of, subcommand_rows_of}
 use Rattle.clap.specs.declared.parser.matches.ArgMatches.{ArgMatches}
 use Rattle.cube_shape.specs.declared.limits.TheConstants.{MAX_DIM, MAX_STATIONS}
-use Rattle.jobs_cli.specs.declared.command_line.Asked.{Asked}
-use Rattle.jobs_cli.specs.declared.command_line.Asked.TheVariants.{Run, Place, Replay}
+use Rattle.jobs_cli.specs.declared.command_line.Invocation.{Invocation}
+use Rattle.jobs_cli.specs.declared.command_line.Invocation.TheVariants.{Run, Place, Replay}
 
 -- the machine has a dimension that it may have, and so many stations as it may have, at least one
-abbrev pub IsWithinLimits : Asked → Type 0
+abbrev pub IsWithinLimits : Invocation → Type 0
 IsWithinLimits (Run n) = n ≤ MAX_DIM
 IsWithinLimits (Place n) = n ≤ MAX_DIM
 IsWithinLimits (Replay n stations) = (n ≤ MAX_DIM) × (1 ≤ stations) × (stations ≤ MAX_STATIONS)
 
 -- the option has this number, in digits
-abbrev pub IsWritten : ArgMatches → List ℕ → ℕ → Type 0
-IsWritten matches option n = (text : List ℕ) × (one_text (found_of matches) option ≡ Some text) × (n ≡ digits_value 10 (without_leading_plus text))
+abbrev pub HasOptionValue : ArgMatches → List ℕ → ℕ → Type 0
+HasOptionValue matches option n = (text : List ℕ) × (one_text (found_of matches) option ≡ Some text) × (n ≡ digits_value 10 (without_leading_plus text))
 
 -- the command that asks for it
-abbrev pub command_of : Asked → List ℕ
+abbrev pub command_of : Invocation → List ℕ
 command_of (Run n) = codes "run"
 command_of (Place n) = codes "place"
 command_of (Replay n stations) = codes "replay"
 
 -- these are the options of the command that was met
-abbrev pub AreOptions : ArgMatches → ArgMatches → Type 0
-AreOptions matches options = option_map (λ command. command.1) (subcommand_rows_of matches) ≡ Some (rows_of (found_of options))
+abbrev pub AreOptionsOf : ArgMatches → ArgMatches → Type 0
+AreOptionsOf matches options = option_map (λ command. command.1) (subcommand_rows_of matches) ≡ Some (rows_of (found_of options))
 
 -- the numbers are those of the options
-abbrev pub AreWritten : ArgMatches → Asked → Type 0
-AreWritten options (Run n) = IsWritten options (codes "dim") n
-AreWritten options (Place n) = IsWritten options (codes "dim") n
-AreWritten options (Replay n stations) = IsWritten options (codes "dim") n × IsWritten options (codes "stations") stations
+abbrev pub HasOptionValues : ArgMatches → Invocation → Type 0
+HasOptionValues options (Run n) = HasOptionValue options (codes "dim") n
+HasOptionValues options (Place n) = HasOptionValue options (codes "dim") n
+HasOptionValues options (Replay n stations) = HasOptionValue options (codes "dim") n × HasOptionValue options (codes "stations") stations

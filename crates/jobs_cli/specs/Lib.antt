@@ -1,7 +1,7 @@
 pub mod Names
 pub mod Replies
 pub mod Run
-pub mod InTurn
+pub mod Trace
 pub mod Place
 pub mod Stations
 pub mod Replay

@@ -4,19 +4,19 @@ use Rattle.std.specs.Ordering.{nat_cmp, ordering_then}
 use Rattle.std.specs.declared.cmp.Ordering.{Ordering}
 use Rattle.job_types.specs.Job.{JobData}
 use Rattle.job_types.specs.Reply.{ReplyData}
-use Rattle.jobs_cli.specs.Names.{Named, all_named}
+use Rattle.jobs_cli.specs.Names.{JobWithId, with_ids}
 
 -- by lane, and in a lane by number
-abbrev pub by_name : Named → Named → Ordering
-by_name a b = ordering_then (nat_cmp a.id.lane b.id.lane) (nat_cmp a.id.seq b.id.seq)
+abbrev pub by_id : JobWithId → JobWithId → Ordering
+by_id a b = ordering_then (nat_cmp a.id.lane b.id.lane) (nat_cmp a.id.seq b.id.seq)
 
 -- the jobs of a file with their names, in the order of their replies
-pub record AreInOrder (jobs : List JobData) (named : List Named) : Type 0 where
-  pub same : IsPermutation (all_named jobs) named
-  pub sorted : IsSorted by_name named
+pub record AreInOrder (jobs : List JobData) (named : List JobWithId) : Type 0 where
+  pub same : IsPermutation (with_ids jobs) named
+  pub sorted : IsSorted by_id named
 
 -- the job that a reply is to, with its name
-abbrev pub answered : ReplyData → Named
+abbrev pub answered : ReplyData → JobWithId
 answered reply = record { id = reply.id; job = reply.job }
 
 -- these are replies to the jobs of a file, in their order

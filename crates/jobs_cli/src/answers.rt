@@ -5,13 +5,13 @@ ghost use Rattle.alloc_bits.specs.Allocation.{held_in};
 ghost use Rattle.job_types.specs.Reply.{ReplyData};
 ghost use Rattle.jobs_csv.specs.Fault.{IsFailure};
 ghost use Rattle.jobs_csv.specs.Replies.{replies_text, reply_lines};
-ghost use Rattle.jobs_cli.specs.Names.{lane_by_lane, named_from};
+ghost use Rattle.jobs_cli.specs.Names.{lane_by_lane, with_ids_from};
 ghost use Rattle.jobs_cli.specs.Replies.{answered};
 
 use alloc_bits::AllocBits;
 use cube_shape::MAX_DIM;
 use job_types::{Job, JobId, Reply};
-use jobs_csv::{Device, Fault, Lines, What};
+use jobs_csv::{Device, Fault, LineBuffer, FaultKind};
 use std::alloc::Global;
 use std::io::Write;
 
@@ -37,14 +37,14 @@ fn answer(bits: &mut AllocBits, id: JobId, job: Job) -> Reply
 fn answer_lane<W: Write + Device>(
     bits: &mut AllocBits,
     jobs: Vec<Job>,
-    lines: Lines,
+    lines: LineBuffer,
     before: u64,
     writer: &mut W,
-) -> Result<Lines, Fault>
+) -> Result<LineBuffer, Fault>
     requires free { (s : ℕ) → held_in bits.old s ≡ None }
     requires machine { All (λ job. job.machine ≡ bits.old.dim) jobs.items }
-    ensures sent { IfOk result (λ more. (replies : List ReplyData) × (map answered replies ≡ named_from 0 jobs.items) × (out : List ℕ) × Appends (W.contents writer.old) (W.contents writer.new) out × (out ++ more ≡ lines ++ reply_lines replies)) }
-    ensures failed { IfErr result (λ fault. IsFailure What.Write before (W.failures writer.new) fault) }
+    ensures sent { IfOk result (λ more. (replies : List ReplyData) × (map answered replies ≡ with_ids_from 0 jobs.items) × (out : List ℕ) × Appends (W.contents writer.old) (W.contents writer.new) out × (out ++ more ≡ lines ++ reply_lines replies)) }
+    ensures failed { IfErr result (λ fault. IsFailure FaultKind.Write before (W.failures writer.new) fault) }
     ensures free { (s : ℕ) → held_in bits.new s ≡ None }
     ensures dim { bits.new.dim ≡ bits.old.dim }
 {
@@ -70,11 +70,11 @@ pub fn answer_all<W: Write + Device>(
     requires limit { n ≤ MAX_DIM }
     requires machine { All (λ lane. All (λ job. job.machine ≡ n) lane.items) lanes.items }
     ensures sent { OnOk result ((replies : List ReplyData) × (map answered replies ≡ lane_by_lane lanes.items) × Appends (W.contents writer.old) (W.contents writer.new) (replies_text replies)) }
-    ensures failed { IfErr result (λ fault. IsFailure What.Write (W.failures writer.old) (W.failures writer.new) fault) }
+    ensures failed { IfErr result (λ fault. IsFailure FaultKind.Write (W.failures writer.old) (W.failures writer.new) fault) }
 {
     let before = writer.failures();
     let mut bits = AllocBits::new(alloc, n)?;
-    let mut lines = Lines::new(alloc)?.with_reply_header()?;
+    let mut lines = LineBuffer::new(alloc)?.push_reply_header()?;
     for jobs in lanes {
         lines = answer_lane(&mut bits, jobs, lines, before, writer)?;
     }

@@ -1,7 +1,7 @@
 // The command line.
 ghost use Rattle.std.specs.Prelude.{◌≡◌, ◌≤◌, IfOk, IfSome, Some, codes};
 ghost use Rattle.clap.specs.Words.{subcommand_name_of};
-ghost use Rattle.jobs_cli.specs.CommandLine.{AreOptions, AreWritten, IsWithinLimits, IsWritten, command_of};
+ghost use Rattle.jobs_cli.specs.CommandLine.{AreOptionsOf, HasOptionValues, IsWithinLimits, HasOptionValue, command_of};
 ghost use Rattle.clap.specs.declared.parser.matches.ArgMatches.{ArgMatches};
 
 use clap::error::ErrorKind;
@@ -65,7 +65,7 @@ const AFTER_HELP: &str = "Exit status:
 
 /// What a command line asks for, on a machine of dimension `n`.
 #[derive(Clone, Copy, Debug, PartialEq, Eq)]
-pub enum Asked {
+pub enum Invocation {
     /// A file of jobs is to be answered.
     Run { n: u32 },
     /// A file of commands is to be answered.
@@ -124,7 +124,7 @@ fn program<'a>(alloc: Global) -> Result<Command<'a>, AllocError> {
 // The dimension that a command was given.
 fn dim_in(matches: &ArgMatches<'_>) -> Option<u32>
     ensures limit { IfSome result (λ n. n ≤ MAX_DIM) }
-    ensures written { IfSome result (λ n. IsWritten matches.now (codes "dim") n) }
+    ensures written { IfSome result (λ n. HasOptionValue matches.now (codes "dim") n) }
 {
     let n = matches.get_one::<u32>("dim")?;
     if Dim(n).fits(MAX_DIM) { Some(n) } else { None }
@@ -133,7 +133,7 @@ fn dim_in(matches: &ArgMatches<'_>) -> Option<u32>
 // The number of stations that a command was given.
 fn stations_in(matches: &ArgMatches<'_>) -> Option<u32>
     ensures limits { IfSome result (λ stations. (1 ≤ stations) × (stations ≤ MAX_STATIONS)) }
-    ensures written { IfSome result (λ stations. IsWritten matches.now (codes "stations") stations) }
+    ensures written { IfSome result (λ stations. HasOptionValue matches.now (codes "stations") stations) }
 {
     let stations = matches.get_one::<u32>("stations")?;
     if stations >= 1 && stations <= MAX_STATIONS {
@@ -144,35 +144,35 @@ fn stations_in(matches: &ArgMatches<'_>) -> Option<u32>
 }
 
 // What was asked for.
-fn asked_in(matches: &ArgMatches<'_>) -> Option<Asked>
-    ensures limits { IfSome result (λ asked. IsWithinLimits asked) }
-    ensures command { IfSome result (λ asked. subcommand_name_of matches.now ≡ Some (command_of asked)) }
-    ensures numbers { IfSome result (λ asked. (options : ArgMatches) × AreOptions matches.now options × AreWritten options asked) }
+fn invocation_in(matches: &ArgMatches<'_>) -> Option<Invocation>
+    ensures limits { IfSome result (λ invocation. IsWithinLimits invocation) }
+    ensures command { IfSome result (λ invocation. subcommand_name_of matches.now ≡ Some (command_of invocation)) }
+    ensures numbers { IfSome result (λ invocation. (options : ArgMatches) × AreOptionsOf matches.now options × HasOptionValues options invocation) }
 {
     if let Some(run) = matches.subcommand_matches("run") {
         let n = dim_in(run)?;
-        return Some(Asked::Run { n });
+        return Some(Invocation::Run { n });
     }
     if let Some(place) = matches.subcommand_matches("place") {
         let n = dim_in(place)?;
-        return Some(Asked::Place { n });
+        return Some(Invocation::Place { n });
     }
     let replay = matches.subcommand_matches("replay")?;
     let n = dim_in(replay)?;
     let stations = stations_in(replay)?;
-    Some(Asked::Replay { n, stations })
+    Some(Invocation::Replay { n, stations })
 }
 
 /// What a command line asks for. Its first word is the program's name.
 ///
 /// An error is help that was asked for, a bad command line, or want of memory.
-pub fn asked_for<'a>(alloc: Global, words: &'a [String]) -> Result<Asked, Error>
-    ensures { IfOk result (λ asked. IsWithinLimits asked) }
+pub fn parse_args<'a>(alloc: Global, words: &'a [String]) -> Result<Invocation, Error>
+    ensures { IfOk result (λ invocation. IsWithinLimits invocation) }
 {
     let command: Command<'a> = program(alloc)?;
     let matches = command.try_get_matches_from(words)?;
-    if let Some(asked) = asked_in(&matches) {
-        return Ok(asked);
+    if let Some(invocation) = invocation_in(&matches) {
+        return Ok(invocation);
     }
     let mut command: Command<'a> = program(alloc)?;
     let error = command.error(ErrorKind::MissingSubcommand, "no command is given")?;

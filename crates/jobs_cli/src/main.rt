@@ -19,9 +19,9 @@ mod replay;
 mod run;
 mod stations;
 
-use crate::command_line::Asked;
+use crate::command_line::Invocation;
 use clap::error::ErrorKind;
-use jobs_csv::{Counted, Device, Fault, What};
+use jobs_csv::{Counted, Device, Fault, FaultKind};
 use std::alloc::Global;
 use std::io;
 use std::io::{Read, Write};
@@ -51,7 +51,7 @@ fn tell_usage(rt: &(impl Print + Eprint), error: &clap::Error) -> ExitCode {
     match rt.print(error) {
         Ok(()) => ExitCode::SUCCESS,
         Err(_) => {
-            let what = What::Write;
+            let what = FaultKind::Write;
             tell(rt, Fault { row: 0, what })
         }
     }
@@ -66,19 +66,19 @@ fn words<R: Env + AllocGlobal>(rt: &R) -> io::Result<Vec<String>> {
 // Does what the command line asks for.
 fn answer<R: Read + Device, W: Write + Device>(
     alloc: Global,
-    asked: Asked,
+    invocation: Invocation,
     reader: &mut R,
     writer: &mut W,
 ) -> Result<(), Fault>
-    requires { IsWithinLimits asked }
-    ensures answered { IfSome (R.remaining reader.old) (λ bytes. IsAnswerTo asked bytes (W.contents writer.old) (W.contents writer.new) result) }
-    ensures failed { IfErr result (λ fault. (is_refusal fault.what ≡ true) ⊎ IsFailure What.Read (R.failures reader.old) (R.failures reader.new) fault ⊎ IsFailure What.Write (W.failures writer.old) (W.failures writer.new) fault) }
-    ensures untouched { IfErr result (λ fault. (is_refusal fault.what ≡ true) ⊎ (fault.what ≡ What.Read) → writer.new ≡ writer.old) }
+    requires { IsWithinLimits invocation }
+    ensures answered { IfSome (R.remaining reader.old) (λ bytes. IsAnswerTo invocation bytes (W.contents writer.old) (W.contents writer.new) result) }
+    ensures failed { IfErr result (λ fault. (is_refusal fault.what ≡ true) ⊎ IsFailure FaultKind.Read (R.failures reader.old) (R.failures reader.new) fault ⊎ IsFailure FaultKind.Write (W.failures writer.old) (W.failures writer.new) fault) }
+    ensures untouched { IfErr result (λ fault. (is_refusal fault.what ≡ true) ⊎ (fault.what ≡ FaultKind.Read) → writer.new ≡ writer.old) }
 {
-    match asked {
-        Asked::Run { n } => run::run_on(alloc, n, reader, writer),
-        Asked::Place { n } => place::place_on(alloc, n, reader, writer),
-        Asked::Replay { n, stations } => replay::replay_on(alloc, n, stations, reader, writer),
+    match invocation {
+        Invocation::Run { n } => run::run_on(alloc, n, reader, writer),
+        Invocation::Place { n } => place::place_on(alloc, n, reader, writer),
+        Invocation::Replay { n, stations } => replay::replay_on(alloc, n, stations, reader, writer),
     }
 }
 
@@ -91,13 +91,13 @@ fn main(rt: HostRuntime) -> ExitCode {
             return ExitCode::from(2);
         }
     };
-    let asked = match command_line::asked_for(rt.alloc(), &words) {
-        Ok(asked) => asked,
+    let invocation = match command_line::parse_args(rt.alloc(), &words) {
+        Ok(invocation) => invocation,
         Err(error) => return tell_usage(&rt, &error),
     };
     let mut reader = Counted::new(rt.stdin());
     let mut writer = Counted::new(rt.stdout());
-    match answer(rt.alloc(), asked, &mut reader, &mut writer) {
+    match answer(rt.alloc(), invocation, &mut reader, &mut writer) {
         Ok(()) => ExitCode::SUCCESS,
         Err(fault) => tell(&rt, fault),
     }

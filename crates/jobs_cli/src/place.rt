@@ -4,12 +4,12 @@ ghost use Rattle.jobs_csv.specs.Fault.{IsFailure, is_refusal};
 ghost use Rattle.jobs_csv.specs.Place.{Fits};
 ghost use Rattle.jobs_csv.specs.declared.place_rows.PlaceRow.{PlaceRow as Row};
 ghost use Rattle.std.specs.Io.KnownBytes.{Appends};
-ghost use Rattle.jobs_cli.specs.InTurn.{InTurn};
-ghost use Rattle.jobs_cli.specs.Place.{IsAnswer, IsPlaced, Table, nobody, place_text};
+ghost use Rattle.jobs_cli.specs.Trace.{IsTrace};
+ghost use Rattle.jobs_cli.specs.Place.{IsAnswer, IsPlaced, NamedHoldings, empty_table, place_text};
 
 use crate::stations::Stations;
 use cube_shape::MAX_DIM;
-use jobs_csv::{Command, Device, Fault, Lines, What};
+use jobs_csv::{Command, Device, Fault, LineBuffer, FaultKind};
 use std::alloc::Global;
 use std::io::{Read, Write};
 
@@ -22,15 +22,15 @@ fn answer_all<W: Write + Device>(
 ) -> Result<(), Fault>
     requires limit { n ≤ MAX_DIM }
     requires fits { All (λ command. Fits n command) commands.items }
-    ensures placed { OnOk result ((rows : List Row) × (last : Table) × InTurn (IsPlaced n) commands.items nobody last rows × Appends (W.contents writer.old) (W.contents writer.new) (place_text rows)) }
-    ensures failed { IfErr result (λ fault. IsFailure What.Write (W.failures writer.old) (W.failures writer.new) fault) }
+    ensures placed { OnOk result ((rows : List Row) × (last : NamedHoldings) × IsTrace (IsPlaced n) commands.items empty_table last rows × Appends (W.contents writer.old) (W.contents writer.new) (place_text rows)) }
+    ensures failed { IfErr result (λ fault. IsFailure FaultKind.Write (W.failures writer.old) (W.failures writer.new) fault) }
 {
     let before = writer.failures();
     let mut stations = Stations::new(alloc, n)?;
-    let mut lines = Lines::new(alloc)?.with_place_header()?;
+    let mut lines = LineBuffer::new(alloc)?.push_place_header()?;
     for command in commands {
         let row = stations.answer(command);
-        lines = lines.with_place_row(&row)?.send_many(before, writer)?;
+        lines = lines.push_place_row(&row)?.flush_if_full(before, writer)?;
     }
     lines.finish(before, writer)
 }
@@ -53,8 +53,8 @@ pub fn place_on<R: Read + Device, W: Write + Device>(
 ) -> Result<(), Fault>
     requires { n ≤ MAX_DIM }
     ensures answered { IfSome (R.remaining reader.old) (λ bytes. IsAnswer n bytes (W.contents writer.old) (W.contents writer.new) result) }
-    ensures failed { IfErr result (λ fault. (is_refusal fault.what ≡ true) ⊎ IsFailure What.Read (R.failures reader.old) (R.failures reader.new) fault ⊎ IsFailure What.Write (W.failures writer.old) (W.failures writer.new) fault) }
-    ensures untouched { IfErr result (λ fault. (is_refusal fault.what ≡ true) ⊎ (fault.what ≡ What.Read) → writer.new ≡ writer.old) }
+    ensures failed { IfErr result (λ fault. (is_refusal fault.what ≡ true) ⊎ IsFailure FaultKind.Read (R.failures reader.old) (R.failures reader.new) fault ⊎ IsFailure FaultKind.Write (W.failures writer.old) (W.failures writer.new) fault) }
+    ensures untouched { IfErr result (λ fault. (is_refusal fault.what ≡ true) ⊎ (fault.what ≡ FaultKind.Read) → writer.new ≡ writer.old) }
 {
     let commands = jobs_csv::read_place(alloc, n, reader)?;
     answer_all(alloc, n, commands, writer)

@@ -2,28 +2,28 @@
 ghost use Rattle.std.specs.Prelude.{◌≡◌, ◌≤◌, ◌++◌, ◌⊎◌, true, IfErr, IfOk, IfSome, List, OnOk};
 ghost use Rattle.std.specs.Io.KnownBytes.{Appends};
 ghost use Rattle.std.specs.List.{flat_map};
-ghost use Rattle.cube_core.specs.Schedule.{State, opened};
+ghost use Rattle.cube_core.specs.Schedule.{State, initial};
 ghost use Rattle.jobs_csv.specs.Fault.{IsFailure, is_refusal};
 ghost use Rattle.jobs_csv.specs.ReplayRows.{replay_fields};
 ghost use Rattle.jobs_csv.specs.Text.{line_of};
 ghost use Rattle.jobs_csv.specs.declared.replay_rows.ReplayRow.{ReplayRow as Row};
-ghost use Rattle.jobs_cli.specs.InTurn.{InTurn};
-ghost use Rattle.jobs_cli.specs.Replay.{IsAnswer, IsPlayed, end_rows, replay_text};
+ghost use Rattle.jobs_cli.specs.Trace.{IsTrace};
+ghost use Rattle.jobs_cli.specs.Replay.{IsAnswer, IsPlayed, final_rows, replay_text};
 
 use crate::play;
 use cube_core::World;
 use cube_shape::{MAX_DIM, MAX_STATIONS};
-use jobs_csv::{Device, Fault, Line, Lines, ReplayRow, What};
+use jobs_csv::{Device, Fault, Line, LineBuffer, ReplayRow, FaultKind};
 use std::alloc::{AllocError, Global};
 use std::io::{Read, Write};
 
 // Gathers the lines of more rows.
-fn with_rows(lines: Lines, rows: Vec<ReplayRow>) -> Result<Lines, AllocError>
+fn with_rows(lines: LineBuffer, rows: Vec<ReplayRow>) -> Result<LineBuffer, AllocError>
     ensures { IfOk result (λ more. more ≡ lines ++ flat_map (λ row. line_of (replay_fields row)) rows.items) }
 {
     let mut lines = lines;
     for row in rows {
-        lines = lines.with_replay_row(&row)?;
+        lines = lines.push_replay_row(&row)?;
     }
     Ok(lines)
 }
@@ -39,17 +39,17 @@ fn play_all<W: Write + Device>(
 ) -> Result<(), Fault>
     requires dim { n ≤ MAX_DIM }
     requires stations { stations ≤ MAX_STATIONS }
-    ensures played { OnOk result ((last : State) × (rows : List Row) × InTurn IsPlayed schedule.items (opened n stations) last rows × Appends (W.contents writer.old) (W.contents writer.new) (replay_text (rows ++ end_rows last))) }
-    ensures failed { IfErr result (λ fault. IsFailure What.Write (W.failures writer.old) (W.failures writer.new) fault) }
+    ensures played { OnOk result ((last : State) × (rows : List Row) × IsTrace IsPlayed schedule.items (initial n stations) last rows × Appends (W.contents writer.old) (W.contents writer.new) (replay_text (rows ++ final_rows last))) }
+    ensures failed { IfErr result (λ fault. IsFailure FaultKind.Write (W.failures writer.old) (W.failures writer.new) fault) }
 {
     let before = writer.failures();
     let mut world = World::new(alloc, n, stations)?;
-    let mut lines = Lines::new(alloc)?.with_replay_header()?;
+    let mut lines = LineBuffer::new(alloc)?.push_replay_header()?;
     for line in schedule {
         let rows = play::play(alloc, stations, &mut world, line)?;
-        lines = with_rows(lines, rows)?.send_many(before, writer)?;
+        lines = with_rows(lines, rows)?.flush_if_full(before, writer)?;
     }
-    let rows = play::ends(alloc, n, &world)?;
+    let rows = play::final_rows(alloc, n, &world)?;
     with_rows(lines, rows)?.finish(before, writer)
 }
 
@@ -70,8 +70,8 @@ pub fn replay_on<R: Read + Device, W: Write + Device>(
     requires dim { n ≤ MAX_DIM }
     requires stations { stations ≤ MAX_STATIONS }
     ensures answered { IfSome (R.remaining reader.old) (λ bytes. IsAnswer n stations bytes (W.contents writer.old) (W.contents writer.new) result) }
-    ensures failed { IfErr result (λ fault. (is_refusal fault.what ≡ true) ⊎ IsFailure What.Read (R.failures reader.old) (R.failures reader.new) fault ⊎ IsFailure What.Write (W.failures writer.old) (W.failures writer.new) fault) }
-    ensures untouched { IfErr result (λ fault. (is_refusal fault.what ≡ true) ⊎ (fault.what ≡ What.Read) → writer.new ≡ writer.old) }
+    ensures failed { IfErr result (λ fault. (is_refusal fault.what ≡ true) ⊎ IsFailure FaultKind.Read (R.failures reader.old) (R.failures reader.new) fault ⊎ IsFailure FaultKind.Write (W.failures writer.old) (W.failures writer.new) fault) }
+    ensures untouched { IfErr result (λ fault. (is_refusal fault.what ≡ true) ⊎ (fault.what ≡ FaultKind.Read) → writer.new ≡ writer.old) }
 {
     let schedule = jobs_csv::read_schedule(alloc, reader)?;
     play_all(alloc, n, stations, schedule, writer)

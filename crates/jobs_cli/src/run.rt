@@ -5,7 +5,7 @@ ghost use Rattle.jobs_cli.specs.Run.{IsAnswer};
 
 use crate::answers;
 use cube_shape::MAX_DIM;
-use jobs_csv::{Device, Fault, What};
+use jobs_csv::{Device, Fault, FaultKind};
 use std::alloc::Global;
 use std::io::{Read, Write};
 
@@ -23,8 +23,8 @@ pub fn run_on<R: Read + Device, W: Write + Device>(
 ) -> Result<(), Fault>
     requires { n ≤ MAX_DIM }
     ensures answered { IfSome (R.remaining reader.old) (λ bytes. IsAnswer n bytes (W.contents writer.old) (W.contents writer.new) result) }
-    ensures failed { IfErr result (λ fault. (is_refusal fault.what ≡ true) ⊎ IsFailure What.Read (R.failures reader.old) (R.failures reader.new) fault ⊎ IsFailure What.Write (W.failures writer.old) (W.failures writer.new) fault) }
-    ensures untouched { IfErr result (λ fault. (is_refusal fault.what ≡ true) ⊎ (fault.what ≡ What.Read) → writer.new ≡ writer.old) }
+    ensures failed { IfErr result (λ fault. (is_refusal fault.what ≡ true) ⊎ IsFailure FaultKind.Read (R.failures reader.old) (R.failures reader.new) fault ⊎ IsFailure FaultKind.Write (W.failures writer.old) (W.failures writer.new) fault) }
+    ensures untouched { IfErr result (λ fault. (is_refusal fault.what ≡ true) ⊎ (fault.what ≡ FaultKind.Read) → writer.new ≡ writer.old) }
 {
     let lanes = jobs_csv::read_lanes(alloc, n, reader)?;
     answers::answer_all(alloc, n, lanes, writer)

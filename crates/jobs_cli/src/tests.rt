@@ -1,10 +1,10 @@
 // Whole runs: the bytes that go in, and the bytes that come out.
-use crate::command_line::{Asked, asked_for};
+use crate::command_line::{Invocation, parse_args};
 use crate::run::run_on;
 use clap::error::ErrorKind;
 use cube_shape::{MAX_DIM, MAX_STATIONS};
 use job_types::JobRefused;
-use jobs_csv::{Counted, Device, Fault, What};
+use jobs_csv::{Counted, Device, Fault, FaultKind};
 use std::alloc::Global;
 use std::io;
 use std::io::{Read, Write};
@@ -64,7 +64,7 @@ fn expect_refusal(
     n: u32,
     input: &[u8],
     row: u64,
-    what: What,
+    what: FaultKind,
 ) -> Result<(), Fail> {
     let ran = run_bytes(rt, n, input)?;
     assert!(rt;
@@ -144,23 +144,23 @@ fn counts_each_lane(rt: HostRuntime) -> Result<(), Fail> {
 // One file for each fault that an input can have.
 #[test]
 fn refuses_files(rt: HostRuntime) -> Result<(), Fail> {
-    expect_refusal(&rt, 3, b"", 0, What::Fields)?;
-    expect_refusal(&rt, 3, b"lane,kind,op,root,item\n", 0, What::Word)?;
-    let records: [(&[u8], What); 8] = [
-        (b"0,scan,add,0\n", What::Fields),
-        (b"16,scan,add,0,4\n", What::Number),
-        (b"0,gather,add,0,4\n", What::Word),
-        (b"0,scan,add,0,\n", What::Job(JobRefused::Empty)),
+    expect_refusal(&rt, 3, b"", 0, FaultKind::Fields)?;
+    expect_refusal(&rt, 3, b"lane,kind,op,root,item\n", 0, FaultKind::Word)?;
+    let records: [(&[u8], FaultKind); 8] = [
+        (b"0,scan,add,0\n", FaultKind::Fields),
+        (b"16,scan,add,0,4\n", FaultKind::Number),
+        (b"0,gather,add,0,4\n", FaultKind::Word),
+        (b"0,scan,add,0,\n", FaultKind::Job(JobRefused::Empty)),
         (
             b"0,scan,add,0,1 2 3\n",
-            What::Job(JobRefused::NotPowerOfTwo),
+            FaultKind::Job(JobRefused::NotPowerOfTwo),
         ),
         (
             b"0,reduce,add,99,1 1 1 1 1 1 1 1 1 1 1 1 1 1 1 1\n",
-            What::Job(JobRefused::TooLarge),
+            FaultKind::Job(JobRefused::TooLarge),
         ),
-        (b"0,broadcast,-,2,4 9\n", What::Job(JobRefused::BadRoot)),
-        (b"0,scan,add,0,1 2 \n", What::Number),
+        (b"0,broadcast,-,2,4 9\n", FaultKind::Job(JobRefused::BadRoot)),
+        (b"0,scan,add,0,1 2 \n", FaultKind::Number),
     ];
     let head = joined(rt.alloc(), JOBS, b"0,scan,add,0,1 2\n".as_slice())?;
     for (record, what) in records.as_slice() {
@@ -177,7 +177,7 @@ fn refuses_too_many(rt: HostRuntime) -> Result<(), Fail> {
         input.extend_from_slice(b"3,allreduce,add,0,1\n".as_slice())?;
     }
     input.extend_from_slice(b"x\n".as_slice())?;
-    expect_refusal(&rt, 0, &input, 1_000_001, What::TooMany)
+    expect_refusal(&rt, 0, &input, 1_000_001, FaultKind::TooMany)
 }
 
 // A device that moves at most seven bytes a call, and fails at one call.
@@ -239,10 +239,10 @@ impl<D: Write> Write for FailsAt<D> {
 const GOOD: &[u8] = b"lane,kind,op,root,items\n1,allreduce,add,0,5 6\n0,allreduce,add,0,7\n";
 
 #[test]
-fn tells_a_failed_read(rt: HostRuntime) -> Result<(), Fail> {
+fn reports_a_failed_read(rt: HostRuntime) -> Result<(), Fail> {
     let wanted = Fault {
         row: 0,
-        what: What::Read,
+        what: FaultKind::Read,
     };
     for calls in 0..1000 {
         let device = FailsAt {
@@ -273,7 +273,7 @@ fn fails_to_write(
 ) -> Result<bool, Fail> {
     let wanted = Fault {
         row: 0,
-        what: What::Write,
+        what: FaultKind::Write,
     };
     let mut reader = Counted::new(GOOD);
     let device = FailsAt {
@@ -293,7 +293,7 @@ fn fails_to_write(
 
 // The replies take thirteen writes, and then comes a flush.
 #[test]
-fn tells_a_failed_write(rt: HostRuntime) -> Result<(), Fail> {
+fn reports_a_failed_write(rt: HostRuntime) -> Result<(), Fail> {
     for gives_zero in [false, true] {
         for calls in 0..13 {
             assert!(rt; fails_to_write(&rt, calls, gives_zero)?, "at call {calls}");
@@ -331,7 +331,7 @@ fn writes_long_files(rt: HostRuntime) -> Result<(), Fail> {
     };
     let mut writer = Counted::new(device);
     let answer = run_on(rt.alloc(), 0, &mut reader, &mut writer);
-    let what = What::Write;
+    let what = FaultKind::Write;
     assert!(rt; answer == Err(Fault { row: 0, what }));
     let written = &writer.get_ref().device;
     assert!(rt; written.len() > 139_900 && written.len() <= 140_000);
@@ -340,13 +340,13 @@ fn writes_long_files(rt: HostRuntime) -> Result<(), Fail> {
 }
 
 // What these words ask for, or why they ask for nothing.
-fn ask(rt: &(impl AllocGlobal + Abort), words: &[&str]) -> Result<Result<Asked, ErrorKind>, Fail> {
+fn ask(rt: &(impl AllocGlobal + Abort), words: &[&str]) -> Result<Result<Invocation, ErrorKind>, Fail> {
     let mut all = Vec::new(rt.alloc());
     for word in words {
         all.push(word.to_string(rt.alloc())?)?;
     }
-    let answer = match asked_for(rt.alloc(), &all) {
-        Ok(asked) => Ok(asked),
+    let answer = match parse_args(rt.alloc(), &all) {
+        Ok(invocation) => Ok(invocation),
         Err(error) => Err(error.kind()),
     };
     Ok(answer)
@@ -355,9 +355,9 @@ fn ask(rt: &(impl AllocGlobal + Abort), words: &[&str]) -> Result<Result<Asked, 
 #[test]
 fn reads_command_lines(rt: HostRuntime) -> Result<(), Fail> {
     let run = ["cubejobs", "run", "--dim", "0"];
-    assert!(rt; ask(&rt, run.as_slice())? == Ok(Asked::Run { n: 0 }));
+    assert!(rt; ask(&rt, run.as_slice())? == Ok(Invocation::Run { n: 0 }));
     let run = ["cubejobs", "run", "--dim=10"];
-    assert!(rt; ask(&rt, run.as_slice())? == Ok(Asked::Run { n: 10 }));
+    assert!(rt; ask(&rt, run.as_slice())? == Ok(Invocation::Run { n: 10 }));
     let run = ["cubejobs", "run", "--dim", "11"];
     assert!(rt; ask(&rt, run.as_slice())? == Err(ErrorKind::ValueValidation));
     let run = ["cubejobs", "run"];
@@ -374,11 +374,11 @@ fn reads_command_lines(rt: HostRuntime) -> Result<(), Fail> {
 #[test]
 fn reads_commands_of_regions(rt: HostRuntime) -> Result<(), Fail> {
     let place = ["cubejobs", "place", "--dim", "3"];
-    assert!(rt; ask(&rt, place.as_slice())? == Ok(Asked::Place { n: 3 }));
+    assert!(rt; ask(&rt, place.as_slice())? == Ok(Invocation::Place { n: 3 }));
     let place = ["cubejobs", "place", "--dim", "3", "--stations", "1"];
     assert!(rt; ask(&rt, place.as_slice())? == Err(ErrorKind::UnknownArgument));
     let replay = ["cubejobs", "replay", "--dim", "2", "--stations", "32"];
-    let wanted = Asked::Replay { n: 2, stations: 32 };
+    let wanted = Invocation::Replay { n: 2, stations: 32 };
     assert!(rt; ask(&rt, replay.as_slice())? == Ok(wanted));
     let replay = ["cubejobs", "replay", "--dim", "2", "--stations", "33"];
     assert!(rt; ask(&rt, replay.as_slice())? == Err(ErrorKind::ValueValidation));
@@ -400,7 +400,7 @@ fn help_names_the_limit(rt: HostRuntime) -> Result<(), Fail> {
     for word in ["cubejobs", "place", "--help"].as_slice() {
         words.push(word.to_string(rt.alloc())?)?;
     }
-    match asked_for(rt.alloc(), &words) {
+    match parse_args(rt.alloc(), &words) {
         Ok(_) => assert!(rt; false, "no help"),
         Err(error) => {
             let help = error.to_string(rt.alloc())?;

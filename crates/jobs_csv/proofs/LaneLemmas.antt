@@ -3,7 +3,7 @@ use Rattle.std.proofs.Common.{◌≡◌, ℕ, ◌+◌, ◌==◌, List, [], ◌�
 use Rattle.std.proofs.lemmas.List.{length_push}
 use Rattle.std.proofs.lemmas.List.Elements.{All-filter, All-push}
 use Rattle.job_types.specs.Job.{JobData}
-use Rattle.job_types.specs.declared.job.TheConstants.{MAX_LANES}
+use Rattle.job_types.specs.declared.request.TheConstants.{MAX_LANES}
 use Rattle.jobs_csv.specs.Lanes.{AreLanes}
 
 -- what holds of all jobs holds of those of each lane

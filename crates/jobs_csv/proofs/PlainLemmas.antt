@@ -19,7 +19,7 @@ use Rattle.cube_core.specs.declared.event.Note.TheVariants as note
 use Rattle.job_types.specs.declared.kind.Kind.{Kind as Collective}
 use Rattle.job_types.specs.declared.kind.Kind.TheVariants as collective
 use Rattle.status_word.specs.Text.{mark_text, text_if, use_text, word_text}
-use Rattle.status_word.specs.Word.{mark_place, use_of}
+use Rattle.status_word.specs.Word.{mark_bit, use_of}
 use Rattle.jobs_csv.specs.declared.place_rows.PlaceRow.{PlaceRow}
 use Rattle.jobs_csv.specs.declared.place_rows.PlaceRow.TheVariants as row
 use Rattle.jobs_csv.specs.Name.{is_name, is_name_byte}
@@ -188,7 +188,7 @@ plain_use w =
     either_plain (use_of w == 0) (codes "-") (o ++ l ++ r) plain_dash (all_both (o ++ l) r (all_both o l po pl) pr)
 
 plain_mark : (w station : ℕ) → station < 2 ^ 64 → IsPlainField (mark_text w station)
-plain_mark w station lt = plain_if w (mark_place station) (codes "+" ++ decimal station) (all_both (codes "+") (decimal station) (plain_text (codes "+") refl) (plain_decimal station lt))
+plain_mark w station lt = plain_if w (mark_bit station) (codes "+" ++ decimal station) (all_both (codes "+") (decimal station) (plain_text (codes "+") refl) (plain_decimal station lt))
 
 plain_marks : (w from n : ℕ) → from + n ≤ 2 ^ 64 → IsPlainField (flat_map (mark_text w) (range_with_len from n))
 plain_marks w from zero le = plain_nothing

@@ -34,7 +34,7 @@ place_by_columns (row.NothingHeld name) = refl
 -- the columns of the line of a schedule
 pub replay_by_columns : (r : ReplayRow) → replay_fields r ≡ number_text (station_in r) ∷ event_text r ∷ number_text (node_in r) ∷ word_in r ∷ end_text r ∷ []
 replay_by_columns (line.Made event) = refl
-replay_by_columns (line.Refused station asked why) = refl
+replay_by_columns (line.Refused station node why) = refl
 replay_by_columns (line.Word node word) = refl
 replay_by_columns (line.End count) = refl
 

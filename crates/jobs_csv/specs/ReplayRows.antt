@@ -59,37 +59,37 @@ replay_columns = codes "station" ∷ codes "event" ∷ codes "node" ∷ codes "w
 -- the fields of a line
 abbrev pub replay_fields : ReplayRow → List (List ℕ)
 replay_fields (row.Made event) = decimal event.station ∷ kind_text event.kind ∷ decimal event.node ∷ shown event.node event.word ∷ note_text event.note ∷ []
-replay_fields (row.Refused station asked why) = decimal station ∷ codes "refused" ∷ number_text asked ∷ codes "-" ∷ why_text why ∷ []
+replay_fields (row.Refused station node why) = decimal station ∷ codes "refused" ∷ number_text node ∷ codes "-" ∷ why_text why ∷ []
 replay_fields (row.Word node word) = codes "-" ∷ codes "end" ∷ decimal node ∷ shown node word ∷ codes "-" ∷ []
 replay_fields (row.End count) = codes "-" ∷ codes "end" ∷ codes "-" ∷ codes "-" ∷ decimal count ∷ []
 
 -- the columns of a line
 abbrev pub station_in : ReplayRow → Option ℕ
 station_in (row.Made event) = Some event.station
-station_in (row.Refused station asked why) = Some station
+station_in (row.Refused station node why) = Some station
 station_in (row.Word node word) = None
 station_in (row.End count) = None
 
 abbrev pub event_text : ReplayRow → List ℕ
 event_text (row.Made event) = kind_text event.kind
-event_text (row.Refused station asked why) = codes "refused"
+event_text (row.Refused station node why) = codes "refused"
 event_text (row.Word node word) = codes "end"
 event_text (row.End count) = codes "end"
 
 abbrev pub node_in : ReplayRow → Option ℕ
 node_in (row.Made event) = Some event.node
-node_in (row.Refused station asked why) = asked
+node_in (row.Refused station node why) = node
 node_in (row.Word node word) = Some node
 node_in (row.End count) = None
 
 abbrev pub word_in : ReplayRow → List ℕ
 word_in (row.Made event) = shown event.node event.word
-word_in (row.Refused station asked why) = codes "-"
+word_in (row.Refused station node why) = codes "-"
 word_in (row.Word node word) = shown node word
 word_in (row.End count) = codes "-"
 
 abbrev pub end_text : ReplayRow → List ℕ
 end_text (row.Made event) = note_text event.note
-end_text (row.Refused station asked why) = why_text why
+end_text (row.Refused station node why) = why_text why
 end_text (row.Word node word) = codes "-"
 end_text (row.End count) = decimal count

@@ -8,7 +8,7 @@ use thiserror::Error;
 
 /// What is wrong.
 #[derive(Clone, Copy, Debug, PartialEq, Eq, Error)]
-pub enum What {
+pub enum FaultKind {
     /// A record has too few or too many fields, or there is no header.
     #[error("Fields")]
     Fields,
@@ -46,17 +46,17 @@ pub struct Fault {
     /// It is 0 for a fault of a device or of memory, and for a lane that is spent.
     pub row: u64,
     /// What is wrong.
-    pub what: What,
+    pub what: FaultKind,
 }
 
-impl What {
+impl FaultKind {
     /// Whether it is the input that is at fault, and not a device, memory or a spent lane.
     pub fn is_refusal(&self) -> bool
         ensures { result ≡ is_refusal self.now }
     {
         match *self {
-            What::Fields | What::Number | What::Word | What::Job(_) | What::TooMany => true,
-            What::Read | What::Write | What::OutOfMemory | What::Spent => false,
+            FaultKind::Fields | FaultKind::Number | FaultKind::Word | FaultKind::Job(_) | FaultKind::TooMany => true,
+            FaultKind::Read | FaultKind::Write | FaultKind::OutOfMemory | FaultKind::Spent => false,
         }
     }
 
@@ -73,25 +73,25 @@ impl What {
 impl Fault {
     /// There was no memory.
     pub fn no_memory() -> Self
-        ensures { result ≡ record { row = 0; what = What.OutOfMemory } }
+        ensures { result ≡ record { row = 0; what = FaultKind.OutOfMemory } }
     {
         Fault {
             row: 0,
-            what: What::OutOfMemory,
+            what: FaultKind::OutOfMemory,
         }
     }
 
     /// The fault of a call that failed: the device's, where its count of failures tells so, and
     /// want of memory otherwise. The counts are those before the call and after it.
-    pub fn blamed(device: What, before: u64, after: u64) -> Self
+    pub fn attribute(device: FaultKind, before: u64, after: u64) -> Self
         ensures failure { IsFailure device before after result }
-        ensures told { HasFailed before after → result.what ≡ device }
+        ensures device { HasFailed before after → result.what ≡ device }
     {
         let has_failed = before < after || before == u64::MAX;
         let what = if has_failed {
             device
         } else {
-            What::OutOfMemory
+            FaultKind::OutOfMemory
         };
         Fault { row: 0, what }
     }
@@ -105,9 +105,9 @@ impl Fault {
 }
 
 impl From<AllocError> for Fault {
-    ghost use Rattle.jobs_csv.specs.declared.fault.What.{What};
+    ghost use Rattle.jobs_csv.specs.declared.fault.FaultKind.{FaultKind};
 
-    ghost from_gives = { λ _ fault. fault ≡ record { row = 0; what = What.OutOfMemory } };
+    ghost from_gives = { λ _ fault. fault ≡ record { row = 0; what = FaultKind.OutOfMemory } };
 
     fn from(_error: AllocError) -> Fault {
         Fault::no_memory()

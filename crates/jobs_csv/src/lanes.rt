@@ -2,7 +2,7 @@
 ghost use Rattle.std.specs.Prelude.{[], IfOk};
 ghost use Rattle.jobs_csv.specs.Lanes.{AreLanes};
 
-use crate::format::Gather;
+use crate::format::RowSink;
 use job_types::{Job, MAX_LANES};
 use std::alloc::{AllocError, Global};
 
@@ -25,12 +25,12 @@ impl Lanes {
     }
 }
 
-impl Gather<Job> for Lanes {
+impl RowSink<Job> for Lanes {
     ghost use Rattle.jobs_csv.specs.Lanes.{AreLanes};
 
-    ghost holds = { λ lanes jobs. AreLanes lanes.jobs.items jobs };
+    ghost contents = { λ lanes jobs. AreLanes lanes.jobs.items jobs };
 
-    fn gather(&mut self, job: Job) -> Result<(), AllocError> {
+    fn push(&mut self, job: Job) -> Result<(), AllocError> {
         let lane = job.lane() as usize;
         self.jobs[lane].push(job)?;
         Ok(())

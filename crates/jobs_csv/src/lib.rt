@@ -27,16 +27,16 @@ mod replies;
 mod schedule;
 
 pub use device::{Counted, Device};
-pub use fault::{Fault, What};
+pub use fault::{Fault, FaultKind};
 pub use input::MAX_RECORDS;
 pub use jobs::{read_jobs, read_lanes};
-pub use lines::Lines;
+pub use lines::LineBuffer;
 pub use name::Name;
 pub use place::{Command, read_place};
 pub use place_rows::PlaceRow;
 pub use replay_rows::ReplayRow;
 pub use replies::write_replies;
-pub use schedule::{Line, MAX_TIMES, read_schedule};
+pub use schedule::{Line, MAX_STEPS, read_schedule};
 
 #[cfg(test)]
 mod tests;

@@ -8,7 +8,7 @@ ghost use Rattle.jobs_csv.specs.Replies.{reply_columns, reply_fields};
 ghost use Rattle.jobs_csv.specs.Text.{line_of};
 
 use crate::device::Device;
-use crate::fault::{Fault, What};
+use crate::fault::{Fault, FaultKind};
 use crate::place_rows::{self, PlaceRow};
 use crate::replay_rows::{self, ReplayRow};
 use crate::replies;
@@ -26,14 +26,14 @@ const BATCH: usize = 65_536;
 /// A contract sees the text that is gathered and not sent yet. A call that fails for memory takes
 /// the lines with it.
 #[derive(Drop)]
-pub struct Lines {
+pub struct LineBuffer {
     // `Writer` is a large struct, and lines are passed by value.
     writer: Box<Writer<Vec<u8>>>,
     field: String,
     alloc: Global,
 }
 
-impl Model for Lines {
+impl Model for LineBuffer {
     ghost use Rattle.std.specs.Prelude.{List, ℕ};
     ghost use Rattle.jobs_csv.specs.Output.{HasText, gathered, items_held};
 
@@ -45,33 +45,33 @@ impl Model for Lines {
 }
 
 // Sends all of a text to a writer that had so many failures before.
-fn send<W: Write + Device>(text: &[u8], before: u64, writer: &mut W) -> Result<(), Fault>
+fn write_out<W: Write + Device>(text: &[u8], before: u64, writer: &mut W) -> Result<(), Fault>
     ensures sent { OnOk result (Appends (W.contents writer.old) (W.contents writer.new) text.now) }
-    ensures failed { IfErr result (λ fault. IsFailure What.Write before (W.failures writer.new) fault) }
+    ensures failed { IfErr result (λ fault. IsFailure FaultKind.Write before (W.failures writer.new) fault) }
 {
     if writer.write_all(text).is_err() {
-        return Err(Fault::blamed(What::Write, before, writer.failures()));
+        return Err(Fault::attribute(FaultKind::Write, before, writer.failures()));
     }
     Ok(())
 }
 
 // Sees to it that what was sent goes out.
-fn flush<W: Write + Device>(before: u64, writer: &mut W) -> Result<(), Fault>
+fn flush_writer<W: Write + Device>(before: u64, writer: &mut W) -> Result<(), Fault>
     ensures kept { OnOk result (Keeps (W.contents writer.old) (W.contents writer.new)) }
-    ensures failed { IfErr result (λ fault. IsFailure What.Write before (W.failures writer.new) fault) }
+    ensures failed { IfErr result (λ fault. IsFailure FaultKind.Write before (W.failures writer.new) fault) }
 {
     if writer.flush().is_err() {
-        return Err(Fault::blamed(What::Write, before, writer.failures()));
+        return Err(Fault::attribute(FaultKind::Write, before, writer.failures()));
     }
     Ok(())
 }
 
-impl Lines {
+impl LineBuffer {
     /// No line is gathered yet.
     pub fn new(alloc: Global) -> Result<Self, AllocError>
         ensures { IfOk result (λ lines. lines ≡ []) }
     {
-        Ok(Lines {
+        Ok(LineBuffer {
             writer: Box::new(alloc, Writer::from_writer(Vec::new(alloc)))?,
             field: String::new(alloc),
             alloc,
@@ -79,7 +79,7 @@ impl Lines {
     }
 
     /// Gathers the header of the replies.
-    pub fn with_reply_header(mut self) -> Result<Self, AllocError>
+    pub fn push_reply_header(mut self) -> Result<Self, AllocError>
         ensures { IfOk result (λ lines. lines ≡ self ++ line_of reply_columns) }
     {
         replies::write_header(&mut self.writer)?;
@@ -87,7 +87,7 @@ impl Lines {
     }
 
     /// Gathers a reply.
-    pub fn with_reply(mut self, reply: &Reply) -> Result<Self, AllocError>
+    pub fn push_reply(mut self, reply: &Reply) -> Result<Self, AllocError>
         ensures { IfOk result (λ lines. lines ≡ self ++ line_of (reply_fields reply.now.id reply.now.job)) }
     {
         replies::write_reply(reply, &mut self.field, &mut self.writer)?;
@@ -102,15 +102,15 @@ impl Lines {
         writer: &mut W,
     ) -> Result<Self, Fault>
         ensures sent { IfOk result (λ lines. (out : List ℕ) × Appends (W.contents writer.old) (W.contents writer.new) out × (out ++ lines ≡ self ++ line_of (reply_fields reply.id reply.job))) }
-        ensures failed { IfErr result (λ fault. IsFailure What.Write before (W.failures writer.new) fault) }
+        ensures failed { IfErr result (λ fault. IsFailure FaultKind.Write before (W.failures writer.new) fault) }
     {
-        let lines = self.with_reply(&reply)?;
-        let lines = lines.send_many(before, writer)?;
+        let lines = self.push_reply(&reply)?;
+        let lines = lines.flush_if_full(before, writer)?;
         Ok(lines)
     }
 
     /// Gathers the header of the answers to commands.
-    pub fn with_place_header(mut self) -> Result<Self, AllocError>
+    pub fn push_place_header(mut self) -> Result<Self, AllocError>
         ensures { IfOk result (λ lines. lines ≡ self ++ line_of place_columns) }
     {
         place_rows::write_header(&mut self.writer)?;
@@ -118,7 +118,7 @@ impl Lines {
     }
 
     /// Gathers the answer to a command.
-    pub fn with_place_row(mut self, row: &PlaceRow) -> Result<Self, AllocError>
+    pub fn push_place_row(mut self, row: &PlaceRow) -> Result<Self, AllocError>
         ensures { IfOk result (λ lines. lines ≡ self ++ line_of (place_fields row.now)) }
     {
         place_rows::write_row(row, &mut self.field, &mut self.writer)?;
@@ -126,7 +126,7 @@ impl Lines {
     }
 
     /// Gathers the header of what a schedule leads to.
-    pub fn with_replay_header(mut self) -> Result<Self, AllocError>
+    pub fn push_replay_header(mut self) -> Result<Self, AllocError>
         ensures { IfOk result (λ lines. lines ≡ self ++ line_of replay_columns) }
     {
         replay_rows::write_header(&mut self.writer)?;
@@ -134,7 +134,7 @@ impl Lines {
     }
 
     /// Gathers what a schedule led to.
-    pub fn with_replay_row(mut self, row: &ReplayRow) -> Result<Self, AllocError>
+    pub fn push_replay_row(mut self, row: &ReplayRow) -> Result<Self, AllocError>
         ensures { IfOk result (λ lines. lines ≡ self ++ line_of (replay_fields row.now)) }
     {
         replay_rows::write_row(self.alloc, row, &mut self.field, &mut self.writer)?;
@@ -145,12 +145,12 @@ impl Lines {
     ///
     /// `Write` comes only where the writer's count of failed calls is above `before`, or `before`
     /// is `u64::MAX`; every other want is `OutOfMemory`.
-    pub fn send<W: Write + Device>(self, before: u64, writer: &mut W) -> Result<Self, Fault>
+    pub fn flush<W: Write + Device>(self, before: u64, writer: &mut W) -> Result<Self, Fault>
         ensures sent { OnOk result (Appends (W.contents writer.old) (W.contents writer.new) self) }
         ensures none { IfOk result (λ lines. lines ≡ []) }
-        ensures failed { IfErr result (λ fault. IsFailure What.Write before (W.failures writer.new) fault) }
+        ensures failed { IfErr result (λ fault. IsFailure FaultKind.Write before (W.failures writer.new) fault) }
     {
-        let Lines {
+        let LineBuffer {
             writer: gathered,
             field,
             alloc,
@@ -158,12 +158,12 @@ impl Lines {
         let Ok(mut text) = Box::into_inner(gathered).into_inner() else {
             return Err(Fault::no_memory());
         };
-        send(&text, before, writer)?;
+        write_out(&text, before, writer)?;
         text.clear();
         let Ok(writer) = Box::new(alloc, Writer::from_writer(text)) else {
             return Err(Fault::no_memory());
         };
-        Ok(Lines {
+        Ok(LineBuffer {
             writer,
             field,
             alloc,
@@ -171,12 +171,12 @@ impl Lines {
     }
 
     /// Sends the lines, as `send` does, if there are many of them.
-    pub fn send_many<W: Write + Device>(self, before: u64, writer: &mut W) -> Result<Self, Fault>
+    pub fn flush_if_full<W: Write + Device>(self, before: u64, writer: &mut W) -> Result<Self, Fault>
         ensures sent { IfOk result (λ lines. (out : List ℕ) × Appends (W.contents writer.old) (W.contents writer.new) out × (out ++ lines ≡ self)) }
-        ensures failed { IfErr result (λ fault. IsFailure What.Write before (W.failures writer.new) fault) }
+        ensures failed { IfErr result (λ fault. IsFailure FaultKind.Write before (W.failures writer.new) fault) }
     {
         if self.writer.get_ref().len() >= BATCH {
-            self.send(before, writer)
+            self.flush(before, writer)
         } else {
             Ok(self)
         }
@@ -185,9 +185,9 @@ impl Lines {
     /// Sends the last lines, as `send` does, and sees to it that all goes out.
     pub fn finish<W: Write + Device>(self, before: u64, writer: &mut W) -> Result<(), Fault>
         ensures sent { OnOk result (Appends (W.contents writer.old) (W.contents writer.new) self) }
-        ensures failed { IfErr result (λ fault. IsFailure What.Write before (W.failures writer.new) fault) }
+        ensures failed { IfErr result (λ fault. IsFailure FaultKind.Write before (W.failures writer.new) fault) }
     {
-        let _none = self.send(before, writer)?;
-        flush(before, writer)
+        let _none = self.flush(before, writer)?;
+        flush_writer(before, writer)
     }
 }

@@ -7,8 +7,8 @@ ghost use Rattle.jobs_csv.specs.Replies.{collective_text, places_text, replies_t
 ghost use Rattle.jobs_csv.specs.Text.{line_of, number_text};
 
 use crate::device::Device;
-use crate::fault::{Fault, What};
-use crate::lines::Lines;
+use crate::fault::{Fault, FaultKind};
+use crate::lines::LineBuffer;
 use crate::output;
 use csv::Writer;
 use job_types::{Kind, Reply};
@@ -105,10 +105,10 @@ pub fn write_replies<W: Write + Device>(
     writer: &mut W,
 ) -> Result<(), Fault>
     ensures sent { OnOk result (Appends (W.contents writer.old) (W.contents writer.new) (replies_text replies.items)) }
-    ensures failed { IfErr result (λ fault. IsFailure What.Write (W.failures writer.old) (W.failures writer.new) fault) }
+    ensures failed { IfErr result (λ fault. IsFailure FaultKind.Write (W.failures writer.old) (W.failures writer.new) fault) }
 {
     let before = writer.failures();
-    let mut lines = Lines::new(alloc)?.with_reply_header()?;
+    let mut lines = LineBuffer::new(alloc)?.push_reply_header()?;
     for reply in replies {
         lines = lines.add_reply(reply, before, writer)?;
     }

@@ -9,7 +9,7 @@ use Rattle.std.proofs.Math.Pow.{pow_mono}
 use Rattle.std.proofs.lemmas.Nat.Bits.{bit_at_and, bit_at_or, bit_at-pow_same, bit_at-pow_other, and_pow, same_from_bits_below, bit_at-zero, bit_at_ones}
 use Rattle.cube_shape.specs.declared.node.Side.{Side}
 use Rattle.cube_shape.specs.declared.node.Side.TheVariants.{Left, Right}
-use Rattle.status_word.specs.Word.{side_place, mark_place, IsSet, SameElsewhere, IsOccupied, HasSide, IsMarked, use_of, IsInUse, with_side, with_mark, cleared}
+use Rattle.status_word.specs.Word.{side_bit, mark_bit, IsSet, SameElsewhere, IsOccupied, HasSide, IsMarked, use_of, IsInUse, with_side, with_mark, cleared}
 
 -- a number below 2 that is not 1 is 0
 zero_or_one : (bit : ℕ) → bit < 2 → (bit ≡ 1 → ⊥) → bit ≡ 0
@@ -90,7 +90,7 @@ use_of-bits w place = (into, λ both. (IsSet-use_of w place both.1).1 both.0)
 
 pub use_of-unmarked : (w station : ℕ) → IsMarked station (use_of w) → ⊥
 use_of-unmarked w station marked =
-    low_has_no_mark 7 (mark_place station) (lit< tt) (omega arith) (IsSet-and_right w 7 (mark_place station) marked)
+    low_has_no_mark 7 (mark_bit station) (lit< tt) (omega arith) (IsSet-and_right w 7 (mark_bit station) marked)
 
 -- a word with one of these bits is in use
 used : (w place : ℕ) → place < 3 → IsSet w place → IsInUse w
@@ -150,30 +150,30 @@ not_in_power w power place other set = elim (IsSet-or_cases w (2 ^ power) place 
 ]
 
 pub with_side-has : (side : Side) (w : ℕ) → HasSide side (with_side side w)
-with_side-has side w = IsSet-or_right w (2 ^ side_place side) (side_place side) (bit_at-pow_same (side_place side))
+with_side-has side w = IsSet-or_right w (2 ^ side_bit side) (side_bit side) (bit_at-pow_same (side_bit side))
 
 pub with_side-keeps : (side : Side) (w place : ℕ) → IsSet w place → IsSet (with_side side w) place
-with_side-keeps side w place set = IsSet-or_left w (2 ^ side_place side) place set
+with_side-keeps side w place set = IsSet-or_left w (2 ^ side_bit side) place set
 
-pub with_side-same : (side : Side) (w : ℕ) → SameElsewhere (side_place side) w (with_side side w)
-with_side-same side w = or_power-same w (side_place side)
+pub with_side-same : (side : Side) (w : ℕ) → SameElsewhere (side_bit side) w (with_side side w)
+with_side-same side w = or_power-same w (side_bit side)
 
-pub with_side-others : (side : Side) (w place : ℕ) → place ≢ side_place side → IsSet (with_side side w) place → IsSet w place
-with_side-others side w place other set = not_in_power w (side_place side) place other set
+pub with_side-others : (side : Side) (w place : ℕ) → place ≢ side_bit side → IsSet (with_side side w) place → IsSet w place
+with_side-others side w place other set = not_in_power w (side_bit side) place other set
 
 -- ---- a mark more
 
 pub with_mark-has : (station w : ℕ) → IsMarked station (with_mark station w)
-with_mark-has station w = IsSet-or_right w (2 ^ mark_place station) (mark_place station) (bit_at-pow_same (mark_place station))
+with_mark-has station w = IsSet-or_right w (2 ^ mark_bit station) (mark_bit station) (bit_at-pow_same (mark_bit station))
 
 pub with_mark-keeps : (station w place : ℕ) → IsSet w place → IsSet (with_mark station w) place
-with_mark-keeps station w place set = IsSet-or_left w (2 ^ mark_place station) place set
+with_mark-keeps station w place set = IsSet-or_left w (2 ^ mark_bit station) place set
 
-pub with_mark-same : (station w : ℕ) → SameElsewhere (mark_place station) w (with_mark station w)
-with_mark-same station w = or_power-same w (mark_place station)
+pub with_mark-same : (station w : ℕ) → SameElsewhere (mark_bit station) w (with_mark station w)
+with_mark-same station w = or_power-same w (mark_bit station)
 
-pub with_mark-others : (station w place : ℕ) → place ≢ mark_place station → IsSet (with_mark station w) place → IsSet w place
-with_mark-others station w place other set = not_in_power w (mark_place station) place other set
+pub with_mark-others : (station w place : ℕ) → place ≢ mark_bit station → IsSet (with_mark station w) place → IsSet w place
+with_mark-others station w place other set = not_in_power w (mark_bit station) place other set
 
 -- ---- a word without its marks and without the sides whose child was seen free
 
@@ -210,7 +210,7 @@ cleared-right w true true = goes w 1 2 refl
 
 -- no mark stays
 pub cleared-unmarked : (w : ℕ) (left_free right_free : Bool) (station : ℕ) → IsMarked station (cleared w left_free right_free) → ⊥
-cleared-unmarked w false false station marked = low_has_no_mark 7 (mark_place station) (lit< tt) (omega arith) (IsSet-and_right w 7 (mark_place station) marked)
-cleared-unmarked w true false station marked = low_has_no_mark 5 (mark_place station) (lit< tt) (omega arith) (IsSet-and_right w 5 (mark_place station) marked)
-cleared-unmarked w false true station marked = low_has_no_mark 3 (mark_place station) (lit< tt) (omega arith) (IsSet-and_right w 3 (mark_place station) marked)
-cleared-unmarked w true true station marked = low_has_no_mark 1 (mark_place station) (lit< tt) (omega arith) (IsSet-and_right w 1 (mark_place station) marked)
+cleared-unmarked w false false station marked = low_has_no_mark 7 (mark_bit station) (lit< tt) (omega arith) (IsSet-and_right w 7 (mark_bit station) marked)
+cleared-unmarked w true false station marked = low_has_no_mark 5 (mark_bit station) (lit< tt) (omega arith) (IsSet-and_right w 5 (mark_bit station) marked)
+cleared-unmarked w false true station marked = low_has_no_mark 3 (mark_bit station) (lit< tt) (omega arith) (IsSet-and_right w 3 (mark_bit station) marked)
+cleared-unmarked w true true station marked = low_has_no_mark 1 (mark_bit station) (lit< tt) (omega arith) (IsSet-and_right w 1 (mark_bit station) marked)

@@ -4,11 +4,11 @@ use Rattle.std.specs.List.{flat_map, range_with_len}
 use Rattle.std.specs.Int.{bit_at}
 use Rattle.std.specs.Fmt.{decimal}
 use Rattle.cube_shape.specs.declared.limits.TheConstants.{MAX_STATIONS}
-use Rattle.status_word.specs.Word.{use_of, mark_place}
+use Rattle.status_word.specs.Word.{use_of, mark_bit}
 
--- the text, if the bit at a place is set
+-- the text, if the bit is set
 abbrev pub text_if : ℕ → ℕ → List ℕ → List ℕ
-text_if w place text = if bit_at w place == 1 then text else []
+text_if w bit text = if bit_at w bit == 1 then text else []
 
 -- `O`, `L` and `R` for the bits of use that are set, or a dash for none
 abbrev pub use_text : ℕ → List ℕ
@@ -16,7 +16,7 @@ use_text w = if use_of w == 0 then codes "-" else text_if w 0 (codes "O") ++ tex
 
 -- a plus sign and the station's number, if its mark stands
 abbrev pub mark_text : ℕ → ℕ → List ℕ
-mark_text w station = text_if w (mark_place station) (codes "+" ++ decimal station)
+mark_text w station = text_if w (mark_bit station) (codes "+" ++ decimal station)
 
 abbrev pub word_text : ℕ → List ℕ
 word_text w = use_text w ++ flat_map (mark_text w) (range_with_len 0 MAX_STATIONS)

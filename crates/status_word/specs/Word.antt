@@ -4,22 +4,22 @@ use Rattle.std.specs.Int.{bit_at}
 use Rattle.cube_shape.specs.declared.node.Side.{Side}
 use Rattle.cube_shape.specs.declared.node.Side.TheVariants.{Left, Right}
 
--- the place of the bit of a side
-abbrev pub side_place : Side → ℕ
-side_place Left = 1
-side_place Right = 2
+-- the bit of a side, by its number
+abbrev pub side_bit : Side → ℕ
+side_bit Left = 1
+side_bit Right = 2
 
--- the place of the mark of a station
-abbrev pub mark_place : ℕ → ℕ
-mark_place station = 8 + station
+-- the bit of the mark of a station, by its number
+abbrev pub mark_bit : ℕ → ℕ
+mark_bit station = 8 + station
 
--- the bit at a place is set
+-- the bit is set
 abbrev pub IsSet : ℕ → ℕ → Type 0
-IsSet w place = bit_at w place ≡ 1
+IsSet w bit = bit_at w bit ≡ 1
 
--- the words have the same bits but for one place
+-- the words have the same bits but for one
 abbrev pub SameElsewhere : ℕ → ℕ → ℕ → Type 0
-SameElsewhere place old new = (i : ℕ) → i ≢ place → bit_at new i ≡ bit_at old i
+SameElsewhere bit old new = (i : ℕ) → i ≢ bit → bit_at new i ≡ bit_at old i
 
 -- the region of the word's node is given out
 abbrev pub IsOccupied : ℕ → Type 0
@@ -27,11 +27,11 @@ IsOccupied w = IsSet w 0
 
 -- something in this half of the region may be given out
 abbrev pub HasSide : Side → ℕ → Type 0
-HasSide side w = IsSet w (side_place side)
+HasSide side w = IsSet w (side_bit side)
 
 -- the mark of a station stands
 abbrev pub IsMarked : ℕ → ℕ → Type 0
-IsMarked station w = IsSet w (mark_place station)
+IsMarked station w = IsSet w (mark_bit station)
 
 -- the three bits of use: OCC, LEFT and RIGHT
 abbrev pub use_of : ℕ → ℕ
@@ -46,10 +46,10 @@ IsInUse w = use_of w ≢ 0
 
 -- the word with one side more, and with one mark more
 abbrev pub with_side : Side → ℕ → ℕ
-with_side side w = bit_or w (2 ^ side_place side)
+with_side side w = bit_or w (2 ^ side_bit side)
 
 abbrev pub with_mark : ℕ → ℕ → ℕ
-with_mark station w = bit_or w (2 ^ mark_place station)
+with_mark station w = bit_or w (2 ^ mark_bit station)
 
 -- the bits of use that stay when the sides whose child was seen free go
 abbrev pub kept_bits : Bool → Bool → ℕ

@@ -1,5 +1,5 @@
 ghost use Rattle.std.specs.Prelude.{◌≡◌, ℕ, ◌^◌, ◌<◌, ◌↔◌, ◌++◌, false, IsTrue, IfOk, OnOk, string_bytes};
-ghost use Rattle.status_word.specs.Word.{HasSide, IsFree, IsMarked, IsOccupied, IsSet, SameElsewhere, cleared as cleared_word, mark_place, side_place, use_of, with_mark, with_side as word_with_side};
+ghost use Rattle.status_word.specs.Word.{HasSide, IsFree, IsMarked, IsOccupied, IsSet, SameElsewhere, cleared as cleared_word, mark_bit, side_bit, use_of, with_mark, with_side as word_with_side};
 ghost use Rattle.status_word.specs.Text.{mark_text, use_text, word_text};
 
 use crate::use_bits::UseBits;
@@ -12,7 +12,7 @@ use std::fmt::Write;
 #[derive(Clone, Copy, Debug, PartialEq, Eq, Hash)]
 pub struct Word(pub u64);
 
-/// The place of the first mark.
+/// The bit of the first mark.
 const FIRST_MARK: u32 = 8;
 
 impl Word {
@@ -62,7 +62,7 @@ impl Word {
     pub fn with_side(self, side: Side) -> Word
         ensures value { result.0 ≡ word_with_side side self.0 }
         ensures has { HasSide side result.0 }
-        ensures others { SameElsewhere (side_place side) self.0 result.0 }
+        ensures others { SameElsewhere (side_bit side) self.0 result.0 }
     {
         match side {
             Side::Left => Word(self.0 | 2),
@@ -73,7 +73,7 @@ impl Word {
     /// The word with no mark.
     pub fn without_marks(self) -> Word
         ensures value { result.0 ≡ use_of self.0 }
-        ensures bits { (place : ℕ) → IsSet result.0 place ↔ (IsSet self.0 place × (place < 3)) }
+        ensures bits { (bit : ℕ) → IsSet result.0 bit ↔ (IsSet self.0 bit × (bit < 3)) }
     {
         Word(self.0 & 7)
     }
@@ -83,7 +83,7 @@ impl Word {
         requires { station < MAX_STATIONS }
         ensures value { result.0 ≡ with_mark station self.0 }
         ensures has { IsMarked station result.0 }
-        ensures others { SameElsewhere (mark_place station) self.0 result.0 }
+        ensures others { SameElsewhere (mark_bit station) self.0 result.0 }
     {
         Word(self.0 | 1 << (FIRST_MARK + station))
     }

@@ -1,7 +1,7 @@
 // The lines that answer commands and schedules.
 use crate::device::{Counted, Device};
 use crate::fault::Fault;
-use crate::lines::Lines;
+use crate::lines::LineBuffer;
 use crate::name::Name;
 use crate::place_rows::PlaceRow;
 use crate::replay_rows::ReplayRow;
@@ -17,9 +17,9 @@ fn expect_place(
     wanted: &str,
 ) -> Result<(), Fail> {
     let mut writer = Counted::new(Vec::new(rt.alloc()));
-    let mut lines = Lines::new(rt.alloc())?.with_place_header()?;
+    let mut lines = LineBuffer::new(rt.alloc())?.push_place_header()?;
     for row in rows {
-        lines = lines.with_place_row(row)?;
+        lines = lines.push_place_row(row)?;
     }
     let answer = lines.finish(0, &mut writer);
     assert!(rt; answer == Ok(()) && writer.failures() == 0);
@@ -66,10 +66,10 @@ fn writes_outcomes(rt: HostRuntime) -> Result<(), Fail> {
 
 // So many lines of 30 bytes are gathered, and sent where there are many of them.
 fn gather_many<W: Write + Device>(
-    lines: Lines,
+    lines: LineBuffer,
     count: u64,
     writer: &mut W,
-) -> Result<Lines, Fault> {
+) -> Result<LineBuffer, Fault> {
     let mut lines = lines;
     for _row in 0..count {
         let why = Refused::NotInCube;
@@ -79,7 +79,7 @@ fn gather_many<W: Write + Device>(
             node,
             why,
         };
-        lines = lines.with_replay_row(&row)?.send_many(0, writer)?;
+        lines = lines.push_replay_row(&row)?.flush_if_full(0, writer)?;
     }
     Ok(lines)
 }
@@ -88,7 +88,7 @@ fn gather_many<W: Write + Device>(
 #[test]
 fn sends_many_lines(rt: HostRuntime) -> Result<(), Fail> {
     let mut writer = Counted::new(Vec::new(rt.alloc()));
-    let lines = Lines::new(rt.alloc())?;
+    let lines = LineBuffer::new(rt.alloc())?;
     match gather_many(lines, 6_000, &mut writer) {
         Ok(lines) => {
             let sent = writer.get_ref().len();
@@ -126,10 +126,10 @@ fn expect_replay(
     wanted: &str,
 ) -> Result<(), Fail> {
     let mut writer = Counted::new(Vec::new(rt.alloc()));
-    let mut lines = Lines::new(rt.alloc())?.with_replay_header()?;
+    let mut lines = LineBuffer::new(rt.alloc())?.push_replay_header()?;
     for row in rows {
-        lines = lines.with_replay_row(row)?;
-        lines = match lines.send(0, &mut writer) {
+        lines = lines.push_replay_row(row)?;
+        lines = match lines.flush(0, &mut writer) {
             Ok(lines) => lines,
             Err(fault) => {
                 assert!(rt; false, "{fault}");

@@ -8,9 +8,9 @@ use Rattle.job_types.specs.Reply.{ReplyData}
 use Rattle.jobs_csv.specs.Replies.{replies_text, reply_columns, reply_fields, reply_lines}
 use Rattle.jobs_csv.specs.Text.{line_of}
 use Rattle.jobs_csv.proofs.SentLemmas.{HasSent, all_sent, more_gathered, more_sent, none_sent}
-use Rattle.jobs_cli.specs.Names.{Named, lane_by_lane, named_from}
+use Rattle.jobs_cli.specs.Names.{JobWithId, lane_by_lane, with_ids_from}
 use Rattle.jobs_cli.specs.Replies.{answered}
-use Rattle.jobs_cli.proofs.TurnLemmas.{more_lines}
+use Rattle.jobs_cli.proofs.TraceLemmas.{more_lines}
 use Rattle.jobs_cli.proofs.answers.answer_all.Goals as goal
 
 pub loop-jobs-init : goal.loop-jobs-init
@@ -27,7 +27,7 @@ loop-jobs-preserved g c =
     let old = g.W.Write.contents c.args.writer.now in
     let now = g.W.Write.contents c.loop-jobs.writer in
     let text : ReplyData → List ℕ = λ (r : ReplyData). line_of (reply_fields r.id r.job) in
-    let names : Vec JobData Global → List Named = λ (lane : Vec JobData Global). named_from 0 lane.items in
+    let names : Vec JobData Global → List JobWithId = λ (lane : Vec JobData Global). with_ids_from 0 lane.items in
     let (replies, same, sent) = c.loop-jobs.invariant.sent in
     let (more, same_more, out, sends, all) = c.in_ok-lines-2.ensures.sent in
     let gathered = more_gathered old now c.loop-jobs.lines (c.loop-jobs.lines ++ reply_lines more) (reply_lines more) (replies_text replies) sent refl in
@@ -36,7 +36,7 @@ loop-jobs-preserved g c =
       dim = c.answer_lane.ensures.dim ∙ c.loop-jobs.invariant.dim;
       sent = (
         replies ++ more,
-        map-append answered replies more ∙ ap (λ (front : List Named). front ++ map answered more) same ∙ ap (λ (last : List Named). lane_by_lane c.loop-jobs.yielded ++ last) same_more ∙ flat_map_more names [] c.loop-jobs.yielded c.in-Some.jobs,
+        map-append answered replies more ∙ ap (λ (front : List JobWithId). front ++ map answered more) same ∙ ap (λ (last : List JobWithId). lane_by_lane c.loop-jobs.yielded ++ last) same_more ∙ flat_map_more names [] c.loop-jobs.yielded c.in-Some.jobs,
         subst (HasSent old _ _) (more_lines (line_of reply_columns) text replies more) (more_sent old now _ _ _ out _ gathered sends all),
       );
     }

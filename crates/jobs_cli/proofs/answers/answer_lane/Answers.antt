@@ -6,7 +6,7 @@ use Rattle.job_types.specs.Reply.{ReplyData}
 use Rattle.jobs_csv.specs.Replies.{reply_fields, reply_lines}
 use Rattle.jobs_csv.specs.Text.{line_of}
 use Rattle.jobs_csv.proofs.SentLemmas.{HasSent, more_gathered, more_sent, none_sent}
-use Rattle.jobs_cli.proofs.OrderLemmas.{no_name, reply_push}
+use Rattle.jobs_cli.proofs.OrderLemmas.{no_ids, reply_push}
 use Rattle.jobs_cli.proofs.answers.answer_lane.Goals as goal
 
 pub loop-job-init : goal.loop-job-init
@@ -14,7 +14,7 @@ loop-job-init g c = record {
   free = c.requires.free;
   dim = refl;
   seq = refl;
-  sent = ([], sym no_name, none_sent _ _ _ (sym (append-nil c.args.lines)));
+  sent = ([], sym no_ids, none_sent _ _ _ (sym (append-nil c.args.lines)));
 }
 
 pub loop-job-preserved : goal.loop-job-preserved

@@ -5,14 +5,14 @@ use Rattle.std.proofs.lemmas.List.{length-replicate, map-id}
 use Rattle.std.proofs.lemmas.Result.{on_ok_weaker}
 use Rattle.std.specs.Io.KnownBytes.{Appends}
 use Rattle.std.specs.List.{flat_map}
-use Rattle.cube_core.specs.Schedule.{Record, State, opened}
+use Rattle.cube_core.specs.Schedule.{Record, State, initial}
 use Rattle.jobs_csv.specs.declared.replay_rows.ReplayRow.{ReplayRow}
 use Rattle.jobs_csv.specs.ReplayRows.{replay_columns, replay_fields}
 use Rattle.jobs_csv.specs.Text.{line_of}
 use Rattle.jobs_csv.proofs.SentLemmas.{HasSent, all_sent, more_gathered, more_sent, none_sent}
-use Rattle.jobs_cli.specs.InTurn.{InTurn}
-use Rattle.jobs_cli.specs.Replay.{IsPlayed, end_rows, replay_text}
-use Rattle.jobs_cli.proofs.TurnLemmas.{more_lines, one_more}
+use Rattle.jobs_cli.specs.Trace.{IsTrace}
+use Rattle.jobs_cli.specs.Replay.{IsPlayed, final_rows, replay_text}
+use Rattle.jobs_cli.proofs.TraceLemmas.{more_lines, one_more}
 use Rattle.jobs_cli.proofs.replay.play_all.Goals as goal
 
 pub loop-line-init : goal.loop-line-init
@@ -38,7 +38,7 @@ loop-line-preserved g c =
       stations = c.play.ensures.shape.stations ∙ c.loop-line.invariant.stations;
       sent = (
         rows ++ more,
-        one_more IsPlayed c.loop-line.yielded c.in-Some.line (opened c.args.n c.args.stations) c.loop-line.world c.play.new.world rows more turns c.in_ok-rows.ensures.played,
+        one_more IsPlayed c.loop-line.yielded c.in-Some.line (initial c.args.n c.args.stations) c.loop-line.world c.play.new.world rows more turns c.in_ok-rows.ensures.played,
         subst (HasSent old _ _) (more_lines (line_of replay_columns) text rows more) (more_sent old now _ _ _ out _ gathered sends same),
       );
     }
@@ -52,13 +52,13 @@ returns-clause-played g c =
     let last = YieldsList-end (YieldsList-from_vec {s = c.into_iter-line-iterator.result} c.args.schedule.items (search rules) (search rules)) c.loop-line.yielded c.loop-line.line-iterator c.loop-line.yielded_by c.next.result c.next.new.self c.in-None.is c.next.ensures.steps in
     let all : c.loop-line.yielded ≡ c.args.schedule.items = sym (map-id c.loop-line.yielded) ∙ last.0 in
     let (rows, turns, sent) = c.loop-line.invariant.sent in
-    let ends : List ReplayRow = c.in_ok-rows-2.rows.items in
-    let gathered = more_gathered old now c.loop-line.lines c.in_ok-with_rows-2.field-0 (flat_map text ends) (replay_text rows) sent c.in_ok-with_rows-2.ensures in
-    let written : replay_text rows ++ flat_map text ends ≡ replay_text (rows ++ end_rows c.loop-line.world) =
-    more_lines (line_of replay_columns) text rows ends ∙ ap (λ (e : List ReplayRow). replay_text (rows ++ e)) c.in_ok-rows-2.ensures in
+    let ended : List ReplayRow = c.in_ok-rows-2.rows.items in
+    let gathered = more_gathered old now c.loop-line.lines c.in_ok-with_rows-2.field-0 (flat_map text ended) (replay_text rows) sent c.in_ok-with_rows-2.ensures in
+    let written : replay_text rows ++ flat_map text ended ≡ replay_text (rows ++ final_rows c.loop-line.world) =
+    more_lines (line_of replay_columns) text rows ended ∙ ap (λ (e : List ReplayRow). replay_text (rows ++ e)) c.in_ok-rows-2.ensures in
     on_ok_weaker c.finish.result (λ sends. (
       c.loop-line.world,
       rows,
-      subst (λ lines. InTurn IsPlayed lines (opened c.args.n c.args.stations) c.loop-line.world rows) all turns,
+      subst (λ lines. IsTrace IsPlayed lines (initial c.args.n c.args.stations) c.loop-line.world rows) all turns,
       subst (Appends old next) written (all_sent old now next c.in_ok-with_rows-2.field-0 _ gathered sends),
     )) c.finish.ensures.sent

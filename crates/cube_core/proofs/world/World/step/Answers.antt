@@ -1,7 +1,7 @@
 -- The event's node has a word, and the state becomes what the act makes of it.
 use Rattle.std.proofs.Common.{arith}
 use Rattle.cube_core.specs.declared.act.Act.TheVariants.{Step}
-use Rattle.cube_core.proofs.WorldLemmas.{node_in_words, word_there, step_accepted, stepped_by, step_count, others_same, IsWorld-lawful, IsWorld-acted, IsWorld-of}
+use Rattle.cube_core.proofs.WorldLemmas.{node_in_words, word_there, step_accepted, apply_event_by, step_count, others_same, IsWorld-lawful, IsWorld-apply, IsWorld-of}
 use Rattle.cube_core.proofs.world.World.step.Goals as goal
 
 pub index_mut-requires : goal.index_mut-requires
@@ -13,13 +13,13 @@ index_mut-requires c =
 pub invariant_of-self : goal.invariant_of-self
 invariant_of-self c =
     let none = step_accepted c.args.station c.in_ok-phase.phase c.args.self.now c.in_ok-phase.ensures.found.1 c.in_ok-phase.ensures.found.0 c.in-Some.ensures.moves in
-    IsWorld-acted (Step c.args.station) c.args.self.now _ (IsWorld-of c.self.view_is c.self.invariant)
-    (stepped_by c.args.station c.in_ok-phase.phase c.self.inside.dim c.self.inside.words.items c.self.inside.phases.items c.args.self.now c.in-Some.effect c.self.view_is none c.in_ok-phase.ensures.found.0 c.in-Some.ensures.effect)
+    IsWorld-apply (Step c.args.station) c.args.self.now _ (IsWorld-of c.self.view_is c.self.invariant)
+    (apply_event_by c.args.station c.in_ok-phase.phase c.self.inside.dim c.self.inside.words.items c.self.inside.phases.items c.args.self.now c.in-Some.effect c.self.view_is none c.in_ok-phase.ensures.found.0 c.in-Some.ensures.effect)
 
 pub returns-clause-world : goal.returns-clause-world
 returns-clause-world c =
     let none = step_accepted c.args.station c.in_ok-phase.phase c.args.self.now c.in_ok-phase.ensures.found.1 c.in_ok-phase.ensures.found.0 c.in-Some.ensures.moves in
-    stepped_by c.args.station c.in_ok-phase.phase c.self.inside.dim c.self.inside.words.items c.self.inside.phases.items c.args.self.now c.in-Some.effect c.self.view_is none c.in_ok-phase.ensures.found.0 c.in-Some.ensures.effect
+    apply_event_by c.args.station c.in_ok-phase.phase c.self.inside.dim c.self.inside.words.items c.self.inside.phases.items c.args.self.now c.in-Some.effect c.self.view_is none c.in_ok-phase.ensures.found.0 c.in-Some.ensures.effect
 
 pub returns-in_err-phase-clause-lawful : goal.returns-in_err-phase-clause-lawful
 returns-in_err-phase-clause-lawful c = IsWorld-lawful c.args.self.now (IsWorld-of c.self.view_is c.self.invariant)
@@ -30,17 +30,17 @@ returns-in_default-clause-lawful c = IsWorld-lawful c.args.self.now (IsWorld-of 
 pub returns-clause-lawful : goal.returns-clause-lawful
 returns-clause-lawful c =
     let none = step_accepted c.args.station c.in_ok-phase.phase c.args.self.now c.in_ok-phase.ensures.found.1 c.in_ok-phase.ensures.found.0 c.in-Some.ensures.moves in
-    IsWorld-lawful _ (IsWorld-acted (Step c.args.station) c.args.self.now _ (IsWorld-of c.self.view_is c.self.invariant)
-    (stepped_by c.args.station c.in_ok-phase.phase c.self.inside.dim c.self.inside.words.items c.self.inside.phases.items c.args.self.now c.in-Some.effect c.self.view_is none c.in_ok-phase.ensures.found.0 c.in-Some.ensures.effect))
+    IsWorld-lawful _ (IsWorld-apply (Step c.args.station) c.args.self.now _ (IsWorld-of c.self.view_is c.self.invariant)
+    (apply_event_by c.args.station c.in_ok-phase.phase c.self.inside.dim c.self.inside.words.items c.self.inside.phases.items c.args.self.now c.in-Some.effect c.self.view_is none c.in_ok-phase.ensures.found.0 c.in-Some.ensures.effect))
 
 pub returns-clause-count : goal.returns-clause-count
 returns-clause-count c =
     let none = step_accepted c.args.station c.in_ok-phase.phase c.args.self.now c.in_ok-phase.ensures.found.1 c.in_ok-phase.ensures.found.0 c.in-Some.ensures.moves in
     step_count c.args.station c.args.self.now _ (IsWorld-of c.self.view_is c.self.invariant) none
-    (stepped_by c.args.station c.in_ok-phase.phase c.self.inside.dim c.self.inside.words.items c.self.inside.phases.items c.args.self.now c.in-Some.effect c.self.view_is none c.in_ok-phase.ensures.found.0 c.in-Some.ensures.effect)
+    (apply_event_by c.args.station c.in_ok-phase.phase c.self.inside.dim c.self.inside.words.items c.self.inside.phases.items c.args.self.now c.in-Some.effect c.self.view_is none c.in_ok-phase.ensures.found.0 c.in-Some.ensures.effect)
 
 pub returns-clause-others : goal.returns-clause-others
 returns-clause-others c =
     let none = step_accepted c.args.station c.in_ok-phase.phase c.args.self.now c.in_ok-phase.ensures.found.1 c.in_ok-phase.ensures.found.0 c.in-Some.ensures.moves in
     others_same (Step c.args.station) c.args.self.now _ (IsWorld-of c.self.view_is c.self.invariant)
-    (stepped_by c.args.station c.in_ok-phase.phase c.self.inside.dim c.self.inside.words.items c.self.inside.phases.items c.args.self.now c.in-Some.effect c.self.view_is none c.in_ok-phase.ensures.found.0 c.in-Some.ensures.effect)
+    (apply_event_by c.args.station c.in_ok-phase.phase c.self.inside.dim c.self.inside.words.items c.self.inside.phases.items c.args.self.now c.in-Some.effect c.self.view_is none c.in_ok-phase.ensures.found.0 c.in-Some.ensures.effect)

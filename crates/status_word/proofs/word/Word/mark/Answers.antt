@@ -1,7 +1,7 @@
 use Rattle.std.proofs.Common.{◌+◌, sym, subst, arith}
 use Rattle.std.proofs.lemmas.Nat.{one_shl}
 use Rattle.std.proofs.Common.{bit_or}
-use Rattle.status_word.specs.Word.{IsMarked, SameElsewhere, mark_place}
+use Rattle.status_word.specs.Word.{IsMarked, SameElsewhere, mark_bit}
 use Rattle.status_word.proofs.WordLemmas.{with_mark-has, with_mark-same}
 use Rattle.status_word.proofs.word.Word.mark.Goals as goal
 
@@ -12,5 +12,5 @@ returns-clause-has c =
 
 pub returns-clause-others : goal.returns-clause-others
 returns-clause-others c =
-    subst (λ mask. SameElsewhere (mark_place c.args.station) c.args.self.0 (bit_or c.args.self.0 mask)) (sym (one_shl (8 + c.args.station) 64 (omega arith)))
+    subst (λ mask. SameElsewhere (mark_bit c.args.station) c.args.self.0 (bit_or c.args.self.0 mask)) (sym (one_shl (8 + c.args.station) 64 (omega arith)))
     (with_mark-same c.args.station c.args.self.0)

@@ -1,0 +1,12 @@
+-- Answering things one after the other, each of which may change what the next one meets.
+use Rattle.std.specs.Prelude.{◌≡◌, List, [], ◌∷◌, ◌++◌}
+
+-- what becomes of one thing: the state before it, the state behind it, and the rows that tell of it
+abbrev pub StepRelation : Type 0 → Type 0 → Type 0 → Type 1
+StepRelation Thing State Row = Thing → State → State → List Row → Type 0
+
+-- the things in their order, from the first state to the last, with all their rows
+abbrev pub IsTrace : {Thing State Row : Type 0} → StepRelation Thing State Row → List Thing → State → State → List Row → Type 0
+IsTrace becomes [] first last rows = (last ≡ first) × (rows ≡ [])
+IsTrace {State = State} {Row = Row} becomes (thing ∷ things) first last rows =
+    (next : State) × (told : List Row) × (more : List Row) × becomes thing first next told × IsTrace becomes things next last more × (rows ≡ told ++ more)
