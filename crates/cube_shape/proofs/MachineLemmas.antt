@@ -1,9 +1,10 @@
 -- The two steps of the machine keep its held regions aligned and apart.
-use Rattle.std.proofs.Common.{◌≡◌, ◌≢◌, ℕ, inl, inr, Option, Some, None, sym, ◌∙◌, ap, subst}
-use Rattle.std.proofs.lemmas.Bool.{cases_eq}
+use Rattle.std.proofs.Common.{◌≡◌, ◌≢◌, ℕ, ◌*◌, ◌^◌, ◌<◌, ◌≤◌, inl, inr, Option, Some, None, sym, ◌∙◌, ap, subst, arith}
+use Rattle.std.proofs.lemmas.Bool.{cases_eq, cases_lt}
+use Rattle.std.proofs.lemmas.Nat.{mul-le}
 use Rattle.cube_shape.specs.declared.region.Region.{Region}
 use Rattle.cube_shape.specs.Region.{AreApart, IsAligned}
-use Rattle.cube_shape.specs.Machine.{Holdings, IsLawful, Gives, TakesBack}
+use Rattle.cube_shape.specs.Machine.{Holdings, IsFirstFit, IsFree, HasNoFit, IsLawful, Gives, TakesBack}
 use Rattle.cube_shape.proofs.RegionLemmas.{AreApart-sym}
 
 -- a machine whose stations all hold nothing
@@ -59,3 +60,23 @@ IsLawful-takes_back n s old new r lawful back = record {
       | inl at ↦ absurd (none_is_some (sym back.idle ∙ ap new (sym at) ∙ is))
       | inr other ↦ sym (back.others t other) ∙ is
     ]
+
+-- ---- first fit
+
+pub IsFirstFit-alone : (n k a b : ℕ) (held : Holdings) → IsFirstFit n k held a → IsFirstFit n k held b → a ≡ b
+IsFirstFit-alone n k a b held first second = elim (cases_lt a b) [
+  | inl below ↦ absurd (second.least a below first.free)
+  | inr from ↦ elim (cases_eq a b) [ inl same ↦ same | inr other ↦ absurd (first.least b (omega arith) second.free) ]
+]
+
+pub IsFirstFit-fits : (n k m : ℕ) (held : Holdings) → IsFirstFit n k held m → HasNoFit n k held → ⊥
+IsFirstFit-fits n k m held first none = none m first.in_cube first.free
+
+pub IsFirstFit-least : (n m : ℕ) (held : Holdings) (r : Region) → IsFirstFit n r.dim held m → IsAligned n r → IsFree held r → m * 2 ^ r.dim ≤ r.base
+IsFirstFit-least n m held r first (fits, (i, within, is)) free = elim (cases_lt i m) [
+  | inl below ↦ absurd (first.least i below (subst (IsFree held) is free))
+  | inr from ↦
+      let rows : m * 2 ^ r.dim ≤ i * 2 ^ r.dim = mul-le m (2 ^ r.dim) i (2 ^ r.dim) from (omega arith) in
+      let base : r.base ≡ i * 2 ^ r.dim = ap (λ (x : Region). x.base) is in
+      omega (arith, rows, base)
+]
