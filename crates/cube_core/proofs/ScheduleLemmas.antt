@@ -25,7 +25,6 @@ use Rattle.cube_core.proofs.MoveLemmas.{Move, IsRisen, IsTaking, begins_take, be
 use Rattle.cube_core.proofs.InvariantLemmas.{Invariant, invariant_kept, invariant_initial}
 use Rattle.cube_core.proofs.ConsequenceLemmas.{in_use_engaged, at_rest_exact, retired_zero}
 use Rattle.cube_core.proofs.HeldLemmas.{HeldMoves, machine_step, held_named, held_lawful}
-
 pub use Rattle.cube_core.proofs.StandsLemmas.{Stands, accepted, apply-accepted, apply_all_stands, apply_begin_phase, below_inner, initial_stands, node_there, others_record}
 pub use Rattle.cube_core.proofs.CountLemmas.{Stands-counted}
 use Rattle.cube_core.proofs.CountLemmas.{take_named}
