@@ -1,4 +1,4 @@
--- What the code computes of one event.
+-- No public contract cites this: what the code computes of one event.
 use Rattle.std.specs.Prelude.{◌≡◌, ℕ, [], ◌∷◌}
 use Rattle.cube_core.specs.declared.effect.Effect.{Effect}
 use Rattle.cube_core.specs.Event.{Transition}
