@@ -1,2 +1,2 @@
 pub mod Allocation
-pub mod Bits
+pub mod Inner

@@ -33,8 +33,8 @@ pub struct AllocBits {
 }
 
 impl Model for AllocBits {
-    ghost use Rattle.alloc_bits.specs.Allocation.{Allocation, allocation_code};
-    ghost use Rattle.alloc_bits.specs.Bits.{Marks, pairs_of};
+    ghost use Rattle.alloc_bits.specs.Allocation.{Allocation};
+    ghost use Rattle.alloc_bits.specs.Inner.{Represents, allocation_code, pairs_of};
 
     ghost Value = { Allocation };
 
@@ -42,7 +42,7 @@ impl Model for AllocBits {
 
     ghost view = { λ a. record { dim = a.dim; pairs = pairs_of a.slots.items } };
 
-    ghost invariant = { λ a. Marks a.dim a.slots.items a.bits.items };
+    ghost invariant = { λ a. Represents a.dim a.slots.items a.bits.items };
 }
 
 impl AllocBits {
@@ -68,7 +68,7 @@ impl AllocBits {
 
     /// Whether a station holds a region.
     pub fn holds(&self, station: u32) -> bool
-        ensures told { IsTrue result ↔ IsSome (held_in self.now station) }
+        ensures held { IsTrue result ↔ IsSome (held_in self.now station) }
         ensures lawful { IsLawful self.now.dim (held_in self.now) }
     {
         slots::region_of(&self.slots, station).is_some()
@@ -116,7 +116,7 @@ impl AllocBits {
             return Err(NoSubcube);
         };
         bits::write(&mut self.bits, self.dim, region, true);
-        slots::put(&mut self.slots, station, Some(region));
+        slots::set_slot(&mut self.slots, station, Some(region));
         Ok(region)
     }
 
@@ -133,7 +133,7 @@ impl AllocBits {
             return Err(NothingHeld);
         };
         bits::write(&mut self.bits, self.dim, region, false);
-        slots::put(&mut self.slots, station, None);
+        slots::set_slot(&mut self.slots, station, None);
         Ok(region)
     }
 }

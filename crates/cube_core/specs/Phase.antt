@@ -110,11 +110,11 @@ step_refusal (Holding h) = Some Resting
 step_refusal Retired = Some Resting
 step_refusal _ = None
 
--- it makes no event before the next call: a step is refused
 abbrev pub IsRefused : Option Refused → Type 0
 IsRefused None = ⊥
 IsRefused (Some why) = Unit {0}
 
+-- it makes no event before the next call: a step is refused
 abbrev pub IsAtRest : Phase → Type 0
 IsAtRest phase = IsRefused (step_refusal phase)
 

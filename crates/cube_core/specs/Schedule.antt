@@ -29,6 +29,9 @@ record_of w s = slice_index_or w.records s (record { phase = Retired; trail = []
 abbrev pub phase_of : State → ℕ → Phase
 phase_of w s = (record_of w s).phase
 
+abbrev pub trail_of : State → ℕ → List Event
+trail_of w s = (record_of w s).trail
+
 abbrev pub word_of : State → ℕ → ℕ
 word_of w v = slice_index_or w.words v 0
 
@@ -106,6 +109,11 @@ apply act w = unless_refused (refusal act w) act w
 abbrev pub apply_all : List Act → State → State
 apply_all [] w = w
 apply_all (act ∷ earlier) w = apply act (apply_all earlier w)
+
+-- all acts of the station among these are steps
+abbrev pub HasOnlySteps : ℕ → List Act → Type 0
+HasOnlySteps s [] = Unit {0}
+HasOnlySteps s (act ∷ earlier) = (station_of act ≡ s → act ≡ Step s) × HasOnlySteps s earlier
 
 -- these acts of a station, the newest first, are one event: on every world of dimension n where the
 -- station has this record, they make of the world what the event makes

@@ -50,11 +50,12 @@ fn see(word: u64) -> (Seen, Note)
     ensures seen { result.0 ≡ seen_at word }
     ensures note { result.1 ≡ seen_note word }
 {
-    if Word(word).is_free() {
-        (Seen::Free, Note::Free)
+    let note = if Word(word).is_free() {
+        Note::Free
     } else {
-        (Seen::Used, Note::Used)
-    }
+        Note::Used
+    };
+    (Seen::of(Word(word)), note)
 }
 
 /// A load of the node that a take is about.

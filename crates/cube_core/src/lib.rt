@@ -17,7 +17,7 @@ mod world;
 pub use act::{Act, Refused};
 pub use event::{Event, Kind, Note};
 pub use phase::{Phase, Seen};
-pub use world::{World, every_schedule_is_lawful};
+pub use world::{World, calls_are_single_events, every_schedule_is_lawful};
 
 #[cfg(test)]
 mod tests;

@@ -1,10 +1,12 @@
 //! Beginnings of schedules, event by event, each refusal, and a machine of one node; whole schedules
-//! stand in `schedules`, and short ones that show a wrong step in `interleavings`.
+//! stand in `schedules`, short ones that show a wrong step in `interleavings`, and outcomes that no
+//! clause pins in `outcomes`.
 
 ghost use Rattle.std.specs.Prelude.{◌+◌, ◌^◌, ◌≤◌};
 ghost use Rattle.cube_core.specs.World.{HasShapeOf};
 
 mod interleavings;
+mod outcomes;
 mod schedules;
 
 use crate::{Act, Event, Kind, Note, Phase, Refused, World};
@@ -214,5 +216,21 @@ fn runs_acts_and_reads_the_end(rt: HostRuntime) -> Result<(), Fail> {
     assert_eq!(rt; world.word(1), 4);
     assert_eq!(rt; world.word(2), 0);
     assert_eq!(rt; world.word(3), 7);
+    Ok(())
+}
+
+#[test]
+fn refusals_as_text(rt: HostRuntime) -> Result<(), Fail> {
+    let texts = [
+        (Refused::NotIdle, "the station is not idle"),
+        (Refused::NotHolding, "the station holds nothing"),
+        (Refused::NoStation, "there is no such station"),
+        (Refused::NotInCube, "there is no such node"),
+        (Refused::Resting, "the station makes no step"),
+    ];
+    for (refused, text) in texts {
+        let shown = format!(in rt.alloc(); "{refused}")?;
+        assert_eq!(rt; shown.as_str(), text);
+    }
     Ok(())
 }

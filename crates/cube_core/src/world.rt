@@ -5,7 +5,7 @@ ghost use Rattle.cube_core.specs.Event.{transition, retirement};
 ghost use Rattle.cube_core.specs.Effect.{IsEffect};
 ghost use Rattle.cube_core.specs.Count.{depth, events_due};
 ghost use Rattle.cube_core.specs.Phase.{node_held};
-ghost use Rattle.cube_core.specs.Law.{IsTreeLawful, EveryScheduleIsLawful};
+ghost use Rattle.cube_core.specs.Law.{CallsAreSingleEvents, EveryScheduleIsLawful, IsTreeLawful};
 
 use crate::act::{Act, Refused};
 use crate::effect::{self, Effect};
@@ -42,7 +42,8 @@ impl World {
     pub fn new(alloc: Global, n: u32, stations: u32) -> Result<Self, AllocError>
         requires dim { n ≤ MAX_DIM }
         requires stations { stations ≤ MAX_STATIONS }
-        ensures { IfOk result (λ made. made ≡ initial n stations) }
+        ensures opened { IfOk result (λ made. made ≡ initial n stations) }
+        ensures lawful { IfOk result (λ made. IsTreeLawful made) }
     {
         Ok(World {
             dim: n,
@@ -76,6 +77,7 @@ impl World {
         ensures unchanged { OnErr result (self.new ≡ self.old) }
         ensures world { OnOk result (self.new ≡ without_trails (apply (Act.Take station node) self.old)) }
         ensures shape { HasShapeOf self.old self.new }
+        ensures lawful { IsTreeLawful self.new }
         ensures count { OnOk result (events_due self.old.dim (phase_of self.new station) ≡ 3 + 7 * depth self.old.dim node) }
     {
         match self.find(station)? {
@@ -96,6 +98,7 @@ impl World {
         ensures unchanged { OnErr result (self.new ≡ self.old) }
         ensures world { OnOk result (self.new ≡ without_trails (apply (Act.Release station) self.old)) }
         ensures shape { HasShapeOf self.old self.new }
+        ensures lawful { IsTreeLawful self.new }
         ensures count { OnOk result (events_due self.old.dim (phase_of self.new station)
             ≡ 1 + 5 * depth self.old.dim (node_held (phase_of self.old station))) }
     {
@@ -136,6 +139,7 @@ impl World {
         ensures unchanged { OnErr result (self.new ≡ self.old) }
         ensures world { OnOk result (self.new ≡ without_trails (apply (Act.Retire station) self.old)) }
         ensures shape { HasShapeOf self.old self.new }
+        ensures lawful { IsTreeLawful self.new }
         ensures event { IfOk result (λ event. (record_of (apply (Act.Retire station) self.old) station).trail
             ≡ event ∷ (record_of self.old station).trail) }
     {
@@ -261,4 +265,13 @@ impl World {
 ///   alone.
 pub fn every_schedule_is_lawful()
     ensures { EveryScheduleIsLawful }
+{}
+
+/// What a station that runs on shared words makes in one atomic step is one event: a step, a take
+/// or a release with the step after it, or a retirement.
+///
+/// On every world in which a station has this phase, the calls make of the world what the one event
+/// makes of it, whatever the words are.
+pub fn calls_are_single_events()
+    ensures { CallsAreSingleEvents }
 {}

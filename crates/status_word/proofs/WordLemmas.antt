@@ -1,12 +1,12 @@
 -- What each operation on a word does to the tests of its bits.
-use Rattle.std.proofs.Common.{◌≡◌, ◌≢◌, ℕ, zero, suc, ◌*◌, ◌%◌, ◌^◌, ◌<◌, ◌≤◌, ◌⊎◌, inl, inr, Bool, true, false, eqb, bit_and, bit_or, refl, ◌∙◌, ap, arith, lit<}
+use Rattle.std.proofs.Common.{◌≡◌, ◌≢◌, ℕ, zero, suc, ◌+◌, ◌*◌, ◌%◌, ◌^◌, ◌<◌, ◌≤◌, ◌⊎◌, inl, inr, Bool, true, false, eqb, bit_and, bit_or, refl, sym, ◌∙◌, ap, subst, arith, lit<}
 use Rattle.std.specs.Prelude.{◌↔◌}
 use Rattle.std.specs.Int.{bit_at}
 use Rattle.std.proofs.lemmas.Bool.{cases_lt, cases_eq, eqb-true, eq-eqb, true≢false}
 use Rattle.std.proofs.lemmas.Nat.{and_le_r, pow_pos}
 use Rattle.std.proofs.Math.Nat.{zero-mul, one-mul, div-eq_of_lt}
 use Rattle.std.proofs.Math.Pow.{pow_mono}
-use Rattle.std.proofs.lemmas.Nat.Bits.{bit_at_and, bit_at_or, bit_at-pow_same, bit_at-pow_other, and_pow, same_from_bits_below, bit_at-zero, bit_at_ones}
+use Rattle.std.proofs.lemmas.Nat.Bits.{bit_at_and, bit_at_or, bit_at-pow_same, bit_at-pow_other, and_pow, same_from_bits_below, bit_at-zero, bit_at_above, bit_at_ones}
 use Rattle.cube_shape.specs.declared.node.Side.{Side}
 use Rattle.cube_shape.specs.declared.node.Side.TheVariants.{Left, Right}
 use Rattle.status_word.specs.Word.{side_bit, mark_bit, IsSet, SameElsewhere, IsOccupied, HasSide, IsMarked, use_of, IsInUse, with_side, with_mark, cleared}
@@ -214,3 +214,20 @@ cleared-unmarked w false false station marked = low_has_no_mark 7 (mark_bit stat
 cleared-unmarked w true false station marked = low_has_no_mark 5 (mark_bit station) (lit< tt) (omega arith) (IsSet-and_right w 5 (mark_bit station) marked)
 cleared-unmarked w false true station marked = low_has_no_mark 3 (mark_bit station) (lit< tt) (omega arith) (IsSet-and_right w 3 (mark_bit station) marked)
 cleared-unmarked w true true station marked = low_has_no_mark 1 (mark_bit station) (lit< tt) (omega arith) (IsSet-and_right w 1 (mark_bit station) marked)
+
+-- ---- words with one bit
+
+pub IsSet-power : (k bit : ℕ) → IsSet (2 ^ k) bit ↔ (bit ≡ k)
+IsSet-power k bit = (into, λ is. subst (IsSet (2 ^ k)) (sym is) (bit_at-pow_same k))
+  where
+    into : IsSet (2 ^ k) bit → bit ≡ k
+    into set = elim (cases_eq bit k) [
+      | inl same ↦ same
+      | inr other ↦ let none : bit_at (2 ^ k) bit ≡ 0 = bit_at-pow_other k bit other in absurd (omega (arith, none, set))
+    ]
+
+-- a word of bits of use alone has no mark
+pub unmarked_below : (w station : ℕ) → w < 8 → IsMarked station w → ⊥
+unmarked_below w station small marked =
+    let none : bit_at w (8 + station) ≡ 0 = bit_at_above w 3 (8 + station) small (omega arith) in
+    omega (arith, none, marked)

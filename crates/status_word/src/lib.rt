@@ -10,7 +10,7 @@ mod use_bits;
 mod word;
 
 pub use use_bits::UseBits;
-pub use word::Word;
+pub use word::{Word, flags_are_the_bits_of_use};
 
 #[cfg(test)]
 mod tests;

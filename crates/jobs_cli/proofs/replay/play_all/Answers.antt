@@ -19,9 +19,9 @@ pub loop-line-init : goal.loop-line-init
 loop-line-init g c =
     let header : c.in_ok-lines.lines ≡ line_of replay_columns = search rules in
     record {
-      dim = ap (λ (w : State). w.dim) c.in_ok-world.ensures;
-      stations = ap (λ (w : State). length w.records) c.in_ok-world.ensures ∙ length-replicate {A = Record} c.args.stations _;
-      sent = ([], (c.in_ok-world.ensures, refl), none_sent _ _ _ (header ∙ sym (append-nil (line_of replay_columns))));
+      dim = ap (λ (w : State). w.dim) c.in_ok-world.ensures.opened;
+      stations = ap (λ (w : State). length w.records) c.in_ok-world.ensures.opened ∙ length-replicate {A = Record} c.args.stations _;
+      sent = ([], (c.in_ok-world.ensures.opened, refl), none_sent _ _ _ (header ∙ sym (append-nil (line_of replay_columns))));
     }
 
 pub loop-line-preserved : goal.loop-line-preserved

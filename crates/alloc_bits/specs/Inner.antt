@@ -1,11 +1,13 @@
--- How the bits and the stations' slots stand for the pairs.
-use Rattle.std.specs.Prelude.{◌≡◌, ℕ, suc, ◌-◌, ◌^◌, ◌<◌, ◌≤◌, Bool, true, false, List, [], ◌∷◌, length, slice_index_or, Option, Some, None}
+-- No public contract cites these: how the bits and the stations' slots represent an allocation.
+use Rattle.std.specs.Prelude.{◌≡◌, ℕ, suc, ◌-◌, ◌^◌, ◌<◌, ◌≤◌, Bool, true, false, List, [], ◌∷◌, length, slice_index_or, Option, Some, None, refl}
+use Rattle.std.specs.Coded.{Coded, code_by, coded×, coded_ℕ}
 use Rattle.std.specs.Ordering.{nat_cmp}
-use Rattle.std.specs.FinMap.{FinMap, from_entries}
+use Rattle.std.specs.FinMap.{FinMap, code, from_entries}
 use Rattle.cube_shape.specs.declared.limits.TheConstants.{MAX_DIM, MAX_STATIONS}
 use Rattle.cube_shape.specs.declared.region.Region.{Region}
 use Rattle.cube_shape.specs.Region.{Covers, block}
 use Rattle.cube_shape.specs.Machine.{Holdings, IsLawful}
+use Rattle.alloc_bits.specs.Allocation.{Allocation}
 
 -- what the slot of a station holds; there is nothing past the slots
 abbrev pub slot_of : List (Option Region) → Holdings
@@ -36,10 +38,19 @@ pub record IsFirstClear (n k : ℕ) (bits : List Bool) (m : ℕ) : Type 0 where
   pub least : (i : ℕ) → i < m → IsClear bits (block k i) → ⊥
 
 -- there is a bit for each processor, and those of the held regions are set
-pub record Marks (n : ℕ) (slots : List (Option Region)) (bits : List Bool) : Type 0 where
+pub record Represents (n : ℕ) (slots : List (Option Region)) (bits : List Bool) : Type 0 where
   pub dim_in_limits : n ≤ MAX_DIM
   pub bit_count : length bits ≡ 2 ^ n
   pub slot_count : length slots ≡ MAX_STATIONS
   pub lawful : IsLawful n (slot_of slots)
   pub set : (s p : ℕ) (a : Region) → slot_of slots s ≡ Some a → Covers a p → bit_of bits p ≡ true
   pub clear : (p : ℕ) → ((s : ℕ) (a : Region) → slot_of slots s ≡ Some a → Covers a p → ⊥) → bit_of bits p ≡ false
+
+-- a region is stored as its two numbers, and an allocation as its two parts
+abbrev pub region_code : Coded Region
+region_code =
+    code_by (ℕ × ℕ) (coded× coded_ℕ coded_ℕ) (λ r. (r.base, r.dim)) (λ p. record { base = p.0; dim = p.1 }) (λ _. refl)
+
+abbrev pub allocation_code : Coded Allocation
+allocation_code =
+    code_by (ℕ × FinMap nat_cmp Region) (coded× coded_ℕ (code coded_ℕ region_code)) (λ a. (a.dim, a.pairs)) (λ p. record { dim = p.0; pairs = p.1 }) (λ _. refl)

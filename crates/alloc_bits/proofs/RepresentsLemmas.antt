@@ -11,7 +11,7 @@ use Rattle.cube_shape.specs.Machine.{Holdings, IsFree, Gives, TakesBack, IsFirst
 use Rattle.cube_shape.proofs.RegionLemmas.{IsAligned-block}
 use Rattle.cube_shape.proofs.MachineLemmas.{IsLawful-none, IsLawful-gives, IsLawful-takes_back}
 use Rattle.alloc_bits.specs.Allocation.{Allocation, held_in}
-use Rattle.alloc_bits.specs.Bits.{slot_of, pairs_of, bit_of, IsClear, IsFirstClear, Marks}
+use Rattle.alloc_bits.specs.Inner.{slot_of, pairs_of, bit_of, IsClear, IsFirstClear, Represents}
 use Rattle.alloc_bits.proofs.SlotLemmas.{get-pairs_of}
 
 -- what the pairs say of every station is what the slots say
@@ -51,8 +51,8 @@ bit_of-empty n p = elim (cases_lt p n) [
   | inr past ↦ get_or_past (replicate n false) p false (simp length-replicate past)
 ]
 
-pub Marks-new : (n : ℕ) → n ≤ MAX_DIM → Marks n (replicate MAX_STATIONS None) (replicate (2 ^ n) false)
-Marks-new n fits = record {
+pub Represents-new : (n : ℕ) → n ≤ MAX_DIM → Represents n (replicate MAX_STATIONS None) (replicate (2 ^ n) false)
+Represents-new n fits = record {
   dim_in_limits = fits;
   bit_count = length-replicate (2 ^ n) false;
   slot_count = length-replicate {A = Option Region} MAX_STATIONS None;
@@ -61,11 +61,11 @@ Marks-new n fits = record {
   clear = λ p free. bit_of-empty (2 ^ n) p;
 }
 
-pub Marks-made : (n : ℕ) (slots : List (Option Region)) (bits : List Bool) → n ≤ MAX_DIM → slots ≡ replicate MAX_STATIONS None → bits ≡ replicate (2 ^ n) false → Marks n slots bits
-Marks-made n slots bits fits empty clear =
-    subst (λ xs. Marks n xs bits) (sym empty) (subst (Marks n (replicate MAX_STATIONS None)) (sym clear) (Marks-new n fits))
+pub Represents-made : (n : ℕ) (slots : List (Option Region)) (bits : List Bool) → n ≤ MAX_DIM → slots ≡ replicate MAX_STATIONS None → bits ≡ replicate (2 ^ n) false → Represents n slots bits
+Represents-made n slots bits fits empty clear =
+    subst (λ xs. Represents n xs bits) (sym empty) (subst (Represents n (replicate MAX_STATIONS None)) (sym clear) (Represents-new n fits))
 
-module _ (n : ℕ) (slots : List (Option Region)) (bits : List Bool) (marks : Marks n slots bits) where
+module _ (n : ℕ) (slots : List (Option Region)) (bits : List Bool) (marks : Represents n slots bits) where
   -- a region is clear exactly if it is apart from every held one
   pub free_from_clear : (r : Region) → IsClear bits r → IsFree (slot_of slots) r
   free_from_clear r clear s a is p in_a in_r = true≢false (sym (marks.set s p a is in_a) ∙ clear p in_r)
@@ -109,10 +109,10 @@ same_region e = cc
 
 module _ (n station : ℕ) (slots slots' : List (Option Region)) (bits bits' : List Bool) (r : Region)
     (same_slots : length slots' ≡ length slots) (same_bits : length bits' ≡ length bits)
-    (outside : (p : ℕ) → (Covers r p → ⊥) → bit_of bits' p ≡ bit_of bits p) (marks : Marks n slots bits) where
+    (outside : (p : ℕ) → (Covers r p → ⊥) → bit_of bits' p ≡ bit_of bits p) (marks : Represents n slots bits) where
   -- a station was given the region, and its bits were set
-  pub Marks-given : (k : ℕ) → Gives n station k (slot_of slots) (slot_of slots') r → ((p : ℕ) → Covers r p → bit_of bits' p ≡ true) → Marks n slots' bits'
-  Marks-given k gives inside = record {
+  pub Represents-given : (k : ℕ) → Gives n station k (slot_of slots) (slot_of slots') r → ((p : ℕ) → Covers r p → bit_of bits' p ≡ true) → Represents n slots' bits'
+  Represents-given k gives inside = record {
     dim_in_limits = marks.dim_in_limits;
     bit_count = same_bits ∙ marks.bit_count;
     slot_count = same_slots ∙ marks.slot_count;
@@ -139,8 +139,8 @@ module _ (n station : ℕ) (slots slots' : List (Option Region)) (bits bits' : L
           ])
 
   -- the region was taken back from its station, and its bits were cleared
-  pub Marks-taken_back : TakesBack station (slot_of slots) (slot_of slots') r → ((p : ℕ) → Covers r p → bit_of bits' p ≡ false) → Marks n slots' bits'
-  Marks-taken_back back inside = record {
+  pub Represents-taken_back : TakesBack station (slot_of slots) (slot_of slots') r → ((p : ℕ) → Covers r p → bit_of bits' p ≡ false) → Represents n slots' bits'
+  Represents-taken_back back inside = record {
     dim_in_limits = marks.dim_in_limits;
     bit_count = same_bits ∙ marks.bit_count;
     slot_count = same_slots ∙ marks.slot_count;
@@ -176,9 +176,9 @@ all_written n old new is same = ap (λ k. take k (new ++ drop (length new) old))
 pub holdings_written : (n : ℕ) (old new : List (Option Region)) → n ≡ length old → length new ≡ length old → get (pairs_of (take n (new ++ drop (length new) old))) ≡ slot_of new
 holdings_written n old new is same = holdings_are _ ∙ ap slot_of (all_written n old new is same)
 
-pub Marks-written : (n slot_count bit_count : ℕ) (slots slots' : List (Option Region)) (bits bits' : List Bool)
-    → slot_count ≡ length slots → length slots' ≡ length slots → bit_count ≡ length bits → length bits' ≡ length bits → Marks n slots' bits'
-    → Marks n (take slot_count (slots' ++ drop (length slots') slots)) (take bit_count (bits' ++ drop (length bits') bits))
-Marks-written n slot_count bit_count slots slots' bits bits' slot_is same_slots bit_is same_bits marks =
-    subst (λ xs. Marks n xs (take bit_count (bits' ++ drop (length bits') bits))) (sym (all_written slot_count slots slots' slot_is same_slots))
-    (subst (Marks n slots') (sym (all_written bit_count bits bits' bit_is same_bits)) marks)
+pub Represents-written : (n slot_count bit_count : ℕ) (slots slots' : List (Option Region)) (bits bits' : List Bool)
+    → slot_count ≡ length slots → length slots' ≡ length slots → bit_count ≡ length bits → length bits' ≡ length bits → Represents n slots' bits'
+    → Represents n (take slot_count (slots' ++ drop (length slots') slots)) (take bit_count (bits' ++ drop (length bits') bits))
+Represents-written n slot_count bit_count slots slots' bits bits' slot_is same_slots bit_is same_bits marks =
+    subst (λ xs. Represents n xs (take bit_count (bits' ++ drop (length bits') bits))) (sym (all_written slot_count slots slots' slot_is same_slots))
+    (subst (Represents n slots') (sym (all_written bit_count bits bits' bit_is same_bits)) marks)
