@@ -61,8 +61,8 @@ pub fn all_reduce<M: Monoid>(items: &mut [M], k: u32) -> Tally
 
 /// Each place receives the items up to its own, joined in the order of their ranks.
 ///
-/// There are `2^k` items, all of them values, and `scratch` has as many places. What it holds at first
-/// is ignored; in the end each of its places holds the total of all items.
+/// There are `2^k` items, all of them values, and `scratch` has as many places. What it holds at
+/// first is ignored; in the end each of its places holds the total of all items.
 pub fn scan<M: Monoid>(items: &mut [M], scratch: &mut [M], k: u32) -> Tally
     requires dim { k < DIM_LIMIT }
     requires places { length items.old ≡ 2 ^ k }

@@ -3,8 +3,8 @@
 //!
 //! The ranks are the numbers from `0` to `2^k - 1`, and rank `x` holds the item `items[x]`. In
 //! round `i` a message goes between two ranks that differ in bit `i` alone, and where their items
-//! are combined, the one whose bit `i` is 0 stands on the left. So the items are joined in the order
-//! of their ranks, and joining need not be commutative.
+//! are combined, the one whose bit `i` is 0 stands on the left. So the items are joined in the
+//! order of their ranks, and joining need not be commutative.
 #![tactic(auto)]
 
 mod collective;

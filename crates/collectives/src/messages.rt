@@ -11,9 +11,9 @@ use crate::shape::{DIM_LIMIT, Shape, places};
 /// Message number `i`, from 0 on, of a collective on `2^k` places.
 ///
 /// Messages are counted round after round. Within a round those of a broadcast come in the order of
-/// their senders, seen from the root (rank `x` is seen as `x ^ root`), those of a reduction in the order of
-/// their receivers, and those of an all-reduce and a scan in the order of their senders. Only
-/// a broadcast and a reduction have a root: an all-reduce and a scan ignore it.
+/// their senders, seen from the root (rank `x` is seen as `x ^ root`), those of a reduction in the
+/// order of their receivers, and those of an all-reduce and a scan in the order of their senders.
+/// Only a broadcast and a reduction have a root: an all-reduce and a scan ignore it.
 ///
 /// Both ranks are in the cube and differ in the bit of the round alone. On each region of dimension
 /// `k`, whose base is some `m * 2^k`, the processors of the two ranks are therefore neighbours.
@@ -23,7 +23,8 @@ pub fn message_at(shape: Shape, k: u32, root: u64, i: u64) -> Message
     requires number { i < message_count shape k }
     ensures message { IsMessage shape k root result }
     ensures number { message_number shape k root result ≡ i }
-    ensures alone { (m : Message) → IsMessage shape k root m → message_number shape k root m ≡ i → m ≡ result }
+    ensures alone { (m : Message) → IsMessage shape k root m
+        → message_number shape k root m ≡ i → m ≡ result }
     ensures rising { (m : Message) → IsMessage shape k root m → i ≤ message_number shape k root m
         → result.round ≤ m.round }
     ensures edge { IsAlongAnEdge k result }

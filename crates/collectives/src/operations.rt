@@ -162,8 +162,8 @@ impl Monoid for Or {
     ghost laws = { or_laws };
 }
 
-/// The map of `x` to `a * x + b` modulo `2^32`; joined, the left map comes first. Values have an `a`
-/// and a `b` below `2^32`.
+/// The map of `x` to `a * x + b` modulo `2^32`; joined, the left map comes first. Values have an
+/// `a` and a `b` below `2^32`.
 ///
 /// Joining is not commutative.
 #[derive(Clone, Copy, Debug, PartialEq, Eq, Hash)]

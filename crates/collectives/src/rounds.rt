@@ -34,7 +34,8 @@ fn all_reduce_block<M: Monoid>(items: &mut [M], start: usize, half: usize)
     requires start { start % (2 * half) ≡ 0 }
     requires within { start + 2 * half ≤ length items.old }
     requires values { All M.is_value items.old }
-    ensures joined { TurnsPairsIn M.unit half start (start + 2 * half) (λ low. M.join) (λ low. M.join) items.old items.new }
+    ensures joined { TurnsPairsIn M.unit half start (start + 2 * half)
+        (λ low. M.join) (λ low. M.join) items.old items.new }
     ensures values { All M.is_value items.new }
 {
     for low in start..start + half {
@@ -47,7 +48,8 @@ fn all_reduce_pair<M: Monoid>(items: &mut [M], low: usize, high: usize)
     requires low { low < length items.old }
     requires high { high < length items.old }
     requires values { All M.is_value items.old }
-    ensures joined { let both = M.join (item_at M.unit items.old low) (item_at M.unit items.old high) in
+    ensures joined { let both =
+        M.join (item_at M.unit items.old low) (item_at M.unit items.old high) in
         items.new ≡ slice_set (slice_set items.old low both) high both }
     ensures values { All M.is_value items.new }
 {
@@ -56,8 +58,8 @@ fn all_reduce_pair<M: Monoid>(items: &mut [M], low: usize, high: usize)
     items[high] = joined;
 }
 
-// The higher rank of each pair puts the total of the lower rank before its own prefix, and then both
-// ranks receive their two totals joined, in the order of the ranks.
+// The higher rank of each pair puts the total of the lower rank before its own prefix, and then
+// both ranks receive their two totals joined, in the order of the ranks.
 pub(crate) fn scan_round<M: Monoid>(prefixes: &mut [M], totals: &mut [M], half: usize)
     requires half { 0 < half }
     requires block { 2 * half ≤ length prefixes.old }
@@ -86,7 +88,8 @@ fn scan_block<M: Monoid>(prefixes: &mut [M], totals: &mut [M], start: usize, hal
     requires total_values { All M.is_value totals.old }
     ensures prepended { TurnsPairsIn M.unit half start (start + 2 * half) (λ low a b. a)
         (λ low a b. M.join (item_at M.unit totals.old low) b) prefixes.old prefixes.new }
-    ensures joined { TurnsPairsIn M.unit half start (start + 2 * half) (λ low. M.join) (λ low. M.join) totals.old totals.new }
+    ensures joined { TurnsPairsIn M.unit half start (start + 2 * half)
+        (λ low. M.join) (λ low. M.join) totals.old totals.new }
     ensures values { All M.is_value prefixes.new }
     ensures total_values { All M.is_value totals.new }
 {
@@ -109,8 +112,9 @@ fn prepend_total<M: Monoid>(prefixes: &mut [M], totals: &[M], low: usize, high: 
     prefixes[high] = totals[low].join(prefixes[high]);
 }
 
-// In each pair that agrees with the root below the bit of the round, the rank that agrees in this bit
-// too receives the two items joined, in the order of the ranks, and the other rank keeps the unit.
+// In each pair that agrees with the root below the bit of the round, the rank that agrees in this
+// bit too receives the two items joined, in the order of the ranks, and the other rank keeps the
+// unit.
 pub(crate) fn reduce_round<M: Monoid>(items: &mut [M], root: usize, half: usize)
     requires half { 0 < half }
     requires block { 2 * half ≤ length items.old }
@@ -128,12 +132,14 @@ pub(crate) fn reduce_round<M: Monoid>(items: &mut [M], root: usize, half: usize)
     }
 }
 
-// One of the two ranks receives their items joined, the lower one's on the left, the other the unit.
+// One of the two ranks receives their items joined, the lower one's on the left, the other the
+// unit.
 fn reduce_pair<M: Monoid>(items: &mut [M], low: usize, high: usize, to_low: bool)
     requires low { low < length items.old }
     requires high { high < length items.old }
     requires values { All M.is_value items.old }
-    ensures reduced { let both = M.join (item_at M.unit items.old low) (item_at M.unit items.old high) in
+    ensures reduced { let both =
+        M.join (item_at M.unit items.old low) (item_at M.unit items.old high) in
         let at_low = (if to_low then both else M.unit) in
         let at_high = (if to_low then M.unit else both) in
         items.new ≡ slice_set (slice_set items.old low at_low) high at_high }

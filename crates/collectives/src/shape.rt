@@ -32,8 +32,8 @@ pub struct Tally {
 }
 
 impl Shape {
-    /// The tally of a collective of this shape on `2^k` places: `k` rounds, and the messages of these
-    /// rounds.
+    /// The tally of a collective of this shape on `2^k` places: `k` rounds, and the messages of
+    /// these rounds.
     pub fn tally(self, k: u32) -> Tally
         requires { k < DIM_LIMIT }
         ensures tally { result ≡ tally_of self k }

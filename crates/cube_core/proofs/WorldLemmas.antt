@@ -7,7 +7,7 @@ use Rattle.std.proofs.Math.Pow.{pow_mono}
 use Rattle.std.proofs.lemmas.List.{get_or_default, get_or-set_same, length-set, length-replicate, take_more, reverse-append}
 use Rattle.cube_shape.specs.Node.{IsInCube}
 use Rattle.cube_core.specs.declared.effect.Effect.{Effect}
-use Rattle.cube_core.specs.Effect.{IsEffect}
+use Rattle.cube_core.specs.InnerEffect.{IsEffect}
 use Rattle.cube_core.specs.declared.phase.Phase.{Phase}
 use Rattle.cube_core.specs.declared.phase.Phase.TheVariants.{Idle, Looking, Looked, Climbing, Swept, Holding, Leaving, Backing, Arriving, Unmarked, Marked, Retired}
 use Rattle.cube_core.specs.declared.act.Act.{Act}
@@ -17,7 +17,8 @@ use Rattle.cube_core.specs.declared.act.Refused.TheVariants.{NotIdle, NoStation,
 use Rattle.cube_core.specs.Phase.{owned, node_held}
 use Rattle.cube_core.specs.Event.{Transition, transition, retirement}
 use Rattle.cube_core.specs.Schedule.{Record, State, record_of, phase_of, word_of, initial, apply_begin, apply_event, take_refusal, release_refusal, retire_refusal, step_refusal, phase_refusal, refusal, station_of, apply_accepted, unless_refused, apply, apply_all}
-use Rattle.cube_core.specs.World.{record_without_trail, state_of, without_trails, IsReached, IsWorld, HasShapeOf}
+use Rattle.cube_core.specs.World.{record_without_trail, without_trails, HasShapeOf}
+use Rattle.cube_core.specs.InnerWorld.{state_of, IsReached, IsWorld}
 use Rattle.cube_core.specs.Count.{depth, events_due, IsCounted}
 use Rattle.cube_core.specs.Law.{IsTreeLawful}
 use Rattle.cube_core.proofs.ChangeLemmas.{Fit, IsInner}

@@ -1,6 +1,5 @@
 pub mod Phase
 pub mod Event
-pub mod Effect
 pub mod Schedule
 pub mod World
 pub mod Safety
@@ -8,3 +7,5 @@ pub mod Debts
 pub mod Held
 pub mod Count
 pub mod Law
+pub mod InnerEffect
+pub mod InnerWorld

@@ -1,7 +1,7 @@
 ghost use Rattle.std.specs.Prelude.{◌≡◌, ◌≢◌, ℕ, ◌^◌, ◌<◌};
 ghost use Rattle.cube_shape.specs.Node.{OnPath};
 ghost use Rattle.cube_core.specs.Event.{transition, phase_after_raise, note_after_raise, phase_after_zero, note_after_zero, seen_at, seen_note, zero_event, clear_event, cleared_as_seen, retirement};
-ghost use Rattle.cube_core.specs.Effect.{IsEffect};
+ghost use Rattle.cube_core.specs.InnerEffect.{IsEffect};
 
 use crate::event::{Event, Kind, Note};
 use crate::phase::{Phase, Seen};

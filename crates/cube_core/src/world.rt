@@ -2,7 +2,7 @@ ghost use Rattle.std.specs.Prelude.{◌≡◌, ◌≢◌, ℕ, ◌+◌, ◌*◌,
 ghost use Rattle.cube_core.specs.Schedule.{apply, apply_all, initial, phase_of, record_of, refusal, step_refusal, word_of};
 ghost use Rattle.cube_core.specs.World.{HasShapeOf, without_trails};
 ghost use Rattle.cube_core.specs.Event.{transition, retirement};
-ghost use Rattle.cube_core.specs.Effect.{IsEffect};
+ghost use Rattle.cube_core.specs.InnerEffect.{IsEffect};
 ghost use Rattle.cube_core.specs.Count.{depth, events_due};
 ghost use Rattle.cube_core.specs.Phase.{node_held};
 ghost use Rattle.cube_core.specs.Law.{CallsAreSingleEvents, EveryScheduleIsLawful, IsTreeLawful};
@@ -28,7 +28,7 @@ pub struct World {
 
 impl Model for World {
     ghost use Rattle.cube_core.specs.Schedule.{State};
-    ghost use Rattle.cube_core.specs.World.{state_of, IsWorld};
+    ghost use Rattle.cube_core.specs.InnerWorld.{state_of, IsWorld};
 
     ghost Value = { State };
 

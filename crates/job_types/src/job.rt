@@ -90,8 +90,8 @@ impl Job {
         self.request.kind()
     }
 
-    /// The dimension of the smallest region that has a processor for each item. Today the items fill
-    /// it.
+    /// The dimension of the smallest region that has a processor for each item. Today the items
+    /// fill it.
     pub fn dim(&self) -> u32
         ensures value { result ≡ dim_of (length self.now.items) }
         ensures power { 2 ^ result ≡ length self.now.items }

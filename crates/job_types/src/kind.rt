@@ -24,24 +24,24 @@ pub enum Op {
 /// Which collective a job asks for. Items are joined in the order of their ranks.
 #[derive(Clone, Copy, Debug, PartialEq, Eq, Hash)]
 pub enum Kind {
-    /// Every processor gets the item of the root.
+    /// Every processor receives the item of the root.
     Broadcast {
         /// The rank of the root.
         root: u64,
     },
-    /// The root gets all items, joined, and the other processors get nothing.
+    /// The root receives all items, joined, and the other processors hold nothing.
     Reduce {
         /// What joins them.
         op: Op,
         /// The rank of the root.
         root: u64,
     },
-    /// Every processor gets all items, joined.
+    /// Every processor receives all items, joined.
     AllReduce {
         /// What joins them.
         op: Op,
     },
-    /// Each processor gets the items up to and with its own, joined.
+    /// Each processor receives the items up to and with its own, joined.
     Scan {
         /// What joins them.
         op: Op,

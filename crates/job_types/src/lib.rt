@@ -3,8 +3,8 @@
 //! A job asks for one collective over its items, of which there are `2^k`: it runs on a region of
 //! dimension `k`, with one item on each processor. Its reply names that region and holds the
 //! collective's result. A job is answered by the rounds of `collectives`, in a workspace that it
-//! reserved when it was made. Only answering a job makes a `Reply`, so its result is always the plain
-//! definition of the collective.
+//! reserved when it was made. Only answering a job makes a `Reply`, so its result is always the
+//! plain definition of the collective.
 #![tactic(auto)]
 
 mod job;

@@ -6,8 +6,8 @@ ghost use Rattle.job_types.specs.Inner.Operation.{IsOperation};
 
 use collectives::{Add, And, Max, Min, Monoid, Or, Xor};
 
-// The monoid of an operation of jobs. Each of its members stands for a number, and each `u64` is the
-// number of a value.
+// The monoid of an operation of jobs. Each of its members stands for a number, and each `u64` is
+// the number of a value.
 pub(crate) trait Operation: Monoid {
     ghost op: { Op };
 

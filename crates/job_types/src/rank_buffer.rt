@@ -13,8 +13,8 @@ use std::alloc::{AllocError, Global};
 use std::boxed::BoxedSlice;
 use std::marker::Model;
 
-// A place for each rank of a region, with an item that the operation can join, and the scratch items
-// of a scan. Neither list can grow.
+// A place for each rank of a region, with an item that the operation can join, and the scratch
+// items of a scan. Neither list can grow.
 #[derive(Debug, Drop)]
 pub(crate) struct RankBuffer<M: Operation> {
     items: BoxedSlice<M>,

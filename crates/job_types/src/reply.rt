@@ -24,8 +24,8 @@ pub struct JobId {
     pub seq: u64,
 }
 
-/// The reply to a job: the region that the job ran on, the collective's result on its items, and the
-/// rounds and messages that it took.
+/// The reply to a job: the region that the job ran on, the collective's result on its items, and
+/// the rounds and messages that it took.
 #[derive(Debug, Drop)]
 pub struct Reply {
     id: JobId,
@@ -82,8 +82,8 @@ impl Reply {
         &self.job
     }
 
-    /// The region that the job ran on: aligned, of its machine, and the smallest with a processor for
-    /// each item.
+    /// The region that the job ran on: aligned, of its machine, and the smallest with a processor
+    /// for each item.
     pub fn region(&self) -> Region
         ensures value { result ≡ self.now.region }
         ensures aligned { IsAligned self.now.job.machine result }
@@ -94,13 +94,14 @@ impl Reply {
 
     /// The rounds and messages of the collective, on a processor for each item.
     pub fn tally(&self) -> Tally
-        ensures { result ≡ tally_of (shape_of self.now.job.kind) (dim_of (length self.now.job.items)) }
+        ensures { result ≡
+            tally_of (shape_of self.now.job.kind) (dim_of (length self.now.job.items)) }
     {
         self.tally
     }
 
-    /// What the region's processor of this rank holds in the end. It is `None` for a rank that has no
-    /// item, and at every rank but the root of a reduction.
+    /// What the region's processor of this rank holds in the end. It is `None` for a rank that has
+    /// no item, and at every rank but the root of a reduction.
     pub fn at(&self, rank: u64) -> Option<u64>
         ensures { result ≡ result_at self.now.job.kind self.now.job.items rank }
     {

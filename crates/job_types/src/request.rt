@@ -55,7 +55,8 @@ impl Model for Request {
     ghost invariant = { λ r. IsJob r.machine r.lane r.kind r.dim r.items.items };
 }
 
-// Why a machine of dimension `n` refuses these items: the first reason, in the order of `JobRefused`.
+// Why a machine of dimension `n` refuses these items: the first reason, in the order of
+// `JobRefused`.
 pub(crate) fn refusal(n: u32, kind: Kind, items: &[u64]) -> Option<JobRefused>
     requires { n ≤ MAX_DIM }
     ensures { result ≡ refusal_of n kind items.now }
@@ -117,8 +118,8 @@ impl Request {
         self.kind
     }
 
-    /// The dimension of the smallest region that has a processor for each item. Today the items fill
-    /// it.
+    /// The dimension of the smallest region that has a processor for each item. Today the items
+    /// fill it.
     pub fn dim(&self) -> u32
         ensures value { result ≡ dim_of (length self.now.items) }
         ensures power { 2 ^ result ≡ length self.now.items }

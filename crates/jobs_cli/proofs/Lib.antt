@@ -2,3 +2,4 @@ pub mod OrderLemmas
 pub mod TraceLemmas
 pub mod StationLemmas
 pub mod ReplayLemmas
+pub mod CommandLineLemmas

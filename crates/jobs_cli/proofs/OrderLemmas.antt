@@ -1,6 +1,6 @@
 -- From the lanes of jobs to the order of their replies: lane by lane, all jobs are there, and their
--- names rise.
-use Rattle.std.proofs.Common.{◌≡◌, ◌≢◌, ℕ, zero, suc, ◌+◌, ◌<◌, ◌≤◌, ◌==◌, inl, inr, Bool, true, false, List, [], ◌∷◌, ◌++◌, All, length, map, slice_index_or, Vec, Global, Option, Some, None, IfSome, Result, Ok, Err, IfErr, OnOk, if◌then◌else◌, refl, sym, ap, subst, ◌∙◌, arith}
+-- ids rise.
+use Rattle.std.proofs.Common.{◌≡◌, ◌≢◌, ℕ, zero, suc, ◌+◌, ◌<◌, ◌≤◌, ◌==◌, inl, inr, Bool, true, false, List, [], ◌∷◌, ◌++◌, All, length, map, slice_index_or, Vec, Global, Option, Some, None, IfSome, Ok, if◌then◌else◌, refl, sym, ap, subst, ◌∙◌, arith}
 use Rattle.std.specs.Bool.{⊤}
 use Rattle.std.specs.List.Sorted.{IsPermutation, IsSorted}
 use Rattle.std.specs.Cmp.{nat_cmp_is}
@@ -8,7 +8,7 @@ use Rattle.std.specs.Ordering.{is_lt, nat_cmp, ordering_then}
 use Rattle.std.specs.declared.cmp.Ordering.{Ordering}
 use Rattle.std.specs.declared.cmp.Ordering.TheVariants.{Equal, Greater}
 use Rattle.std.specs.Io.KnownBytes.{Appends}
-use Rattle.std.proofs.lemmas.Bool.{cases_eq, false≢true}
+use Rattle.std.proofs.lemmas.Bool.{cases_eq}
 use Rattle.std.proofs.lemmas.Bool.Decides.{nat_tests}
 use Rattle.std.proofs.lemmas.List.{map-append}
 use Rattle.std.proofs.lemmas.List.Concat.{flat_map-cons}
@@ -18,15 +18,15 @@ use Rattle.std.proofs.lemmas.List.Sums.{sum_by_push}
 use Rattle.job_types.specs.Job.{JobData}
 use Rattle.job_types.specs.declared.request.TheConstants.{MAX_LANES}
 use Rattle.job_types.specs.Reply.{ReplyData}
-use Rattle.jobs_csv.specs.declared.fault.Fault.{Fault}
-use Rattle.jobs_csv.specs.declared.fault.FaultKind.TheVariants as what
-use Rattle.jobs_csv.specs.Fault.{IsFailure, is_refusal}
 use Rattle.jobs_csv.specs.Jobs.{parse_jobs}
 use Rattle.jobs_csv.specs.Lanes.{AreLanes, ReturnsLanes, in_lane}
-use Rattle.jobs_csv.specs.Replies.{replies_text}
-use Rattle.jobs_cli.specs.Names.{JobWithId, with_ids_after, lane_by_lane, lane_count, with_id_after, with_ids_from}
-use Rattle.jobs_cli.specs.Replies.{AreInOrder, answered, by_id}
-use Rattle.jobs_cli.specs.Run.{IsAnswer}
+use Rattle.jobs_csv.specs.Replies.{reply_columns, reply_fields}
+use Rattle.jobs_csv.specs.Text.{file_text}
+use Rattle.jobs_cli.specs.JobIds.{JobWithId, with_ids_after, lane_count, with_id_after}
+use Rattle.jobs_cli.specs.InnerJobIds.{lane_by_lane, with_ids_from}
+use Rattle.jobs_cli.specs.Replies.{AreInOrder, answered_job, by_id}
+use Rattle.jobs_cli.specs.Program.{IsAnswerTo}
+use Rattle.jobs_cli.specs.declared.invocation.Invocation.TheVariants.{Run}
 
 -- ---- one job more in front
 
@@ -42,9 +42,9 @@ other_front lane job jobs other =
     let apart : (job.lane == lane) ≡ false = grind (arith, nat_tests) in
     ap (λ (b : Bool). if b then job ∷ in_lane lane jobs else in_lane lane jobs) apart
 
--- ---- the lists of lanes one behind the other
+-- ---- the lists of lanes, joined
 
--- the lists of so many lanes, from the first one on
+-- the lists of n lanes, from the first one on
 abbrev concat_lanes : (ℕ → List JobWithId) → ℕ → ℕ → List JobWithId
 concat_lanes named first zero = []
 concat_lanes named first (suc n) = named first ++ concat_lanes named (suc first) n
@@ -75,7 +75,7 @@ one_in_front f g x k first (suc n) le lt here others = elim (cases_eq first k) [
 
 -- ---- all jobs are there
 
--- the jobs of a lane with their names, when these came before all
+-- the jobs of a lane with their ids, when these came before all
 lane_with_ids : List JobData → List JobData → ℕ → List JobWithId
 lane_with_ids before jobs lane = with_ids_from (lane_count lane before) (in_lane lane jobs)
 
@@ -108,9 +108,9 @@ all_there before (job ∷ jobs) below =
     (IsPermutation-cons (with_id_after before job) _ _ (all_there front jobs (λ k d lt. below (suc k) d (omega (arith, lt)))))
     (one_in_front (lane_with_ids front jobs) (lane_with_ids before (job ∷ jobs)) (with_id_after before job) job.lane 0 MAX_LANES (omega arith) (below 0 job (omega arith)) (with_ids_here before jobs job) (λ lane other. with_ids_else before jobs job lane other))
 
--- ---- their names rise
+-- ---- their ids rise
 
--- the first of the names is not before this one
+-- the first of the ids is not before this one
 abbrev Follows : JobWithId → List JobWithId → Type 0
 Follows x [] = ⊤
 Follows x (y ∷ ys) = is_lt (by_id y x) ≡ false
@@ -126,7 +126,7 @@ sorted_front x (y ∷ ys) first sorted = rises
     rises zero d le lt = first
     rises (suc k) d le lt = subst (λ (i : ℕ). is_lt (by_id (slice_index_or (x ∷ y ∷ ys) i d) (slice_index_or (y ∷ ys) k d)) ≡ false) (next k) (sorted k d (omega arith) (omega (arith, lt)))
 
--- a name of a later lane, or of the same lane with a greater number, is not before
+-- an id of a later lane, or of the same lane with a greater number, is not before
 lane_after : (x y : JobWithId) → x.id.lane < y.id.lane → is_lt (by_id y x) ≡ false
 lane_after x y lt = ap (λ (o : Ordering). is_lt (ordering_then o (nat_cmp y.id.seq x.id.seq))) (sym (nat_cmp_is y.id.lane x.id.lane Greater lt))
 
@@ -135,7 +135,7 @@ seq_after x y same lt =
     ap (λ (o : Ordering). is_lt (ordering_then o (nat_cmp y.id.seq x.id.seq))) (sym (nat_cmp_is y.id.lane x.id.lane Equal (sym same)))
     ∙ ap (λ (o : Ordering). is_lt o) (sym (nat_cmp_is y.id.seq x.id.seq Greater lt))
 
--- the first of the names is of a later lane than this one
+-- the first of the ids is of a later lane than this one
 abbrev IsPast : ℕ → List JobWithId → Type 0
 IsPast lane [] = ⊤
 IsPast lane (x ∷ xs) = lane < x.id.lane
@@ -155,7 +155,7 @@ next_follows lane seq job [] [] here own past = tt
 next_follows lane seq job [] (y ∷ ys) here own past = lane_after (record { id = record { lane = job.lane; seq = seq }; job = job }) y (rw here past)
 next_follows lane seq job (next ∷ jobs) rest here own past = seq_after (record { id = record { lane = job.lane; seq = seq }; job = job }) (record { id = record { lane = next.lane; seq = suc seq }; job = next }) (here ∙ sym (own 0 next (omega arith))) (omega arith)
 
--- the names of a lane rise, and those of later lanes may follow
+-- the ids of a lane rise, and those of later lanes may follow
 lane_sorted : (lane seq : ℕ) (jobs : List JobData) (rest : List JobWithId) → All (λ job. job.lane ≡ lane) jobs → IsPast lane rest → IsSorted by_id rest → IsSorted by_id (with_ids_from seq jobs ++ rest)
 unfolding with_ids_from
 lane_sorted lane seq [] rest own past sorted = sorted
@@ -188,14 +188,14 @@ as_concat_lanes jobs_of (lane ∷ lanes) first each =
 pub in_order : (jobs : List JobData) (lanes : List (Vec JobData Global)) → AreLanes lanes jobs → AreInOrder jobs (lane_by_lane lanes)
 unfolding lane_with_ids
 in_order jobs lanes k =
-    let gathered : lane_by_lane lanes ≡ concat_lanes (lane_with_ids [] jobs) 0 MAX_LANES =
+    let buffered : lane_by_lane lanes ≡ concat_lanes (lane_with_ids [] jobs) 0 MAX_LANES =
     as_concat_lanes (λ lane. in_lane lane jobs) lanes 0 (λ place lane none lt at. k.each place none (omega (arith, lt, k.count)) ∙ ap (λ (l : ℕ). in_lane l jobs) (omega (arith, at))) ∙ ap (concat_lanes (lane_with_ids [] jobs) 0) k.count in
     record {
-      same = rw gathered (all_there [] jobs k.below);
-      sorted = rw gathered (concat_lanes_sorted (λ lane. in_lane lane jobs) (λ lane. own_lane lane jobs) 0 MAX_LANES);
+      same = rw buffered (all_there [] jobs k.below);
+      sorted = rw buffered (concat_lanes_sorted (λ lane. in_lane lane jobs) (λ lane. own_lane lane jobs) 0 MAX_LANES);
     }
 
--- ---- the names of a lane, one by one
+-- ---- the ids of a lane, one by one
 
 pub no_ids : with_ids_from 0 [] ≡ []
 unfolding with_ids_from
@@ -207,29 +207,24 @@ with_ids_push seq [] job = ap (λ (number : ℕ). record { id = record { lane = 
 with_ids_push seq (first ∷ jobs) job =
     ap (λ (rest : List JobWithId). record { id = record { lane = first.lane; seq = seq }; job = first } ∷ rest) (with_ids_push (suc seq) jobs job ∙ ap (λ (number : ℕ). with_ids_from (suc seq) jobs ++ record { id = record { lane = job.lane; seq = number }; job = job } ∷ []) (omega arith))
 
--- a reply more has the next name
-pub reply_push : (replies : List ReplyData) (jobs : List JobData) (reply : ReplyData) (job : JobData) (seq : ℕ) → map answered replies ≡ with_ids_from 0 jobs → answered reply ≡ record { id = record { lane = job.lane; seq = seq }; job = job } → seq ≡ length jobs → map answered (replies ++ reply ∷ []) ≡ with_ids_from 0 (jobs ++ job ∷ [])
+-- one more reply has the next id
+pub reply_push : (replies : List ReplyData) (jobs : List JobData) (reply : ReplyData) (job : JobData) (seq : ℕ) → map answered_job replies ≡ with_ids_from 0 jobs → answered_job reply ≡ record { id = record { lane = job.lane; seq = seq }; job = job } → seq ≡ length jobs → map answered_job (replies ++ reply ∷ []) ≡ with_ids_from 0 (jobs ++ job ∷ [])
 reply_push replies jobs reply job seq same answers count =
     let number : seq ≡ 0 + length jobs = omega (arith, count) in
-    map-append answered replies (reply ∷ [])
-    ∙ ap (λ (front : List JobWithId). front ++ answered reply ∷ []) same
+    map-append answered_job replies (reply ∷ [])
+    ∙ ap (λ (front : List JobWithId). front ++ answered_job reply ∷ []) same
     ∙ ap (λ (last : JobWithId). with_ids_from 0 jobs ++ last ∷ []) (answers ∙ ap {B = JobWithId} (λ (number : ℕ). record { id = record { lane = job.lane; seq = number }; job = job }) number)
     ∙ sym (with_ids_push 0 jobs job)
 
 -- ---- what a run answers
 
--- where the lanes are those of a good file, and the replies to them were written, all is done; and a
--- fault of writing is no refusal
-pub run_answered : (n : ℕ) (read : Option (List ℕ)) (lanes : Vec (Vec JobData Global) Global) (result : Result (Unit {0}) Fault) (before after : ℕ) (old new : Option (List ℕ)) → IfSome read (λ bytes. ReturnsLanes (parse_jobs n bytes) (Ok lanes)) → OnOk result ((replies : List ReplyData) × (map answered replies ≡ lane_by_lane lanes.items) × Appends old new (replies_text replies)) → IfErr result (λ fault. IsFailure what.Write before after fault) → IfSome read (λ bytes. IsAnswer n bytes old new result)
-run_answered n None lanes result before after old new parsed sent failed = tt
-run_answered n (Some bytes) lanes (Ok done) before after old new (jobs, good, are) (replies, same, out) failed = record {
-  jobs = jobs;
-  replies = replies;
+-- where the lanes are those of a good file, and the replies to them were written, all is done
+pub run_answered : (n : ℕ) (read : Option (List ℕ)) (lanes : Vec (Vec JobData Global) Global) (old new : Option (List ℕ)) → IfSome read (λ bytes. ReturnsLanes (parse_jobs n bytes) (Ok lanes)) → (replies : List ReplyData) × (map answered_job replies ≡ lane_by_lane lanes.items) × Appends old new (file_text reply_columns reply_fields replies) → IfSome read (λ bytes. IsAnswerTo (Run n) bytes old new (Ok tt))
+run_answered n None lanes old new parsed (replies, same, out) = tt
+run_answered n (Some bytes) lanes old new (jobs, good, are) (replies, same, out) = record {
+  things = jobs;
+  rows = replies;
   good = good;
   answered = subst (AreInOrder jobs) (sym same) (in_order jobs lanes.items are);
   written = out;
 }
-run_answered n (Some bytes) lanes (Err fault) before after old new parsed sent failed = λ is. elim failed.cause [
-  | inl memory ↦ absurd (false≢true (ap is_refusal (sym memory) ∙ is))
-  | inr device ↦ absurd (false≢true (ap is_refusal (sym device.0) ∙ is))
-]

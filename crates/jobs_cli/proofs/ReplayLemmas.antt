@@ -1,4 +1,4 @@
--- What the calls of a world tell of its acts.
+-- The acts of a world by its calls.
 use Rattle.std.proofs.Common.{◌≡◌, ◌≢◌, ℕ, zero, suc, ◌+◌, ◌-◌, ◌^◌, ◌<◌, ◌==◌, true, false, List, [], ◌∷◌, ◌++◌, length, replicate, nat_lt, Option, Some, None, cond, refl, sym, ap, subst, ◌∙◌, append-nil, add-zero, ◌≤◌, arith}
 use Rattle.std.specs.List.{flat_map, range_with_len}
 use Rattle.std.proofs.lemmas.Bool.Decides.{nat_tests}
@@ -106,7 +106,7 @@ word_skipped w node word rows next from is none same kept =
     let here : word_row w node ≡ [] = rw (← is, none) refl in
     kept ∙ same ∙ sym (append-nil (rows_before w node)) ∙ ap (λ r. rows_before w node ++ r) (sym here) ∙ sym (next_word w node from)
 
--- the rows of all words, and their number behind them
+-- the rows of all words, and then their number
 pub all_ended : (w : State) (n node past : ℕ) (rows next : List ReplayRow) → w.dim ≡ n → past ≡ 2 ^ (n + 1) → node ≡ past
     → rows ≡ rows_before w node → next ≡ rows ++ row.End (length rows) ∷ [] → next ≡ final_rows w
 all_ended w n node past rows next dim is last same pushed =

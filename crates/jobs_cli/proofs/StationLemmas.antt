@@ -1,4 +1,4 @@
--- What the names and the regions of the stations tell of their table, and how it changes.
+-- The table of the stations by their names and regions, and how it changes.
 use Rattle.std.proofs.Common.{◌≡◌, ◌≢◌, ℕ, ◌<◌, inl, inr, List, length, replicate, slice_set, Option, Some, None, refl, sym, ap, subst, ◌∙◌, get_or-set_other, get_or-set_same, length-set}
 use Rattle.std.proofs.lemmas.Bool.{cases_eq, cases_lt}
 use Rattle.std.proofs.lemmas.List.{get_or-replicate, get_or_past, length-replicate}
@@ -7,7 +7,7 @@ use Rattle.cube_shape.specs.declared.region.Region.{Region}
 use Rattle.cube_shape.specs.Region.{block}
 use Rattle.cube_shape.specs.Machine.{Gives, Holdings, IsFirstFit, TakesBack}
 use Rattle.jobs_cli.specs.Place.{Holding, HoldsSome, IsFirstIdle, IsFreed, IsFull, IsGiven, empty_table, region_of, regions}
-use Rattle.jobs_cli.specs.Stations.{NamesAgree, held_under, name_at, named_holdings_with}
+use Rattle.jobs_cli.specs.InnerStations.{NamesAgree, held_under, name_at, named_holdings_with}
 
 -- a list of names, some of which are empty
 abbrev Names : Type 0
@@ -45,7 +45,7 @@ module _ (names : Names) (held : Holdings) (k : NamesAgree names held) where
   pub regions_are : regions (named_holdings_with names held) ≡ held
   regions_are = λ i s. same_regions s i
 
-  -- a station of which the table tells nothing has no name
+  -- a station that the table leaves empty has no name
   nameless : (s : ℕ) → named_holdings_with names held s ≡ None → name_at names s ≡ None
   nameless s e = turn (name_at names s) refl
     where

@@ -1,7 +1,7 @@
--- Answering things one after the other, each of which may change what the next one meets.
+-- Things one after the other, each of which steps from one state to the next.
 use Rattle.std.specs.Prelude.{◌≡◌, List, [], ◌∷◌, ◌++◌}
 
--- what becomes of one thing: the state before it, the state behind it, and the rows that tell of it
+-- the step of one thing: the state before it, the state after it, and its rows
 abbrev pub StepRelation : Type 0 → Type 0 → Type 0 → Type 1
 StepRelation Thing State Row = Thing → State → State → List Row → Type 0
 

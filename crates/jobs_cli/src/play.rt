@@ -1,16 +1,17 @@
-// What becomes of the lines of a schedule.
+// Playing the lines of a schedule.
 ghost use Rattle.std.specs.Prelude.{◌≡◌, ◌<◌, ◌≤◌, ◌+◌, ◌^◌, [], ◌∷◌, length, replicate, IfOk};
 ghost use Rattle.cube_core.specs.declared.act.Act.TheVariants as act;
 ghost use Rattle.cube_core.specs.World.{HasShapeOf};
 ghost use Rattle.jobs_cli.specs.Trace.{IsTrace};
-ghost use Rattle.jobs_cli.specs.Replay.{ActStep, IsPlayed, RestsAfter, final_rows, rows_in};
+ghost use Rattle.jobs_cli.specs.InnerReplay.{rows_in};
+ghost use Rattle.jobs_cli.specs.Replay.{ActStep, IsPlayed, RestsAfter, final_rows};
 
 use cube_core::World;
 use cube_shape::MAX_DIM;
 use jobs_csv::{Line, ReplayRow};
 use std::alloc::{AllocError, Global};
 
-// The rows where there is one at most.
+// At most one row, as a list.
 fn to_list(alloc: Global, row: Option<ReplayRow>) -> Result<Vec<ReplayRow>, AllocError>
     ensures { IfOk result (λ rows. rows.items ≡ rows_in row) }
 {
@@ -21,7 +22,7 @@ fn to_list(alloc: Global, row: Option<ReplayRow>) -> Result<Vec<ReplayRow>, Allo
     Ok(rows)
 }
 
-// A station begins to take the region of a node, which is told only where it is refused.
+// A station begins to take the region of a node. A refusal has a row.
 #[tactic(auto, using(crate::proofs::ReplayLemmas::is_accepted, crate::proofs::ReplayLemmas::is_refused))]
 fn take(world: &mut World, station: u64, node: u64) -> Option<ReplayRow>
     ensures acts { ActStep (act.Take station node) world.old world.new (rows_in result) }
@@ -34,7 +35,7 @@ fn take(world: &mut World, station: u64, node: u64) -> Option<ReplayRow>
     Some(ReplayRow::Refused { station, node, why })
 }
 
-// A station begins to give its region back, which is told only where it is refused.
+// A station begins to give its region back. A refusal has a row.
 #[tactic(auto, using(crate::proofs::ReplayLemmas::is_accepted, crate::proofs::ReplayLemmas::is_refused))]
 fn release(world: &mut World, station: u64) -> Option<ReplayRow>
     ensures acts { ActStep (act.Release station) world.old world.new (rows_in result) }
@@ -73,7 +74,7 @@ fn retire(world: &mut World, station: u64) -> ReplayRow
     }
 }
 
-// A station makes so many steps.
+// A station makes `times` steps.
 fn steps(
     alloc: Global,
     world: &mut World,
@@ -90,7 +91,7 @@ fn steps(
     Ok(rows)
 }
 
-// A station makes steps until it rests.
+// A station makes steps until it is at rest.
 fn run(alloc: Global, world: &mut World, station: u64) -> Result<Vec<ReplayRow>, AllocError>
     requires { station < length world.old.records }
     ensures rests { IfOk result (λ rows. RestsAfter station world.old world.new rows.items) }
@@ -105,10 +106,9 @@ fn run(alloc: Global, world: &mut World, station: u64) -> Result<Vec<ReplayRow>,
     }
 }
 
-/// Does what a line of a schedule says, and gives the rows that tell of it. The world has so many
-/// stations.
+/// Plays a line of a schedule in a world of `stations` stations, and returns its rows.
 ///
-/// Without memory the world has moved, and its rows are lost.
+/// Where memory is refused, the world has changed and the rows are lost.
 pub fn play(
     alloc: Global,
     stations: u32,
@@ -133,7 +133,7 @@ pub fn play(
     }
 }
 
-// The number behind that of the last node.
+// The number after that of the last node.
 fn node_limit(n: u32) -> u64
     requires { n ≤ MAX_DIM }
     ensures { result ≡ 2 ^ (n + 1) }

@@ -3,7 +3,7 @@ ghost use Rattle.std.specs.Prelude.{◌≡◌, ◌≢◌, ◌↔◌, ℕ, ◌<�
 ghost use Rattle.jobs_csv.specs.declared.place.Command.TheVariants as command;
 ghost use Rattle.jobs_csv.specs.Place.{Fits};
 ghost use Rattle.jobs_cli.specs.Place.{PlaceStep, command_in, empty_table};
-ghost use Rattle.jobs_cli.specs.Stations.{AreStations, dim_of, name_at, named_holdings};
+ghost use Rattle.jobs_cli.specs.InnerStations.{AreStations, dim_of, name_at, named_holdings};
 
 use alloc_bits::AllocBits;
 use cube_shape::{MAX_DIM, MAX_STATIONS};
@@ -17,7 +17,7 @@ pub struct Stations {
     names: Vec<Option<Name>>,
 }
 
-// Whether it is this name.
+// Whether a station has this name.
 fn is_name(held: Option<Name>, name: Name) -> bool
     ensures { IsTrue result ↔ (held ≡ Some name) }
 {
@@ -34,8 +34,8 @@ fn station_of(names: &[Option<Name>], name: Name) -> Option<u32>
     ensures some { IfSome result (λ s. (s < MAX_STATIONS) × (name_at names.now s ≡ Some name)) }
     ensures none { IfNone result ((s : ℕ) → name_at names.now s ≢ Some name) }
 {
-    let place = names.iter().position(|held| is_name(*held, name))?;
-    Some(place as u32)
+    let index = names.iter().position(|held| is_name(*held, name))?;
+    Some(index as u32)
 }
 
 // The first station that has no name.
@@ -44,8 +44,8 @@ fn first_idle(names: &[Option<Name>]) -> Option<u32>
     ensures some { IfSome result (λ s. (s < MAX_STATIONS) × (name_at names.now s ≡ None) × ((t : ℕ) → t < s → name_at names.now t ≢ None)) }
     ensures none { IfNone result ((s : ℕ) → s < MAX_STATIONS → name_at names.now s ≢ None) }
 {
-    let place = names.iter().position(|held| held.is_none())?;
-    Some(place as u32)
+    let index = names.iter().position(|held| held.is_none())?;
+    Some(index as u32)
 }
 
 impl Stations {
@@ -103,7 +103,7 @@ impl Stations {
         PlaceRow::Freed { name, dim, base }
     }
 
-    /// Does what a command asks for, and tells what became of it.
+    /// Carries out a command and returns its row.
     pub fn answer(&mut self, command: Command) -> PlaceRow
         requires made { AreStations self.old }
         requires fits { Fits (dim_of self.old) command }

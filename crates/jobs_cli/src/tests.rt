@@ -1,10 +1,12 @@
 // Whole runs: the bytes that go in, and the bytes that come out.
-use crate::command_line::{Invocation, parse_args};
+use crate::command_line::parse_args;
+use crate::invocation::Invocation;
+use crate::program;
 use crate::run::run_on;
 use clap::error::ErrorKind;
 use cube_shape::{MAX_DIM, MAX_STATIONS};
 use job_types::JobRefused;
-use jobs_csv::{Counted, Device, Fault, FaultKind};
+use jobs_csv::{Counted, Device, Fault, FaultKind, MAX_RECORDS};
 use std::alloc::Global;
 use std::io;
 use std::io::{Read, Write};
@@ -36,7 +38,7 @@ fn run_bytes(rt: &(impl AllocGlobal + Abort), n: u32, input: &[u8]) -> Result<Ra
     Ok(Ran { text, answer })
 }
 
-// Two texts, one behind the other.
+// Two texts joined.
 fn joined(alloc: Global, a: &[u8], b: &[u8]) -> Result<Vec<u8>, Fail> {
     let mut text = Vec::from_slice(alloc, a)?;
     text.extend_from_slice(b)?;
@@ -264,7 +266,7 @@ fn reports_a_failed_read(rt: HostRuntime) -> Result<(), Fail> {
     Ok(())
 }
 
-// A run whose writer fails at this call, with an error or by taking nothing. It tells whether the
+// A run whose writer fails at this call, with an error or by taking nothing. Returns whether the
 // writer failed.
 fn fails_to_write(
     rt: &(impl AllocGlobal + Abort),
@@ -316,7 +318,7 @@ fn long_file(alloc: Global, count: u64) -> Result<(Vec<u8>, Vec<u8>), Fail> {
     Ok((input, wanted))
 }
 
-// The replies are sent in several pieces, and what came before a failed write is their beginning.
+// The replies are written in several pieces; what came before a failed write is their beginning.
 #[test]
 fn writes_long_files(rt: HostRuntime) -> Result<(), Fail> {
     let (input, wanted) = long_file(rt.alloc(), 8_000)?;
@@ -393,20 +395,70 @@ fn reads_commands_of_regions(rt: HostRuntime) -> Result<(), Fail> {
     Ok(())
 }
 
-// The help says how many names can hold a region.
+// The help says which numbers are within the limits.
 #[test]
-fn help_names_the_limit(rt: HostRuntime) -> Result<(), Fail> {
+fn help_names_the_limits(rt: HostRuntime) -> Result<(), Fail> {
     let mut words = Vec::new(rt.alloc());
-    for word in ["cubejobs", "place", "--help"].as_slice() {
+    for word in ["cubejobs", "replay", "--help"].as_slice() {
         words.push(word.to_string(rt.alloc())?)?;
     }
+    let limits = [
+        format!(in rt.alloc(); "0 to {MAX_DIM}")?,
+        format!(in rt.alloc(); "1 to {MAX_STATIONS}")?,
+        format!(in rt.alloc(); "more records after the header than {MAX_RECORDS}\n")?,
+    ];
     match parse_args(rt.alloc(), &words) {
         Ok(_) => assert!(rt; false, "no help"),
         Err(error) => {
             let help = error.to_string(rt.alloc())?;
-            let limit = format!(in rt.alloc(); "where {MAX_STATIONS} names hold one")?;
-            assert!(rt; help.contains(limit.as_str()), "{help}");
+            for limit in limits.as_slice() {
+                assert!(rt; help.contains(limit.as_str()), "{help}");
+            }
         }
     }
     Ok(())
+}
+
+// A call of the program with these words and this input has this status and writes these texts.
+fn expect_call(
+    rt: &(impl AllocGlobal + Abort),
+    words: &[&str],
+    input: &[u8],
+    status: u8,
+    output: &str,
+    line: &str,
+) -> Result<(), Fail> {
+    let mut all = Vec::new(rt.alloc());
+    for word in words {
+        all.push(word.to_string(rt.alloc())?)?;
+    }
+    let mut reader = Counted::new(input);
+    let mut writer = Counted::new(Vec::new(rt.alloc()));
+    let mut errors = Vec::new(rt.alloc());
+    let ending = program::run(rt.alloc(), &all, &mut reader, &mut writer, &mut errors);
+    assert!(rt; ending.status() == status, "{line}");
+    assert!(rt; writer.get_ref().as_slice() == output.as_bytes(), "{line}");
+    assert!(rt; errors.as_slice() == line.as_bytes(), "{line}");
+    Ok(())
+}
+
+#[test]
+fn runs_the_program(rt: HostRuntime) -> Result<(), Fail> {
+    let run = ["cubejobs", "run", "--dim", "1"];
+    let jobs = joined(rt.alloc(), JOBS, b"3,reduce,add,1,5 6\n".as_slice())?;
+    let replies = "lane,seq,kind,dim,result,rounds,messages\n3,0,reduce,1,- 11,1,1\n";
+    expect_call(&rt, run.as_slice(), &jobs, 0, replies, "")?;
+    let line = "refused: record 0: Word\n";
+    expect_call(&rt, run.as_slice(), b"a,b,c,d,e\n", 1, "", line)?;
+    let place = ["cubejobs", "place", "--dim", "1"];
+    let commands = b"command,name,dim\ntake,a,0\n";
+    let rows = "command,name,dim,base,outcome\ntake,a,0,0,given\n";
+    expect_call(&rt, place.as_slice(), commands, 0, rows, "")?;
+    let line = "refused: record 1: Fields\n";
+    expect_call(&rt, place.as_slice(), b"command,name,dim\ntake\n", 1, "", line)?;
+    let replay = ["cubejobs", "replay", "--dim", "0", "--stations", "1"];
+    let rows = "station,event,node,word,note\n-,end,-,-,0\n";
+    expect_call(&rt, replay.as_slice(), b"station,call,arg\n", 0, rows, "")?;
+    let version = ["cubejobs", "--version"];
+    expect_call(&rt, version.as_slice(), b"", 0, "cubejobs 0.1.0\n", "")
 }

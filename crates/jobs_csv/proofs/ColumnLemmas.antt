@@ -1,10 +1,10 @@
--- Records of so many fields, and others.
+-- Records of three fields, and others.
 use Rattle.std.proofs.Common.{◌≡◌, ◌≢◌, ℕ, zero, suc, ◌<◌, List, [], ◌∷◌, length, Some, is_some, true, Err, refl, arith}
 use Rattle.csv.specs.Records.{field_at}
 use Rattle.jobs_csv.specs.declared.fault.FaultKind.TheVariants as what
 use Rattle.jobs_csv.specs.Columns.{three_header}
 
--- there is a field at each place below their number
+-- there is a field at each index below their number
 pub has_field : (fields : List (List ℕ)) (index : ℕ) → index < length fields → is_some (field_at fields index) ≡ true
 unfolding field_at
 has_field [] index lt = absurd (omega arith)

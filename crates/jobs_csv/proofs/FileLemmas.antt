@@ -1,4 +1,4 @@
--- What the rows that were read so far say of the whole file.
+-- From the records read so far to the parse of the whole file.
 use Rattle.std.proofs.Common.{◌≡◌, ℕ, ◌+◌, ◌≤◌, Bool, true, false, nat_lt, List, [], ◌∷◌, ◌++◌, length, Option, Some, None, IfSome, Result, Ok, Err, if◌then◌else◌, refl, sym, ap, ◌∙◌, append-nil, append_assoc, arith}
 use Rattle.std.proofs.lemmas.List.{length_push}
 use Rattle.std.proofs.lemmas.Bool.{false≢true}
@@ -12,26 +12,26 @@ use Rattle.jobs_csv.specs.declared.input.TheConstants.{MAX_RECORDS}
 use Rattle.jobs_csv.specs.Fault.{is_refusal}
 use Rattle.jobs_csv.specs.Outcome.{IsParseError, ReturnsFile, ReturnsRows, ◌>>=◌}
 use Rattle.jobs_csv.specs.Files.{Record, at_row, file_of, numbered_row, records_of, rows_from, parse_file}
-use Rattle.jobs_csv.specs.Input.{AreAll, HasGiven}
+use Rattle.jobs_csv.specs.InnerInput.{AreAll, HasGiven}
 use Rattle.jobs_csv.proofs.CsvRecords.{first_records, whole_records}
 
--- what a format says of a header, and of any other record
+-- the parse of a header, and of any other record
 abbrev Headers : Type 0
 Headers = Record → Result (Unit {0}) FaultKind
 
 abbrev Rows : Type 0 → Type 0
 Rows Row = Record → Result Row FaultKind
 
--- rows in front of those that are said
+-- rows before those of a parse
 abbrev pub with_front : {Row : Type 0} → List Row → Result (List Row) Fault → Result (List Row) Fault
 with_front rows (Ok more) = Ok (rows ++ more)
 with_front rows (Err fault) = Err fault
 
--- the first records say these rows, whatever comes behind them
+-- the first records have these rows, whatever comes after them
 pub record Passes {Row : Type 0} (row_of : Record → Result Row FaultKind) (front : List Record) (rows : List Row) : Type 0 where
   pub all : (rest : List Record) → rows_from row_of 1 (front ++ rest) ≡ with_front rows (rows_from row_of (length front + 1) rest)
 
--- a reader has given a good header and then records that say these rows; the next record has this number
+-- a reader has given a good header and then records of these rows; the next record has this number
 pub record HasRead {R Row : Type 0} (header_of : Record → Result (Unit {0}) FaultKind) (row_of : Record → Result Row FaultKind) (rem : R → Option (List ℕ)) (bytes : Option (List ℕ)) (number : ℕ) (rows : List Row) (reader : Reader R) : Type 0 where
   pub header : Record
   pub front : List Record
@@ -48,7 +48,7 @@ none_pass {Row} row_of = record { all = λ rest. sym (in_front (rows_from row_of
     in_front (Ok rows) = refl
     in_front (Err fault) = refl
 
--- what a refusal that is told says
+-- a refusal is the parse's error
 pub refusal_parsed : {A : Type 0} (answer : Result A FaultKind) (w : FaultKind) → is_refusal w ≡ true → IsParseError answer w → answer ≡ Err w
 refusal_parsed answer what.Fields is parse = parse
 refusal_parsed answer what.Number is parse = parse
@@ -119,12 +119,12 @@ whole_file header_of row_of rem bytes number rows reader k all =
     ∙ ap (with_front rows) (no_more_rows row_of (length k.front + 1))
     ∙ ap Ok (append-nil rows)
 
--- its rows are gathered
+-- its rows are pushed
 pub all_gathered : {R Row G : Type 0} (contents : G → List Row → Type 0) (header_of : Headers) (row_of : Rows Row) (rem : R → Option (List ℕ)) (bytes : Option (List ℕ)) (number : ℕ) (rows : List Row) (gathered : G) (reader : Reader R) → contents gathered rows → (k : HasRead header_of row_of rem bytes number rows reader) → AreAll bytes (k.header ∷ k.front) → IfSome bytes (λ b. ReturnsRows contents (parse_file header_of row_of b) (Ok gathered))
 all_gathered contents header_of row_of rem None number rows gathered reader held k all = tt
 all_gathered contents header_of row_of rem (Some bytes) number rows gathered reader held k all = (rows, whole_file header_of row_of rem bytes number rows reader k all, held)
 
--- what the file says from the next record on
+-- the parse from the next record on
 from_next : {R Row : Type 0} (header_of : Headers) (row_of : Rows Row) (rem : R → Option (List ℕ)) (bytes : List ℕ) (number : ℕ) (rows : List Row) (reader next : Reader R) (fields : Record) → (k : HasRead header_of row_of rem (Some bytes) number rows reader) → HasGiven rem (Some bytes) ((k.header ∷ k.front) ++ fields ∷ []) next → (more : List Record) × (parse_file header_of row_of bytes ≡ with_front rows (rows_from row_of number (fields ∷ more)))
 from_next header_of row_of rem bytes number rows reader next fields k given =
     let all = given_first rem bytes ((k.header ∷ k.front) ++ fields ∷ []) next given in (

@@ -1,4 +1,4 @@
--- What single fields say. Fields are bytes.
+-- The parse of single fields. Fields are bytes.
 use Rattle.std.specs.Prelude.{ℕ, ◌+◌, ◌-◌, ◌*◌, ◌^◌, ◌==◌, ◌&&◌, ◌||◌, Bool, true, false, not, List, [], ◌∷◌, fold, nat_lt, codes, Option, Some, None, option_and_then, Result, Ok, Err, if◌then◌else◌}
 use Rattle.std.specs.List.{list_all}
 use Rattle.std.specs.Char.{is_ascii_digit}
@@ -17,7 +17,7 @@ has_no_leading_zero [] = false
 has_no_leading_zero (first ∷ []) = true
 has_no_leading_zero (first ∷ second ∷ rest) = not (first == 48)
 
--- the field is a number: digits with no spare zero, whose value is below 2 ^ 64
+-- the field is a number: digits with no leading zero, whose value is below 2 ^ 64
 abbrev pub is_number : List ℕ → Bool
 is_number field = has_no_leading_zero field && list_all is_ascii_digit field && nat_lt (value_of field) (2 ^ 64)
 

@@ -1,4 +1,4 @@
--- What each field of a job's record says.
+-- The parse of each field of a job's record.
 use Rattle.std.specs.Prelude.{ℕ, ◌-◌, ◌==◌, Bool, false, not, List, [], ◌∷◌, codes, Option, Some, option_and_then, Result, Ok, Err, if◌then◌else◌}
 use Rattle.std.specs.List.{slice_split}
 use Rattle.std.specs.Str.{bytes_eq}
@@ -29,7 +29,7 @@ op_of field =
     else if bytes_eq field (codes "or") then Ok op.Or
     else Err what.Word
 
--- the collective without its root, which two fields say; a broadcast has no operation
+-- the collective of two fields, without its root; a broadcast has no operation
 unfoldable pub collective_of : List ℕ → List ℕ → Result Collective FaultKind
 collective_of word join =
     if bytes_eq word (codes "broadcast") then (do
@@ -53,7 +53,7 @@ with_root root (collective.Reduce op) = kind.Reduce op root
 with_root root (collective.AllReduce op) = kind.AllReduce op
 with_root root (collective.Scan op) = kind.Scan op
 
--- a root is given to a collective that has none: another one than 0
+-- the collective has no root, and the root is not 0
 abbrev pub has_superfluous_root : ℕ → Collective → Bool
 has_superfluous_root root collective.Broadcast = false
 has_superfluous_root root (collective.Reduce op) = false

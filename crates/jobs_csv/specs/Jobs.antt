@@ -1,4 +1,4 @@
--- What a file of jobs says.
+-- The parse of a file of jobs.
 use Rattle.std.specs.Prelude.{ℕ, ◌&&◌, Bool, List, [], ◌∷◌, codes, Option, Some, None, Result, Ok, Err, if◌then◌else◌}
 use Rattle.std.specs.Str.{bytes_eq}
 use Rattle.job_types.specs.Job.{JobData, refusal_of}
@@ -17,7 +17,7 @@ abbrev pub refuse : Option JobRefused → Result JobData FaultKind → Result Jo
 refuse None answer = answer
 refuse (Some reason) answer = Err (what.Job reason)
 
--- the job, unless a rule of every job refuses it, or it has a root that its collective has not
+-- the job, unless a rule of every job refuses it, or its root is superfluous
 unfoldable pub accept_job : JobData → Bool → Result JobData FaultKind
 accept_job job has_superfluous = refuse (refusal_of job.machine job.kind job.items) (if has_superfluous then Err (what.Job BadRoot) else Ok job)
 
@@ -38,6 +38,6 @@ jobs_header (lane ∷ kind ∷ op ∷ root ∷ items ∷ []) =
     then Ok tt else Err what.Word
 jobs_header _ = Err what.Fields
 
--- what a file of jobs says, for a machine of dimension n
+-- the parse of a file of jobs, for a machine of dimension n
 abbrev pub parse_jobs : ℕ → List ℕ → Result (List JobData) Fault
 parse_jobs n bytes = parse_file jobs_header (job_of n) bytes

@@ -1,4 +1,4 @@
--- What an input says, or the refusal that it meets first, and what a call tells of it.
+-- The parse of an input: its value or its first refusal; and what a call returns for it.
 use Rattle.std.specs.Prelude.{◌≡◌, ⊤, true, List, Vec, Option, Some, None, Result, Ok, Err}
 use Rattle.std.specs.Global.{Global}
 use Rattle.jobs_csv.specs.declared.fault.Fault.{Fault}
@@ -6,7 +6,7 @@ use Rattle.jobs_csv.specs.declared.fault.FaultKind.{FaultKind}
 use Rattle.jobs_csv.specs.declared.fault.FaultKind.TheVariants as what
 use Rattle.jobs_csv.specs.Fault.{is_refusal}
 
--- in order: what comes after a refusal is not looked at
+-- in order: nothing is read after a refusal
 infixl 10 ◌>>=◌
 abbrev pub ◌>>=◌ : {A B E : Type 0} → Result A E → (A → Result B E) → Result B E
 Ok x >>= f = f x
@@ -17,7 +17,7 @@ abbrev pub or_refuse : {A : Type 0} → FaultKind → Option A → Result A Faul
 or_refuse w None = Err w
 or_refuse w (Some x) = Ok x
 
--- w is the refusal that is said, or want of memory, which nothing says
+-- `w` is the error that the parse gives, or OutOfMemory, which no parse gives
 abbrev pub IsParseError : {A : Type 0} → Result A FaultKind → FaultKind → Type 0
 IsParseError parse what.Fields = parse ≡ Err what.Fields
 IsParseError parse what.Number = parse ≡ Err what.Number
@@ -29,17 +29,17 @@ IsParseError parse what.OutOfMemory = ⊤
 IsParseError parse what.TooMany = parse ≡ Err what.TooMany
 IsParseError parse what.Spent = ⊥
 
--- the call answered the value that is said, or the refusal, or want of memory
+-- the call returned the parse's value or its error, or ran out of memory
 abbrev pub ReturnsParse : {A B : Type 0} → (A → B) → Result B FaultKind → Result A FaultKind → Type 0
 ReturnsParse view parse (Ok x) = parse ≡ Ok (view x)
 ReturnsParse view parse (Err w) = IsParseError parse w
 
--- the rows are those that the file says, and a refusal is the one that it says
+-- the rows are the parse's, and a refusal is the parse's error
 abbrev pub ReturnsFile : {Row : Type 0} → Result (List Row) Fault → Result (Vec Row Global) Fault → Type 0
 ReturnsFile parse (Ok rows) = parse ≡ Ok rows.items
 ReturnsFile parse (Err fault) = is_refusal fault.what ≡ true → parse ≡ Err fault
 
--- the same, where the rows are gathered in something that holds them
+-- the same, where the rows were pushed into a collection
 abbrev pub ReturnsRows : {Row G : Type 0} → (G → List Row → Type 0) → Result (List Row) Fault → Result G Fault → Type 0
 ReturnsRows {Row} contents parse (Ok gathered) = (rows : List Row) × (parse ≡ Ok rows) × contents gathered rows
 ReturnsRows contents parse (Err fault) = is_refusal fault.what ≡ true → parse ≡ Err fault

@@ -1,4 +1,4 @@
--- What a file of a schedule says: calls and steps of stations, one after the other.
+-- The parse of a schedule: calls and steps of stations, one after the other.
 use Rattle.std.specs.Prelude.{◌≤◌, ℕ, ⊤, List, [], ◌∷◌, codes, Result, Ok, Err, if◌then◌else◌}
 use Rattle.std.specs.Str.{bytes_eq}
 use Rattle.jobs_csv.specs.declared.fault.Fault.{Fault}
@@ -14,7 +14,7 @@ use Rattle.jobs_csv.specs.Fields.{any_number, dash_of, number_within}
 use Rattle.jobs_csv.specs.Files.{Record, parse_file}
 use Rattle.jobs_csv.specs.Outcome.{◌>>=◌}
 
--- the word of a call
+-- the keyword of a line
 unfoldable pub keyword_of : List ℕ → Result Keyword FaultKind
 keyword_of field =
     if bytes_eq field (codes "take") then Ok keyword.Take
@@ -24,8 +24,8 @@ keyword_of field =
     else if bytes_eq field (codes "retire") then Ok keyword.Retire
     else Err what.Word
 
--- the line of this call of a station, with what its last field says: the node of a take, how often a
--- step is made, and nothing for the others
+-- the line of this keyword of a station, with its last field: the node of a take, the number of steps,
+-- and a dash for the others
 unfoldable pub keyword_line : ℕ → Keyword → List ℕ → Result Line FaultKind
 keyword_line station keyword.Take arg = do
   node ← any_number arg
@@ -55,11 +55,11 @@ schedule_line _ = Err what.Fields
 abbrev pub schedule_header : Record → Result (Unit {0}) FaultKind
 schedule_header fields = three_header (codes "station") (codes "call") (codes "arg") fields
 
--- what a file of a schedule says
+-- the parse of a schedule
 abbrev pub parse_schedule : List ℕ → Result (List Line) Fault
 parse_schedule bytes = parse_file schedule_header schedule_line bytes
 
--- a step is made once at least, and not too often
+-- the number of steps is from 1 to MAX_STEPS
 abbrev pub HasValidCount : Line → Type 0
 HasValidCount (line.Take station node) = ⊤
 HasValidCount (line.Release station) = ⊤

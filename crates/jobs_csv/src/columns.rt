@@ -1,4 +1,4 @@
-// The fields of a record, which should be so many.
+// Records of a given number of fields.
 ghost use Rattle.std.specs.Prelude.{◌≡◌, ◌≢◌, ◌<◌, ◌&&◌, [], ◌∷◌, length, Some, IfSome, IfNone};
 ghost use Rattle.std.specs.Str.{bytes_eq};
 ghost use Rattle.csv.specs.Records.{field_at, fields_of};
@@ -16,7 +16,7 @@ pub struct ThreeFields<'a> {
     pub third: &'a [u8],
 }
 
-/// The field at a place.
+/// The field at an index.
 pub fn field(row: &ByteRecord, index: usize) -> &[u8]
     requires { index < length (fields_of row.now) }
     ensures { field_at (fields_of row.now) index ≡ Some result.now }

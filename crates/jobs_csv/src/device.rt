@@ -7,12 +7,12 @@ ghost use Rattle.jobs_csv.specs.Device.{device_of, failures_of, is_failed_write,
 use std::io;
 use std::io::{Read, Write};
 
-/// A reader or a writer that knows how often it has failed.
+/// A reader or a writer that counts its failed calls.
 pub trait Device {
     // How many calls have failed.
     ghost failures: { Self → ℕ };
 
-    /// How many of its calls have failed. A count of `u64::MAX` stays, and stands for more too.
+    /// How many of its calls have failed. The count saturates at `u64::MAX`.
     fn failures(&self) -> u64
         ensures { result ≡ failures self.now };
 }

@@ -1,7 +1,7 @@
 // Reading a file of any format: the loop over its records, and its first fault.
-ghost use Rattle.std.specs.Prelude.{◌≡◌, ◌∷◌, [], ◌++◌, ◌⊎◌, ℕ, List, Result, true, All, IfOk, IfErr, IfSome, OnOk};
+ghost use Rattle.std.specs.Prelude.{◌≡◌, ◌∷◌, [], ◌++◌, ℕ, List, Result, All, IfOk, IfErr, IfSome, OnOk};
 ghost use Rattle.csv.specs.Records.{fields_of};
-ghost use Rattle.jobs_csv.specs.Fault.{IsFailure, IsReadFailure, is_refusal};
+ghost use Rattle.jobs_csv.specs.Fault.{IsInputFault};
 ghost use Rattle.jobs_csv.specs.Files.{Record, parse_file};
 ghost use Rattle.jobs_csv.specs.Outcome.{ReturnsParse, ReturnsFile, ReturnsRows};
 ghost use Rattle.jobs_csv.specs.declared.fault.FaultKind.{FaultKind};
@@ -13,15 +13,15 @@ use csv::ByteRecord;
 use std::alloc::{AllocError, Global};
 use std::io::Read;
 
-/// A format of files: what their header is, and what the records behind it say.
+/// A format of files: its header, and the rows of the records after it.
 pub trait Format {
-    /// What a record says.
+    /// The row of a record.
     type Row: Drop;
 
-    // What is said of a header.
+    // The parse of a header.
     ghost header_of: { Record → Result (Unit {0}) FaultKind };
 
-    // What a record says, or its first fault.
+    // The parse of a record: its row, or its first fault.
     ghost row_of: { Self → Record → Result Self.Row FaultKind };
 
     // What is true of each row of a file.
@@ -31,19 +31,18 @@ pub trait Format {
     fn header(&self, row: &ByteRecord) -> Result<(), FaultKind>
         ensures { ReturnsParse (λ good. good) (header_of (fields_of row.now)) result };
 
-    /// What a record says: the number of its fields is checked, and then the fields from left to
-    /// right.
+    /// Reads a record: checks the number of its fields, and reads the fields from left to right.
     fn row(&self, alloc: Global, row: &ByteRecord) -> Result<Self::Row, FaultKind>
         ensures parse { ReturnsParse (λ row. row) (row_of self.now (fields_of row.now)) result }
         ensures good { IfOk result (λ row. is_row self.now row) };
 }
 
-/// What rows are gathered in.
+/// A collection that rows are pushed into.
 pub trait RowSink<Row>: Drop {
-    // It holds these rows, which came in this order.
+    // It holds these rows, in this order.
     ghost contents: { Self → List Row → Type 0 };
 
-    /// One more row comes in.
+    /// Pushes one more row.
     fn push(&mut self, row: Row) -> Result<(), AllocError>
         requires { (rows : List Row) × contents self.old rows }
         ensures { (rows : List Row) → contents self.old rows → OnOk result (contents self.new (rows ++ row ∷ [])) };
@@ -58,10 +57,9 @@ impl<Row: Drop> RowSink<Row> for Vec<Row> {
     }
 }
 
-/// Reads the rows of a whole file, and gathers them behind nothing.
+/// Reads a whole file and pushes its rows into `rows`, which must be empty.
 ///
-/// A fault of the input is the first one in it. The others are `Read`, where the reader failed,
-/// and `OutOfMemory`; these have no record.
+/// A refusal is the first fault of the file. Any other fault is `Read` or `OutOfMemory`.
 pub fn read_records<F: Format, G: RowSink<F::Row>, R: Read + Drop>(
     alloc: Global,
     format: &F,
@@ -71,7 +69,6 @@ pub fn read_records<F: Format, G: RowSink<F::Row>, R: Read + Drop>(
     requires { G.contents rows [] }
     ensures parse { IfSome (R.remaining text) (λ bytes. ReturnsRows G.contents (parse_file F.header_of (F.row_of format.now) bytes) result) }
     ensures good { IfOk result (λ gathered. (list : List F.Row) × G.contents gathered list × All (λ row. F.is_row format.now row) list) }
-    ensures failed { IfErr result (λ fault. (is_refusal fault.what ≡ true) ⊎ IsReadFailure fault) }
 {
     let mut rows = rows;
     let mut reader = input::open_reader(alloc, text);
@@ -103,8 +100,10 @@ pub fn read_records<F: Format, G: RowSink<F::Row>, R: Read + Drop>(
     Ok(rows)
 }
 
-/// Reads the rows of a whole file from a reader that is lent, and blames the reader only where it
-/// has failed. They are gathered behind nothing.
+/// Reads a whole file from a reader that is lent, and pushes its rows into `rows`, which must be empty.
+///
+/// A failure is the reader's exactly where its count of failed calls rose in this call, or stood at
+/// `u64::MAX`, and is out of memory otherwise.
 pub fn read_file<F: Format, G: RowSink<F::Row>, R: Read + Device>(
     alloc: Global,
     format: &F,
@@ -114,9 +113,9 @@ pub fn read_file<F: Format, G: RowSink<F::Row>, R: Read + Device>(
     requires { G.contents rows [] }
     ensures parse { IfSome (R.remaining reader.old) (λ bytes. ReturnsRows G.contents (parse_file F.header_of (F.row_of format.now) bytes) result) }
     ensures good { IfOk result (λ gathered. (list : List F.Row) × G.contents gathered list × All (λ row. F.is_row format.now row) list) }
-    ensures failed { IfErr result (λ fault. (is_refusal fault.what ≡ true) ⊎ IsFailure FaultKind.Read (R.failures reader.old) (R.failures reader.new) fault) }
+    ensures failed { IfErr result (λ fault. IsInputFault (R.failures reader.old) (R.failures reader.new) fault) }
 {
-    let before = reader.failures();
+    let failures_before = reader.failures();
     let fault = match read_records(alloc, format, rows, &mut *reader) {
         Ok(rows) => return Ok(rows),
         Err(fault) => fault,
@@ -124,10 +123,7 @@ pub fn read_file<F: Format, G: RowSink<F::Row>, R: Read + Device>(
     if fault.what.is_refusal() {
         return Err(fault);
     }
-    if fault.what == FaultKind::OutOfMemory {
-        return Err(fault);
-    }
-    Err(Fault::attribute(FaultKind::Read, before, reader.failures()))
+    Err(Fault::attribute(FaultKind::Read, failures_before, reader.failures()))
 }
 
 /// Reads the rows of a whole file as a list, as `read_file` does.
@@ -138,7 +134,7 @@ pub fn read_list<F: Format, R: Read + Device>(
 ) -> Result<Vec<F::Row>, Fault>
     ensures parse { IfSome (R.remaining reader.old) (λ bytes. ReturnsFile (parse_file F.header_of (F.row_of format.now) bytes) result) }
     ensures good { IfOk result (λ rows. All (λ row. F.is_row format.now row) rows.items) }
-    ensures failed { IfErr result (λ fault. (is_refusal fault.what ≡ true) ⊎ IsFailure FaultKind.Read (R.failures reader.old) (R.failures reader.new) fault) }
+    ensures failed { IfErr result (λ fault. IsInputFault (R.failures reader.old) (R.failures reader.new) fault) }
 {
     read_file(alloc, format, Vec::new(alloc), reader)
 }

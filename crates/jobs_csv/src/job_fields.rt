@@ -1,4 +1,4 @@
-// What each field of a job's record says.
+// The fields of a job's record.
 ghost use Rattle.std.specs.Prelude.{◌≡◌, ◌<◌, IfOk};
 ghost use Rattle.jobs_csv.specs.JobFields.{collective_of, has_superfluous_root, items_of, lane_of, op_of, with_root};
 ghost use Rattle.jobs_csv.specs.Outcome.{ReturnsParse};
@@ -30,7 +30,7 @@ impl Collective {
         }
     }
 
-    /// Whether it has no root, and one is given all the same: another one than 0.
+    /// Whether it has no root, and the root is not 0.
     pub fn has_superfluous_root(self, root: u64) -> bool
         ensures { result ≡ has_superfluous_root root self }
     {
@@ -72,7 +72,7 @@ fn read_op(field: &[u8]) -> Result<Op, FaultKind>
     }
 }
 
-/// The collective that its two fields say, `kind` and `op`.
+/// Reads the collective of two fields, `kind` and `op`.
 #[tactic(auto, unfolding(crate::specs::JobFields::collective_of))]
 pub fn read_collective(kind: &[u8], op: &[u8]) -> Result<Collective, FaultKind>
     ensures { ReturnsParse (λ collective. collective) (collective_of kind.now op.now) result }

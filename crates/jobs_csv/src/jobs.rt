@@ -1,9 +1,9 @@
 // Reading a file of jobs.
-ghost use Rattle.std.specs.Prelude.{◌≡◌, ◌≢◌, ◌<◌, ◌≤◌, ◌&&◌, ◌⊎◌, [], ◌∷◌, codes, length, true, All, IfOk, IfErr, IfSome, IfNone};
+ghost use Rattle.std.specs.Prelude.{◌≡◌, ◌≢◌, ◌<◌, ◌≤◌, ◌&&◌, [], ◌∷◌, codes, length, All, IfOk, IfErr, IfSome, IfNone};
 ghost use Rattle.std.specs.Str.{bytes_eq};
 ghost use Rattle.csv.specs.Records.{fields_of};
 ghost use Rattle.cube_shape.specs.declared.limits.TheConstants.{MAX_DIM};
-ghost use Rattle.jobs_csv.specs.Fault.{IsFailure, is_refusal};
+ghost use Rattle.jobs_csv.specs.Fault.{IsInputFault};
 ghost use Rattle.jobs_csv.specs.Jobs.{accept_job, job_of, jobs_header, parse_jobs};
 ghost use Rattle.jobs_csv.specs.Lanes.{ReturnsLanes};
 ghost use Rattle.jobs_csv.specs.Outcome.{ReturnsParse, ReturnsFile};
@@ -26,7 +26,7 @@ struct Jobs {
     ghost limit: { n ≤ MAX_DIM },
 }
 
-// The fields of a record that has as many as it should.
+// The fields of a record of five.
 #[derive(Drop)]
 struct FiveFields<'a> {
     lane: &'a [u8],
@@ -64,8 +64,7 @@ fn is_header(five: &FiveFields<'_>) -> bool
         && five.items == b"items".as_slice()
 }
 
-// The job that five fields ask for. They are read from left to right, and the first one that is
-// not good is told.
+// The job of five fields. They are read from left to right, and the first bad one is the error.
 #[tactic(auto, unfolding(crate::specs::Jobs::job_of))]
 fn read_fields(alloc: Global, n: u32, five: &FiveFields<'_>) -> Result<Job, FaultKind>
     requires { n ≤ MAX_DIM }
@@ -80,8 +79,8 @@ fn read_fields(alloc: Global, n: u32, five: &FiveFields<'_>) -> Result<Job, Faul
     accept(alloc, n, lane, collective.with_root(root), items, has_superfluous)
 }
 
-// The job, unless a rule refuses it. A root that is given to a collective that has none is refused
-// where no rule of every job is broken.
+// The job, unless a rule refuses it. The rules of every job come first, and then the one that a
+// collective with no root has root 0.
 #[tactic(auto, unfolding(crate::specs::Jobs::accept_job))]
 fn accept(
     alloc: Global,
@@ -145,19 +144,19 @@ impl Format for Jobs {
 /// Reads the jobs of a whole file, for a machine of dimension `n`.
 ///
 /// A refusal is the first fault of the file. `Read` comes only where the reader's count of failed
-/// calls rose in this call, or stood at `u64::MAX`; every other want is `OutOfMemory`. At most
-/// `MAX_RECORDS + 1` records behind the header are asked for.
+/// calls rose in this call, or stood at `u64::MAX`; any other failure is `OutOfMemory`. At most
+/// `MAX_RECORDS + 1` records after the header are read.
 pub fn read_jobs<R: Read + Device>(alloc: Global, n: u32, reader: &mut R) -> Result<Vec<Job>, Fault>
     requires { n ≤ MAX_DIM }
     ensures parse { IfSome (R.remaining reader.old) (λ bytes. ReturnsFile (parse_jobs n bytes) result) }
     ensures machine { IfOk result (λ jobs. All (λ job. job.machine ≡ n) jobs.items) }
-    ensures failed { IfErr result (λ fault. (is_refusal fault.what ≡ true) ⊎ IsFailure FaultKind.Read (R.failures reader.old) (R.failures reader.new) fault) }
+    ensures failed { IfErr result (λ fault. IsInputFault (R.failures reader.old) (R.failures reader.new) fault) }
 {
     format::read_list(alloc, &Jobs { n }, reader)
 }
 
-/// Reads the jobs of a whole file, as `read_jobs` does, and takes them apart by their lanes: it gives
-/// a list for each lane, in which the lane's jobs are in the order of the file.
+/// Reads the jobs of a whole file, as `read_jobs` does, into a list for each lane, in which the lane's
+/// jobs are in the order of the file.
 pub fn read_lanes<R: Read + Device>(
     alloc: Global,
     n: u32,
@@ -166,8 +165,12 @@ pub fn read_lanes<R: Read + Device>(
     requires { n ≤ MAX_DIM }
     ensures parse { IfSome (R.remaining reader.old) (λ bytes. ReturnsLanes (parse_jobs n bytes) result) }
     ensures machine { IfOk result (λ lanes. All (λ lane. All (λ job. job.machine ≡ n) lane.items) lanes.items) }
-    ensures failed { IfErr result (λ fault. (is_refusal fault.what ≡ true) ⊎ IsFailure FaultKind.Read (R.failures reader.old) (R.failures reader.new) fault) }
+    ensures failed { IfErr result (λ fault. IsInputFault (R.failures reader.old) (R.failures reader.new) fault) }
 {
-    let lanes = format::read_file(alloc, &Jobs { n }, Lanes::new(alloc)?, reader)?;
+    let failures = reader.failures();
+    let Ok(lanes) = Lanes::new(alloc) else {
+        return Err(Fault::attribute(FaultKind::Read, failures, failures));
+    };
+    let lanes = format::read_file(alloc, &Jobs { n }, lanes, reader)?;
     Ok(lanes.jobs)
 }

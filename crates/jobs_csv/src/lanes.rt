@@ -6,14 +6,14 @@ use crate::format::RowSink;
 use job_types::{Job, MAX_LANES};
 use std::alloc::{AllocError, Global};
 
-/// A list of jobs for each lane, in which the jobs of the lane are in the order in which they came.
+/// The jobs by lane, those of each lane in the order in which they were pushed.
 #[derive(Drop)]
 pub struct Lanes {
     pub jobs: Vec<Vec<Job>>,
 }
 
 impl Lanes {
-    /// No job has come.
+    /// A list for each lane, with no job.
     pub fn new(alloc: Global) -> Result<Self, AllocError>
         ensures { IfOk result (λ lanes. AreLanes lanes.jobs.items []) }
     {

@@ -1,7 +1,7 @@
-// Reading a file of commands: takes and frees of regions under names.
-ghost use Rattle.std.specs.Prelude.{◌≡◌, ◌⊎◌, [], ◌∷◌, ◌≤◌, true, All, IfOk, IfErr, IfSome};
+// Reading a file of commands over names.
+ghost use Rattle.std.specs.Prelude.{◌≡◌, [], ◌∷◌, ◌≤◌, All, IfOk, IfErr, IfSome};
 ghost use Rattle.csv.specs.Records.{fields_of};
-ghost use Rattle.jobs_csv.specs.Fault.{IsFailure, is_refusal};
+ghost use Rattle.jobs_csv.specs.Fault.{IsInputFault};
 ghost use Rattle.jobs_csv.specs.Outcome.{ReturnsParse, ReturnsFile};
 ghost use Rattle.jobs_csv.specs.Place.{Fits, verb_command, command_of, parse_commands, name_of, place_header, verb_of};
 
@@ -15,16 +15,16 @@ use csv::ByteRecord;
 use std::alloc::Global;
 use std::io::Read;
 
-/// What a record of a place file asks for.
+/// A command over a name.
 #[derive(Clone, Copy, Debug, PartialEq, Eq)]
 pub enum Command {
-    /// A region of dimension `dim`, to be held under a name.
+    /// Take a region of dimension `dim` and hold it under a name.
     Take { name: Name, dim: u32 },
-    /// The region that is held under a name is given back.
+    /// Give the region of a name back.
     Free { name: Name },
 }
 
-// The word of a command.
+// The keyword of a command.
 #[derive(Clone, Copy)]
 enum Verb {
     Take,
@@ -37,7 +37,7 @@ struct Commands {
     n: u32,
 }
 
-// The word in a field.
+// The keyword of a field.
 #[tactic(auto, unfolding(crate::specs::Place::verb_of))]
 fn read_verb(field: &[u8]) -> Result<Verb, FaultKind>
     ensures { ReturnsParse (λ verb. verb) (verb_of field.now) result }
@@ -51,7 +51,7 @@ fn read_verb(field: &[u8]) -> Result<Verb, FaultKind>
     }
 }
 
-// The name in a field.
+// The name of a field.
 #[tactic(auto, unfolding(crate::specs::Place::name_of))]
 fn read_name(field: &[u8]) -> Result<Name, FaultKind>
     ensures { ReturnsParse (λ name. name) (name_of field.now) result }
@@ -59,7 +59,7 @@ fn read_name(field: &[u8]) -> Result<Name, FaultKind>
     Name::new(field).ok_or(FaultKind::Word)
 }
 
-// The command of this word, with what its last field says.
+// The command of this keyword, with its last field.
 #[tactic(auto, unfolding(crate::specs::Place::verb_command))]
 fn read_last(n: u32, verb: Verb, name: Name, dim: &[u8]) -> Result<Command, FaultKind>
     ensures parse { ReturnsParse (λ command. command) (verb_command n verb name dim.now) result }
@@ -77,7 +77,7 @@ fn read_last(n: u32, verb: Verb, name: Name, dim: &[u8]) -> Result<Command, Faul
     }
 }
 
-// The command that three fields ask for.
+// The command of three fields.
 #[tactic(auto, unfolding(crate::specs::Place::command_of))]
 fn read_fields(n: u32, three: &ThreeFields<'_>) -> Result<Command, FaultKind>
     ensures parse { ReturnsParse (λ command. command) (command_of n (three.now.first.now ∷ three.now.second.now ∷ three.now.third.now ∷ [])) result }
@@ -117,8 +117,8 @@ impl Format for Commands {
 /// Reads the commands of a whole file, for a machine of dimension `n`.
 ///
 /// A refusal is the first fault of the file. `Read` comes only where the reader's count of failed
-/// calls rose in this call, or stood at `u64::MAX`; every other want is `OutOfMemory`. At most
-/// `MAX_RECORDS + 1` records behind the header are asked for.
+/// calls rose in this call, or stood at `u64::MAX`; any other failure is `OutOfMemory`. At most
+/// `MAX_RECORDS + 1` records after the header are read.
 pub fn read_place<R: Read + Device>(
     alloc: Global,
     n: u32,
@@ -126,7 +126,7 @@ pub fn read_place<R: Read + Device>(
 ) -> Result<Vec<Command>, Fault>
     ensures parse { IfSome (R.remaining reader.old) (λ bytes. ReturnsFile (parse_commands n bytes) result) }
     ensures fits { IfOk result (λ commands. All (λ command. Fits n command) commands.items) }
-    ensures failed { IfErr result (λ fault. (is_refusal fault.what ≡ true) ⊎ IsFailure FaultKind.Read (R.failures reader.old) (R.failures reader.new) fault) }
+    ensures failed { IfErr result (λ fault. IsInputFault (R.failures reader.old) (R.failures reader.new) fault) }
 {
     format::read_list(alloc, &Commands { n }, reader)
 }

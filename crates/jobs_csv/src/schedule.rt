@@ -1,7 +1,7 @@
 // Reading a file of a schedule: calls and steps of stations.
-ghost use Rattle.std.specs.Prelude.{◌≡◌, ◌⊎◌, [], ◌∷◌, true, All, IfOk, IfErr, IfSome};
+ghost use Rattle.std.specs.Prelude.{◌≡◌, [], ◌∷◌, All, IfOk, IfErr, IfSome};
 ghost use Rattle.csv.specs.Records.{fields_of};
-ghost use Rattle.jobs_csv.specs.Fault.{IsFailure, is_refusal};
+ghost use Rattle.jobs_csv.specs.Fault.{IsInputFault};
 ghost use Rattle.jobs_csv.specs.Outcome.{ReturnsParse, ReturnsFile};
 ghost use Rattle.jobs_csv.specs.Schedule.{HasValidCount, keyword_of, keyword_line, schedule_header, parse_schedule, schedule_line};
 
@@ -14,7 +14,7 @@ use csv::ByteRecord;
 use std::alloc::Global;
 use std::io::Read;
 
-/// How often one line of a schedule may have a station step.
+/// The most steps of one line of a schedule.
 pub const MAX_STEPS: u64 = 100;
 
 /// One line of a schedule: a call of a station, or steps of it.
@@ -24,15 +24,15 @@ pub enum Line {
     Take { station: u64, node: u64 },
     /// The station begins to give its region back.
     Release { station: u64 },
-    /// The station makes so many steps, 1 to `MAX_TIMES`.
+    /// The station makes `times` steps, from 1 to `MAX_STEPS`.
     Step { station: u64, times: u64 },
-    /// The station makes steps until it rests.
+    /// The station makes steps until it is at rest.
     Run { station: u64 },
     /// The station retires.
     Retire { station: u64 },
 }
 
-// The word of a line.
+// The keyword of a line.
 #[derive(Clone, Copy)]
 enum Keyword {
     Take,
@@ -46,7 +46,7 @@ enum Keyword {
 #[derive(Clone, Copy)]
 struct Schedule;
 
-// The word in a field.
+// The keyword of a field.
 #[tactic(auto, unfolding(crate::specs::Schedule::keyword_of))]
 fn read_keyword(field: &[u8]) -> Result<Keyword, FaultKind>
     ensures { ReturnsParse (λ keyword. keyword) (keyword_of field.now) result }
@@ -66,7 +66,7 @@ fn read_keyword(field: &[u8]) -> Result<Keyword, FaultKind>
     }
 }
 
-// The line of this call of a station, with what its last field says.
+// The line of this keyword of a station, with its last field.
 #[tactic(auto, unfolding(crate::specs::Schedule::keyword_line))]
 fn read_last(station: u64, keyword: Keyword, arg: &[u8]) -> Result<Line, FaultKind>
     ensures parse { ReturnsParse (λ line. line) (keyword_line station keyword arg.now) result }
@@ -96,7 +96,7 @@ fn read_last(station: u64, keyword: Keyword, arg: &[u8]) -> Result<Line, FaultKi
     }
 }
 
-// The line that three fields say.
+// The line of three fields.
 #[tactic(auto, unfolding(crate::specs::Schedule::schedule_line))]
 fn read_fields(three: &ThreeFields<'_>) -> Result<Line, FaultKind>
     ensures parse { ReturnsParse (λ line. line) (schedule_line (three.now.first.now ∷ three.now.second.now ∷ three.now.third.now ∷ [])) result }
@@ -136,12 +136,12 @@ impl Format for Schedule {
 /// Reads the lines of a whole schedule.
 ///
 /// A refusal is the first fault of the file. `Read` comes only where the reader's count of failed
-/// calls rose in this call, or stood at `u64::MAX`; every other want is `OutOfMemory`. At most
-/// `MAX_RECORDS + 1` records behind the header are asked for.
+/// calls rose in this call, or stood at `u64::MAX`; any other failure is `OutOfMemory`. At most
+/// `MAX_RECORDS + 1` records after the header are read.
 pub fn read_schedule<R: Read + Device>(alloc: Global, reader: &mut R) -> Result<Vec<Line>, Fault>
     ensures parse { IfSome (R.remaining reader.old) (λ bytes. ReturnsFile (parse_schedule bytes) result) }
     ensures times { IfOk result (λ lines. All (λ line. HasValidCount line) lines.items) }
-    ensures failed { IfErr result (λ fault. (is_refusal fault.what ≡ true) ⊎ IsFailure FaultKind.Read (R.failures reader.old) (R.failures reader.new) fault) }
+    ensures failed { IfErr result (λ fault. IsInputFault (R.failures reader.old) (R.failures reader.new) fault) }
 {
     format::read_list(alloc, &Schedule, reader)
 }

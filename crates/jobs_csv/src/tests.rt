@@ -1,4 +1,4 @@
-// What the files say, and how faults are told.
+// The texts of faults, fields and names, and which device a fault names.
 use crate::device::{Counted, Device};
 use crate::fault::{Fault, FaultKind};
 use crate::fields;
@@ -11,11 +11,11 @@ use std::process::Abort;
 use std::test::Fail;
 
 mod jobs;
-mod lines;
 mod place;
+mod rows;
 mod schedule;
 
-// Two texts, one behind the other.
+// Two texts joined.
 fn joined(alloc: Global, a: &[u8], b: &[u8]) -> Result<Vec<u8>, Fail> {
     let mut text = Vec::from_slice(alloc, a)?;
     text.extend_from_slice(b)?;

@@ -1,6 +1,6 @@
 //! Repeats one collective on `2^DIM` places, so that it can be timed:
-//! `rounds_bench COLLECTIVE DIM TIMES`. The collective is `broadcast`, `reduce`, `allreduce` or `scan`,
-//! of sums; its root is the last place.
+//! `rounds_bench COLLECTIVE DIM TIMES`. The collective is `broadcast`, `reduce`, `allreduce` or
+//! `scan`, of sums; its root is the last place.
 //!
 //! It prints a number that all places determine in the end.
 #![tactic(auto)]

@@ -12,8 +12,10 @@ use std::alloc::Global;
 /// How many jobs a file has, for a machine of dimension `n`, or the first fault of the file.
 pub fn count_jobs(alloc: Global, n: u32, file: &[u8]) -> Result<usize, Fault>
     requires { n ≤ MAX_DIM }
-    ensures counted { IfOk result (λ count. (jobs : List JobData) × (parse_jobs n file.now ≡ Ok jobs) × (count ≡ length jobs)) }
-    ensures refused { IfErr result (λ fault. is_refusal fault.what ≡ true → parse_jobs n file.now ≡ Err fault) }
+    ensures counted { IfOk result (λ count.
+        (jobs : List JobData) × (parse_jobs n file.now ≡ Ok jobs) × (count ≡ length jobs)) }
+    ensures refused { IfErr result (λ fault.
+        is_refusal fault.what ≡ true → parse_jobs n file.now ≡ Err fault) }
 {
     let mut reader = Counted::new(file);
     let jobs = read_jobs(alloc, n, &mut reader)?;

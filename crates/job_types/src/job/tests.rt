@@ -39,8 +39,8 @@ fn reply_to(alloc: Global, n: u32, kind: Kind, items: &[u64]) -> Result<Reply, F
     }
 }
 
-// Answers a job of this kind on these items, on a machine of dimension `n`, and checks each place of the
-// reply, two past the last one, and the tally.
+// Answers a job of this kind on these items, on a machine of dimension `n`, and checks each place
+// of the reply, two past the last one, and the tally.
 fn check_reply(
     rt: &impl Abort,
     alloc: Global,
@@ -162,8 +162,8 @@ fn broadcasts_from_the_root(rt: HostRuntime) -> Result<(), Fail> {
     )
 }
 
-// Answers a job of this kind on the items 0 to 1023, on the largest machine, and checks the places of
-// these ranks and the tally.
+// Answers a job of this kind on the items 0 to 1023, on the largest machine, and checks the places
+// of these ranks and the tally.
 fn check_largest(
     rt: &impl Abort,
     alloc: Global,

@@ -58,8 +58,8 @@ fn holds_a_name_once(rt: HostRuntime) -> Result<(), Fail> {
     expect_rows(&rt, 1, commands, rows)
 }
 
-// As many names as there are stations hold a region; the next is told so, though no subcube of its
-// dimension is free, and a name that holds one already is told that.
+// Each station holds a region. The next name gets `nostation`, though no subcube of its dimension is
+// free, and a name that holds one gets `held`.
 #[test]
 fn runs_out_of_stations(rt: HostRuntime) -> Result<(), Fail> {
     let mut commands = String::new(rt.alloc());

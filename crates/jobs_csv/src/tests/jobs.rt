@@ -3,7 +3,7 @@ use super::{FailsAt, joined};
 use crate::device::{Counted, Device};
 use crate::fault::{Fault, FaultKind};
 use crate::jobs::{read_jobs, read_lanes};
-use crate::replies::write_replies;
+use crate::line_buffer::write_rows;
 use cube_shape::{MAX_DIM, Region};
 use job_types::{Job, JobId, JobRefused, Kind, Op, Reply};
 use std::process::Abort;
@@ -58,7 +58,7 @@ fn expect_replies(
         replies.push(answered(job, 0))?;
     }
     let mut writer = Counted::new(Vec::new(rt.alloc()));
-    let answer = write_replies(rt.alloc(), replies, &mut writer);
+    let answer = write_rows(rt.alloc(), replies, &mut writer);
     assert!(rt; answer == Ok(()), "at {records}");
     assert!(rt;
         writer.get_ref().as_slice() == wanted.as_slice(),
@@ -320,7 +320,7 @@ fn two_replies(rt: &(impl AllocGlobal + Abort)) -> Result<Vec<Reply>, Fail> {
     Ok(replies)
 }
 
-// A write of replies whose writer fails at this call, with an error or by taking nothing. It tells
+// A write of replies whose writer fails at this call, with an error or by taking nothing. Returns
 // whether the writer failed.
 fn fails_to_write(
     rt: &(impl AllocGlobal + Abort),
@@ -335,7 +335,7 @@ fn fails_to_write(
         gives_zero,
     };
     let mut writer = Counted::new(device);
-    let answer = write_replies(rt.alloc(), two_replies(rt)?, &mut writer);
+    let answer = write_rows(rt.alloc(), two_replies(rt)?, &mut writer);
     if writer.failures() == 0 {
         assert!(rt; answer == Ok(()));
         return Ok(false);

@@ -1,9 +1,9 @@
 use Rattle.std.proofs.Common.{List, All}
-use Rattle.jobs_csv.specs.Input.{IsPlain}
+use Rattle.jobs_csv.specs.InnerInput.{IsPlain}
 use Rattle.jobs_csv.proofs.FileLemmas.{HasRead}
 use Rattle.jobs_csv.proofs.format.read_records.Given as goal
 
--- the rows of the records so far are gathered
+-- the rows of the records so far are pushed
 abbrev pub invariant-loop-number : goal.invariant-loop-number
 invariant-loop-number g l = record {
   plain : IsPlain l.reader;

@@ -25,7 +25,7 @@ unfolding items_of numbers_of
 items_of_pieces [] e = search rules
 items_of_pieces (byte ∷ rest) e = refl
 
--- the number of one piece, and those of the pieces behind it
+-- the number of one piece, and those of the pieces after it
 with_first : Option (List ℕ) → Option ℕ → Option (List ℕ)
 with_first rest first = option_and_then (λ x. option_and_then (λ xs. Some (x ∷ xs)) rest) first
 

@@ -3,7 +3,7 @@ use Rattle.std.proofs.Common.{◌+◌, sym, ◌∙◌, subst, arith}
 use Rattle.std.proofs.lemmas.Nat.{pow_pos}
 use Rattle.cube_core.specs.declared.act.Act.TheVariants.{Retire}
 use Rattle.cube_core.specs.Event.{retirement}
-use Rattle.cube_core.specs.Effect.{IsEffect}
+use Rattle.cube_core.specs.InnerEffect.{IsEffect}
 use Rattle.cube_core.proofs.WorldLemmas.{word_there, retire_accepted, retired_by, IsWorld-apply, IsWorld-lawful, IsWorld-of}
 use Rattle.cube_core.proofs.world.World.retire.Goals as goal
 
