@@ -11,6 +11,7 @@ mod alloc_bits;
 mod bits;
 mod slots;
 
+pub use cube_shape::{MAX_DIM, MAX_STATIONS, Region};
 pub use alloc_bits::{AllocBits, NoSubcube, NothingHeld};
 
 #[cfg(test)]

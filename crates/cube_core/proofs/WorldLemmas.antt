@@ -274,7 +274,7 @@ retired_by s n words phases w made view none effect =
     ap (λ v. state_of n (set words v made.word) (set phases s made.next)) (sym effect.node)
     ∙ made_event (Retire s) s (retirement s) n words phases w made view (apply-accepted (Retire s) w none) effect
 
--- and the event is told at the head of the station's trail
+-- and the event is the head of the station's trail
 event_told_event : (act : Act) (s : ℕ) (d : Transition) (w : State) (made : Effect) → s < length w.records → apply act w ≡ apply_event d s w → IsEffect d (word_of w d.node) made → (record_of (apply act w) s).trail ≡ made.event ∷ (record_of w s).trail
 event_told_event act s d w made there is effect =
     ap (λ u. (record_of u s).trail) is

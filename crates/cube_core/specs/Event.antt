@@ -16,7 +16,7 @@ use Rattle.cube_core.specs.declared.phase.Seen.TheVariants as seen
 use Rattle.cube_core.specs.Phase.{side_of, is_seen_free}
 
 -- the node whose word it finds, and from that word: the word that it writes, the station's next
--- phase, and the event that is told
+-- phase, and the event
 pub record Transition : Type 0 where
   pub node : ℕ
   pub writes : ℕ → ℕ
@@ -34,7 +34,7 @@ is_free w = use_of w == 0
 abbrev pub is_occupied : ℕ → Bool
 is_occupied w = bit_at w 0 == 1
 
--- one event, as it is told
+-- one event, as a list
 abbrev pub single_event : ℕ → Kind → ℕ → ℕ → Note → List Event
 single_event station kind node word note = record { station = station; kind = kind; node = node; word = word; note = note } ∷ []
 
@@ -142,7 +142,7 @@ transition s (Arriving a) = record {
   next = λ w. Unmarked a;
   events = λ w. single_event s Unmark a (use_of w) note.Ok;
 }
--- the station's mark is set; an occupied node is no longer its matter
+-- the station's mark is set; at an occupied node there is nothing more to do
 transition s (Unmarked a) = record {
   node = a;
   writes = λ w. with_mark s w;
