@@ -11,8 +11,8 @@ mod alloc_bits;
 mod bits;
 mod slots;
 
-pub use cube_shape::{MAX_DIM, MAX_STATIONS, Region};
 pub use alloc_bits::{AllocBits, NoSubcube, NothingHeld};
+pub use cube_shape::{MAX_DIM, MAX_STATIONS, Region};
 
 #[cfg(test)]
 mod tests;

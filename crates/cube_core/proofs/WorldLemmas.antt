@@ -334,12 +334,9 @@ pub without_trails_of : (n : ℕ) (words : List ℕ) (phases : List Phase) (w : 
 without_trails_of n words phases w view = ap without_trails (sym view) ∙ without_trails-state n words phases ∙ view
 
 -- a call that is refused and one that is not make of a world what the act makes
-pub made_by : {A : Type 0} (act : Act) (w new : State) (r : Result A Refused) → IsWorld w → without_trails w ≡ w → IfErr r (λ why. refusal act w ≡ Some why) → OnErr r (new ≡ w) → OnOk r (new ≡ without_trails (apply act w)) → (new ≡ without_trails (apply act w)) × IsTreeLawful new
-made_by act w new r world quiet refused unchanged made = (is r refused unchanged made, reached-lawful new (IsWorld-apply act w new world (is r refused unchanged made)).reached)
-  where
-    is : {A : Type 0} (x : Result A Refused) → IfErr x (λ why. refusal act w ≡ Some why) → OnErr x (new ≡ w) → OnOk x (new ≡ without_trails (apply act w)) → new ≡ without_trails (apply act w)
-    is (Ok a) _ _ became = became
-    is (Err why) reason same _ = same ∙ sym (ap without_trails (ap (λ x. unless_refused x act w) reason) ∙ quiet)
+pub made_by : {A : Type 0} (act : Act) (w new : State) (r : Result A Refused) → without_trails w ≡ w → IfErr r (λ why. refusal act w ≡ Some why) → OnErr r (new ≡ w) → OnOk r (new ≡ without_trails (apply act w)) → new ≡ without_trails (apply act w)
+made_by act w new (Ok a) quiet _ _ became = became
+made_by act w new (Err why) quiet refused same _ = same ∙ sym (ap without_trails (ap (λ x. unless_refused x act w) refused) ∙ quiet)
 
 -- one act more at the end of those that were made
 pub one_more : (acts : List Act) (i : ℕ) (none : Act) (first old new : State) → i < length acts → old ≡ without_trails (apply_all (reverse (take i acts)) first) → new ≡ without_trails (apply (get_or acts i none) old) → new ≡ without_trails (apply_all (reverse (take (i + 1) acts)) first)

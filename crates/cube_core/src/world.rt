@@ -65,8 +65,8 @@ impl World {
         requires { station < length self.now.records }
         ensures { result ≡ phase_of self.now station }
     {
-        let place = station as usize;
-        self.phases[place]
+        let index = station as usize;
+        self.phases[index]
     }
 
     /// An idle station begins to take the region of a node. If the node is `j` levels below the root,
