@@ -16,3 +16,4 @@ mod CountLemmas
 mod ScheduleLemmas
 mod WorldLemmas
 pub mod OneEventLemmas
+pub mod RunningLemmas

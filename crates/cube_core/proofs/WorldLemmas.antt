@@ -136,7 +136,7 @@ apply_dim act w = turn (refusal act w)
     turn None = apply_accepted_dim act
     turn (Some why) = refl
 
-apply_stations : (act : Act) (w : State) → length (apply act w).records ≡ length w.records
+pub apply_stations : (act : Act) (w : State) → length (apply act w).records ≡ length w.records
 apply_stations act w = turn (refusal act w)
   where
     apply_accepted_stations : (a : Act) → length (apply_accepted a w).records ≡ length w.records

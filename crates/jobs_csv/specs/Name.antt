@@ -12,7 +12,7 @@ is_name_byte byte = is_ascii_lowercase byte || is_ascii_digit byte
 abbrev pub is_name : List ℕ → Bool
 is_name text = nat_lt 0 (length text) && nat_lt (length text) 17 && list_all is_name_byte text
 
--- so many zeros
+-- n zeros
 unfoldable pub zeros : ℕ → List ℕ
 zeros zero = []
 zeros (suc n) = 0 ∷ zeros n
