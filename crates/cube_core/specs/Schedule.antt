@@ -1,7 +1,7 @@
 -- The world of words and stations, and what a schedule of calls makes of it.
 use Rattle.std.specs.Prelude.{◌≡◌, ℕ, ◌<◌, ◌+◌, ◌^◌, ◌&&◌, nat_lt, replicate, if◌then◌else◌, List, [], ◌∷◌, ◌++◌, length, slice_set, slice_index_or, Option, Some, None}
 use Rattle.cube_core.specs.declared.phase.Phase.{Phase}
-use Rattle.cube_core.specs.declared.phase.Phase.TheVariants.{Idle, Looking, Looked, Climbing, Swept, Holding, Leaving, Backing, Arriving, Unmarked, Marked, Retired}
+use Rattle.cube_core.specs.declared.phase.Phase.TheVariants.{Idle, Looking, Holding, Leaving, Retired}
 use Rattle.cube_core.specs.declared.event.Event.{Event}
 use Rattle.cube_core.specs.declared.act.Act.{Act}
 use Rattle.cube_core.specs.declared.act.Act.TheVariants.{Take, Release, Step, Retire}

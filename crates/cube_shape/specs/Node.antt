@@ -30,7 +30,7 @@ OnPath a b = (0 < a) × ((steps : ℕ) × (b / 2 ^ steps ≡ a))
 abbrev pub IsNodeOf : ℕ → ℕ → Region → Type 0
 IsNodeOf n v r = (r.dim ≤ n) × ((m : ℕ) × (m < 2 ^ (n - r.dim)) × (r ≡ block r.dim m) × (v ≡ 2 ^ (n - r.dim) + m))
 
--- from b up to the node whose parent is a, in at most so many steps
+-- from b up to the node whose parent is a, in at most this number of steps
 unfoldable pub climb : ℕ → ℕ → ℕ → ℕ
 climb zero a b = b
 climb (suc steps) a b = if b / 2 == a then b else climb steps a (b / 2)
