@@ -44,13 +44,16 @@ pub record Represents (n : ℕ) (slots : List (Option Region)) (bits : List Bool
   pub slot_count : length slots ≡ MAX_STATIONS
   pub lawful : IsLawful n (slot_of slots)
   pub set : (s p : ℕ) (a : Region) → slot_of slots s ≡ Some a → Covers a p → bit_of bits p ≡ true
-  pub clear : (p : ℕ) → ((s : ℕ) (a : Region) → slot_of slots s ≡ Some a → Covers a p → ⊥) → bit_of bits p ≡ false
+  pub clear : (p : ℕ) → ((s : ℕ) (a : Region) → slot_of slots s ≡ Some a → Covers a p → ⊥)
+      → bit_of bits p ≡ false
 
 -- a region is stored as its two numbers, and an allocation as its two parts
 abbrev pub region_code : Coded Region
 region_code =
-    code_by (ℕ × ℕ) (coded× coded_ℕ coded_ℕ) (λ r. (r.base, r.dim)) (λ p. record { base = p.0; dim = p.1 }) (λ _. refl)
+    code_by (ℕ × ℕ) (coded× coded_ℕ coded_ℕ) (λ r. (r.base, r.dim))
+    (λ p. record { base = p.0; dim = p.1 }) (λ _. refl)
 
 abbrev pub allocation_code : Coded Allocation
 allocation_code =
-    code_by (ℕ × FinMap nat_cmp Region) (coded× coded_ℕ (code coded_ℕ region_code)) (λ a. (a.dim, a.pairs)) (λ p. record { dim = p.0; pairs = p.1 }) (λ _. refl)
+    code_by (ℕ × FinMap nat_cmp Region) (coded× coded_ℕ (code coded_ℕ region_code))
+    (λ a. (a.dim, a.pairs)) (λ p. record { dim = p.0; pairs = p.1 }) (λ _. refl)

@@ -85,8 +85,10 @@ impl AllocBits {
     ///
     /// A number past the processors of the machine is in no region.
     pub fn holder(&self, processor: u64) -> Option<u32>
-        ensures held { IfSome result (λ s. (a : HeldRegion) × (held_in self.now s ≡ Some a) × Covers a processor) }
-        ensures free { IfNone result ((s : ℕ) (a : HeldRegion) → held_in self.now s ≡ Some a → Covers a processor → ⊥) }
+        ensures held { IfSome result (λ s. (a : HeldRegion) × (held_in self.now s ≡ Some a)
+            × Covers a processor) }
+        ensures free { IfNone result ((s : ℕ) (a : HeldRegion) → held_in self.now s ≡ Some a
+            → Covers a processor → ⊥) }
     {
         slots::holder_of(&self.slots, processor)
     }
@@ -106,8 +108,10 @@ impl AllocBits {
         requires station { station < MAX_STATIONS }
         requires idle { held_in self.old station ≡ None }
         requires dim { k ≤ self.old.dim }
-        ensures first { IfOk result (λ r. (m : ℕ) × (r ≡ block k m) × IsFirstFit self.old.dim k (held_in self.old) m) }
-        ensures given { IfOk result (λ r. Gives self.old.dim station k (held_in self.old) (held_in self.new) r) }
+        ensures first { IfOk result (λ r. (m : ℕ) × (r ≡ block k m)
+            × IsFirstFit self.old.dim k (held_in self.old) m) }
+        ensures given { IfOk result (λ r.
+            Gives self.old.dim station k (held_in self.old) (held_in self.new) r) }
         ensures refused { OnErr result (HasNoFit self.old.dim k (held_in self.old)) }
         ensures unchanged { OnErr result (self.new ≡ self.old) }
         ensures dim_stays { self.new.dim ≡ self.old.dim }
@@ -124,7 +128,8 @@ impl AllocBits {
     ///
     /// `NothingHeld` comes only where the station holds nothing, and changes nothing.
     pub fn release(&mut self, station: u32) -> Result<Region, NothingHeld>
-        ensures released { IfOk result (λ r. TakesBack station (held_in self.old) (held_in self.new) r) }
+        ensures released { IfOk result (λ r.
+            TakesBack station (held_in self.old) (held_in self.new) r) }
         ensures refused { OnErr result (held_in self.old station ≡ None) }
         ensures unchanged { OnErr result (self.new ≡ self.old) }
         ensures dim_stays { self.new.dim ≡ self.old.dim }

@@ -26,8 +26,10 @@ pub fn all_empty(slots: &[Option<Region>]) -> bool
 pub fn holder_of(slots: &[Option<Region>], processor: u64) -> Option<u32>
     requires count { length slots.now < 2 ^ 32 }
     requires limits { (s : ℕ) (a : HeldRegion) → slot_of slots.now s ≡ Some a → a.dim ≤ MAX_DIM }
-    ensures held { IfSome result (λ s. (a : HeldRegion) × (slot_of slots.now s ≡ Some a) × Covers a processor) }
-    ensures free { IfNone result ((s : ℕ) (a : HeldRegion) → slot_of slots.now s ≡ Some a → Covers a processor → ⊥) }
+    ensures held { IfSome result (λ s. (a : HeldRegion) × (slot_of slots.now s ≡ Some a)
+        × Covers a processor) }
+    ensures free { IfNone result ((s : ℕ) (a : HeldRegion) → slot_of slots.now s ≡ Some a
+        → Covers a processor → ⊥) }
 {
     for station in 0..slots.len() {
         if let Some(region) = slots[station]

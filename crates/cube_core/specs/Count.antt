@@ -47,20 +47,31 @@ pub record IsCounted (w : State) : Type 0 where
   -- the node of a region of dimension k is n - k levels below the root
   pub levels : (v : ℕ) (r : Region) → IsNodeOf w.dim v r → depth w.dim v ≡ w.dim - r.dim
   -- a take has at most 3 + 7 j events, and a release 1 + 5 j, at a node that is j levels below the root
-  pub take : (s v : ℕ) → refusal (Take s v) w ≡ None → events_due w.dim (phase_of (apply (Take s v) w) s) ≡ 3 + 7 * depth w.dim v
-  pub release : (s : ℕ) → refusal (Release s) w ≡ None → events_due w.dim (phase_of (apply (Release s) w) s) ≡ 1 + 5 * depth w.dim (node_held (phase_of w s))
+  pub take : (s v : ℕ) → refusal (Take s v) w ≡ None
+      → events_due w.dim (phase_of (apply (Take s v) w) s) ≡ 3 + 7 * depth w.dim v
+  pub release : (s : ℕ) → refusal (Release s) w ≡ None
+      → events_due w.dim (phase_of (apply (Release s) w) s)
+      ≡ 1 + 5 * depth w.dim (node_held (phase_of w s))
   -- each event of a station lowers its own count
-  pub falls : (s : ℕ) → refusal (Step s) w ≡ None → events_due w.dim (phase_of (apply (Step s) w) s) < events_due w.dim (phase_of w s)
+  pub falls : (s : ℕ) → refusal (Step s) w ≡ None
+      → events_due w.dim (phase_of (apply (Step s) w) s) < events_due w.dim (phase_of w s)
   -- an accepted step adds just one event, its station's own, to its station's trail
-  pub one_event : (s : ℕ) → refusal (Step s) w ≡ None → (event : Event) × (event.station ≡ s) × (trail_of (apply (Step s) w) s ≡ event ∷ trail_of w s)
+  pub one_event : (s : ℕ) → refusal (Step s) w ≡ None
+      → (event : Event) × (event.station ≡ s)
+      × (trail_of (apply (Step s) w) s ≡ event ∷ trail_of w s)
   -- so no step raises what a station has made and has still to make
   pub never_rises : (s t : ℕ) → made_and_due (apply (Step s) w) t ≤ made_and_due w t
   -- no act changes another station's phase, and so its count, nor its trail
   pub others : (act : Act) (t : ℕ) → t ≢ station_of act → phase_of (apply act w) t ≡ phase_of w t
-  pub others_trail : (act : Act) (t : ℕ) → t ≢ station_of act → trail_of (apply act w) t ≡ trail_of w t
+  pub others_trail : (act : Act) (t : ℕ) → t ≢ station_of act
+      → trail_of (apply act w) t ≡ trail_of w t
   -- from an accepted take on, for as long as all further acts of the station are steps, it makes at
   -- most 3 + 7 j events, and from an accepted release on at most 1 + 5 j
-  pub take_events : (s v : ℕ) (later : List Act) → refusal (Take s v) w ≡ None → HasOnlySteps s later
-      → length (trail_of (apply_all later (apply (Take s v) w)) s) ≤ length (trail_of w s) + (3 + 7 * depth w.dim v)
-  pub release_events : (s : ℕ) (later : List Act) → refusal (Release s) w ≡ None → HasOnlySteps s later
-      → length (trail_of (apply_all later (apply (Release s) w)) s) ≤ length (trail_of w s) + (1 + 5 * depth w.dim (node_held (phase_of w s)))
+  pub take_events : (s v : ℕ) (later : List Act) → refusal (Take s v) w ≡ None
+      → HasOnlySteps s later
+      → length (trail_of (apply_all later (apply (Take s v) w)) s)
+      ≤ length (trail_of w s) + (3 + 7 * depth w.dim v)
+  pub release_events : (s : ℕ) (later : List Act) → refusal (Release s) w ≡ None
+      → HasOnlySteps s later
+      → length (trail_of (apply_all later (apply (Release s) w)) s)
+      ≤ length (trail_of w s) + (1 + 5 * depth w.dim (node_held (phase_of w s)))

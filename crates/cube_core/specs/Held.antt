@@ -1,4 +1,4 @@
--- The held set: which region each station holds, and the step of the machine of regions that an act is.
+-- The held set: which region each station holds, and the step of the machine that an act is.
 use Rattle.std.specs.Prelude.{◌≡◌, ℕ, zero, suc, ◌-◌, ◌^◌, ◌==◌, ◌⊎◌, if◌then◌else◌, Option, Some, None}
 use Rattle.cube_shape.specs.declared.region.Region.{Region}
 use Rattle.cube_shape.specs.Region.{block}
@@ -28,4 +28,5 @@ held_of w s = region_held w.dim (node_held (phase_of w s))
 -- taken away, or no station's holding changes
 abbrev pub IsMachineStep : ℕ → ℕ → ℕ → Holdings → Holdings → Type 0
 IsMachineStep n station node old new =
-    Gives n station (dim_at n node) old new (region_at n node) ⊎ (((r : Region) × TakesBack station old new r) ⊎ ((t : ℕ) → new t ≡ old t))
+    Gives n station (dim_at n node) old new (region_at n node)
+    ⊎ (((r : Region) × TakesBack station old new r) ⊎ ((t : ℕ) → new t ≡ old t))

@@ -12,7 +12,8 @@ state_of n words phases = record { dim = n; words = words; records = map record_
 
 -- some schedule leads to this state from an opened world
 abbrev pub IsReached : State → Type 0
-IsReached w = (n : ℕ) × (stations : ℕ) × (acts : List Act) × (w ≡ without_trails (apply_all acts (initial n stations)))
+IsReached w = (n : ℕ) × (stations : ℕ) × (acts : List Act)
+    × (w ≡ without_trails (apply_all acts (initial n stations)))
 
 -- a world of the program: its size is within the limits, and some schedule leads to it
 pub record IsWorld (w : State) : Type 0 where

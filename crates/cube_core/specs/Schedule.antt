@@ -82,7 +82,8 @@ phase_refusal n (Retire s) phase = retire_refusal phase
 -- why an act is refused: first that there is no such station, then the phase, then the node
 abbrev pub refusal : Act → State → Option Refused
 refusal act w =
-    if nat_lt (station_of act) (length w.records) then phase_refusal w.dim act (phase_of w (station_of act)) else Some NoStation
+    if nat_lt (station_of act) (length w.records)
+    then phase_refusal w.dim act (phase_of w (station_of act)) else Some NoStation
 
 -- what an act that is not refused makes of the world
 abbrev pub apply_accepted : Act → State → State
@@ -112,4 +113,5 @@ HasOnlySteps s (act ∷ earlier) = (station_of act ≡ s → act ≡ Step s) × 
 -- these acts of a station, the newest first, are one event: on every world of dimension n where the
 -- station has this record, they make of the world what the event makes
 abbrev pub AreOneEvent : ℕ → List Act → ℕ → Record → Transition → Type 0
-AreOneEvent n acts s r d = (w : State) → w.dim ≡ n → s < length w.records → record_of w s ≡ r → apply_all acts w ≡ apply_event d s w
+AreOneEvent n acts s r d = (w : State) → w.dim ≡ n → s < length w.records → record_of w s ≡ r
+    → apply_all acts w ≡ apply_event d s w

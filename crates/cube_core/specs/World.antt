@@ -10,7 +10,8 @@ record_without_trail phase = record { phase = phase; trail = [] }
 
 -- the same state without its trails
 abbrev pub without_trails : State → State
-without_trails w = record w { records = map (λ (r : Record). record_without_trail r.phase) w.records }
+without_trails w =
+    record w { records = map (λ (r : Record). record_without_trail r.phase) w.records }
 
 -- the machine and the number of stations stay
 pub record HasShapeOf (old new : State) : Type 0 where

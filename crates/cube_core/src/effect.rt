@@ -271,7 +271,8 @@ pub fn look_right(station: u64, at: u64, marked: u64, left: Seen, word: u64) -> 
 /// without each side whose child was seen free.
 pub fn clear(station: u64, at: u64, marked: u64, left: Seen, right: Seen, word: u64) -> Effect
     requires { 0 < at }
-    ensures { IsEffect (clear_event station at marked (cleared_as_seen marked left right)) word result }
+    ensures { IsEffect (clear_event station at marked (cleared_as_seen marked left right)) word
+        result }
 {
     let cleared = Word(marked).cleared(left.is_free(), right.is_free());
     let (written, next, note) = if word != marked {

@@ -1,4 +1,4 @@
-//! The status tree of a hypercube machine as a state machine, whose events are single atomic steps.
+//! The status tree of a hypercube machine as a state machine of single atomic steps.
 //!
 //! Each node of the tree of aligned regions has a status word, and each station a phase. A station
 //! takes the region of a node by a Look and a Claim at the node, then a Sweep and a Raise at each

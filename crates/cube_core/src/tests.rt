@@ -1,5 +1,5 @@
-//! Each refusal, each act, and a machine of one node; whole schedules stand in `schedules`, short ones
-//! that show a wrong step in `interleavings`, and outcomes that no clause pins in `outcomes`.
+//! Each refusal, each act, and a machine of one node; whole schedules stand in `schedules`, short
+//! ones that show a wrong step in `interleavings`, and outcomes that no clause pins in `outcomes`.
 
 ghost use Rattle.std.specs.Prelude.{◌+◌, ◌^◌, ◌≤◌};
 ghost use Rattle.cube_core.specs.World.{HasShapeOf};

@@ -73,13 +73,16 @@ impl World {
     /// the take has at most `3 + 7 * j` events, its roll-back included: `lawful` says so of every
     /// list of acts that follows.
     pub fn begin_take(&mut self, station: u64, node: u64) -> Result<(), Refused>
-        ensures refused { IfErr result (λ why. refusal (Act.Take station node) self.old ≡ Some why) }
+        ensures refused { IfErr result (λ why.
+            refusal (Act.Take station node) self.old ≡ Some why) }
         ensures accepted { IfOk result (λ _. refusal (Act.Take station node) self.old ≡ None) }
         ensures unchanged { OnErr result (self.new ≡ self.old) }
-        ensures world { OnOk result (self.new ≡ without_trails (apply (Act.Take station node) self.old)) }
+        ensures world { OnOk result (self.new
+            ≡ without_trails (apply (Act.Take station node) self.old)) }
         ensures shape { HasShapeOf self.old self.new }
         ensures lawful { IsTreeLawful self.new }
-        ensures count { OnOk result (events_due self.old.dim (phase_of self.new station) ≡ 3 + 7 * depth self.old.dim node) }
+        ensures count { OnOk result (events_due self.old.dim (phase_of self.new station)
+            ≡ 3 + 7 * depth self.old.dim node) }
     {
         match self.find(station)? {
             Phase::Idle if Node(node).is_in(self.dim) => {
@@ -97,7 +100,8 @@ impl World {
         ensures refused { IfErr result (λ why. refusal (Act.Release station) self.old ≡ Some why) }
         ensures accepted { IfOk result (λ _. refusal (Act.Release station) self.old ≡ None) }
         ensures unchanged { OnErr result (self.new ≡ self.old) }
-        ensures world { OnOk result (self.new ≡ without_trails (apply (Act.Release station) self.old)) }
+        ensures world { OnOk result (self.new
+            ≡ without_trails (apply (Act.Release station) self.old)) }
         ensures shape { HasShapeOf self.old self.new }
         ensures lawful { IsTreeLawful self.new }
         ensures count { OnOk result (events_due self.old.dim (phase_of self.new station)
@@ -116,12 +120,14 @@ impl World {
         ensures refused { IfErr result (λ why. refusal (Act.Step station) self.old ≡ Some why) }
         ensures accepted { IfOk result (λ _. refusal (Act.Step station) self.old ≡ None) }
         ensures unchanged { OnErr result (self.new ≡ self.old) }
-        ensures world { OnOk result (self.new ≡ without_trails (apply (Act.Step station) self.old)) }
+        ensures world { OnOk result (self.new
+            ≡ without_trails (apply (Act.Step station) self.old)) }
         ensures shape { HasShapeOf self.old self.new }
         ensures lawful { IsTreeLawful self.new }
         ensures count { OnOk result (events_due self.old.dim (phase_of self.new station) < events_due self.old.dim (phase_of self.old station)) }
         ensures others { (t : ℕ) → t ≢ station → phase_of self.new t ≡ phase_of self.old t }
-        ensures event { IfOk result (λ event. (record_of (apply (Act.Step station) self.old) station).trail
+        ensures event { IfOk result (λ event.
+            (record_of (apply (Act.Step station) self.old) station).trail
             ≡ event ∷ (record_of self.old station).trail) }
     {
         let phase = self.find(station)?;
@@ -138,10 +144,12 @@ impl World {
         ensures refused { IfErr result (λ why. refusal (Act.Retire station) self.old ≡ Some why) }
         ensures accepted { IfOk result (λ _. refusal (Act.Retire station) self.old ≡ None) }
         ensures unchanged { OnErr result (self.new ≡ self.old) }
-        ensures world { OnOk result (self.new ≡ without_trails (apply (Act.Retire station) self.old)) }
+        ensures world { OnOk result (self.new
+            ≡ without_trails (apply (Act.Retire station) self.old)) }
         ensures shape { HasShapeOf self.old self.new }
         ensures lawful { IsTreeLawful self.new }
-        ensures event { IfOk result (λ event. (record_of (apply (Act.Retire station) self.old) station).trail
+        ensures event { IfOk result (λ event.
+            (record_of (apply (Act.Retire station) self.old) station).trail
             ≡ event ∷ (record_of self.old station).trail) }
     {
         let Phase::Idle = self.find(station)? else {
@@ -228,8 +236,10 @@ impl World {
 
     // The phase of a station, if there is one of this number.
     fn find(&self, station: u64) -> Result<Phase, Refused>
-        ensures found { IfOk result (λ phase. (phase ≡ phase_of self.now station) × (station < length self.now.records)) }
-        ensures none { IfErr result (λ why. (why ≡ Refused.NoStation) × (length self.now.records ≤ station)) }
+        ensures found { IfOk result (λ phase. (phase ≡ phase_of self.now station)
+            × (station < length self.now.records)) }
+        ensures none { IfErr result (λ why. (why ≡ Refused.NoStation)
+            × (length self.now.records ≤ station)) }
     {
         if station < self.phases.len() as u64 {
             Ok(self.phase(station))

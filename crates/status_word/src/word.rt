@@ -111,8 +111,10 @@ impl Word {
     pub fn cleared(self, left_free: bool, right_free: bool) -> Word
         ensures value { result.0 ≡ cleared_word self.0 left_free right_free }
         ensures occupied { IsOccupied result.0 ↔ IsOccupied self.0 }
-        ensures left { HasSide Side.Left result.0 ↔ (HasSide Side.Left self.0 × (left_free ≡ false)) }
-        ensures right { HasSide Side.Right result.0 ↔ (HasSide Side.Right self.0 × (right_free ≡ false)) }
+        ensures left { HasSide Side.Left result.0 ↔ (HasSide Side.Left self.0
+            × (left_free ≡ false)) }
+        ensures right { HasSide Side.Right result.0 ↔ (HasSide Side.Right self.0
+            × (right_free ≡ false)) }
         ensures unmarked { (station : ℕ) → IsMarked station result.0 → ⊥ }
     {
         match (left_free, right_free) {
@@ -158,7 +160,8 @@ impl Word {
     // Adds a plus sign and the number of a station, if its mark stands.
     fn push_mark(self, text: &mut String, station: u32) -> Result<(), AllocError>
         requires { station < MAX_STATIONS }
-        ensures { OnOk result (string_bytes text.new ≡ string_bytes text.old ++ mark_text self.0 station) }
+        ensures { OnOk result (string_bytes text.new
+            ≡ string_bytes text.old ++ mark_text self.0 station) }
     {
         if self.is_marked(station) {
             write!(text, "+{station}")?;

@@ -1,5 +1,5 @@
-//! Outcomes that only a test pins, worked out by hand: a Mark at an occupied node, a Clear that keeps
-//! the node in use, a Claim that loses to a mark, and a Raise that takes a mark along.
+//! Outcomes that only a test pins, worked out by hand: a Mark at an occupied node, a Clear that
+//! keeps the node in use, a Claim that loses to a mark, and a Raise that leaves a mark.
 
 use crate::tests::{Row, follows, is_clear};
 use crate::{Kind, Note, World};
