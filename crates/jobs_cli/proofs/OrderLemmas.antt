@@ -23,7 +23,7 @@ use Rattle.jobs_csv.specs.Lanes.{AreLanes, ReturnsLanes, in_lane}
 use Rattle.jobs_csv.specs.Replies.{reply_columns, reply_fields}
 use Rattle.jobs_csv.specs.Text.{file_text}
 use Rattle.jobs_cli.specs.JobIds.{JobWithId, with_ids_after, lane_count, with_id_after}
-use Rattle.jobs_cli.specs.InnerJobIds.{lane_by_lane, with_ids_from}
+use Rattle.jobs_cli.specs.Inner.JobIds.{lane_by_lane, with_ids_from}
 use Rattle.jobs_cli.specs.Replies.{AreInOrder, answered_job, by_id}
 use Rattle.jobs_cli.specs.Program.{IsAnswerTo}
 use Rattle.jobs_cli.specs.declared.invocation.Invocation.TheVariants.{Run}

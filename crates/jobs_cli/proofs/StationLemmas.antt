@@ -7,7 +7,7 @@ use Rattle.cube_shape.specs.declared.region.Region.{Region}
 use Rattle.cube_shape.specs.Region.{block}
 use Rattle.cube_shape.specs.Machine.{Gives, Holdings, IsFirstFit, TakesBack}
 use Rattle.jobs_cli.specs.Place.{Holding, HoldsSome, IsFirstIdle, IsFreed, IsFull, IsGiven, empty_table, region_of, regions}
-use Rattle.jobs_cli.specs.InnerStations.{NamesAgree, held_under, name_at, named_holdings_with}
+use Rattle.jobs_cli.specs.Inner.Stations.{NamesAgree, held_under, name_at, named_holdings_with}
 
 -- a list of names, some of which are empty
 abbrev Names : Type 0

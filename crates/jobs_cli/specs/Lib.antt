@@ -6,6 +6,4 @@ pub mod Place
 pub mod Replay
 pub mod CommandLine
 pub mod Program
-pub mod InnerJobIds
-pub mod InnerStations
-pub mod InnerReplay
+pub mod Inner

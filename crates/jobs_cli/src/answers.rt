@@ -6,7 +6,7 @@ ghost use Rattle.alloc_bits.specs.Allocation.{held_in};
 ghost use Rattle.job_types.specs.Reply.{ReplyData};
 ghost use Rattle.jobs_csv.specs.Replies.{reply_columns, reply_fields};
 ghost use Rattle.jobs_csv.specs.Text.{file_text, line_of};
-ghost use Rattle.jobs_cli.specs.InnerJobIds.{lane_by_lane, with_ids_from};
+ghost use Rattle.jobs_cli.specs.Inner.JobIds.{lane_by_lane, with_ids_from};
 ghost use Rattle.jobs_cli.specs.Replies.{answered_job};
 
 use alloc_bits::AllocBits;
@@ -60,7 +60,7 @@ fn answer_lane<W: Write>(
 
 /// Answers the jobs of lanes, lane by lane and in a lane in their order, and writes the replies
 /// under their header as they come.
-pub fn answer_all<W: Write>(
+pub(crate) fn answer_all<W: Write>(
     alloc: Global,
     n: u32,
     lanes: Vec<Vec<Job>>,

@@ -24,7 +24,8 @@ The input is CSV with the header lane,kind,op,root,items. A job's lane is below 
 broadcast, reduce, allreduce or scan, and its op is add, min, max, xor, and or or; a broadcast has \
 the op - in place of these. Its root is the rank of one of its items, and 0 for allreduce and scan. \
 Its items are numbers below 2^64 with one space between each two; there are 1, 2, 4, .. or 2^N of \
-them.
+them. A record with good fields is refused as Job Empty where it has no items, Job NotPowerOfTwo or \
+Job TooLarge for their number, and Job BadRoot for its root.
 
 The output is CSV with the header lane,seq,kind,dim,result,rounds,messages, and has a line for each \
 job, by lane and in a lane in the order of the file. Its result has a number, or - for nothing, for \
@@ -72,7 +73,6 @@ const FAULTS: &str = "Faults:
   Fields       a record has too few or too many fields, or there is no header
   Number       a field is not the number that it should be
   Word         a field is none of the keywords, or no name
-  Job ..       the fields are good, and no job can be made of them
   Read, Write  the input or the output failed
   OutOfMemory  a request for memory was refused
   TooMany      there are more records after the header than ";
@@ -101,8 +101,12 @@ impl Limits {
     // The texts.
     fn new(alloc: Global) -> Result<Self, AllocError> {
         Ok(Limits {
-            dim: format!(in alloc; "The dimension of the machine, which has 2^N processors: 0 to {MAX_DIM}")?,
-            stations: format!(in alloc; "The number of stations, which are numbered from 0: 1 to {MAX_STATIONS}")?,
+            dim: format!(in alloc;
+                "The dimension of the machine, which has 2^N processors: 0 to {MAX_DIM}"
+            )?,
+            stations: format!(in alloc;
+                "The number of stations, which are numbered from 0: 1 to {MAX_STATIONS}"
+            )?,
             after_help: format!(in alloc; "{FAULTS}{MAX_RECORDS}{STATUSES}")?,
         })
     }

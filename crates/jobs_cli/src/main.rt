@@ -45,7 +45,13 @@ fn main(rt: HostRuntime) -> ExitCode {
     };
     let mut reader = Counted::new(rt.stdin());
     let mut writer = Counted::new(rt.stdout());
-    let ending = program::run(rt.alloc(), &words, &mut reader, &mut writer, &mut rt.stderr());
+    let ending = program::run(
+        rt.alloc(),
+        &words,
+        &mut reader,
+        &mut writer,
+        &mut rt.stderr(),
+    );
     ExitCode::from(ending.status())
 }
 

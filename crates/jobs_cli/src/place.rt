@@ -61,6 +61,10 @@ pub fn place_on<R: Read + Device, W: Write + Device>(
     let failures_before = writer.failures();
     match answer_all(alloc, n, commands, writer) {
         Ok(()) => Ok(()),
-        Err(WriteStopped) => Err(Fault::attribute(FaultKind::Write, failures_before, writer.failures())),
+        Err(WriteStopped) => Err(Fault::attribute(
+            FaultKind::Write,
+            failures_before,
+            writer.failures(),
+        )),
     }
 }

@@ -3,7 +3,7 @@ ghost use Rattle.std.specs.Prelude.{◌≡◌, ◌<◌, ◌≤◌, ◌+◌, ◌^
 ghost use Rattle.cube_core.specs.declared.act.Act.TheVariants as act;
 ghost use Rattle.cube_core.specs.World.{HasShapeOf};
 ghost use Rattle.jobs_cli.specs.Trace.{IsTrace};
-ghost use Rattle.jobs_cli.specs.InnerReplay.{rows_in};
+ghost use Rattle.jobs_cli.specs.Inner.Replay.{rows_in};
 ghost use Rattle.jobs_cli.specs.Replay.{ActStep, IsPlayed, RestsAfter, final_rows};
 
 use cube_core::World;
@@ -109,7 +109,7 @@ fn run(alloc: Global, world: &mut World, station: u64) -> Result<Vec<ReplayRow>,
 /// Plays a line of a schedule in a world of `stations` stations, and returns its rows.
 ///
 /// Where memory is refused, the world has changed and the rows are lost.
-pub fn play(
+pub(crate) fn play(
     alloc: Global,
     stations: u32,
     world: &mut World,
@@ -142,7 +142,7 @@ fn node_limit(n: u32) -> u64
 }
 
 /// The rows of the end, for a world of dimension `n`.
-pub fn final_rows(alloc: Global, n: u32, world: &World) -> Result<Vec<ReplayRow>, AllocError>
+pub(crate) fn final_rows(alloc: Global, n: u32, world: &World) -> Result<Vec<ReplayRow>, AllocError>
     requires limit { n ≤ MAX_DIM }
     requires dim { world.now.dim ≡ n }
     ensures { IfOk result (λ rows. rows.items ≡ final_rows world.now) }

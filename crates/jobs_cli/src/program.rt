@@ -9,9 +9,8 @@ ghost use Rattle.jobs_cli.specs.Answer.{IsCommandFault, IsMetInReading};
 ghost use Rattle.jobs_cli.specs.CommandLine.{IsWithinLimits, program_app};
 ghost use Rattle.jobs_cli.specs.Program.{EndsBy, IsAnswerTo, exit_status};
 
-use crate::command_line;
 use crate::invocation::Invocation;
-use crate::{place, replay, run};
+use crate::{command_line, place, replay, run};
 use clap::error::ErrorKind;
 use jobs_csv::{Device, Fault, FaultKind};
 use std::alloc::Global;
@@ -79,7 +78,10 @@ fn show<W: Write + Device, E: Write>(error: &clap::Error, writer: &mut W, errors
     if write!(writer, "{error}").is_ok() && writer.flush().is_ok() {
         return Ending::Done;
     }
-    report(Fault::attribute(FaultKind::Write, failures_before, writer.failures()), errors)
+    report(
+        Fault::attribute(FaultKind::Write, failures_before, writer.failures()),
+        errors,
+    )
 }
 
 /// Does what the words of a command line ask for, of which the first is the program's name.

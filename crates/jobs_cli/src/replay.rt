@@ -75,6 +75,10 @@ pub fn replay_on<R: Read + Device, W: Write + Device>(
     let failures_before = writer.failures();
     match play_all(alloc, n, stations, schedule, writer) {
         Ok(()) => Ok(()),
-        Err(WriteStopped) => Err(Fault::attribute(FaultKind::Write, failures_before, writer.failures())),
+        Err(WriteStopped) => Err(Fault::attribute(
+            FaultKind::Write,
+            failures_before,
+            writer.failures(),
+        )),
     }
 }

@@ -31,6 +31,10 @@ pub fn run_on<R: Read + Device, W: Write + Device>(
     let failures_before = writer.failures();
     match answers::answer_all(alloc, n, lanes, writer) {
         Ok(()) => Ok(()),
-        Err(WriteStopped) => Err(Fault::attribute(FaultKind::Write, failures_before, writer.failures())),
+        Err(WriteStopped) => Err(Fault::attribute(
+            FaultKind::Write,
+            failures_before,
+            writer.failures(),
+        )),
     }
 }

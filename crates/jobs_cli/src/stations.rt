@@ -3,7 +3,7 @@ ghost use Rattle.std.specs.Prelude.{◌≡◌, ◌≢◌, ◌↔◌, ℕ, ◌<�
 ghost use Rattle.jobs_csv.specs.declared.place.Command.TheVariants as command;
 ghost use Rattle.jobs_csv.specs.Place.{Fits};
 ghost use Rattle.jobs_cli.specs.Place.{PlaceStep, command_in, empty_table};
-ghost use Rattle.jobs_cli.specs.InnerStations.{AreStations, dim_of, name_at, named_holdings};
+ghost use Rattle.jobs_cli.specs.Inner.Stations.{AreStations, dim_of, name_at, named_holdings};
 
 use alloc_bits::AllocBits;
 use cube_shape::{MAX_DIM, MAX_STATIONS};
@@ -50,7 +50,7 @@ fn first_idle(names: &[Option<Name>]) -> Option<u32>
 
 impl Stations {
     /// A machine of dimension `n` whose stations hold nothing.
-    pub fn new(alloc: Global, n: u32) -> Result<Self, AllocError>
+    pub(crate) fn new(alloc: Global, n: u32) -> Result<Self, AllocError>
         requires { n ≤ MAX_DIM }
         ensures made { IfOk result (λ made. AreStations made) }
         ensures dim { IfOk result (λ made. dim_of made ≡ n) }
@@ -104,7 +104,7 @@ impl Stations {
     }
 
     /// Carries out a command and returns its row.
-    pub fn answer(&mut self, command: Command) -> PlaceRow
+    pub(crate) fn answer(&mut self, command: Command) -> PlaceRow
         requires made { AreStations self.old }
         requires fits { Fits (dim_of self.old) command }
         ensures made { AreStations self.new }

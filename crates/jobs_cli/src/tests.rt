@@ -161,7 +161,10 @@ fn refuses_files(rt: HostRuntime) -> Result<(), Fail> {
             b"0,reduce,add,99,1 1 1 1 1 1 1 1 1 1 1 1 1 1 1 1\n",
             FaultKind::Job(JobRefused::TooLarge),
         ),
-        (b"0,broadcast,-,2,4 9\n", FaultKind::Job(JobRefused::BadRoot)),
+        (
+            b"0,broadcast,-,2,4 9\n",
+            FaultKind::Job(JobRefused::BadRoot),
+        ),
         (b"0,scan,add,0,1 2 \n", FaultKind::Number),
     ];
     let head = joined(rt.alloc(), JOBS, b"0,scan,add,0,1 2\n".as_slice())?;
@@ -342,7 +345,10 @@ fn writes_long_files(rt: HostRuntime) -> Result<(), Fail> {
 }
 
 // What these words ask for, or why they ask for nothing.
-fn ask(rt: &(impl AllocGlobal + Abort), words: &[&str]) -> Result<Result<Invocation, ErrorKind>, Fail> {
+fn ask(
+    rt: &(impl AllocGlobal + Abort),
+    words: &[&str],
+) -> Result<Result<Invocation, ErrorKind>, Fail> {
     let mut all = Vec::new(rt.alloc());
     for word in words {
         all.push(word.to_string(rt.alloc())?)?;
@@ -379,10 +385,27 @@ fn reads_commands_of_regions(rt: HostRuntime) -> Result<(), Fail> {
     assert!(rt; ask(&rt, place.as_slice())? == Ok(Invocation::Place { n: 3 }));
     let place = ["cubejobs", "place", "--dim", "3", "--stations", "1"];
     assert!(rt; ask(&rt, place.as_slice())? == Err(ErrorKind::UnknownArgument));
-    let replay = ["cubejobs", "replay", "--dim", "2", "--stations", "32"];
-    let wanted = Invocation::Replay { n: 2, stations: 32 };
+    let most = format!(in rt.alloc(); "{MAX_STATIONS}")?;
+    let replay = [
+        "cubejobs",
+        "replay",
+        "--dim",
+        "2",
+        "--stations",
+        most.as_str(),
+    ];
+    let stations = MAX_STATIONS;
+    let wanted = Invocation::Replay { n: 2, stations };
     assert!(rt; ask(&rt, replay.as_slice())? == Ok(wanted));
-    let replay = ["cubejobs", "replay", "--dim", "2", "--stations", "33"];
+    let past = format!(in rt.alloc(); "{}", MAX_STATIONS + 1)?;
+    let replay = [
+        "cubejobs",
+        "replay",
+        "--dim",
+        "2",
+        "--stations",
+        past.as_str(),
+    ];
     assert!(rt; ask(&rt, replay.as_slice())? == Err(ErrorKind::ValueValidation));
     let replay = ["cubejobs", "replay", "--dim", "2", "--stations", "0"];
     assert!(rt; ask(&rt, replay.as_slice())? == Err(ErrorKind::ValueValidation));
@@ -455,7 +478,14 @@ fn runs_the_program(rt: HostRuntime) -> Result<(), Fail> {
     let rows = "command,name,dim,base,outcome\ntake,a,0,0,given\n";
     expect_call(&rt, place.as_slice(), commands, 0, rows, "")?;
     let line = "refused: record 1: Fields\n";
-    expect_call(&rt, place.as_slice(), b"command,name,dim\ntake\n", 1, "", line)?;
+    expect_call(
+        &rt,
+        place.as_slice(),
+        b"command,name,dim\ntake\n",
+        1,
+        "",
+        line,
+    )?;
     let replay = ["cubejobs", "replay", "--dim", "0", "--stations", "1"];
     let rows = "station,event,node,word,note\n-,end,-,-,0\n";
     expect_call(&rt, replay.as_slice(), b"station,call,arg\n", 0, rows, "")?;

@@ -3,7 +3,7 @@ use Rattle.std.proofs.Common.{◌≡◌, ℕ, false, List, [], Some, Vec, Global
 use Rattle.std.specs.Io.KnownBytes.{append_known}
 use Rattle.csv.specs.Writing.{default_writer, fields_written, has_written, writer_pending, writer_setup, writer_under}
 use Rattle.csv.specs.declared.writer.Writer.{Writer}
-use Rattle.jobs_csv.specs.InnerOutput.{AddsLine, HasText, buffered, items_held, known}
+use Rattle.jobs_csv.specs.Inner.Output.{AddsLine, HasText, buffered, items_held, known}
 
 -- a new writer over an empty list has written nothing
 pub has_none : (writer : Writer (Vec ℕ Global)) → items_held (writer_under writer) ≡ Some [] → writer_pending writer ≡ [] → writer_setup writer ≡ default_writer → fields_written writer ≡ 0 → has_written writer ≡ false → HasText items_held writer []

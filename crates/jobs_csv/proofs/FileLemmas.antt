@@ -10,9 +10,10 @@ use Rattle.jobs_csv.specs.declared.fault.FaultKind.{FaultKind}
 use Rattle.jobs_csv.specs.declared.fault.FaultKind.TheVariants as what
 use Rattle.jobs_csv.specs.declared.input.TheConstants.{MAX_RECORDS}
 use Rattle.jobs_csv.specs.Fault.{is_refusal}
-use Rattle.jobs_csv.specs.Outcome.{IsParseError, ReturnsFile, ReturnsRows, ◌>>=◌}
+use Rattle.jobs_csv.specs.Inner.Parse.{IsParseError}
+use Rattle.jobs_csv.specs.Outcome.{ReturnsFile, ReturnsRows, ◌>>=◌}
 use Rattle.jobs_csv.specs.Files.{Record, at_row, file_of, numbered_row, records_of, rows_from, parse_file}
-use Rattle.jobs_csv.specs.InnerInput.{AreAll, HasGiven}
+use Rattle.jobs_csv.specs.Inner.Input.{AreAll, HasGiven}
 use Rattle.jobs_csv.proofs.CsvRecords.{first_records, whole_records}
 
 -- the parse of a header, and of any other record

@@ -10,6 +10,7 @@ use Rattle.std.proofs.lemmas.Bool.Decides.{nat_tests}
 use Rattle.std.proofs.lemmas.List.Elements.{All-append, All-push}
 use Rattle.std.proofs.lemmas.List.Folds.{list_any_none}
 use Rattle.csv.specs.Writing.{default_writer, field_text, needs_byte, quoted}
+use Rattle.cube_shape.specs.declared.limits.TheConstants.{MAX_STATIONS}
 use Rattle.cube_core.specs.declared.act.Refused.{Refused}
 use Rattle.cube_core.specs.declared.act.Refused.TheVariants as why
 use Rattle.cube_core.specs.declared.event.Kind.{Kind}
@@ -23,7 +24,7 @@ use Rattle.status_word.specs.Word.{mark_bit, use_of}
 use Rattle.jobs_csv.specs.declared.place_rows.PlaceRow.{PlaceRow}
 use Rattle.jobs_csv.specs.declared.place_rows.PlaceRow.TheVariants as row
 use Rattle.jobs_csv.specs.Name.{is_name, is_name_byte}
-use Rattle.jobs_csv.specs.InnerRows.{command_text, outcome_text}
+use Rattle.jobs_csv.specs.Inner.Rows.{command_text, outcome_text}
 use Rattle.jobs_csv.specs.ReplayRows.{event_keyword, node_word_text, note_keyword, reason_keyword}
 use Rattle.jobs_csv.specs.Replies.{collective_keyword}
 use Rattle.jobs_csv.specs.Text.{IsPlainField, number_text}
@@ -195,7 +196,7 @@ plain_marks w from (suc n) le = all_both (mark_text w from) (flat_map (mark_text
 
 -- the text of a word
 pub plain_word : (w : ℕ) → IsPlainField (word_text w)
-plain_word w = all_both (use_text w) _ (plain_use w) (plain_marks w 0 32 (omega arith))
+plain_word w = all_both (use_text w) _ (plain_use w) (plain_marks w 0 MAX_STATIONS (omega arith))
 
 pub plain_node_word : (node w : ℕ) → IsPlainField (node_word_text node w)
 plain_node_word node w = either_plain (node == 0) (codes "-") (word_text w) plain_dash (plain_word w)

@@ -4,7 +4,7 @@ use Rattle.jobs_csv.specs.declared.place_rows.PlaceRow.{PlaceRow}
 use Rattle.jobs_csv.specs.declared.place_rows.PlaceRow.TheVariants as row
 use Rattle.jobs_csv.specs.declared.replay_rows.ReplayRow.{ReplayRow}
 use Rattle.jobs_csv.specs.declared.replay_rows.ReplayRow.TheVariants as line
-use Rattle.jobs_csv.specs.InnerRows.{base_in, command_text, dim_in, end_text, event_text, name_in, node_in, outcome_text, station_in, word_in}
+use Rattle.jobs_csv.specs.Inner.Rows.{base_in, command_text, dim_in, end_text, event_text, name_in, node_in, outcome_text, station_in, word_in}
 use Rattle.jobs_csv.specs.PlaceRows.{place_columns, place_fields}
 use Rattle.jobs_csv.specs.ReplayRows.{replay_columns, replay_fields}
 use Rattle.jobs_csv.specs.Text.{number_text}

@@ -6,7 +6,7 @@ use Rattle.csv.specs.Writing.{default_writer, field_text, fields_text, is_blank,
 use Rattle.csv.specs.declared.writer.Writer.{Writer}
 use Rattle.csv.specs.declared.writer.WriterBuilder.{WriterBuilder}
 use Rattle.csv.specs.declared.writer.QuoteStyle.TheVariants as style
-use Rattle.jobs_csv.specs.InnerOutput.{HasText}
+use Rattle.jobs_csv.specs.Inner.Output.{HasText}
 use Rattle.jobs_csv.specs.Text.{IsPlainField, line_of}
 use Rattle.jobs_csv.proofs.PlainLemmas.{as_it_is}
 

@@ -14,6 +14,7 @@ pub mod JobFields
 pub mod Jobs
 pub mod Replies
 pub mod Lanes
-pub mod InnerInput
-pub mod InnerOutput
-pub mod InnerRows
+pub mod Inner
+pub use Rattle.job_types.specs.Job
+pub use Rattle.job_types.specs.Reply
+pub use Rattle.job_types.specs.Collective

@@ -17,23 +17,6 @@ abbrev pub or_refuse : {A : Type 0} → FaultKind → Option A → Result A Faul
 or_refuse w None = Err w
 or_refuse w (Some x) = Ok x
 
--- `w` is the error that the parse gives, or OutOfMemory, which no parse gives
-abbrev pub IsParseError : {A : Type 0} → Result A FaultKind → FaultKind → Type 0
-IsParseError parse what.Fields = parse ≡ Err what.Fields
-IsParseError parse what.Number = parse ≡ Err what.Number
-IsParseError parse what.Word = parse ≡ Err what.Word
-IsParseError parse (what.Job reason) = parse ≡ Err (what.Job reason)
-IsParseError parse what.Read = ⊥
-IsParseError parse what.Write = ⊥
-IsParseError parse what.OutOfMemory = ⊤
-IsParseError parse what.TooMany = parse ≡ Err what.TooMany
-IsParseError parse what.Spent = ⊥
-
--- the call returned the parse's value or its error, or ran out of memory
-abbrev pub ReturnsParse : {A B : Type 0} → (A → B) → Result B FaultKind → Result A FaultKind → Type 0
-ReturnsParse view parse (Ok x) = parse ≡ Ok (view x)
-ReturnsParse view parse (Err w) = IsParseError parse w
-
 -- the rows are the parse's, and a refusal is the parse's error
 abbrev pub ReturnsFile : {Row : Type 0} → Result (List Row) Fault → Result (Vec Row Global) Fault → Type 0
 ReturnsFile parse (Ok rows) = parse ≡ Ok rows.items

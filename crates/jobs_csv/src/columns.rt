@@ -3,7 +3,7 @@ ghost use Rattle.std.specs.Prelude.{◌≡◌, ◌≢◌, ◌<◌, ◌&&◌, [],
 ghost use Rattle.std.specs.Str.{bytes_eq};
 ghost use Rattle.csv.specs.Records.{field_at, fields_of};
 ghost use Rattle.jobs_csv.specs.Columns.{three_header};
-ghost use Rattle.jobs_csv.specs.Outcome.{ReturnsParse};
+ghost use Rattle.jobs_csv.specs.Inner.Parse.{ReturnsParse};
 
 use crate::fault::FaultKind;
 use csv::ByteRecord;
@@ -47,7 +47,12 @@ fn are_texts(fields: &ThreeFields<'_>, first: &[u8], second: &[u8], third: &[u8]
 }
 
 /// Checks a header of three fields: their number, and then their texts.
-pub fn three_header(row: &ByteRecord, first: &[u8], second: &[u8], third: &[u8]) -> Result<(), FaultKind>
+pub fn three_header(
+    row: &ByteRecord,
+    first: &[u8],
+    second: &[u8],
+    third: &[u8],
+) -> Result<(), FaultKind>
     ensures { ReturnsParse (λ good. good) (three_header first.now second.now third.now (fields_of row.now)) result }
 {
     let fields = match three_fields(row) {

@@ -3,7 +3,8 @@ ghost use Rattle.std.specs.Prelude.{◌≡◌, ◌∷◌, [], ◌++◌, ℕ, Lis
 ghost use Rattle.csv.specs.Records.{fields_of};
 ghost use Rattle.jobs_csv.specs.Fault.{IsInputFault};
 ghost use Rattle.jobs_csv.specs.Files.{Record, parse_file};
-ghost use Rattle.jobs_csv.specs.Outcome.{ReturnsParse, ReturnsFile, ReturnsRows};
+ghost use Rattle.jobs_csv.specs.Inner.Parse.{ReturnsParse};
+ghost use Rattle.jobs_csv.specs.Outcome.{ReturnsFile, ReturnsRows};
 ghost use Rattle.jobs_csv.specs.declared.fault.FaultKind.{FaultKind};
 
 use crate::device::Device;

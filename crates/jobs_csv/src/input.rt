@@ -4,7 +4,7 @@ ghost use Rattle.csv.specs.Reading.{error_kind, is_io, stops_reader};
 ghost use Rattle.csv.specs.Records.{fields_of};
 ghost use Rattle.jobs_csv.specs.Fault.{is_refusal};
 ghost use Rattle.jobs_csv.specs.Files.{Record};
-ghost use Rattle.jobs_csv.specs.InnerInput.{AreAll, HasGiven, IsPlain};
+ghost use Rattle.jobs_csv.specs.Inner.Input.{AreAll, HasGiven, IsPlain};
 
 use crate::fault::{Fault, FaultKind};
 use csv::{ByteRecord, ErrorKind, Reader, ReaderBuilder};

@@ -1,7 +1,7 @@
 // The fields of a job's record.
 ghost use Rattle.std.specs.Prelude.{◌≡◌, ◌<◌, IfOk};
 ghost use Rattle.jobs_csv.specs.JobFields.{collective_of, has_superfluous_root, items_of, lane_of, op_of, with_root};
-ghost use Rattle.jobs_csv.specs.Outcome.{ReturnsParse};
+ghost use Rattle.jobs_csv.specs.Inner.Parse.{ReturnsParse};
 
 use crate::fault::FaultKind;
 use crate::fields;

@@ -6,7 +6,8 @@ ghost use Rattle.cube_shape.specs.declared.limits.TheConstants.{MAX_DIM};
 ghost use Rattle.jobs_csv.specs.Fault.{IsInputFault};
 ghost use Rattle.jobs_csv.specs.Jobs.{accept_job, job_of, jobs_header, parse_jobs};
 ghost use Rattle.jobs_csv.specs.Lanes.{ReturnsLanes};
-ghost use Rattle.jobs_csv.specs.Outcome.{ReturnsParse, ReturnsFile};
+ghost use Rattle.jobs_csv.specs.Inner.Parse.{ReturnsParse};
+ghost use Rattle.jobs_csv.specs.Outcome.{ReturnsFile};
 
 use crate::device::Device;
 use crate::fault::{Fault, FaultKind};
@@ -76,7 +77,14 @@ fn read_fields(alloc: Global, n: u32, five: &FiveFields<'_>) -> Result<Job, Faul
     let root = fields::any_number(five.root)?;
     let items = job_fields::items(alloc, five.items)?;
     let has_superfluous = collective.has_superfluous_root(root);
-    accept(alloc, n, lane, collective.with_root(root), items, has_superfluous)
+    accept(
+        alloc,
+        n,
+        lane,
+        collective.with_root(root),
+        items,
+        has_superfluous,
+    )
 }
 
 // The job, unless a rule refuses it. The rules of every job come first, and then the one that a

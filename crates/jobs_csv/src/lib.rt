@@ -26,9 +26,11 @@ mod replies;
 mod row;
 mod schedule;
 
+pub use cube_core::{Event, Refused};
 pub use device::{Counted, Device};
 pub use fault::{Fault, FaultKind, WriteStopped};
 pub use input::MAX_RECORDS;
+pub use job_types::{Job, JobRefused, Reply};
 pub use jobs::{read_jobs, read_lanes};
 pub use line_buffer::{LineBuffer, write_rows};
 pub use name::Name;

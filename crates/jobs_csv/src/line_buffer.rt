@@ -28,7 +28,7 @@ pub struct LineBuffer {
 
 impl Model for LineBuffer {
     ghost use Rattle.std.specs.Prelude.{List, ℕ};
-    ghost use Rattle.jobs_csv.specs.InnerOutput.{HasText, buffered, items_held};
+    ghost use Rattle.jobs_csv.specs.Inner.Output.{HasText, buffered, items_held};
 
     ghost Value = { List ℕ };
 
@@ -177,6 +177,10 @@ pub fn write_rows<T: Row + Drop, W: Write + Device>(
     let failures_before = writer.failures();
     match write_all_rows(alloc, rows, writer) {
         Ok(()) => Ok(()),
-        Err(WriteStopped) => Err(Fault::attribute(FaultKind::Write, failures_before, writer.failures())),
+        Err(WriteStopped) => Err(Fault::attribute(
+            FaultKind::Write,
+            failures_before,
+            writer.failures(),
+        )),
     }
 }

@@ -17,7 +17,7 @@ pub struct Name {
 
 impl Model for Name {
     ghost use Rattle.std.specs.Prelude.{List, ℕ, ◌++◌, ◌-◌, length, take};
-    ghost use Rattle.jobs_csv.specs.Name.{IsPadded, same_bytes, same_len, zeros};
+    ghost use Rattle.jobs_csv.specs.Inner.Name.{IsPadded, same_bytes, same_len, zeros};
 
     ghost Value = { List ℕ };
 

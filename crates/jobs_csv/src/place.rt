@@ -2,7 +2,8 @@
 ghost use Rattle.std.specs.Prelude.{◌≡◌, [], ◌∷◌, ◌≤◌, All, IfOk, IfErr, IfSome};
 ghost use Rattle.csv.specs.Records.{fields_of};
 ghost use Rattle.jobs_csv.specs.Fault.{IsInputFault};
-ghost use Rattle.jobs_csv.specs.Outcome.{ReturnsParse, ReturnsFile};
+ghost use Rattle.jobs_csv.specs.Inner.Parse.{ReturnsParse};
+ghost use Rattle.jobs_csv.specs.Outcome.{ReturnsFile};
 ghost use Rattle.jobs_csv.specs.Place.{Fits, verb_command, command_of, parse_commands, name_of, place_header, verb_of};
 
 use crate::columns::{self, ThreeFields};

@@ -1,6 +1,6 @@
 // The rows that answer commands.
 ghost use Rattle.std.specs.Prelude.{◌≡◌};
-ghost use Rattle.jobs_csv.specs.InnerRows.{base_in, command_text, dim_in, name_in, outcome_text};
+ghost use Rattle.jobs_csv.specs.Inner.Rows.{base_in, command_text, dim_in, name_in, outcome_text};
 ghost use Rattle.jobs_csv.specs.Text.{IsPlainField};
 
 use crate::name::Name;

@@ -1,6 +1,6 @@
 // The rows that a schedule leads to.
 ghost use Rattle.std.specs.Prelude.{◌≡◌, ◌∷◌, [], ◌++◌, IfOk, OnOk, string_bytes};
-ghost use Rattle.jobs_csv.specs.InnerRows.{end_text, event_text, node_in, station_in, word_in};
+ghost use Rattle.jobs_csv.specs.Inner.Rows.{end_text, event_text, node_in, station_in, word_in};
 ghost use Rattle.jobs_csv.specs.ReplayRows.{event_keyword, node_word_text, note_keyword, reason_keyword};
 ghost use Rattle.jobs_csv.specs.Text.{IsPlainField};
 

@@ -2,7 +2,7 @@
 ghost use Rattle.std.specs.Prelude.{◌≡◌, ◌∷◌, [], ◌++◌, ◌≤◌, ℕ, List, OnOk, length};
 ghost use Rattle.std.specs.Fmt.{decimal};
 ghost use Rattle.csv.specs.Records.{fields_of};
-ghost use Rattle.jobs_csv.specs.InnerOutput.{AddsLine, HasPlainFields, items_held};
+ghost use Rattle.jobs_csv.specs.Inner.Output.{AddsLine, HasPlainFields, items_held};
 ghost use Rattle.jobs_csv.specs.Text.{IsPlainField, number_text};
 
 use csv::{ByteRecord, Writer};
@@ -44,7 +44,7 @@ pub struct RowFields {
 impl Model for RowFields {
     ghost use Rattle.std.specs.Prelude.{List, ℕ};
     ghost use Rattle.csv.specs.Records.{fields_of};
-    ghost use Rattle.jobs_csv.specs.InnerOutput.{HasPlainFields};
+    ghost use Rattle.jobs_csv.specs.Inner.Output.{HasPlainFields};
 
     ghost Value = { List (List ℕ) };
 
@@ -69,7 +69,7 @@ fn push_plain(fields: &mut ByteRecord, field: &[u8]) -> Result<(), AllocError>
 
 impl RowFields {
     /// No field yet.
-    pub fn new(alloc: Global) -> Self
+    pub(crate) fn new(alloc: Global) -> Self
         ensures { result ≡ [] }
     {
         RowFields {
@@ -79,7 +79,7 @@ impl RowFields {
     }
 
     /// Takes all fields away.
-    pub fn clear(&mut self)
+    pub(crate) fn clear(&mut self)
         ensures { self.new ≡ [] }
     {
         self.fields.clear();
@@ -113,7 +113,7 @@ impl RowFields {
     }
 
     /// Writes the fields as a line.
-    pub fn write_to(&self, writer: &mut Writer<Vec<u8>>) -> Result<(), AllocError>
+    pub(crate) fn write_to(&self, writer: &mut Writer<Vec<u8>>) -> Result<(), AllocError>
         requires { 2 ≤ length self.now }
         ensures { OnOk result (AddsLine items_held writer.old writer.new self.now) }
     {

@@ -250,7 +250,10 @@ fn refuses_records(rt: HostRuntime) -> Result<(), Fail> {
         (b"0,allreduce,add,0, 1 2\n", FaultKind::Number),
         (b"0,allreduce,add,0, \n", FaultKind::Number),
         (b"0,allreduce,add,0,1 02\n", FaultKind::Number),
-        (b"0,allreduce,add,0,18446744073709551616\n", FaultKind::Number),
+        (
+            b"0,allreduce,add,0,18446744073709551616\n",
+            FaultKind::Number,
+        ),
         (b"0,broadcast,-,1,\n", FaultKind::Job(JobRefused::Empty)),
         (b"0,broadcast,-,9,\n", FaultKind::Job(JobRefused::Empty)),
         (b"0,allreduce,add,0,\n", FaultKind::Job(JobRefused::Empty)),
@@ -258,8 +261,14 @@ fn refuses_records(rt: HostRuntime) -> Result<(), Fail> {
             b"0,broadcast,-,9,1 2 3\n",
             FaultKind::Job(JobRefused::NotPowerOfTwo),
         ),
-        (b"0,broadcast,-,2,4 9\n", FaultKind::Job(JobRefused::BadRoot)),
-        (b"0,reduce,max,4,1 2 3 4\n", FaultKind::Job(JobRefused::BadRoot)),
+        (
+            b"0,broadcast,-,2,4 9\n",
+            FaultKind::Job(JobRefused::BadRoot),
+        ),
+        (
+            b"0,reduce,max,4,1 2 3 4\n",
+            FaultKind::Job(JobRefused::BadRoot),
+        ),
         (b"0,scan,add,1,4 9\n", FaultKind::Job(JobRefused::BadRoot)),
         (
             b"0,scan,add,1,1 2 3\n",
@@ -279,7 +288,10 @@ fn refuses_records(rt: HostRuntime) -> Result<(), Fail> {
             b"0,allreduce,add,1,1 1 1 1 1 1 1 1 1 1 1 1 1 1 1 1\n",
             FaultKind::Job(JobRefused::TooLarge),
         ),
-        (b"0,allreduce,add,1,4 9\n", FaultKind::Job(JobRefused::BadRoot)),
+        (
+            b"0,allreduce,add,1,4 9\n",
+            FaultKind::Job(JobRefused::BadRoot),
+        ),
         (
             b"0,allreduce,add,18446744073709551615,4\n",
             FaultKind::Job(JobRefused::BadRoot),

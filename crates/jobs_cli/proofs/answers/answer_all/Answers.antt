@@ -10,7 +10,7 @@ use Rattle.jobs_csv.specs.Replies.{reply_columns, reply_fields}
 use Rattle.jobs_csv.specs.Text.{file_text, line_of}
 use Rattle.jobs_csv.proofs.SentLemmas.{IsSentOrBuffered, all_sent, more_buffered, more_sent, nothing_sent}
 use Rattle.jobs_cli.specs.JobIds.{JobWithId}
-use Rattle.jobs_cli.specs.InnerJobIds.{lane_by_lane, with_ids_from}
+use Rattle.jobs_cli.specs.Inner.JobIds.{lane_by_lane, with_ids_from}
 use Rattle.jobs_cli.specs.Replies.{answered_job}
 use Rattle.jobs_cli.proofs.TraceLemmas.{more_lines}
 use Rattle.jobs_cli.proofs.answers.answer_all.Goals as goal

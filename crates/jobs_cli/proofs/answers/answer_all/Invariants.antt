@@ -4,7 +4,7 @@ use Rattle.job_types.specs.Reply.{ReplyData}
 use Rattle.jobs_csv.specs.Replies.{reply_columns, reply_fields}
 use Rattle.jobs_csv.specs.Text.{file_text}
 use Rattle.jobs_csv.proofs.SentLemmas.{IsSentOrBuffered}
-use Rattle.jobs_cli.specs.InnerJobIds.{lane_by_lane}
+use Rattle.jobs_cli.specs.Inner.JobIds.{lane_by_lane}
 use Rattle.jobs_cli.specs.Replies.{answered_job}
 use Rattle.jobs_cli.proofs.answers.answer_all.Given as goal
 

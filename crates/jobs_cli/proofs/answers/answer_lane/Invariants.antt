@@ -5,7 +5,7 @@ use Rattle.std.specs.List.{flat_map}
 use Rattle.jobs_csv.specs.Replies.{reply_fields}
 use Rattle.jobs_csv.specs.Text.{line_of}
 use Rattle.jobs_csv.proofs.SentLemmas.{IsSentOrBuffered}
-use Rattle.jobs_cli.specs.InnerJobIds.{with_ids_from}
+use Rattle.jobs_cli.specs.Inner.JobIds.{with_ids_from}
 use Rattle.jobs_cli.specs.Replies.{answered_job}
 use Rattle.jobs_cli.proofs.answers.answer_lane.Given as goal
 

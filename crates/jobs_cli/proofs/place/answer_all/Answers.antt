@@ -5,7 +5,7 @@ use Rattle.jobs_csv.specs.PlaceRows.{place_columns, place_fields}
 use Rattle.jobs_csv.specs.Text.{file_text, line_of}
 use Rattle.jobs_csv.proofs.SentLemmas.{IsSentOrBuffered, more_buffered, more_sent, nothing_sent}
 use Rattle.jobs_cli.specs.Place.{IsPlaced, NamedHoldings, PlaceStep, empty_table}
-use Rattle.jobs_cli.specs.InnerStations.{named_holdings}
+use Rattle.jobs_cli.specs.Inner.Stations.{named_holdings}
 use Rattle.jobs_cli.proofs.TraceLemmas.{one_more}
 use Rattle.jobs_cli.proofs.place.answer_all.Goals as goal
 

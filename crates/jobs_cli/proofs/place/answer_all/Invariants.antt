@@ -5,7 +5,7 @@ use Rattle.jobs_cli.specs.Trace.{IsTrace}
 use Rattle.jobs_csv.specs.PlaceRows.{place_columns, place_fields}
 use Rattle.jobs_csv.specs.Text.{file_text}
 use Rattle.jobs_cli.specs.Place.{IsPlaced, empty_table}
-use Rattle.jobs_cli.specs.InnerStations.{AreStations, dim_of, named_holdings}
+use Rattle.jobs_cli.specs.Inner.Stations.{AreStations, dim_of, named_holdings}
 use Rattle.jobs_cli.proofs.place.answer_all.Given as goal
 
 -- the commands so far are answered, and their rows are written out or buffered

@@ -1,5 +1,5 @@
 use Rattle.std.proofs.Common.{List, All}
-use Rattle.jobs_csv.specs.InnerInput.{IsPlain}
+use Rattle.jobs_csv.specs.Inner.Input.{IsPlain}
 use Rattle.jobs_csv.proofs.FileLemmas.{HasRead}
 use Rattle.jobs_csv.proofs.format.read_records.Given as goal
 

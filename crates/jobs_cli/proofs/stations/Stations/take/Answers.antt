@@ -3,7 +3,7 @@ use Rattle.cube_shape.specs.declared.limits.TheConstants.{MAX_STATIONS}
 use Rattle.alloc_bits.specs.Allocation.{Allocation, held_in}
 use Rattle.cube_shape.specs.Machine.{HasNoFit}
 use Rattle.jobs_cli.specs.Place.{regions}
-use Rattle.jobs_cli.specs.InnerStations.{name_at, named_holdings_with}
+use Rattle.jobs_cli.specs.Inner.Stations.{name_at, named_holdings_with}
 use Rattle.jobs_cli.proofs.StationLemmas.{names_agree_given, holds_none, holds_some, is_given, not_full, regions_are}
 use Rattle.jobs_cli.proofs.stations.Stations.take.Goals as goal
 

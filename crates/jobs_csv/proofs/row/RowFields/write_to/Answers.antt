@@ -1,6 +1,6 @@
 use Rattle.std.proofs.Common.{◌≡◌, ◌≤◌, List, ℕ, length, subst, sym, rules}
 use Rattle.csv.specs.Records.{fields_of}
-use Rattle.jobs_csv.specs.InnerOutput.{AddsLine, items_held}
+use Rattle.jobs_csv.specs.Inner.Output.{AddsLine, items_held}
 use Rattle.jobs_csv.proofs.WrittenLemmas.{row_written}
 use Rattle.jobs_csv.proofs.row.RowFields.write_to.Goals as goal
 
