@@ -58,7 +58,7 @@ pub fn write(bits: &mut [bool], n: u32, region: Region, taken: bool)
 fn nth_region(n: u32, k: u32, m: u64) -> Region
     requires machine { n ≤ MAX_DIM }
     requires dim { k ≤ n }
-    requires place { m < 2 ^ (n - k) }
+    requires number { m < 2 ^ (n - k) }
     ensures { result ≡ block k m }
 {
     Region {

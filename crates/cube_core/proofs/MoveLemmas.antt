@@ -115,14 +115,14 @@ phase_after_zero_is n a y in_cube = turn (eqb a 1) refl
         let deeper : depth n a ≡ 1 + depth n (a / 2) = depth-parent n a in_cube (eqb-false a 1 is) in
         record { fit = half_inner n a (eqb-false a 1 is) in_cube; none = refl; holds_none = refl; asks_none = refl; plain = plain_arriving (a / 2); owes = λ _ _ _. refl; due = omega (arith, deeper) }
 
--- what a load of a child tells
-abbrev pub Tells : Seen → ℕ → Type 0
-Tells found w = ((found ≡ seen.Free) × IsFree w) ⊎ ((found ≡ seen.Used) × IsInUse w)
+-- what a load of a child shows
+abbrev pub Shows : Seen → ℕ → Type 0
+Shows found w = ((found ≡ seen.Free) × IsFree w) ⊎ ((found ≡ seen.Used) × IsInUse w)
 
-tells : (w : ℕ) → Tells (seen_at w) w
-tells w = turn (is_free w) refl
+shows : (w : ℕ) → Shows (seen_at w) w
+shows w = turn (is_free w) refl
   where
-    turn : (t : Bool) → is_free w ≡ t → Tells (cond t seen.Free seen.Used) w
+    turn : (t : Bool) → is_free w ≡ t → Shows (cond t seen.Free seen.Used) w
     turn true is = inl (refl, eqb-true (use_of w) 0 is)
     turn false is = inr (refl, eqb-false (use_of w) 0 is)
 
@@ -145,8 +145,8 @@ pub data Move (n u : ℕ) (W : ℕ → ℕ) : Phase → ℕ → ℕ → Phase �
   unmarks : (a : ℕ) → IsInner n a → Move n u W (Arriving a) a (use_of (W a)) (Unmarked a)
   marks : (a : ℕ) → IsInner n a → (IsOccupied (W a) → ⊥) → Move n u W (Unmarked a) a (with_mark u (W a)) (Marked a (with_mark u (W a)) seen.NotYet seen.NotYet)
   marks_stop : (a : ℕ) → IsInner n a → IsOccupied (W a) → Move n u W (Unmarked a) a (with_mark u (W a)) Idle
-  looks_left : (a w : ℕ) (right found : Seen) → IsInner n a → Tells found (W (2 * a)) → Move n u W (Marked a w seen.NotYet right) (2 * a) (W (2 * a)) (Marked a w found right)
-  looks_right : (a w : ℕ) (left found : Seen) → IsInner n a → left ≢ seen.NotYet → Tells found (W (2 * a + 1)) → Move n u W (Marked a w left seen.NotYet) (2 * a + 1) (W (2 * a + 1)) (Marked a w left found)
+  looks_left : (a w : ℕ) (right found : Seen) → IsInner n a → Shows found (W (2 * a)) → Move n u W (Marked a w seen.NotYet right) (2 * a) (W (2 * a)) (Marked a w found right)
+  looks_right : (a w : ℕ) (left found : Seen) → IsInner n a → left ≢ seen.NotYet → Shows found (W (2 * a + 1)) → Move n u W (Marked a w left seen.NotYet) (2 * a + 1) (W (2 * a + 1)) (Marked a w left found)
   clears : (a w : ℕ) (left right : Seen) (q : Phase) → IsInner n a → left ≢ seen.NotYet → right ≢ seen.NotYet → W a ≡ w → IsLeaving n a (cleared_as_seen w left right) q → Move n u W (Marked a w left right) a (cleared_as_seen w left right) q
   clears_lost : (a w : ℕ) (left right : Seen) → IsInner n a → W a ≢ w → Move n u W (Marked a w left right) a (W a) Idle
 
@@ -191,9 +191,9 @@ used_is_seen : seen.Used ≢ seen.NotYet
 used_is_seen is = cc
 
 marked_move : (n u : ℕ) (W : ℕ → ℕ) (a w : ℕ) (left right : Seen) → IsInner n a → MoveOf n u W (Marked a w left right) (transition u (Marked a w left right))
-marked_move n u W a w seen.NotYet right inner = looks_left a w right (seen_at (W (2 * a))) inner (tells (W (2 * a)))
-marked_move n u W a w seen.Free seen.NotYet inner = looks_right a w seen.Free (seen_at (W (2 * a + 1))) inner free_is_seen (tells (W (2 * a + 1)))
-marked_move n u W a w seen.Used seen.NotYet inner = looks_right a w seen.Used (seen_at (W (2 * a + 1))) inner used_is_seen (tells (W (2 * a + 1)))
+marked_move n u W a w seen.NotYet right inner = looks_left a w right (seen_at (W (2 * a))) inner (shows (W (2 * a)))
+marked_move n u W a w seen.Free seen.NotYet inner = looks_right a w seen.Free (seen_at (W (2 * a + 1))) inner free_is_seen (shows (W (2 * a + 1)))
+marked_move n u W a w seen.Used seen.NotYet inner = looks_right a w seen.Used (seen_at (W (2 * a + 1))) inner used_is_seen (shows (W (2 * a + 1)))
 marked_move n u W a w seen.Free seen.Free inner = clear_move n u W a w seen.Free seen.Free inner free_is_seen free_is_seen
 marked_move n u W a w seen.Free seen.Used inner = clear_move n u W a w seen.Free seen.Used inner free_is_seen used_is_seen
 marked_move n u W a w seen.Used seen.Free inner = clear_move n u W a w seen.Used seen.Free inner used_is_seen free_is_seen
@@ -216,9 +216,9 @@ step_move n u W Retired fit none = absurd (cc)
 
 -- ---- the count of events
 
-unseen-seen : (found : Seen) (w : ℕ) → Tells found w → unseen found ≡ 0
-unseen-seen found w (inl told) = ap unseen told.0
-unseen-seen found w (inr told) = ap unseen told.0
+unseen-seen : (found : Seen) (w : ℕ) → Shows found w → unseen found ≡ 0
+unseen-seen found w (inl shown) = ap unseen shown.0
+unseen-seen found w (inr shown) = ap unseen shown.0
 
 -- each event lowers the count of its station
 pub due_falls : {n u : ℕ} {W : ℕ → ℕ} {p : Phase} {v y : ℕ} {q : Phase} → Move n u W p v y q → step_refusal p ≡ None → events_due n q < events_due n p
@@ -237,8 +237,8 @@ due_falls (zeroes_back h a q _ leaving) step = omega (arith, leaving.due)
 due_falls (unmarks a _) step = omega arith
 due_falls (marks a _ _) step = omega arith
 due_falls (marks_stop a _ _) step = omega arith
-due_falls {W = W} (looks_left a w right found _ told) step = let none : unseen found ≡ 0 = unseen-seen found (W (2 * a)) told in omega (arith, none)
-due_falls {W = W} (looks_right a w left found _ _ told) step = let none : unseen found ≡ 0 = unseen-seen found (W (2 * a + 1)) told in omega (arith, none)
+due_falls {W = W} (looks_left a w right found _ shown) step = let none : unseen found ≡ 0 = unseen-seen found (W (2 * a)) shown in omega (arith, none)
+due_falls {W = W} (looks_right a w left found _ _ shown) step = let none : unseen found ≡ 0 = unseen-seen found (W (2 * a + 1)) shown in omega (arith, none)
 due_falls (clears a w left right q _ _ _ _ leaving) step = omega (arith, leaving.due)
 due_falls (clears_lost a w left right _ _) step = omega arith
 

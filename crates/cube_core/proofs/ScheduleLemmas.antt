@@ -1,30 +1,15 @@
 -- What the invariant says after every schedule, in the words of the law.
-use Rattle.std.proofs.Common.{◌≡◌, ◌≢◌, ℕ, ◌+◌, ◌*◌, ◌^◌, ◌<◌, ◌≤◌, ◌⊎◌, inl, inr, Bool, true, false, cond, ◌&&◌, ltb, List, [], ◌∷◌, length, get_or, replicate, Option, Some, None, refl, sym, ◌∙◌, ap, subst, arith}
-use Rattle.std.proofs.lemmas.Bool.{cases_lt, cases_eq, ltb-true}
-use Rattle.std.proofs.lemmas.Nat.{pow_pos}
-use Rattle.std.proofs.lemmas.List.{get_or-set_same, get_or-set_other, length-set, length-replicate, get_or-replicate, get_or_past}
-use Rattle.cube_shape.specs.Node.{IsInCube}
+use Rattle.std.proofs.Common.{◌≡◌, ℕ, ◌+◌, ◌^◌, ◌<◌, ◌≤◌, inl, inr, sym, ◌∙◌, subst, arith}
+use Rattle.std.proofs.lemmas.Bool.{cases_eq}
+use Rattle.std.proofs.lemmas.List.{get_or_past}
 use Rattle.status_word.specs.Word.{IsSet, IsOccupied, IsMarked}
-use Rattle.cube_core.specs.declared.phase.Seen.{Seen}
-use Rattle.cube_core.specs.declared.phase.Seen.TheVariants as seen
-use Rattle.cube_core.specs.declared.phase.Phase.{Phase}
-use Rattle.cube_core.specs.declared.phase.Phase.TheVariants.{Idle, Looking, Looked, Climbing, Swept, Holding, Leaving, Backing, Arriving, Unmarked, Marked, Retired}
-use Rattle.cube_core.specs.declared.act.Act.{Act}
-use Rattle.cube_core.specs.declared.act.Act.TheVariants.{Take, Release, Step, Retire}
-use Rattle.cube_core.specs.declared.act.Refused.{Refused}
-use Rattle.cube_core.specs.Phase.{asked, owned, node_held, step_refusal, Owns}
-use Rattle.cube_core.specs.Event.{Transition, transition, retirement}
-use Rattle.cube_core.specs.Schedule.{Record, State, record_of, phase_of, word_of, initial, apply_begin, apply_event, take_refusal, release_refusal, retire_refusal, phase_refusal, refusal, station_of, apply_accepted, unless_refused, apply, apply_all}
+use Rattle.cube_core.specs.Phase.{Owns}
+use Rattle.cube_core.specs.Schedule.{State, phase_of, word_of, initial, apply_all}
 use Rattle.cube_core.specs.Safety.{IsSafe}
 use Rattle.cube_core.specs.Debts.{HasDebts}
-use Rattle.cube_core.specs.Held.{IsMachineStep, region_held, held_of}
-use Rattle.cube_core.specs.Count.{depth, events_due, IsCounted}
 use Rattle.cube_core.specs.Law.{IsTreeLawful, EveryScheduleIsLawful}
-use Rattle.cube_core.proofs.ChangeLemmas.{Fit, IsInner, Change}
-use Rattle.cube_core.proofs.MoveLemmas.{Move, IsRisen, IsTaking, begins_take, begins_release, retires, claims, raises, zeroes, zeroes_back, clears, step_event, step_move, due_falls, double, taking_kept}
-use Rattle.cube_core.proofs.InvariantLemmas.{Invariant, invariant_kept, invariant_initial}
 use Rattle.cube_core.proofs.ConsequenceLemmas.{in_use_engaged, at_rest_exact, retired_zero}
-use Rattle.cube_core.proofs.HeldLemmas.{HeldMoves, machine_step, held_named, held_lawful}
+use Rattle.cube_core.proofs.HeldLemmas.{held_named, held_lawful}
 pub use Rattle.cube_core.proofs.StandsLemmas.{Stands, accepted, apply-accepted, apply_all_stands, apply_begin_phase, below_inner, initial_stands, node_there, others_record}
 pub use Rattle.cube_core.proofs.CountLemmas.{Stands-counted}
 use Rattle.cube_core.proofs.CountLemmas.{take_named}

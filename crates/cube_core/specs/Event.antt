@@ -16,7 +16,7 @@ use Rattle.cube_core.specs.declared.phase.Seen.TheVariants as seen
 use Rattle.cube_core.specs.Phase.{side_of, is_seen_free}
 
 -- the node whose word it finds, and from that word: the word that it writes, the station's next
--- phase, and the event that is told
+-- phase, and the event
 pub record Transition : Type 0 where
   pub node : ℕ
   pub writes : ℕ → ℕ
@@ -113,7 +113,7 @@ transition s (Leaving h) = zero_event s h
 transition s (Backing h a) = zero_event s h
 -- all marks go
 transition s (Arriving a) = event_at s Unmark a use_of (λ w. Unmarked a) (λ w. note.Ok)
--- the station's mark is set; an occupied node is no longer its matter
+-- the station's mark is set; at an occupied node there is nothing more to do
 transition s (Unmarked a) = event_at s Mark a (with_mark s)
     (λ w. if is_occupied w then Idle else Marked a (with_mark s w) seen.NotYet seen.NotYet)
     (λ w. if is_occupied w then note.Stop else note.Ok)

@@ -32,17 +32,7 @@ pub record Standing : Type 0 where
   pub saw : Side → Seen
 
 abbrev pub nowhere : Standing
-nowhere = record {
-  asked = 0;
-  owned = 0;
-  stop = 0;
-  swept_from = 0;
-  held = 0;
-  to_clear = 0;
-  marked_at = 0;
-  marked_word = 0;
-  saw = λ side. seen.NotYet;
-}
+nowhere = record { asked = 0; owned = 0; stop = 0; swept_from = 0; held = 0; to_clear = 0; marked_at = 0; marked_word = 0; saw = λ side. seen.NotYet }
 
 abbrev pub seen_of : Seen → Seen → Side → Seen
 seen_of left right Left = left

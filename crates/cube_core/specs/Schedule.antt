@@ -1,7 +1,7 @@
 -- The world of words and stations, and what a schedule of calls makes of it.
 use Rattle.std.specs.Prelude.{◌≡◌, ℕ, ◌<◌, ◌+◌, ◌^◌, ◌&&◌, nat_lt, replicate, if◌then◌else◌, List, [], ◌∷◌, ◌++◌, length, slice_set, slice_index_or, Option, Some, None}
 use Rattle.cube_core.specs.declared.phase.Phase.{Phase}
-use Rattle.cube_core.specs.declared.phase.Phase.TheVariants.{Idle, Looking, Looked, Climbing, Swept, Holding, Leaving, Backing, Arriving, Unmarked, Marked, Retired}
+use Rattle.cube_core.specs.declared.phase.Phase.TheVariants.{Idle, Looking, Holding, Leaving, Retired}
 use Rattle.cube_core.specs.declared.event.Event.{Event}
 use Rattle.cube_core.specs.declared.act.Act.{Act}
 use Rattle.cube_core.specs.declared.act.Act.TheVariants.{Take, Release, Step, Retire}
@@ -37,11 +37,7 @@ word_of w v = slice_index_or w.words v 0
 
 -- the opened world: all words 0, all stations idle
 abbrev pub initial : ℕ → ℕ → State
-initial n stations = record {
-  dim = n;
-  words = replicate (2 ^ (n + 1)) 0;
-  records = replicate stations (record { phase = Idle; trail = [] });
-}
+initial n stations = record { dim = n; words = replicate (2 ^ (n + 1)) 0; records = replicate stations (record { phase = Idle; trail = [] }) }
 
 -- a station begins something: its phase changes, and nothing else
 abbrev pub apply_begin : ℕ → Phase → State → State
@@ -50,11 +46,9 @@ apply_begin s phase w = record w { records = slice_set w.records s (record (reco
 -- an event: one word and the station's record change
 abbrev pub apply_event : Transition → ℕ → State → State
 apply_event d s w =
-    let found = word_of w d.node in record {
-      dim = w.dim;
-      words = slice_set w.words d.node (d.writes found);
-      records = slice_set w.records s (record { phase = d.next found; trail = d.events found ++ (record_of w s).trail });
-    }
+    let found = word_of w d.node in
+    let record_after : Record = record { phase = d.next found; trail = d.events found ++ (record_of w s).trail } in
+    record w { words = slice_set w.words d.node (d.writes found); records = slice_set w.records s record_after }
 
 -- why a take of node v is refused in a phase, if it is
 abbrev pub take_refusal : ℕ → ℕ → Phase → Option Refused

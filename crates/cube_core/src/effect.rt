@@ -58,7 +58,7 @@ fn see(word: u64) -> (Seen, Note)
     (Seen::of(Word(word)), note)
 }
 
-/// A load of the node that a take is about.
+/// A load of the node that a take names.
 pub fn look(station: u64, node: u64, word: u64) -> Effect
     ensures { IsEffect (transition station (Phase.Looking node)) word result }
 {
@@ -191,7 +191,7 @@ pub fn unmark(station: u64, at: u64, word: u64) -> Effect
     }
 }
 
-/// The station's mark is set; where the node is occupied, it is no longer the station's matter.
+/// The station's mark is set; where the node is occupied, the station has nothing more to do.
 pub fn mark(station: u64, at: u64, word: u64) -> Effect
     requires { station < MAX_STATIONS }
     ensures { IsEffect (transition station (Phase.Unmarked at)) word result }

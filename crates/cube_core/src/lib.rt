@@ -15,8 +15,10 @@ mod phase;
 mod world;
 
 pub use act::{Act, Refused};
+pub use cube_shape::{MAX_DIM, MAX_STATIONS};
 pub use event::{Event, Kind, Note};
 pub use phase::{Phase, Seen};
+pub use status_word::Word;
 pub use world::{World, calls_are_single_events, every_schedule_is_lawful};
 
 #[cfg(test)]

@@ -49,7 +49,7 @@ pub enum Phase {
         node: u64,
         word: u64,
     },
-    /// Owns the node, has told all ancestors below `at`, and sweeps `at` next.
+    /// Owns the node, has passed all ancestors below `at`, and sweeps `at` next.
     Climbing {
         node: u64,
         at: u64,

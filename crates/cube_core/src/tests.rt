@@ -1,6 +1,5 @@
-//! Beginnings of schedules, event by event, each refusal, and a machine of one node; whole schedules
-//! stand in `schedules`, short ones that show a wrong step in `interleavings`, and outcomes that no
-//! clause pins in `outcomes`.
+//! Each refusal, each act, and a machine of one node; whole schedules stand in `schedules`, short ones
+//! that show a wrong step in `interleavings`, and outcomes that no clause pins in `outcomes`.
 
 ghost use Rattle.std.specs.Prelude.{◌+◌, ◌^◌, ◌≤◌};
 ghost use Rattle.cube_core.specs.World.{HasShapeOf};
@@ -66,45 +65,6 @@ fn is_clear(world: &World, end: u64) -> bool
         }
     }
     true
-}
-
-#[test]
-fn takes_a_node_and_zeroes_it(rt: HostRuntime) -> Result<(), Fail> {
-    let mut world = World::new(rt.alloc(), 2, 4)?;
-    let rows = [
-        Row::Takes(0, 4),
-        Row::Makes(0, Kind::Look, 4, 0, Note::Free),
-        Row::Makes(0, Kind::Claim, 4, 7, Note::Climb),
-        Row::Makes(0, Kind::Sweep, 2, 0, Note::Ok),
-        Row::Makes(0, Kind::Raise, 2, 2, Note::Climb),
-        Row::Makes(0, Kind::Sweep, 1, 0, Note::Ok),
-        Row::Makes(0, Kind::Raise, 1, 2, Note::Held),
-        Row::Releases(0),
-        Row::Makes(0, Kind::Zero, 4, 0, Note::Climb),
-    ];
-    assert!(rt; follows(&mut world, &rows));
-    assert_eq!(rt; world.phase(0), Phase::Arriving { at: 2 });
-    Ok(())
-}
-
-#[test]
-fn backs_out_under_an_occupied_node(rt: HostRuntime) -> Result<(), Fail> {
-    let mut world = World::new(rt.alloc(), 2, 3)?;
-    let rows = [
-        Row::Takes(1, 2),
-        Row::Makes(1, Kind::Look, 2, 0, Note::Free),
-        Row::Makes(1, Kind::Claim, 2, 7, Note::Climb),
-        Row::Makes(1, Kind::Sweep, 1, 0, Note::Ok),
-        Row::Makes(1, Kind::Raise, 1, 2, Note::Held),
-        Row::Takes(0, 4),
-        Row::Makes(0, Kind::Look, 4, 0, Note::Free),
-        Row::Makes(0, Kind::Claim, 4, 7, Note::Climb),
-        Row::Makes(0, Kind::Sweep, 2, 7, Note::Ok),
-        Row::Makes(0, Kind::Raise, 2, 7, Note::Under),
-        Row::Makes(0, Kind::Zero, 4, 0, Note::Climb),
-    ];
-    assert!(rt; follows(&mut world, &rows));
-    Ok(())
 }
 
 #[test]

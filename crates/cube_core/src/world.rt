@@ -65,12 +65,13 @@ impl World {
         requires { station < length self.now.records }
         ensures { result ≡ phase_of self.now station }
     {
-        let place = station as usize;
-        self.phases[place]
+        let index = station as usize;
+        self.phases[index]
     }
 
     /// An idle station begins to take the region of a node. If the node is `j` levels below the root,
-    /// the take has at most `3 + 7 * j` events, its roll-back included.
+    /// the take has at most `3 + 7 * j` events, its roll-back included: `lawful` says so of every
+    /// list of acts that follows.
     pub fn begin_take(&mut self, station: u64, node: u64) -> Result<(), Refused>
         ensures refused { IfErr result (λ why. refusal (Act.Take station node) self.old ≡ Some why) }
         ensures accepted { IfOk result (λ _. refusal (Act.Take station node) self.old ≡ None) }
@@ -164,7 +165,7 @@ impl World {
         }
     }
 
-    // One act, of which nothing is told.
+    // One act; whether it was refused is not reported.
     fn make(&mut self, act: Act)
         ensures world { self.new ≡ without_trails (apply act self.old) }
         ensures shape { HasShapeOf self.old self.new }
@@ -253,16 +254,16 @@ impl World {
 /// - A free word with a mark is the one that some station's mark made there. No two stations are
 ///   marked at one node by the same word.
 /// - The regions of the stations that hold one are aligned and apart.
-/// - Each further act is a step of its station on the machine of regions: the station gets a region
-///   that is apart from every held one, or its own region is taken away. Or the act leaves the
-///   held regions alone.
+/// - Each further act is a step of its station on the machine of regions: the station gets the region
+///   of the node that its take named, which is apart from every held one, or its own region is taken
+///   away. Or the act leaves the held regions alone.
 /// - Where a word is in use, some station owns a node at or under its node, or is to clear one. So
 ///   when all stations are at rest a word is free exactly where no held region is at or under its
 ///   node, and when all have retired every node's word is `0`.
 /// - The bit of a station stands in the roll exactly when it has retired.
-/// - A take of a node `j` levels below the root begins at a count of `3 + 7 * j` events, and a
-///   release at `1 + 5 * j`. Each event lowers the count of its own station, and leaves the others'
-///   alone.
+/// - Each accepted step adds one event to its own station's list and to no other. A take of a node
+///   `j` levels below the root makes at most `3 + 7 * j` events and a release at most `1 + 5 * j`, in
+///   every list of acts in which the station's own are steps.
 pub fn every_schedule_is_lawful()
     ensures { EveryScheduleIsLawful }
 {}

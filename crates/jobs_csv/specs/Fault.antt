@@ -1,7 +1,7 @@
 -- Which faults are the input's, how a fault is reported, and when a device is to blame.
 use Rattle.std.specs.Prelude.{◌≡◌, ◌⊎◌, ℕ, ◌-◌, ◌^◌, ◌==◌, ◌||◌, ◌++◌, List, nat_lt, codes, Bool, true, false, if◌then◌else◌}
 use Rattle.std.specs.Fmt.{decimal}
-use Rattle.job_types.specs.declared.job.JobRefused.TheVariants as why
+use Rattle.job_types.specs.declared.request.JobRefused.TheVariants as why
 use Rattle.jobs_csv.specs.declared.fault.Fault.{Fault}
 use Rattle.jobs_csv.specs.declared.fault.FaultKind.{FaultKind}
 use Rattle.jobs_csv.specs.declared.fault.FaultKind.TheVariants as what
