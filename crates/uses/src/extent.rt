@@ -2,7 +2,8 @@
 
 ghost use Rattle.std.specs.Prelude.{◌≡◌, ◌^◌, ◌<◌, All, length};
 ghost use Rattle.collectives.specs.Places.{Holds, total};
-ghost use Rattle.uses.specs.Extent.{IsExtentValue, extent_join, extent_laws, extent_unit};
+ghost use Rattle.uses.specs.Extent.{IsExtentValue, extent_join, extent_unit};
+ghost use Rattle.uses.specs.InnerLaws.{extent_laws};
 
 use collectives::{DIM_LIMIT, Monoid, all_reduce};
 
