@@ -1,0 +1,13 @@
+-- What contracts say of a tree: which table its words are, and its size.
+use Rattle.std.specs.Prelude.{ℕ}
+use Rattle.atomic_table.specs.Seated.{TableId}
+use Rattle.tree_steps.specs.declared.tree.Tree.{Tree}
+
+abbrev pub id_of : Tree → TableId
+id_of tree = tree.table.shared.table_id
+
+abbrev pub dim_of : Tree → ℕ
+dim_of tree = tree.size.dim
+
+abbrev pub station_count : Tree → ℕ
+station_count tree = tree.size.stations
