@@ -7,7 +7,8 @@ use Rattle.atomic_table.specs.Table.{Allows}
 use Rattle.std.specs.Bool.{OnFalse}
 use Rattle.cube_shape.specs.declared.node.Side.{Side}
 use Rattle.cube_shape.specs.declared.node.Side.TheVariants.{Left, Right}
-use Rattle.cube_shape.specs.Node.{IsInCube, child_of, child_towards}
+use Rattle.cube_shape.proofs.PathLemmas.{OnPath-trans, OnPath-parent}
+use Rattle.cube_shape.specs.Node.{IsInCube, OnPath, child_of, child_towards}
 use Rattle.status_word.specs.Word.{side_bit, mark_bit, with_side, with_mark, cleared}
 use Rattle.cube_core.specs.declared.act.Act.{Act}
 use Rattle.cube_core.specs.declared.act.Act.TheVariants.{Take, Release, Step, Retire}
@@ -169,6 +170,10 @@ pub on_false : (b : Bool) {P : Type 0} → (b ≡ false → P) → OnFalse b P
 on_false true holds = tt
 on_false false holds = holds refl
 
+pub on_false_so : (b : Bool) {P Q : Type 0} → (P → Q) → OnFalse b P → OnFalse b Q
+on_false_so true so had = tt
+on_false_so false so had = so had
+
 -- ---- the tests of the code, as the events make them
 
 pub decided_true : {r : Bool} {x y : ℕ} → IsTrue r ↔ (x ≡ y) → r ≡ true → eqb x y ≡ true
@@ -201,3 +206,7 @@ clear_writes station a word y w left right left_free right_free last latest by_l
 pub not-false : (b : Bool) → not b ≡ false → b ≡ true
 not-false true is = refl
 not-false false is = absurd (true≢false is)
+
+-- an ancestor's parent
+pub path_up : (a node : ℕ) → 1 < a → OnPath a node → OnPath (a / 2) node
+path_up a node inner on = OnPath-trans (a / 2) a node (OnPath-parent a (omega arith)) on

@@ -1,3 +1,4 @@
 pub mod RuleLemmas
 pub mod EventLemmas
+pub mod WalkLemmas
 mod TreeLemmas

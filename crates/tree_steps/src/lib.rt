@@ -3,9 +3,12 @@
 
 mod events;
 mod rule;
+mod takes;
 mod tree;
 mod view;
+mod why;
 
 pub use rule::TreeRule;
 pub use tree::{Seat, Tree};
 pub use view::{Entry, Size, View};
+pub use why::Why;
