@@ -1,4 +1,5 @@
 pub mod RuleLemmas
 pub mod EventLemmas
 pub mod WalkLemmas
+pub mod SeatLemmas
 mod TreeLemmas

@@ -1,5 +1,5 @@
 -- What single events make of what a seat knows, and what the steps of the table tell of it.
-use Rattle.std.specs.Prelude.{◌≡◌, ℕ, ◌∷◌, ◌++◌, List, [], All, false, ◌⊎◌}
+use Rattle.std.specs.Prelude.{◌≡◌, ℕ, ◌<◌, ◌∷◌, ◌++◌, List, [], All, false, ◌⊎◌}
 
 use Rattle.atomic_table.specs.Table.{Me, Step}
 use Rattle.cube_shape.specs.Node.{OnPath}
@@ -130,3 +130,10 @@ joined v w = record { stations = v.stations ++ w.stations; loads = v.loads ++ w.
 
 abbrev pub blank : View
 blank = record { stations = []; loads = []; alone = false }
+
+-- the last load of the roll found the bit of each station below the count
+pub record HasWholeRoll (count : ℕ) (m : Known) : Type 0 where
+  pub roll : ℕ
+  pub earlier : List ℕ
+  pub loaded : m.0.loads ≡ roll ∷ earlier
+  pub whole : (s : ℕ) → s < count → IsSet roll s

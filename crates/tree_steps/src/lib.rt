@@ -3,6 +3,7 @@
 
 mod events;
 mod rule;
+mod seats;
 mod takes;
 mod tree;
 mod view;
