@@ -126,7 +126,7 @@ either-cond false x y = refl
 -- ---- the event that answers
 
 -- the only new event of a step
-pub answers : {m new : Known} {p : Phase} → IsAt m p → (found : ℕ) → new ≡ step_at found m → (kind : Kind) (node word : ℕ) (note : Note) → (transition (first_of m).station p).events found ≡ single_event (first_of m).station kind node word note → Answered kind node note m new
+pub answers : {m new : Known} {p : Phase} → IsAt m p → (found : ℕ) → new ≡ step_at found m → (kind : Kind) (node word : ℕ) (note : Note) → (transition (first_of m).station p).events found ≡ single_event (first_of m).station kind node word note → Answered kind node note (first_of m) (first_of new)
 answers {m = m} {p = p} at found is kind node word note one = record {
   later = [];
   earlier = [];
@@ -142,7 +142,7 @@ answers {m = m} {p = p} at found is kind node word note one = record {
         (by_parts (λ x. (first_of (step_at found x)).trail ≡ (transition (first_of x).station (first_of x).phase).events found ++ (first_of x).trail) m at.there refl)
 
 -- a beginning is no event
-pub answers_begun : {m new : Known} {q : Phase} {kind : Kind} {node : ℕ} {note : Note} → IsAt m q → (p : Phase) → Answered kind node note (begin p m) new → Answered kind node note m new
+pub answers_begun : {m : Known} {q : Phase} {kind : Kind} {node : ℕ} {note : Note} {e : Entry} → IsAt m q → (p : Phase) → Answered kind node note (first_of (begin p m)) e → Answered kind node note (first_of m) e
 answers_begun {m = m} at p was = record {
   later = was.later;
   earlier = was.earlier;
@@ -154,15 +154,15 @@ answers_begun {m = m} at p was = record {
 }
 
 -- a look at a word in use, an exchange that is lost, and a raise at an occupied word
-pub look_answers : {m new : Known} (node found : ℕ) → IsAt m Idle → new ≡ step_at found (begin (Looking node) m) → is_free found ≡ false → Answered Look node note.InUse m new
+pub look_answers : {m new : Known} (node found : ℕ) → IsAt m Idle → new ≡ step_at found (begin (Looking node) m) → is_free found ≡ false → Answered Look node note.InUse (first_of m) (first_of new)
 look_answers {m = m} node found at is used = answers_begun at (Looking node) (answers (begin_at at (Looking node)) found is Look node found note.InUse
     (ap (λ t. single_event (first_of (begin (Looking node) m)).station Look node found (cond t note.Free note.InUse)) used))
 
-pub claim_answers : {m new : Known} (node seen found : ℕ) → IsAt m (Looked node seen) → new ≡ step_at found m → eqb found seen ≡ false → Answered Claim node note.Lost m new
+pub claim_answers : {m new : Known} (node seen found : ℕ) → IsAt m (Looked node seen) → new ≡ step_at found m → eqb found seen ≡ false → Answered Claim node note.Lost (first_of m) (first_of new)
 claim_answers {m = m} node seen found at is other = answers at found is Claim node found note.Lost
     (ap (λ t. single_event (first_of m).station Claim node (cond t busy found) (cond t (note_after_raise node) note.Lost)) other)
 
-pub raise_answers : {m new : Known} (node a found : ℕ) → IsAt m (Swept node a) → new ≡ step_at found m → is_occupied found ≡ true → Answered Raise a note.Under m new
+pub raise_answers : {m new : Known} (node a found : ℕ) → IsAt m (Swept node a) → new ≡ step_at found m → is_occupied found ≡ true → Answered Raise a note.Under (first_of m) (first_of new)
 raise_answers {m = m} node a found at is occupied = answers at found is Raise a _ note.Under
     (ap (λ t. single_event (first_of m).station Raise a (with_side (side_of (child_towards a node)) found) (cond t note.Under (note_after_raise a))) occupied)
 

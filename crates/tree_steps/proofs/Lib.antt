@@ -2,4 +2,5 @@ pub mod RuleLemmas
 pub mod EventLemmas
 pub mod WalkLemmas
 pub mod SeatLemmas
+pub mod BoundLemmas
 mod TreeLemmas

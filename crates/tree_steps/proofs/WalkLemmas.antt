@@ -8,7 +8,7 @@ use Rattle.cube_core.specs.Event.{transition}
 use Rattle.tree_steps.specs.declared.view.Entry.{Entry}
 use Rattle.tree_steps.specs.declared.view.View.{View}
 use Rattle.tree_steps.specs.Rule.{first, others}
-use Rattle.tree_steps.specs.Steps.{Known, first_of, begin, step_at, steps_at, Walks, Answered}
+use Rattle.tree_steps.specs.Steps.{Known, first_of, begin, step_at, steps_at, step_entry, steps_entry, Walks, Makes, Answered}
 
 -- ---- the station, the other stations and what was loaded
 
@@ -67,7 +67,7 @@ pub walk_trail : {old new : Known} → Walks old new → (news : List Event) × 
 walk_trail {old = old} walk = let grown = steps_trail walk.found old in (grown.0, ap (λ m. (first_of m).trail) walk.seat ∙ grown.1)
 
 -- an answer stays one, whatever the station did before and does after
-pub answered_before : {kind : Kind} {node : ℕ} {note : Note} {old between new : Known} → Walks old between → Answered kind node note between new → Answered kind node note old new
+pub answered_before : {kind : Kind} {node : ℕ} {note : Note} {old between : Known} {e : Entry} → Walks old between → Answered kind node note (first_of between) e → Answered kind node note (first_of old) e
 answered_before {old = old} walk was =
     let grown = walk_trail walk in record {
       later = was.later;
@@ -79,13 +79,13 @@ answered_before {old = old} walk was =
       note_is = was.note_is;
     }
 
-pub answered_after : {kind : Kind} {node : ℕ} {note : Note} {old between new : Known} → Answered kind node note old between → Walks between new → Answered kind node note old new
-answered_after {old = old} was walk =
+pub answered_after : {kind : Kind} {node : ℕ} {note : Note} {e : Entry} {between new : Known} → Answered kind node note e (first_of between) → Walks between new → Answered kind node note e (first_of new)
+answered_after {e = e} was walk =
     let grown = walk_trail walk in record {
       later = grown.0 ++ was.later;
       earlier = was.earlier;
       event = was.event;
-      trail = grown.1 ∙ ap (λ l. grown.0 ++ l) was.trail ∙ sym (append_assoc grown.0 was.later (was.event ∷ (was.earlier ++ (first_of old).trail)));
+      trail = grown.1 ∙ ap (λ l. grown.0 ++ l) was.trail ∙ sym (append_assoc grown.0 was.later (was.event ∷ (was.earlier ++ e.trail)));
       kind_is = was.kind_is;
       node_is = was.node_is;
       note_is = was.note_is;
@@ -106,7 +106,7 @@ begin_trail m p = begin_trail_parts m.0.stations m.0.loads m.0.alone m.1 p
 pub begun_trail : (p : Phase) (m : Known) {new : Known} → Walks (begin p m) new → (news : List Event) × ((first_of new).trail ≡ news ++ (first_of m).trail)
 begun_trail p m walk = let grown = walk_trail walk in (grown.0, grown.1 ∙ ap (λ l. grown.0 ++ l) (begin_trail m p))
 
-pub answered_begun : (p : Phase) (m : Known) {kind : Kind} {node : ℕ} {note : Note} {between new : Known} → Walks (begin p m) between → Answered kind node note between new → Answered kind node note m new
+pub answered_begun : (p : Phase) (m : Known) {kind : Kind} {node : ℕ} {note : Note} {between : Known} {e : Entry} → Walks (begin p m) between → Answered kind node note (first_of between) e → Answered kind node note (first_of m) e
 answered_begun p m walk was =
     let all = answered_before walk was in record {
       later = all.later;
@@ -117,3 +117,18 @@ answered_begun p m walk was =
       node_is = all.node_is;
       note_is = all.note_is;
     }
+
+-- ---- the walk of a seat, as events of its first station
+
+step_first : (es : List Entry) (loads : List ℕ) (alone : Bool) (c : List (ℕ × Unit {0})) (found : ℕ) → first_of (step_at found (known es loads alone c)) ≡ step_entry found (first es)
+step_first [] loads alone c found = refl
+step_first (e ∷ rest) loads alone c found = refl
+
+steps_first : (found : List ℕ) (m : Known) → first_of (steps_at found m) ≡ steps_entry found (first_of m)
+steps_first [] m = refl
+steps_first (x ∷ found) m =
+    let between : Known = steps_at found m in
+    step_first between.0.stations between.0.loads between.0.alone between.1 x ∙ ap (step_entry x) (steps_first found m)
+
+pub makes_of : {old new : Known} → Walks old new → Makes (first_of old) (first_of new)
+makes_of {old = old} walk = record { found = walk.found; entry = ap first_of walk.seat ∙ steps_first walk.found old }

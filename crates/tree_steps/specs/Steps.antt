@@ -62,12 +62,26 @@ pub record IsAt (m : Known) (p : Phase) : Type 0 where
   pub there : m.0.stations ≡ first_of m ∷ others m.0.stations
   pub phase : (first_of m).phase ≡ p
 
--- among the events that the first station made is one of this kind, at this node and with this note
-pub record Answered (kind : Kind) (node : ℕ) (note : Note) (old new : Known) : Type 0 where
+-- ---- of one station alone
+
+-- a station made events of its own phases, and no other: each found some word
+abbrev pub step_entry : ℕ → Entry → Entry
+step_entry found e = entry_after (transition e.station e.phase) found e
+
+abbrev pub steps_entry : List ℕ → Entry → Entry
+steps_entry [] e = e
+steps_entry (found ∷ earlier) e = step_entry found (steps_entry earlier e)
+
+pub record Makes (old new : Entry) : Type 0 where
+  pub found : List ℕ
+  pub entry : new ≡ steps_entry found old
+
+-- among the events that it made is one of this kind, at this node and with this note
+pub record Answered (kind : Kind) (node : ℕ) (note : Note) (old new : Entry) : Type 0 where
   pub later : List Event
   pub earlier : List Event
   pub event : Event
-  pub trail : (first_of new).trail ≡ later ++ event ∷ (earlier ++ (first_of old).trail)
+  pub trail : new.trail ≡ later ++ event ∷ (earlier ++ old.trail)
   pub kind_is : event.kind ≡ kind
   pub node_is : event.node ≡ node
   pub note_is : event.note ≡ note

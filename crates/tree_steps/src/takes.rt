@@ -23,7 +23,7 @@ impl Tree {
         ensures seat { seat.new.table_id ≡ seat.old.table_id }
         ensures walks { Walks (begin (Phase.Looking node) seat.old.me) seat.new.me }
         ensures phase { MatchResult result (λ _. IsAt seat.new.me (Phase.Holding node)) (λ _. IsAt seat.new.me Phase.Idle) }
-        ensures refused { IfErr result (λ why. IsAnswered why node seat.old.me seat.new.me) }
+        ensures refused { IfErr result (λ why. IsAnswered why node (first_of seat.old.me) (first_of seat.new.me)) }
     {
         let Some(word) = self.look(seat, node) else {
             return Err(Why::InUse);
@@ -62,7 +62,7 @@ impl Tree {
         ensures seat { seat.new.table_id ≡ seat.old.table_id }
         ensures walks { Walks seat.old.me seat.new.me }
         ensures phase { MatchOption result (IsAt seat.new.me (Phase.Holding node)) (λ at. IsAt seat.new.me (Phase.Backing node at)) }
-        ensures refused { IfSome result (λ at. Answered Kind.Raise at Note.Under seat.old.me seat.new.me) }
+        ensures refused { IfSome result (λ at. Answered Kind.Raise at Note.Under (first_of seat.old.me) (first_of seat.new.me)) }
     {
         let mut at = node;
         while at > 1 {
@@ -84,7 +84,7 @@ impl Tree {
         ensures seat { seat.new.table_id ≡ seat.old.table_id }
         ensures walks { Walks seat.old.me seat.new.me }
         ensures phase { MatchBool result (IsAt seat.new.me (phase_after_raise node at)) (IsAt seat.new.me (Phase.Backing node at)) }
-        ensures refused { OnFalse result (Answered Kind.Raise at Note.Under seat.old.me seat.new.me) }
+        ensures refused { OnFalse result (Answered Kind.Raise at Note.Under (first_of seat.old.me) (first_of seat.new.me)) }
     {
         self.sweep(seat, node, at);
         self.raise(seat, node, at)
