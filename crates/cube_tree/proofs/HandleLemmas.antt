@@ -2,10 +2,11 @@
 use Rattle.std.proofs.Common.{◌≡◌, ℕ, [], ◌∷◌, ◌+◌, ◌*◌, ◌^◌, ◌<◌, ◌≤◌, length, refl, sym, ◌∙◌, ap, subst}
 use Rattle.cube_shape.specs.Node.{IsInCube}
 use Rattle.cube_core.specs.declared.phase.Phase.{Phase}
-use Rattle.cube_core.specs.declared.phase.Phase.TheVariants.{Idle, Looking, Holding, Leaving}
-use Rattle.cube_core.specs.Count.{depth}
+use Rattle.cube_core.specs.declared.phase.Phase.TheVariants.{Idle, Looking, Holding, Leaving, Retired}
+use Rattle.cube_core.specs.Event.{retirement}
+use Rattle.tree_steps.specs.declared.view.Entry.{Entry}
 use Rattle.tree_steps.specs.Rule.{others}
-use Rattle.tree_steps.specs.Steps.{Known, first_of, begin, entry_in, IsAt, Walks, Makes}
+use Rattle.tree_steps.specs.Steps.{Known, first_of, put_first, begin, entry_in, entry_after, retire_at, IsAt, Walks, Makes}
 use Rattle.tree_steps.proofs.EventLemmas.{by_parts}
 use Rattle.tree_steps.proofs.WalkLemmas.{LeavesRest, leaves_on, begin_leaves, walk_leaves, makes_of}
 use Rattle.atomic_table.specs.Seated.{TableId}
@@ -23,6 +24,7 @@ pub seat_after : {number : ℕ} {p q : Phase} {m new : Known} → IsSeatOf numbe
 seat_after {new = new} seat leaves at = record {
   one = at.there ∙ ap (λ es. first_of new ∷ es) (leaves.others ∙ ap others seat.one);
   slots = leaves.slots ∙ seat.slots;
+  no_loads = leaves.loads ∙ seat.no_loads;
   number_is = leaves.station ∙ seat.number_is;
   phase_is = at.phase;
 }
@@ -41,3 +43,22 @@ node_of_cube cube subcube of_cube = (
   subcube.positive,
   subst (λ count. held_node subcube < count) (sym subcube.words ∙ ap (λ (id : TableId). id.words) of_cube ∙ cube.tree.words) subcube.in_cube,
 )
+
+-- a station that has retired
+pub record HasRetired (number : ℕ) (m : Known) : Type 0 where
+  pub entry : Entry
+  pub one : m.0.stations ≡ entry ∷ []
+  pub number_is : entry.station ≡ number
+  pub phase_is : entry.phase ≡ Retired
+  pub slots : m.1 ≡ []
+  pub no_loads : m.0.loads ≡ []
+
+pub retired_seat : {number : ℕ} {m new : Known} → IsSeatOf number Idle m → (found : ℕ) → new ≡ retire_at found m → HasRetired number new
+retired_seat {number = number} {m = m} seat found is = subst (HasRetired number) (sym is) (record {
+  entry = entry_after (retirement (first_of m).station) found (first_of m);
+  one = ap (put_first (entry_after (retirement (first_of m).station) found (first_of m))) seat.one;
+  number_is = seat.number_is;
+  phase_is = refl;
+  slots = seat.slots;
+  no_loads = seat.no_loads;
+})

@@ -10,6 +10,7 @@ use Rattle.tree_steps.specs.declared.view.Size.{Size}
 use Rattle.tree_steps.specs.Steps.{first_of, entry_in, Makes}
 use Rattle.tree_steps.specs.Answer.{IsAnswered}
 use Rattle.tree_steps.specs.Tree.{id_of, size_of}
+use Rattle.atomic_table.specs.Seated.{TableId}
 use Rattle.cube_tree.specs.declared.handles.Cube.{Cube}
 use Rattle.cube_tree.specs.declared.handles.Station.{Station}
 use Rattle.cube_tree.specs.declared.handles.Subcube.{Subcube}
@@ -32,9 +33,22 @@ station_entry station = first_of station.seat.me
 abbrev pub subcube_entry : Subcube → Entry
 subcube_entry subcube = first_of subcube.seat.me
 
+-- the size of the machine of dimension n with this many stations
+abbrev pub size_with : ℕ → ℕ → Size
+size_with n stations = record { dim = n; stations = stations }
+
+-- the same cube, but for what its loads of the roll found
+pub record IsSameCube (old new : Cube) : Type 0 where
+  pub table : id_of new.tree ≡ id_of old.tree
+  pub size : cube_size new ≡ cube_size old
+
+-- the station steps on the table
+abbrev pub HasTable : TableId → Station → Type 0
+HasTable id station = station.seat.table_id ≡ id
+
 -- the handle is one of this cube
 abbrev pub IsStationOf : Cube → Station → Type 0
-IsStationOf cube station = station.seat.table_id ≡ id_of cube.tree
+IsStationOf cube station = HasTable (id_of cube.tree) station
 
 abbrev pub IsSubcubeOf : Cube → Subcube → Type 0
 IsSubcubeOf cube subcube = subcube.seat.table_id ≡ id_of cube.tree
@@ -56,14 +70,13 @@ pub record TakesNode (cube : Cube) (node : ℕ) (old : Entry) (subcube : Subcube
   pub region_is : held_region subcube ≡ region_at (cube_dim cube) node
   pub bound : length (subcube_entry subcube).trail ≤ length old.trail + (3 + 7 * depth (cube_dim cube) node)
 
--- it was refused the region of a node: it made the events of one take of this node and of its
--- roll-back, and no other; one of them answers, and it is idle again
-pub record IsRefusedNode (cube : Cube) (node : ℕ) (old : Entry) (station : Station) (why : Why) : Type 0 where
-  pub of_cube : IsStationOf cube station
-  pub makes : Makes (entry_in (Looking node) old) (station_entry station)
-  pub idle : (station_entry station).phase ≡ Idle
-  pub answer : IsAnswered why node old (station_entry station)
-  pub bound : length (station_entry station).trail ≤ length old.trail + (3 + 7 * depth (cube_dim cube) node)
+-- it was refused the region of a node of the machine of dimension n: it made the events of one take of
+-- this node and of its roll-back, and no other; one of them answers, and it is idle again
+pub record IsRefusedTry (n node : ℕ) (old new : Entry) (why : Why) : Type 0 where
+  pub makes : Makes (entry_in (Looking node) old) new
+  pub idle : new.phase ≡ Idle
+  pub answer : IsAnswered why node old new
+  pub bound : length new.trail ≤ length old.trail + (3 + 7 * depth n node)
 
 -- it has given back the region of a node: it made the events of one release and no other, and of
 -- those at most 1 + 5 j, and is idle again

@@ -7,6 +7,7 @@ use Rattle.tree_steps.specs.Steps.{Known, first_of}
 pub record IsSeatOf (number : ℕ) (phase : Phase) (m : Known) : Type 0 where
   pub one : m.0.stations ≡ first_of m ∷ []
   pub slots : m.1 ≡ []
+  pub no_loads : m.0.loads ≡ []
   pub number_is : (first_of m).station ≡ number
   pub phase_is : (first_of m).phase ≡ phase
 

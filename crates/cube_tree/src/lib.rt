@@ -7,8 +7,15 @@
 //! the machine is wholly free.
 #![tactic(auto)]
 
+mod ends;
 mod handles;
+mod opening;
+mod refusal;
+mod refused;
 mod takes;
+mod tries;
 
 pub use handles::{Cube, FreeMachine, Station, StillOut, Subcube};
+pub use refusal::Refusal;
+pub use refused::CubeRefused;
 pub use tree_steps::Why;

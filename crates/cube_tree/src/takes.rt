@@ -2,7 +2,7 @@
 ghost use Rattle.std.specs.Prelude.{◌≡◌, ◌<◌, ◌≤◌, ◌+◌, ◌^◌, IfOk, IfErr};
 ghost use Rattle.cube_shape.specs.Node.{IsInCube};
 ghost use Rattle.cube_core.specs.Held.{region_at};
-ghost use Rattle.cube_tree.specs.Handles.{cube_dim, station_entry, subcube_entry, held_node, held_region, IsStationOf, IsSubcubeOf, TakesNode, IsRefusedNode, GivesBack};
+ghost use Rattle.cube_tree.specs.Handles.{cube_dim, station_entry, subcube_entry, held_node, held_region, IsStationOf, IsSubcubeOf, TakesNode, IsRefusedTry, GivesBack};
 
 use crate::handles::{Cube, Station, Subcube};
 use cube_shape::{MAX_DIM, Node, Region, region_of};
@@ -30,7 +30,9 @@ impl Station {
         requires cube { IsStationOf cube.now self }
         requires node { IsInCube (cube_dim cube.now) node.0 }
         ensures taken { IfOk result (TakesNode cube.now node.0 (station_entry self)) }
-        ensures refused { IfErr result (λ refused. IsRefusedNode cube.now node.0 (station_entry self) refused.0 refused.1) }
+        ensures back { IfErr result (λ refused. IsStationOf cube.now refused.0) }
+        ensures refused { IfErr result (λ refused.
+            IsRefusedTry (cube_dim cube.now) node.0 (station_entry self) (station_entry refused.0) refused.1) }
     {
         let Station { number, mut seat } = self;
         match cube.tree.take(&mut seat, number, node.0) {

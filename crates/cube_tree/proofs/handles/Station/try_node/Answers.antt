@@ -41,7 +41,6 @@ returns-in-Ok-clause-taken c =
 pub returns-in-Err-clause-refused : goal.returns-in-Err-clause-refused
 returns-in-Err-clause-refused c =
     let makes = makes_after c.args.self.idle (Looking c.args.node.0) c.in-Err.ensures.walks in record {
-      of_cube = search rules;
       makes = makes;
       idle = c.in-Err.ensures.phase.phase;
       answer = c.in-Err.ensures.refused;
