@@ -85,3 +85,10 @@ pub record GivesBack (cube : Cube) (node : ℕ) (old : Entry) (station : Station
   pub makes : Makes (entry_in (Leaving node) old) (station_entry station)
   pub idle : (station_entry station).phase ≡ Idle
   pub bound : length (station_entry station).trail ≤ length old.trail + (1 + 5 * depth (cube_dim cube) node)
+
+-- the same subcube: its station, its record, its node and its region
+pub record IsSameSubcube (old new : Subcube) : Type 0 where
+  pub table : new.seat.table_id ≡ old.seat.table_id
+  pub entry : subcube_entry new ≡ subcube_entry old
+  pub node_is : held_node new ≡ held_node old
+  pub region_is : held_region new ≡ held_region old

@@ -7,6 +7,7 @@
 //! the machine is wholly free.
 #![tactic(auto)]
 
+mod comparison;
 mod ends;
 mod handles;
 mod opening;
@@ -15,6 +16,7 @@ mod refused;
 mod takes;
 mod tries;
 
+pub use comparison::apart;
 pub use handles::{Cube, FreeMachine, Station, StillOut, Subcube};
 pub use refusal::Refusal;
 pub use refused::CubeRefused;

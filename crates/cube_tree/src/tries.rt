@@ -1,11 +1,20 @@
 //! Takes of any region of a dimension.
-ghost use Rattle.std.specs.Prelude.{◌≡◌, ◌-◌, ◌≤◌, IfOk, IfErr};
+ghost use Rattle.std.specs.Prelude.{◌≡◌, ◌-◌, ◌^◌, ◌≤◌, IfOk, IfErr};
 ghost use Rattle.cube_tree.specs.Handles.{cube_dim, station_entry, IsStationOf};
 ghost use Rattle.cube_tree.specs.Tries.{TakesOne, IsRefusedAll};
 
 use crate::handles::{Cube, Station, Subcube};
 use crate::refusal::{Refusal, count};
-use cube_shape::Node;
+use cube_shape::{MAX_DIM, Node};
+
+// The number of regions of dimension `k`.
+fn region_count(cube: &Cube, k: u32) -> u64
+    requires { k ≤ cube_dim cube.now }
+    ensures value { result ≡ 2 ^ (cube_dim cube.now - k) }
+    ensures limit { result ≤ 2 ^ MAX_DIM }
+{
+    1 << (cube.tree.size().dim - k)
+}
 
 impl Station {
     /// Tries the regions of dimension `k` one after another, from the first one on, until one is
@@ -19,8 +28,7 @@ impl Station {
         ensures refused { IfErr result (λ refused. IsRefusedAll (cube_dim cube.now) (cube_dim cube.now - k)
             (station_entry self) (station_entry refused.0) refused.1) }
     {
-        let level = cube.tree.size().dim - k;
-        let nodes = 1u64 << level;
+        let nodes = region_count(cube, k);
         let mut station = self;
         let mut refusal = Refusal {
             in_use: 0,
