@@ -3,7 +3,7 @@
 use Rattle.std.proofs.Common.{◌≡◌, ◌≢◌, ℕ, suc, ◌+◌, ◌*◌, ◌/◌, ◌^◌, ◌<◌, ◌≤◌, inl, inr, Bool, true, false, cond, eqb, ltb, List, [], ◌∷◌, ◌++◌, length, Some, None, refl, sym, ◌∙◌, ap, subst, arith}
 use Rattle.std.proofs.lemmas.Bool.{cases_eq, cases_lt, eqb-false}
 use Rattle.std.proofs.lemmas.List.{get_or_past, length-replicate}
-use Rattle.cube_shape.specs.Node.{IsInCube, child_of}
+use Rattle.cube_shape.specs.Node.{IsInCube, child_of, IsNodeOf}
 use Rattle.cube_shape.specs.declared.node.Side.TheVariants.{Right}
 use Rattle.cube_shape.proofs.PathLemmas.{log_unique}
 use Rattle.status_word.specs.Word.{IsSet}
@@ -17,9 +17,10 @@ use Rattle.cube_core.specs.declared.act.Refused.{Refused}
 use Rattle.cube_core.specs.declared.act.Refused.TheVariants.{NotIdle, NotHolding, NoStation, Resting}
 use Rattle.cube_core.specs.Event.{Transition, transition, child_event, clear_event, cleared_as_seen, phase_after_raise, phase_after_zero, is_free, is_occupied, seen_at}
 use Rattle.cube_core.specs.Schedule.{Record, State, AreOneEvent, phase_of, word_of, initial, apply, apply_all, phase_refusal, unless_refused, step_refusal, station_of}
+use Rattle.cube_core.specs.Held.{region_at}
 use Rattle.cube_core.specs.Count.{depth, unseen, events_due}
 use Rattle.cube_core.specs.Law.{IsTreeLawful}
-use Rattle.cube_core.proofs.LevelLemmas.{depth-parent, dim_at-level}
+use Rattle.cube_core.proofs.LevelLemmas.{depth-parent, dim_at-level, region_at-named}
 use Rattle.cube_core.proofs.OneEventLemmas.{step_is_event}
 use Rattle.cube_core.proofs.ScheduleLemmas.{initial_stands, apply_all_stands, every_schedule}
 use Rattle.cube_core.proofs.WorldLemmas.{apply_dim, apply_stations}
@@ -226,3 +227,7 @@ paid n s found Retired at = record { placed = tt; falls = omega arith }
 pub depth_is : (n v j : ℕ) → IsInCube n v → 2 ^ j ≤ v → v < 2 * 2 ^ j → depth n v ≡ j
 depth_is n v j in_cube low high =
     let level = dim_at-level n v in_cube in log_unique v (depth n v) j level.1 level.2 low high
+
+-- the region that a node names
+pub region_named : (n v : ℕ) → IsInCube n v → IsNodeOf n v (region_at n v)
+region_named = region_at-named

@@ -1,0 +1,87 @@
+-- Who is missing in the roll, and that all have retired.
+use Rattle.std.proofs.Common.{◌≡◌, ◌≢◌, ℕ, zero, suc, ◌+◌, ◌-◌, ◌*◌, ◌^◌, ◌<◌, ◌≤◌, ◌⊎◌, inl, inr, min, true, false, cond, eqb, Bool, List, [], ◌∷◌, ◌++◌, map, length, bit_and, refl, sym, ◌∙◌, ap, subst, arith, eqb-true}
+use Rattle.std.specs.Prelude.{All, ◌↔◌}
+use Rattle.std.specs.Int.{bit_at, bit_not, w64}
+use Rattle.std.proofs.lemmas.Bool.{cases_eq, cases_lt}
+use Rattle.std.proofs.lemmas.Nat.Bits.{bit_at-lt, bit_at_and, bit_at_ones, bit_at_ones_above, bit_at_not, bit_at-zero}
+use Rattle.std.proofs.lemmas.List.Elements.{All-nil, All-cons, All-head, All-tail, All-append}
+use Rattle.status_word.specs.Word.{IsSet}
+use Rattle.cube_core.specs.declared.phase.Phase.TheVariants.{Retired}
+use Rattle.tree_steps.specs.declared.view.Entry.{Entry}
+use Rattle.tree_steps.specs.Rule.{times}
+use Rattle.tree_steps.specs.Steps.{Known, KeepsLoad, HasWholeRoll, joined}
+use Rattle.tree_steps.proofs.RuleLemmas.{times-append}
+use Rattle.cube_tree.specs.Ends.{IsMissing, IsWhole}
+use Rattle.cube_tree.specs.Handles.{station_entry}
+use Rattle.cube_tree.specs.declared.handles.Station.{Station}
+use Rattle.cube_tree.proofs.HandleLemmas.{HasRetired}
+
+-- the bits of all stations, without those of the roll
+pub missing_bits : (n roll all missing : ℕ) → n ≤ 32 → roll < 2 ^ 64 → all ≡ 2 ^ n - 1 → missing ≡ bit_and all (bit_not w64 roll) → IsMissing n roll missing
+missing_bits n roll all missing few small ones is s = elim (cases_lt s n) [
+  | inl below ↦
+      let bit = bit_at_not w64 roll s small (omega arith) in let one : bit_at all s ≡ 1 = ap (λ a. bit_at a s) ones ∙ bit_at_ones n s below in let two = bit_at-lt roll s in
+      (λ set. (below, λ has. omega (arith, sum, bit, one, set, has)), λ (_, clear). there clear (omega (arith, sum, bit, one)) two)
+  | inr past ↦
+      let none : bit_at all s ≡ 0 = ap (λ a. bit_at a s) ones ∙ bit_at_ones_above n s past in
+      (λ set. absurd (omega (arith, sum, none, set)), λ (below, _). absurd (omega (arith, past, below)))
+]
+  where
+    sum : bit_at missing s ≡ min (bit_at all s) (bit_at (bit_not w64 roll) s)
+    sum = ap (λ m. bit_at m s) is ∙ bit_at_and all (bit_not w64 roll) s
+
+    there : (IsSet roll s → ⊥) → bit_at missing s ≡ 1 - bit_at roll s → bit_at roll s < 2 → IsSet missing s
+    there clear bit two = elim (cases_eq (bit_at roll s) 1) [ | inl has ↦ absurd (clear has) | inr other ↦ omega (arith, bit, two, other) ]
+
+-- where none is missing, the roll has the bit of each
+pub none_missing : (n roll missing : ℕ) → IsMissing n roll missing → missing ≡ 0 → IsWhole n roll
+none_missing n roll missing exact none s below = elim (cases_eq (bit_at roll s) 1) [
+  | inl has ↦ has
+  | inr clear ↦
+      let set : bit_at missing s ≡ 1 = (exact s).1 (below, clear) in let zero_bit : bit_at missing s ≡ 0 = ap (λ m. bit_at m s) none ∙ bit_at-zero s in
+      absurd (omega (arith, set, zero_bit))
+]
+
+-- the load of a seat
+pub whole_roll : {count found : ℕ} {m new : Known} → KeepsLoad m found new → IsWhole count found → HasWholeRoll count new
+whole_roll {found = found} {m = m} load whole = record { roll = found; earlier = m.0.loads; loaded = ap (λ (x : Known). x.0.loads) load.kept; whole = whole }
+
+-- ---- all stations have retired
+
+abbrev pub IsGone : Entry → Type 0
+IsGone e = e.phase ≡ Retired
+
+-- whoever is there and has retired has a bit
+pub bit_of : (found s : ℕ) (entries : List Entry) → All (λ e. IsGone e → IsSet found e.station) entries → All IsGone entries → 0 < times s entries → IsSet found s
+bit_of found s [] bits gone some = absurd (omega arith)
+bit_of found s (e ∷ rest) bits gone some = turn (bit_of found s rest (All-tail (λ x. IsGone x → IsSet found x.station) e rest bits) (All-tail IsGone e rest gone)) (eqb e.station s) refl some
+  where
+    turn : (0 < times s rest → IsSet found s) → (t : Bool) → eqb e.station s ≡ t → 0 < cond t 1 0 + times s rest → IsSet found s
+    turn later true is more = subst (IsSet found) (eqb-true e.station s is) (All-head (λ x. IsGone x → IsSet found x.station) e rest bits (All-head IsGone e rest gone))
+    turn later false is more = later (omega (arith, more))
+
+pub bits_of : (count found : ℕ) (m new : Known) → KeepsLoad m found new → All IsGone m.0.stations → ((s : ℕ) → s < count → 0 < times s m.0.stations) → IsWhole count found
+bits_of count found m new load gone all s below = bit_of found s m.0.stations load.bits gone (all s below)
+
+-- one station more that has retired
+pub gone_more : {number : ℕ} (m own new : Known) → HasRetired number own → new ≡ (joined m.0 own.0, m.1) → All IsGone m.0.stations → All IsGone new.0.stations
+gone_more m own new retired is gone = subst (λ (x : Known). All IsGone x.0.stations) (sym is)
+    (All-append IsGone m.0.stations own.0.stations gone (subst (All IsGone) (sym retired.one) (All-cons IsGone retired.entry [] retired.phase_is (All-nil IsGone))))
+
+map_append : (l : List Station) (x : Station) → map station_entry (l ++ x ∷ []) ≡ map station_entry l ++ station_entry x ∷ []
+map_append [] x = refl
+map_append (y ∷ l) x = ap (λ es. station_entry y ∷ es) (map_append l x)
+
+pub all_more : {number : ℕ} (s : ℕ) (m own new : Known) (before after : List Station) (x : Station) → HasRetired number own → new ≡ (joined m.0 own.0, m.1) → before ≡ after ++ x ∷ [] → (station_entry x).station ≡ number
+    → 0 < times s m.0.stations + times s (map station_entry before) → 0 < times s new.0.stations + times s (map station_entry after)
+all_more {number = number} s m own new before after x retired is popped same had =
+    let first : times s new.0.stations ≡ times s m.0.stations + times s own.0.stations = ap (λ (y : Known). times s y.0.stations) is ∙ times-append s m.0.stations own.0.stations in
+    let own_is : times s own.0.stations ≡ cond (eqb number s) 1 0 + 0 = ap (times s) retired.one ∙ ap (λ a. cond (eqb a s) 1 0 + 0) retired.number_is in
+    let list : times s (map station_entry before) ≡ times s (map station_entry after) + times s (station_entry x ∷ []) = ap (λ l. times s (map station_entry l)) popped ∙ ap (times s) (map_append after x) ∙ times-append s (map station_entry after) (station_entry x ∷ []) in
+    let last : times s (station_entry x ∷ []) ≡ cond (eqb number s) 1 0 + 0 = ap (λ a. cond (eqb a s) 1 0 + 0) same in
+    omega (arith, had, first, own_is, list, last)
+
+-- no station is left in the list
+pub none_left : (l : List Station) (s n : ℕ) → length l ≡ 0 → 0 < n + times s (map station_entry l) → 0 < n
+none_left [] s n empty some = omega (arith, some)
+none_left (x ∷ l) s n empty some = absurd (omega (arith, empty))

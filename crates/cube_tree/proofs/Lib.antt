@@ -1,0 +1,5 @@
+mod HandleLemmas
+mod OpeningLemmas
+mod EndLemmas
+mod TryLemmas
+mod ApartLemmas

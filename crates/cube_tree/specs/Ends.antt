@@ -1,0 +1,36 @@
+-- The end of a machine: who has retired, and what is left.
+use Rattle.std.specs.Prelude.{◌≡◌, ℕ, ◌+◌, ◌^◌, ◌<◌, ◌↔◌, List, map, vec_len, slice_index}
+use Rattle.status_word.specs.Word.{IsSet}
+use Rattle.tree_steps.specs.Rule.{times}
+use Rattle.cube_tree.specs.declared.handles.Station.{Station}
+use Rattle.cube_tree.specs.declared.handles.FreeMachine.{FreeMachine}
+use Rattle.cube_tree.specs.Handles.{station_entry}
+
+-- each station below the count is in the list
+abbrev pub HasAll : ℕ → List Station → Type 0
+HasAll count stations = (s : ℕ) → s < count → 0 < times s (map station_entry stations)
+
+-- the stations below the count whose bit a load of the roll found clear
+abbrev pub IsMissing : ℕ → ℕ → ℕ → Type 0
+IsMissing count roll missing = (s : ℕ) → IsSet missing s ↔ ((s < count) × (IsSet roll s → ⊥))
+
+-- a load of the roll found the bit of each station below the count
+abbrev pub IsWhole : ℕ → ℕ → Type 0
+IsWhole count roll = (s : ℕ) → s < count → IsSet roll s
+
+abbrev pub machine_dim : FreeMachine → ℕ
+machine_dim machine = machine.dim
+
+abbrev pub machine_words : FreeMachine → List ℕ
+machine_words machine = machine.words.items
+
+-- what the loads of the roll found, the newest first
+abbrev pub machine_loads : FreeMachine → List ℕ
+machine_loads machine = machine.seat.me.0.loads
+
+-- the machine of dimension n is wholly free: there is a word for each node and the roll, and that of
+-- each node is 0
+pub record IsWhollyFree (n : ℕ) (machine : FreeMachine) : Type 0 where
+  pub dim : machine_dim machine ≡ n
+  pub count : vec_len machine.words ≡ 2 ^ (n + 1)
+  pub nodes : (node : ℕ) → 0 < node → slice_index (machine_words machine) node ≡ 0

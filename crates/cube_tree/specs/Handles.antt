@@ -1,0 +1,94 @@
+-- What contracts say of the handles.
+use Rattle.std.specs.Prelude.{◌≡◌, ℕ, ◌+◌, ◌*◌, ◌≤◌, List, length}
+use Rattle.cube_shape.specs.declared.region.Region.{Region}
+use Rattle.cube_core.specs.declared.phase.Phase.TheVariants.{Idle, Looking, Holding, Leaving}
+use Rattle.cube_core.specs.Count.{depth}
+use Rattle.cube_core.specs.Held.{region_at}
+use Rattle.tree_steps.specs.declared.why.Why.{Why}
+use Rattle.tree_steps.specs.declared.view.Entry.{Entry}
+use Rattle.tree_steps.specs.declared.view.Size.{Size}
+use Rattle.tree_steps.specs.Steps.{first_of, entry_in, Makes}
+use Rattle.tree_steps.specs.Answer.{IsAnswered}
+use Rattle.tree_steps.specs.Tree.{id_of, size_of}
+use Rattle.atomic_table.specs.Seated.{TableId}
+use Rattle.cube_tree.specs.declared.handles.Cube.{Cube}
+use Rattle.cube_tree.specs.declared.handles.Station.{Station}
+use Rattle.cube_tree.specs.declared.handles.Subcube.{Subcube}
+use Rattle.cube_tree.specs.declared.handles.FreeMachine.{FreeMachine}
+
+-- the machine of a cube, and what its loads of the roll found, the newest first
+abbrev pub cube_size : Cube → Size
+cube_size cube = size_of cube.tree
+
+abbrev pub cube_dim : Cube → ℕ
+cube_dim cube = (cube_size cube).dim
+
+abbrev pub loads_of : Cube → List ℕ
+loads_of cube = cube.seat.me.0.loads
+
+-- a station's record: its number, its phase and its trail, the newest event first
+abbrev pub station_entry : Station → Entry
+station_entry station = first_of station.seat.me
+
+abbrev pub subcube_entry : Subcube → Entry
+subcube_entry subcube = first_of subcube.seat.me
+
+-- the size of the machine of dimension n with this many stations
+abbrev pub size_with : ℕ → ℕ → Size
+size_with n stations = record { dim = n; stations = stations }
+
+-- the same cube, but for what its loads of the roll found
+pub record IsSameCube (old new : Cube) : Type 0 where
+  pub table : id_of new.tree ≡ id_of old.tree
+  pub size : cube_size new ≡ cube_size old
+
+-- the station steps on the table
+abbrev pub HasTable : TableId → Station → Type 0
+HasTable id station = station.seat.table_id ≡ id
+
+-- the handle is one of this cube
+abbrev pub IsStationOf : Cube → Station → Type 0
+IsStationOf cube station = HasTable (id_of cube.tree) station
+
+abbrev pub IsSubcubeOf : Cube → Subcube → Type 0
+IsSubcubeOf cube subcube = subcube.seat.table_id ≡ id_of cube.tree
+
+-- the node that a station holds, and its region
+abbrev pub held_node : Subcube → ℕ
+held_node subcube = subcube.node
+
+abbrev pub held_region : Subcube → Region
+held_region subcube = subcube.region
+
+-- the station whose record was `old` has taken the region of a node: it made the events of one take of
+-- this node and no other, and of those at most 3 + 7 j, where the node is j levels below the root
+pub record TakesNode (cube : Cube) (node : ℕ) (old : Entry) (subcube : Subcube) : Type 0 where
+  pub of_cube : IsSubcubeOf cube subcube
+  pub makes : Makes (entry_in (Looking node) old) (subcube_entry subcube)
+  pub holds : (subcube_entry subcube).phase ≡ Holding node
+  pub node_is : held_node subcube ≡ node
+  pub region_is : held_region subcube ≡ region_at (cube_dim cube) node
+  pub bound : length (subcube_entry subcube).trail ≤ length old.trail + (3 + 7 * depth (cube_dim cube) node)
+
+-- it was refused the region of a node of the machine of dimension n: it made the events of one take of
+-- this node and of its roll-back, and no other; one of them answers, and it is idle again
+pub record IsRefusedTry (n node : ℕ) (old new : Entry) (why : Why) : Type 0 where
+  pub makes : Makes (entry_in (Looking node) old) new
+  pub idle : new.phase ≡ Idle
+  pub answer : IsAnswered why node old new
+  pub bound : length new.trail ≤ length old.trail + (3 + 7 * depth n node)
+
+-- it has given back the region of a node: it made the events of one release and no other, and of
+-- those at most 1 + 5 j, and is idle again
+pub record GivesBack (cube : Cube) (node : ℕ) (old : Entry) (station : Station) : Type 0 where
+  pub of_cube : IsStationOf cube station
+  pub makes : Makes (entry_in (Leaving node) old) (station_entry station)
+  pub idle : (station_entry station).phase ≡ Idle
+  pub bound : length (station_entry station).trail ≤ length old.trail + (1 + 5 * depth (cube_dim cube) node)
+
+-- the same subcube: its station, its record, its node and its region
+pub record IsSameSubcube (old new : Subcube) : Type 0 where
+  pub table : new.seat.table_id ≡ old.seat.table_id
+  pub entry : subcube_entry new ≡ subcube_entry old
+  pub node_is : held_node new ≡ held_node old
+  pub region_is : held_region new ≡ held_region old

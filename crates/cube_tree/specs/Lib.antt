@@ -1,0 +1,4 @@
+pub mod Seats
+pub mod Handles
+pub mod Ends
+pub mod Tries

@@ -1,0 +1,48 @@
+-- Tries at one node after another.
+use Rattle.std.specs.Prelude.{◌≡◌, ℕ, zero, suc, ◌+◌, ◌-◌, ◌*◌, ◌^◌, ◌<◌, ◌≤◌, length}
+use Rattle.tree_steps.specs.declared.why.Why.{Why}
+use Rattle.tree_steps.specs.declared.why.Why.TheVariants.{InUse, Lost, Under}
+use Rattle.tree_steps.specs.declared.view.Entry.{Entry}
+use Rattle.cube_tree.specs.declared.refusal.Refusal.{Refusal}
+use Rattle.cube_tree.specs.declared.handles.Cube.{Cube}
+use Rattle.cube_tree.specs.declared.handles.Subcube.{Subcube}
+use Rattle.cube_tree.specs.Handles.{cube_dim, subcube_entry, IsRefusedTry, TakesNode}
+
+-- one refusal more
+abbrev pub counted : Why → Refusal → Refusal
+counted InUse r = record r { in_use = r.in_use + 1 }
+counted Lost r = record r { lost = r.lost + 1 }
+counted (Under at) r = record r { under = r.under + 1 }
+
+abbrev pub no_refusal : Refusal
+no_refusal = record { in_use = 0; lost = 0; under = 0 }
+
+abbrev pub refusal_sum : Refusal → ℕ
+refusal_sum r = r.in_use + r.lost + r.under
+
+-- the station tried so many nodes from the first one on, in order, and was refused each; the counts are
+-- those of its refusals
+pub record OneMore (n node : ℕ) (before refusal : Refusal) (between new : Entry) : Type 0 where
+  pub why : Why
+  pub refused : IsRefusedTry n node between new why
+  pub counts : refusal ≡ counted why before
+
+abbrev pub Tries : ℕ → ℕ → ℕ → Refusal → Entry → Entry → Type 0
+Tries n first zero refusal old new = (new ≡ old) × (refusal ≡ no_refusal)
+Tries n first (suc m) refusal old new = (between : Entry) × (before : Refusal) × Tries n first m before old between × OneMore n (first + m) before refusal between new
+
+-- after m refusals of the nodes of one level, which is j levels below the root, it took the next one
+pub record TakesOne (cube : Cube) (j : ℕ) (old : Entry) (subcube : Subcube) : Type 0 where
+  pub m : ℕ
+  pub there : m < 2 ^ j
+  pub between : Entry
+  pub before : Refusal
+  pub tries : Tries (cube_dim cube) (2 ^ j) m before old between
+  pub taken : TakesNode cube (2 ^ j + m) between subcube
+  pub bound : length (subcube_entry subcube).trail ≤ length old.trail + 2 ^ j * (3 + 7 * j)
+
+-- all nodes of the level were refused
+pub record IsRefusedAll (n j : ℕ) (old new : Entry) (refusal : Refusal) : Type 0 where
+  pub tries : Tries n (2 ^ j) (2 ^ j) refusal old new
+  pub sum : refusal_sum refusal ≡ 2 ^ j
+  pub bound : length new.trail ≤ length old.trail + 2 ^ j * (3 + 7 * j)

@@ -1,0 +1,118 @@
+//! Stations retire, and a cube is closed.
+ghost use Rattle.std.specs.Prelude.{◌≡◌, ◌≢◌, ℕ, ◌<◌, ◌≤◌, [], ◌∷◌, All, MatchResult, IfOk, IfErr, length};
+ghost use Rattle.tree_steps.specs.Steps.{HasWholeRoll, retire_at};
+ghost use Rattle.tree_steps.specs.Tree.{id_of, size_of, station_count};
+ghost use Rattle.cube_tree.specs.Handles.{cube_dim, cube_size, loads_of, IsSameCube, IsStationOf};
+ghost use Rattle.cube_tree.specs.Ends.{HasAll, IsMissing, IsWhole, IsWhollyFree, machine_dim, machine_loads, machine_words};
+
+use crate::handles::{Cube, FreeMachine, Station, StillOut};
+use cube_shape::MAX_STATIONS;
+use tree_steps::{Seat, Tree};
+
+impl Station {
+    /// It makes one event more, by which its bit is set in the roll, and none after that.
+    pub fn retire(self, cube: &Cube)
+        requires { IsStationOf cube.now self }
+    {
+        drop(self.into_retired(&cube.tree));
+    }
+
+    // The seat of the station once it has retired.
+    fn into_retired(self, tree: &Tree) -> Seat
+        requires { self.seat.table_id ≡ id_of tree.now }
+        ensures table { result.table_id ≡ self.seat.table_id }
+        ensures retires { (found : ℕ) × (result.me ≡ retire_at found self.seat.me) }
+    {
+        let Station { number, mut seat } = self;
+        tree.retire(&mut seat, number);
+        seat
+    }
+}
+
+// The stations below the count whose bit is clear.
+fn missing_in(roll: u64, stations: u32) -> u64
+    requires { stations ≤ MAX_STATIONS }
+    ensures { IsMissing stations roll result }
+{
+    let all = (1u64 << stations) - 1;
+    all & !roll
+}
+
+impl Cube {
+    /// Closes the cube, if the load of the roll that it makes finds the bit of each station. It is
+    /// given back with the stations whose bit was clear, of which there is at least one.
+    pub fn close(self) -> Result<FreeMachine, StillOut>
+        ensures free { IfOk result (IsWhollyFree (cube_dim self)) }
+        ensures roll { IfOk result (λ machine. (roll : ℕ) × (machine_loads machine ≡ roll ∷ loads_of self)
+            × IsWhole (cube_size self).stations roll) }
+        ensures missing { IfErr result (λ out. (roll : ℕ) × (loads_of out.cube ≡ roll ∷ loads_of self)
+            × IsMissing (cube_size self).stations roll out.missing) }
+        ensures some { IfErr result (λ out. out.missing ≢ 0) }
+        ensures back { IfErr result (λ out. IsSameCube self out.cube) }
+    {
+        let Cube { tree, mut seat } = self;
+        let roll = tree.load_roll(&mut seat);
+        let missing = missing_in(roll, tree.size().stations);
+        if missing == 0 {
+            Ok(finish(tree, seat))
+        } else {
+            Err(StillOut {
+                cube: Cube { tree, seat },
+                missing,
+            })
+        }
+    }
+}
+
+impl Cube {
+    /// Retires all stations, which it is given, and closes the cube.
+    pub fn close_with(self, mut stations: Vec<Station>) -> FreeMachine
+        requires cube { All (IsStationOf self) stations.items }
+        requires all { HasAll (cube_size self).stations stations.items }
+        ensures free { IsWhollyFree (cube_dim self) result }
+        ensures roll { (roll : ℕ) × (machine_loads result ≡ roll ∷ loads_of self)
+            × IsWhole (cube_size self).stations roll }
+    {
+        let Cube { tree, mut seat } = self;
+        while let Some(station) = stations.pop() {
+            let retired = station.into_retired(&tree);
+            tree.merge(&mut seat, retired);
+        }
+        stations.destroy_empty();
+        tree.load_roll(&mut seat);
+        finish(tree, seat)
+    }
+}
+
+// The end of a tree of which all stations have retired.
+fn finish(tree: Tree, mut seat: Seat) -> FreeMachine
+    requires seat { seat.table_id ≡ id_of tree }
+    requires slots { seat.me.1 ≡ [] }
+    requires retired { HasWholeRoll (station_count tree) seat.me }
+    ensures free { IsWhollyFree (size_of tree).dim result }
+    ensures loads { machine_loads result ≡ seat.me.0.loads }
+{
+    let dim = tree.size().dim;
+    let loads = tree.copy_loads(&mut seat);
+    FreeMachine {
+        dim,
+        words: tree.close(seat),
+        seat: loads,
+    }
+}
+
+impl FreeMachine {
+    /// The dimension of the machine.
+    pub fn dim(&self) -> u32
+        ensures { result ≡ machine_dim self.now }
+    {
+        self.dim
+    }
+
+    /// Its words at the end: word `0` is the roll, and word `v` that of node `v`.
+    pub fn words(&self) -> &[u64]
+        ensures { result.now ≡ machine_words self.now }
+    {
+        &self.words
+    }
+}

@@ -1,0 +1,60 @@
+//! The handles of a machine: its cube, its stations, and the subcubes that they hold.
+ghost use Rattle.std.specs.Prelude.{◌≡◌, ◌+◌, ◌^◌, ◌<◌, ◌≤◌, vec_len};
+ghost use Rattle.cube_core.specs.declared.phase.Phase.TheVariants.{Idle, Holding};
+ghost use Rattle.cube_core.specs.Held.{region_at};
+ghost use Rattle.cube_shape.specs.declared.limits.TheConstants.{MAX_DIM, MAX_STATIONS};
+ghost use Rattle.tree_steps.specs.Tree.{id_of};
+ghost use Rattle.cube_tree.specs.Seats.{IsSeatOf, IsBare};
+
+use cube_shape::Region;
+use tree_steps::{Seat, Tree};
+
+/// The status tree of a machine, shared by its stations. It cannot be dropped.
+pub struct Cube {
+    pub(crate) tree: Tree,
+    // What its loads of the roll found.
+    pub(crate) seat: Seat,
+    ghost own: { IsBare seat.me },
+    ghost table: { seat.table_id ≡ id_of tree },
+}
+
+/// One who takes and gives back the region of one node at a time; at the moment it has none. It cannot
+/// be dropped.
+pub struct Station {
+    pub(crate) number: u32,
+    pub(crate) seat: Seat,
+    ghost idle: { IsSeatOf number Idle seat.me },
+    ghost limit: { number < MAX_STATIONS },
+}
+
+/// The region that a station holds, with its station. It cannot be dropped.
+pub struct Subcube {
+    pub(crate) number: u32,
+    pub(crate) node: u64,
+    pub(crate) region: Region,
+    pub(crate) dim: u32,
+    pub(crate) seat: Seat,
+    ghost holds: { IsSeatOf number (Holding node) seat.me },
+    ghost limit: { number < MAX_STATIONS },
+    ghost positive: { 0 < node },
+    ghost in_cube: { node < 2 ^ (dim + 1) },
+    ghost words: { seat.table_id.words ≡ 2 ^ (dim + 1) },
+    ghost dim_in_limits: { dim ≤ MAX_DIM },
+    ghost named: { region ≡ region_at dim node },
+}
+
+/// The words of a machine of which all stations have retired.
+#[derive(Drop)]
+pub struct FreeMachine {
+    pub(crate) dim: u32,
+    pub(crate) words: Vec<u64>,
+    // What the loads of the roll found.
+    pub(crate) seat: Seat,
+}
+
+/// A cube that could not be closed: the stations whose bit the load of the roll found clear.
+pub struct StillOut {
+    pub cube: Cube,
+    /// Bit `s` is set for station `s`.
+    pub missing: u64,
+}

@@ -1,0 +1,77 @@
+//! Takes and releases of a station.
+ghost use Rattle.std.specs.Prelude.{◌≡◌, ◌<◌, ◌≤◌, ◌+◌, ◌^◌, IfOk, IfErr};
+ghost use Rattle.cube_shape.specs.Node.{IsInCube};
+ghost use Rattle.cube_core.specs.Held.{region_at};
+ghost use Rattle.cube_tree.specs.Handles.{cube_dim, station_entry, subcube_entry, held_node, held_region, IsStationOf, IsSubcubeOf, TakesNode, IsRefusedTry, GivesBack};
+
+use crate::handles::{Cube, Station, Subcube};
+use cube_shape::{MAX_DIM, Node, Region, region_of};
+use tree_steps::Why;
+
+// The region of a node.
+fn region_at_node(dim: u32, node: u64) -> Region
+    requires dim { dim ≤ MAX_DIM }
+    requires node { IsInCube dim node }
+    ensures { result ≡ region_at dim node }
+{
+    region_of(dim, Node(node))
+}
+
+impl Station {
+    /// Its number.
+    pub fn number(&self) -> u32
+        ensures { result ≡ (station_entry self.now).station }
+    {
+        self.number
+    }
+
+    /// One try to take the region of a node, with its roll-back where an ancestor is occupied.
+    pub fn try_node(self, cube: &Cube, node: Node) -> Result<Subcube, (Station, Why)>
+        requires cube { IsStationOf cube.now self }
+        requires node { IsInCube (cube_dim cube.now) node.0 }
+        ensures taken { IfOk result (TakesNode cube.now node.0 (station_entry self)) }
+        ensures back { IfErr result (λ refused. IsStationOf cube.now refused.0) }
+        ensures refused { IfErr result (λ refused.
+            IsRefusedTry (cube_dim cube.now) node.0 (station_entry self) (station_entry refused.0) refused.1) }
+    {
+        let Station { number, mut seat } = self;
+        match cube.tree.take(&mut seat, number, node.0) {
+            Ok(()) => {
+                let dim = cube.tree.size().dim;
+                Ok(Subcube {
+                    number,
+                    node: node.0,
+                    region: region_at_node(dim, node.0),
+                    dim,
+                    seat,
+                })
+            }
+            Err(why) => Err((Station { number, seat }, why)),
+        }
+    }
+}
+
+impl Subcube {
+    /// The region that is held.
+    pub fn region(&self) -> Region
+        ensures { result ≡ held_region self.now }
+    {
+        self.region
+    }
+
+    /// Gives the region back.
+    pub fn release(self, cube: &Cube) -> Station
+        requires { IsSubcubeOf cube.now self }
+        ensures { GivesBack cube.now (held_node self) (subcube_entry self) result }
+    {
+        let Subcube {
+            number,
+            node,
+            region: _,
+            dim: _,
+            mut seat,
+        } = self;
+        cube.tree.give_back(&mut seat, number, node);
+        Station { number, seat }
+    }
+}

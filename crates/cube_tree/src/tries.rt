@@ -1,0 +1,49 @@
+//! Takes of any region of a dimension.
+ghost use Rattle.std.specs.Prelude.{◌≡◌, ◌-◌, ◌^◌, ◌≤◌, IfOk, IfErr};
+ghost use Rattle.cube_tree.specs.Handles.{cube_dim, station_entry, IsStationOf};
+ghost use Rattle.cube_tree.specs.Tries.{TakesOne, IsRefusedAll};
+
+use crate::handles::{Cube, Station, Subcube};
+use crate::refusal::{Refusal, count};
+use cube_shape::{MAX_DIM, Node};
+
+// The number of regions of dimension `k`.
+fn region_count(cube: &Cube, k: u32) -> u64
+    requires { k ≤ cube_dim cube.now }
+    ensures value { result ≡ 2 ^ (cube_dim cube.now - k) }
+    ensures limit { result ≤ 2 ^ MAX_DIM }
+{
+    1 << (cube.tree.size().dim - k)
+}
+
+impl Station {
+    /// Tries the regions of dimension `k` one after another, from the first one on, until one is
+    /// taken. For `j = n - k` it makes at most `2^j * (3 + 7 * j)` events; where each region is refused,
+    /// the three counts are those of its `2^j` tries.
+    pub fn try_take(self, cube: &Cube, k: u32) -> Result<Subcube, (Station, Refusal)>
+        requires cube { IsStationOf cube.now self }
+        requires dim { k ≤ cube_dim cube.now }
+        ensures taken { IfOk result (TakesOne cube.now (cube_dim cube.now - k) (station_entry self)) }
+        ensures back { IfErr result (λ refused. IsStationOf cube.now refused.0) }
+        ensures refused { IfErr result (λ refused. IsRefusedAll (cube_dim cube.now) (cube_dim cube.now - k)
+            (station_entry self) (station_entry refused.0) refused.1) }
+    {
+        let nodes = region_count(cube, k);
+        let mut station = self;
+        let mut refusal = Refusal {
+            in_use: 0,
+            lost: 0,
+            under: 0,
+        };
+        for m in 0..nodes {
+            match station.try_node(cube, Node(nodes + m)) {
+                Ok(subcube) => return Ok(subcube),
+                Err((back, why)) => {
+                    station = back;
+                    refusal = count(refusal, why);
+                }
+            }
+        }
+        Err((station, refusal))
+    }
+}

@@ -1,0 +1,6 @@
+pub mod RuleLemmas
+pub mod EventLemmas
+pub mod WalkLemmas
+pub mod SeatLemmas
+pub mod BoundLemmas
+mod TreeLemmas

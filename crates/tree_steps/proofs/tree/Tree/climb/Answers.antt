@@ -1,0 +1,22 @@
+use Rattle.std.proofs.Common.{rules, arith}
+use Rattle.tree_steps.proofs.EventLemmas.{walks_on, path_up}
+use Rattle.tree_steps.proofs.WalkLemmas.{answered_before}
+use Rattle.tree_steps.proofs.tree.Tree.climb.Goals as goal
+
+pub pass-requires-clause-on_path : goal.pass-requires-clause-on_path
+pass-requires-clause-on_path c = path_up c.loop-at.at c.args.node c.loop-at-test.true c.loop-at.invariant.on_path
+
+pub returns-then-not-pass-clause-walks : goal.returns-then-not-pass-clause-walks
+returns-then-not-pass-clause-walks c = walks_on c.loop-at.invariant.walks c.pass.ensures.walks
+
+pub returns-then-not-pass-clause-refused : goal.returns-then-not-pass-clause-refused
+returns-then-not-pass-clause-refused c = answered_before c.loop-at.invariant.walks c.if-not-pass.ensures.refused
+
+pub loop-at-preserved : goal.loop-at-preserved
+loop-at-preserved c = record {
+  same = search rules;
+  walks = walks_on c.loop-at.invariant.walks c.pass.ensures.walks;
+  phase = c.if-not-pass.ensures.phase;
+  positive = omega (arith, c.loop-at-test.true);
+  on_path = path_up c.loop-at.at c.args.node c.loop-at-test.true c.loop-at.invariant.on_path;
+}

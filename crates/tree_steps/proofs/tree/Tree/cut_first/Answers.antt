@@ -1,0 +1,7 @@
+use Rattle.std.proofs.Common.{rules}
+use Rattle.tree_steps.proofs.SeatLemmas.{cuts_first}
+use Rattle.tree_steps.proofs.TreeLemmas.{roll_word}
+use Rattle.tree_steps.proofs.tree.Tree.cut_first.Goals as goal
+
+pub split_seat-requires : goal.split_seat-requires
+split_seat-requires c = (search rules, roll_word c.args.self.now, cuts_first _ _ _)

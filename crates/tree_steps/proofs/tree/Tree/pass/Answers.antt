@@ -1,0 +1,9 @@
+use Rattle.tree_steps.proofs.EventLemmas.{walks_on, on_false_so}
+use Rattle.tree_steps.proofs.WalkLemmas.{answered_before}
+use Rattle.tree_steps.proofs.tree.Tree.pass.Goals as goal
+
+pub returns-clause-walks : goal.returns-clause-walks
+returns-clause-walks c = walks_on c.sweep.ensures.walks c.raise.ensures.walks
+
+pub returns-clause-refused : goal.returns-clause-refused
+returns-clause-refused c = on_false_so c.raise.result (answered_before c.sweep.ensures.walks) c.raise.ensures.refused

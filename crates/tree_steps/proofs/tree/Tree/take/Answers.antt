@@ -1,0 +1,23 @@
+use Rattle.cube_core.specs.declared.phase.Phase.TheVariants.{Looking}
+use Rattle.std.proofs.Common.{◌∙◌}
+use Rattle.tree_steps.proofs.EventLemmas.{walks_on}
+use Rattle.tree_steps.proofs.WalkLemmas.{station_of_begun, answered_begun, answered_after}
+use Rattle.tree_steps.proofs.tree.Tree.take.Goals as goal
+
+pub returns-then-not-claim-clause-walks : goal.returns-then-not-claim-clause-walks
+returns-then-not-claim-clause-walks c = walks_on c.look.ensures.walks c.claim.ensures.walks
+
+pub returns-then-not-claim-clause-refused : goal.returns-then-not-claim-clause-refused
+returns-then-not-claim-clause-refused c = answered_begun (Looking c.args.node) c.args.seat.now.me c.look.ensures.walks c.if-not-claim.ensures.refused
+
+pub returns-in_default-climb-clause-walks : goal.returns-in_default-climb-clause-walks
+returns-in_default-climb-clause-walks c = walks_on (walks_on c.look.ensures.walks c.claim.ensures.walks) c.climb.ensures.walks
+
+pub back_out-requires-clause-station : goal.back_out-requires-clause-station
+back_out-requires-clause-station c = station_of_begun (Looking c.args.node) c.args.seat.now.me (walks_on (walks_on c.look.ensures.walks c.claim.ensures.walks) c.climb.ensures.walks) ∙ c.requires.station
+
+pub returns-clause-walks : goal.returns-clause-walks
+returns-clause-walks c = walks_on (walks_on (walks_on c.look.ensures.walks c.claim.ensures.walks) c.climb.ensures.walks) c.back_out.ensures.walks
+
+pub returns-clause-refused : goal.returns-clause-refused
+returns-clause-refused c = answered_begun (Looking c.args.node) c.args.seat.now.me (walks_on c.look.ensures.walks c.claim.ensures.walks) (answered_after c.in-Some-climb.ensures.refused c.back_out.ensures.walks)

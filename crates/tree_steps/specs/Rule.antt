@@ -1,0 +1,78 @@
+-- What holds between any two steps: some schedule of the tree as a pure machine leads to these words and
+-- phases, and the trail of each station is its events in that schedule.
+use Rattle.std.specs.Prelude.{◌≡◌, ℕ, zero, suc, ◌+◌, ◌<◌, ◌≤◌, ◌==◌, if◌then◌else◌, true, false, List, [], ◌∷◌, ◌++◌, length, All}
+use Rattle.atomic_table.specs.Table.{State as Table, Me}
+use Rattle.cube_core.specs.declared.act.Act.{Act}
+use Rattle.cube_core.specs.declared.phase.Phase.TheVariants.{Idle, Retired}
+use Rattle.cube_core.specs.Phase.{IsAtRest}
+use Rattle.cube_core.specs.Schedule.{Record, State, record_of, word_of, initial, apply_all}
+use Rattle.tree_steps.specs.declared.view.Entry.{Entry}
+use Rattle.tree_steps.specs.declared.view.View.{View}
+use Rattle.tree_steps.specs.declared.view.Size.{Size}
+
+-- the record that an entry is
+abbrev pub record_in : Entry → Record
+record_in e = record { phase = e.phase; trail = e.trail }
+
+-- the first entry, and the others
+abbrev pub first : List Entry → Entry
+first [] = record { station = 0; phase = Retired; trail = [] }
+first (e ∷ rest) = e
+
+abbrev pub others : List Entry → List Entry
+others [] = []
+others (e ∷ rest) = rest
+
+-- how many entries are of station s, in a list and in all views
+abbrev pub times : ℕ → List Entry → ℕ
+times s [] = 0
+times s (e ∷ rest) = (if e.station == s then 1 else 0) + times s rest
+
+abbrev pub times_in : ℕ → List View → ℕ
+times_in s [] = 0
+times_in s (v ∷ rest) = times s v.stations + times_in s rest
+
+-- the world after a schedule
+abbrev pub world_after : Size → List Act → State
+world_after k acts = apply_all acts (initial k.dim k.stations)
+
+-- the entry is the record of its station
+abbrev pub IsEntryOf : Size → List Act → Entry → Type 0
+IsEntryOf k acts e = (e.station < k.stations) × (record_of (world_after k acts) e.station ≡ record_in e)
+
+-- the roll was x after an earlier part of the schedule
+pub record WasRoll (k : Size) (acts : List Act) (x : ℕ) : Type 0 where
+  pub later : List Act
+  pub earlier : List Act
+  pub split : acts ≡ later ++ earlier
+  pub found : word_of (world_after k earlier) 0 ≡ x
+
+-- all stations below the count are here, each once, and all but the first are at rest
+pub record AreAll (count : ℕ) (entries : List Entry) : Type 0 where
+  pub present : (s : ℕ) → s < count → times s entries ≡ 1
+  pub resting : All (λ e. IsAtRest e.phase) (others entries)
+
+-- what a seat knows is so
+pub record IsView (k : Size) (acts : List Act) (v : View) : Type 0 where
+  pub stations : All (IsEntryOf k acts) v.stations
+  pub loads : All (WasRoll k acts) v.loads
+  pub alone : v.alone ≡ true → AreAll k.stations v.stations
+
+-- the rule of the table
+pub record IsRuled (k : Size) (t : Table (Unit {0}) View) : Type 0 where
+  pub acts : List Act
+  pub words : t.words ≡ (world_after k acts).words
+  pub views : All (IsView k acts) t.views
+  -- no station steps with two seats
+  pub once : (s : ℕ) → times_in s t.views ≤ 1
+
+-- the view of the first seat: all stations are with it, idle and with no event
+abbrev pub idle_entry : ℕ → Entry
+idle_entry s = record { station = s; phase = Idle; trail = [] }
+
+abbrev pub idle_entries : ℕ → ℕ → List Entry
+idle_entries s zero = []
+idle_entries s (suc count) = idle_entry s ∷ idle_entries (suc s) count
+
+abbrev pub first_view : Size → View
+first_view k = record { stations = idle_entries 0 k.stations; loads = []; alone = false }

@@ -1,0 +1,239 @@
+//! The events of a station, one atomic step each.
+ghost use Rattle.std.specs.Prelude.{◌≡◌, ◌≢◌, ℕ, ◌+◌, ◌*◌, ◌^◌, ◌<◌, MatchOption, MatchBool, IfNone};
+ghost use Rattle.std.specs.Bool.{OnFalse};
+ghost use Rattle.cube_shape.specs.Node.{IsInCube, OnPath};
+ghost use Rattle.status_word.specs.Word.{mark_bit, side_bit};
+ghost use Rattle.cube_core.specs.Event.{phase_after_raise, phase_after_zero, seen_at};
+ghost use Rattle.tree_steps.specs.Steps.{IsAt, Walks, Answered, begin, first_of, retire_at};
+ghost use Rattle.tree_steps.specs.Tree.{id_of, dim_of};
+
+use crate::rule::{Look, Next, Retire, Zero};
+use crate::tree::{Seat, Tree};
+use cube_core::{Kind, Note, Phase, Seen};
+use cube_shape::{MAX_STATIONS, Node, Side, child_towards, side};
+use status_word::Word;
+
+// The bits of use, and those of one side and of one mark.
+const USE_BITS: u64 = 7;
+
+fn bit_of_side(side: Side) -> u64
+    ensures { result ≡ 2 ^ side_bit side }
+{
+    match side {
+        Side::Left => 2,
+        Side::Right => 4,
+    }
+}
+
+fn bit_of_mark(station: u32) -> u64
+    requires { station < MAX_STATIONS }
+    ensures { result ≡ 2 ^ mark_bit station }
+{
+    1 << (8 + station)
+}
+
+fn bit_of_retirement(station: u32) -> u64
+    requires { station < MAX_STATIONS }
+    ensures { result ≡ 2 ^ station }
+{
+    1 << station
+}
+
+// What a station sees of a child whose word this is.
+fn see(word: u64) -> Seen
+    ensures { result ≡ seen_at word }
+{
+    if Word(word).is_free() {
+        Seen::Free
+    } else {
+        Seen::Used
+    }
+}
+
+impl Tree {
+    /// A load of the node that a take is about: its word, if it is free.
+    pub fn look(&self, seat: &mut Seat, node: u64) -> Option<u64>
+        requires seat { seat.old.table_id ≡ id_of self.now }
+        requires phase { IsAt seat.old.me Phase.Idle }
+        requires node { IsInCube (dim_of self.now) node }
+        ensures seat { seat.new.table_id ≡ seat.old.table_id }
+        ensures walks { Walks (begin (Phase.Looking node) seat.old.me) seat.new.me }
+        ensures phase { MatchOption result (IsAt seat.new.me Phase.Idle)
+            (λ word. IsAt seat.new.me (Phase.Looked node word)) }
+        ensures refused { IfNone result (Answered Kind.Look node Note.InUse (first_of seat.old.me) (first_of seat.new.me)) }
+    {
+        let word = self.table.shared.load::<Look>(seat, node as usize);
+        if Word(word).is_free() {
+            Some(word)
+        } else {
+            None
+        }
+    }
+
+    /// One exchange of the word that the look found: whether it was won.
+    pub fn claim(&self, seat: &mut Seat, node: u64, word: u64) -> bool
+        requires seat { seat.old.table_id ≡ id_of self.now }
+        requires phase { IsAt seat.old.me (Phase.Looked node word) }
+        requires node { IsInCube (dim_of self.now) node }
+        ensures seat { seat.new.table_id ≡ seat.old.table_id }
+        ensures walks { Walks seat.old.me seat.new.me }
+        ensures phase { MatchBool result (IsAt seat.new.me (phase_after_raise node node)) (IsAt seat.new.me Phase.Idle) }
+        ensures refused { OnFalse result (Answered Kind.Claim node Note.Lost (first_of seat.old.me) (first_of seat.new.me)) }
+    {
+        self.table
+            .shared
+            .compare_exchange::<Next>(seat, node as usize, word, Word::BUSY.0)
+            == word
+    }
+
+    /// All marks of an ancestor go, before the side is raised there.
+    pub fn sweep(&self, seat: &mut Seat, _node: u64, at: u64)
+        requires seat { seat.old.table_id ≡ id_of self.now }
+        requires phase { IsAt seat.old.me (Phase.Climbing _node at) }
+        requires node { IsInCube (dim_of self.now) at }
+        ensures seat { seat.new.table_id ≡ seat.old.table_id }
+        ensures walks { Walks seat.old.me seat.new.me }
+        ensures phase { IsAt seat.new.me (Phase.Swept _node at) }
+    {
+        self.table
+            .shared
+            .fetch_and::<Next>(seat, at as usize, USE_BITS);
+    }
+
+    /// The side towards the node is set at an ancestor: whether that was not occupied.
+    pub fn raise(&self, seat: &mut Seat, node: u64, at: u64) -> bool
+        requires seat { seat.old.table_id ≡ id_of self.now }
+        requires phase { IsAt seat.old.me (Phase.Swept node at) }
+        requires node { IsInCube (dim_of self.now) at }
+        requires above { at < node }
+        requires on_path { OnPath at node }
+        ensures seat { seat.new.table_id ≡ seat.old.table_id }
+        ensures walks { Walks seat.old.me seat.new.me }
+        ensures phase { MatchBool result (IsAt seat.new.me (phase_after_raise node at)) (IsAt seat.new.me (Phase.Backing node at)) }
+        ensures refused { OnFalse result (Answered Kind.Raise at Note.Under (first_of seat.old.me) (first_of seat.new.me)) }
+    {
+        let bit = bit_of_side(side(child_towards(Node(at), Node(node))));
+        let found = self.table.shared.fetch_or::<Next>(seat, at as usize, bit);
+        !Word(found).is_occupied()
+    }
+
+    /// The node of a region that is held is given back.
+    pub fn zero_held(&self, seat: &mut Seat, node: u64)
+        requires seat { seat.old.table_id ≡ id_of self.now }
+        requires phase { IsAt seat.old.me (Phase.Holding node) }
+        requires node { IsInCube (dim_of self.now) node }
+        ensures seat { seat.new.table_id ≡ seat.old.table_id }
+        ensures walks { Walks (begin (Phase.Leaving node) seat.old.me) seat.new.me }
+        ensures phase { IsAt seat.new.me (phase_after_zero node) }
+    {
+        self.table.shared.store::<Zero>(seat, node as usize, 0);
+    }
+
+    /// A node is given back that an occupied ancestor stands above.
+    pub fn zero_back(&self, seat: &mut Seat, node: u64, _at: u64)
+        requires seat { seat.old.table_id ≡ id_of self.now }
+        requires phase { IsAt seat.old.me (Phase.Backing node _at) }
+        requires node { IsInCube (dim_of self.now) node }
+        ensures seat { seat.new.table_id ≡ seat.old.table_id }
+        ensures walks { Walks seat.old.me seat.new.me }
+        ensures phase { IsAt seat.new.me (phase_after_zero node) }
+    {
+        self.table.shared.store::<Next>(seat, node as usize, 0);
+    }
+
+    /// All marks of a node on the way up after a node was given back go.
+    pub fn unmark(&self, seat: &mut Seat, at: u64)
+        requires seat { seat.old.table_id ≡ id_of self.now }
+        requires phase { IsAt seat.old.me (Phase.Arriving at) }
+        requires node { IsInCube (dim_of self.now) at }
+        ensures seat { seat.new.table_id ≡ seat.old.table_id }
+        ensures walks { Walks seat.old.me seat.new.me }
+        ensures phase { IsAt seat.new.me (Phase.Unmarked at) }
+    {
+        self.table
+            .shared
+            .fetch_and::<Next>(seat, at as usize, USE_BITS);
+    }
+
+    /// The station's mark is set: the word that it made, unless the node is occupied.
+    pub fn mark(&self, seat: &mut Seat, station: u32, at: u64) -> Option<u64>
+        requires seat { seat.old.table_id ≡ id_of self.now }
+        requires phase { IsAt seat.old.me (Phase.Unmarked at) }
+        requires station { (first_of seat.old.me).station ≡ station }
+        requires limit { station < MAX_STATIONS }
+        requires node { IsInCube (dim_of self.now) at }
+        ensures seat { seat.new.table_id ≡ seat.old.table_id }
+        ensures walks { Walks seat.old.me seat.new.me }
+        ensures phase { MatchOption result (IsAt seat.new.me Phase.Idle)
+            (λ word. IsAt seat.new.me (Phase.Marked at word Seen.NotYet Seen.NotYet)) }
+    {
+        let bit = bit_of_mark(station);
+        let found = self.table.shared.fetch_or::<Next>(seat, at as usize, bit);
+        if Word(found).is_occupied() {
+            None
+        } else {
+            Some(found | bit)
+        }
+    }
+
+    /// A load of the left child of the node where the station is marked.
+    pub fn look_left(&self, seat: &mut Seat, at: u64, _word: u64) -> Seen
+        requires seat { seat.old.table_id ≡ id_of self.now }
+        requires phase { IsAt seat.old.me (Phase.Marked at _word Seen.NotYet Seen.NotYet) }
+        requires node { 2 * at + 1 < 2 ^ (dim_of self.now + 1) }
+        ensures seat { seat.new.table_id ≡ seat.old.table_id }
+        ensures walks { Walks seat.old.me seat.new.me }
+        ensures phase { IsAt seat.new.me (Phase.Marked at _word result Seen.NotYet) }
+        ensures seen { result ≢ Seen.NotYet }
+    {
+        see(self.table.shared.load::<Next>(seat, 2 * at as usize))
+    }
+
+    /// A load of the right child, once the left one was seen.
+    pub fn look_right(&self, seat: &mut Seat, at: u64, _word: u64, _left: Seen) -> Seen
+        requires seat { seat.old.table_id ≡ id_of self.now }
+        requires phase { IsAt seat.old.me (Phase.Marked at _word _left Seen.NotYet) }
+        requires left { _left ≢ Seen.NotYet }
+        requires node { 2 * at + 1 < 2 ^ (dim_of self.now + 1) }
+        ensures seat { seat.new.table_id ≡ seat.old.table_id }
+        ensures walks { Walks seat.old.me seat.new.me }
+        ensures phase { IsAt seat.new.me (Phase.Marked at _word _left result) }
+        ensures seen { result ≢ Seen.NotYet }
+    {
+        see(self.table.shared.load::<Next>(seat, 2 * at as usize + 1))
+    }
+
+    /// One exchange of the word that the mark made for the word without its marks and without each
+    /// side whose child was seen free: whether the node has become free by it.
+    pub fn clear(&self, seat: &mut Seat, at: u64, word: u64, left: Seen, right: Seen) -> bool
+        requires seat { seat.old.table_id ≡ id_of self.now }
+        requires phase { IsAt seat.old.me (Phase.Marked at word left right) }
+        requires left { left ≢ Seen.NotYet }
+        requires right { right ≢ Seen.NotYet }
+        requires node { IsInCube (dim_of self.now) at }
+        ensures seat { seat.new.table_id ≡ seat.old.table_id }
+        ensures walks { Walks seat.old.me seat.new.me }
+        ensures phase { MatchBool result (IsAt seat.new.me (phase_after_zero at)) (IsAt seat.new.me Phase.Idle) }
+    {
+        let cleared = Word(word).cleared(left.is_free(), right.is_free());
+        let found = self.table
+            .shared
+            .compare_exchange::<Next>(seat, at as usize, word, cleared.0);
+        let won = found == word;
+        let free = cleared.is_free();
+        won & free
+    }
+
+    /// The bit of an idle station is set in the roll; it makes no event any more.
+    pub fn retire(&self, seat: &mut Seat, station: u32)
+        requires seat { seat.old.table_id ≡ id_of self.now }
+        requires phase { IsAt seat.old.me Phase.Idle }
+        requires station { (first_of seat.old.me).station ≡ station }
+        requires limit { station < MAX_STATIONS }
+        ensures seat { seat.new.table_id ≡ seat.old.table_id }
+        ensures retires { (found : ℕ) × (seat.new.me ≡ retire_at found seat.old.me) }
+    {
+        let bit = bit_of_retirement(station);
+        self.table.shared.fetch_or::<Retire>(seat, 0, bit);
+    }
+}

@@ -1,0 +1,15 @@
+//! The atomic steps of stations on the shared words of a status tree.
+#![tactic(auto)]
+
+mod events;
+mod rule;
+mod seats;
+mod takes;
+mod tree;
+mod view;
+mod why;
+
+pub use rule::TreeRule;
+pub use tree::{Seat, Tree};
+pub use view::{Entry, Size, View};
+pub use why::Why;

@@ -1,0 +1,85 @@
+//! The rule of the table, what its steps tell, and how its seats are cut and joined.
+ghost use Rattle.tree_steps.specs.Rule.{IsRuled, first_view};
+ghost use Rattle.tree_steps.specs.Steps.{makes_next, makes_look, makes_zero, makes_retirement, keeps_load, tells_apart, without_first, only_first, without_stations, joined, blank};
+
+use crate::view::{Size, View};
+use atomic_table::{Join, Play, Split, TableRule};
+
+/// What holds of the words and of all views between any two steps: some schedule of the tree as a pure
+/// machine leads to these words and phases, and each station's trail is its events in that schedule.
+pub struct TreeRule;
+
+impl TableRule<(), View, Size> for TreeRule {
+    ghost holds = { IsRuled };
+
+    ghost first = { first_view };
+}
+
+/// The first station makes the event of its phase.
+pub struct Next;
+
+impl Play<(), View> for Next {
+    ghost then = { makes_next };
+}
+
+/// The first station, which is idle, begins a take and looks at the node.
+pub struct Look;
+
+impl Play<(), View> for Look {
+    ghost then = { makes_look };
+}
+
+/// The first station, which holds a region, begins a release and gives its node back.
+pub struct Zero;
+
+impl Play<(), View> for Zero {
+    ghost then = { makes_zero };
+}
+
+/// The first station, which is idle, retires.
+pub struct Retire;
+
+impl Play<(), View> for Retire {
+    ghost then = { makes_retirement };
+}
+
+/// The roll is loaded; no station makes an event.
+pub struct LoadRoll;
+
+impl Play<(), View> for LoadRoll {
+    ghost then = { keeps_load };
+}
+
+/// A load that tells that what two stations hold is apart.
+pub struct Compare;
+
+impl Play<(), View> for Compare {
+    ghost then = { tells_apart };
+}
+
+/// The first station gets a seat of its own.
+pub struct CutFirst;
+
+impl Split<View> for CutFirst {
+    ghost left = { without_first };
+
+    ghost right = { only_first };
+}
+
+/// What was loaded is known to a second seat.
+pub struct CopyLoads;
+
+impl Split<View> for CopyLoads {
+    ghost left = { λ v. v };
+
+    ghost right = { without_stations };
+}
+
+/// The stations of two seats step with one.
+pub struct Merge;
+
+impl Join<View> for Merge {
+    ghost both = { joined };
+
+    ghost spent = { blank };
+}

@@ -1,0 +1,108 @@
+//! Seats are made, cut and joined, the roll is loaded, and the tree is closed.
+ghost use Rattle.std.specs.Prelude.{◌≡◌, ℕ, ◌+◌, ◌^◌, ◌<◌, ◌≤◌, [], ◌∷◌, slice_index, vec_len, IfOk};
+ghost use Rattle.tree_steps.specs.Rule.{first_view};
+ghost use Rattle.tree_steps.specs.Steps.{KeepsLoad, AreOffPath, HasWholeRoll, joined, only_first, without_first, without_stations};
+ghost use Rattle.tree_steps.specs.Tree.{id_of, dim_of, size_of, station_count};
+ghost use Rattle.tree_steps.specs.declared.view.Entry.{Entry};
+
+use crate::rule::{Compare, CopyLoads, CutFirst, LoadRoll, Merge};
+use crate::tree::{Seat, Tree};
+use crate::view::Size;
+use atomic_table::Table;
+use cube_shape::{MAX_DIM, MAX_STATIONS};
+use std::alloc::{AllocError, Global};
+
+impl Tree {
+    /// A tree of this size whose words are all 0, and a seat that all its stations, idle, step with.
+    pub fn open(alloc: Global, size: Size) -> Result<(Tree, Seat), AllocError>
+        requires dim { size.dim ≤ MAX_DIM }
+        requires stations { size.stations ≤ MAX_STATIONS }
+        ensures size { IfOk result (λ made. size_of made.0 ≡ size) }
+        ensures seat { IfOk result (λ made. made.1.table_id ≡ id_of made.0) }
+        ensures view { IfOk result (λ made. made.1.me ≡ (first_view size, [])) }
+    {
+        let room = vec![in alloc; 0; 1 << (size.dim + 1)]?;
+        let (table, seat) = Table::of_words(alloc, &room, &size)?;
+        Ok((Tree { table, size, room }, seat))
+    }
+
+    /// The dimension of the machine and the number of its stations.
+    pub fn size(&self) -> Size
+        ensures { result ≡ size_of self.now }
+    {
+        self.size
+    }
+
+    /// The first station gets a seat of its own.
+    pub fn cut_first(&self, seat: &mut Seat) -> Seat
+        requires { seat.old.table_id ≡ id_of self.now }
+        ensures seat { seat.new.table_id ≡ seat.old.table_id }
+        ensures kept { seat.new.me ≡ (without_first seat.old.me.0, seat.old.me.1) }
+        ensures other { result.table_id ≡ seat.old.table_id }
+        ensures cut { result.me ≡ (only_first seat.old.me.0, []) }
+    {
+        self.table.shared.split_seat::<CutFirst>(seat)
+    }
+
+    /// A second seat that knows what was loaded.
+    pub fn copy_loads(&self, seat: &mut Seat) -> Seat
+        requires { seat.old.table_id ≡ id_of self.now }
+        ensures seat { seat.new.table_id ≡ seat.old.table_id }
+        ensures kept { seat.new.me ≡ seat.old.me }
+        ensures other { result.table_id ≡ seat.old.table_id }
+        ensures copy { result.me ≡ (without_stations seat.old.me.0, []) }
+    {
+        self.table.shared.split_seat::<CopyLoads>(seat)
+    }
+
+    /// The stations of the other seat step with this one, after its own.
+    pub fn merge(&self, seat: &mut Seat, other: Seat)
+        requires seat { seat.old.table_id ≡ id_of self.now }
+        requires other { other.table_id ≡ id_of self.now }
+        requires slots { other.me.1 ≡ [] }
+        ensures seat { seat.new.table_id ≡ seat.old.table_id }
+        ensures merged { seat.new.me ≡ (joined seat.old.me.0 other.me.0, seat.old.me.1) }
+    {
+        self.table.shared.join_seat::<Merge>(seat, other);
+    }
+
+    /// A load that changes nothing. If two stations step with this seat and both hold regions, the
+    /// node of neither is on the path to the other's.
+    pub fn compare(&self, seat: &mut Seat)
+        requires { seat.old.table_id ≡ id_of self.now }
+        ensures seat { seat.new.table_id ≡ seat.old.table_id }
+        ensures same { seat.new.me ≡ seat.old.me }
+        ensures apart { (a b : Entry) → seat.old.me.0.stations ≡ a ∷ b ∷ [] → AreOffPath a b }
+    {
+        self.table.shared.load::<Compare>(seat, 0);
+    }
+
+    /// A load of the roll, which the seat keeps.
+    pub fn load_roll(&self, seat: &mut Seat) -> u64
+        requires { seat.old.table_id ≡ id_of self.now }
+        ensures seat { seat.new.table_id ≡ seat.old.table_id }
+        ensures loads { KeepsLoad seat.old.me result seat.new.me }
+    {
+        self.table.shared.load::<LoadRoll>(seat, 0)
+    }
+
+    /// The words at the end, once a load of the roll has found the bit of each station.
+    pub fn close(self, seat: Seat) -> Vec<u64>
+        requires seat { seat.table_id ≡ id_of self }
+        requires retired { HasWholeRoll (station_count self) seat.me }
+        ensures len { vec_len result ≡ 2 ^ (dim_of self + 1) }
+        ensures nodes { (node : ℕ) → 0 < node → slice_index result.items node ≡ 0 }
+    {
+        let Tree {
+            table,
+            size: _,
+            mut room,
+        } = self;
+        let closed = table.close_with(seat);
+        for node in 0..room.len() {
+            room[node] = closed.word(node);
+        }
+        closed.free();
+        room
+    }
+}

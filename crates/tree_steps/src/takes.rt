@@ -1,0 +1,148 @@
+//! Takes and releases, event by event.
+ghost use Rattle.std.specs.Prelude.{◌≡◌, ◌+◌, ◌*◌, ◌^◌, ◌<◌, MatchBool, MatchOption, MatchResult, IfSome, IfErr};
+ghost use Rattle.std.specs.Bool.{OnFalse};
+ghost use Rattle.cube_shape.specs.Node.{IsInCube, OnPath};
+ghost use Rattle.cube_core.specs.Event.{phase_after_raise, phase_after_zero};
+ghost use Rattle.tree_steps.specs.Steps.{IsAt, Walks, Answered, begin, first_of};
+ghost use Rattle.tree_steps.specs.Answer.{IsAnswered};
+ghost use Rattle.tree_steps.specs.Tree.{id_of, dim_of};
+
+use crate::tree::{Seat, Tree};
+use crate::why::Why;
+use cube_core::{Kind, Note, Phase};
+use cube_shape::{MAX_STATIONS, Node};
+
+impl Tree {
+    /// One take of a node. Where an ancestor is occupied, the node is given back at once.
+    pub fn take(&self, seat: &mut Seat, station: u32, node: u64) -> Result<(), Why>
+        requires seat { seat.old.table_id ≡ id_of self.now }
+        requires phase { IsAt seat.old.me Phase.Idle }
+        requires station { (first_of seat.old.me).station ≡ station }
+        requires limit { station < MAX_STATIONS }
+        requires node { IsInCube (dim_of self.now) node }
+        ensures seat { seat.new.table_id ≡ seat.old.table_id }
+        ensures walks { Walks (begin (Phase.Looking node) seat.old.me) seat.new.me }
+        ensures phase { MatchResult result (λ _. IsAt seat.new.me (Phase.Holding node)) (λ _. IsAt seat.new.me Phase.Idle) }
+        ensures refused { IfErr result (λ why. IsAnswered why node (first_of seat.old.me) (first_of seat.new.me)) }
+    {
+        let Some(word) = self.look(seat, node) else {
+            return Err(Why::InUse);
+        };
+        if !self.claim(seat, node, word) {
+            return Err(Why::Lost);
+        }
+        let Some(at) = self.climb(seat, node) else {
+            return Ok(());
+        };
+        self.back_out(seat, station, node, at);
+        Err(Why::Under(Node(at)))
+    }
+
+    /// Gives back the region of a node that is held.
+    pub fn give_back(&self, seat: &mut Seat, station: u32, node: u64)
+        requires seat { seat.old.table_id ≡ id_of self.now }
+        requires phase { IsAt seat.old.me (Phase.Holding node) }
+        requires station { (first_of seat.old.me).station ≡ station }
+        requires limit { station < MAX_STATIONS }
+        requires node { IsInCube (dim_of self.now) node }
+        ensures seat { seat.new.table_id ≡ seat.old.table_id }
+        ensures walks { Walks (begin (Phase.Leaving node) seat.old.me) seat.new.me }
+        ensures phase { IsAt seat.new.me Phase.Idle }
+    {
+        self.zero_held(seat, node);
+        self.tidy_up(seat, station, node);
+    }
+
+    // Up from a node that was claimed: none where the station holds it, or the ancestor that was
+    // occupied.
+    fn climb(&self, seat: &mut Seat, node: u64) -> Option<u64>
+        requires seat { seat.old.table_id ≡ id_of self.now }
+        requires phase { IsAt seat.old.me (phase_after_raise node node) }
+        requires node { IsInCube (dim_of self.now) node }
+        ensures seat { seat.new.table_id ≡ seat.old.table_id }
+        ensures walks { Walks seat.old.me seat.new.me }
+        ensures phase { MatchOption result (IsAt seat.new.me (Phase.Holding node)) (λ at. IsAt seat.new.me (Phase.Backing node at)) }
+        ensures refused { IfSome result (λ at. Answered Kind.Raise at Note.Under (first_of seat.old.me) (first_of seat.new.me)) }
+    {
+        let mut at = node;
+        while at > 1 {
+            at /= 2;
+            if !self.pass(seat, node, at) {
+                return Some(at);
+            }
+        }
+        None
+    }
+
+    // A sweep and a raise at one ancestor: whether it was not occupied.
+    fn pass(&self, seat: &mut Seat, node: u64, at: u64) -> bool
+        requires seat { seat.old.table_id ≡ id_of self.now }
+        requires phase { IsAt seat.old.me (Phase.Climbing node at) }
+        requires node { IsInCube (dim_of self.now) at }
+        requires above { at < node }
+        requires on_path { OnPath at node }
+        ensures seat { seat.new.table_id ≡ seat.old.table_id }
+        ensures walks { Walks seat.old.me seat.new.me }
+        ensures phase { MatchBool result (IsAt seat.new.me (phase_after_raise node at)) (IsAt seat.new.me (Phase.Backing node at)) }
+        ensures refused { OnFalse result (Answered Kind.Raise at Note.Under (first_of seat.old.me) (first_of seat.new.me)) }
+    {
+        self.sweep(seat, node, at);
+        self.raise(seat, node, at)
+    }
+
+    // Gives back a node above which an ancestor was occupied.
+    fn back_out(&self, seat: &mut Seat, station: u32, node: u64, at: u64)
+        requires seat { seat.old.table_id ≡ id_of self.now }
+        requires phase { IsAt seat.old.me (Phase.Backing node at) }
+        requires station { (first_of seat.old.me).station ≡ station }
+        requires limit { station < MAX_STATIONS }
+        requires node { IsInCube (dim_of self.now) node }
+        ensures seat { seat.new.table_id ≡ seat.old.table_id }
+        ensures walks { Walks seat.old.me seat.new.me }
+        ensures phase { IsAt seat.new.me Phase.Idle }
+    {
+        self.zero_back(seat, node, at);
+        self.tidy_up(seat, station, node);
+    }
+
+    // Up from a node that was given back, for as long as the ancestors become free.
+    fn tidy_up(&self, seat: &mut Seat, station: u32, node: u64)
+        requires seat { seat.old.table_id ≡ id_of self.now }
+        requires phase { IsAt seat.old.me (phase_after_zero node) }
+        requires station { (first_of seat.old.me).station ≡ station }
+        requires limit { station < MAX_STATIONS }
+        requires node { IsInCube (dim_of self.now) node }
+        ensures seat { seat.new.table_id ≡ seat.old.table_id }
+        ensures walks { Walks seat.old.me seat.new.me }
+        ensures phase { IsAt seat.new.me Phase.Idle }
+    {
+        let mut at = node;
+        while at > 1 {
+            at /= 2;
+            if !self.tidy(seat, station, at) {
+                return;
+            }
+        }
+    }
+
+    // Clears one ancestor: whether it became free by that.
+    fn tidy(&self, seat: &mut Seat, station: u32, at: u64) -> bool
+        requires seat { seat.old.table_id ≡ id_of self.now }
+        requires phase { IsAt seat.old.me (Phase.Arriving at) }
+        requires station { (first_of seat.old.me).station ≡ station }
+        requires limit { station < MAX_STATIONS }
+        requires positive { 0 < at }
+        requires node { 2 * at + 1 < 2 ^ (dim_of self.now + 1) }
+        ensures seat { seat.new.table_id ≡ seat.old.table_id }
+        ensures walks { Walks seat.old.me seat.new.me }
+        ensures phase { MatchBool result (IsAt seat.new.me (phase_after_zero at)) (IsAt seat.new.me Phase.Idle) }
+    {
+        self.unmark(seat, at);
+        let Some(word) = self.mark(seat, station, at) else {
+            return false;
+        };
+        let left = self.look_left(seat, at, word);
+        let right = self.look_right(seat, at, word, left);
+        self.clear(seat, at, word, left, right)
+    }
+}

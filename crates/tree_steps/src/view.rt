@@ -1,0 +1,27 @@
+use cube_core::{Event, Phase};
+use std::collections::LinkedList;
+
+/// What a seat at the table knows of a station: its phase, and all its events, the newest first. No
+/// value of it is made.
+pub struct Entry {
+    pub station: u64,
+    pub phase: Phase,
+    pub trail: LinkedList<Event>,
+}
+
+/// What a seat at the table knows. No value of it is made.
+pub struct View {
+    /// The stations that step with this seat, the one that steps next first.
+    pub stations: LinkedList<Entry>,
+    /// What its loads of the roll found, the newest first.
+    pub loads: LinkedList<u64>,
+    /// Whether all stations are known to be with this seat, all but the first of them at rest.
+    pub alone: bool,
+}
+
+/// The dimension of a machine and the number of its stations.
+#[derive(Clone, Copy, Debug, PartialEq, Eq)]
+pub struct Size {
+    pub dim: u32,
+    pub stations: u32,
+}
