@@ -65,7 +65,7 @@ enters sizes n id m idle s k homes me small =
 
 -- ---- the slot is given back by a lane
 
-last-push : (jobs : List QueuedJob) (job : QueuedJob) → last_of (jobs ++ job ∷ []) ≡ Some job
+pub last-push : (jobs : List QueuedJob) (job : QueuedJob) → last_of (jobs ++ job ∷ []) ≡ Some job
 last-push [] job = refl
 last-push (x ∷ []) job = refl
 last-push (x ∷ y ∷ jobs) job = last-push (y ∷ jobs) job

@@ -1,6 +1,6 @@
 -- The records of lanes and passes, and what their jobs are.
 use Rattle.std.specs.Prelude.{◌≡◌, ℕ, zero, suc, ◌+◌, ◌<◌, false, true, Option, Some, None, List, [], ◌∷◌, ◌++◌}
-use Rattle.std.specs.List.{AllByRecursion}
+use Rattle.std.specs.List.{AllByRecursion as Each}
 use Rattle.job_types.specs.Job.{JobData}
 use Rattle.job_types.specs.declared.reply.JobId.{JobId}
 use Rattle.job_queue.specs.declared.record.QueuedJob.{QueuedJob}
@@ -58,7 +58,7 @@ AreSeqs lane seq (job ∷ jobs) = (job.id ≡ job_id lane seq) × AreSeqs lane (
 -- the jobs of one lane stand in the order of their seqs
 abbrev pub Rises : List QueuedJob → Type 0
 Rises [] = Unit {0}
-Rises (job ∷ jobs) = AllByRecursion (λ later. later.id.lane ≡ job.id.lane → job.id.seq < later.id.seq) jobs × Rises jobs
+Rises (job ∷ jobs) = Each (λ later. later.id.lane ≡ job.id.lane → job.id.seq < later.id.seq) jobs × Rises jobs
 
 -- the reading shows the line closed and as many entries settled as counted
 abbrev pub Seals : Reading → Type 0

@@ -137,9 +137,18 @@ pub trait JobLine {
         ensures fresh_passes { IfOk result (λ made.
             map pass_record made.passes.items ≡ fresh_passes sizes.passes) };
 
+    /// The lane's number.
+    fn lane_number(lane: &Self::Lane) -> u32
+        ensures { result ≡ (lane_record lane.now).number };
+
+    /// The close number: how many entries came before the close.
+    fn close_number(note: &Self::Note) -> u64
+        ensures { result ≡ note_number note.now };
+
     /// Hands in a job, which was made for the line's machine and for this lane.
     ///
     /// An accepted job costs the lane one entry, and so does `Full`. A refusal gives the job back.
+    /// `LaneSpent` comes exactly where the lane has made `MAX_ENTRIES` entries.
     fn submit<R: Wait>(
         &self,
         rt: &R,

@@ -1,6 +1,6 @@
 -- What the state of a locked line is once all its members have come together.
 use Rattle.std.specs.Prelude.{◌≡◌, ℕ, ◌<◌, ◌≤◌, Option, Some, None, List, [], ◌∷◌, length, slice_index}
-use Rattle.std.specs.List.{AllByRecursion}
+use Rattle.std.specs.List.{AllByRecursion as Each}
 use Rattle.histories.specs.Sums.{total, is_at}
 use Rattle.job_queue.specs.declared.job_line.Sizes.{Sizes}
 use Rattle.job_queue.specs.declared.locked.store.Store.{Store}
@@ -19,5 +19,5 @@ pub record IsEnd (sizes : Sizes) (v : View) (number : ℕ) (x : Store) : Type 0 
   pub run : WholeRun v.lanes v.passes x.jobs.items number
   pub numbers : (k : ℕ) → k < sizes.lanes → total (λ r. is_at k r.number) v.lanes ≡ 1
   pub lane_count : length x.accepted.items ≡ sizes.lanes
-  pub accepted_by : AllByRecursion (λ r. slice_index x.accepted.items r.number ≡ length (accepted r.entries)) v.lanes
+  pub accepted_by : Each (λ r. slice_index x.accepted.items r.number ≡ length (accepted r.entries)) v.lanes
   pub fits : length x.jobs.items ≤ sizes.capacity

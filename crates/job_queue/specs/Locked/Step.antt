@@ -1,6 +1,6 @@
 -- What the steps of a seat on a locked line's table say: of the step, the seat before, the number found and the seat after.
 use Rattle.std.specs.Prelude.{◌≡◌, ◌≢◌, ℕ, ◌+◌, ◌*◌, ◌<◌, ◌≤◌, Bool, true, false, Option, Some, None, List, [], ◌∷◌, ◌++◌, length, slice_index, slice_set}
-use Rattle.std.specs.List.{AllByRecursion}
+use Rattle.std.specs.List.{AllByRecursion as Each}
 use Rattle.atomic_table.specs.Table.{Me, Step}
 use Rattle.job_queue.specs.declared.job_line.TheConstants.{MAX_LANES, MAX_ENTRIES}
 use Rattle.job_queue.specs.declared.job_line.Sizes.{Sizes}
@@ -27,8 +27,8 @@ IsIdle m = (m.1 ≡ []) × (m.0.found ≡ None) × (0 < members m.0)
 pub record Knows (v : View) (x : Store) : Type 0 where
   pub entries : x.entries ≤ MAX_LANES * MAX_ENTRIES
   pub lane_count : length x.accepted.items ≡ v.about.lanes
-  pub lanes : AllByRecursion (λ r. slice_index x.accepted.items r.number ≡ length (accepted r.entries)) v.lanes
-  pub made_for : AllByRecursion (IsMadeFor v.about.machine) x.jobs.items
+  pub lanes : Each (λ r. slice_index x.accepted.items r.number ≡ length (accepted r.entries)) v.lanes
+  pub made_for : Each (IsMadeFor v.about.machine) x.jobs.items
 
 -- the seat has taken the slot, with the state x
 abbrev pub Took : Sat → Sat → Type 0

@@ -42,6 +42,14 @@ impl JobLine for LockedLine {
     ghost pass_record = { record_of_pass };
     ghost note_number = { number_of_note };
 
+    fn lane_number(lane: &Lane) -> u32 {
+        lane.number()
+    }
+
+    fn close_number(note: &CloseNote) -> u64 {
+        note.number()
+    }
+
     fn submit<R: Wait>(
         &self,
         rt: &R,

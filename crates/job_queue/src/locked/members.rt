@@ -58,7 +58,7 @@ pub fn deal_passes(
     ensures passes { All (is_pass (line_id lock.now)) result.items }
     ensures fresh { map pass_record result.items ≡ fresh_passes count }
 {
-    for _number in 0..count {
+    for _ in 0..count {
         let seat = lock.deal_pass(seat);
         passes.push_reserved(Pass { seat });
     }
