@@ -11,7 +11,8 @@ use Rattle.histories.specs.Sums.{total, is_at}
 use Rattle.histories.specs.Views.{shares, Tied}
 use Rattle.histories.proofs.SumLemmas.{total-set, total-push, is_at-same, is_at-other, total-append}
 use Rattle.histories.proofs.ViewLemmas.{True, splits, joins, all_weaker}
-use Rattle.job_queue.specs.declared.job_line.TheConstants.{MAX_LANES, MAX_ENTRIES}
+use Rattle.job_types.specs.declared.job.TheConstants.{MAX_LANES}
+use Rattle.job_queue.specs.declared.job_line.TheConstants.{MAX_ENTRIES}
 use Rattle.job_queue.specs.declared.job_line.Sizes.{Sizes}
 use Rattle.job_queue.specs.declared.record.LaneRecord.{LaneRecord}
 use Rattle.job_queue.specs.declared.record.PassRecord.{PassRecord}

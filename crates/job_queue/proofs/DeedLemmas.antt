@@ -7,7 +7,8 @@ use native.Mathlib.Decide.{ℕ_discrete}
 use Rattle.histories.specs.Sums.{total, below}
 use Rattle.histories.proofs.SumLemmas.{total-append, total-push, total-same, below-grows, below-same, below-zero, below-ones, below-bounded}
 use Rattle.histories.proofs.ViewLemmas.{all_weaker, all_append}
-use Rattle.job_queue.specs.declared.job_line.TheConstants.{MAX_ENTRIES, MAX_LANES}
+use Rattle.job_types.specs.declared.job.TheConstants.{MAX_LANES}
+use Rattle.job_queue.specs.declared.job_line.TheConstants.{MAX_ENTRIES}
 use Rattle.job_queue.specs.declared.job_line.Sizes.{Sizes}
 use Rattle.job_queue.specs.declared.record.QueuedJob.{QueuedJob}
 use Rattle.job_queue.specs.declared.record.Entry.{Entry}

@@ -3,7 +3,8 @@ use Rattle.std.proofs.Common.{◌≡◌, ℕ, suc, ◌+◌, ◌*◌, ◌<◌, �
 use Rattle.std.specs.List.{AllByRecursion}
 use Rattle.job_types.specs.Job.{JobData}
 use Rattle.job_types.specs.declared.reply.JobId.{JobId}
-use Rattle.job_queue.specs.declared.job_line.TheConstants.{MAX_LANES, MAX_ENTRIES}
+use Rattle.job_types.specs.declared.job.TheConstants.{MAX_LANES}
+use Rattle.job_queue.specs.declared.job_line.TheConstants.{MAX_ENTRIES}
 use Rattle.job_queue.specs.declared.job_line.Sizes.{Sizes}
 use Rattle.job_queue.specs.declared.record.QueuedJob.{QueuedJob}
 use Rattle.job_queue.specs.declared.record.LaneRecord.{LaneRecord}

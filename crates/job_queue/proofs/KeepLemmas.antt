@@ -13,7 +13,8 @@ use Rattle.histories.specs.Sums.{total, is_at}
 use Rattle.histories.specs.Views.{shares, Tied}
 use Rattle.histories.proofs.SumLemmas.{total-set, total-push, term_le, is_at-same, is_at-other, total-append, positive_term}
 use Rattle.histories.proofs.ViewLemmas.{True, stays, steps, splits, joins, elsewhere, has_everyone, all_weaker}
-use Rattle.job_queue.specs.declared.job_line.TheConstants.{MAX_LANES, MAX_ENTRIES}
+use Rattle.job_types.specs.declared.job.TheConstants.{MAX_LANES}
+use Rattle.job_queue.specs.declared.job_line.TheConstants.{MAX_ENTRIES}
 use Rattle.job_queue.specs.declared.job_line.Sizes.{Sizes}
 use Rattle.job_queue.specs.declared.record.LaneRecord.{LaneRecord}
 use Rattle.job_queue.specs.declared.record.PassRecord.{PassRecord}

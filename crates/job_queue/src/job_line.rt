@@ -7,13 +7,10 @@ ghost use Rattle.job_queue.specs.Line.{LineId, next_id, GainsEntry, GainsRefusal
 ghost use Rattle.job_queue.specs.Run.{WholeRun};
 
 use crate::record::QueuedJob;
-use job_types::{Job, JobId};
+use job_types::{Job, JobId, MAX_LANES};
 use std::alloc::{AllocError, Global};
 use std::collections::VecDeque;
 use std::sync::Wait;
-
-/// How many lanes a line has at most.
-pub const MAX_LANES: u32 = 16;
 
 /// How many passes a line has at most.
 pub const MAX_PASSES: u32 = 16;

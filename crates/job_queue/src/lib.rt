@@ -11,8 +11,7 @@ mod locked;
 mod record;
 
 pub use job_line::{
-    JobLine, MAX_CAPACITY, MAX_ENTRIES, MAX_LANES, MAX_PASSES, Opened, Receipt, Refused, Rest, Sizes,
-    Taken,
+    JobLine, MAX_CAPACITY, MAX_ENTRIES, MAX_PASSES, Opened, Receipt, Refused, Rest, Sizes, Taken,
 };
 
 pub use record::{Entry, LaneRecord, PassRecord, QueuedJob, Reading};

@@ -12,11 +12,10 @@ use super::members::{deal_lanes, deal_passes, gather_lanes, gather_passes};
 use super::store::Store;
 use super::store_lock::StoreLock;
 use crate::job_line::{
-    JobLine, MAX_CAPACITY, MAX_ENTRIES, MAX_LANES, MAX_PASSES, Opened, Receipt, Refused, Rest,
-    Sizes, Taken,
+    JobLine, MAX_CAPACITY, MAX_ENTRIES, MAX_PASSES, Opened, Receipt, Refused, Rest, Sizes, Taken,
 };
 use crate::record::QueuedJob;
-use job_types::Job;
+use job_types::{Job, MAX_LANES};
 use std::alloc::{AllocError, Global};
 use std::sync::Wait;
 

@@ -18,10 +18,10 @@ use super::plays::{
 };
 use super::store::{SawEmpty, SawFull, Store};
 use super::view::View;
-use crate::job_line::{MAX_LANES, Receipt, Sizes};
+use crate::job_line::{Receipt, Sizes};
 use crate::record::QueuedJob;
 use atomic_table::{Refused, Table};
-use job_types::Job;
+use job_types::{Job, MAX_LANES};
 use std::alloc::{AllocError, Global};
 use std::sync::{Mutex, Wait};
 use std::thread::yield_now;
