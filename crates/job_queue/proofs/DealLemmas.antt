@@ -1,5 +1,5 @@
 -- Views are dealt out when a line opens, and come together when it ends.
-use Rattle.std.proofs.Common.{◌≡◌, ◌≢◌, ℕ, zero, suc, ◌+◌, ◌*◌, ◌<◌, ◌≤◌, ◌⊎◌, ⊎_elim, Option, Some, None, List, [], ◌∷◌, ◌++◌, length, length-append, get_or, set, replicate, sym, refl, ap, ◌∙◌, subst, arith}
+use Rattle.std.proofs.Common.{◌≡◌, ◌≢◌, ℕ, zero, suc, ◌+◌, ◌<◌, ◌≤◌, ⊎_elim, Some, None, List, [], ◌∷◌, ◌++◌, length, get_or, set, replicate, sym, refl, ap, ◌∙◌, subst, arith}
 use Rattle.std.specs.List.{AllByRecursion}
 use mathlib.Core.Logic.{dite}
 use mathlib.Core.Option.{some, some-injective, some-ne-none}
@@ -8,20 +8,15 @@ use lib.ListN.{get_elem?}
 use Rattle.atomic_table.specs.Table.{opening, Splits, Joins}
 use Rattle.atomic_table.proofs.Lists.{at_set, at_snoc}
 use Rattle.histories.specs.Sums.{total, is_at}
-use Rattle.histories.specs.Views.{shares, Tied}
-use Rattle.histories.proofs.SumLemmas.{total-set, total-push, is_at-same, is_at-other, total-append}
-use Rattle.histories.proofs.ViewLemmas.{True, splits, joins, all_weaker}
+use Rattle.histories.specs.Views.{Tied}
+use Rattle.histories.proofs.SumLemmas.{total-set, total-push, is_at-same, is_at-other}
+use Rattle.histories.proofs.ViewLemmas.{True, splits, joins}
 use Rattle.job_types.specs.declared.job.TheConstants.{MAX_LANES}
-use Rattle.job_queue.specs.declared.job_line.TheConstants.{MAX_ENTRIES}
 use Rattle.job_queue.specs.declared.job_line.Sizes.{Sizes}
-use Rattle.job_queue.specs.declared.record.LaneRecord.{LaneRecord}
-use Rattle.job_queue.specs.declared.record.PassRecord.{PassRecord}
 use Rattle.job_queue.specs.declared.locked.store.Store.{Store}
 use Rattle.job_queue.specs.declared.locked.view.View.{View}
-use Rattle.job_queue.specs.declared.locked.view.CloserRecord.{CloserRecord}
-use Rattle.job_queue.specs.Record.{fresh_lane, fresh_pass}
-use Rattle.job_queue.specs.Locked.View.{IsEmptyStore, view, members, out_of, is_out, first_of, rest_of, lanes_from, passes_from, first_view, without_lane, lane_alone, without_pass, pass_alone, joined, spent_view}
-use Rattle.job_queue.specs.Locked.Deed.{Deed, lane_part, pass_part, closer_part}
+use Rattle.job_queue.specs.Locked.View.{IsEmptyStore, members, out_of, is_out, first_of, rest_of, lanes_from, passes_from, first_view, without_lane, lane_alone, without_pass, pass_alone, joined, spent_view}
+use Rattle.job_queue.specs.Locked.Deed.{lane_part, pass_part, closer_part}
 use Rattle.job_queue.specs.Locked.Rule.{Fits, Keeps}
 use Rattle.job_queue.proofs.KeepLemmas.{St, lanes_in, passes_in, closers_in, lane_number, pass_number, closer_number}
 
@@ -132,8 +127,8 @@ module _ (sizes : Sizes) (s : St) (k : Keeps sizes s) (id : ℕ) (v left right :
       let left_in : is_out left ≡ 0 = ap out_of left_none in
       let right_in : is_out right ≡ 0 = ap out_of right_none in
       let in_all : (P : View → Type 0) → P left → P right → ((j : ℕ) (u : View) → get_elem? s.views j ≡ some u → P u) → (j : ℕ) (u : View) → get_elem? (set s.views id left ++ right ∷ []) j ≡ some u → P u = λ P on_left on_right on_others j u there.
-          ⊎_elim (λ (q : get_elem? (set s.views id left) j ≡ some u). ⊎_elim (λ (p : (j ≡ id) × (left ≡ u)). subst P p.1 on_left) (λ (p : (j ≢ id) × (get_elem? s.views j ≡ some u)). on_others j u p.1) (at_set s.views id j left u q))
-              (λ (q : right ≡ u). subst P q on_right) (at_snoc (set s.views id left) right u j there) in
+      ⊎_elim (λ (q : get_elem? (set s.views id left) j ≡ some u). ⊎_elim (λ (p : (j ≡ id) × (left ≡ u)). subst P p.1 on_left) (λ (p : (j ≢ id) × (get_elem? s.views j ≡ some u)). on_others j u p.1) (at_set s.views id j left u q))
+      (λ (q : right ≡ u). subst P q on_right) (at_snoc (set s.views id left) right u j there) in
       record {
         history = k.history;
         legal = k.legal;
@@ -153,16 +148,16 @@ module _ (sizes : Sizes) (s : St) (k : Keeps sizes s) (id : ℕ) (v left right :
 pub deals_lane : (sizes : Sizes) (id : ℕ) (v : View) → v.found ≡ None → Splits (Keeps sizes) id v (without_lane v) (lane_alone v)
 deals_lane sizes id v none s k me =
     cuts sizes s k id v (without_lane v) (lane_alone v) me refl refl (omega (arith, cut-length v.lanes)) none refl refl
-        (splits lanes_in lane_number s.views k.lanes id v me (without_lane v) (lane_alone v) (cut-all (True lanes_in lane_number sizes.lanes (lane_part k.history)) v.lanes) (λ n. cut-total (λ r. is_at n (lane_number r)) v.lanes))
-        (splits passes_in pass_number s.views k.passes id v me (without_lane v) (lane_alone v) (λ all. (all, tt)) (λ n. omega arith))
-        (splits closers_in closer_number s.views k.closers id v me (without_lane v) (lane_alone v) (λ all. (all, tt)) (λ n. omega arith))
+    (splits lanes_in lane_number s.views k.lanes id v me (without_lane v) (lane_alone v) (cut-all (True lanes_in lane_number sizes.lanes (lane_part k.history)) v.lanes) (λ n. cut-total (λ r. is_at n (lane_number r)) v.lanes))
+    (splits passes_in pass_number s.views k.passes id v me (without_lane v) (lane_alone v) (λ all. (all, tt)) (λ n. omega arith))
+    (splits closers_in closer_number s.views k.closers id v me (without_lane v) (lane_alone v) (λ all. (all, tt)) (λ n. omega arith))
 
 pub deals_pass : (sizes : Sizes) (id : ℕ) (v : View) → v.found ≡ None → Splits (Keeps sizes) id v (without_pass v) (pass_alone v)
 deals_pass sizes id v none s k me =
     cuts sizes s k id v (without_pass v) (pass_alone v) me refl refl (omega (arith, cut-length v.passes)) none refl refl
-        (splits lanes_in lane_number s.views k.lanes id v me (without_pass v) (pass_alone v) (λ all. (all, tt)) (λ n. omega arith))
-        (splits passes_in pass_number s.views k.passes id v me (without_pass v) (pass_alone v) (cut-all (True passes_in pass_number sizes.passes (pass_part k.history)) v.passes) (λ n. cut-total (λ r. is_at n (pass_number r)) v.passes))
-        (splits closers_in closer_number s.views k.closers id v me (without_pass v) (pass_alone v) (λ all. (all, tt)) (λ n. omega arith))
+    (splits lanes_in lane_number s.views k.lanes id v me (without_pass v) (pass_alone v) (λ all. (all, tt)) (λ n. omega arith))
+    (splits passes_in pass_number s.views k.passes id v me (without_pass v) (pass_alone v) (cut-all (True passes_in pass_number sizes.passes (pass_part k.history)) v.passes) (λ n. cut-total (λ r. is_at n (pass_number r)) v.passes))
+    (splits closers_in closer_number s.views k.closers id v me (without_pass v) (pass_alone v) (λ all. (all, tt)) (λ n. omega arith))
 
 -- ---- two views come together
 
@@ -173,9 +168,9 @@ joins_views sizes id v other w none none_too member s k me apart there =
     let was_too : is_out w ≡ 0 = ap out_of none_too in
     let both_in : is_out both ≡ 0 = ap out_of none in
     let in_all : (P : View → Type 0) → P both → P spent_view → ((j : ℕ) (u : View) → get_elem? s.views j ≡ some u → P u) → (j : ℕ) (u : View) → get_elem? (set (set s.views id both) other spent_view) j ≡ some u → P u = λ P on_both on_spent on_others j u at_j.
-        ⊎_elim (λ (q : (j ≡ other) × (spent_view ≡ u)). subst P q.1 on_spent)
-            (λ (q : (j ≢ other) × (get_elem? (set s.views id both) j ≡ some u)). ⊎_elim (λ (p : (j ≡ id) × (both ≡ u)). subst P p.1 on_both) (λ (p : (j ≢ id) × (get_elem? s.views j ≡ some u)). on_others j u p.1) (at_set s.views id j both u q.1))
-            (at_set (set s.views id both) other j spent_view u at_j) in
+    ⊎_elim (λ (q : (j ≡ other) × (spent_view ≡ u)). subst P q.1 on_spent)
+    (λ (q : (j ≢ other) × (get_elem? (set s.views id both) j ≡ some u)). ⊎_elim (λ (p : (j ≡ id) × (both ≡ u)). subst P p.1 on_both) (λ (p : (j ≢ id) × (get_elem? s.views j ≡ some u)). on_others j u p.1) (at_set s.views id j both u q.1))
+    (at_set (set s.views id both) other j spent_view u at_j) in
     record {
       history = k.history;
       legal = k.legal;

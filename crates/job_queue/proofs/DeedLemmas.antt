@@ -1,20 +1,18 @@
 -- What a legal history says: of each record, and of all records together.
-use Rattle.std.proofs.Common.{◌≡◌, ◌≢◌, ℕ, zero, suc, ◌+◌, ◌*◌, ◌<◌, ◌≤◌, Bool, true, false, cond, eqb, eq-eqb, ne_eqb, Option, Some, None, List, [], ◌∷◌, ◌++◌, length, length-append, append_assoc, sym, refl, ap, ◌∙◌, subst, arith}
+use Rattle.std.proofs.Common.{◌≡◌, ◌≢◌, ℕ, suc, ◌+◌, ◌*◌, ◌<◌, ◌≤◌, true, false, cond, eqb, eq-eqb, ne_eqb, Option, Some, None, List, [], ◌∷◌, ◌++◌, length, length-append, sym, refl, ap, ◌∙◌, subst, arith}
 use Rattle.std.proofs.lemmas.Bool.{true≢false}
 use Rattle.std.specs.List.{AllByRecursion}
 use mathlib.Core.Logic.{dite}
 use native.Mathlib.Decide.{ℕ_discrete}
 use Rattle.histories.specs.Sums.{total, below}
-use Rattle.histories.proofs.SumLemmas.{total-append, total-push, total-same, below-grows, below-same, below-zero, below-ones, below-bounded}
-use Rattle.histories.proofs.ViewLemmas.{all_weaker, all_append}
-use Rattle.job_types.specs.declared.job.TheConstants.{MAX_LANES}
+use Rattle.histories.proofs.SumLemmas.{total-push, below-grows, below-same, below-zero, below-ones, below-bounded}
+use Rattle.histories.proofs.ViewLemmas.{all_append}
 use Rattle.job_queue.specs.declared.job_line.TheConstants.{MAX_ENTRIES}
 use Rattle.job_queue.specs.declared.job_line.Sizes.{Sizes}
 use Rattle.job_queue.specs.declared.record.QueuedJob.{QueuedJob}
 use Rattle.job_queue.specs.declared.record.Entry.{Entry}
 use Rattle.job_queue.specs.declared.record.LaneRecord.{LaneRecord}
-use Rattle.job_queue.specs.declared.record.PassRecord.{PassRecord}
-use Rattle.job_queue.specs.Record.{entry, reading, fresh_lane, fresh_pass, accepted_with, accepted, job_id, AreSeqs, Rises, Seals}
+use Rattle.job_queue.specs.Record.{entry, accepted_with, accepted}
 use Rattle.job_queue.specs.Line.{IsMadeFor}
 use Rattle.job_queue.specs.Locked.View.{rest_of}
 use Rattle.job_queue.specs.Locked.Deed.{Deed, accepts, fills, finds_closed, takes_job, finds_empty, closes, entered, waiting, is_closed, is_by_lane, lane_after, lane_part, is_by_pass, pass_after, pass_part, closed_at, IsLegal}
@@ -98,12 +96,12 @@ module _ (sizes : Sizes) where
   lane_entries (accepts lane number job ∷ h) l legal =
       dite (ℕ_discrete lane l)
       (λ e. let few : length (lane_part h l).entries < MAX_ENTRIES = subst (λ (k : ℕ). length (lane_part h k).entries < MAX_ENTRIES) e legal.0.0.3 in
-          omega (arith, ap (λ (r : LaneRecord). length r.entries) (lane_own (accepts lane number job) h l (eq-eqb lane l e)), length-append (lane_part h l).entries (entry number (Some job) ∷ []), few))
+      omega (arith, ap (λ (r : LaneRecord). length r.entries) (lane_own (accepts lane number job) h l (eq-eqb lane l e)), length-append (lane_part h l).entries (entry number (Some job) ∷ []), few))
       (λ ne. omega (arith, ap (λ (r : LaneRecord). length r.entries) (lane_other (accepts lane number job) h l (ne_eqb lane l ne)), lane_entries h l legal.1))
   lane_entries (fills lane number ∷ h) l legal =
       dite (ℕ_discrete lane l)
       (λ e. let few : length (lane_part h l).entries < MAX_ENTRIES = subst (λ (k : ℕ). length (lane_part h k).entries < MAX_ENTRIES) e legal.0.0.3 in
-          omega (arith, ap (λ (r : LaneRecord). length r.entries) (lane_own (fills lane number) h l (eq-eqb lane l e)), length-append (lane_part h l).entries (entry number None ∷ []), few))
+      omega (arith, ap (λ (r : LaneRecord). length r.entries) (lane_own (fills lane number) h l (eq-eqb lane l e)), length-append (lane_part h l).entries (entry number None ∷ []), few))
       (λ ne. omega (arith, ap (λ (r : LaneRecord). length r.entries) (lane_other (fills lane number) h l (ne_eqb lane l ne)), lane_entries h l legal.1))
   lane_entries (finds_closed lane seen ∷ h) l legal =
       let before : length (lane_part h l).entries ≤ MAX_ENTRIES = lane_entries h l legal.1 in

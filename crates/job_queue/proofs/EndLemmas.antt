@@ -1,18 +1,17 @@
 -- Once all members have come together, the state is at home, and their records say what the line did.
-use Rattle.std.proofs.Common.{◌≡◌, ◌≢◌, ℕ, zero, suc, ◌+◌, ◌*◌, ◌<◌, ◌≤◌, ◌⊎◌, Bool, true, false, Option, Some, None, List, [], ◌∷◌, ◌++◌, length, get_or, sym, refl, ap, ◌∙◌, subst, arith}
+use Rattle.std.proofs.Common.{◌≡◌, ◌≢◌, ℕ, ◌<◌, ◌≤◌, true, Some, List, [], ◌∷◌, ◌++◌, length, get_or, sym, ap, ◌∙◌, subst, arith}
 use Rattle.std.specs.List.{AllByRecursion}
 use mathlib.Core.Logic.{dite}
 use mathlib.Core.Option.{some, some-injective}
 use native.Mathlib.Decide.{ℕ_discrete}
 use lib.ListN.{get_elem?}
 use Rattle.atomic_table.specs.Table.{Seen, Final}
-use Rattle.histories.specs.Sums.{total, below, is_at}
+use Rattle.histories.specs.Sums.{total, below}
 use Rattle.histories.proofs.SumLemmas.{positive_term, total-below}
 use Rattle.histories.proofs.ViewLemmas.{True, all_weaker, has_everyone, nobody_else}
 use Rattle.job_queue.specs.declared.job_line.Sizes.{Sizes}
 use Rattle.job_queue.specs.declared.record.QueuedJob.{QueuedJob}
 use Rattle.job_queue.specs.declared.record.Entry.{Entry}
-use Rattle.job_queue.specs.declared.record.Reading.{Reading}
 use Rattle.job_queue.specs.declared.record.LaneRecord.{LaneRecord}
 use Rattle.job_queue.specs.declared.record.PassRecord.{PassRecord}
 use Rattle.job_queue.specs.declared.locked.store.Store.{Store}
@@ -20,8 +19,8 @@ use Rattle.job_queue.specs.declared.locked.view.View.{View}
 use Rattle.job_queue.specs.declared.locked.view.CloserRecord.{CloserRecord}
 use Rattle.job_queue.specs.Record.{accepted, AreSeqs, Rises, Seals}
 use Rattle.job_queue.specs.Run.{WholeRun}
-use Rattle.job_queue.specs.Locked.View.{members, out_of, is_out}
-use Rattle.job_queue.specs.Locked.Deed.{Deed, entered, waiting, is_closed, lane_part, pass_part, closer_part, closed_at, IsLegal}
+use Rattle.job_queue.specs.Locked.View.{out_of, is_out}
+use Rattle.job_queue.specs.Locked.Deed.{entered, waiting, is_closed, lane_part, pass_part, closer_part, closed_at}
 use Rattle.job_queue.specs.Locked.Rule.{Fits, Keeps}
 use Rattle.job_queue.specs.Locked.End.{IsWhole, IsEnd}
 use Rattle.job_queue.proofs.DeedLemmas.{entries_below, waiting_fits, closed_count}
@@ -34,17 +33,17 @@ module _ (sizes : Sizes) (s : St) (k : Keeps sizes s) (id : ℕ) (v : View) (me 
   nobody_out =
       dite (ℕ_discrete (total is_out s.views) 0) (λ none. none)
       (λ some_out.
-          let t = positive_term is_out s.views (omega arith) in
-          let j = t.0 in let u : View = t.1 in
-          let in_here : is_out v ≡ 0 = ap out_of whole.found in
-          let apart : j ≢ id = λ e. let same : u ≡ v = some-injective u v (sym t.2 ∙ (ap (get_elem? s.views) e ∙ me)) in let none : is_out u ≡ 0 = ap is_out same ∙ in_here in absurd (omega (arith, t.3)) in
-          absurd (omega (
-            arith,
-            k.taken_by j u t.2 t.3,
-            ap length (nobody_else lanes_in lane_number s.views k.lanes id v me whole.lanes j u apart t.2),
-            ap length (nobody_else passes_in pass_number s.views k.passes id v me whole.passes j u apart t.2),
-            ap length (nobody_else closers_in closer_number s.views k.closers id v me (ap length whole.closers) j u apart t.2),
-          )))
+      let t = positive_term is_out s.views (omega arith) in
+      let j = t.0 in let u : View = t.1 in
+      let in_here : is_out v ≡ 0 = ap out_of whole.found in
+      let apart : j ≢ id = λ e. let same : u ≡ v = some-injective u v (sym t.2 ∙ (ap (get_elem? s.views) e ∙ me)) in let none : is_out u ≡ 0 = ap is_out same ∙ in_here in absurd (omega (arith, t.3)) in
+      absurd (omega (
+        arith,
+        k.taken_by j u t.2 t.3,
+        ap length (nobody_else lanes_in lane_number s.views k.lanes id v me whole.lanes j u apart t.2),
+        ap length (nobody_else passes_in pass_number s.views k.passes id v me whole.passes j u apart t.2),
+        ap length (nobody_else closers_in closer_number s.views k.closers id v me (ap length whole.closers) j u apart t.2),
+      )))
 
   at_home : (x : Store) × (get_elem? s.homes 0 ≡ some (some x)) × Fits sizes k.history x
   at_home = k.home (sym k.out ∙ nobody_out)

@@ -1,19 +1,14 @@
 -- What the seats of members are, before, while and after they have taken the state.
-use Rattle.std.proofs.Common.{◌≡◌, ℕ, suc, ◌+◌, ◌*◌, ◌<◌, ◌≤◌, Bool, true, false, Option, Some, None, List, [], ◌∷◌, ◌++◌, length, get_or, sym, refl, ap, ◌∙◌, subst, arith}
+use Rattle.std.proofs.Common.{◌≡◌, ℕ, ◌+◌, ◌<◌, Option, None, [], ◌∷◌, length, get_or, sym, refl, ap, ◌∙◌, subst, arith}
 use Rattle.std.specs.List.{AllByRecursion}
-use Rattle.job_types.specs.Job.{JobData}
-use Rattle.job_types.specs.declared.reply.JobId.{JobId}
-use Rattle.job_types.specs.declared.job.TheConstants.{MAX_LANES}
 use Rattle.job_queue.specs.declared.job_line.TheConstants.{MAX_ENTRIES}
 use Rattle.job_queue.specs.declared.job_line.Sizes.{Sizes}
-use Rattle.job_queue.specs.declared.record.QueuedJob.{QueuedJob}
 use Rattle.job_queue.specs.declared.record.LaneRecord.{LaneRecord}
 use Rattle.job_queue.specs.declared.record.PassRecord.{PassRecord}
 use Rattle.job_queue.specs.declared.locked.store.Store.{Store}
-use Rattle.job_queue.specs.declared.locked.view.View.{View}
-use Rattle.job_queue.specs.Record.{accepted, job_id, queued, IsSettled}
-use Rattle.job_queue.specs.Locked.View.{view, lane_view, pass_view, closer_view, holding}
-use Rattle.job_queue.specs.Locked.Step.{Sat, IsIdle, Knows, Took, lane_in, pass_in, IsLaneOut, IsPassOut, IsCloserOut, IsLaneSeat}
+use Rattle.job_queue.specs.Record.{accepted, IsSettled}
+use Rattle.job_queue.specs.Locked.View.{lane_view, pass_view, closer_view, holding}
+use Rattle.job_queue.specs.Locked.Step.{Sat, Knows, Took, lane_in, pass_in, IsLaneOut, IsPassOut, IsCloserOut, IsLaneSeat}
 use Rattle.job_queue.proofs.DeedLemmas.{accepted-length}
 
 -- ---- a lane

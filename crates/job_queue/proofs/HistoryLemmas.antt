@@ -1,11 +1,11 @@
 -- What a legal history says of the records of all lanes and passes together.
-use Rattle.std.proofs.Common.{◌≡◌, ◌≢◌, ℕ, zero, suc, ◌+◌, ◌*◌, ◌<◌, ◌≤◌, ◌⊎◌, ⊎_elim, inl, inr, Bool, true, false, cond, eqb, eq-eqb, ne_eqb, Option, Some, None, List, [], ◌∷◌, ◌++◌, length, length-append, append_assoc, sym, refl, ap, ◌∙◌, subst, arith}
+use Rattle.std.proofs.Common.{◌≡◌, ◌≢◌, ℕ, suc, ◌+◌, ◌<◌, ◌≤◌, ◌⊎◌, ⊎_elim, inl, inr, Bool, true, false, cond, eqb, eq-eqb, ne_eqb, Some, None, List, [], ◌∷◌, ◌++◌, length, length-append, append_assoc, sym, refl, ap, ◌∙◌, subst, arith}
 use Rattle.std.proofs.lemmas.Bool.{true≢false}
 use Rattle.std.specs.List.{AllByRecursion}
 use mathlib.Core.Logic.{dite}
 use native.Mathlib.Decide.{ℕ_discrete}
 use Rattle.histories.specs.Sums.{total, below}
-use Rattle.histories.proofs.SumLemmas.{total-append, total-push, below-grows, below-same, below-zero}
+use Rattle.histories.proofs.SumLemmas.{total-push, below-grows, below-same, below-zero}
 use Rattle.histories.proofs.ViewLemmas.{all_weaker, all_append}
 use Rattle.job_queue.specs.declared.job_line.Sizes.{Sizes}
 use Rattle.job_queue.specs.declared.record.QueuedJob.{QueuedJob}
@@ -15,7 +15,7 @@ use Rattle.job_queue.specs.declared.record.LaneRecord.{LaneRecord}
 use Rattle.job_queue.specs.declared.record.PassRecord.{PassRecord}
 use Rattle.job_queue.specs.Record.{entry, reading, accepted, job_id, AreSeqs, Rises}
 use Rattle.job_queue.specs.Locked.View.{rest_of}
-use Rattle.job_queue.specs.Locked.Deed.{Deed, accepts, fills, finds_closed, takes_job, finds_empty, closes, entered, waiting, is_closed, is_by_lane, lane_after, lane_part, is_by_pass, pass_after, pass_part, IsLegal}
+use Rattle.job_queue.specs.Locked.Deed.{Deed, accepts, fills, finds_closed, takes_job, finds_empty, closes, entered, waiting, is_closed, lane_after, lane_part, pass_after, pass_part, IsLegal}
 use Rattle.job_queue.proofs.DeedLemmas.{lane_own, lane_other, pass_own, pass_other, accepted-push, accepted-full}
 
 -- ---- lists of jobs
@@ -84,7 +84,7 @@ line-take pass job h p front =
     let rest = rest_of (waiting h) in
     dite (ℕ_discrete p pass)
     (λ e. let own : (pass_part (takes_job pass job ∷ h) p).taken ≡ (pass_part h p).taken ++ job ∷ [] = subst (λ (q : ℕ). (pass_part (takes_job pass job ∷ h) q).taken ≡ (pass_part h q).taken ++ job ∷ []) (sym e) (taken-own pass job h) in
-        inl (ap (λ (ts : List QueuedJob). ts ++ rest) own ∙ (append_assoc (pass_part h p).taken (job ∷ []) rest ∙ ap (λ (ws : List QueuedJob). (pass_part h p).taken ++ ws) (sym front))))
+    inl (ap (λ (ts : List QueuedJob). ts ++ rest) own ∙ (append_assoc (pass_part h p).taken (job ∷ []) rest ∙ ap (λ (ws : List QueuedJob). (pass_part h p).taken ++ ws) (sym front))))
     (λ ne. inr (ap (λ (ts : List QueuedJob). ts ++ rest) (taken-else pass job h p ne), ap (λ (ws : List QueuedJob). (pass_part h p).taken ++ ws) front))
 
 module _ (sizes : Sizes) where
@@ -109,7 +109,7 @@ module _ (sizes : Sizes) where
       omega (arith, below-grows f g sizes.passes pass (weight job) legal.0.0 mine (λ j ne. ap (total weight) (taken-else pass job h j ne)), front, balanced weight h legal.1)
   balanced weight (finds_empty pass count closed ∷ h) legal =
       let same : below (λ p. total weight (pass_part (finds_empty pass count closed ∷ h) p).taken) sizes.passes ≡ below (λ p. total weight (pass_part h p).taken) sizes.passes =
-          below-same _ _ sizes.passes (λ p within. ap (total weight) (taken-read pass count closed h p)) in
+      below-same _ _ sizes.passes (λ p within. ap (total weight) (taken-read pass count closed h p)) in
       balanced weight h legal.1 ∙ ap (λ (n : ℕ). n + total weight (waiting h)) (sym same)
   balanced weight (closes number ∷ h) legal = balanced weight h legal.1
 
@@ -120,7 +120,7 @@ module _ (sizes : Sizes) where
   seqs (accepts lane number job ∷ h) l legal =
       dite (ℕ_discrete l lane)
       (λ e. subst (λ (k : ℕ). AreSeqs k 0 (accepted_by (accepts lane number job ∷ h) k)) (sym e)
-          (subst (AreSeqs lane 0) (sym (accepted-own lane number job h)) (seqs-push lane 0 (accepted_by h lane) job (seqs h lane legal.1) (legal.0.2 ∙ (let z : length (accepted_by h lane) ≡ 0 + length (accepted_by h lane) = omega arith in ap (job_id lane) z)))))
+      (subst (AreSeqs lane 0) (sym (accepted-own lane number job h)) (seqs-push lane 0 (accepted_by h lane) job (seqs h lane legal.1) (legal.0.2 ∙ (let z : length (accepted_by h lane) ≡ 0 + length (accepted_by h lane) = omega arith in ap (job_id lane) z)))))
       (λ ne. subst (AreSeqs l 0) (sym (accepted-else lane number job h l ne)) (seqs h l legal.1))
   seqs (fills lane number ∷ h) l legal = subst (AreSeqs l 0) (sym (accepted-fills lane number h l)) (seqs h l legal.1)
   seqs (finds_closed lane seen ∷ h) l legal = subst (AreSeqs l 0) (sym (accepted-seen lane seen h l)) (seqs h l legal.1)
@@ -138,8 +138,8 @@ module _ (sizes : Sizes) where
   known-accepts lane number job h q known =
       dite (ℕ_discrete q.id.lane lane)
       (λ e. let more : length (accepted_by (accepts lane number job ∷ h) q.id.lane) ≡ length (accepted_by h q.id.lane ++ job ∷ []) =
-                subst (λ (k : ℕ). length (accepted_by (accepts lane number job ∷ h) k) ≡ length (accepted_by h k ++ job ∷ [])) (sym e) (ap length (accepted-own lane number job h)) in
-          omega (arith, more, length-append (accepted_by h q.id.lane) (job ∷ []), known))
+      subst (λ (k : ℕ). length (accepted_by (accepts lane number job ∷ h) k) ≡ length (accepted_by h k ++ job ∷ [])) (sym e) (ap length (accepted-own lane number job h)) in
+      omega (arith, more, length-append (accepted_by h q.id.lane) (job ∷ []), known))
       (λ ne. omega (arith, ap length (accepted-else lane number job h q.id.lane ne), known))
 
   known-own : (lane number : ℕ) (job : QueuedJob) (h : List Deed) → job.id ≡ job_id lane (length (accepted_by h lane)) → Known (accepts lane number job ∷ h) job
@@ -147,7 +147,7 @@ module _ (sizes : Sizes) where
       let at_lane : job.id.lane ≡ lane = ap (λ i. i.lane) id in
       let at_seq : job.id.seq ≡ length (accepted_by h lane) = ap (λ i. i.seq) id in
       let more : length (accepted_by (accepts lane number job ∷ h) job.id.lane) ≡ length (accepted_by h lane ++ job ∷ []) =
-          ap (λ (k : ℕ). length (accepted_by (accepts lane number job ∷ h) k)) at_lane ∙ ap length (accepted-own lane number job h) in
+      ap (λ (k : ℕ). length (accepted_by (accepts lane number job ∷ h) k)) at_lane ∙ ap length (accepted-own lane number job h) in
       omega (arith, more, length-append (accepted_by h lane) (job ∷ []), at_seq)
 
   all_known : (h : List Deed) (p : ℕ) → IsLegal sizes h → AllByRecursion (Known h) (line_of h p)
@@ -155,14 +155,14 @@ module _ (sizes : Sizes) where
   all_known (accepts lane number job ∷ h) p legal =
       let after = accepts lane number job ∷ h in
       subst (AllByRecursion (Known after)) (append_assoc (pass_part h p).taken (waiting h) (job ∷ []))
-          (all_append (Known after) (line_of h p) (job ∷ []) (all_weaker (Known h) (Known after) (known-accepts lane number job h) (line_of h p) (all_known h p legal.1)) (known-own lane number job h legal.0.2, tt))
+      (all_append (Known after) (line_of h p) (job ∷ []) (all_weaker (Known h) (Known after) (known-accepts lane number job h) (line_of h p) (all_known h p legal.1)) (known-own lane number job h legal.0.2, tt))
   all_known (fills lane number ∷ h) p legal = all_weaker (Known h) (Known (fills lane number ∷ h)) (λ q known. omega (arith, ap length (accepted-fills lane number h q.id.lane), known)) (line_of h p) (all_known h p legal.1)
   all_known (finds_closed lane seen ∷ h) p legal = all_weaker (Known h) (Known (finds_closed lane seen ∷ h)) (λ q known. omega (arith, ap length (accepted-seen lane seen h q.id.lane), known)) (line_of h p) (all_known h p legal.1)
   all_known (takes_job pass job ∷ h) p legal =
       let before = all_known h p legal.1 in
       ⊎_elim (λ same. subst (AllByRecursion (Known h)) (sym same) before)
-          (λ left. subst (AllByRecursion (Known h)) (sym left.0) (all-middle (Known h) (pass_part h p).taken job (rest_of (waiting h)) (subst (AllByRecursion (Known h)) left.1 before)))
-          (line-take pass job h p legal.0.1)
+      (λ left. subst (AllByRecursion (Known h)) (sym left.0) (all-middle (Known h) (pass_part h p).taken job (rest_of (waiting h)) (subst (AllByRecursion (Known h)) left.1 before)))
+      (line-take pass job h p legal.0.1)
   all_known (finds_empty pass count closed ∷ h) p legal = subst (λ (ts : List QueuedJob). AllByRecursion (Known h) (ts ++ waiting h)) (sym (taken-read pass count closed h p)) (all_known h p legal.1)
   all_known (closes number ∷ h) p legal = all_known h p legal.1
 
@@ -172,15 +172,15 @@ module _ (sizes : Sizes) where
       let at_lane : job.id.lane ≡ lane = ap (λ i. i.lane) legal.0.2 in
       let at_seq : job.id.seq ≡ length (accepted_by h lane) = ap (λ i. i.seq) legal.0.2 in
       let earlier : (q : QueuedJob) → Known h q → Before job q = λ q known same.
-          let there : length (accepted_by h q.id.lane) ≡ length (accepted_by h lane) = ap (λ (k : ℕ). length (accepted_by h k)) (same ∙ at_lane) in omega (arith, known) in
+      let there : length (accepted_by h q.id.lane) ≡ length (accepted_by h lane) = ap (λ (k : ℕ). length (accepted_by h k)) (same ∙ at_lane) in omega (arith, known) in
       subst Rises (append_assoc (pass_part h p).taken (waiting h) (job ∷ [])) (rises-push (line_of h p) job (rises h p legal.1) (all_weaker (Known h) (Before job) earlier (line_of h p) (all_known h p legal.1)))
   rises (fills lane number ∷ h) p legal = rises h p legal.1
   rises (finds_closed lane seen ∷ h) p legal = rises h p legal.1
   rises (takes_job pass job ∷ h) p legal =
       let before = rises h p legal.1 in
       ⊎_elim (λ same. subst Rises (sym same) before)
-          (λ left. subst Rises (sym left.0) (rises-middle (pass_part h p).taken job (rest_of (waiting h)) (subst Rises left.1 before)))
-          (line-take pass job h p legal.0.1)
+      (λ left. subst Rises (sym left.0) (rises-middle (pass_part h p).taken job (rest_of (waiting h)) (subst Rises left.1 before)))
+      (line-take pass job h p legal.0.1)
   rises (finds_empty pass count closed ∷ h) p legal = subst (λ (ts : List QueuedJob). Rises (ts ++ waiting h)) (sym (taken-read pass count closed h p)) (rises h p legal.1)
   rises (closes number ∷ h) p legal = rises h p legal.1
 
@@ -198,14 +198,14 @@ module _ (sizes : Sizes) where
       let before = entered-more h (entered h + 1) (omega arith) (lane_part h l).entries (entered_before h l legal.1) in
       let here : number < entered h + 1 = omega (arith, legal.0.0.1) in
       elim (eqb lane l) as (λ b. AllByRecursion (λ e. e.number < entered h + 1) (cond b (lane_after (accepts lane number job) (lane_part h l)) (lane_part h l)).entries) [
-        true ↦ all_append (λ e. e.number < entered h + 1) (lane_part h l).entries (entry number (Some job) ∷ []) before (here, tt)
+        | true ↦ all_append (λ e. e.number < entered h + 1) (lane_part h l).entries (entry number (Some job) ∷ []) before (here, tt)
         | false ↦ before
       ]
   entered_before (fills lane number ∷ h) l legal =
       let before = entered-more h (entered h + 1) (omega arith) (lane_part h l).entries (entered_before h l legal.1) in
       let here : number < entered h + 1 = omega (arith, legal.0.0.1) in
       elim (eqb lane l) as (λ b. AllByRecursion (λ e. e.number < entered h + 1) (cond b (lane_after (fills lane number) (lane_part h l)) (lane_part h l)).entries) [
-        true ↦ all_append (λ e. e.number < entered h + 1) (lane_part h l).entries (entry number None ∷ []) before (here, tt)
+        | true ↦ all_append (λ e. e.number < entered h + 1) (lane_part h l).entries (entry number None ∷ []) before (here, tt)
         | false ↦ before
       ]
   entered_before (finds_closed lane seen ∷ h) l legal =
@@ -234,7 +234,7 @@ module _ (sizes : Sizes) where
   seen_stands (finds_closed lane seen ∷ h) l legal =
       let before = seen_stands h l legal.1 in
       elim (eqb lane l) as (λ b. AllByRecursion (Stands h) (cond b (lane_after (finds_closed lane seen) (lane_part h l)) (lane_part h l)).seen) [
-        true ↦ all_append (Stands h) (lane_part h l).seen (seen ∷ []) before ((legal.0.1, legal.0.2), tt)
+        | true ↦ all_append (Stands h) (lane_part h l).seen (seen ∷ []) before ((legal.0.1, legal.0.2), tt)
         | false ↦ before
       ]
   seen_stands (takes_job pass job ∷ h) l legal = seen_stands h l legal.1
@@ -258,7 +258,7 @@ module _ (sizes : Sizes) where
   readings_sealed (finds_empty pass count closed ∷ h) p legal =
       let before = readings_sealed h p legal.1 in
       elim (eqb pass p) as (λ b. AllByRecursion (Sealed h) (cond b (pass_after (finds_empty pass count closed) (pass_part h p)) (pass_part h p)).readings) [
-        true ↦ all_append (Sealed h) (pass_part h p).readings (reading count count closed ∷ []) before ((λ shut. (sym legal.0.3 ∙ shut, legal.0.2)), tt)
+        | true ↦ all_append (Sealed h) (pass_part h p).readings (reading count count closed ∷ []) before ((λ shut. (sym legal.0.3 ∙ shut, legal.0.2)), tt)
         | false ↦ before
       ]
   readings_sealed (closes number ∷ h) p legal = none_sealed h (closes number ∷ h) legal.0.0 (pass_part h p).readings (readings_sealed h p legal.1)

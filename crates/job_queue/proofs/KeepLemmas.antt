@@ -1,28 +1,22 @@
 -- The rule of a locked line's table, as words, homes and views change.
-use Rattle.std.proofs.Common.{◌≡◌, ◌≢◌, ℕ, zero, suc, ◌+◌, ◌*◌, ◌<◌, ◌≤◌, ◌⊎◌, ⊎_elim, Bool, true, false, eqb, Option, Some, None, List, [], ◌∷◌, ◌++◌, map, length, length-set, length-append, get_or, get_or-set_same, set, sym, refl, ap, ◌∙◌, subst, arith}
-use Rattle.std.specs.List.{AllByRecursion}
-use mathlib.Core.Logic.{dite}
-use mathlib.Core.Option.{some, some-injective, some-ne-none}
-use native.Mathlib.Decide.{ℕ_discrete}
+use Rattle.std.proofs.Common.{◌≡◌, ◌≢◌, ℕ, ◌<◌, ⊎_elim, Some, None, List, [], ◌∷◌, length, length-set, get_or, get_or-set_same, set, sym, refl, ap, ◌∙◌, subst, arith}
+use mathlib.Core.Option.{some}
 use lib.ListN.{get_elem?}
 use lib.Seq.{set-get_or}
-use prog.Atomic.{either}
-use Rattle.atomic_table.specs.Table.{State, Me, Act, keeps, takes, gives, Valid, carried_after, stepped, opening, Allows, Splits, Joins, Seen, Final}
-use Rattle.atomic_table.proofs.Lists.{at_set, at_snoc, set_here, set_again, exchanged}
-use Rattle.histories.specs.Sums.{total, is_at}
-use Rattle.histories.specs.Views.{shares, Tied}
-use Rattle.histories.proofs.SumLemmas.{total-set, total-push, term_le, is_at-same, is_at-other, total-append, positive_term}
-use Rattle.histories.proofs.ViewLemmas.{True, stays, steps, splits, joins, elsewhere, has_everyone, all_weaker}
-use Rattle.job_types.specs.declared.job.TheConstants.{MAX_LANES}
-use Rattle.job_queue.specs.declared.job_line.TheConstants.{MAX_ENTRIES}
+use Rattle.atomic_table.specs.Table.{State, keeps, takes, gives, stepped}
+use Rattle.atomic_table.proofs.Lists.{at_set, set_here, set_again}
+use Rattle.histories.specs.Sums.{total}
+use Rattle.histories.specs.Views.{Tied}
+use Rattle.histories.proofs.SumLemmas.{total-set, term_le}
+use Rattle.histories.proofs.ViewLemmas.{stays}
 use Rattle.job_queue.specs.declared.job_line.Sizes.{Sizes}
 use Rattle.job_queue.specs.declared.record.LaneRecord.{LaneRecord}
 use Rattle.job_queue.specs.declared.record.PassRecord.{PassRecord}
 use Rattle.job_queue.specs.declared.locked.store.Store.{Store}
 use Rattle.job_queue.specs.declared.locked.view.View.{View}
 use Rattle.job_queue.specs.declared.locked.view.CloserRecord.{CloserRecord}
-use Rattle.job_queue.specs.Locked.View.{view, holding, members, out_of, is_out}
-use Rattle.job_queue.specs.Locked.Deed.{Deed, lane_part, pass_part, closer_part, May, IsLegal}
+use Rattle.job_queue.specs.Locked.View.{holding, members, out_of, is_out}
+use Rattle.job_queue.specs.Locked.Deed.{Deed, lane_part, pass_part, closer_part, May}
 use Rattle.job_queue.specs.Locked.Rule.{Fits, Keeps}
 
 abbrev pub St : Type 0

@@ -1,5 +1,5 @@
 -- Each step of a seat on a locked line's table keeps the rule.
-use Rattle.std.proofs.Common.{◌≡◌, ◌≢◌, ℕ, zero, suc, ◌+◌, ◌*◌, ◌<◌, ◌≤◌, Bool, true, false, eqb, eq-eqb, ne_eqb, Option, Some, None, List, [], ◌∷◌, ◌++◌, length, length-set, get_or, get_or-set_same, get_or-set_other, set, sym, refl, ap, ◌∙◌, subst, arith}
+use Rattle.std.proofs.Common.{◌≡◌, ◌≢◌, ℕ, zero, suc, ◌+◌, ◌<◌, true, false, eqb, eq-eqb, ne_eqb, Option, Some, None, List, [], ◌∷◌, ◌++◌, length, length-set, get_or, get_or-set_same, get_or-set_other, sym, refl, ap, ◌∙◌, subst, arith}
 use Rattle.std.specs.List.{AllByRecursion}
 use mathlib.Core.Logic.{dite}
 use mathlib.Core.Option.{some, none}
@@ -9,7 +9,6 @@ use prog.Atomic.{either}
 use Rattle.atomic_table.specs.Table.{Act, keeps, takes, gives, Valid, carried_after, step, stepped, Allows}
 use Rattle.atomic_table.proofs.Lists.{exchanged}
 use Rattle.histories.proofs.ViewLemmas.{True, stays, steps, all_weaker}
-use Rattle.job_types.specs.declared.job.TheConstants.{MAX_LANES}
 use Rattle.job_queue.specs.declared.job_line.TheConstants.{MAX_ENTRIES}
 use Rattle.job_queue.specs.declared.job_line.Sizes.{Sizes}
 use Rattle.job_queue.specs.declared.record.QueuedJob.{QueuedJob}
@@ -20,10 +19,10 @@ use Rattle.job_queue.specs.declared.locked.view.View.{View}
 use Rattle.job_queue.specs.declared.locked.view.CloserRecord.{CloserRecord}
 use Rattle.job_queue.specs.Record.{entry, reading, accepted}
 use Rattle.job_queue.specs.Line.{IsMadeFor}
-use Rattle.job_queue.specs.Locked.View.{view, lane_view, pass_view, closer_view, holding, members, rest_of, KeepsMark}
-use Rattle.job_queue.specs.Locked.Deed.{Deed, accepts, fills, finds_closed, takes_job, finds_empty, closes, entered, waiting, is_closed, is_by_lane, lane_after, lane_part, is_by_pass, pass_after, pass_part, closed_at, closer_part, May}
+use Rattle.job_queue.specs.Locked.View.{view, lane_view, pass_view, closer_view, holding, members, rest_of}
+use Rattle.job_queue.specs.Locked.Deed.{Deed, accepts, fills, finds_closed, takes_job, finds_empty, closes, waiting, is_by_lane, lane_after, lane_part, is_by_pass, pass_after, pass_part, closed_at, closer_part, May}
 use Rattle.job_queue.specs.Locked.Rule.{Fits, Keeps}
-use Rattle.job_queue.specs.Locked.Step.{Sat, IsIdle, Knows, Took, took, last_of, front_of, after_entry, after_full_entry, after_seen, after_taken, after_reading, after_close, IsLaneOut, IsPassOut, IsCloserOut, Accepts, Fills, Hands, Same, Closes}
+use Rattle.job_queue.specs.Locked.Step.{Sat, IsIdle, Knows, took, last_of, front_of, after_entry, after_full_entry, after_seen, after_taken, after_reading, after_close, IsLaneOut, IsPassOut, IsCloserOut, Accepts, Fills, Hands, Same, Closes}
 use Rattle.job_queue.proofs.DeedLemmas.{lane_own, lane_other, pass_own, pass_other, accepted-push, accepted-full, entered_bounded, waiting_made_for, open_before}
 use Rattle.job_queue.proofs.KeepLemmas.{St, lanes_in, passes_in, closers_in, lane_number, pass_number, closer_number, takes_slot, finds_taken, gives_slot}
 
@@ -87,9 +86,9 @@ module _ (sizes : Sizes) (s : St) (k : Keeps sizes s) (id : ℕ) (about : Sizes)
       let v : View = view about (r ∷ []) [] [] (Some x) in
       let w : View = lane_view about (lane_after d r) in
       gives_slot sizes s k id v me x y w d refl refl refl (omega arith) one_home may fits
-          (steps lanes_in lane_number s.views k.lanes id v me (lane_part (d ∷ k.history)) w r (lane_after d r) refl refl same_number (lane_own d k.history r.number own ∙ ap (lane_after d) (sym lane_mine.0)) (λ j ne. lane_other d k.history j (others j ne)))
-          (stays passes_in pass_number s.views k.passes id v me (pass_part (d ∷ k.history)) w refl (λ p. pass_other d k.history p (no_pass p)))
-          (stays closers_in closer_number s.views k.closers id v me (closer_part (d ∷ k.history)) w refl (closer_same d k.history same_close))
+      (steps lanes_in lane_number s.views k.lanes id v me (lane_part (d ∷ k.history)) w r (lane_after d r) refl refl same_number (lane_own d k.history r.number own ∙ ap (lane_after d) (sym lane_mine.0)) (λ j ne. lane_other d k.history j (others j ne)))
+      (stays passes_in pass_number s.views k.passes id v me (pass_part (d ∷ k.history)) w refl (λ p. pass_other d k.history p (no_pass p)))
+      (stays closers_in closer_number s.views k.closers id v me (closer_part (d ∷ k.history)) w refl (closer_same d k.history same_close))
 
   -- the count of accepted jobs of each lane
   counts_on : (d : Deed) (others : (j : ℕ) → j ≢ r.number → is_by_lane d j ≡ false) → get_or y.accepted.items r.number 0 ≡ length (accepted (lane_part (d ∷ k.history) r.number).entries)
@@ -114,17 +113,17 @@ module _ (sizes : Sizes) (s : St) (k : Keeps sizes s) (id : ℕ) (about : Sizes)
         seq,
       ) in
       gives_lane d own others (λ p. refl) refl refl
-          ((lane_mine.1, f.entries, sym f.closed ∙ a.open_line, subst (λ (z : LaneRecord). length z.entries < MAX_ENTRIES) lane_mine.0 a.unspent), omega (arith, a.room, ap length f.jobs, f.capacity), a.id ∙ ap (Rattle.job_queue.specs.Record.job_id r.number) seq, subst (λ (z : Sizes). IsMadeFor z.machine job) lane_about a.made_for)
-          record {
-            jobs = a.jobs ∙ ap (λ (js : List QueuedJob). js ++ job ∷ []) f.jobs;
-            lane_count = ap length a.accepted_by ∙ (length-set x.accepted.items r.number (get_or x.accepted.items r.number 0 + 1) ∙ f.lane_count);
-            accepted_by = counts_on d others
-                (ap (λ (ns : List ℕ). get_or ns r.number 0) a.accepted_by ∙ (get_or-set_same x.accepted.items r.number (get_or x.accepted.items r.number 0 + 1) 0 (omega (arith, lane_mine.1, f.lane_count)) ∙ sym one_more))
-                (λ j ne. ap (λ (ns : List ℕ). get_or ns j 0) a.accepted_by ∙ get_or-set_other x.accepted.items r.number j (get_or x.accepted.items r.number 0 + 1) 0 ne);
-            entries = omega (arith, a.entries, f.entries);
-            closed = a.mark.0 ∙ f.closed;
-            capacity = a.mark.1 ∙ f.capacity;
-          }
+      ((lane_mine.1, f.entries, sym f.closed ∙ a.open_line, subst (λ (z : LaneRecord). length z.entries < MAX_ENTRIES) lane_mine.0 a.unspent), omega (arith, a.room, ap length f.jobs, f.capacity), a.id ∙ ap (Rattle.job_queue.specs.Record.job_id r.number) seq, subst (λ (z : Sizes). IsMadeFor z.machine job) lane_about a.made_for)
+      record {
+        jobs = a.jobs ∙ ap (λ (js : List QueuedJob). js ++ job ∷ []) f.jobs;
+        lane_count = ap length a.accepted_by ∙ (length-set x.accepted.items r.number (get_or x.accepted.items r.number 0 + 1) ∙ f.lane_count);
+        accepted_by = counts_on d others
+            (ap (λ (ns : List ℕ). get_or ns r.number 0) a.accepted_by ∙ (get_or-set_same x.accepted.items r.number (get_or x.accepted.items r.number 0 + 1) 0 (omega (arith, lane_mine.1, f.lane_count)) ∙ sym one_more))
+            (λ j ne. ap (λ (ns : List ℕ). get_or ns j 0) a.accepted_by ∙ get_or-set_other x.accepted.items r.number j (get_or x.accepted.items r.number 0 + 1) 0 ne);
+        entries = omega (arith, a.entries, f.entries);
+        closed = a.mark.0 ∙ f.closed;
+        capacity = a.mark.1 ∙ f.capacity;
+      }
     where
       length_push : (js : List QueuedJob) (q : QueuedJob) → length (js ++ q ∷ []) ≡ length js + 1
       length_push [] q = refl
@@ -138,17 +137,17 @@ module _ (sizes : Sizes) (s : St) (k : Keeps sizes s) (id : ℕ) (about : Sizes)
       let others : (j : ℕ) → j ≢ r.number → is_by_lane d j ≡ false = λ j ne. ne_eqb r.number j (λ e. ne (sym e)) in
       let seq = f.accepted_by r.number lane_mine.1 in
       let as_many : length (accepted (lane_part (d ∷ k.history) r.number).entries) ≡ get_or x.accepted.items r.number 0 =
-          ap (λ (z : LaneRecord). length (accepted z.entries)) (lane_own d k.history r.number own) ∙ (ap length (accepted-full (lane_part k.history r.number).entries x.entries) ∙ sym seq) in
+      ap (λ (z : LaneRecord). length (accepted z.entries)) (lane_own d k.history r.number own) ∙ (ap length (accepted-full (lane_part k.history r.number).entries x.entries) ∙ sym seq) in
       gives_lane d own others (λ p. refl) refl refl
-          ((lane_mine.1, f.entries, sym f.closed ∙ a.open_line, subst (λ (z : LaneRecord). length z.entries < MAX_ENTRIES) lane_mine.0 a.unspent), omega (arith, a.full, ap length f.jobs, f.capacity))
-          record {
-            jobs = a.jobs ∙ f.jobs;
-            lane_count = ap length a.accepted_by ∙ f.lane_count;
-            accepted_by = counts_on d others (ap (λ (ns : List ℕ). get_or ns r.number 0) a.accepted_by ∙ sym as_many) (λ j ne. ap (λ (ns : List ℕ). get_or ns j 0) a.accepted_by);
-            entries = omega (arith, a.entries, f.entries);
-            closed = a.mark.0 ∙ f.closed;
-            capacity = a.mark.1 ∙ f.capacity;
-          }
+      ((lane_mine.1, f.entries, sym f.closed ∙ a.open_line, subst (λ (z : LaneRecord). length z.entries < MAX_ENTRIES) lane_mine.0 a.unspent), omega (arith, a.full, ap length f.jobs, f.capacity))
+      record {
+        jobs = a.jobs ∙ f.jobs;
+        lane_count = ap length a.accepted_by ∙ f.lane_count;
+        accepted_by = counts_on d others (ap (λ (ns : List ℕ). get_or ns r.number 0) a.accepted_by ∙ sym as_many) (λ j ne. ap (λ (ns : List ℕ). get_or ns j 0) a.accepted_by);
+        entries = omega (arith, a.entries, f.entries);
+        closed = a.mark.0 ∙ f.closed;
+        capacity = a.mark.1 ∙ f.capacity;
+      }
 
   pub gives_seen : x.closed ≡ true → Same x y → Keeps sizes (stepped s 0 0 id ((0, y) ∷ []) (lane_view about (lane_after (finds_closed r.number x.entries) r)) gives)
   gives_seen shut a =
@@ -158,14 +157,14 @@ module _ (sizes : Sizes) (s : St) (k : Keeps sizes s) (id : ℕ) (about : Sizes)
       let others : (j : ℕ) → j ≢ r.number → is_by_lane d j ≡ false = λ j ne. ne_eqb r.number j (λ e. ne (sym e)) in
       let seq = f.accepted_by r.number lane_mine.1 in
       gives_lane d own others (λ p. refl) refl refl (lane_mine.1, sym f.closed ∙ shut, f.entries)
-          record {
-            jobs = a.jobs ∙ f.jobs;
-            lane_count = ap length a.accepted_by ∙ f.lane_count;
-            accepted_by = counts_on d others (ap (λ (ns : List ℕ). get_or ns r.number 0) a.accepted_by ∙ (seq ∙ ap (λ (z : LaneRecord). length (accepted z.entries)) (sym (lane_own d k.history r.number own)))) (λ j ne. ap (λ (ns : List ℕ). get_or ns j 0) a.accepted_by);
-            entries = a.entries ∙ f.entries;
-            closed = a.mark.0 ∙ f.closed;
-            capacity = a.mark.1 ∙ f.capacity;
-          }
+      record {
+        jobs = a.jobs ∙ f.jobs;
+        lane_count = ap length a.accepted_by ∙ f.lane_count;
+        accepted_by = counts_on d others (ap (λ (ns : List ℕ). get_or ns r.number 0) a.accepted_by ∙ (seq ∙ ap (λ (z : LaneRecord). length (accepted z.entries)) (sym (lane_own d k.history r.number own)))) (λ j ne. ap (λ (ns : List ℕ). get_or ns j 0) a.accepted_by);
+        entries = a.entries ∙ f.entries;
+        closed = a.mark.0 ∙ f.closed;
+        capacity = a.mark.1 ∙ f.capacity;
+      }
 
 pub accepts_step : (sizes : Sizes) (n : ℕ) → n ≡ 1 → (id : ℕ) (m : Sat) (r : LaneRecord) (x y : Store) (job : QueuedJob) → IsLaneOut m r x y → Accepts m.0.about r x job y → Allows (Keeps sizes) n id m 0 (λ _. 0) (λ _ w. w ≡ after_entry m)
 accepts_step sizes n one id m r x y job is a = subst (λ (z : Sat). Allows (Keeps sizes) n id z 0 (λ _. 0) (λ _ w. w ≡ after_entry z)) (sym is)
@@ -200,9 +199,9 @@ module _ (sizes : Sizes) (s : St) (k : Keeps sizes s) (id : ℕ) (about : Sizes)
       let v : View = view about [] (r ∷ []) [] (Some x) in
       let w : View = pass_view about (pass_after d r) in
       gives_slot sizes s k id v me x y w d refl refl refl (omega arith) one_home may fits
-          (stays lanes_in lane_number s.views k.lanes id v me (lane_part (d ∷ k.history)) w refl (λ l. lane_other d k.history l (no_lane l)))
-          (steps passes_in pass_number s.views k.passes id v me (pass_part (d ∷ k.history)) w r (pass_after d r) refl refl same_number (pass_own d k.history r.number own ∙ ap (pass_after d) (sym pass_mine.0)) (λ j ne. pass_other d k.history j (others j ne)))
-          (stays closers_in closer_number s.views k.closers id v me (closer_part (d ∷ k.history)) w refl (closer_same d k.history same_close))
+      (stays lanes_in lane_number s.views k.lanes id v me (lane_part (d ∷ k.history)) w refl (λ l. lane_other d k.history l (no_lane l)))
+      (steps passes_in pass_number s.views k.passes id v me (pass_part (d ∷ k.history)) w r (pass_after d r) refl refl same_number (pass_own d k.history r.number own ∙ ap (pass_after d) (sym pass_mine.0)) (λ j ne. pass_other d k.history j (others j ne)))
+      (stays closers_in closer_number s.views k.closers id v me (closer_part (d ∷ k.history)) w refl (closer_same d k.history same_close))
 
   pub gives_taken : (job : QueuedJob) → Hands x job y → Keeps sizes (stepped s 0 0 id ((0, y) ∷ []) (pass_view about (pass_after (takes_job r.number job) r)) gives)
   gives_taken job a =
@@ -211,28 +210,28 @@ module _ (sizes : Sizes) (s : St) (k : Keeps sizes s) (id : ℕ) (about : Sizes)
       let front : waiting k.history ≡ job ∷ y.jobs.items = sym f.jobs ∙ a.jobs in
       let behind : rest_of (waiting k.history) ≡ y.jobs.items = ap rest_of front in
       gives_pass d (eq-eqb r.number r.number refl) (λ j ne. ne_eqb r.number j (λ e. ne (sym e))) (λ l. refl) refl refl (pass_mine.1, front ∙ ap (λ (js : List QueuedJob). job ∷ js) (sym behind))
-          record {
-            jobs = sym behind;
-            lane_count = ap length a.accepted_by ∙ f.lane_count;
-            accepted_by = λ l within. ap (λ (ns : List ℕ). get_or ns l 0) a.accepted_by ∙ f.accepted_by l within;
-            entries = a.entries ∙ f.entries;
-            closed = a.mark.0 ∙ f.closed;
-            capacity = a.mark.1 ∙ f.capacity;
-          }
+      record {
+        jobs = sym behind;
+        lane_count = ap length a.accepted_by ∙ f.lane_count;
+        accepted_by = λ l within. ap (λ (ns : List ℕ). get_or ns l 0) a.accepted_by ∙ f.accepted_by l within;
+        entries = a.entries ∙ f.entries;
+        closed = a.mark.0 ∙ f.closed;
+        capacity = a.mark.1 ∙ f.capacity;
+      }
 
   pub gives_reading : x.jobs.items ≡ [] → Same x y → Keeps sizes (stepped s 0 0 id ((0, y) ∷ []) (pass_view about (pass_after (finds_empty r.number x.entries x.closed) r)) gives)
   gives_reading empty a =
       let d : Deed = finds_empty r.number x.entries x.closed in
       let f = pass_fits in
       gives_pass d (eq-eqb r.number r.number refl) (λ j ne. ne_eqb r.number j (λ e. ne (sym e))) (λ l. refl) refl refl (pass_mine.1, sym f.jobs ∙ empty, f.entries, f.closed)
-          record {
-            jobs = a.jobs ∙ f.jobs;
-            lane_count = ap length a.accepted_by ∙ f.lane_count;
-            accepted_by = λ l within. ap (λ (ns : List ℕ). get_or ns l 0) a.accepted_by ∙ f.accepted_by l within;
-            entries = a.entries ∙ f.entries;
-            closed = a.mark.0 ∙ f.closed;
-            capacity = a.mark.1 ∙ f.capacity;
-          }
+      record {
+        jobs = a.jobs ∙ f.jobs;
+        lane_count = ap length a.accepted_by ∙ f.lane_count;
+        accepted_by = λ l within. ap (λ (ns : List ℕ). get_or ns l 0) a.accepted_by ∙ f.accepted_by l within;
+        entries = a.entries ∙ f.entries;
+        closed = a.mark.0 ∙ f.closed;
+        capacity = a.mark.1 ∙ f.capacity;
+      }
 
 pub hands_step : (sizes : Sizes) (n : ℕ) → n ≡ 1 → (id : ℕ) (m : Sat) (r : PassRecord) (x y : Store) (job : QueuedJob) → IsPassOut m r x y → Hands x job y → Allows (Keeps sizes) n id m 0 (λ _. 0) (λ _ w. w ≡ after_taken m)
 hands_step sizes n one id m r x y job is a = subst (λ (z : Sat). Allows (Keeps sizes) n id z 0 (λ _. 0) (λ _ w. w ≡ after_taken z)) (sym is)
@@ -253,28 +252,28 @@ reads_step sizes n one id m r x y is empty a = subst (λ (z : Sat). Allows (Keep
 pub closes_step : (sizes : Sizes) (n : ℕ) → n ≡ 1 → (id : ℕ) (m : Sat) (x y : Store) → IsCloserOut m x y → Closes x y → Allows (Keeps sizes) n id m 0 (λ _. 0) (λ _ w. w ≡ after_close m)
 closes_step sizes n one id m x y is a = subst (λ (z : Sat). Allows (Keeps sizes) n id z 0 (λ _. 0) (λ _ w. w ≡ after_close z)) (sym is)
     (λ s k homes me small.
-        let about = m.0.about in
-        let before : CloserRecord = record { closed_at = None } in
-        let after : CloserRecord = record { closed_at = Some x.entries } in
-        let v : View = view about [] [] (before ∷ []) (Some x) in
-        let w : View = closer_view about (Some x.entries) in
-        let d : Deed = closes x.entries in
-        let f = k.found id v x me refl in
-        let open_line : closed_at k.history ≡ None = ap (λ (c : CloserRecord). c.closed_at) (sym (k.closers.each id v me).0.0) in (
-          w,
-          gives,
-          tt,
-          gives_slot sizes s k id v me x y w d refl refl refl (omega arith) (homes ∙ one) (open_before sizes k.history open_line, f.entries)
-              record {
-                jobs = a.jobs ∙ f.jobs;
-                lane_count = ap length a.accepted_by ∙ f.lane_count;
-                accepted_by = λ l within. ap (λ (ns : List ℕ). get_or ns l 0) a.accepted_by ∙ f.accepted_by l within;
-                entries = a.entries ∙ f.entries;
-                closed = a.closed;
-                capacity = a.capacity ∙ f.capacity;
-              }
-              (stays lanes_in lane_number s.views k.lanes id v me (lane_part (d ∷ k.history)) w refl (λ l. refl))
-              (stays passes_in pass_number s.views k.passes id v me (pass_part (d ∷ k.history)) w refl (λ p. refl))
-              (steps closers_in closer_number s.views k.closers id v me (closer_part (d ∷ k.history)) w before after refl refl refl refl (only_closer d k.history)),
-          refl,
-        ))
+    let about = m.0.about in
+    let before : CloserRecord = record { closed_at = None } in
+    let after : CloserRecord = record { closed_at = Some x.entries } in
+    let v : View = view about [] [] (before ∷ []) (Some x) in
+    let w : View = closer_view about (Some x.entries) in
+    let d : Deed = closes x.entries in
+    let f = k.found id v x me refl in
+    let open_line : closed_at k.history ≡ None = ap (λ (c : CloserRecord). c.closed_at) (sym (k.closers.each id v me).0.0) in (
+      w,
+      gives,
+      tt,
+      gives_slot sizes s k id v me x y w d refl refl refl (omega arith) (homes ∙ one) (open_before sizes k.history open_line, f.entries)
+          record {
+            jobs = a.jobs ∙ f.jobs;
+            lane_count = ap length a.accepted_by ∙ f.lane_count;
+            accepted_by = λ l within. ap (λ (ns : List ℕ). get_or ns l 0) a.accepted_by ∙ f.accepted_by l within;
+            entries = a.entries ∙ f.entries;
+            closed = a.closed;
+            capacity = a.capacity ∙ f.capacity;
+          }
+          (stays lanes_in lane_number s.views k.lanes id v me (lane_part (d ∷ k.history)) w refl (λ l. refl))
+          (stays passes_in pass_number s.views k.passes id v me (pass_part (d ∷ k.history)) w refl (λ p. refl))
+          (steps closers_in closer_number s.views k.closers id v me (closer_part (d ∷ k.history)) w before after refl refl refl refl (only_closer d k.history)),
+      refl,
+    ))

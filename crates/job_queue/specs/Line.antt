@@ -1,7 +1,6 @@
 -- Which line it is, and what a call does to the record of the lane or pass that makes it.
-use Rattle.std.specs.Prelude.{◌≡◌, ℕ, ◌+◌, ◌^◌, ◌⊎◌, List, [], ◌∷◌, ◌++◌, Option, Some, None, length}
+use Rattle.std.specs.Prelude.{◌≡◌, ℕ, ◌⊎◌, List, [], ◌∷◌, ◌++◌, Option, None, length}
 use Rattle.atomic_table.specs.Seated.{TableId}
-use Rattle.job_types.specs.Job.{JobData}
 use Rattle.job_types.specs.declared.reply.JobId.{JobId}
 use Rattle.job_queue.specs.declared.job_line.Sizes.{Sizes}
 use Rattle.job_queue.specs.declared.job_line.Refused.{Refused}

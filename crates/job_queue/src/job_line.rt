@@ -108,12 +108,19 @@ pub trait JobLine {
     type Note;
 
     ghost id: { Self → LineId };
+
     ghost is_lane: { LineId → Self.Lane → Type 0 };
+
     ghost is_pass: { LineId → Self.Pass → Type 0 };
+
     ghost is_closer: { LineId → Self.Closer → Type 0 };
+
     ghost is_note: { LineId → Self.Note → Type 0 };
+
     ghost lane_record: { Self.Lane → LaneRecord };
+
     ghost pass_record: { Self.Pass → PassRecord };
+
     ghost note_number: { Self.Note → ℕ };
 
     /// Opens a line. It reserves all its room before it makes a lane, a pass or the closer, and no

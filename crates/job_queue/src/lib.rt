@@ -13,5 +13,4 @@ mod record;
 pub use job_line::{
     JobLine, MAX_CAPACITY, MAX_ENTRIES, MAX_PASSES, Opened, Receipt, Refused, Rest, Sizes, Taken,
 };
-
 pub use record::{Entry, LaneRecord, PassRecord, QueuedJob, Reading};

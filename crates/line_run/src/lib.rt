@@ -4,11 +4,13 @@
 //! They show what the contract gives to a user of any line.
 #![tactic(auto)]
 
-mod drain;
-mod feed;
+mod draining;
+mod feeding;
+mod member;
+mod pair;
+mod running;
 
-mod run;
-
-pub use drain::drain;
-pub use feed::feed;
-
+pub use draining::drain;
+pub use feeding::feed;
+pub use member::{Door, Feeder, Naming, Taker};
+pub use running::{Finished, run};

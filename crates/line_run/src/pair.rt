@@ -1,5 +1,5 @@
 // A list of two members, taken apart and put together again.
-ghost use Rattle.std.specs.Prelude.{◌≡◌, ℕ, ◌≤◌, [], ◌∷◌, length};
+ghost use Rattle.std.specs.Prelude.{◌≡◌, ◌≤◌, [], ◌∷◌, length};
 ghost use Rattle.std.specs.Vec.{vec_capacity};
 
 // Both members, and the list with its room.

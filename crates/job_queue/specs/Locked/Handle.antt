@@ -1,5 +1,5 @@
 -- A locked line and its handles as plain data.
-use Rattle.std.specs.Prelude.{◌≡◌, ℕ, ◌<◌, Option, Some, None, List, [], ◌∷◌, length}
+use Rattle.std.specs.Prelude.{◌≡◌, ℕ, [], ◌∷◌}
 use Rattle.atomic_table.specs.Seated.{TableId}
 use Rattle.job_queue.specs.declared.job_line.Sizes.{Sizes}
 use Rattle.job_queue.specs.declared.record.LaneRecord.{LaneRecord}
@@ -10,7 +10,7 @@ use Rattle.job_queue.specs.declared.locked.handle.Pass.{Pass}
 use Rattle.job_queue.specs.declared.locked.handle.Closer.{Closer}
 use Rattle.job_queue.specs.declared.locked.handle.CloseNote.{CloseNote}
 use Rattle.job_queue.specs.Line.{LineId}
-use Rattle.job_queue.specs.Locked.Step.{Sat, lane_in, pass_in}
+use Rattle.job_queue.specs.Locked.Step.{lane_in, pass_in}
 
 abbrev pub table_of : StoreLock → TableId
 table_of lock = lock.table.shared.table_id

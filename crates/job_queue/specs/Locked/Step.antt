@@ -12,7 +12,7 @@ use Rattle.job_queue.specs.declared.locked.store.Store.{Store}
 use Rattle.job_queue.specs.declared.locked.view.View.{View}
 use Rattle.job_queue.specs.Record.{accepted, entry, reading, job_id, fresh_lane, fresh_pass, IsSettled}
 use Rattle.job_queue.specs.Line.{IsMadeFor}
-use Rattle.job_queue.specs.Locked.View.{lane_view, pass_view, closer_view, holding, members, rest_of, KeepsMark}
+use Rattle.job_queue.specs.Locked.View.{lane_view, pass_view, closer_view, holding, members, KeepsMark}
 
 abbrev pub Sat : Type 0
 Sat = Me Store View

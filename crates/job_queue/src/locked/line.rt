@@ -26,19 +26,29 @@ pub struct LockedLine {
 
 impl JobLine for LockedLine {
     type Lane = Lane;
+
     type Pass = Pass;
+
     type Closer = Closer;
+
     type Note = CloseNote;
 
     ghost use Rattle.job_queue.specs.Locked.Handle.{line_id, is_lane as IsLane, is_pass as IsPass, is_closer as IsCloser, is_note as IsNote, lane_record as record_of_lane, pass_record as record_of_pass, note_number as number_of_note};
 
     ghost id = { λ line. line_id line.lock };
+
     ghost is_lane = { IsLane };
+
     ghost is_pass = { IsPass };
+
     ghost is_closer = { IsCloser };
+
     ghost is_note = { IsNote };
+
     ghost lane_record = { record_of_lane };
+
     ghost pass_record = { record_of_pass };
+
     ghost note_number = { number_of_note };
 
     fn lane_number(lane: &Lane) -> u32 {
@@ -86,7 +96,11 @@ impl JobLine for LockedLine {
             Err(saw) => {
                 let closed = self.lock.closed_at(&mut pass.seat).is_some();
                 self.lock.read(&mut pass.seat, saw);
-                if closed { Taken::Ended } else { Taken::EmptyNow }
+                if closed {
+                    Taken::Ended
+                } else {
+                    Taken::EmptyNow
+                }
             }
         }
     }

@@ -12,20 +12,18 @@ use super::store_lock::{Seat, StoreLock};
 use std::collections::VecDeque;
 
 // Makes the lanes, of the first seat's records.
-pub fn deal_lanes(
-    lock: &StoreLock,
-    seat: &mut Seat,
-    mut lanes: Vec<Lane>,
-    count: u32,
-) -> Vec<Lane>
+pub fn deal_lanes(lock: &StoreLock, seat: &mut Seat, mut lanes: Vec<Lane>, count: u32) -> Vec<Lane>
     requires table { seat.old.table_id ≡ table_of lock.now }
     requires first { seat.old.me ≡ (first_view (sizes_of lock.now), []) }
     requires count { count ≡ (sizes_of lock.now).lanes }
     requires none_yet { lanes.items ≡ [] }
     requires room { count ≤ vec_capacity lanes }
     ensures table { seat.new.table_id ≡ table_of lock.now }
-    ensures left { seat.new.me ≡ (view (sizes_of lock.now) [] (first_view (sizes_of lock.now)).passes
-        (first_view (sizes_of lock.now)).closers None, []) }
+    ensures left { seat.new.me ≡ (
+      view (sizes_of lock.now) [] (first_view (sizes_of lock.now)).passes
+          (first_view (sizes_of lock.now)).closers None,
+      [],
+    ) }
     ensures lanes { All (is_lane (line_id lock.now)) result.items }
     ensures fresh { map lane_record result.items ≡ fresh_lanes count }
 {
@@ -48,8 +46,11 @@ pub fn deal_passes(
     count: u32,
 ) -> Vec<Pass>
     requires table { seat.old.table_id ≡ table_of lock.now }
-    requires left { seat.old.me ≡ (view (sizes_of lock.now) [] (first_view (sizes_of lock.now)).passes
-        (first_view (sizes_of lock.now)).closers None, []) }
+    requires left { seat.old.me ≡ (
+      view (sizes_of lock.now) [] (first_view (sizes_of lock.now)).passes
+          (first_view (sizes_of lock.now)).closers None,
+      [],
+    ) }
     requires count { count ≡ (sizes_of lock.now).passes }
     requires none_yet { passes.items ≡ [] }
     requires room { count ≤ vec_capacity passes }
@@ -71,9 +72,12 @@ pub fn gather_lanes(lock: &StoreLock, seat: &mut Seat, lanes: Vec<Lane>)
     requires idle { IsIdle seat.old.me }
     requires lanes { All (is_lane (line_id lock.now)) lanes.items }
     ensures table { seat.new.table_id ≡ table_of lock.now }
-    ensures records { seat.new.me ≡ (view seat.old.me.0.about
-        (seat.old.me.0.lanes ++ map lane_record lanes.items)
-        seat.old.me.0.passes seat.old.me.0.closers None, []) }
+    ensures records { seat.new.me ≡ (
+      view seat.old.me.0.about
+          (seat.old.me.0.lanes ++ map lane_record lanes.items)
+          seat.old.me.0.passes seat.old.me.0.closers None,
+      [],
+    ) }
 {
     let mut lanes = VecDeque::from_vec(lanes);
     while let Some(lane) = lanes.pop_front() {
@@ -93,9 +97,12 @@ pub fn gather_passes(lock: &StoreLock, seat: &mut Seat, passes: Vec<Pass>)
     requires idle { IsIdle seat.old.me }
     requires passes { All (is_pass (line_id lock.now)) passes.items }
     ensures table { seat.new.table_id ≡ table_of lock.now }
-    ensures records { seat.new.me ≡ (view seat.old.me.0.about seat.old.me.0.lanes
-        (seat.old.me.0.passes ++ map pass_record passes.items)
-        seat.old.me.0.closers None, []) }
+    ensures records { seat.new.me ≡ (
+      view seat.old.me.0.about seat.old.me.0.lanes
+          (seat.old.me.0.passes ++ map pass_record passes.items)
+          seat.old.me.0.closers None,
+      [],
+    ) }
 {
     let mut passes = VecDeque::from_vec(passes);
     while let Some(pass) = passes.pop_front() {

@@ -95,6 +95,10 @@ impl Store {
         ensures { MatchOption result (self.now.closed ≡ false) (λ n.
             (self.now.closed ≡ true) × (n ≡ self.now.entries)) }
     {
-        if self.closed { Some(self.entries) } else { None }
+        if self.closed {
+            Some(self.entries)
+        } else {
+            None
+        }
     }
 }

@@ -1,8 +1,7 @@
-use Rattle.std.proofs.Common.{◌≡◌, ℕ, suc, ◌+◌, ◌-◌, ◌∷◌, ◌++◌, [], List, map, None, length, sym, refl, ap, ◌∙◌, arith}
+use Rattle.std.proofs.Common.{◌≡◌, ℕ, suc, ◌+◌, ◌-◌, ◌∷◌, ◌++◌, [], List, map, None, sym, refl, ap, ◌∙◌, arith}
 use Rattle.std.proofs.lemmas.List.{map-append}
 use Rattle.std.proofs.lemmas.List.Elements.{All-push, All-same}
 use Rattle.atomic_table.specs.Seated.{TableId}
-use Rattle.job_queue.specs.declared.locked.view.View.{View}
 use Rattle.job_queue.specs.declared.record.LaneRecord.{LaneRecord}
 use Rattle.job_queue.specs.Record.{fresh_lane, fresh_lanes}
 use Rattle.job_queue.specs.Locked.View.{view, first_view, lanes_from, lane_view, without_lane, lane_alone}
@@ -17,7 +16,7 @@ invariant_of-push_reserved c =
     let i = c.loop-number.number in
     let one_more : c.args.count - i ≡ suc (c.args.count - (i + 1)) = omega arith in
     let is : c.deal_lane-seat.result.me ≡ (lane_view first.about (fresh_lane i), []) =
-        c.deal_lane-seat.ensures.dealt ∙ (ap (λ (m : Sat). (lane_alone m.0, [])) c.loop-number.invariant.1 ∙ ap (λ (n : ℕ). (lane_alone (view first.about (lanes_from i n) first.passes first.closers None), [])) one_more) in
+    c.deal_lane-seat.ensures.dealt ∙ (ap (λ (m : Sat). (lane_alone m.0, [])) c.loop-number.invariant.1 ∙ ap (λ (n : ℕ). (lane_alone (view first.about (lanes_from i n) first.passes first.closers None), [])) one_more) in
     record { known = lane_seat _ first.about (fresh_lane i) i 0 is refl refl (refl, refl) (omega (arith, c.loop-number-test.true, c.requires.count)) }
 
 pub loop-number-preserved : goal.loop-number-preserved

@@ -1,8 +1,7 @@
-use Rattle.std.proofs.Common.{◌≡◌, ℕ, suc, ◌+◌, ◌-◌, ◌∷◌, ◌++◌, [], List, map, None, length, sym, refl, ap, ◌∙◌, arith}
+use Rattle.std.proofs.Common.{◌≡◌, ℕ, suc, ◌+◌, ◌-◌, ◌∷◌, ◌++◌, [], List, map, None, sym, ap, ◌∙◌, arith}
 use Rattle.std.proofs.lemmas.List.{map-append}
 use Rattle.std.proofs.lemmas.List.Elements.{All-push, All-same}
 use Rattle.atomic_table.specs.Seated.{TableId}
-use Rattle.job_queue.specs.declared.locked.view.View.{View}
 use Rattle.job_queue.specs.declared.record.PassRecord.{PassRecord}
 use Rattle.job_queue.specs.Record.{fresh_pass, fresh_passes}
 use Rattle.job_queue.specs.Locked.View.{view, first_view, passes_from, pass_view, without_pass, pass_alone}
@@ -17,7 +16,7 @@ invariant_of-push_reserved c =
     let i = c.loop.counter in
     let one_more : c.args.count - i ≡ suc (c.args.count - (i + 1)) = omega arith in
     let is : c.deal_pass-seat.result.me ≡ (pass_view first.about (fresh_pass i), []) =
-        c.deal_pass-seat.ensures.dealt ∙ (ap (λ (m : Sat). (pass_alone m.0, [])) c.loop.invariant.1 ∙ ap (λ (n : ℕ). (pass_alone (view first.about [] (passes_from i n) first.closers None), [])) one_more) in
+    c.deal_pass-seat.ensures.dealt ∙ (ap (λ (m : Sat). (pass_alone m.0, [])) c.loop.invariant.1 ∙ ap (λ (n : ℕ). (pass_alone (view first.about [] (passes_from i n) first.closers None), [])) one_more) in
     record { known = pass_seat _ first.about (fresh_pass i) is }
 
 pub loop-preserved : goal.loop-preserved

@@ -1,12 +1,9 @@
-use Rattle.std.proofs.Common.{◌≡◌, ℕ, ◌+◌, ◌<◌, ◌∷◌, ◌++◌, [], List, map, None, length, length-append, append_assoc, sym, refl, ap, ◌∙◌, subst, arith}
+use Rattle.std.proofs.Common.{◌≡◌, ◌∷◌, ◌++◌, [], List, map, None, length-append, append_assoc, sym, refl, ap, ◌∙◌, subst, arith}
 use Rattle.std.proofs.lemmas.List.{append-nil}
 use Rattle.std.proofs.lemmas.List.Elements.{All-rest}
-use Rattle.job_queue.specs.declared.record.LaneRecord.{LaneRecord}
 use Rattle.job_queue.specs.declared.record.PassRecord.{PassRecord}
 use Rattle.job_queue.specs.declared.locked.view.CloserRecord.{CloserRecord}
-use Rattle.job_queue.specs.declared.locked.handle.Lane.{Lane}
-use Rattle.job_queue.specs.declared.locked.handle.Pass.{Pass}
-use Rattle.job_queue.specs.Locked.View.{view, lane_view, joined, members}
+use Rattle.job_queue.specs.Locked.View.{view, joined}
 use Rattle.job_queue.specs.Locked.Step.{Sat, IsIdle, lane_in}
 use Rattle.job_queue.specs.Locked.Handle.{line_id, is_lane, lane_record}
 use Rattle.job_queue.proofs.locked.members.gather_lanes.Goals as goal
@@ -19,7 +16,7 @@ loop-lane-preserved c =
     let lane = c.in-Some.lane in
     let r = lane_in lane.seat.me.0.lanes in
     let is : c.gather.new.seat.me ≡ (view a.about (L ++ r ∷ []) a.passes a.closers None, []) =
-        c.gather.ensures.both ∙ (ap (λ (m : Sat). (joined m.0 lane.seat.me.0, [])) inv.2 ∙ (ap (λ (m : Sat). (joined (view a.about L a.passes a.closers None) m.0, [])) lane.known.alone ∙ (ap (λ (ps : List PassRecord). (view a.about (L ++ r ∷ []) ps (a.closers ++ []) None, [])) (append-nil a.passes) ∙ ap (λ (cs : List CloserRecord). (view a.about (L ++ r ∷ []) a.passes cs None, [])) (append-nil a.closers)))) in
+    c.gather.ensures.both ∙ (ap (λ (m : Sat). (joined m.0 lane.seat.me.0, [])) inv.2 ∙ (ap (λ (m : Sat). (joined (view a.about L a.passes a.closers None) m.0, [])) lane.known.alone ∙ (ap (λ (ps : List PassRecord). (view a.about (L ++ r ∷ []) ps (a.closers ++ []) None, [])) (append-nil a.passes) ∙ ap (λ (cs : List CloserRecord). (view a.about (L ++ r ∷ []) a.passes cs None, [])) (append-nil a.closers)))) in
     let items = c.in-Some.ensures.items in
     let rest = c.pop_front.new.self.items in (
       c.gather.ensures.table,

@@ -1,4 +1,4 @@
-use Rattle.std.proofs.Common.{◌≡◌, ◌++◌, ◌<◌, None, [], map, length}
+use Rattle.std.proofs.Common.{◌≡◌, ◌++◌, None, [], map, length}
 use Rattle.std.specs.List.{All}
 use Rattle.job_queue.specs.Locked.View.{view}
 use Rattle.job_queue.specs.Locked.Step.{IsIdle}

@@ -1,17 +1,15 @@
-use Rattle.std.proofs.Common.{◌≡◌, ℕ, ◌∷◌, ◌++◌, [], List, Some, None, map, length, get_or, sym, refl, ap, subst, ◌∙◌, arith}
+use Rattle.std.proofs.Common.{◌≡◌, ℕ, ◌∷◌, ◌++◌, [], List, Some, None, map, length, get_or, sym, refl, ap, subst, ◌∙◌}
 use Rattle.std.proofs.lemmas.List.{length-map}
 use Rattle.std.specs.List.{AllByRecursion}
 use Rattle.std.proofs.lemmas.List.Elements.{All-from_recursion}
-use Rattle.histories.specs.Sums.{total, is_at}
+use Rattle.histories.specs.Sums.{is_at}
 use Rattle.histories.proofs.SumLemmas.{total-map}
 use Rattle.job_queue.specs.declared.job_line.Sizes.{Sizes}
 use Rattle.job_queue.specs.declared.record.LaneRecord.{LaneRecord}
 use Rattle.job_queue.specs.declared.locked.store.Store.{Store}
 use Rattle.job_queue.specs.declared.locked.handle.Lane.{Lane}
 use Rattle.job_queue.specs.declared.locked.handle.Pass.{Pass}
-use Rattle.job_queue.specs.declared.locked.line.LockedLine.{LockedLine}
 use Rattle.job_queue.specs.Record.{accepted}
-use Rattle.job_queue.specs.Run.{WholeRun}
 use Rattle.job_queue.specs.Locked.View.{view, closer_view}
 use Rattle.job_queue.specs.Locked.Step.{Sat}
 use Rattle.job_queue.specs.Locked.Handle.{sizes_of, lane_record, pass_record}
@@ -25,7 +23,7 @@ all_records : (m gathered whole : Sat) (n : ℕ) (lanes : List Lane) (passes : L
     → whole ≡ (view m.0.about (map lane_record lanes) (map pass_record passes) (record { closed_at = Some n } ∷ []) None, [])
 all_records m gathered whole n lanes passes closer with_lanes with_passes =
     let first : gathered ≡ (view m.0.about (map lane_record lanes) [] (record { closed_at = Some n } ∷ []) None, []) =
-        with_lanes ∙ ap (λ (z : Sat). (view m.0.about (z.0.lanes ++ map lane_record lanes) z.0.passes z.0.closers None, [])) closer in
+    with_lanes ∙ ap (λ (z : Sat). (view m.0.about (z.0.lanes ++ map lane_record lanes) z.0.passes z.0.closers None, [])) closer in
     with_passes ∙ ap (λ (z : Sat). (view z.0.about z.0.lanes (z.0.passes ++ map pass_record passes) z.0.closers None, [])) first
 
 -- the end, in terms of the handles

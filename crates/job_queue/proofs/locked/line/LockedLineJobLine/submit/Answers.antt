@@ -1,10 +1,8 @@
-use Rattle.std.proofs.Common.{◌≡◌, ℕ, ◌+◌, ◌<◌, ◌∷◌, ◌++◌, [], List, Option, Some, true, false, length, get_or, set, sym, refl, ap, subst, ◌∙◌, arith}
+use Rattle.std.proofs.Common.{ℕ, ◌+◌, ◌∷◌, ◌++◌, [], Option, Some, get_or, set, sym, refl, ap, subst, ◌∙◌, arith}
 use Rattle.job_types.specs.declared.reply.JobId.{JobId}
 use Rattle.job_queue.specs.declared.job_line.Sizes.{Sizes}
 use Rattle.job_queue.specs.declared.record.QueuedJob.{QueuedJob}
-use Rattle.job_queue.specs.declared.record.LaneRecord.{LaneRecord}
 use Rattle.job_queue.specs.Record.{entry, job_id, queued}
-use Rattle.job_queue.specs.Locked.View.{lane_view, holding}
 use Rattle.job_queue.specs.Locked.Step.{Sat, lane_in, last_of, after_entry, Accepts}
 use Rattle.job_queue.proofs.StepLemmas.{last-push}
 use Rattle.job_queue.proofs.HandleLemmas.{lane_took, lane_out, lane_may_push}

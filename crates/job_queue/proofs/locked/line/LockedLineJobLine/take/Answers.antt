@@ -1,7 +1,6 @@
-use Rattle.std.proofs.Common.{◌≡◌, ℕ, ◌∷◌, ◌++◌, [], List, Bool, Option, Some, None, true, false, sym, refl, ap, ◌∙◌}
+use Rattle.std.proofs.Common.{◌≡◌, ℕ, ◌∷◌, [], Bool, Option, Some, None, true, false, sym, refl, ap, ◌∙◌}
 use Rattle.std.specs.Option.{MatchOption, is_some}
 use Rattle.std.proofs.lemmas.Bool.{true≢false}
-use Rattle.job_queue.specs.declared.record.Reading.{Reading}
 use Rattle.job_queue.specs.Record.{reading}
 use Rattle.job_queue.specs.Locked.Step.{Sat, pass_in, after_reading}
 use Rattle.job_queue.proofs.HandleLemmas.{pass_took, pass_out}

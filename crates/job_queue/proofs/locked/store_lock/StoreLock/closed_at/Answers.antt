@@ -1,7 +1,6 @@
-use Rattle.std.proofs.Common.{rules, arith, refl, sym, ap, subst, ◌∙◌, ◌≡◌, ℕ, [], ◌∷◌, List, get_or, eqb-true, ne_eqb}
+use Rattle.std.proofs.Common.{sym, ap, ◌∙◌, ℕ, ◌∷◌, List}
 use Rattle.atomic_table.specs.Table.{rest}
 use Rattle.job_queue.specs.declared.locked.store.Store.{Store}
-use Rattle.job_queue.specs.Locked.View.{Pushes, Pops, Shuts}
 use Rattle.job_queue.proofs.locked.store_lock.StoreLock.closed_at.Goals as goal
 
 pub slot_mut-requires : goal.slot_mut-requires

@@ -1,4 +1,4 @@
-use Rattle.std.proofs.Common.{rules, arith, refl, sym, ap, subst, ◌∙◌, ◌≡◌, ℕ, [], ◌∷◌, List, get_or, eqb-true, ne_eqb}
+use Rattle.std.proofs.Common.{arith}
 use Rattle.job_queue.proofs.DealLemmas.{deals_pass}
 use Rattle.job_queue.proofs.locked.store_lock.StoreLock.deal_pass.Goals as goal
 

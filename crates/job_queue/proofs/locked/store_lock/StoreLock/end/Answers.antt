@@ -1,4 +1,3 @@
-use Rattle.std.proofs.Common.{rules, arith, refl, sym, ap, subst, ◌∙◌, ◌≡◌, ℕ, [], ◌∷◌, List, get_or, eqb-true, ne_eqb}
 use Rattle.job_queue.proofs.EndLemmas.{ends}
 use Rattle.job_queue.proofs.locked.store_lock.StoreLock.end.Goals as goal
 

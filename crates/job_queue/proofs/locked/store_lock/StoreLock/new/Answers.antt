@@ -1,4 +1,4 @@
-use Rattle.std.proofs.Common.{◌≡◌, sym, ap, subst, ◌∙◌, ℕ, [], ◌∷◌, ◌++◌, List}
+use Rattle.std.proofs.Common.{◌≡◌, sym, ap, subst, ◌∙◌, [], ◌∷◌, ◌++◌, List}
 use Rattle.atomic_table.specs.Table.{opening}
 use Rattle.job_queue.specs.declared.locked.store.Store.{Store}
 use Rattle.job_queue.specs.Locked.View.{first_view}
