@@ -1,3 +1,3 @@
 mod SlotLemmas
 mod BitLemmas
-mod MarksLemmas
+mod RepresentsLemmas

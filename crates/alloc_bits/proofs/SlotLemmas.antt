@@ -7,7 +7,7 @@ use Rattle.std.specs.FinMap.Entries.{find}
 use Rattle.std.specs.Cmp.{unsigned_tied}
 use Rattle.std.proofs.lemmas.Cmp.{nat_cmp_total}
 use Rattle.cube_shape.specs.declared.region.Region.{Region}
-use Rattle.alloc_bits.specs.Bits.{slot_of, pairs_from, pairs_of}
+use Rattle.alloc_bits.specs.Inner.{slot_of, pairs_from, pairs_of}
 
 same_key : (a b : ℕ) → a ≡ b → eq_by_cmp nat_cmp a b ≡ true
 same_key a b same = unsigned_tied a b ∙ eq-eqb a b same

@@ -33,8 +33,8 @@ pub struct AllocBits {
 }
 
 impl Model for AllocBits {
-    ghost use Rattle.alloc_bits.specs.Allocation.{Allocation, allocation_code};
-    ghost use Rattle.alloc_bits.specs.Bits.{Marks, pairs_of};
+    ghost use Rattle.alloc_bits.specs.Allocation.{Allocation};
+    ghost use Rattle.alloc_bits.specs.Inner.{Represents, allocation_code, pairs_of};
 
     ghost Value = { Allocation };
 
@@ -42,7 +42,7 @@ impl Model for AllocBits {
 
     ghost view = { λ a. record { dim = a.dim; pairs = pairs_of a.slots.items } };
 
-    ghost invariant = { λ a. Marks a.dim a.slots.items a.bits.items };
+    ghost invariant = { λ a. Represents a.dim a.slots.items a.bits.items };
 }
 
 impl AllocBits {
@@ -68,7 +68,7 @@ impl AllocBits {
 
     /// Whether a station holds a region.
     pub fn holds(&self, station: u32) -> bool
-        ensures told { IsTrue result ↔ IsSome (held_in self.now station) }
+        ensures held { IsTrue result ↔ IsSome (held_in self.now station) }
         ensures lawful { IsLawful self.now.dim (held_in self.now) }
     {
         slots::region_of(&self.slots, station).is_some()
@@ -85,8 +85,10 @@ impl AllocBits {
     ///
     /// A number past the processors of the machine is in no region.
     pub fn holder(&self, processor: u64) -> Option<u32>
-        ensures held { IfSome result (λ s. (a : HeldRegion) × (held_in self.now s ≡ Some a) × Covers a processor) }
-        ensures free { IfNone result ((s : ℕ) (a : HeldRegion) → held_in self.now s ≡ Some a → Covers a processor → ⊥) }
+        ensures held { IfSome result (λ s. (a : HeldRegion) × (held_in self.now s ≡ Some a)
+            × Covers a processor) }
+        ensures free { IfNone result ((s : ℕ) (a : HeldRegion) → held_in self.now s ≡ Some a
+            → Covers a processor → ⊥) }
     {
         slots::holder_of(&self.slots, processor)
     }
@@ -106,8 +108,10 @@ impl AllocBits {
         requires station { station < MAX_STATIONS }
         requires idle { held_in self.old station ≡ None }
         requires dim { k ≤ self.old.dim }
-        ensures first { IfOk result (λ r. (m : ℕ) × (r ≡ block k m) × IsFirstFit self.old.dim k (held_in self.old) m) }
-        ensures given { IfOk result (λ r. Gives self.old.dim station k (held_in self.old) (held_in self.new) r) }
+        ensures first { IfOk result (λ r. (m : ℕ) × (r ≡ block k m)
+            × IsFirstFit self.old.dim k (held_in self.old) m) }
+        ensures given { IfOk result (λ r.
+            Gives self.old.dim station k (held_in self.old) (held_in self.new) r) }
         ensures refused { OnErr result (HasNoFit self.old.dim k (held_in self.old)) }
         ensures unchanged { OnErr result (self.new ≡ self.old) }
         ensures dim_stays { self.new.dim ≡ self.old.dim }
@@ -116,7 +120,7 @@ impl AllocBits {
             return Err(NoSubcube);
         };
         bits::write(&mut self.bits, self.dim, region, true);
-        slots::put(&mut self.slots, station, Some(region));
+        slots::set_slot(&mut self.slots, station, Some(region));
         Ok(region)
     }
 
@@ -124,7 +128,8 @@ impl AllocBits {
     ///
     /// `NothingHeld` comes only where the station holds nothing, and changes nothing.
     pub fn release(&mut self, station: u32) -> Result<Region, NothingHeld>
-        ensures released { IfOk result (λ r. TakesBack station (held_in self.old) (held_in self.new) r) }
+        ensures released { IfOk result (λ r.
+            TakesBack station (held_in self.old) (held_in self.new) r) }
         ensures refused { OnErr result (held_in self.old station ≡ None) }
         ensures unchanged { OnErr result (self.new ≡ self.old) }
         ensures dim_stays { self.new.dim ≡ self.old.dim }
@@ -133,7 +138,7 @@ impl AllocBits {
             return Err(NothingHeld);
         };
         bits::write(&mut self.bits, self.dim, region, false);
-        slots::put(&mut self.slots, station, None);
+        slots::set_slot(&mut self.slots, station, None);
         Ok(region)
     }
 }

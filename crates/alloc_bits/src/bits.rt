@@ -2,7 +2,7 @@
 
 ghost use Rattle.std.specs.Prelude.{◌≡◌, ℕ, ◌+◌, ◌-◌, ◌^◌, ◌<◌, ◌≤◌, ◌↔◌, length, false, IsTrue, IfSome, IfNone};
 ghost use Rattle.cube_shape.specs.Region.{Covers, IsAligned, block};
-ghost use Rattle.alloc_bits.specs.Bits.{IsClear, IsFirstClear, bit_of};
+ghost use Rattle.alloc_bits.specs.Inner.{IsClear, IsFirstClear, bit_of};
 
 use cube_shape::{MAX_DIM, Region};
 
@@ -30,7 +30,7 @@ fn is_clear(bits: &[bool], n: u32, region: Region) -> bool
     requires region { IsAligned n region }
     ensures { IsTrue result ↔ IsClear bits.now region }
 {
-    let (start, end) = ends(n, region);
+    let (start, end) = bit_range(n, region);
     none_set(&bits[start..end])
 }
 
@@ -50,7 +50,7 @@ pub fn write(bits: &mut [bool], n: u32, region: Region, taken: bool)
     ensures inside { (p : ℕ) → Covers region p → bit_of bits.new p ≡ taken }
     ensures outside { (p : ℕ) → (Covers region p → ⊥) → bit_of bits.new p ≡ bit_of bits.old p }
 {
-    let (start, end) = ends(n, region);
+    let (start, end) = bit_range(n, region);
     bits[start..end].fill(taken);
 }
 
@@ -58,7 +58,7 @@ pub fn write(bits: &mut [bool], n: u32, region: Region, taken: bool)
 fn nth_region(n: u32, k: u32, m: u64) -> Region
     requires machine { n ≤ MAX_DIM }
     requires dim { k ≤ n }
-    requires place { m < 2 ^ (n - k) }
+    requires number { m < 2 ^ (n - k) }
     ensures { result ≡ block k m }
 {
     Region {
@@ -68,7 +68,7 @@ fn nth_region(n: u32, k: u32, m: u64) -> Region
 }
 
 // The first processor of a region, and the one after its last.
-fn ends(n: u32, region: Region) -> (usize, usize)
+fn bit_range(n: u32, region: Region) -> (usize, usize)
     requires machine { n ≤ MAX_DIM }
     requires region { IsAligned n region }
     ensures start { result.0 ≡ region.base }

@@ -3,7 +3,7 @@
 ghost use Rattle.std.specs.Prelude.{◌≡◌, ◌≢◌, ℕ, ◌^◌, ◌<◌, ◌≤◌, ◌↔◌, None, Some, length, IsTrue, IfNone, IfSome};
 ghost use Rattle.cube_shape.specs.declared.region.Region.{Region as HeldRegion};
 ghost use Rattle.cube_shape.specs.Region.{Covers};
-ghost use Rattle.alloc_bits.specs.Bits.{slot_of};
+ghost use Rattle.alloc_bits.specs.Inner.{slot_of};
 
 use cube_shape::{MAX_DIM, Region};
 
@@ -26,12 +26,14 @@ pub fn all_empty(slots: &[Option<Region>]) -> bool
 pub fn holder_of(slots: &[Option<Region>], processor: u64) -> Option<u32>
     requires count { length slots.now < 2 ^ 32 }
     requires limits { (s : ℕ) (a : HeldRegion) → slot_of slots.now s ≡ Some a → a.dim ≤ MAX_DIM }
-    ensures held { IfSome result (λ s. (a : HeldRegion) × (slot_of slots.now s ≡ Some a) × Covers a processor) }
-    ensures free { IfNone result ((s : ℕ) (a : HeldRegion) → slot_of slots.now s ≡ Some a → Covers a processor → ⊥) }
+    ensures held { IfSome result (λ s. (a : HeldRegion) × (slot_of slots.now s ≡ Some a)
+        × Covers a processor) }
+    ensures free { IfNone result ((s : ℕ) (a : HeldRegion) → slot_of slots.now s ≡ Some a
+        → Covers a processor → ⊥) }
 {
     for station in 0..slots.len() {
         if let Some(region) = slots[station]
-            && has(region, processor)
+            && covers(region, processor)
         {
             return Some(station as u32);
         }
@@ -40,7 +42,7 @@ pub fn holder_of(slots: &[Option<Region>], processor: u64) -> Option<u32>
 }
 
 // Whether a region has a processor.
-fn has(region: Region, processor: u64) -> bool
+fn covers(region: Region, processor: u64) -> bool
     requires { region.dim ≤ MAX_DIM }
     ensures { IsTrue result ↔ Covers region processor }
 {
@@ -48,7 +50,7 @@ fn has(region: Region, processor: u64) -> bool
 }
 
 /// Gives a station a region, or takes its region away.
-pub fn put(slots: &mut [Option<Region>], station: u32, region: Option<Region>)
+pub fn set_slot(slots: &mut [Option<Region>], station: u32, region: Option<Region>)
     requires { station < length slots.old }
     ensures len { length slots.new ≡ length slots.old }
     ensures own { slot_of slots.new station ≡ region }

@@ -78,7 +78,7 @@ fn four_free_processors_may_hold_no_aligned_region(rt: HostRuntime) -> Result<()
 }
 
 #[test]
-fn faults_tell_what_is_wrong(rt: HostRuntime) -> Result<(), Fail> {
+fn faults_as_text(rt: HostRuntime) -> Result<(), Fail> {
     let no_subcube = format!(in rt.alloc(); "{NoSubcube}")?;
     let nothing_held = format!(in rt.alloc(); "{NothingHeld}")?;
     assert_eq!(rt; no_subcube.as_str(), "no free subcube of this dimension");

@@ -9,12 +9,12 @@ use Rattle.std.proofs.lemmas.Option.{slice_get-get_or}
 use Rattle.std.proofs.lemmas.Bool.{cases_lt, cases_eq, eq-eqb, ne_eqb}
 use Rattle.collectives.specs.Laws.{MonoidLaws}
 use Rattle.collectives.specs.Places.{total, prefix_total, Holds}
-use Rattle.collectives.specs.Rounds.{item_at, TurnsPairs, gathered_low, gathered_high}
+use Rattle.collectives.specs.Inner.Rounds.{item_at, TurnsPairs, reduced_low, reduced_high}
 use Rattle.collectives.proofs.PairLemmas.{low_of_block, pair_fits}
 use Rattle.collectives.proofs.FoldLemmas.{range_total, range_total-add, range_total-one}
 
--- each rank of each block of so many ranks holds what is said of the block's first rank and of the
--- rank's place in the block
+-- each rank of each block of `size` ranks holds `held first offset`, where first is the block's first
+-- rank and offset the rank's distance from it
 abbrev pub EachInBlock : {M : Type 0} → M → ℕ → (ℕ → ℕ → M) → List M → Type 0
 EachInBlock unit size held items = (block offset : ℕ) → offset < size → block * size + offset < length items
     → item_at unit items (block * size + offset) ≡ held (block * size) offset
@@ -183,11 +183,11 @@ root_place root h positive =
 
 -- every rank that agrees with the root in its place within its block holds the block's total, and
 -- every other one the unit
-abbrev pub gathered : {M : Type 0} → M → (M → M → M) → ℕ → ℕ → List M → ℕ → ℕ → M
-gathered unit join root size old first offset = if offset == root % size then range_total join unit old first size else unit
+abbrev pub reduced : {M : Type 0} → M → (M → M → M) → ℕ → ℕ → List M → ℕ → ℕ → M
+reduced unit join root size old first offset = if offset == root % size then range_total join unit old first size else unit
 
-abbrev pub HoldsGathered : {M : Type 0} → M → (M → M → M) → ℕ → ℕ → List M → List M → Type 0
-HoldsGathered unit join root size old items = EachInBlock unit size (gathered unit join root size old) items
+abbrev pub HoldsReduced : {M : Type 0} → M → (M → M → M) → ℕ → ℕ → List M → List M → Type 0
+HoldsReduced unit join root size old items = EachInBlock unit size (reduced unit join root size old) items
 
 -- the lower rank of a pair, by the bit of the root and the place r of the root in its half
 low_cases : {M : Type 0} (unit a both sum : M) (h bit r place offset : ℕ) → offset < h → r < h → bit < 2 → place ≡ offset → (offset ≡ r → both ≡ sum) → (offset ≢ r → a ≡ unit)
@@ -234,26 +234,26 @@ high_cases unit b both sum h bit r place offset within r_within bit_is place_is 
 ]
 
 module _ {M : Type 0} {IsValue : M → Type 0} {unit : M} {join : M → M → M} (laws : MonoidLaws IsValue unit join) where
-  pub HoldsGathered-start : (root : ℕ) (items : List M) → All IsValue items → HoldsGathered unit join root 1 items items
-  HoldsGathered-start root items values block offset within below =
+  pub HoldsReduced-start : (root : ℕ) (items : List M) → All IsValue items → HoldsReduced unit join root 1 items items
+  HoldsReduced-start root items values block offset within below =
       let place : block * 1 + offset ≡ block * 1 = omega arith in
       let root_is = mod_below root 1 (omega arith) in
       ap (item_at unit items) place ∙ sym (range_total-one laws items (block * 1) values (omega arith))
       ∙ sym (if_same offset (root % 1) (range_total join unit items (block * 1) 1) unit (omega arith))
 
-  HoldsGathered-double : (root h : ℕ) (old items next : List M) → 0 < h → length items ≡ length next → length items % (2 * h) ≡ 0 → All IsValue old
-      → HoldsGathered unit join root h old items
-      → TurnsPairs unit h (gathered_low unit join root h) (gathered_high unit join root h) items next → HoldsGathered unit join root (2 * h) old next
-  HoldsGathered-double root h old items next positive same_length whole values before turned =
-      double_blocks unit h (gathered unit join root (2 * h) old) next positive (ap (λ n. n % (2 * h)) (sym same_length) ∙ whole)
+  HoldsReduced-double : (root h : ℕ) (old items next : List M) → 0 < h → length items ≡ length next → length items % (2 * h) ≡ 0 → All IsValue old
+      → HoldsReduced unit join root h old items
+      → TurnsPairs unit h (reduced_low unit join root h) (reduced_high unit join root h) items next → HoldsReduced unit join root (2 * h) old next
+  HoldsReduced-double root h old items next positive same_length whole values before turned =
+      double_blocks unit h (reduced unit join root (2 * h) old) next positive (ap (λ n. n % (2 * h)) (sym same_length) ∙ whole)
       (λ block offset within below.
       (let low = block * (2 * h) + offset in
       let first = block * (2 * h) in
       let a = item_at unit items low in
       let b = item_at unit items (low + h) in
       let pair = turned low (low_of_block block offset h within) (omega arith) in
-      let lower = block_item unit h (gathered unit join root h old) items before (2 * block) offset low first within (omega arith) (grind arith) (grind arith) in
-      let higher = block_item unit h (gathered unit join root h old) items before (2 * block + 1) offset (low + h) (first + h) within (omega arith) (grind arith) (grind arith) in
+      let lower = block_item unit h (reduced unit join root h old) items before (2 * block) offset low first within (omega arith) (grind arith) (grind arith) in
+      let higher = block_item unit h (reduced unit join root h old) items before (2 * block + 1) offset (low + h) (first + h) within (omega arith) (grind arith) (grind arith) in
       let place : low % h ≡ offset = place_in_half block offset h within in
       let rest : root % h < h = mod_below root h positive in
       let bit : root / h % 2 < 2 = omega arith in
@@ -262,7 +262,7 @@ module _ {M : Type 0} {IsValue : M → Type 0} {unit : M} {join : M → M → M}
       joined_ranges old first h values a b
       (lower ∙ if_same offset (root % h) (range_total join unit old first h) unit same)
       (higher ∙ if_same offset (root % h) (range_total join unit old (first + h) h) unit same) in
-      let at_root : (x : ℕ) → (if x == root / h % 2 * h + root % h then sum else unit) ≡ gathered unit join root (2 * h) old first x =
+      let at_root : (x : ℕ) → (if x == root / h % 2 * h + root % h then sum else unit) ≡ reduced unit join root (2 * h) old first x =
       λ x. ap (λ r. if x == r then sum else unit) (sym (root_place root h positive)) in (
         pair.0 ∙ low_cases unit a (join a b) sum h (root / h % 2) (root % h) (low % h) offset within rest bit place agree
             (λ other. lower ∙ if_other offset (root % h) (range_total join unit old first h) unit other) ∙ at_root offset,
@@ -282,14 +282,14 @@ module _ {M : Type 0} {IsValue : M → Type 0} {unit : M} {join : M → M → M}
           ap (λ x. join x b) a_is ∙ ap (join (range_total join unit old first h)) b_is ∙ sym (range_total-add laws old first h h values) ∙ ap (range_total join unit old first) twice
 
   -- a round of the reduction
-  pub HoldsGathered-round : (root k i half : ℕ) (old items next : List M) → IsRound (length items) k i half → length items ≡ length next → All IsValue old
-      → HoldsGathered unit join root (2 ^ i) old items
-      → TurnsPairs unit half (gathered_low unit join root half) (gathered_high unit join root half) items next → HoldsGathered unit join root (2 ^ (i + 1)) old next
-  HoldsGathered-round root k i half old items next round same_length values before turned =
+  pub HoldsReduced-round : (root k i half : ℕ) (old items next : List M) → IsRound (length items) k i half → length items ≡ length next → All IsValue old
+      → HoldsReduced unit join root (2 ^ i) old items
+      → TurnsPairs unit half (reduced_low unit join root half) (reduced_high unit join root half) items next → HoldsReduced unit join root (2 ^ (i + 1)) old next
+  HoldsReduced-round root k i half old items next round same_length values before turned =
       let n = length items in
-      let now : HoldsGathered unit join root half old items = subst (λ size. HoldsGathered unit join root size old items) (sym round.half_is) before in
-      let doubled = HoldsGathered-double root half old items next (IsRound-positive n k i half round) same_length (IsRound-whole n k i half round) values now turned in
-      subst (λ size. HoldsGathered unit join root size old next) (IsRound-next n k i half round) doubled
+      let now : HoldsReduced unit join root half old items = subst (λ size. HoldsReduced unit join root size old items) (sym round.half_is) before in
+      let doubled = HoldsReduced-double root half old items next (IsRound-positive n k i half round) same_length (IsRound-whole n k i half round) values now turned in
+      subst (λ size. HoldsReduced unit join root size old next) (IsRound-next n k i half round) doubled
 
 -- ---- the whole cube as one block
 
@@ -314,11 +314,11 @@ pub HoldsPrefixes-all : {M : Type 0} (unit : M) (join : M → M → M) (k : ℕ)
     → Holds items k (λ rank. prefix_total join unit old (rank + 1))
 HoldsPrefixes-all unit join k old items places prefixes = one_block unit k (λ first offset. range_total join unit old first (offset + 1)) items places prefixes
 
-pub HoldsGathered-all : {M : Type 0} (unit : M) (join : M → M → M) (root k : ℕ) (old items : List M) → root < 2 ^ k → length old ≡ 2 ^ k → length items ≡ 2 ^ k
-    → HoldsGathered unit join root (2 ^ k) old items → Holds items k (λ rank. if rank == root then total join unit old else unit)
-HoldsGathered-all unit join root k old items root_within old_places places before rank within =
+pub HoldsReduced-all : {M : Type 0} (unit : M) (join : M → M → M) (root k : ℕ) (old items : List M) → root < 2 ^ k → length old ≡ 2 ^ k → length items ≡ 2 ^ k
+    → HoldsReduced unit join root (2 ^ k) old items → Holds items k (λ rank. if rank == root then total join unit old else unit)
+HoldsReduced-all unit join root k old items root_within old_places places before rank within =
     let only : root ≡ 0 * 2 ^ k + root = omega arith in
     let small : root % 2 ^ k ≡ root = ap (λ n. n % 2 ^ k) only ∙ mod-mul-add 0 (2 ^ k) root root_within in
-    one_block unit k (gathered unit join root (2 ^ k) old) items places before rank within
+    one_block unit k (reduced unit join root (2 ^ k) old) items places before rank within
     ∙ ap (λ r. Some (if rank == r then range_total join unit old 0 (2 ^ k) else unit)) small
     ∙ ap (λ sum. Some (if rank == root then sum else unit)) (range_total-all unit join old (2 ^ k) old_places)

@@ -6,9 +6,9 @@ use Rattle.std.proofs.Math.Seq.{take-add}
 use Rattle.std.proofs.lemmas.List.Elements.{All-head, All-tail, All-take, All-drop, All-get_or}
 use Rattle.collectives.specs.Laws.{MonoidLaws}
 use Rattle.collectives.specs.Places.{total}
-use Rattle.collectives.specs.Rounds.{item_at}
+use Rattle.collectives.specs.Inner.Rounds.{item_at}
 
--- so many items from one rank on, joined from the left
+-- `count` items from one rank on, joined from the left
 abbrev pub range_total : {M : Type 0} → (M → M → M) → M → List M → ℕ → ℕ → M
 range_total join unit items from count = total join unit (take count (drop from items))
 

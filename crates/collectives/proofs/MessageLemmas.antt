@@ -1,4 +1,4 @@
--- The order in which messages are counted: no two messages have one place, and the rounds rise.
+-- The order in which messages are counted: no two messages have one number, and the rounds rise.
 use Rattle.std.proofs.Common.{◌≡◌, ℕ, ◌+◌, ◌-◌, ◌*◌, ◌/◌, ◌%◌, ◌^◌, ◌<◌, ◌≤◌, inl, inr, refl, sym, ◌∙◌, ap, subst, arith}
 use Rattle.std.specs.Prelude.{bit_xor}
 use Rattle.std.proofs.lemmas.Nat.{xor_comm, xor_lt, pow-add, pow_pos, pow_below, shr_below, shr_split, mul-le}
@@ -6,10 +6,10 @@ use Rattle.std.proofs.lemmas.Bool.{cases_lt}
 use Rattle.std.proofs.Math.Pow.{pow_mono}
 use Rattle.collectives.specs.declared.shape.Shape.{Shape}
 use Rattle.collectives.specs.declared.shape.Shape.TheVariants.{Broadcast, Reduce, AllReduce, Scan}
-use Rattle.collectives.specs.declared.messages.Message.{Message}
+use Rattle.collectives.specs.declared.message.Message.{Message}
 use Rattle.collectives.specs.Shape.{message_count}
-use Rattle.collectives.specs.Messages.{IsAlongAnEdge, IsSpread, IsGathered, IsExchanged, IsMessage, messages_before, place_in_round, place_of}
-use Rattle.collectives.specs.OperationLaws.{xor_assoc}
+use Rattle.collectives.specs.Messages.{IsAlongAnEdge, IsBroadcastMessage, IsReduceMessage, IsExchangeMessage, IsMessage, messages_before, number_in_round, message_number}
+use Rattle.collectives.specs.Inner.OperationLaws.{xor_assoc}
 use Rattle.collectives.proofs.XorLemmas.{xor_back, xor_once, add_is_xor}
 
 same_parts : (m n : Message) → m.round ≡ n.round → m.from ≡ n.from → m.to ≡ n.to → m ≡ n
@@ -41,94 +41,94 @@ messages_before-all Reduce k = let none : k - k ≡ 0 = omega arith in ap (λ e.
 messages_before-all AllReduce k = refl
 messages_before-all Scan k = refl
 
-spread_place : (root : ℕ) (m : Message) → IsSpread root m → bit_xor m.from root < 2 ^ m.round
-spread_place root m (v, v_within, from, to) =
-    let place : bit_xor m.from root ≡ v = ap (λ x. bit_xor x root) from ∙ xor_back v root in omega arith
+broadcast_number : (root : ℕ) (m : Message) → IsBroadcastMessage root m → bit_xor m.from root < 2 ^ m.round
+broadcast_number root m (v, v_within, from, to) =
+    let number : bit_xor m.from root ≡ v = ap (λ x. bit_xor x root) from ∙ xor_back v root in omega arith
 
-exchanged_place : (k : ℕ) (m : Message) → IsExchanged k m → m.round * 2 ^ k + m.from < (m.round + 1) * 2 ^ k
-exchanged_place k m is = let product : (m.round + 1) * 2 ^ k ≡ m.round * 2 ^ k + 2 ^ k = grind arith in omega (arith, is.0)
+exchange_number : (k : ℕ) (m : Message) → IsExchangeMessage k m → m.round * 2 ^ k + m.from < (m.round + 1) * 2 ^ k
+exchange_number k m is = let product : (m.round + 1) * 2 ^ k ≡ m.round * 2 ^ k + 2 ^ k = grind arith in omega (arith, is.0)
 
-place_of-below : (shape : Shape) (k root : ℕ) (m : Message) → IsMessage shape k root m → place_of shape k root m < messages_before shape k (m.round + 1)
-place_of-below Broadcast k root m is =
-    let place = spread_place root m is.1 in
+message_number-below : (shape : Shape) (k root : ℕ) (m : Message) → IsMessage shape k root m → message_number shape k root m < messages_before shape k (m.round + 1)
+message_number-below Broadcast k root m is =
+    let number = broadcast_number root m is.1 in
     let next = next_power m.round in
     let positive = pow_pos m.round in
     omega arith
-place_of-below Reduce k root m is =
+message_number-below Reduce k root m is =
     let exponent : k ≡ k - (m.round + 1) + (m.round + 1) = omega (arith, is.0) in
     let within : m.to < 2 ^ (k - (m.round + 1) + (m.round + 1)) = subst (λ e. m.to < 2 ^ e) exponent is.1.0 in
-    let place = shr_below m.to (k - (m.round + 1)) (m.round + 1) within in
+    let number = shr_below m.to (k - (m.round + 1)) (m.round + 1) within in
     let earlier : k - m.round ≡ k - (m.round + 1) + 1 = omega (arith, is.0) in
     let twice : 2 ^ (k - m.round) ≡ 2 * 2 ^ (k - (m.round + 1)) = ap (λ e. 2 ^ e) earlier ∙ next_power (k - (m.round + 1)) in
     let most = power_at_most (k - m.round) k (omega arith) in
     omega arith
-place_of-below AllReduce k root m is = exchanged_place k m is.1
-place_of-below Scan k root m is = exchanged_place k m is.1
+message_number-below AllReduce k root m is = exchange_number k m is.1
+message_number-below Scan k root m is = exchange_number k m is.1
 
-pub place_of-within : (shape : Shape) (k root : ℕ) (m : Message) → IsMessage shape k root m → place_of shape k root m < message_count shape k
-place_of-within shape k root m is =
-    let below = place_of-below shape k root m is in
+pub message_number-within : (shape : Shape) (k root : ℕ) (m : Message) → IsMessage shape k root m → message_number shape k root m < message_count shape k
+message_number-within shape k root m is =
+    let below = message_number-below shape k root m is in
     let rounds = IsMessage-round shape k root m is in
     let mono = messages_before-mono shape k (m.round + 1) k (omega arith) in
     let all = messages_before-all shape k in
     omega arith
 
--- ---- one message, one place
+-- ---- no two messages have one number
 
-place_of-rounds : (shape : Shape) (k root : ℕ) (m : Message) → messages_before shape k m.round ≤ place_of shape k root m
-place_of-rounds shape k root m = omega arith
+message_number-rounds : (shape : Shape) (k root : ℕ) (m : Message) → messages_before shape k m.round ≤ message_number shape k root m
+message_number-rounds shape k root m = omega arith
 
-pub rounds_rise : (shape : Shape) (k root : ℕ) (m n : Message) → IsMessage shape k root n → place_of shape k root m ≤ place_of shape k root n → m.round ≤ n.round
+pub rounds_rise : (shape : Shape) (k root : ℕ) (m n : Message) → IsMessage shape k root n → message_number shape k root m ≤ message_number shape k root n → m.round ≤ n.round
 rounds_rise shape k root m n n_is order = elim (cases_lt n.round m.round) [
   | inl earlier ↦
-      let below = place_of-below shape k root n n_is in
+      let below = message_number-below shape k root n n_is in
       let mono = messages_before-mono shape k (n.round + 1) m.round (omega arith) in
-      let above = place_of-rounds shape k root m in
+      let above = message_number-rounds shape k root m in
       absurd (omega arith)
   | inr done ↦ done
 ]
 
-same_spread : (root : ℕ) (m n : Message) → IsSpread root m → IsSpread root n → m.round ≡ n.round → bit_xor m.from root ≡ bit_xor n.from root → m ≡ n
-same_spread root m n (v, v_within, m_from, m_to) (w, w_within, n_from, n_to) round place =
-    let from : m.from ≡ n.from = xor_once m.from n.from root place in
+same_broadcast : (root : ℕ) (m n : Message) → IsBroadcastMessage root m → IsBroadcastMessage root n → m.round ≡ n.round → bit_xor m.from root ≡ bit_xor n.from root → m ≡ n
+same_broadcast root m n (v, v_within, m_from, m_to) (w, w_within, n_from, n_to) round number =
+    let from : m.from ≡ n.from = xor_once m.from n.from root number in
     let one : v ≡ w = xor_once v w root (sym m_from ∙ from ∙ n_from) in
     same_parts m n round from (m_to ∙ ap (λ x. bit_xor (x + 2 ^ m.round) root) one ∙ ap (λ r. bit_xor (w + 2 ^ r) root) round ∙ sym n_to)
 
-same_gathered : (k root : ℕ) (m n : Message) → IsGathered k root m → IsGathered k root n → m.round ≡ n.round → m.to / 2 ^ (m.round + 1) ≡ n.to / 2 ^ (n.round + 1) → m ≡ n
-same_gathered k root m n m_is n_is round place =
+same_reduce : (k root : ℕ) (m n : Message) → IsReduceMessage k root m → IsReduceMessage k root n → m.round ≡ n.round → m.to / 2 ^ (m.round + 1) ≡ n.to / 2 ^ (n.round + 1) → m ≡ n
+same_reduce k root m n m_is n_is round number =
     let size = 2 ^ (n.round + 1) in
     let same_size : 2 ^ (m.round + 1) ≡ size = ap (λ r. 2 ^ (r + 1)) round in
     let rest : m.to % 2 ^ (m.round + 1) ≡ n.to % size = m_is.1 ∙ ap (λ s. root % s) same_size ∙ sym n_is.1 in
     let to : m.to ≡ n.to =
-    sym (shr_split m.to (m.round + 1)) ∙ ap (λ q. q * 2 ^ (m.round + 1) + m.to % 2 ^ (m.round + 1)) place
+    sym (shr_split m.to (m.round + 1)) ∙ ap (λ q. q * 2 ^ (m.round + 1) + m.to % 2 ^ (m.round + 1)) number
     ∙ ap (λ s. n.to / size * s + m.to % 2 ^ (m.round + 1)) same_size ∙ ap (λ r. n.to / size * size + r) rest ∙ shr_split n.to (n.round + 1) in
     same_parts m n round (m_is.2 ∙ ap (λ x. bit_xor x (2 ^ m.round)) to ∙ ap (λ r. bit_xor n.to (2 ^ r)) round ∙ sym n_is.2) to
 
-same_exchanged : (k : ℕ) (m n : Message) → IsExchanged k m → IsExchanged k n → m.round ≡ n.round → m.from ≡ n.from → m ≡ n
-same_exchanged k m n m_is n_is round from =
+same_exchange : (k : ℕ) (m n : Message) → IsExchangeMessage k m → IsExchangeMessage k n → m.round ≡ n.round → m.from ≡ n.from → m ≡ n
+same_exchange k m n m_is n_is round from =
     same_parts m n round from (m_is.1 ∙ ap (λ x. bit_xor x (2 ^ m.round)) from ∙ ap (λ r. bit_xor n.from (2 ^ r)) round ∙ sym n_is.1)
 
-same_place : (shape : Shape) (k root : ℕ) (m n : Message) → IsMessage shape k root m → IsMessage shape k root n → m.round ≡ n.round → place_in_round shape root m ≡ place_in_round shape root n → m ≡ n
-same_place Broadcast k root m n m_is n_is round place = same_spread root m n m_is.1 n_is.1 round place
-same_place Reduce k root m n m_is n_is round place = same_gathered k root m n m_is.1 n_is.1 round place
-same_place AllReduce k root m n m_is n_is round place = same_exchanged k m n m_is.1 n_is.1 round place
-same_place Scan k root m n m_is n_is round place = same_exchanged k m n m_is.1 n_is.1 round place
+same_number : (shape : Shape) (k root : ℕ) (m n : Message) → IsMessage shape k root m → IsMessage shape k root n → m.round ≡ n.round → number_in_round shape root m ≡ number_in_round shape root n → m ≡ n
+same_number Broadcast k root m n m_is n_is round number = same_broadcast root m n m_is.1 n_is.1 round number
+same_number Reduce k root m n m_is n_is round number = same_reduce k root m n m_is.1 n_is.1 round number
+same_number AllReduce k root m n m_is n_is round number = same_exchange k m n m_is.1 n_is.1 round number
+same_number Scan k root m n m_is n_is round number = same_exchange k m n m_is.1 n_is.1 round number
 
-pub one_message : (shape : Shape) (k root : ℕ) (m n : Message) → IsMessage shape k root m → IsMessage shape k root n → place_of shape k root m ≡ place_of shape k root n → m ≡ n
-one_message shape k root m n m_is n_is place =
+pub one_message : (shape : Shape) (k root : ℕ) (m n : Message) → IsMessage shape k root m → IsMessage shape k root n → message_number shape k root m ≡ message_number shape k root n → m ≡ n
+one_message shape k root m n m_is n_is number =
     let rising = rounds_rise shape k root m n n_is (omega arith) in
     let falling = rounds_rise shape k root n m m_is (omega arith) in
     let round : m.round ≡ n.round = omega arith in
     let before : messages_before shape k m.round ≡ messages_before shape k n.round = ap (messages_before shape k) round in
-    same_place shape k root m n m_is n_is round (omega arith)
+    same_number shape k root m n m_is n_is round (omega arith)
 
 -- ---- edges of the cube
 
 power_within : (k i : ℕ) → i < k → 2 ^ i < 2 ^ k
 power_within k i within = pow_below i k within
 
-spread_edge : (k root : ℕ) (m : Message) → root < 2 ^ k → m.round < k → IsSpread root m → IsAlongAnEdge k m
-spread_edge k root m root_within round (v, v_within, from, to) =
+broadcast_edge : (k root : ℕ) (m : Message) → root < 2 ^ k → m.round < k → IsBroadcastMessage root m → IsAlongAnEdge k m
+broadcast_edge k root m root_within round (v, v_within, from, to) =
     let next = next_power m.round in
     let most = power_at_most (m.round + 1) k (omega arith) in
     let v_below : v < 2 ^ k = omega arith in
@@ -143,16 +143,16 @@ spread_edge k root m root_within round (v, v_within, from, to) =
       edge = to ∙ turned ∙ ap (λ x. bit_xor x (2 ^ m.round)) (sym from);
     }
 
-gathered_edge : (k root : ℕ) (m : Message) → m.round < k → IsGathered k root m → IsAlongAnEdge k m
-gathered_edge k root m round is = record {
+reduce_edge : (k root : ℕ) (m : Message) → m.round < k → IsReduceMessage k root m → IsAlongAnEdge k m
+reduce_edge k root m round is = record {
   round = round;
   from = subst (λ x. x < 2 ^ k) (sym is.2) (xor_lt k m.to (2 ^ m.round) is.0 (power_within k m.round round));
   to = is.0;
   edge = sym (xor_back m.to (2 ^ m.round)) ∙ ap (λ x. bit_xor x (2 ^ m.round)) (sym is.2);
 }
 
-exchanged_edge : (k : ℕ) (m : Message) → m.round < k → IsExchanged k m → IsAlongAnEdge k m
-exchanged_edge k m round is = record {
+exchange_edge : (k : ℕ) (m : Message) → m.round < k → IsExchangeMessage k m → IsAlongAnEdge k m
+exchange_edge k m round is = record {
   round = round;
   from = is.0;
   to = subst (λ x. x < 2 ^ k) (sym is.1) (xor_lt k m.from (2 ^ m.round) is.0 (power_within k m.round round));
@@ -160,10 +160,10 @@ exchanged_edge k m round is = record {
 }
 
 pub IsMessage-edge : (shape : Shape) (k root : ℕ) (m : Message) → root < 2 ^ k → IsMessage shape k root m → IsAlongAnEdge k m
-IsMessage-edge Broadcast k root m root_within is = spread_edge k root m root_within is.0 is.1
-IsMessage-edge Reduce k root m root_within is = gathered_edge k root m is.0 is.1
-IsMessage-edge AllReduce k root m root_within is = exchanged_edge k m is.0 is.1
-IsMessage-edge Scan k root m root_within is = exchanged_edge k m is.0 is.1
+IsMessage-edge Broadcast k root m root_within is = broadcast_edge k root m root_within is.0 is.1
+IsMessage-edge Reduce k root m root_within is = reduce_edge k root m is.0 is.1
+IsMessage-edge AllReduce k root m root_within is = exchange_edge k m is.0 is.1
+IsMessage-edge Scan k root m root_within is = exchange_edge k m is.0 is.1
 
 pub exponent_below : (i k : ℕ) → 2 ^ i < 2 ^ k → i < k
 exponent_below i k below = elim (cases_lt i k) [

@@ -3,7 +3,7 @@ use Rattle.std.proofs.Common.{◌≡◌, ◌≢◌, ℕ, ◌+◌, ◌-◌, ◌*�
 use Rattle.std.proofs.lemmas.Nat.{div-add-mod', mod_below, mul-le, div-mul-add, mod-mul-add}
 use Rattle.std.proofs.lemmas.Bool.{cases_lt}
 use Rattle.std.proofs.Math.ListN.{length-set}
-use Rattle.collectives.specs.Rounds.{item_at, TurnsPair, TurnsPairs, TurnsPairsIn}
+use Rattle.collectives.specs.Inner.Rounds.{item_at, TurnsPair, TurnsPairs, TurnsPairsIn}
 
 pub div_next : (x h : ℕ) → 0 < h → (x + h) / h ≡ x / h + 1
 div_next x h positive =
@@ -178,7 +178,7 @@ Turned-block unit half start left right old new positive first so_far = record {
   others = λ low low_is within outside. so_far.others low low_is within (elim outside [ inl before ↦ inl before | inr after ↦ inr (omega arith) ]);
 }
 
--- the blocks of so many ranks cover whole blocks of them
+-- n ranks that divide into blocks of `size` are the ranks of these blocks
 pub blocks_cover : (n size blocks : ℕ) → n % size ≡ 0 → blocks ≡ n / size → n ≡ blocks * size
 blocks_cover n size blocks whole counted = omega (arith, div-add-mod' n size, ap (λ q. q * size) counted)
 
@@ -188,7 +188,7 @@ block_fits n size block below =
     let next : (block + 1) * size ≡ block * size + size = grind arith in
     omega (arith, div-add-mod' n size, up, next)
 
--- a block of so many ranks that begins within whole blocks of them ends within them
+-- a block of `size` ranks that begins within n ranks, which divide into such blocks, ends within them
 pub block_within : (n size start : ℕ) → n % size ≡ 0 → start % size ≡ 0 → start < n → start + size ≤ n
 block_within n size start whole first within = elim (cases_lt (start / size) (n / size)) [
   | inl below ↦ omega (arith, div-add-mod' start size, block_fits n size (start / size) below)

@@ -5,8 +5,8 @@ use Rattle.std.proofs.lemmas.Bool.{cases_lt}
 use Rattle.std.specs.Int.Bits.{xor_self, xor_zero_l, xor_zero_r, xor_disjoint}
 use Rattle.std.proofs.lemmas.Nat.{xor_lt, pow-add}
 use Rattle.std.proofs.lemmas.Nat.Bits.{and_pow, bit_at_above}
-use Rattle.collectives.specs.Rounds.{Doubles}
-use Rattle.collectives.specs.OperationLaws.{xor_assoc}
+use Rattle.collectives.specs.Inner.Rounds.{Doubles}
+use Rattle.collectives.specs.Inner.OperationLaws.{xor_assoc}
 
 pub xor_back : (a b : ℕ) → bit_xor (bit_xor a b) b ≡ a
 xor_back a b = xor_assoc a b b ∙ ap (bit_xor a) (xor_self b) ∙ xor_zero_r a
@@ -21,7 +21,7 @@ add_is_xor v i small =
     let clear : bit_and v (2 ^ i) ≡ 0 = and_pow v i ∙ ap (λ b. b * 2 ^ i) (bit_at_above v i i small (omega arith)) ∙ omega arith in
     sym (xor_disjoint v (2 ^ i) clear)
 
--- the first so many ranks, seen from the root, hold the root's item
+-- the first `count` ranks, seen from the root, hold the root's item
 abbrev pub HoldsRoot : {M : Type 0} → ℕ → ℕ → List M → List M → Type 0
 HoldsRoot root count old items = (v : ℕ) → v < count → slice_get items (bit_xor v root) ≡ slice_get old root
 

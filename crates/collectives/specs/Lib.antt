@@ -1,7 +1,7 @@
 pub mod Laws
 pub mod Operations
-pub mod OperationLaws
 pub mod Places
 pub mod Shape
 pub mod Messages
-pub mod Rounds
+pub mod Inner
+pub use Rattle.cube_shape.specs.Neighbour

@@ -1,14 +1,14 @@
--- What the 2 ^ k places of a subcube hold. The item of rank x stands at x.
+-- What the 2 ^ k places of a subcube hold. The item of rank x is at place x.
 use Rattle.std.specs.Prelude.{◌≡◌, ℕ, ◌^◌, ◌<◌, List, fold, take, Some, slice_get}
 
 -- all items, joined from the left
 abbrev pub total : {M : Type 0} → (M → M → M) → M → List M → M
 total join unit items = fold join unit items
 
--- the first so many items, joined from the left
+-- the first `count` items, joined from the left
 abbrev pub prefix_total : {M : Type 0} → (M → M → M) → M → List M → ℕ → M
 prefix_total join unit items count = total join unit (take count items)
 
--- each of the 2 ^ k places holds what is said of its rank
+-- the place of each rank below 2 ^ k holds `held rank`
 abbrev pub Holds : {M : Type 0} → List M → ℕ → (ℕ → M) → Type 0
 Holds places k held = (rank : ℕ) → rank < 2 ^ k → slice_get places rank ≡ Some (held rank)

@@ -1,12 +1,14 @@
+//! The four collectives, in place on a slice with an item for each rank.
+
 ghost use Rattle.std.specs.Prelude.{◌≡◌, ℕ, ◌+◌, ◌^◌, ◌<◌, length, All, slice_get, ◌==◌, if◌then◌else◌};
 ghost use Rattle.collectives.specs.Places.{Holds, prefix_total, total};
 ghost use Rattle.collectives.specs.Shape.{tally_of};
 
 use crate::monoid::Monoid;
-use crate::rounds::{distance, exchange, extend, gather, spread};
+use crate::rounds::{all_reduce_round, broadcast_round, distance, reduce_round, scan_round};
 use crate::shape::{DIM_LIMIT, Shape, Tally};
 
-/// Every place gets the item of the root's place, one of the `2^k`.
+/// Every place receives the item of the root's place, which is one of the `2^k`.
 pub fn broadcast<M: Copy>(items: &mut [M], k: u32, root: usize) -> Tally
     requires dim { k < DIM_LIMIT }
     requires places { length items.old ≡ 2 ^ k }
@@ -15,15 +17,15 @@ pub fn broadcast<M: Copy>(items: &mut [M], k: u32, root: usize) -> Tally
     ensures tally { result ≡ tally_of Shape.Broadcast k }
 {
     for round in 0..k {
-        spread(items, root, distance(round));
+        broadcast_round(items, root, distance(round));
     }
     Shape::Broadcast.tally(k)
 }
 
-/// The root's place, one of the `2^k`, gets all items, joined in the order of their ranks. The other
-/// places are left with the unit.
+/// The root's place, one of the `2^k`, receives all items, joined in the order of their ranks. The
+/// other places hold the unit in the end.
 ///
-/// The items are values, and as many as `2^k`.
+/// There are `2^k` items, all of them values.
 pub fn reduce<M: Monoid>(items: &mut [M], k: u32, root: usize) -> Tally
     requires dim { k < DIM_LIMIT }
     requires places { length items.old ≡ 2 ^ k }
@@ -35,14 +37,14 @@ pub fn reduce<M: Monoid>(items: &mut [M], k: u32, root: usize) -> Tally
     ensures tally { result ≡ tally_of Shape.Reduce k }
 {
     for round in 0..k {
-        gather(items, root, distance(round));
+        reduce_round(items, root, distance(round));
     }
     Shape::Reduce.tally(k)
 }
 
-/// Every place gets all items, joined in the order of their ranks.
+/// Every place receives all items, joined in the order of their ranks.
 ///
-/// The items are values, and as many as `2^k`.
+/// There are `2^k` items, all of them values.
 pub fn all_reduce<M: Monoid>(items: &mut [M], k: u32) -> Tally
     requires dim { k < DIM_LIMIT }
     requires places { length items.old ≡ 2 ^ k }
@@ -52,15 +54,15 @@ pub fn all_reduce<M: Monoid>(items: &mut [M], k: u32) -> Tally
     ensures tally { result ≡ tally_of Shape.AllReduce k }
 {
     for round in 0..k {
-        exchange(items, distance(round));
+        all_reduce_round(items, distance(round));
     }
     Shape::AllReduce.tally(k)
 }
 
-/// Each place gets the items up to its own, joined in the order of their ranks.
+/// Each place receives the items up to its own, joined in the order of their ranks.
 ///
-/// The items are values, and as many as `2^k`, as are the places of `scratch`: what it held before
-/// counts for nothing, and it holds the total of all items afterwards.
+/// There are `2^k` items, all of them values, and `scratch` has as many places. What it holds at
+/// first is ignored; in the end each of its places holds the total of all items.
 pub fn scan<M: Monoid>(items: &mut [M], scratch: &mut [M], k: u32) -> Tally
     requires dim { k < DIM_LIMIT }
     requires places { length items.old ≡ 2 ^ k }
@@ -73,7 +75,7 @@ pub fn scan<M: Monoid>(items: &mut [M], scratch: &mut [M], k: u32) -> Tally
 {
     scratch.copy_from_slice(items);
     for round in 0..k {
-        extend(items, scratch, distance(round));
+        scan_round(items, scratch, distance(round));
     }
     Shape::Scan.tally(k)
 }

@@ -3,11 +3,12 @@
 //!
 //! The ranks are the numbers from `0` to `2^k - 1`, and rank `x` holds the item `items[x]`. In
 //! round `i` a message goes between two ranks that differ in bit `i` alone, and where their items
-//! are combined, the one whose bit `i` is 0 stands on the left. So the items are joined in the order
-//! of their ranks, and joining need not be commutative.
+//! are combined, the one whose bit `i` is 0 stands on the left. So the items are joined in the
+//! order of their ranks, and joining need not be commutative.
 #![tactic(auto)]
 
 mod collective;
+mod message;
 mod messages;
 mod monoid;
 mod operations;
@@ -15,7 +16,8 @@ mod rounds;
 mod shape;
 
 pub use collective::{all_reduce, broadcast, reduce, scan};
-pub use messages::{Message, message_at};
+pub use message::Message;
+pub use messages::message_at;
 pub use monoid::Monoid;
 pub use operations::{Add, Affine, And, Max, Min, Or, Xor};
 pub use shape::{DIM_LIMIT, Shape, Tally};

@@ -1,47 +1,46 @@
-ghost use Rattle.std.specs.Prelude.{◌≡◌, ◌+◌, ◌-◌, ◌*◌, ◌^◌, ◌<◌, ◌≤◌};
+//! The messages of a collective, by their numbers.
+
+ghost use Rattle.std.specs.Prelude.{◌≡◌, ℕ, ◌+◌, ◌-◌, ◌*◌, ◌^◌, ◌<◌, ◌≤◌};
+ghost use Rattle.cube_shape.specs.Neighbour.{AreNeighboursIn};
 ghost use Rattle.collectives.specs.Shape.{message_count};
-ghost use Rattle.collectives.specs.Messages.{IsAlongAnEdge, IsMessage, place_of};
+ghost use Rattle.collectives.specs.Messages.{IsAlongAnEdge, IsMessage, message_number};
 
+use crate::message::Message;
 use crate::shape::{DIM_LIMIT, Shape, places};
-
-/// A message of a collective.
-#[derive(Clone, Copy, Debug, PartialEq, Eq, Hash)]
-pub struct Message {
-    /// The round it is sent in, from 0 on.
-    pub round: u32,
-    /// The rank that sends it.
-    pub from: u64,
-    /// The rank that gets it.
-    pub to: u64,
-}
 
 /// Message number `i`, from 0 on, of a collective on `2^k` places.
 ///
 /// Messages are counted round after round. Within a round those of a broadcast come in the order of
-/// their senders, seen from the root (rank `x` is seen as `x ^ root`), those of a reduction in the order of
-/// their receivers, and those of an all-reduce and a scan in the order of their senders. Only
-/// a broadcast and a reduction have a root: for the others it counts for nothing.
+/// their senders, seen from the root (rank `x` is seen as `x ^ root`), those of a reduction in the
+/// order of their receivers, and those of an all-reduce and a scan in the order of their senders.
+/// Only a broadcast and a reduction have a root: an all-reduce and a scan ignore it.
+///
+/// Both ranks are in the cube and differ in the bit of the round alone. On each region of dimension
+/// `k`, whose base is some `m * 2^k`, the processors of the two ranks are therefore neighbours.
 pub fn message_at(shape: Shape, k: u32, root: u64, i: u64) -> Message
     requires dim { k < DIM_LIMIT }
     requires root { root < 2 ^ k }
     requires number { i < message_count shape k }
     ensures message { IsMessage shape k root result }
-    ensures number { place_of shape k root result ≡ i }
-    ensures alone { (m : Message) → IsMessage shape k root m → place_of shape k root m ≡ i → m ≡ result }
-    ensures rising { (m : Message) → IsMessage shape k root m → i ≤ place_of shape k root m
+    ensures number { message_number shape k root result ≡ i }
+    ensures alone { (m : Message) → IsMessage shape k root m
+        → message_number shape k root m ≡ i → m ≡ result }
+    ensures rising { (m : Message) → IsMessage shape k root m → i ≤ message_number shape k root m
         → result.round ≤ m.round }
     ensures edge { IsAlongAnEdge k result }
+    ensures neighbours { (m : ℕ) →
+        AreNeighboursIn result.round (m * 2 ^ k + result.from) (m * 2 ^ k + result.to) }
 {
     numbered_message(shape, k, root, i)
 }
 
-/// The message by its number, from which the rest follows.
+// The message by its number, from which the rest follows.
 fn numbered_message(shape: Shape, k: u32, root: u64, i: u64) -> Message
     requires dim { k < DIM_LIMIT }
     requires root { root < 2 ^ k }
     requires number { i < message_count shape k }
     ensures message { IsMessage shape k root result }
-    ensures number { place_of shape k root result ≡ i }
+    ensures number { message_number shape k root result ≡ i }
 {
     match shape {
         Shape::Broadcast => broadcast_message(k, root, i),
@@ -50,12 +49,12 @@ fn numbered_message(shape: Shape, k: u32, root: u64, i: u64) -> Message
     }
 }
 
-/// Message number `i` of a broadcast, whose rounds have twice as many messages from one to the next.
+// Message number `i` of a broadcast, whose rounds have twice as many messages from one to the next.
 fn broadcast_message(k: u32, root: u64, i: u64) -> Message
     requires dim { k < DIM_LIMIT }
     requires number { i < 2 ^ k - 1 }
     ensures message { IsMessage Shape.Broadcast k root result }
-    ensures number { place_of Shape.Broadcast k root result ≡ i }
+    ensures number { message_number Shape.Broadcast k root result ≡ i }
 {
     let round = (i + 1).ilog2();
     let half = places(round);
@@ -67,13 +66,13 @@ fn broadcast_message(k: u32, root: u64, i: u64) -> Message
     }
 }
 
-/// Message number `i` of a reduction, whose rounds have half as many messages from one to the next.
+// Message number `i` of a reduction, whose rounds have half as many messages from one to the next.
 fn reduce_message(k: u32, root: u64, i: u64) -> Message
     requires dim { k < DIM_LIMIT }
     requires root { root < 2 ^ k }
     requires number { i < 2 ^ k - 1 }
     ensures message { IsMessage Shape.Reduce k root result }
-    ensures number { place_of Shape.Reduce k root result ≡ i }
+    ensures number { message_number Shape.Reduce k root result ≡ i }
 {
     let all = places(k);
     let rounds_after = (all - 1 - i).ilog2();
@@ -89,12 +88,12 @@ fn reduce_message(k: u32, root: u64, i: u64) -> Message
     }
 }
 
-/// Message number `i` of an all-reduce or a scan, whose rounds have as many messages as there are places.
+// Message number `i` of an all-reduce or a scan, each round of which has `2^k` messages.
 fn exchange_message(k: u32, i: u64) -> Message
     requires dim { k < DIM_LIMIT }
     requires number { i < k * 2 ^ k }
     ensures message { IsMessage Shape.AllReduce k 0 result }
-    ensures number { place_of Shape.AllReduce k 0 result ≡ i }
+    ensures number { message_number Shape.AllReduce k 0 result ≡ i }
 {
     let round = (i / places(k)) as u32;
     let from = i % places(k);

@@ -1,10 +1,12 @@
+//! What the collectives join items by.
+
 ghost use Rattle.std.specs.Prelude.{◌≡◌, ◌↔◌, IsTrue};
 ghost use Rattle.collectives.specs.Laws.{MonoidLaws};
 
 /// A way to join two values into one: associative, with a unit, and not necessarily commutative.
 ///
-/// Only some members of the type may be its values. The laws hold of values, and joining keeps to
-/// them.
+/// Only some members of the type may be its values. The laws hold of values, and two values joined
+/// are a value.
 pub trait Monoid: Copy {
     ghost unit: { Self };
 

@@ -1,6 +1,8 @@
+//! The seven monoids of the crate.
+
 ghost use Rattle.std.specs.Prelude.{◌^◌, ◌<◌};
-ghost use Rattle.collectives.specs.Operations.{add_of, added, min_of, smaller, max_of, larger, xor_of, xored, and_of, anded, or_of, ored, affine, composed, IsAffineValue};
-ghost use Rattle.collectives.specs.OperationLaws.{add_laws, min_laws, max_laws, xor_laws, and_laws, or_laws, affine_laws};
+ghost use Rattle.collectives.specs.Operations.{add_of, add_join, min_of, min_join, max_of, max_join, xor_of, xor_join, and_of, and_join, or_of, or_join, affine, affine_join, IsAffineValue};
+ghost use Rattle.collectives.specs.Inner.OperationLaws.{add_laws, min_laws, max_laws, xor_laws, and_laws, or_laws, affine_laws};
 
 use crate::monoid::Monoid;
 
@@ -11,7 +13,7 @@ pub struct Add(pub u64);
 impl Monoid for Add {
     ghost unit = { add_of 0 };
 
-    ghost join = { added };
+    ghost join = { add_join };
 
     ghost is_value = { λ x. x.0 < 2 ^ 64 };
 
@@ -37,7 +39,7 @@ pub struct Min(pub u64);
 impl Monoid for Min {
     ghost unit = { min_of 18446744073709551615 };
 
-    ghost join = { smaller };
+    ghost join = { min_join };
 
     ghost is_value = { λ x. x.0 < 2 ^ 64 };
 
@@ -63,7 +65,7 @@ pub struct Max(pub u64);
 impl Monoid for Max {
     ghost unit = { max_of 0 };
 
-    ghost join = { larger };
+    ghost join = { max_join };
 
     ghost is_value = { λ x. x.0 < 2 ^ 64 };
 
@@ -89,7 +91,7 @@ pub struct Xor(pub u64);
 impl Monoid for Xor {
     ghost unit = { xor_of 0 };
 
-    ghost join = { xored };
+    ghost join = { xor_join };
 
     ghost is_value = { λ x. x.0 < 2 ^ 64 };
 
@@ -115,7 +117,7 @@ pub struct And(pub u64);
 impl Monoid for And {
     ghost unit = { and_of 18446744073709551615 };
 
-    ghost join = { anded };
+    ghost join = { and_join };
 
     ghost is_value = { λ x. x.0 < 2 ^ 64 };
 
@@ -141,7 +143,7 @@ pub struct Or(pub u64);
 impl Monoid for Or {
     ghost unit = { or_of 0 };
 
-    ghost join = { ored };
+    ghost join = { or_join };
 
     ghost is_value = { λ x. x.0 < 2 ^ 64 };
 
@@ -160,8 +162,8 @@ impl Monoid for Or {
     ghost laws = { or_laws };
 }
 
-/// The map of `x` to `a * x + b` modulo `2^32`; joined, the left map comes first. Values have an `a`
-/// and a `b` below `2^32`.
+/// The map of `x` to `a * x + b` modulo `2^32`; joined, the left map comes first. Values have an
+/// `a` and a `b` below `2^32`.
 ///
 /// Joining is not commutative.
 #[derive(Clone, Copy, Debug, PartialEq, Eq, Hash)]
@@ -175,7 +177,7 @@ pub struct Affine {
 impl Monoid for Affine {
     ghost unit = { affine 1 0 };
 
-    ghost join = { composed };
+    ghost join = { affine_join };
 
     ghost is_value = { IsAffineValue };
 

@@ -1,12 +1,12 @@
 //! One round of each collective, over the pairs of ranks that lie `half` apart.
 
 ghost use Rattle.std.specs.Prelude.{◌≡◌, ℕ, ◌+◌, ◌*◌, ◌%◌, ◌^◌, ◌<◌, ◌≤◌, length, All, slice_get, slice_set, ◌≢◌, bit_xor, if◌then◌else◌};
-ghost use Rattle.collectives.specs.Rounds.{Doubles, TurnsPairs, TurnsPairsIn, gathered_high, gathered_low, item_at};
+ghost use Rattle.collectives.specs.Inner.Rounds.{Doubles, TurnsPairs, TurnsPairsIn, reduced_high, reduced_low, item_at};
 
 use crate::monoid::Monoid;
 use crate::shape::DIM_LIMIT;
 
-/// How far apart the two ranks of a pair are in a round.
+// How far apart the two ranks of a pair are in a round.
 pub(crate) fn distance(round: u32) -> usize
     requires { round < DIM_LIMIT }
     ensures { result ≡ 2 ^ round }
@@ -14,8 +14,8 @@ pub(crate) fn distance(round: u32) -> usize
     1 << round
 }
 
-/// Both ranks of each pair get their two items joined, in the order of the ranks.
-pub(crate) fn exchange<M: Monoid>(items: &mut [M], half: usize)
+// Both ranks of each pair receive their two items joined, in the order of the ranks.
+pub(crate) fn all_reduce_round<M: Monoid>(items: &mut [M], half: usize)
     requires half { 0 < half }
     requires block { 2 * half ≤ length items.old }
     requires whole { length items.old % (2 * half) ≡ 0 }
@@ -24,30 +24,32 @@ pub(crate) fn exchange<M: Monoid>(items: &mut [M], half: usize)
     ensures values { All M.is_value items.new }
 {
     for block in 0..items.len() / (2 * half) {
-        exchange_block(items, block * (2 * half), half);
+        all_reduce_block(items, block * (2 * half), half);
     }
 }
 
-/// The pairs of the block that begins at `start` exchange their items.
-fn exchange_block<M: Monoid>(items: &mut [M], start: usize, half: usize)
+// A round of the all-reduce on the pairs of the block that begins at `start`.
+fn all_reduce_block<M: Monoid>(items: &mut [M], start: usize, half: usize)
     requires half { 0 < half }
     requires start { start % (2 * half) ≡ 0 }
     requires within { start + 2 * half ≤ length items.old }
     requires values { All M.is_value items.old }
-    ensures joined { TurnsPairsIn M.unit half start (start + 2 * half) (λ low. M.join) (λ low. M.join) items.old items.new }
+    ensures joined { TurnsPairsIn M.unit half start (start + 2 * half)
+        (λ low. M.join) (λ low. M.join) items.old items.new }
     ensures values { All M.is_value items.new }
 {
     for low in start..start + half {
-        exchange_pair(items, low, low + half);
+        all_reduce_pair(items, low, low + half);
     }
 }
 
-/// The two ranks get their items joined, the first one's on the left.
-fn exchange_pair<M: Monoid>(items: &mut [M], low: usize, high: usize)
+// The two ranks receive their items joined, the lower one's on the left.
+fn all_reduce_pair<M: Monoid>(items: &mut [M], low: usize, high: usize)
     requires low { low < length items.old }
     requires high { high < length items.old }
     requires values { All M.is_value items.old }
-    ensures joined { let both = M.join (item_at M.unit items.old low) (item_at M.unit items.old high) in
+    ensures joined { let both =
+        M.join (item_at M.unit items.old low) (item_at M.unit items.old high) in
         items.new ≡ slice_set (slice_set items.old low both) high both }
     ensures values { All M.is_value items.new }
 {
@@ -56,9 +58,9 @@ fn exchange_pair<M: Monoid>(items: &mut [M], low: usize, high: usize)
     items[high] = joined;
 }
 
-/// The higher rank of each pair puts the total of the lower one before its own prefix, and then both
-/// ranks get their two totals joined, in the order of the ranks.
-pub(crate) fn extend<M: Monoid>(prefixes: &mut [M], totals: &mut [M], half: usize)
+// The higher rank of each pair puts the total of the lower rank before its own prefix, and then
+// both ranks receive their two totals joined, in the order of the ranks.
+pub(crate) fn scan_round<M: Monoid>(prefixes: &mut [M], totals: &mut [M], half: usize)
     requires half { 0 < half }
     requires block { 2 * half ≤ length prefixes.old }
     requires whole { length prefixes.old % (2 * half) ≡ 0 }
@@ -72,12 +74,12 @@ pub(crate) fn extend<M: Monoid>(prefixes: &mut [M], totals: &mut [M], half: usiz
     ensures total_values { All M.is_value totals.new }
 {
     for block in 0..prefixes.len() / (2 * half) {
-        extend_block(prefixes, totals, block * (2 * half), half);
+        scan_block(prefixes, totals, block * (2 * half), half);
     }
 }
 
-/// The pairs of the block that begins at `start` extend their prefixes and totals.
-fn extend_block<M: Monoid>(prefixes: &mut [M], totals: &mut [M], start: usize, half: usize)
+// A round of the scan on the pairs of the block that begins at `start`.
+fn scan_block<M: Monoid>(prefixes: &mut [M], totals: &mut [M], start: usize, half: usize)
     requires half { 0 < half }
     requires start { start % (2 * half) ≡ 0 }
     requires within { start + 2 * half ≤ length prefixes.old }
@@ -86,17 +88,18 @@ fn extend_block<M: Monoid>(prefixes: &mut [M], totals: &mut [M], start: usize, h
     requires total_values { All M.is_value totals.old }
     ensures prepended { TurnsPairsIn M.unit half start (start + 2 * half) (λ low a b. a)
         (λ low a b. M.join (item_at M.unit totals.old low) b) prefixes.old prefixes.new }
-    ensures joined { TurnsPairsIn M.unit half start (start + 2 * half) (λ low. M.join) (λ low. M.join) totals.old totals.new }
+    ensures joined { TurnsPairsIn M.unit half start (start + 2 * half)
+        (λ low. M.join) (λ low. M.join) totals.old totals.new }
     ensures values { All M.is_value prefixes.new }
     ensures total_values { All M.is_value totals.new }
 {
     for low in start..start + half {
         prepend_total(prefixes, totals, low, low + half);
-        exchange_pair(totals, low, low + half);
+        all_reduce_pair(totals, low, low + half);
     }
 }
 
-/// The rank `high` puts the total of the rank `low` before its own prefix.
+// The rank `high` puts the total of the rank `low` before its own prefix.
 fn prepend_total<M: Monoid>(prefixes: &mut [M], totals: &[M], low: usize, high: usize)
     requires low { low < length totals.now }
     requires high { high < length prefixes.old }
@@ -109,31 +112,34 @@ fn prepend_total<M: Monoid>(prefixes: &mut [M], totals: &[M], low: usize, high: 
     prefixes[high] = totals[low].join(prefixes[high]);
 }
 
-/// In each pair that agrees with the root below its own bit, the rank that agrees there too gets the
-/// two items joined, in the order of the ranks, and the other one is left with the unit.
-pub(crate) fn gather<M: Monoid>(items: &mut [M], root: usize, half: usize)
+// In each pair that agrees with the root below the bit of the round, the rank that agrees in this
+// bit too receives the two items joined, in the order of the ranks, and the other rank keeps the
+// unit.
+pub(crate) fn reduce_round<M: Monoid>(items: &mut [M], root: usize, half: usize)
     requires half { 0 < half }
     requires block { 2 * half ≤ length items.old }
     requires whole { length items.old % (2 * half) ≡ 0 }
     requires values { All M.is_value items.old }
-    ensures gathered { TurnsPairs M.unit half (gathered_low M.unit M.join root half)
-        (gathered_high M.unit M.join root half) items.old items.new }
+    ensures reduced { TurnsPairs M.unit half (reduced_low M.unit M.join root half)
+        (reduced_high M.unit M.join root half) items.old items.new }
     ensures values { All M.is_value items.new }
 {
     let offset = root % half;
     let to_low = root / half % 2 == 0;
     for start in (0..items.len()).step_by(2 * half) {
         let low = start + offset;
-        gather_pair(items, low, low + half, to_low);
+        reduce_pair(items, low, low + half, to_low);
     }
 }
 
-/// One of the two ranks gets their items joined, the first one's on the left, the other the unit.
-fn gather_pair<M: Monoid>(items: &mut [M], low: usize, high: usize, to_low: bool)
+// One of the two ranks receives their items joined, the lower one's on the left, the other the
+// unit.
+fn reduce_pair<M: Monoid>(items: &mut [M], low: usize, high: usize, to_low: bool)
     requires low { low < length items.old }
     requires high { high < length items.old }
     requires values { All M.is_value items.old }
-    ensures gathered { let both = M.join (item_at M.unit items.old low) (item_at M.unit items.old high) in
+    ensures reduced { let both =
+        M.join (item_at M.unit items.old low) (item_at M.unit items.old high) in
         let at_low = (if to_low then both else M.unit) in
         let at_high = (if to_low then M.unit else both) in
         items.new ≡ slice_set (slice_set items.old low at_low) high at_high }
@@ -149,8 +155,8 @@ fn gather_pair<M: Monoid>(items: &mut [M], low: usize, high: usize, to_low: bool
     }
 }
 
-/// Each of the first `half` ranks, seen from the root, sends its item to the rank `half` after it.
-pub(crate) fn spread<M: Copy>(items: &mut [M], root: usize, half: usize)
+// Each of the first `half` ranks, seen from the root, sends its item to the rank `half` after it.
+pub(crate) fn broadcast_round<M: Copy>(items: &mut [M], root: usize, half: usize)
     requires half { 2 * half < 2 ^ 64 }
     requires places { (v : ℕ) → v < 2 * half → bit_xor v root < length items.old }
     ensures { Doubles root half items.old items.new }
@@ -160,7 +166,7 @@ pub(crate) fn spread<M: Copy>(items: &mut [M], root: usize, half: usize)
     }
 }
 
-/// One rank gets the item of another.
+// The rank `to` receives the item of the rank `from`.
 fn send<M: Copy>(items: &mut [M], from: usize, to: usize)
     requires from { from < length items.old }
     requires to { to < length items.old }

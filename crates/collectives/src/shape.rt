@@ -1,10 +1,12 @@
+//! The four shapes of a collective, and how many rounds and messages each takes.
+
 ghost use Rattle.std.specs.Prelude.{◌≡◌, ℕ, ◌^◌, ◌<◌};
 ghost use Rattle.collectives.specs.Shape.{message_count, tally_of};
-ghost use Rattle.collectives.specs.Messages.{IsMessage, place_of};
+ghost use Rattle.collectives.specs.Messages.{IsMessage, message_number};
 
-use crate::messages::Message;
+use crate::message::Message;
 
-/// A bound on dimensions: each is below it.
+/// The dimension of a collective is below this limit.
 pub const DIM_LIMIT: u32 = 32;
 
 /// Which messages a collective sends.
@@ -20,7 +22,7 @@ pub enum Shape {
     Scan,
 }
 
-/// What a collective took.
+/// The rounds and messages that a collective took.
 #[derive(Clone, Copy, Debug, PartialEq, Eq, Hash)]
 pub struct Tally {
     /// How many rounds, one after the other.
@@ -30,13 +32,13 @@ pub struct Tally {
 }
 
 impl Shape {
-    /// What a collective of this shape takes on `2^k` places: `k` rounds, and as many messages as its
-    /// rounds have.
+    /// The tally of a collective of this shape on `2^k` places: `k` rounds, and the messages of
+    /// these rounds.
     pub fn tally(self, k: u32) -> Tally
         requires { k < DIM_LIMIT }
         ensures tally { result ≡ tally_of self k }
         ensures counted { (root : ℕ) (m : Message) → root < 2 ^ k → IsMessage self k root m
-            → place_of self k root m < result.messages }
+            → message_number self k root m < result.messages }
     {
         Tally {
             rounds: k,
@@ -44,6 +46,7 @@ impl Shape {
         }
     }
 
+    // How many messages the rounds have.
     fn message_count(self, k: u32) -> u64
         requires { k < DIM_LIMIT }
         ensures { result ≡ message_count self k }
@@ -55,7 +58,7 @@ impl Shape {
     }
 }
 
-/// How many places a cube of dimension `k` has.
+// How many places a cube of dimension `k` has.
 pub(crate) fn places(k: u32) -> u64
     requires { k < DIM_LIMIT }
     ensures { result ≡ 2 ^ k }

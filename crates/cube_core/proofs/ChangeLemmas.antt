@@ -1,4 +1,4 @@
--- The invariant behind safety, and how one word and one phase that change keep it.
+-- The part of the invariant that gives safety, and how one word and one phase that change keep it.
 use Rattle.std.proofs.Common.{◌≡◌, ◌≢◌, ℕ, ◌/◌, ◌^◌, ◌<◌, ◌≤◌, ◌⊎◌, inl, inr, refl, sym, ◌∙◌, ap, subst, arith}
 use Rattle.std.specs.Prelude.{◌↔◌}
 use Rattle.std.proofs.lemmas.Bool.{cases_eq}

@@ -170,7 +170,7 @@ owing_kept {W = W} {u = u} {V = V} (marks a i f) is x g m k = owing_by x k (λ _
     not_used : seen.NotYet ≢ seen.Used
     not_used e = cc
 owing_kept {W = W} {u = u} (marks_stop a i f) is x g m k = owing_by x k (λ _ _ free. absurd (free ((with_mark-use u (W a) 0 (omega arith)).1 f))) (λ _ used. inl ((IsInUse-with_mark u (W a)).1 used)) (λ b _ other. owes_none _ _ b _ is (λ owes. other (sym owes)))
-owing_kept {W = W} (looks_left a w right found i told) is x g m k = owing_same x k refl (λ b _ owes. turn b (subst (λ r. MustClear r b (W b)) is owes) told)
+owing_kept {W = W} (looks_left a w right found i shown) is x g m k = owing_same x k refl (λ b _ owes. turn b (subst (λ r. MustClear r b (W b)) is owes) shown)
   where
     turn : (b : ℕ) → MustClear (Marked a w seen.NotYet right) b (W b) → ((found ≡ seen.Free) × IsFree (W (2 * a))) ⊎ ((found ≡ seen.Used) × IsInUse (W (2 * a))) → IsInUse (W (2 * b)) ⊎ (IsInUse (W (2 * b + 1)) ⊎ MustClear (Marked a w found right) b (W b))
     turn b owes (inl free) = inr (inr (owes.0, owes.1, λ e. not_used (sym free.0 ∙ e), owes.3))
@@ -178,7 +178,7 @@ owing_kept {W = W} (looks_left a w right found i told) is x g m k = owing_same x
         not_used : seen.Free ≢ seen.Used
         not_used e = cc
     turn b owes (inr used) = inl (subst (λ c. IsInUse (W (2 * c))) owes.0 used.1)
-owing_kept {W = W} (looks_right a w left found i l told) is x g m k = owing_same x k refl (λ b _ owes. turn b (subst (λ r. MustClear r b (W b)) is owes) told)
+owing_kept {W = W} (looks_right a w left found i l shown) is x g m k = owing_same x k refl (λ b _ owes. turn b (subst (λ r. MustClear r b (W b)) is owes) shown)
   where
     turn : (b : ℕ) → MustClear (Marked a w left seen.NotYet) b (W b) → ((found ≡ seen.Free) × IsFree (W (2 * a + 1))) ⊎ ((found ≡ seen.Used) × IsInUse (W (2 * a + 1))) → IsInUse (W (2 * b)) ⊎ (IsInUse (W (2 * b + 1)) ⊎ MustClear (Marked a w left found) b (W b))
     turn b owes (inl free) = inr (inr (owes.0, owes.1, owes.2, λ e. not_used (sym free.0 ∙ e)))

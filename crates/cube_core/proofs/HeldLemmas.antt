@@ -9,7 +9,7 @@ use Rattle.cube_shape.proofs.PathLemmas.{OnPath-le, child_towards_is}
 use Rattle.cube_shape.proofs.RegionLemmas.{IsNodeOf-aligned, AreApart-paths}
 use Rattle.cube_core.specs.declared.phase.Phase.{Phase}
 use Rattle.cube_core.specs.declared.phase.Phase.TheVariants.{Idle, Looking, Looked, Climbing, Swept, Holding, Leaving, Backing, Arriving, Unmarked, Marked, Retired}
-use Rattle.cube_core.specs.Phase.{owned, stop, node_held}
+use Rattle.cube_core.specs.Phase.{asked, owned, stop, node_held}
 use Rattle.cube_core.specs.Held.{dim_at, region_at, region_held, IsMachineStep}
 use Rattle.cube_core.proofs.LevelLemmas.{region_at-named}
 use Rattle.cube_core.proofs.ChangeLemmas.{Fit, Agrees, Change, each}
@@ -81,16 +81,16 @@ held_apart {n = n} {P = P} k s t a b other is_a is_b =
 
 -- ---- the step of the machine of pairs
 
--- no event changes a holder into a holder of another node
+-- no event makes a holder of anything but the node asked, nor of a holder a holder of another node
 abbrev pub HeldMoves : Phase → Phase → Type 0
-HeldMoves p q = (node_held p ≡ 0) ⊎ ((node_held q ≡ 0) ⊎ (node_held q ≡ node_held p))
+HeldMoves p q = ((node_held p ≡ 0) × (node_held q ≡ asked p)) ⊎ ((node_held q ≡ 0) ⊎ (node_held q ≡ node_held p))
 
 -- so a station's change of phase is a step of the machine, or leaves the held regions alone
-pub machine_step : {n : ℕ} {W : ℕ → ℕ} {P : ℕ → Phase} {v y u : ℕ} {q : Phase} {V : ℕ → ℕ} {Q : ℕ → Phase} → Change W P v y u q V Q → Agrees n V Q → HeldMoves (P u) q → IsMachineStep n u (λ s. region_held n (node_held (P s))) (λ s. region_held n (node_held (Q s)))
+pub machine_step : {n : ℕ} {W : ℕ → ℕ} {P : ℕ → Phase} {v y u : ℕ} {q : Phase} {V : ℕ → ℕ} {Q : ℕ → Phase} → Change W P v y u q V Q → Agrees n V Q → HeldMoves (P u) q → IsMachineStep n u (asked (P u)) (λ s. region_held n (node_held (P s))) (λ s. region_held n (node_held (Q s)))
 machine_step {n = n} {P = P} {u = u} {q = q} {Q = Q} x k moves = elim moves [
-  | inl idle ↦ elim (cases_eq (node_held q) 0) [
+  | inl (idle, named) ↦ elim (cases_eq (node_held q) 0) [
     | inl none ↦ inr (inr (unchanged (none ∙ sym idle)))
-    | inr some ↦ inl (region_at n (node_held q), given idle (positive (node_held q) some))
+    | inr some ↦ inl (subst (λ v. Gives n u (dim_at n v) (λ s. region_held n (node_held (P s))) (λ s. region_held n (node_held (Q s))) (region_at n v)) named (given idle (positive (node_held q) some)))
   ]
   | inr (inl none) ↦ elim (cases_eq (node_held (P u)) 0) [
     | inl idle ↦ inr (inr (unchanged (none ∙ sym idle)))

@@ -11,6 +11,8 @@ mod DebtLemmas
 mod InvariantLemmas
 mod HeldLemmas
 mod ConsequenceLemmas
+mod StandsLemmas
+mod CountLemmas
 mod ScheduleLemmas
 mod WorldLemmas
 pub mod OneEventLemmas

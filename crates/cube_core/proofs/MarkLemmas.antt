@@ -90,6 +90,6 @@ stamped_kept (zeroes_back h a q i leaving) is x shut k = stamped_plain (zeroes_b
 stamped_kept (clears a w left right q i l r e leaving) is x shut k = stamped_plain (clears a w left right q i l r e leaving) x k leaving.plain.not_marked leaving.plain.not_unmarked
 stamped_kept {W = W} {u = u} (unmarks a i) is x shut k = stamped_by (unmarks a i) x k (λ positive. absurd (omega arith)) (λ _ marked. use_of-unmarked (W a) u (subst (IsMarked u) x.word_here marked)) (λ t _ positive. absurd (omega arith))
 stamped_kept {W = W} {u = u} (marks a i f) is x shut k = stamped_by (marks a i f) x k (λ _ _ j set. subst (λ z. IsSet z j) (sym x.word_here) set) (λ positive. absurd (omega arith)) (λ t other positive at. mark_is_new u a t shut k is i.0 other at)
-stamped_kept (looks_left a w right found i told) is x shut k = stamped_looks (looks_left a w right found i told) is x k refl refl refl refl
-stamped_kept (looks_right a w left found i l told) is x shut k = stamped_looks (looks_right a w left found i l told) is x k refl refl refl refl
+stamped_kept (looks_left a w right found i shown) is x shut k = stamped_looks (looks_left a w right found i shown) is x k refl refl refl refl
+stamped_kept (looks_right a w left found i l shown) is x shut k = stamped_looks (looks_right a w left found i l shown) is x k refl refl refl refl
 stamped_kept move is x shut k = stamped_plain move x k refl refl

@@ -1,16 +1,17 @@
 -- What a call or an event does to one word and one phase: a move for each outcome, with what is known there.
-use Rattle.std.proofs.Common.{◌≡◌, ◌≢◌, ℕ, ◌+◌, ◌*◌, ◌/◌, ◌^◌, ◌<◌, ◌≤◌, ◌⊎◌, inl, inr, Bool, true, false, cond, eqb, bit_or, refl, ◌∙◌, ap, arith}
+use Rattle.std.proofs.Common.{◌≡◌, ◌≢◌, ℕ, ◌+◌, ◌*◌, ◌/◌, ◌^◌, ◌<◌, ◌≤◌, ◌⊎◌, inl, inr, Bool, true, false, cond, eqb, bit_or, [], ◌∷◌, refl, ◌∙◌, ap, arith}
 use Rattle.std.specs.Int.{bit_at}
 use Rattle.std.proofs.lemmas.Bool.{eqb-true, eqb-false}
 use Rattle.std.proofs.lemmas.Nat.{pow-add}
 use Rattle.cube_shape.specs.Node.{OnPath, IsInCube, child_towards}
 use Rattle.cube_shape.proofs.PathLemmas.{OnPath-self, OnPath-le, OnPath-trans, OnPath-parent}
 use Rattle.status_word.specs.Word.{IsOccupied, IsFree, IsInUse, use_of, with_side, with_mark}
+use Rattle.cube_core.specs.declared.event.Event.{Event}
 use Rattle.cube_core.specs.declared.phase.Seen.{Seen}
 use Rattle.cube_core.specs.declared.phase.Seen.TheVariants as seen
 use Rattle.cube_core.specs.declared.phase.Phase.{Phase}
 use Rattle.cube_core.specs.declared.phase.Phase.TheVariants.{Idle, Looking, Looked, Climbing, Swept, Holding, Leaving, Backing, Arriving, Unmarked, Marked, Retired}
-use Rattle.cube_core.specs.Phase.{side_of, owned, stop, node_held, swept_from, marked_at, MustClear}
+use Rattle.cube_core.specs.Phase.{side_of, asked, owned, stop, node_held, swept_from, marked_at, MustClear}
 use Rattle.cube_core.specs.Event.{Transition, transition, busy, phase_after_raise, phase_after_zero, is_free, is_occupied, cleared_as_seen, clear_event, seen_at}
 use Rattle.cube_core.specs.Schedule.{step_refusal}
 use Rattle.cube_core.specs.Count.{depth, unseen, events_due}
@@ -62,6 +63,7 @@ pub record IsRisen (n h a : ℕ) (q : Phase) : Type 0 where
   pub at : stop q ≡ a / 2
   pub from : swept_from q ≡ a / 2 + 1
   pub plain : IsPlain q
+  pub takes : ((asked q ≡ h) × (node_held q ≡ 0)) ⊎ ((asked q ≡ 0) × (node_held q ≡ h))
   pub due : events_due n q ≤ 1 + 5 * depth n h + 2 * depth n a
 
 -- a node on the path to a node of the machine is one
@@ -74,14 +76,14 @@ phase_after_raise_is n h a in_cube above = turn (eqb a 1) refl
     turn : (t : Bool) → eqb a 1 ≡ t → IsRisen n h a (cond t (Holding h) (Climbing h (a / 2)))
     turn true is =
         let root : a ≡ 1 = eqb-true a 1 is in
-        record { fit = in_cube; own = refl; at = omega arith; from = omega arith; plain = plain_holding h; due = omega arith }
+        record { fit = in_cube; own = refl; at = omega arith; from = omega arith; plain = plain_holding h; takes = inr (refl, refl); due = omega arith }
     turn false is =
         let inner : a ≢ 1 = eqb-false a 1 is in
         let positive : 0 < a = above.0 in
         let order : a ≤ h = OnPath-le a h above in
         let parent : OnPath (a / 2) h = OnPath-trans (a / 2) a h (OnPath-parent a (omega arith)) above in
         let deeper : depth n a ≡ 1 + depth n (a / 2) = depth-parent n a (path_in_cube n a h above in_cube) inner in
-        record { fit = (in_cube, omega arith, parent); own = refl; at = refl; from = omega arith; plain = plain_climbing h (a / 2); due = omega (arith, deeper) }
+        record { fit = (in_cube, omega arith, parent); own = refl; at = refl; from = omega arith; plain = plain_climbing h (a / 2); takes = inl (refl, refl); due = omega (arith, deeper) }
 
 -- past a on the way up after a node was given back the station owns nothing, and is to clear the
 -- parent of a if a was left free, with the word y
@@ -89,6 +91,7 @@ pub record IsLeaving (n a y : ℕ) (q : Phase) : Type 0 where
   pub fit : Fit n q
   pub none : owned q ≡ 0
   pub holds_none : node_held q ≡ 0
+  pub asks_none : asked q ≡ 0
   pub plain : IsPlain q
   pub owes : IsFree y → 0 < a / 2 → (x : ℕ) → MustClear q (a / 2) x
   pub due : events_due n q ≤ 5 * depth n a
@@ -107,19 +110,19 @@ phase_after_zero_is n a y in_cube = turn (eqb a 1) refl
     turn : (t : Bool) → eqb a 1 ≡ t → IsLeaving n a y (cond t Idle (Arriving (a / 2)))
     turn true is =
         let root : a ≡ 1 = eqb-true a 1 is in
-        record { fit = tt; none = refl; holds_none = refl; plain = plain_idle; owes = λ _ inner. absurd (omega arith); due = omega arith }
+        record { fit = tt; none = refl; holds_none = refl; asks_none = refl; plain = plain_idle; owes = λ _ inner. absurd (omega arith); due = omega arith }
     turn false is =
         let deeper : depth n a ≡ 1 + depth n (a / 2) = depth-parent n a in_cube (eqb-false a 1 is) in
-        record { fit = half_inner n a (eqb-false a 1 is) in_cube; none = refl; holds_none = refl; plain = plain_arriving (a / 2); owes = λ _ _ _. refl; due = omega (arith, deeper) }
+        record { fit = half_inner n a (eqb-false a 1 is) in_cube; none = refl; holds_none = refl; asks_none = refl; plain = plain_arriving (a / 2); owes = λ _ _ _. refl; due = omega (arith, deeper) }
 
--- what a load of a child tells
-abbrev pub Tells : Seen → ℕ → Type 0
-Tells found w = ((found ≡ seen.Free) × IsFree w) ⊎ ((found ≡ seen.Used) × IsInUse w)
+-- what a load of a child shows
+abbrev pub Shows : Seen → ℕ → Type 0
+Shows found w = ((found ≡ seen.Free) × IsFree w) ⊎ ((found ≡ seen.Used) × IsInUse w)
 
-tells : (w : ℕ) → Tells (seen_at w) w
-tells w = turn (is_free w) refl
+shows : (w : ℕ) → Shows (seen_at w) w
+shows w = turn (is_free w) refl
   where
-    turn : (t : Bool) → is_free w ≡ t → Tells (cond t seen.Free seen.Used) w
+    turn : (t : Bool) → is_free w ≡ t → Shows (cond t seen.Free seen.Used) w
     turn true is = inl (refl, eqb-true (use_of w) 0 is)
     turn false is = inr (refl, eqb-false (use_of w) 0 is)
 
@@ -142,8 +145,8 @@ pub data Move (n u : ℕ) (W : ℕ → ℕ) : Phase → ℕ → ℕ → Phase �
   unmarks : (a : ℕ) → IsInner n a → Move n u W (Arriving a) a (use_of (W a)) (Unmarked a)
   marks : (a : ℕ) → IsInner n a → (IsOccupied (W a) → ⊥) → Move n u W (Unmarked a) a (with_mark u (W a)) (Marked a (with_mark u (W a)) seen.NotYet seen.NotYet)
   marks_stop : (a : ℕ) → IsInner n a → IsOccupied (W a) → Move n u W (Unmarked a) a (with_mark u (W a)) Idle
-  looks_left : (a w : ℕ) (right found : Seen) → IsInner n a → Tells found (W (2 * a)) → Move n u W (Marked a w seen.NotYet right) (2 * a) (W (2 * a)) (Marked a w found right)
-  looks_right : (a w : ℕ) (left found : Seen) → IsInner n a → left ≢ seen.NotYet → Tells found (W (2 * a + 1)) → Move n u W (Marked a w left seen.NotYet) (2 * a + 1) (W (2 * a + 1)) (Marked a w left found)
+  looks_left : (a w : ℕ) (right found : Seen) → IsInner n a → Shows found (W (2 * a)) → Move n u W (Marked a w seen.NotYet right) (2 * a) (W (2 * a)) (Marked a w found right)
+  looks_right : (a w : ℕ) (left found : Seen) → IsInner n a → left ≢ seen.NotYet → Shows found (W (2 * a + 1)) → Move n u W (Marked a w left seen.NotYet) (2 * a + 1) (W (2 * a + 1)) (Marked a w left found)
   clears : (a w : ℕ) (left right : Seen) (q : Phase) → IsInner n a → left ≢ seen.NotYet → right ≢ seen.NotYet → W a ≡ w → IsLeaving n a (cleared_as_seen w left right) q → Move n u W (Marked a w left right) a (cleared_as_seen w left right) q
   clears_lost : (a w : ℕ) (left right : Seen) → IsInner n a → W a ≢ w → Move n u W (Marked a w left right) a (W a) Idle
 
@@ -171,7 +174,7 @@ in_cube-inner n a inner = let whole : 2 ^ (n + 1) ≡ 2 * 2 ^ n = double n in (i
 -- a Clear, by whether the word is still the marked one and whether what it writes is free
 cleared_by : (n u : ℕ) (W : ℕ → ℕ) (a w : ℕ) (left right : Seen) → IsInner n a → left ≢ seen.NotYet → right ≢ seen.NotYet → (s t : Bool) → eqb (W a) w ≡ s → is_free (cleared_as_seen w left right) ≡ t → Move n u W (Marked a w left right) a (cond s (cleared_as_seen w left right) (W a)) (cond s (cond t (phase_after_zero a) Idle) Idle)
 cleared_by n u W a w left right inner l r true true same free = clears a w left right (phase_after_zero a) inner l r (eqb-true (W a) w same) (phase_after_zero_is n a (cleared_as_seen w left right) (in_cube-inner n a inner))
-cleared_by n u W a w left right inner l r true false same used = clears a w left right Idle inner l r (eqb-true (W a) w same) (record { fit = tt; none = refl; holds_none = refl; plain = plain_idle; owes = λ free _ _. absurd (eqb-false (use_of (cleared_as_seen w left right)) 0 used free); due = omega arith })
+cleared_by n u W a w left right inner l r true false same used = clears a w left right Idle inner l r (eqb-true (W a) w same) (record { fit = tt; none = refl; holds_none = refl; asks_none = refl; plain = plain_idle; owes = λ free _ _. absurd (eqb-false (use_of (cleared_as_seen w left right)) 0 used free); due = omega arith })
 cleared_by n u W a w left right inner l r false t other _ = clears_lost a w left right inner (eqb-false (W a) w other)
 
 -- what the event of a phase does to the words W
@@ -188,9 +191,9 @@ used_is_seen : seen.Used ≢ seen.NotYet
 used_is_seen is = cc
 
 marked_move : (n u : ℕ) (W : ℕ → ℕ) (a w : ℕ) (left right : Seen) → IsInner n a → MoveOf n u W (Marked a w left right) (transition u (Marked a w left right))
-marked_move n u W a w seen.NotYet right inner = looks_left a w right (seen_at (W (2 * a))) inner (tells (W (2 * a)))
-marked_move n u W a w seen.Free seen.NotYet inner = looks_right a w seen.Free (seen_at (W (2 * a + 1))) inner free_is_seen (tells (W (2 * a + 1)))
-marked_move n u W a w seen.Used seen.NotYet inner = looks_right a w seen.Used (seen_at (W (2 * a + 1))) inner used_is_seen (tells (W (2 * a + 1)))
+marked_move n u W a w seen.NotYet right inner = looks_left a w right (seen_at (W (2 * a))) inner (shows (W (2 * a)))
+marked_move n u W a w seen.Free seen.NotYet inner = looks_right a w seen.Free (seen_at (W (2 * a + 1))) inner free_is_seen (shows (W (2 * a + 1)))
+marked_move n u W a w seen.Used seen.NotYet inner = looks_right a w seen.Used (seen_at (W (2 * a + 1))) inner used_is_seen (shows (W (2 * a + 1)))
 marked_move n u W a w seen.Free seen.Free inner = clear_move n u W a w seen.Free seen.Free inner free_is_seen free_is_seen
 marked_move n u W a w seen.Free seen.Used inner = clear_move n u W a w seen.Free seen.Used inner free_is_seen used_is_seen
 marked_move n u W a w seen.Used seen.Free inner = clear_move n u W a w seen.Used seen.Free inner used_is_seen free_is_seen
@@ -213,9 +216,9 @@ step_move n u W Retired fit none = absurd (cc)
 
 -- ---- the count of events
 
-unseen-seen : (found : Seen) (w : ℕ) → Tells found w → unseen found ≡ 0
-unseen-seen found w (inl told) = ap unseen told.0
-unseen-seen found w (inr told) = ap unseen told.0
+unseen-seen : (found : Seen) (w : ℕ) → Shows found w → unseen found ≡ 0
+unseen-seen found w (inl shown) = ap unseen shown.0
+unseen-seen found w (inr shown) = ap unseen shown.0
 
 -- each event lowers the count of its station
 pub due_falls : {n u : ℕ} {W : ℕ → ℕ} {p : Phase} {v y : ℕ} {q : Phase} → Move n u W p v y q → step_refusal p ≡ None → events_due n q < events_due n p
@@ -234,7 +237,60 @@ due_falls (zeroes_back h a q _ leaving) step = omega (arith, leaving.due)
 due_falls (unmarks a _) step = omega arith
 due_falls (marks a _ _) step = omega arith
 due_falls (marks_stop a _ _) step = omega arith
-due_falls {W = W} (looks_left a w right found _ told) step = let none : unseen found ≡ 0 = unseen-seen found (W (2 * a)) told in omega (arith, none)
-due_falls {W = W} (looks_right a w left found _ _ told) step = let none : unseen found ≡ 0 = unseen-seen found (W (2 * a + 1)) told in omega (arith, none)
+due_falls {W = W} (looks_left a w right found _ shown) step = let none : unseen found ≡ 0 = unseen-seen found (W (2 * a)) shown in omega (arith, none)
+due_falls {W = W} (looks_right a w left found _ _ shown) step = let none : unseen found ≡ 0 = unseen-seen found (W (2 * a + 1)) shown in omega (arith, none)
 due_falls (clears a w left right q _ _ _ _ leaving) step = omega (arith, leaving.due)
 due_falls (clears_lost a w left right _ _) step = omega arith
+
+-- ---- the node that a take named
+
+-- a station whose take named v: it is still to get v, or it holds v or nothing
+abbrev pub IsTaking : ℕ → Phase → Type 0
+IsTaking v p = ((asked p ≡ v) × (node_held p ≡ 0)) ⊎ ((asked p ≡ 0) × ((node_held p ≡ 0) ⊎ (node_held p ≡ v)))
+
+risen_taking : {n h a : ℕ} {q : Phase} (v : ℕ) → IsRisen n h a q → 0 < h → ((h ≡ v) × ◌≡◌ {A = ℕ} 0 0) ⊎ ((h ≡ 0) × (◌≡◌ {A = ℕ} 0 0 ⊎ (0 ≡ v))) → IsTaking v q
+risen_taking v risen positive (inl (is, _)) = elim risen.takes [ inl climbs ↦ inl (climbs.0 ∙ is, climbs.1) | inr holds ↦ inr (holds.0, inr (holds.1 ∙ is)) ]
+risen_taking v risen positive (inr (none, _)) = absurd (omega arith)
+
+-- each step of the station keeps that
+pub taking_kept : {n u : ℕ} {W : ℕ → ℕ} {p : Phase} {x y : ℕ} {q : Phase} (v : ℕ) → Move n u W p x y q → step_refusal p ≡ None → IsTaking v p → IsTaking v q
+taking_kept v (begins_take h _) step k = absurd (cc)
+taking_kept v (begins_release h _) step k = absurd (cc)
+taking_kept v retires step k = absurd (cc)
+taking_kept v (looks_free h _ _) step k = k
+taking_kept v (claims h w q in_cube _ _ risen) step k = risen_taking v risen in_cube.0 k
+taking_kept v (sweeps h a _ _ _) step k = k
+taking_kept v (raises h a q in_cube _ _ _ risen) step k = risen_taking v risen in_cube.0 k
+taking_kept v (zeroes h q _ leaving) step k = inr (leaving.asks_none, inl leaving.holds_none)
+taking_kept v (zeroes_back h a q _ leaving) step k = inr (leaving.asks_none, inl leaving.holds_none)
+taking_kept v (clears a w left right q _ _ _ _ leaving) step k = inr (leaving.asks_none, inl leaving.holds_none)
+taking_kept v _ step k = inr (refl, inl refl)
+
+-- ---- the event of a step
+
+-- an accepted step makes just one event, which is its station's
+abbrev pub SingleEvent : ℕ → Transition → ℕ → Type 0
+SingleEvent s d found = (event : Event) × (event.station ≡ s) × (d.events found ≡ event ∷ [])
+
+marked_event : (s a w found : ℕ) (left right : Seen) → SingleEvent s (transition s (Marked a w left right)) found
+marked_event s a w found seen.NotYet right = (_, refl, refl)
+marked_event s a w found seen.Free seen.NotYet = (_, refl, refl)
+marked_event s a w found seen.Used seen.NotYet = (_, refl, refl)
+marked_event s a w found seen.Free seen.Free = (_, refl, refl)
+marked_event s a w found seen.Free seen.Used = (_, refl, refl)
+marked_event s a w found seen.Used seen.Free = (_, refl, refl)
+marked_event s a w found seen.Used seen.Used = (_, refl, refl)
+
+pub step_event : (s found : ℕ) (p : Phase) → step_refusal p ≡ None → SingleEvent s (transition s p) found
+step_event s found Idle none = absurd (cc)
+step_event s found (Looking h) none = (_, refl, refl)
+step_event s found (Looked h w) none = (_, refl, refl)
+step_event s found (Climbing h a) none = (_, refl, refl)
+step_event s found (Swept h a) none = (_, refl, refl)
+step_event s found (Holding h) none = absurd (cc)
+step_event s found (Leaving h) none = (_, refl, refl)
+step_event s found (Backing h a) none = (_, refl, refl)
+step_event s found (Arriving a) none = (_, refl, refl)
+step_event s found (Unmarked a) none = (_, refl, refl)
+step_event s found (Marked a w left right) none = marked_event s a w found left right
+step_event s found Retired none = absurd (cc)

@@ -16,7 +16,7 @@ use Rattle.cube_core.specs.Phase.{side_of, owned, stop, swept_from, marked_at, m
 use Rattle.cube_core.specs.Event.{busy}
 use Rattle.cube_core.proofs.BitLemmas.{with_side-marks, with_mark-other}
 use Rattle.cube_core.proofs.ChangeLemmas.{Agrees, Change, each, each_word}
-use Rattle.cube_core.proofs.MoveLemmas.{Move, Tells, begins_take, begins_release, retires, looks_free, looks_used, claims, claims_lost, sweeps, raises, raises_under, zeroes, zeroes_back, unmarks, marks, marks_stop, looks_left, looks_right, clears, clears_lost}
+use Rattle.cube_core.proofs.MoveLemmas.{Move, Shows, begins_take, begins_release, retires, looks_free, looks_used, claims, claims_lost, sweeps, raises, raises_under, zeroes, zeroes_back, unmarks, marks, marks_stop, looks_left, looks_right, clears, clears_lost}
 
 -- ---- words on the path to an owned node
 
@@ -166,9 +166,9 @@ right_child c = turn (eqb (c % 2) 0) refl
     turn false odd is = let e : c % 2 ≢ 0 = eqb-false (c % 2) 0 odd in omega arith
 
 -- what a mover sees at a child through which a station has come is not free
-not_free : {n : ℕ} {W : ℕ → ℕ} {P : ℕ → Phase} → Agrees n W P → (t c a : ℕ) (found : Seen) → a ≡ c → Tells found (W a) → found ≡ seen.Free → HasSwept (P t) c → ⊥
-not_free {W = W} k t c a found same (inl told) free on = used_where_swept k t c on (subst (λ b. IsFree (W b)) same told.1)
-not_free k t c a found same (inr told) free on = absurd (differ (sym told.0 ∙ free))
+not_free : {n : ℕ} {W : ℕ → ℕ} {P : ℕ → Phase} → Agrees n W P → (t c a : ℕ) (found : Seen) → a ≡ c → Shows found (W a) → found ≡ seen.Free → HasSwept (P t) c → ⊥
+not_free {W = W} k t c a found same (inl shown) free on = used_where_swept k t c on (subst (λ b. IsFree (W b)) same shown.1)
+not_free k t c a found same (inr shown) free on = absurd (differ (sym shown.0 ∙ free))
   where
     differ : seen.Used ≡ seen.Free → ⊥
     differ e = cc
@@ -184,20 +184,20 @@ shut_kept {W = W} {u = u} (marks a i f) is x agrees k = shut_by (marks a i f) is
     none_seen : (side : Side) → saw (Marked a (with_mark u (W a)) seen.NotYet seen.NotYet) side ≡ seen.Free → ⊥
     none_seen Left e = cc
     none_seen Right e = cc
-shut_kept {W = W} {P = P} {u = u} {V = V} (looks_left a w right found i told) is x agrees k = shut_by (looks_left a w right found i told) is x k (λ positive. subst (λ r. 0 < marked_at r → IsMarked u (marked_word r)) is (k.own_mark u) positive) (λ t c at marked free on. by_side t c at marked on (side_of c) refl free)
+shut_kept {W = W} {P = P} {u = u} {V = V} (looks_left a w right found i shown) is x agrees k = shut_by (looks_left a w right found i shown) is x k (λ positive. subst (λ r. 0 < marked_at r → IsMarked u (marked_word r)) is (k.own_mark u) positive) (λ t c at marked free on. by_side t c at marked on (side_of c) refl free)
   where
     same : (b : ℕ) → V b ≡ W b
     same = each_word x (λ b z. z ≡ W b) refl (λ b _. refl)
 
     by_side : (t c : ℕ) → (0 < c / 2) × (a ≡ c / 2) → IsMarked u (V (c / 2)) → HasSwept (P t) c → (side : Side) → side_of c ≡ side → saw (Marked a w found right) side ≡ seen.Free → ⊥
-    by_side t c at marked on Left side free = not_free agrees t c (2 * a) found (ap (λ b. 2 * b) at.1 ∙ sym (left_child c side)) told free on
+    by_side t c at marked on Left side free = not_free agrees t c (2 * a) found (ap (λ b. 2 * b) at.1 ∙ sym (left_child c side)) shown free on
     by_side t c at marked on Right side free = k.shut u t c (at.0, ap marked_at is ∙ at.1) (subst (IsMarked u) (same (c / 2)) marked) (ap (λ r. saw r (side_of c)) is ∙ ap (λ z. saw (Marked a w seen.NotYet right) z) side ∙ free) on
-shut_kept {W = W} {P = P} {u = u} {V = V} (looks_right a w left found i l told) is x agrees k = shut_by (looks_right a w left found i l told) is x k (λ positive. subst (λ r. 0 < marked_at r → IsMarked u (marked_word r)) is (k.own_mark u) positive) (λ t c at marked free on. by_side t c at marked on (side_of c) refl free)
+shut_kept {W = W} {P = P} {u = u} {V = V} (looks_right a w left found i l shown) is x agrees k = shut_by (looks_right a w left found i l shown) is x k (λ positive. subst (λ r. 0 < marked_at r → IsMarked u (marked_word r)) is (k.own_mark u) positive) (λ t c at marked free on. by_side t c at marked on (side_of c) refl free)
   where
     same : (b : ℕ) → V b ≡ W b
     same = each_word x (λ b z. z ≡ W b) refl (λ b _. refl)
 
     by_side : (t c : ℕ) → (0 < c / 2) × (a ≡ c / 2) → IsMarked u (V (c / 2)) → HasSwept (P t) c → (side : Side) → side_of c ≡ side → saw (Marked a w left found) side ≡ seen.Free → ⊥
     by_side t c at marked on Left side free = k.shut u t c (at.0, ap marked_at is ∙ at.1) (subst (IsMarked u) (same (c / 2)) marked) (ap (λ r. saw r (side_of c)) is ∙ ap (λ z. saw (Marked a w left seen.NotYet) z) side ∙ free) on
-    by_side t c at marked on Right side free = not_free agrees t c (2 * a + 1) found (ap (λ b. 2 * b + 1) at.1 ∙ sym (right_child c side)) told free on
+    by_side t c at marked on Right side free = not_free agrees t c (2 * a + 1) found (ap (λ b. 2 * b + 1) at.1 ∙ sym (right_child c side)) shown free on
 shut_kept move is x agrees k = shut_unmarked move is x k refl

@@ -7,7 +7,7 @@ use Rattle.std.proofs.Math.Pow.{pow_mono}
 use Rattle.std.proofs.lemmas.List.{get_or_default, get_or-set_same, length-set, length-replicate, take_more, reverse-append}
 use Rattle.cube_shape.specs.Node.{IsInCube}
 use Rattle.cube_core.specs.declared.effect.Effect.{Effect}
-use Rattle.cube_core.specs.Effect.{IsEffect}
+use Rattle.cube_core.specs.InnerEffect.{IsEffect}
 use Rattle.cube_core.specs.declared.phase.Phase.{Phase}
 use Rattle.cube_core.specs.declared.phase.Phase.TheVariants.{Idle, Looking, Looked, Climbing, Swept, Holding, Leaving, Backing, Arriving, Unmarked, Marked, Retired}
 use Rattle.cube_core.specs.declared.act.Act.{Act}
@@ -17,7 +17,8 @@ use Rattle.cube_core.specs.declared.act.Refused.TheVariants.{NotIdle, NoStation,
 use Rattle.cube_core.specs.Phase.{owned, node_held}
 use Rattle.cube_core.specs.Event.{Transition, transition, retirement}
 use Rattle.cube_core.specs.Schedule.{Record, State, record_of, phase_of, word_of, initial, apply_begin, apply_event, take_refusal, release_refusal, retire_refusal, step_refusal, phase_refusal, refusal, station_of, apply_accepted, unless_refused, apply, apply_all}
-use Rattle.cube_core.specs.World.{record_without_trail, state_of, without_trails, IsReached, IsWorld, HasShapeOf}
+use Rattle.cube_core.specs.World.{record_without_trail, without_trails, HasShapeOf}
+use Rattle.cube_core.specs.InnerWorld.{state_of, IsReached, IsWorld}
 use Rattle.cube_core.specs.Count.{depth, events_due, IsCounted}
 use Rattle.cube_core.specs.Law.{IsTreeLawful}
 use Rattle.cube_core.proofs.ChangeLemmas.{Fit, IsInner}
@@ -273,7 +274,7 @@ retired_by s n words phases w made view none effect =
     ap (λ v. state_of n (set words v made.word) (set phases s made.next)) (sym effect.node)
     ∙ made_event (Retire s) s (retirement s) n words phases w made view (apply-accepted (Retire s) w none) effect
 
--- and the event is told at the head of the station's trail
+-- and the event is the head of the station's trail
 event_told_event : (act : Act) (s : ℕ) (d : Transition) (w : State) (made : Effect) → s < length w.records → apply act w ≡ apply_event d s w → IsEffect d (word_of w d.node) made → (record_of (apply act w) s).trail ≡ made.event ∷ (record_of w s).trail
 event_told_event act s d w made there is effect =
     ap (λ u. (record_of u s).trail) is
@@ -333,12 +334,9 @@ pub without_trails_of : (n : ℕ) (words : List ℕ) (phases : List Phase) (w : 
 without_trails_of n words phases w view = ap without_trails (sym view) ∙ without_trails-state n words phases ∙ view
 
 -- a call that is refused and one that is not make of a world what the act makes
-pub made_by : {A : Type 0} (act : Act) (w new : State) (r : Result A Refused) → IsWorld w → without_trails w ≡ w → IfErr r (λ why. refusal act w ≡ Some why) → OnErr r (new ≡ w) → OnOk r (new ≡ without_trails (apply act w)) → (new ≡ without_trails (apply act w)) × IsTreeLawful new
-made_by act w new r world quiet refused unchanged made = (is r refused unchanged made, reached-lawful new (IsWorld-apply act w new world (is r refused unchanged made)).reached)
-  where
-    is : {A : Type 0} (x : Result A Refused) → IfErr x (λ why. refusal act w ≡ Some why) → OnErr x (new ≡ w) → OnOk x (new ≡ without_trails (apply act w)) → new ≡ without_trails (apply act w)
-    is (Ok a) _ _ became = became
-    is (Err why) reason same _ = same ∙ sym (ap without_trails (ap (λ x. unless_refused x act w) reason) ∙ quiet)
+pub made_by : {A : Type 0} (act : Act) (w new : State) (r : Result A Refused) → without_trails w ≡ w → IfErr r (λ why. refusal act w ≡ Some why) → OnErr r (new ≡ w) → OnOk r (new ≡ without_trails (apply act w)) → new ≡ without_trails (apply act w)
+made_by act w new (Ok a) quiet _ _ became = became
+made_by act w new (Err why) quiet refused same _ = same ∙ sym (ap without_trails (ap (λ x. unless_refused x act w) refused) ∙ quiet)
 
 -- one act more at the end of those that were made
 pub one_more : (acts : List Act) (i : ℕ) (none : Act) (first old new : State) → i < length acts → old ≡ without_trails (apply_all (reverse (take i acts)) first) → new ≡ without_trails (apply (get_or acts i none) old) → new ≡ without_trails (apply_all (reverse (take (i + 1) acts)) first)

@@ -1,5 +1,8 @@
 -- How many events a station still has to make at most before it rests.
-use Rattle.std.specs.Prelude.{◌≡◌, ◌≢◌, ℕ, ◌+◌, ◌-◌, ◌*◌, ◌<◌, None}
+use Rattle.std.specs.Prelude.{◌≡◌, ◌≢◌, ℕ, ◌+◌, ◌-◌, ◌*◌, ◌<◌, ◌≤◌, List, ◌∷◌, length, None}
+use Rattle.cube_shape.specs.declared.region.Region.{Region}
+use Rattle.cube_shape.specs.Node.{IsNodeOf}
+use Rattle.cube_core.specs.declared.event.Event.{Event}
 use Rattle.cube_core.specs.declared.phase.Seen.{Seen}
 use Rattle.cube_core.specs.declared.phase.Seen.TheVariants as seen
 use Rattle.cube_core.specs.declared.phase.Phase.{Phase}
@@ -8,7 +11,7 @@ use Rattle.cube_core.specs.declared.act.Act.{Act}
 use Rattle.cube_core.specs.declared.act.Act.TheVariants.{Take, Release, Step}
 use Rattle.cube_core.specs.Phase.{node_held}
 use Rattle.cube_core.specs.Held.{dim_at}
-use Rattle.cube_core.specs.Schedule.{State, phase_of, refusal, station_of, apply}
+use Rattle.cube_core.specs.Schedule.{State, phase_of, trail_of, refusal, station_of, apply, apply_all, HasOnlySteps}
 
 -- how many levels below the root a node is: n - k for the node of a region of dimension k
 abbrev pub depth : ℕ → ℕ → ℕ
@@ -36,11 +39,39 @@ events_due n (Unmarked a) = 4 + 5 * depth n a
 events_due n (Marked a w left right) = 1 + unseen left + unseen right + 5 * depth n a
 events_due n Retired = 0
 
+-- the events that a station has made, and those that it has still to make at most
+abbrev pub made_and_due : State → ℕ → ℕ
+made_and_due w s = length (trail_of w s) + events_due w.dim (phase_of w s)
+
 pub record IsCounted (w : State) : Type 0 where
+  -- the node of a region of dimension k is n - k levels below the root
+  pub levels : (v : ℕ) (r : Region) → IsNodeOf w.dim v r → depth w.dim v ≡ w.dim - r.dim
   -- a take has at most 3 + 7 j events, and a release 1 + 5 j, at a node that is j levels below the root
-  pub take : (s v : ℕ) → refusal (Take s v) w ≡ None → events_due w.dim (phase_of (apply (Take s v) w) s) ≡ 3 + 7 * depth w.dim v
-  pub release : (s : ℕ) → refusal (Release s) w ≡ None → events_due w.dim (phase_of (apply (Release s) w) s) ≡ 1 + 5 * depth w.dim (node_held (phase_of w s))
+  pub take : (s v : ℕ) → refusal (Take s v) w ≡ None
+      → events_due w.dim (phase_of (apply (Take s v) w) s) ≡ 3 + 7 * depth w.dim v
+  pub release : (s : ℕ) → refusal (Release s) w ≡ None
+      → events_due w.dim (phase_of (apply (Release s) w) s)
+      ≡ 1 + 5 * depth w.dim (node_held (phase_of w s))
   -- each event of a station lowers its own count
-  pub falls : (s : ℕ) → refusal (Step s) w ≡ None → events_due w.dim (phase_of (apply (Step s) w) s) < events_due w.dim (phase_of w s)
-  -- and no act changes another station's phase, and so its count
+  pub falls : (s : ℕ) → refusal (Step s) w ≡ None
+      → events_due w.dim (phase_of (apply (Step s) w) s) < events_due w.dim (phase_of w s)
+  -- an accepted step adds just one event, its station's own, to its station's trail
+  pub one_event : (s : ℕ) → refusal (Step s) w ≡ None
+      → (event : Event) × (event.station ≡ s)
+      × (trail_of (apply (Step s) w) s ≡ event ∷ trail_of w s)
+  -- so no step raises what a station has made and has still to make
+  pub never_rises : (s t : ℕ) → made_and_due (apply (Step s) w) t ≤ made_and_due w t
+  -- no act changes another station's phase, and so its count, nor its trail
   pub others : (act : Act) (t : ℕ) → t ≢ station_of act → phase_of (apply act w) t ≡ phase_of w t
+  pub others_trail : (act : Act) (t : ℕ) → t ≢ station_of act
+      → trail_of (apply act w) t ≡ trail_of w t
+  -- from an accepted take on, for as long as all further acts of the station are steps, it makes at
+  -- most 3 + 7 j events, and from an accepted release on at most 1 + 5 j
+  pub take_events : (s v : ℕ) (later : List Act) → refusal (Take s v) w ≡ None
+      → HasOnlySteps s later
+      → length (trail_of (apply_all later (apply (Take s v) w)) s)
+      ≤ length (trail_of w s) + (3 + 7 * depth w.dim v)
+  pub release_events : (s : ℕ) (later : List Act) → refusal (Release s) w ≡ None
+      → HasOnlySteps s later
+      → length (trail_of (apply_all later (apply (Release s) w)) s)
+      ≤ length (trail_of w s) + (1 + 5 * depth w.dim (node_held (phase_of w s)))

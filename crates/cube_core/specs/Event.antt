@@ -16,7 +16,7 @@ use Rattle.cube_core.specs.declared.phase.Seen.TheVariants as seen
 use Rattle.cube_core.specs.Phase.{side_of, is_seen_free}
 
 -- the node whose word it finds, and from that word: the word that it writes, the station's next
--- phase, and the event that is told
+-- phase, and the event
 pub record Transition : Type 0 where
   pub node : ℕ
   pub writes : ℕ → ℕ
@@ -34,9 +34,13 @@ is_free w = use_of w == 0
 abbrev pub is_occupied : ℕ → Bool
 is_occupied w = bit_at w 0 == 1
 
--- one event, as it is told
-abbrev pub single_event : ℕ → Kind → ℕ → ℕ → Note → List Event
-single_event station kind node word note = record { station = station; kind = kind; node = node; word = word; note = note } ∷ []
+-- one event of a station at a node: from the word that it finds, the word that it writes, the next
+-- phase and the note. The event shows the word that it wrote
+abbrev pub event_at : ℕ → Kind → ℕ → (ℕ → ℕ) → (ℕ → Phase) → (ℕ → Note) → Transition
+event_at station kind node writes next note =
+    let made : ℕ → Event = λ w.
+    record { station = station; kind = kind; node = node; word = writes w; note = note w } in
+    record { node = node; writes = writes; next = next; events = λ w. made w ∷ [] }
 
 -- past a on the way up from h: the station holds h where a is the root, else it climbs on
 abbrev pub phase_after_raise : ℕ → ℕ → Phase
@@ -65,21 +69,11 @@ no_event phase = record { node = 0; writes = λ w. w; next = λ w. phase; events
 
 -- the node gets the word 0, whatever is found
 abbrev pub zero_event : ℕ → ℕ → Transition
-zero_event s h = record {
-  node = h;
-  writes = λ w. 0;
-  next = λ w. phase_after_zero h;
-  events = λ w. single_event s Zero h 0 (note_after_zero h);
-}
+zero_event s h = event_at s Zero h (λ w. 0) (λ w. phase_after_zero h) (λ w. note_after_zero h)
 
 -- a load of a child, and what the station does with what it sees
 abbrev pub child_event : ℕ → ℕ → (Seen → Phase) → Transition
-child_event s c next = record {
-  node = c;
-  writes = λ w. w;
-  next = λ w. next (seen_at w);
-  events = λ w. single_event s Child c w (seen_note w);
-}
+child_event s c next = event_at s Child c (λ w. w) (λ w. next (seen_at w)) seen_note
 
 -- the word that a Clear writes: the marked word without its marks, and without each side whose
 -- child was seen free
@@ -88,12 +82,9 @@ cleared_as_seen w left right = cleared w (is_seen_free left) (is_seen_free right
 
 -- one exchange of the word that the station made by its mark; a node that stays in use ends the way up
 abbrev pub clear_event : ℕ → ℕ → ℕ → ℕ → Transition
-clear_event s a marked y = record {
-  node = a;
-  writes = λ w. if w == marked then y else w;
-  next = λ w. if w == marked then if is_free y then phase_after_zero a else Idle else Idle;
-  events = λ w. single_event s Clear a (if w == marked then y else w) (if w == marked then if is_free y then note_after_zero a else note.Keep else note.Lost);
-}
+clear_event s a marked y = event_at s Clear a (λ w. if w == marked then y else w)
+    (λ w. if w == marked then if is_free y then phase_after_zero a else Idle else Idle)
+    (λ w. if w == marked then if is_free y then note_after_zero a else note.Keep else note.Lost)
 
 -- the first while a child is not seen yet, then the second
 abbrev pub if_unseen : Seen → Transition → Transition → Transition
@@ -105,50 +96,28 @@ if_unseen seen.Used first second = second
 abbrev pub transition : ℕ → Phase → Transition
 transition s Idle = no_event Idle
 -- a load
-transition s (Looking h) = record {
-  node = h;
-  writes = λ w. w;
-  next = λ w. if is_free w then Looked h w else Idle;
-  events = λ w. single_event s Look h w (if is_free w then note.Free else note.InUse);
-}
+transition s (Looking h) = event_at s Look h (λ w. w)
+    (λ w. if is_free w then Looked h w else Idle)
+    (λ w. if is_free w then note.Free else note.InUse)
 -- one exchange of the word that was seen
-transition s (Looked h seen) = record {
-  node = h;
-  writes = λ w. if w == seen then busy else w;
-  next = λ w. if w == seen then phase_after_raise h h else Idle;
-  events = λ w. single_event s Claim h (if w == seen then busy else w) (if w == seen then note_after_raise h else note.Lost);
-}
+transition s (Looked h seen) = event_at s Claim h (λ w. if w == seen then busy else w)
+    (λ w. if w == seen then phase_after_raise h h else Idle)
+    (λ w. if w == seen then note_after_raise h else note.Lost)
 -- all marks go
-transition s (Climbing h a) = record {
-  node = a;
-  writes = λ w. use_of w;
-  next = λ w. Swept h a;
-  events = λ w. single_event s Sweep a (use_of w) note.Ok;
-}
+transition s (Climbing h a) = event_at s Sweep a use_of (λ w. Swept h a) (λ w. note.Ok)
 -- the side of the child towards h is set, and an occupied word ends the climb
-transition s (Swept h a) = record {
-  node = a;
-  writes = λ w. with_side (side_of (child_towards a h)) w;
-  next = λ w. if is_occupied w then Backing h a else phase_after_raise h a;
-  events = λ w. single_event s Raise a (with_side (side_of (child_towards a h)) w) (if is_occupied w then note.Under else note_after_raise a);
-}
+transition s (Swept h a) = event_at s Raise a (with_side (side_of (child_towards a h)))
+    (λ w. if is_occupied w then Backing h a else phase_after_raise h a)
+    (λ w. if is_occupied w then note.Under else note_after_raise a)
 transition s (Holding h) = no_event (Holding h)
 transition s (Leaving h) = zero_event s h
 transition s (Backing h a) = zero_event s h
 -- all marks go
-transition s (Arriving a) = record {
-  node = a;
-  writes = λ w. use_of w;
-  next = λ w. Unmarked a;
-  events = λ w. single_event s Unmark a (use_of w) note.Ok;
-}
--- the station's mark is set; an occupied node is no longer its matter
-transition s (Unmarked a) = record {
-  node = a;
-  writes = λ w. with_mark s w;
-  next = λ w. if is_occupied w then Idle else Marked a (with_mark s w) seen.NotYet seen.NotYet;
-  events = λ w. single_event s Mark a (with_mark s w) (if is_occupied w then note.Stop else note.Ok);
-}
+transition s (Arriving a) = event_at s Unmark a use_of (λ w. Unmarked a) (λ w. note.Ok)
+-- the station's mark is set; at an occupied node there is nothing more to do
+transition s (Unmarked a) = event_at s Mark a (with_mark s)
+    (λ w. if is_occupied w then Idle else Marked a (with_mark s w) seen.NotYet seen.NotYet)
+    (λ w. if is_occupied w then note.Stop else note.Ok)
 -- the left child, then the right one, then the exchange
 transition s (Marked a w left right) =
     if_unseen left (child_event s (child_of a Left) (λ found. Marked a w found right))
@@ -158,9 +127,4 @@ transition s Retired = no_event Retired
 
 -- an idle station sets its bit in the roll, and makes no event any more
 abbrev pub retirement : ℕ → Transition
-retirement s = record {
-  node = 0;
-  writes = λ w. bit_or w (2 ^ s);
-  next = λ w. Retired;
-  events = λ w. single_event s Retire 0 (bit_or w (2 ^ s)) note.Retired;
-}
+retirement s = event_at s Retire 0 (λ w. bit_or w (2 ^ s)) (λ w. Retired) (λ w. note.Retired)

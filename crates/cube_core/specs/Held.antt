@@ -1,4 +1,4 @@
--- The held set: which region each station holds, and the step of the machine of pairs that an act is.
+-- The held set: which region each station holds, and the step of the machine that an act is.
 use Rattle.std.specs.Prelude.{◌≡◌, ℕ, zero, suc, ◌-◌, ◌^◌, ◌==◌, ◌⊎◌, if◌then◌else◌, Option, Some, None}
 use Rattle.cube_shape.specs.declared.region.Region.{Region}
 use Rattle.cube_shape.specs.Region.{block}
@@ -24,7 +24,9 @@ region_held n v = if v == 0 then None else Some (region_at n v)
 abbrev pub held_of : State → Holdings
 held_of w s = region_held w.dim (node_held (phase_of w s))
 
--- the station gets a region, or its own region is taken away, or no station's holding changes
-abbrev pub IsMachineStep : ℕ → ℕ → Holdings → Holdings → Type 0
-IsMachineStep n station old new =
-    ((r : Region) × Gives n station r.dim old new r) ⊎ (((r : Region) × TakesBack station old new r) ⊎ ((t : ℕ) → new t ≡ old t))
+-- an act of a station that is to get the region of a node: it gets this region, or its own region is
+-- taken away, or no station's holding changes
+abbrev pub IsMachineStep : ℕ → ℕ → ℕ → Holdings → Holdings → Type 0
+IsMachineStep n station node old new =
+    Gives n station (dim_at n node) old new (region_at n node)
+    ⊎ (((r : Region) × TakesBack station old new r) ⊎ ((t : ℕ) → new t ≡ old t))

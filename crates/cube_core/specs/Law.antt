@@ -1,13 +1,16 @@
 -- What holds after every schedule.
-use Rattle.std.specs.Prelude.{◌≡◌, ℕ, ◌<◌, ◌↔◌, List, length, Some}
+use Rattle.std.specs.Prelude.{◌≡◌, ℕ, ◌<◌, ◌↔◌, List, [], ◌∷◌, length, Some, None}
 use Rattle.cube_shape.specs.declared.region.Region.{Region}
-use Rattle.cube_shape.specs.Node.{OnPath, IsNodeOf}
+use Rattle.cube_shape.specs.Node.{OnPath, IsInCube, IsNodeOf}
 use Rattle.cube_shape.specs.Machine.{IsLawful}
 use Rattle.status_word.specs.Word.{IsSet, IsFree, IsInUse}
-use Rattle.cube_core.specs.declared.phase.Phase.TheVariants.{Retired}
+use Rattle.cube_core.specs.declared.phase.Phase.{Phase}
+use Rattle.cube_core.specs.declared.phase.Phase.TheVariants.{Idle, Looking, Holding, Leaving, Retired}
 use Rattle.cube_core.specs.declared.act.Act.{Act}
-use Rattle.cube_core.specs.Phase.{node_held, IsEngagedAt, IsAtRest}
-use Rattle.cube_core.specs.Schedule.{State, phase_of, word_of, station_of, apply, apply_all, initial}
+use Rattle.cube_core.specs.declared.act.Act.TheVariants.{Take, Release, Step, Retire}
+use Rattle.cube_core.specs.Phase.{asked, node_held, step_refusal, IsEngagedAt, IsAtRest}
+use Rattle.cube_core.specs.Event.{transition, retirement}
+use Rattle.cube_core.specs.Schedule.{Record, State, phase_of, word_of, refusal, station_of, apply, apply_all, initial, HasOnlySteps, AreOneEvent}
 use Rattle.cube_core.specs.Safety.{IsSafe}
 use Rattle.cube_core.specs.Debts.{HasDebts}
 use Rattle.cube_core.specs.Held.{held_of, IsMachineStep}
@@ -19,15 +22,25 @@ pub record IsTreeLawful (w : State) : Type 0 where
   -- what is in use has an owner below it, or someone who is to clear it
   pub debts : HasDebts w
   -- a station that holds a region holds the one that its node names
-  pub named : (s : ℕ) (r : Region) → held_of w s ≡ Some r → IsNodeOf w.dim (node_held (phase_of w s)) r
+  pub named : (s : ℕ) (r : Region) → held_of w s ≡ Some r
+      → IsNodeOf w.dim (node_held (phase_of w s)) r
   -- the held regions are aligned, and those of two stations are apart
   pub apart : IsLawful w.dim (held_of w)
-  -- each further act is a step of its station on the machine of pairs, or leaves the held set alone
-  pub steps : (act : Act) → IsMachineStep w.dim (station_of act) (held_of w) (held_of (apply act w))
+  -- each further act is a step of its station on the machine of regions, or leaves the held set alone:
+  -- the region that is given is that of the node asked
+  pub steps : (act : Act)
+      → IsMachineStep w.dim (station_of act) (asked (phase_of w (station_of act)))
+      (held_of w) (held_of (apply act w))
+  -- and the node asked is that of the take: from an accepted take on, for as long as all further acts of
+  -- the station are steps, it holds the region of the node that the take named, or none
+  pub taken : (s v : ℕ) (later : List Act) → refusal (Take s v) w ≡ None → HasOnlySteps s later
+      → (r : Region) → held_of (apply_all later (apply (Take s v) w)) s ≡ Some r
+      → IsNodeOf w.dim v r
   -- where the word of a node is in use, some station owns a node at or under it, or is to clear one
   pub engaged : (v : ℕ) → 0 < v → IsInUse (word_of w v) → (s : ℕ) × IsEngagedAt (phase_of w s) v
   -- when all are at rest, the word of a node is free exactly where no held node is at or under it
-  pub at_rest : ((s : ℕ) → IsAtRest (phase_of w s)) → (v : ℕ) → 0 < v → IsFree (word_of w v) ↔ ((s : ℕ) → OnPath v (node_held (phase_of w s)) → ⊥)
+  pub at_rest : ((s : ℕ) → IsAtRest (phase_of w s)) → (v : ℕ) → 0 < v
+      → IsFree (word_of w v) ↔ ((s : ℕ) → OnPath v (node_held (phase_of w s)) → ⊥)
   -- when all have retired, the word of every node is 0
   pub retired : ((s : ℕ) → phase_of w s ≡ Retired) → (v : ℕ) → 0 < v → word_of w v ≡ 0
   -- the bit of a station stands in the roll exactly when it has retired
@@ -35,6 +48,19 @@ pub record IsTreeLawful (w : State) : Type 0 where
   -- every take and every release comes to an end
   pub counted : IsCounted w
 
+-- what a running station makes in one step is one event: a step, a take or a release with the step
+-- after it, or a retirement
+pub record CallsAreSingleEvents : Type 0 where
+  pub step : (n s : ℕ) (p : Phase) (r : Record) → r.phase ≡ p → step_refusal p ≡ None
+      → AreOneEvent n (Step s ∷ []) s r (transition s p)
+  pub take : (n s v : ℕ) (r : Record) → r.phase ≡ Idle → IsInCube n v
+      → AreOneEvent n (Step s ∷ Take s v ∷ []) s r (transition s (Looking v))
+  pub release : (n s h : ℕ) (r : Record) → r.phase ≡ Holding h
+      → AreOneEvent n (Step s ∷ Release s ∷ []) s r (transition s (Leaving h))
+  pub retire : (n s : ℕ) (r : Record) → r.phase ≡ Idle
+      → AreOneEvent n (Retire s ∷ []) s r (retirement s)
+
 -- after every list of acts from an opened world, for every dimension and number of stations
 abbrev pub EveryScheduleIsLawful : Type 0
-EveryScheduleIsLawful = (n stations : ℕ) (acts : List Act) → IsTreeLawful (apply_all acts (initial n stations))
+EveryScheduleIsLawful = (n stations : ℕ) (acts : List Act)
+    → IsTreeLawful (apply_all acts (initial n stations))

@@ -17,6 +17,9 @@ pub record IsSafe (w : State) : Type 0 where
   pub not_passed : (s t c : ℕ) → Owns (phase_of w s) (parent_of c) → HasPassed (phase_of w t) c → ⊥
   -- where the mark of a station that is marked at v stands, the word of v has every bit of the word
   -- that the mark made
-  pub only_grown : (s v : ℕ) → IsMarkedAt (phase_of w s) v → IsMarked s (word_of w v) → (i : ℕ) → IsSet (marked_word (phase_of w s)) i → IsSet (word_of w v) i
+  pub only_grown : (s v : ℕ) → IsMarkedAt (phase_of w s) v → IsMarked s (word_of w v) → (i : ℕ)
+      → IsSet (marked_word (phase_of w s)) i → IsSet (word_of w v) i
   -- and if that station saw child c free, no station is swept at v, or has passed v, through c
-  pub seen_free : (s t c : ℕ) → IsMarkedAt (phase_of w s) (parent_of c) → IsMarked s (word_of w (parent_of c)) → saw (phase_of w s) (side_of c) ≡ seen.Free → HasSwept (phase_of w t) c → ⊥
+  pub seen_free : (s t c : ℕ) → IsMarkedAt (phase_of w s) (parent_of c)
+      → IsMarked s (word_of w (parent_of c)) → saw (phase_of w s) (side_of c) ≡ seen.Free
+      → HasSwept (phase_of w t) c → ⊥

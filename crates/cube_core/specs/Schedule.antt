@@ -1,13 +1,14 @@
 -- The world of words and stations, and what a schedule of calls makes of it.
 use Rattle.std.specs.Prelude.{◌≡◌, ℕ, ◌<◌, ◌+◌, ◌^◌, ◌&&◌, nat_lt, replicate, if◌then◌else◌, List, [], ◌∷◌, ◌++◌, length, slice_set, slice_index_or, Option, Some, None}
 use Rattle.cube_core.specs.declared.phase.Phase.{Phase}
-use Rattle.cube_core.specs.declared.phase.Phase.TheVariants.{Idle, Looking, Looked, Climbing, Swept, Holding, Leaving, Backing, Arriving, Unmarked, Marked, Retired}
+use Rattle.cube_core.specs.declared.phase.Phase.TheVariants.{Idle, Looking, Holding, Leaving, Retired}
 use Rattle.cube_core.specs.declared.event.Event.{Event}
 use Rattle.cube_core.specs.declared.act.Act.{Act}
 use Rattle.cube_core.specs.declared.act.Act.TheVariants.{Take, Release, Step, Retire}
 use Rattle.cube_core.specs.declared.act.Refused.{Refused}
-use Rattle.cube_core.specs.declared.act.Refused.TheVariants.{NotIdle, NotHolding, NoStation, NotInCube, Resting}
+use Rattle.cube_core.specs.declared.act.Refused.TheVariants.{NotIdle, NotHolding, NoStation, NotInCube}
 use Rattle.cube_core.specs.Phase.{owned}
+pub use Rattle.cube_core.specs.Phase.{step_refusal}
 use Rattle.cube_core.specs.Event.{Transition, transition, retirement}
 
 -- a station's record: its phase, and the list of its events, the newest first
@@ -28,16 +29,15 @@ record_of w s = slice_index_or w.records s (record { phase = Retired; trail = []
 abbrev pub phase_of : State → ℕ → Phase
 phase_of w s = (record_of w s).phase
 
+abbrev pub trail_of : State → ℕ → List Event
+trail_of w s = (record_of w s).trail
+
 abbrev pub word_of : State → ℕ → ℕ
 word_of w v = slice_index_or w.words v 0
 
 -- the opened world: all words 0, all stations idle
 abbrev pub initial : ℕ → ℕ → State
-initial n stations = record {
-  dim = n;
-  words = replicate (2 ^ (n + 1)) 0;
-  records = replicate stations (record { phase = Idle; trail = [] });
-}
+initial n stations = record { dim = n; words = replicate (2 ^ (n + 1)) 0; records = replicate stations (record { phase = Idle; trail = [] }) }
 
 -- a station begins something: its phase changes, and nothing else
 abbrev pub apply_begin : ℕ → Phase → State → State
@@ -46,11 +46,9 @@ apply_begin s phase w = record w { records = slice_set w.records s (record (reco
 -- an event: one word and the station's record change
 abbrev pub apply_event : Transition → ℕ → State → State
 apply_event d s w =
-    let found = word_of w d.node in record {
-      dim = w.dim;
-      words = slice_set w.words d.node (d.writes found);
-      records = slice_set w.records s (record { phase = d.next found; trail = d.events found ++ (record_of w s).trail });
-    }
+    let found = word_of w d.node in
+    let record_after : Record = record { phase = d.next found; trail = d.events found ++ (record_of w s).trail } in
+    record w { words = slice_set w.words d.node (d.writes found); records = slice_set w.records s record_after }
 
 -- why a take of node v is refused in a phase, if it is
 abbrev pub take_refusal : ℕ → ℕ → Phase → Option Refused
@@ -66,21 +64,6 @@ retire_refusal _ = Some NotIdle
 abbrev pub release_refusal : Phase → Option Refused
 release_refusal (Holding h) = None
 release_refusal _ = Some NotHolding
-
--- a step
-abbrev pub step_refusal : Phase → Option Refused
-step_refusal Idle = Some Resting
-step_refusal (Looking h) = None
-step_refusal (Looked h w) = None
-step_refusal (Climbing h a) = None
-step_refusal (Swept h a) = None
-step_refusal (Holding h) = Some Resting
-step_refusal (Leaving h) = None
-step_refusal (Backing h a) = None
-step_refusal (Arriving a) = None
-step_refusal (Unmarked a) = None
-step_refusal (Marked a w left right) = None
-step_refusal Retired = Some Resting
 
 -- the station that an act is of
 abbrev pub station_of : Act → ℕ
@@ -99,7 +82,8 @@ phase_refusal n (Retire s) phase = retire_refusal phase
 -- why an act is refused: first that there is no such station, then the phase, then the node
 abbrev pub refusal : Act → State → Option Refused
 refusal act w =
-    if nat_lt (station_of act) (length w.records) then phase_refusal w.dim act (phase_of w (station_of act)) else Some NoStation
+    if nat_lt (station_of act) (length w.records)
+    then phase_refusal w.dim act (phase_of w (station_of act)) else Some NoStation
 
 -- what an act that is not refused makes of the world
 abbrev pub apply_accepted : Act → State → State
@@ -121,7 +105,13 @@ abbrev pub apply_all : List Act → State → State
 apply_all [] w = w
 apply_all (act ∷ earlier) w = apply act (apply_all earlier w)
 
+-- all acts of the station among these are steps
+abbrev pub HasOnlySteps : ℕ → List Act → Type 0
+HasOnlySteps s [] = Unit {0}
+HasOnlySteps s (act ∷ earlier) = (station_of act ≡ s → act ≡ Step s) × HasOnlySteps s earlier
+
 -- these acts of a station, the newest first, are one event: on every world of dimension n where the
 -- station has this record, they make of the world what the event makes
 abbrev pub AreOneEvent : ℕ → List Act → ℕ → Record → Transition → Type 0
-AreOneEvent n acts s r d = (w : State) → w.dim ≡ n → s < length w.records → record_of w s ≡ r → apply_all acts w ≡ apply_event d s w
+AreOneEvent n acts s r d = (w : State) → w.dim ≡ n → s < length w.records → record_of w s ≡ r
+    → apply_all acts w ≡ apply_event d s w

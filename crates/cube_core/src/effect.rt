@@ -1,7 +1,7 @@
 ghost use Rattle.std.specs.Prelude.{◌≡◌, ◌≢◌, ℕ, ◌^◌, ◌<◌};
 ghost use Rattle.cube_shape.specs.Node.{OnPath};
 ghost use Rattle.cube_core.specs.Event.{transition, phase_after_raise, note_after_raise, phase_after_zero, note_after_zero, seen_at, seen_note, zero_event, clear_event, cleared_as_seen, retirement};
-ghost use Rattle.cube_core.specs.Effect.{IsEffect};
+ghost use Rattle.cube_core.specs.InnerEffect.{IsEffect};
 
 use crate::event::{Event, Kind, Note};
 use crate::phase::{Phase, Seen};
@@ -50,14 +50,15 @@ fn see(word: u64) -> (Seen, Note)
     ensures seen { result.0 ≡ seen_at word }
     ensures note { result.1 ≡ seen_note word }
 {
-    if Word(word).is_free() {
-        (Seen::Free, Note::Free)
+    let note = if Word(word).is_free() {
+        Note::Free
     } else {
-        (Seen::Used, Note::Used)
-    }
+        Note::Used
+    };
+    (Seen::of(Word(word)), note)
 }
 
-/// A load of the node that a take is about.
+/// A load of the node that a take names.
 pub fn look(station: u64, node: u64, word: u64) -> Effect
     ensures { IsEffect (transition station (Phase.Looking node)) word result }
 {
@@ -190,7 +191,7 @@ pub fn unmark(station: u64, at: u64, word: u64) -> Effect
     }
 }
 
-/// The station's mark is set; where the node is occupied, it is no longer the station's matter.
+/// The station's mark is set; where the node is occupied, the station has nothing more to do.
 pub fn mark(station: u64, at: u64, word: u64) -> Effect
     requires { station < MAX_STATIONS }
     ensures { IsEffect (transition station (Phase.Unmarked at)) word result }
@@ -270,7 +271,8 @@ pub fn look_right(station: u64, at: u64, marked: u64, left: Seen, word: u64) -> 
 /// without each side whose child was seen free.
 pub fn clear(station: u64, at: u64, marked: u64, left: Seen, right: Seen, word: u64) -> Effect
     requires { 0 < at }
-    ensures { IsEffect (clear_event station at marked (cleared_as_seen marked left right)) word result }
+    ensures { IsEffect (clear_event station at marked (cleared_as_seen marked left right)) word
+        result }
 {
     let cleared = Word(marked).cleared(left.is_free(), right.is_free());
     let (written, next, note) = if word != marked {

@@ -32,7 +32,7 @@ pub enum Note {
     Under,
     /// Nothing is left to do.
     Done,
-    /// The node is occupied, and no longer this station's matter.
+    /// The node is occupied, so the station has nothing more to do.
     Stop,
     /// The word of a child was in use.
     Used,

@@ -1,4 +1,4 @@
-//! The status tree of a hypercube machine as a state machine, whose events are single atomic steps.
+//! The status tree of a hypercube machine as a state machine of single atomic steps.
 //!
 //! Each node of the tree of aligned regions has a status word, and each station a phase. A station
 //! takes the region of a node by a Look and a Claim at the node, then a Sweep and a Raise at each
@@ -15,9 +15,11 @@ mod phase;
 mod world;
 
 pub use act::{Act, Refused};
+pub use cube_shape::{MAX_DIM, MAX_STATIONS};
 pub use event::{Event, Kind, Note};
 pub use phase::{Phase, Seen};
-pub use world::{World, every_schedule_is_lawful};
+pub use status_word::Word;
+pub use world::{World, calls_are_single_events, every_schedule_is_lawful};
 
 #[cfg(test)]
 mod tests;

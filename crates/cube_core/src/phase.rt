@@ -1,5 +1,8 @@
 ghost use Rattle.std.specs.Prelude.{◌≡◌};
+ghost use Rattle.cube_core.specs.Event.{seen_at};
 ghost use Rattle.cube_core.specs.Phase.{is_seen_free};
+
+use status_word::Word;
 
 /// What a station on its way up after a release has seen of a child of the node where it is.
 #[derive(Clone, Copy, Debug, PartialEq, Eq, Hash)]
@@ -10,6 +13,17 @@ pub enum Seen {
 }
 
 impl Seen {
+    /// What a station sees of a child whose word this is.
+    pub fn of(word: Word) -> Seen
+        ensures { result ≡ seen_at word.0 }
+    {
+        if word.is_free() {
+            Seen::Free
+        } else {
+            Seen::Used
+        }
+    }
+
     /// Whether the child was seen free.
     pub fn is_free(self) -> bool
         ensures { result ≡ is_seen_free self }
@@ -35,7 +49,7 @@ pub enum Phase {
         node: u64,
         word: u64,
     },
-    /// Owns the node, has told all ancestors below `at`, and sweeps `at` next.
+    /// Owns the node, has passed all ancestors below `at`, and sweeps `at` next.
     Climbing {
         node: u64,
         at: u64,

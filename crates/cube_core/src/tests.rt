@@ -1,10 +1,11 @@
-//! Beginnings of schedules, event by event, each refusal, and a machine of one node; whole schedules
-//! stand in `schedules`, and short ones that show a wrong step in `interleavings`.
+//! Each refusal, each act, and a machine of one node; whole schedules stand in `schedules`, short
+//! ones that show a wrong step in `interleavings`, and outcomes that no clause pins in `outcomes`.
 
 ghost use Rattle.std.specs.Prelude.{◌+◌, ◌^◌, ◌≤◌};
 ghost use Rattle.cube_core.specs.World.{HasShapeOf};
 
 mod interleavings;
+mod outcomes;
 mod schedules;
 
 use crate::{Act, Event, Kind, Note, Phase, Refused, World};
@@ -64,45 +65,6 @@ fn is_clear(world: &World, end: u64) -> bool
         }
     }
     true
-}
-
-#[test]
-fn takes_a_node_and_zeroes_it(rt: HostRuntime) -> Result<(), Fail> {
-    let mut world = World::new(rt.alloc(), 2, 4)?;
-    let rows = [
-        Row::Takes(0, 4),
-        Row::Makes(0, Kind::Look, 4, 0, Note::Free),
-        Row::Makes(0, Kind::Claim, 4, 7, Note::Climb),
-        Row::Makes(0, Kind::Sweep, 2, 0, Note::Ok),
-        Row::Makes(0, Kind::Raise, 2, 2, Note::Climb),
-        Row::Makes(0, Kind::Sweep, 1, 0, Note::Ok),
-        Row::Makes(0, Kind::Raise, 1, 2, Note::Held),
-        Row::Releases(0),
-        Row::Makes(0, Kind::Zero, 4, 0, Note::Climb),
-    ];
-    assert!(rt; follows(&mut world, &rows));
-    assert_eq!(rt; world.phase(0), Phase::Arriving { at: 2 });
-    Ok(())
-}
-
-#[test]
-fn backs_out_under_an_occupied_node(rt: HostRuntime) -> Result<(), Fail> {
-    let mut world = World::new(rt.alloc(), 2, 3)?;
-    let rows = [
-        Row::Takes(1, 2),
-        Row::Makes(1, Kind::Look, 2, 0, Note::Free),
-        Row::Makes(1, Kind::Claim, 2, 7, Note::Climb),
-        Row::Makes(1, Kind::Sweep, 1, 0, Note::Ok),
-        Row::Makes(1, Kind::Raise, 1, 2, Note::Held),
-        Row::Takes(0, 4),
-        Row::Makes(0, Kind::Look, 4, 0, Note::Free),
-        Row::Makes(0, Kind::Claim, 4, 7, Note::Climb),
-        Row::Makes(0, Kind::Sweep, 2, 7, Note::Ok),
-        Row::Makes(0, Kind::Raise, 2, 7, Note::Under),
-        Row::Makes(0, Kind::Zero, 4, 0, Note::Climb),
-    ];
-    assert!(rt; follows(&mut world, &rows));
-    Ok(())
 }
 
 #[test]
@@ -214,5 +176,21 @@ fn runs_acts_and_reads_the_end(rt: HostRuntime) -> Result<(), Fail> {
     assert_eq!(rt; world.word(1), 4);
     assert_eq!(rt; world.word(2), 0);
     assert_eq!(rt; world.word(3), 7);
+    Ok(())
+}
+
+#[test]
+fn refusals_as_text(rt: HostRuntime) -> Result<(), Fail> {
+    let texts = [
+        (Refused::NotIdle, "the station is not idle"),
+        (Refused::NotHolding, "the station holds nothing"),
+        (Refused::NoStation, "there is no such station"),
+        (Refused::NotInCube, "there is no such node"),
+        (Refused::Resting, "the station makes no step"),
+    ];
+    for (refused, text) in texts {
+        let shown = format!(in rt.alloc(); "{refused}")?;
+        assert_eq!(rt; shown.as_str(), text);
+    }
     Ok(())
 }

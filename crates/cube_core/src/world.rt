@@ -2,10 +2,10 @@ ghost use Rattle.std.specs.Prelude.{◌≡◌, ◌≢◌, ℕ, ◌+◌, ◌*◌,
 ghost use Rattle.cube_core.specs.Schedule.{apply, apply_all, initial, phase_of, record_of, refusal, step_refusal, word_of};
 ghost use Rattle.cube_core.specs.World.{HasShapeOf, without_trails};
 ghost use Rattle.cube_core.specs.Event.{transition, retirement};
-ghost use Rattle.cube_core.specs.Effect.{IsEffect};
+ghost use Rattle.cube_core.specs.InnerEffect.{IsEffect};
 ghost use Rattle.cube_core.specs.Count.{depth, events_due};
 ghost use Rattle.cube_core.specs.Phase.{node_held};
-ghost use Rattle.cube_core.specs.Law.{IsTreeLawful, EveryScheduleIsLawful};
+ghost use Rattle.cube_core.specs.Law.{CallsAreSingleEvents, EveryScheduleIsLawful, IsTreeLawful};
 
 use crate::act::{Act, Refused};
 use crate::effect::{self, Effect};
@@ -28,7 +28,7 @@ pub struct World {
 
 impl Model for World {
     ghost use Rattle.cube_core.specs.Schedule.{State};
-    ghost use Rattle.cube_core.specs.World.{state_of, IsWorld};
+    ghost use Rattle.cube_core.specs.InnerWorld.{state_of, IsWorld};
 
     ghost Value = { State };
 
@@ -42,7 +42,8 @@ impl World {
     pub fn new(alloc: Global, n: u32, stations: u32) -> Result<Self, AllocError>
         requires dim { n ≤ MAX_DIM }
         requires stations { stations ≤ MAX_STATIONS }
-        ensures { IfOk result (λ made. made ≡ initial n stations) }
+        ensures opened { IfOk result (λ made. made ≡ initial n stations) }
+        ensures lawful { IfOk result (λ made. IsTreeLawful made) }
     {
         Ok(World {
             dim: n,
@@ -64,19 +65,24 @@ impl World {
         requires { station < length self.now.records }
         ensures { result ≡ phase_of self.now station }
     {
-        let place = station as usize;
-        self.phases[place]
+        let index = station as usize;
+        self.phases[index]
     }
 
     /// An idle station begins to take the region of a node. If the node is `j` levels below the root,
-    /// the take has at most `3 + 7 * j` events, its roll-back included.
+    /// the take has at most `3 + 7 * j` events, its roll-back included: `lawful` says so of every
+    /// list of acts that follows.
     pub fn begin_take(&mut self, station: u64, node: u64) -> Result<(), Refused>
-        ensures refused { IfErr result (λ why. refusal (Act.Take station node) self.old ≡ Some why) }
+        ensures refused { IfErr result (λ why.
+            refusal (Act.Take station node) self.old ≡ Some why) }
         ensures accepted { IfOk result (λ _. refusal (Act.Take station node) self.old ≡ None) }
         ensures unchanged { OnErr result (self.new ≡ self.old) }
-        ensures world { OnOk result (self.new ≡ without_trails (apply (Act.Take station node) self.old)) }
+        ensures world { OnOk result (self.new
+            ≡ without_trails (apply (Act.Take station node) self.old)) }
         ensures shape { HasShapeOf self.old self.new }
-        ensures count { OnOk result (events_due self.old.dim (phase_of self.new station) ≡ 3 + 7 * depth self.old.dim node) }
+        ensures lawful { IsTreeLawful self.new }
+        ensures count { OnOk result (events_due self.old.dim (phase_of self.new station)
+            ≡ 3 + 7 * depth self.old.dim node) }
     {
         match self.find(station)? {
             Phase::Idle if Node(node).is_in(self.dim) => {
@@ -94,8 +100,10 @@ impl World {
         ensures refused { IfErr result (λ why. refusal (Act.Release station) self.old ≡ Some why) }
         ensures accepted { IfOk result (λ _. refusal (Act.Release station) self.old ≡ None) }
         ensures unchanged { OnErr result (self.new ≡ self.old) }
-        ensures world { OnOk result (self.new ≡ without_trails (apply (Act.Release station) self.old)) }
+        ensures world { OnOk result (self.new
+            ≡ without_trails (apply (Act.Release station) self.old)) }
         ensures shape { HasShapeOf self.old self.new }
+        ensures lawful { IsTreeLawful self.new }
         ensures count { OnOk result (events_due self.old.dim (phase_of self.new station)
             ≡ 1 + 5 * depth self.old.dim (node_held (phase_of self.old station))) }
     {
@@ -112,12 +120,14 @@ impl World {
         ensures refused { IfErr result (λ why. refusal (Act.Step station) self.old ≡ Some why) }
         ensures accepted { IfOk result (λ _. refusal (Act.Step station) self.old ≡ None) }
         ensures unchanged { OnErr result (self.new ≡ self.old) }
-        ensures world { OnOk result (self.new ≡ without_trails (apply (Act.Step station) self.old)) }
+        ensures world { OnOk result (self.new
+            ≡ without_trails (apply (Act.Step station) self.old)) }
         ensures shape { HasShapeOf self.old self.new }
         ensures lawful { IsTreeLawful self.new }
         ensures count { OnOk result (events_due self.old.dim (phase_of self.new station) < events_due self.old.dim (phase_of self.old station)) }
         ensures others { (t : ℕ) → t ≢ station → phase_of self.new t ≡ phase_of self.old t }
-        ensures event { IfOk result (λ event. (record_of (apply (Act.Step station) self.old) station).trail
+        ensures event { IfOk result (λ event.
+            (record_of (apply (Act.Step station) self.old) station).trail
             ≡ event ∷ (record_of self.old station).trail) }
     {
         let phase = self.find(station)?;
@@ -134,9 +144,12 @@ impl World {
         ensures refused { IfErr result (λ why. refusal (Act.Retire station) self.old ≡ Some why) }
         ensures accepted { IfOk result (λ _. refusal (Act.Retire station) self.old ≡ None) }
         ensures unchanged { OnErr result (self.new ≡ self.old) }
-        ensures world { OnOk result (self.new ≡ without_trails (apply (Act.Retire station) self.old)) }
+        ensures world { OnOk result (self.new
+            ≡ without_trails (apply (Act.Retire station) self.old)) }
         ensures shape { HasShapeOf self.old self.new }
-        ensures event { IfOk result (λ event. (record_of (apply (Act.Retire station) self.old) station).trail
+        ensures lawful { IsTreeLawful self.new }
+        ensures event { IfOk result (λ event.
+            (record_of (apply (Act.Retire station) self.old) station).trail
             ≡ event ∷ (record_of self.old station).trail) }
     {
         let Phase::Idle = self.find(station)? else {
@@ -160,7 +173,7 @@ impl World {
         }
     }
 
-    // One act, of which nothing is told.
+    // One act; whether it was refused is not reported.
     fn make(&mut self, act: Act)
         ensures world { self.new ≡ without_trails (apply act self.old) }
         ensures shape { HasShapeOf self.old self.new }
@@ -223,8 +236,10 @@ impl World {
 
     // The phase of a station, if there is one of this number.
     fn find(&self, station: u64) -> Result<Phase, Refused>
-        ensures found { IfOk result (λ phase. (phase ≡ phase_of self.now station) × (station < length self.now.records)) }
-        ensures none { IfErr result (λ why. (why ≡ Refused.NoStation) × (length self.now.records ≤ station)) }
+        ensures found { IfOk result (λ phase. (phase ≡ phase_of self.now station)
+            × (station < length self.now.records)) }
+        ensures none { IfErr result (λ why. (why ≡ Refused.NoStation)
+            × (length self.now.records ≤ station)) }
     {
         if station < self.phases.len() as u64 {
             Ok(self.phase(station))
@@ -249,16 +264,25 @@ impl World {
 /// - A free word with a mark is the one that some station's mark made there. No two stations are
 ///   marked at one node by the same word.
 /// - The regions of the stations that hold one are aligned and apart.
-/// - Each further act is a step of its station on the machine of regions: the station gets a region
-///   that is apart from every held one, or its own region is taken away. Or the act leaves the
-///   held regions alone.
+/// - Each further act is a step of its station on the machine of regions: the station gets the region
+///   of the node that its take named, which is apart from every held one, or its own region is taken
+///   away. Or the act leaves the held regions alone.
 /// - Where a word is in use, some station owns a node at or under its node, or is to clear one. So
 ///   when all stations are at rest a word is free exactly where no held region is at or under its
 ///   node, and when all have retired every node's word is `0`.
 /// - The bit of a station stands in the roll exactly when it has retired.
-/// - A take of a node `j` levels below the root begins at a count of `3 + 7 * j` events, and a
-///   release at `1 + 5 * j`. Each event lowers the count of its own station, and leaves the others'
-///   alone.
+/// - Each accepted step adds one event to its own station's list and to no other. A take of a node
+///   `j` levels below the root makes at most `3 + 7 * j` events and a release at most `1 + 5 * j`, in
+///   every list of acts in which the station's own are steps.
 pub fn every_schedule_is_lawful()
     ensures { EveryScheduleIsLawful }
+{}
+
+/// What a station that runs on shared words makes in one atomic step is one event: a step, a take
+/// or a release with the step after it, or a retirement.
+///
+/// On every world in which a station has this phase, the calls make of the world what the one event
+/// makes of it, whatever the words are.
+pub fn calls_are_single_events()
+    ensures { CallsAreSingleEvents }
 {}

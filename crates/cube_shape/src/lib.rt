@@ -12,11 +12,15 @@
 #![tactic(auto)]
 
 mod limits;
+mod machine;
+mod neighbours;
 mod node;
 mod paths;
 mod region;
 
 pub use limits::{Dim, MAX_DIM, MAX_STATIONS};
+pub use machine::first_fit_is_the_least;
+pub use neighbours::neighbour;
 pub use node::{Node, Side};
 pub use paths::{child_towards, on_path, parent, side};
 pub use region::{Region, node_of, region_of, regions_apart};

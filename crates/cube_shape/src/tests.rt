@@ -1,8 +1,8 @@
 //! The public functions once each, on a machine of dimension 3 and at the limits.
 
 use crate::{
-    Dim, MAX_DIM, Node, Region, Side, child_towards, node_of, on_path, parent, region_of,
-    regions_apart, side,
+    Dim, MAX_DIM, Node, Region, Side, child_towards, neighbour, node_of, on_path, parent,
+    region_of, regions_apart, side,
 };
 
 #[test]
@@ -59,4 +59,12 @@ fn regions_that_share_processors(rt: HostRuntime) {
     assert!(rt; !regions_apart(pair, pair));
     assert!(rt; regions_apart(pair, Region { base: 6, dim: 1 }));
     assert!(rt; regions_apart(pair, Region { base: 0, dim: 2 }));
+}
+
+#[test]
+fn neighbours_differ_in_one_bit(rt: HostRuntime) {
+    assert_eq!(rt; neighbour(0, 0), 1);
+    assert_eq!(rt; neighbour(5, 1), 7);
+    assert_eq!(rt; neighbour(7, 2), 3);
+    assert_eq!(rt; neighbour(neighbour(6, 0), 0), 6);
 }

@@ -3,7 +3,7 @@ use Rattle.std.proofs.Common.{◌≡◌, ℕ, zero, suc, ◌+◌, ◌*◌, ◌%�
 use Rattle.std.proofs.lemmas.Nat.{pow_pos}
 use Rattle.std.proofs.lemmas.Bool.{cases_Bool, ltb-true, ltb-false}
 use Rattle.std.proofs.Math.Pow.{pow-lt, pow_mono}
-use Rattle.job_types.specs.Dim.{dim_of, search_up}
+use Rattle.job_types.specs.Dim.{dim_of, search_up, IsLeastDim}
 
 -- a number is at most its power of two
 pub le-pow : (p : ℕ) → p ≤ 2 ^ p
@@ -47,6 +47,12 @@ le-pow-dim_of p = le-pow-search_up p 0 p p (omega arith) (le-pow p)
 pub below_dim_of : (p k : ℕ) → k < dim_of p → 2 ^ k < p
 unfolding dim_of
 below_dim_of p k below = search_up_passes p 0 p k (omega arith) below
+
+pub dim_of-least : (p : ℕ) → IsLeastDim p (dim_of p)
+dim_of-least p = record {
+  enough = le-pow-dim_of p;
+  least = λ j enough. (let below : j < dim_of p → 2 ^ j < p = below_dim_of p j in grind arith);
+}
 
 pub dim_of-pow : (k : ℕ) → dim_of (2 ^ k) ≡ k
 dim_of-pow k =

@@ -1,4 +1,4 @@
--- Rounds on the members of a monoid, told of the numbers that they stand for.
+-- Rounds on the members of a monoid, stated of the numbers that the members stand for.
 use Rattle.std.proofs.Common.{◌≡◌, ℕ, ◌+◌, ◌^◌, ◌<◌, ◌≤◌, inl, inr, List, [], ◌∷◌, length, take, get_or, refl, sym, ap, subst, ◌∙◌, arith, ltb}
 use Rattle.std.specs.Prelude.{map, fold, Some, None, option_map, All, slice_get, ◌==◌, if◌then◌else◌}
 use Rattle.std.proofs.lemmas.Bool.{cases_Bool, ltb-true, ltb-false}
@@ -8,28 +8,29 @@ use Rattle.collectives.specs.Places.{Holds, total, prefix_total}
 use Rattle.job_types.specs.declared.kind.Op.{Op}
 use Rattle.job_types.specs.declared.kind.Kind.{Kind}
 use Rattle.job_types.specs.declared.kind.Kind.TheVariants.{Broadcast, Reduce, AllReduce, Scan}
-use Rattle.job_types.specs.Collective.{join, total_of, prefix_of, held_at, shown, IsResult}
-use Rattle.job_types.specs.Operation.{IsOperation}
+use Rattle.job_types.specs.Collective.{join, total_of, prefix_of, held_at}
+use Rattle.job_types.specs.Inner.Collective.{visible_at, IsResult}
+use Rattle.job_types.specs.Inner.Operation.{IsOperation}
 
--- past the places nothing is shown
-shown-none : (kind : Kind) (place : ℕ) → shown kind place None ≡ None
-shown-none (Broadcast root) place = refl
-shown-none (Reduce op root) place = elim (cases_Bool (place == root)) [
+-- past the places nothing is visible
+visible_at-none : (kind : Kind) (place : ℕ) → visible_at kind place None ≡ None
+visible_at-none (Broadcast root) place = refl
+visible_at-none (Reduce op root) place = elim (cases_Bool (place == root)) [
   | inl here ↦ rw here refl
   | inr elsewhere ↦ rw elsewhere refl
 ]
-shown-none (AllReduce op) place = refl
-shown-none (Scan op) place = refl
+visible_at-none (AllReduce op) place = refl
+visible_at-none (Scan op) place = refl
 
 -- it is enough to look at the places
 result_by_places : (kind : Kind) (items numbers : List ℕ) → length numbers ≡ length items
-    → ((place : ℕ) → place < length items → shown kind place (slice_get numbers place) ≡ held_at kind items place)
+    → ((place : ℕ) → place < length items → visible_at kind place (slice_get numbers place) ≡ held_at kind items place)
     → IsResult kind items numbers
 result_by_places kind items numbers same held place = elim (cases_Bool (ltb place (length items))) [
   | inl within ↦ rw within (held place (ltb-true place (length items) within))
   | inr past ↦ (
       let after : length numbers ≤ place = omega (arith, same, ltb-false place (length items) past) in
-      rw past (ap (shown kind place) (slice_get_past numbers place after) ∙ shown-none kind place))
+      rw past (ap (visible_at kind place) (slice_get_past numbers place after) ∙ visible_at-none kind place))
 ]
 
 module _ {M : Type 0} {op : Op} {unit : M} {joined : M → M → M} {number : M → ℕ} (is : IsOperation op unit joined number) where

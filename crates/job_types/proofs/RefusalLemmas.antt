@@ -6,7 +6,7 @@ use Rattle.std.proofs.lemmas.Bool.Decides.{nat_tests}
 use Rattle.std.proofs.lemmas.Nat.{pow_pos}
 use Rattle.std.proofs.Math.Pow.{pow-lt, pow_mono}
 use Rattle.job_types.specs.declared.kind.Kind.{Kind}
-use Rattle.job_types.specs.declared.job.JobRefused.TheVariants.{NotPowerOfTwo, TooLarge, BadRoot}
+use Rattle.job_types.specs.declared.request.JobRefused.TheVariants.{NotPowerOfTwo, TooLarge, BadRoot}
 use Rattle.job_types.specs.declared.kind.Kind.TheVariants.{Broadcast}
 use Rattle.job_types.specs.Dim.{dim_of}
 use Rattle.job_types.specs.Job.{refusal_of, has_bad_root}

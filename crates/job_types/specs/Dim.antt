@@ -1,7 +1,7 @@
--- The dimension that so many items need, which have one processor each.
-use Rattle.std.specs.Prelude.{ℕ, zero, suc, ◌+◌, ◌^◌, nat_lt, if◌then◌else◌}
+-- The dimension of the smallest region that has a processor for each item.
+use Rattle.std.specs.Prelude.{ℕ, zero, suc, ◌+◌, ◌^◌, ◌≤◌, nat_lt, if◌then◌else◌}
 
--- the first number from k on whose power of two is at least p, found in at most so many steps
+-- the first number from k on whose power of two is at least p, found in at most `steps` steps
 unfoldable pub search_up : ℕ → ℕ → ℕ → ℕ
 search_up zero k p = k
 search_up (suc steps) k p = if nat_lt (2 ^ k) p then search_up steps (k + 1) p else k
@@ -9,3 +9,8 @@ search_up (suc steps) k p = if nat_lt (2 ^ k) p then search_up steps (k + 1) p e
 -- the least k such that 2 ^ k is at least p; it is at most p
 unfoldable pub dim_of : ℕ → ℕ
 dim_of p = search_up p 0 p
+
+-- k is the least number whose power of two is at least p
+pub record IsLeastDim (p k : ℕ) : Type 0 where
+  pub enough : p ≤ 2 ^ k
+  pub least : (j : ℕ) → p ≤ 2 ^ j → k ≤ j

@@ -1,11 +1,9 @@
 -- What a contract sees of a job, and which requests are refused.
-use Rattle.std.specs.Prelude.{◌≡◌, ℕ, ◌^◌, ◌<◌, ◌≤◌, Bool, false, not, List, length, Option, Some, None, nat_lt, ◌==◌, if◌then◌else◌}
+use Rattle.std.specs.Prelude.{ℕ, ◌^◌, Bool, false, not, List, length, Option, Some, None, nat_lt, ◌==◌, if◌then◌else◌}
 use Rattle.job_types.specs.declared.kind.Kind.{Kind}
 use Rattle.job_types.specs.declared.kind.Kind.TheVariants.{Broadcast, Reduce, AllReduce, Scan}
-use Rattle.job_types.specs.declared.job.JobRefused.{JobRefused}
-use Rattle.job_types.specs.declared.job.JobRefused.TheVariants.{Empty, NotPowerOfTwo, TooLarge, BadRoot}
-use Rattle.job_types.specs.declared.job.TheConstants.{MAX_LANES}
-use Rattle.cube_shape.specs.declared.limits.TheConstants.{MAX_DIM}
+use Rattle.job_types.specs.declared.request.JobRefused.{JobRefused}
+use Rattle.job_types.specs.declared.request.JobRefused.TheVariants.{Empty, NotPowerOfTwo, TooLarge, BadRoot}
 use Rattle.job_types.specs.Dim.{dim_of}
 
 -- a job: the dimension of its machine, the lane that it was made for, its collective and its items
@@ -15,14 +13,14 @@ pub record JobData : Type 0 where
   pub kind : Kind
   pub items : List ℕ
 
--- the collective's root, if it has one, is no place among so many
+-- the collective's root, if it has one, is none of the `places` places
 abbrev pub has_bad_root : Kind → ℕ → Bool
 has_bad_root (Broadcast root) places = not (nat_lt root places)
 has_bad_root (Reduce op root) places = not (nat_lt root places)
 has_bad_root (AllReduce op) places = false
 has_bad_root (Scan op) places = false
 
--- the first refusal of such a request on a machine of dimension n, if there is one
+-- why a machine of dimension n refuses these items: the first reason that holds, or None
 abbrev pub refusal_of : ℕ → Kind → List ℕ → Option JobRefused
 refusal_of n kind items =
     if length items == 0 then Some Empty
@@ -30,12 +28,3 @@ refusal_of n kind items =
     else if nat_lt (2 ^ n) (length items) then Some TooLarge
     else if has_bad_root kind (length items) then Some BadRoot
     else None
-
--- what is true of every job: its items are 2 ^ dim, its machine has regions of that dimension, and its
--- root, if it has one, is one of the places
-pub record IsJob (machine lane : ℕ) (kind : Kind) (dim : ℕ) (items : List ℕ) : Type 0 where
-  pub limit : machine ≤ MAX_DIM
-  pub lane_below : lane < MAX_LANES
-  pub within : dim ≤ machine
-  pub power : 2 ^ dim ≡ length items
-  pub rooted : has_bad_root kind (length items) ≡ false

@@ -1,7 +1,7 @@
 pub mod Collective
 pub mod Dim
 pub mod Job
-pub mod Operation
-pub mod Places
 pub mod Reply
-pub mod Room
+pub mod Inner
+pub use Rattle.cube_shape.specs.Region
+pub use Rattle.collectives.specs.Shape

@@ -1,23 +1,10 @@
--- What a contract sees of a reply, and what is true of every reply.
-use Rattle.std.specs.Prelude.{◌≡◌, ℕ, ◌^◌, List, length}
+-- What a contract sees of a reply.
 use Rattle.cube_shape.specs.declared.region.Region.{Region}
-use Rattle.cube_shape.specs.Region.{IsAligned}
 use Rattle.job_types.specs.declared.reply.JobId.{JobId}
-use Rattle.collectives.specs.declared.shape.Tally.{Tally}
-use Rattle.collectives.specs.Shape.{tally_of}
-use Rattle.job_types.specs.Collective.{IsResult, shape_of}
-use Rattle.job_types.specs.Dim.{dim_of}
 use Rattle.job_types.specs.Job.{JobData}
 
--- a reply: the name of the job, the job, and the region that it ran on; these determine the rest
+-- a reply: the id of the job, the job, and the region that it ran on; these determine the rest
 pub record ReplyData : Type 0 where
   pub id : JobId
   pub job : JobData
   pub region : Region
-
--- the region could run the job, and the tally and the result are those of its collective
-pub record IsAnswer (job : JobData) (region : Region) (tally : Tally) (numbers : List ℕ) : Type 0 where
-  pub aligned : IsAligned job.machine region
-  pub dimension : 2 ^ region.dim ≡ length job.items
-  pub tallied : tally ≡ tally_of (shape_of job.kind) (dim_of (length job.items))
-  pub computed : IsResult job.kind job.items numbers

@@ -1,6 +1,8 @@
+//! The collectives that jobs ask for, and the operations that join their items.
+
 ghost use Rattle.std.specs.Prelude.{◌≡◌};
-ghost use Rattle.job_types.specs.Collective.{operation_of, spare_for};
 ghost use Rattle.job_types.specs.Job.{has_bad_root};
+ghost use Rattle.job_types.specs.Inner.Collective.{operation_of, scratch_len};
 
 /// An operation that joins two items into one. Each is associative.
 #[derive(Clone, Copy, Debug, PartialEq, Eq, Hash)]
@@ -22,24 +24,24 @@ pub enum Op {
 /// Which collective a job asks for. Items are joined in the order of their ranks.
 #[derive(Clone, Copy, Debug, PartialEq, Eq, Hash)]
 pub enum Kind {
-    /// Every processor gets the item of the root.
+    /// Every processor receives the item of the root.
     Broadcast {
         /// The rank of the root.
         root: u64,
     },
-    /// The root gets all items, joined, and the other processors get nothing.
+    /// The root receives all items, joined, and the other processors hold nothing.
     Reduce {
         /// What joins them.
         op: Op,
         /// The rank of the root.
         root: u64,
     },
-    /// Every processor gets all items, joined.
+    /// Every processor receives all items, joined.
     AllReduce {
         /// What joins them.
         op: Op,
     },
-    /// Each processor gets the items up to and with its own, joined.
+    /// Each processor receives the items up to and with its own, joined.
     Scan {
         /// What joins them.
         op: Op,
@@ -47,7 +49,7 @@ pub enum Kind {
 }
 
 impl Kind {
-    /// Whether the collective has a root that is none of so many places.
+    // Whether the collective has a root that is none of the `places` places.
     pub(crate) fn has_bad_root(self, places: u64) -> bool
         ensures { result ≡ has_bad_root self places }
     {
@@ -57,7 +59,7 @@ impl Kind {
         }
     }
 
-    /// What joins the items. A broadcast joins none, so its items can be of any operation.
+    // What joins the items. A broadcast joins none, and any operation serves it.
     pub(crate) fn operation(self) -> Op
         ensures { result ≡ operation_of self }
     {
@@ -67,9 +69,9 @@ impl Kind {
         }
     }
 
-    /// How many places the collective needs beside so many, for its totals.
-    pub(crate) fn spare(self, places: usize) -> usize
-        ensures { result ≡ spare_for self places }
+    // How many scratch items the collective needs besides its `places` items.
+    pub(crate) fn scratch_len(self, places: usize) -> usize
+        ensures { result ≡ scratch_len self places }
     {
         match self {
             Kind::Broadcast { .. } | Kind::Reduce { .. } | Kind::AllReduce { .. } => 0,

@@ -2,23 +2,23 @@
 
 ghost use Rattle.std.specs.Prelude.{◌≡◌, ℕ, refl};
 ghost use Rattle.job_types.specs.declared.kind.Op.{Op};
-ghost use Rattle.job_types.specs.Operation.{IsOperation};
+ghost use Rattle.job_types.specs.Inner.Operation.{IsOperation};
 
 use collectives::{Add, And, Max, Min, Monoid, Or, Xor};
 
-/// The monoid of an operation. Each of its members stands for a number, and each `u64` is the number
-/// of a value.
+// The monoid of an operation of jobs. Each of its members stands for a number, and each `u64` is
+// the number of a value.
 pub(crate) trait Operation: Monoid {
     ghost op: { Op };
 
     ghost number: { Self → ℕ };
 
-    /// The value that stands for the item.
+    // The value that stands for the item.
     fn wrap(item: u64) -> Self
         ensures value { Self.is_value result }
         ensures number { number result ≡ item };
 
-    /// The number that this stands for.
+    // The number that this stands for.
     fn number(self) -> u64
         ensures { result ≡ number self };
 

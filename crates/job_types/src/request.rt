@@ -1,11 +1,36 @@
-ghost use Rattle.std.specs.Prelude.{◌≡◌, ◌^◌, ◌<◌, ◌≤◌, length, None};
-ghost use Rattle.job_types.specs.Dim.{dim_of};
+//! What a job asks for, and why a request is refused.
+
+ghost use Rattle.std.specs.Prelude.{◌≡◌, ℕ, ◌^◌, ◌<◌, ◌≤◌, length, None};
+ghost use Rattle.job_types.specs.Dim.{IsLeastDim, dim_of};
 ghost use Rattle.job_types.specs.Job.{refusal_of};
 
-use crate::job::{JobRefused, MAX_LANES};
 use crate::kind::Kind;
 use cube_shape::MAX_DIM;
 use std::marker::Model;
+use thiserror::Error;
+
+/// How many lanes there are. Their numbers are `0` to `MAX_LANES - 1`.
+pub const MAX_LANES: u32 = 16;
+
+/// Why there is no job for some request. Where several reasons hold, the first one is reported.
+#[derive(Clone, Copy, Debug, PartialEq, Eq, Hash, Error)]
+pub enum JobRefused {
+    /// There are no items.
+    #[error("no items")]
+    Empty,
+    /// The number of items is no power of two.
+    #[error("the number of items is not a power of two")]
+    NotPowerOfTwo,
+    /// There are more items than processors.
+    #[error("more items than processors")]
+    TooLarge,
+    /// The root is not one of the places. There is a place for each item.
+    #[error("the root is not one of the places")]
+    BadRoot,
+    /// The job's workspace was asked for, and the allocator refused it.
+    #[error("out of memory")]
+    OutOfMemory,
+}
 
 /// What a job asks for. Every request can be met: it has `2^dim` items, and its machine has
 /// regions of that dimension.
@@ -19,7 +44,8 @@ pub struct Request {
 }
 
 impl Model for Request {
-    ghost use Rattle.job_types.specs.Job.{JobData, IsJob};
+    ghost use Rattle.job_types.specs.Job.{JobData};
+    ghost use Rattle.job_types.specs.Inner.Job.{IsJob};
 
     ghost Value = { JobData };
 
@@ -29,8 +55,8 @@ impl Model for Request {
     ghost invariant = { λ r. IsJob r.machine r.lane r.kind r.dim r.items.items };
 }
 
-/// The first reason, in the order of `JobRefused`, why there is no such job on a machine of
-/// dimension `n`.
+// Why a machine of dimension `n` refuses these items: the first reason, in the order of
+// `JobRefused`.
 pub(crate) fn refusal(n: u32, kind: Kind, items: &[u64]) -> Option<JobRefused>
     requires { n ≤ MAX_DIM }
     ensures { result ≡ refusal_of n kind items.now }
@@ -53,7 +79,7 @@ pub(crate) fn refusal(n: u32, kind: Kind, items: &[u64]) -> Option<JobRefused>
 }
 
 impl Request {
-    /// A request for items that no reason refuses.
+    // A request for items that no reason refuses.
     pub(crate) fn new(n: u32, lane: u32, kind: Kind, items: Vec<u64>) -> Self
         requires machine { n ≤ MAX_DIM }
         requires lane { lane < MAX_LANES }
@@ -92,12 +118,16 @@ impl Request {
         self.kind
     }
 
-    /// The dimension of the region that the job needs: it has `2^dim` items.
+    /// The dimension of the smallest region that has a processor for each item. Today the items
+    /// fill it.
     pub fn dim(&self) -> u32
         ensures value { result ≡ dim_of (length self.now.items) }
         ensures power { 2 ^ result ≡ length self.now.items }
         ensures within { result ≤ self.now.machine }
         ensures limit { self.now.machine ≤ MAX_DIM }
+
+        // What `dim_of` means, of any number of items.
+        ensures least { (p : ℕ) → IsLeastDim p (dim_of p) }
     {
         self.dim
     }

@@ -1,4 +1,5 @@
 pub mod OrderLemmas
-pub mod TurnLemmas
+pub mod TraceLemmas
 pub mod StationLemmas
 pub mod ReplayLemmas
+pub mod CommandLineLemmas

@@ -1,4 +1,4 @@
--- What the calls of a world tell of its acts.
+-- The acts of a world by its calls.
 use Rattle.std.proofs.Common.{◌≡◌, ◌≢◌, ℕ, zero, suc, ◌+◌, ◌-◌, ◌^◌, ◌<◌, ◌==◌, true, false, List, [], ◌∷◌, ◌++◌, length, replicate, nat_lt, Option, Some, None, cond, refl, sym, ap, subst, ◌∙◌, append-nil, add-zero, ◌≤◌, arith}
 use Rattle.std.specs.List.{flat_map, range_with_len}
 use Rattle.std.proofs.lemmas.Bool.Decides.{nat_tests}
@@ -15,17 +15,17 @@ use Rattle.cube_core.specs.Schedule.{State, apply, phase_of, refusal, step_refus
 use Rattle.cube_core.specs.World.{HasShapeOf, without_trails}
 use Rattle.jobs_csv.specs.declared.replay_rows.ReplayRow.{ReplayRow}
 use Rattle.jobs_csv.specs.declared.replay_rows.ReplayRow.TheVariants as row
-use Rattle.jobs_cli.specs.InTurn.{InTurn}
+use Rattle.jobs_cli.specs.Trace.{IsTrace}
 use Rattle.jobs_csv.specs.declared.schedule.Line.TheVariants as line
-use Rattle.jobs_cli.specs.Replay.{Acts, ActsUnless, AreRows, IsPlayed, RestsAfter, Runs, end_rows, refused_row, word_row, words_left}
-use Rattle.jobs_cli.proofs.TurnLemmas.{one_more}
+use Rattle.jobs_cli.specs.Replay.{ActStep, ActStepUnless, AreRows, IsPlayed, RestsAfter, RunSteps, final_rows, refused_row, word_row, words_left}
+use Rattle.jobs_cli.proofs.TraceLemmas.{one_more}
 
 -- a refused act has its row, and changes nothing
-pub is_refused : (a : Act) (old new : State) (why : Refused) → refusal a old ≡ Some why → new ≡ old → Acts a old new (refused_row a why ∷ [])
-is_refused a old new why is same = subst (λ r. ActsUnless r a old new (refused_row a why ∷ [])) (sym is) (same, refl)
+pub is_refused : (a : Act) (old new : State) (why : Refused) → refusal a old ≡ Some why → new ≡ old → ActStep a old new (refused_row a why ∷ [])
+is_refused a old new why is same = subst (λ r. ActStepUnless r a old new (refused_row a why ∷ [])) (sym is) (same, refl)
 
-pub is_accepted : (a : Act) (old new : State) (rows : List ReplayRow) → refusal a old ≡ None → new ≡ without_trails (apply a old) → AreRows a old rows → Acts a old new rows
-is_accepted a old new rows is made told = subst (λ r. ActsUnless r a old new rows) (sym is) (made, told)
+pub is_accepted : (a : Act) (old new : State) (rows : List ReplayRow) → refusal a old ≡ None → new ≡ without_trails (apply a old) → AreRows a old rows → ActStep a old new rows
+is_accepted a old new rows is made told = subst (λ r. ActStepUnless r a old new rows) (sym is) (made, told)
 
 not_refused : (why : Refused) → ◌≡◌ {A = Option Refused} None (Some why) → ⊥
 not_refused why e = cc
@@ -53,20 +53,20 @@ is_at_rest s w why there e =
 
 -- one act more of the same
 pub once_more : (A : Act → State → State → List ReplayRow → Type 0) (a : Act) (times : ℕ) (first now last : State) (rows told : List ReplayRow)
-    → InTurn A (replicate times a) first now rows → A a now last told → InTurn A (replicate (times + 1) a) first last (rows ++ told)
+    → IsTrace A (replicate times a) first now rows → A a now last told → IsTrace A (replicate (times + 1) a) first last (rows ++ told)
 once_more A a times first now last rows told before behind =
-    subst (λ acts. InTurn A acts first last (rows ++ told)) (replicate_more times a) (one_more A (replicate times a) a first now last rows told before behind)
+    subst (λ acts. IsTrace A acts first last (rows ++ told)) (replicate_more times a) (one_more A (replicate times a) a first now last rows told before behind)
 
 -- a run of a station that is there, and a run of one that is not
 pub run_there : (s : ℕ) (old new : State) (rows : List ReplayRow) → s < length old.records → RestsAfter s old new rows → IsPlayed (line.Run s) old new rows
 run_there s old new rows there rests =
     let found : nat_lt s (length old.records) ≡ true = grind (arith, nat_tests) in
-    subst (λ there. Runs there s old new rows) (sym found) rests
+    subst (λ there. RunSteps there s old new rows) (sym found) rests
 
-pub run_nowhere : (s : ℕ) (old new : State) (rows : List ReplayRow) → length old.records ≤ s → Acts (act.Step s) old new rows → IsPlayed (line.Run s) old new rows
+pub run_nowhere : (s : ℕ) (old new : State) (rows : List ReplayRow) → length old.records ≤ s → ActStep (act.Step s) old new rows → IsPlayed (line.Run s) old new rows
 run_nowhere s old new rows nowhere acts =
     let found : nat_lt s (length old.records) ≡ false = grind (arith, nat_tests) in
-    subst (λ there. Runs there s old new rows) (sym found) acts
+    subst (λ there. RunSteps there s old new rows) (sym found) acts
 
 range_push : (from n : ℕ) → range_with_len from (suc n) ≡ range_with_len from n ++ (from + n) ∷ []
 range_push from zero = rw add-zero refl
@@ -106,9 +106,9 @@ word_skipped w node word rows next from is none same kept =
     let here : word_row w node ≡ [] = rw (← is, none) refl in
     kept ∙ same ∙ sym (append-nil (rows_before w node)) ∙ ap (λ r. rows_before w node ++ r) (sym here) ∙ sym (next_word w node from)
 
--- the rows of all words, and their number behind them
+-- the rows of all words, and then their number
 pub all_ended : (w : State) (n node past : ℕ) (rows next : List ReplayRow) → w.dim ≡ n → past ≡ 2 ^ (n + 1) → node ≡ past
-    → rows ≡ rows_before w node → next ≡ rows ++ row.End (length rows) ∷ [] → next ≡ end_rows w
+    → rows ≡ rows_before w node → next ≡ rows ++ row.End (length rows) ∷ [] → next ≡ final_rows w
 all_ended w n node past rows next dim is last same pushed =
     let stop : node ≡ 2 ^ (w.dim + 1) = last ∙ is ∙ ap (λ d. 2 ^ (d + 1)) (sym dim) in
     let all : rows ≡ words_left w = same ∙ ap (rows_before w) stop in

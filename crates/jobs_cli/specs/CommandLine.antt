@@ -1,34 +1,65 @@
--- What a command line asks for, and what is within the limits of the machine.
-use Rattle.std.specs.Prelude.{◌≡◌, ℕ, ◌≤◌, List, Some, codes, option_map}
+-- What the words of a command line ask for: `clap` reads them by the options of the program.
+use Rattle.std.specs.Prelude.{◌≡◌, ◌≢◌, ◌⊎◌, ℕ, ◌≤◌, List, [], ◌∷◌, Some, codes, pos, true}
 use Rattle.std.specs.Str.Parse.{digits_value, without_leading_plus}
-use Rattle.clap.specs.Words.{found_of, one_text, rows_of, subcommand_rows_of}
-use Rattle.clap.specs.declared.parser.matches.ArgMatches.{ArgMatches}
+use Rattle.clap.specs.Words.{App, IsAmong, Row, Rule, Shape, Text, fault_of, new_app, new_rule, one_of, subcommand_of, with_rule, with_subcommand}
+use Rattle.clap.specs.declared.builder.value_parser.ValueParser.TheVariants.{Signed}
+use Rattle.clap.specs.declared.error.kind.ErrorKind.{ErrorKind}
+use Rattle.clap.specs.declared.error.kind.ErrorKind.TheVariants.{DisplayHelp, DisplayVersion}
 use Rattle.cube_shape.specs.declared.limits.TheConstants.{MAX_DIM, MAX_STATIONS}
-use Rattle.jobs_cli.specs.declared.command_line.Asked.{Asked}
-use Rattle.jobs_cli.specs.declared.command_line.Asked.TheVariants.{Run, Place, Replay}
+use Rattle.jobs_cli.specs.declared.invocation.Invocation.{Invocation}
+use Rattle.jobs_cli.specs.declared.invocation.Invocation.TheVariants.{Run, Place, Replay}
 
--- the machine has a dimension that it may have, and so many stations as it may have, at least one
-abbrev pub IsWithinLimits : Asked → Type 0
+-- the dimension is at most MAX_DIM; the number of stations is from 1 to MAX_STATIONS
+abbrev pub IsWithinLimits : Invocation → Type 0
 IsWithinLimits (Run n) = n ≤ MAX_DIM
 IsWithinLimits (Place n) = n ≤ MAX_DIM
 IsWithinLimits (Replay n stations) = (n ≤ MAX_DIM) × (1 ≤ stations) × (stations ≤ MAX_STATIONS)
 
--- the option has this number, in digits
-abbrev pub IsWritten : ArgMatches → List ℕ → ℕ → Type 0
-IsWritten matches option n = (text : List ℕ) × (one_text (found_of matches) option ≡ Some text) × (n ≡ digits_value 10 (without_leading_plus text))
+-- the required option `--dim N`, a number from 0 to MAX_DIM
+abbrev pub dim_rule : Rule
+dim_rule = record (new_rule (codes "dim")) { long = Some (codes "dim"); value_names = 1; required = true; parser = Some (Signed (pos 0) (pos MAX_DIM)) }
 
--- the command that asks for it
-abbrev pub command_of : Asked → List ℕ
+-- the required option `--stations S`, a number from 1 to MAX_STATIONS
+abbrev pub stations_rule : Rule
+stations_rule = record (new_rule (codes "stations")) { long = Some (codes "stations"); value_names = 1; required = true; parser = Some (Signed (pos 1) (pos MAX_STATIONS)) }
+
+-- a command on a machine of some dimension
+abbrev pub command_app : Text → App
+command_app name = with_rule (new_app name) dim_rule
+
+-- the program: it has a version, and one of its three commands is required
+abbrev pub bare_program : Shape
+bare_program = record (new_app (codes "cubejobs")).top { subcommand_required = true; has_version = true }
+
+abbrev pub program_app : App
+program_app = with_subcommand (with_subcommand (with_subcommand (record { top = bare_program; subs = [] })
+    (command_app (codes "run")).top) (command_app (codes "place")).top) (with_rule (command_app (codes "replay")) stations_rule).top
+
+-- the option has this number, in digits
+abbrev pub HasOptionValue : List Row → Text → ℕ → Type 0
+HasOptionValue options name n = (text : Text) × (one_of name options ≡ Some text) × (n ≡ digits_value 10 (without_leading_plus text))
+
+-- the numbers of the request are those of the options
+abbrev pub HasOptionValues : List Row → Invocation → Type 0
+HasOptionValues options (Run n) = HasOptionValue options (codes "dim") n
+HasOptionValues options (Place n) = HasOptionValue options (codes "dim") n
+HasOptionValues options (Replay n stations) = HasOptionValue options (codes "dim") n × HasOptionValue options (codes "stations") stations
+
+-- the command of a request
+abbrev pub command_of : Invocation → Text
 command_of (Run n) = codes "run"
 command_of (Place n) = codes "place"
 command_of (Replay n stations) = codes "replay"
 
--- these are the options of the command that was met
-abbrev pub AreOptions : ArgMatches → ArgMatches → Type 0
-AreOptions matches options = option_map (λ command. command.1) (subcommand_rows_of matches) ≡ Some (rows_of (found_of options))
+-- these words ask for this: `clap` finds nothing wrong with them, they name the command, and its
+-- options have the numbers
+abbrev pub AsksFor : List Text → Invocation → Type 0
+AsksFor words invocation = (fault_of program_app words ≡ []) × ((options : List Row) × (subcommand_of program_app words ≡ Some (command_of invocation, options)) × HasOptionValues options invocation)
 
--- the numbers are those of the options
-abbrev pub AreWritten : ArgMatches → Asked → Type 0
-AreWritten options (Run n) = IsWritten options (codes "dim") n
-AreWritten options (Place n) = IsWritten options (codes "dim") n
-AreWritten options (Replay n stations) = IsWritten options (codes "dim") n × IsWritten options (codes "stations") stations
+-- these words ask for help or for the version
+abbrev pub AsksForHelp : List Text → Type 0
+AsksForHelp words = IsAmong DisplayHelp (fault_of program_app words) ⊎ IsAmong DisplayVersion (fault_of program_app words)
+
+-- `clap` finds something wrong with these words
+abbrev pub IsBadCommandLine : List Text → Type 0
+IsBadCommandLine words = (kind : ErrorKind) × IsAmong kind (fault_of program_app words) × (kind ≢ DisplayHelp) × (kind ≢ DisplayVersion)

@@ -1,9 +1,9 @@
-pub mod Names
+pub mod JobIds
 pub mod Replies
-pub mod Run
-pub mod InTurn
+pub mod Answer
+pub mod Trace
 pub mod Place
-pub mod Stations
 pub mod Replay
 pub mod CommandLine
 pub mod Program
+pub mod Inner

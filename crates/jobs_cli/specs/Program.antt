@@ -1,15 +1,48 @@
--- What the program does with the bytes that it reads and the text that it writes, by its command.
-use Rattle.std.specs.Prelude.{ℕ, List, Option, Result}
+-- What a call of the program does, by its words: which command, its answer, and how it ends.
+use Rattle.std.specs.Prelude.{◌≡◌, ◌⊎◌, ℕ, false, List, Option, Result, Ok, Err, IfSome}
+use Rattle.clap.specs.Words.{Text}
 use Rattle.jobs_csv.specs.declared.fault.Fault.{Fault}
-use Rattle.jobs_cli.specs.declared.command_line.Asked.{Asked}
-use Rattle.jobs_cli.specs.declared.command_line.Asked.TheVariants as asked
-use Rattle.jobs_cli.specs.Place as Place
-use Rattle.jobs_cli.specs.Replay as Replay
-use Rattle.jobs_cli.specs.Run as Run
+use Rattle.jobs_csv.specs.declared.fault.FaultKind.TheVariants as what
+use Rattle.jobs_csv.specs.Fault.{is_refusal, status_of}
+use Rattle.jobs_csv.specs.Jobs.{parse_jobs}
+use Rattle.jobs_csv.specs.Place.{parse_commands}
+use Rattle.jobs_csv.specs.PlaceRows.{place_columns, place_fields}
+use Rattle.jobs_csv.specs.ReplayRows.{replay_columns, replay_fields}
+use Rattle.jobs_csv.specs.Replies.{reply_columns, reply_fields}
+use Rattle.jobs_csv.specs.Schedule.{parse_schedule}
+use Rattle.jobs_csv.specs.Text.{file_text}
+use Rattle.jobs_cli.specs.declared.invocation.Invocation.{Invocation}
+use Rattle.jobs_cli.specs.declared.invocation.Invocation.TheVariants as invocation
+use Rattle.jobs_cli.specs.declared.program.Ending.{Ending}
+use Rattle.jobs_cli.specs.declared.program.Ending.TheVariants.{Done, Rejected, Failed}
+use Rattle.jobs_cli.specs.Answer.{IsAnswer}
+use Rattle.jobs_cli.specs.CommandLine.{AsksFor, AsksForHelp, IsBadCommandLine}
+use Rattle.jobs_cli.specs.Place.{ArePlaced}
+use Rattle.jobs_cli.specs.Replay.{AreReplayed}
+use Rattle.jobs_cli.specs.Replies.{AreReplies}
 
--- what an answer says of the bytes that were read: all was done that the command asks for, or the first
--- fault is the one told
-abbrev pub IsAnswerTo : Asked → List ℕ → Option (List ℕ) → Option (List ℕ) → Result (Unit {0}) Fault → Type 0
-IsAnswerTo (asked.Run n) bytes old new result = Run.IsAnswer n bytes old new result
-IsAnswerTo (asked.Place n) bytes old new result = Place.IsAnswer n bytes old new result
-IsAnswerTo (asked.Replay n stations) bytes old new result = Replay.IsAnswer n stations bytes old new result
+-- the request is answered: jobs by their replies, commands by the first fit, a schedule by its events
+abbrev pub IsAnswerTo : Invocation → List ℕ → Option (List ℕ) → Option (List ℕ) → Result (Unit {0}) Fault → Type 0
+IsAnswerTo (invocation.Run n) bytes old new result = IsAnswer (parse_jobs n bytes) AreReplies (file_text reply_columns reply_fields) old new result
+IsAnswerTo (invocation.Place n) bytes old new result = IsAnswer (parse_commands n bytes) (ArePlaced n) (file_text place_columns place_fields) old new result
+IsAnswerTo (invocation.Replay n stations) bytes old new result = IsAnswer (parse_schedule bytes) (AreReplayed n stations) (file_text replay_columns replay_fields) old new result
+
+-- the words ask for a command, and this is its result on the bytes that it reads, where they are known
+abbrev pub IsResultOf : List Text → Option (List ℕ) → Option (List ℕ) → Option (List ℕ) → Result (Unit {0}) Fault → Type 0
+IsResultOf words bytes old new result = (invocation : Invocation) × AsksFor words invocation × IfSome bytes (λ b. IsAnswerTo invocation b old new result)
+
+-- how a call of the program on these words ends: the command that they ask for is done, or help was
+-- asked for; the command line is bad; or the command failed, or memory was refused, or the help could
+-- not be written
+abbrev pub EndsBy : List Text → Option (List ℕ) → Option (List ℕ) → Option (List ℕ) → (Fault → Type 0) → Ending → Type 0
+EndsBy words bytes old new may_fail Done = IsResultOf words bytes old new (Ok tt) ⊎ AsksForHelp words
+EndsBy words bytes old new may_fail Rejected = IsBadCommandLine words
+EndsBy words bytes old new may_fail (Failed fault is_reported) =
+    (IsResultOf words bytes old new (Err fault) × may_fail fault)
+    ⊎ (is_refusal fault.what ≡ false) × ((fault.what ≡ what.OutOfMemory) ⊎ AsksForHelp words)
+
+-- the exit status
+abbrev pub exit_status : Ending → ℕ
+exit_status Done = 0
+exit_status Rejected = 2
+exit_status (Failed fault is_reported) = status_of fault.what

@@ -1,13 +1,17 @@
 // The command line.
-ghost use Rattle.std.specs.Prelude.{◌≡◌, ◌≤◌, IfOk, IfSome, Some, codes};
-ghost use Rattle.clap.specs.Words.{subcommand_name_of};
-ghost use Rattle.jobs_cli.specs.CommandLine.{AreOptions, AreWritten, IsWithinLimits, IsWritten, command_of};
-ghost use Rattle.clap.specs.declared.parser.matches.ArgMatches.{ArgMatches};
+ghost use Rattle.std.specs.Prelude.{◌≡◌, ◌≤◌, false, IfOk, IfSome, List, Some, codes, map, string_bytes};
+ghost use Rattle.clap.specs.Words.{FailsBy, Row, app_of, fault_of, found_of, rows_of, rule_of, subcommand_rows_of, with_rule};
+ghost use Rattle.clap.specs.declared.builder.command.Command.TheViews.{out-Command};
+ghost use Rattle.jobs_cli.specs.CommandLine.{AsksFor, HasOptionValue, HasOptionValues, IsWithinLimits, command_app, command_of, dim_rule, program_app, stations_rule};
 
-use clap::error::ErrorKind;
+use crate::invocation::Invocation;
 use clap::{Arg, ArgMatches, Command, Error, value_parser};
 use cube_shape::{Dim, MAX_DIM, MAX_STATIONS};
+use jobs_csv::MAX_RECORDS;
 use std::alloc::{AllocError, Global};
+
+// The version of the program.
+const VERSION: &str = "0.1.0";
 
 const ABOUT: &str = "Dispatches jobs to the subcubes of a hypercube machine";
 
@@ -20,11 +24,14 @@ The input is CSV with the header lane,kind,op,root,items. A job's lane is below 
 broadcast, reduce, allreduce or scan, and its op is add, min, max, xor, and or or; a broadcast has \
 the op - in place of these. Its root is the rank of one of its items, and 0 for allreduce and scan. \
 Its items are numbers below 2^64 with one space between each two; there are 1, 2, 4, .. or 2^N of \
-them.
+them. A record with good fields is refused as Job Empty where it has no items, Job NotPowerOfTwo or \
+Job TooLarge for their number, and Job BadRoot for its root.
 
 The output is CSV with the header lane,seq,kind,dim,result,rounds,messages, and has a line for each \
 job, by lane and in a lane in the order of the file. Its result has a number, or - for nothing, for \
-each rank.";
+each rank.
+
+Example: cubejobs run --dim 3 < jobs.csv";
 
 const ABOUT_PLACE: &str = "Takes and frees subcubes under names";
 
@@ -38,9 +45,11 @@ has the dim -. A name has 1 to 16 bytes, each of them a to z or a digit.
 
 The output is CSV with the header command,name,dim,base,outcome, and has a line for each command in \
 the order of the file. A take is given the first aligned subcube that is free, whose processors are \
-base and those behind it. Otherwise it is held, where the name holds a subcube already; or \
-nostation, where 32 names hold one; or nosubcube, where none of its dimension is free. A free is \
-freed, or nothingheld where the name holds nothing.";
+base and those after it. Otherwise it is held, where the name holds a subcube already; or nostation, \
+where each station holds one; or nosubcube, where none of its dimension is free. A free is freed, or \
+nothingheld where the name holds nothing.
+
+Example: cubejobs place --dim 2 < place.csv";
 
 const ABOUT_REPLAY: &str = "Plays a schedule of stations, event by event";
 
@@ -55,41 +64,76 @@ makes one atomic event, and run makes steps until the station rests.
 The output is CSV with the header station,event,node,word,note. An event shows the word that it \
 left at its node: O for occupied, L and R for a side in use, and + with each station that has a mark \
 there. A refused call has the event refused and the reason as note. Lines with the event end \
-follow: one for each node whose word is not 0, and one with the number of these.";
+follow: one for each node whose word is not 0, and one with the number of these.
 
-const AFTER_HELP: &str = "Exit status:
+Example: cubejobs replay --dim 2 --stations 3 < schedule.csv";
+
+// The end of the help of each command, up to the number of records that a file may have.
+const FAULTS: &str = "Faults:
+  Fields       a record has too few or too many fields, or there is no header
+  Number       a field is not the number that it should be
+  Word         a field is none of the keywords, or no name
+  Read, Write  the input or the output failed
+  OutOfMemory  a request for memory was refused
+  TooMany      there are more records after the header than ";
+
+// The rest of it.
+const STATUSES: &str = "
+
+Exit status:
   0  done
-  1  the input is refused, and nothing is written; standard error names the record
+  1  the input is refused, and nothing is written; standard error names the record and the fault
   2  bad command line
-  3  the input or output failed, or there was no memory";
+  3  the input or output failed, or there was no memory
 
-/// What a command line asks for, on a machine of dimension `n`.
-#[derive(Clone, Copy, Debug, PartialEq, Eq)]
-pub enum Asked {
-    /// A file of jobs is to be answered.
-    Run { n: u32 },
-    /// A file of commands is to be answered.
-    Place { n: u32 },
-    /// A schedule of so many stations is to be played.
-    Replay { n: u32, stations: u32 },
+Where the reader of standard output closes it early, standard error says `failed: record 0: Write`,
+with status 3.";
+
+// The texts of the help that name a limit of the program.
+#[derive(Drop)]
+struct Limits {
+    dim: String,
+    stations: String,
+    after_help: String,
+}
+
+impl Limits {
+    // The texts.
+    fn new(alloc: Global) -> Result<Self, AllocError> {
+        Ok(Limits {
+            dim: format!(in alloc;
+                "The dimension of the machine, which has 2^N processors: 0 to {MAX_DIM}"
+            )?,
+            stations: format!(in alloc;
+                "The number of stations, which are numbered from 0: 1 to {MAX_STATIONS}"
+            )?,
+            after_help: format!(in alloc; "{FAULTS}{MAX_RECORDS}{STATUSES}")?,
+        })
+    }
 }
 
 // The option for the dimension of the machine.
-fn dim_option<'a>(alloc: Global) -> Arg<'a> {
+fn dim_option<'a>(alloc: Global, limits: &'a Limits) -> Arg<'a>
+    ensures rule { rule_of result ≡ dim_rule }
+    ensures local { result.global ≡ false }
+{
     Arg::new(alloc, "dim")
         .long("dim")
         .value_name("N")
-        .help("The dimension of the machine, which has 2^N processors")
+        .help(&limits.dim)
         .required(true)
         .value_parser(value_parser!(u32).range(0..=i64::from(MAX_DIM)))
 }
 
 // The option for the number of stations.
-fn stations_option<'a>(alloc: Global) -> Arg<'a> {
+fn stations_option<'a>(alloc: Global, limits: &'a Limits) -> Arg<'a>
+    ensures rule { rule_of result ≡ stations_rule }
+    ensures local { result.global ≡ false }
+{
     Arg::new(alloc, "stations")
         .long("stations")
         .value_name("S")
-        .help("The number of stations, which are numbered from 0")
+        .help(&limits.stations)
         .required(true)
         .value_parser(value_parser!(u32).range(1..=i64::from(MAX_STATIONS)))
 }
@@ -100,31 +144,47 @@ fn command<'a>(
     name: &'a str,
     about: &'a str,
     long_about: &'a str,
-) -> Result<Command<'a>, AllocError> {
+    limits: &'a Limits,
+) -> Result<Command<'a>, AllocError>
+    ensures app { IfOk result (λ command. app_of command ≡ command_app name.entry.now) }
+    ensures local { IfOk result (λ command. (out-Command command).has_globals ≡ false) }
+{
     Command::new(alloc, name)
         .about(about)
         .long_about(long_about)
-        .after_help(AFTER_HELP)
-        .arg(dim_option(alloc))
+        .after_help(&limits.after_help)
+        .arg(dim_option(alloc, limits))
 }
 
-// What the program can be asked for.
-fn program<'a>(alloc: Global) -> Result<Command<'a>, AllocError> {
-    let run = command(alloc, "run", ABOUT_RUN, LONG_ABOUT_RUN)?;
-    let place = command(alloc, "place", ABOUT_PLACE, LONG_ABOUT_PLACE)?;
-    let replay = command(alloc, "replay", ABOUT_REPLAY, LONG_ABOUT_REPLAY)?;
+// The command `replay`, which has stations too.
+fn replay_command<'a>(alloc: Global, limits: &'a Limits) -> Result<Command<'a>, AllocError>
+    ensures app { IfOk result (λ command. app_of command ≡ with_rule (command_app (codes "replay")) stations_rule) }
+    ensures local { IfOk result (λ command. (out-Command command).has_globals ≡ false) }
+{
+    let replay = command(alloc, "replay", ABOUT_REPLAY, LONG_ABOUT_REPLAY, limits)?;
+    replay.arg(stations_option(alloc, limits))
+}
+
+// The program with its commands.
+fn program<'a>(alloc: Global, limits: &'a Limits) -> Result<Command<'a>, AllocError>
+    ensures { IfOk result (λ command. app_of command ≡ program_app) }
+{
+    let run = command(alloc, "run", ABOUT_RUN, LONG_ABOUT_RUN, limits)?;
+    let place = command(alloc, "place", ABOUT_PLACE, LONG_ABOUT_PLACE, limits)?;
+    let replay = replay_command(alloc, limits)?;
     Command::new(alloc, "cubejobs")
         .about(ABOUT)
+        .version(VERSION)
         .subcommand_required(true)
         .subcommand(run)?
         .subcommand(place)?
-        .subcommand(replay.arg(stations_option(alloc))?)
+        .subcommand(replay)
 }
 
 // The dimension that a command was given.
 fn dim_in(matches: &ArgMatches<'_>) -> Option<u32>
     ensures limit { IfSome result (λ n. n ≤ MAX_DIM) }
-    ensures written { IfSome result (λ n. IsWritten matches.now (codes "dim") n) }
+    ensures value { IfSome result (λ n. HasOptionValue (rows_of (found_of matches.now)) (codes "dim") n) }
 {
     let n = matches.get_one::<u32>("dim")?;
     if Dim(n).fits(MAX_DIM) { Some(n) } else { None }
@@ -133,7 +193,7 @@ fn dim_in(matches: &ArgMatches<'_>) -> Option<u32>
 // The number of stations that a command was given.
 fn stations_in(matches: &ArgMatches<'_>) -> Option<u32>
     ensures limits { IfSome result (λ stations. (1 ≤ stations) × (stations ≤ MAX_STATIONS)) }
-    ensures written { IfSome result (λ stations. IsWritten matches.now (codes "stations") stations) }
+    ensures value { IfSome result (λ stations. HasOptionValue (rows_of (found_of matches.now)) (codes "stations") stations) }
 {
     let stations = matches.get_one::<u32>("stations")?;
     if stations >= 1 && stations <= MAX_STATIONS {
@@ -143,38 +203,43 @@ fn stations_in(matches: &ArgMatches<'_>) -> Option<u32>
     }
 }
 
-// What was asked for.
-fn asked_in(matches: &ArgMatches<'_>) -> Option<Asked>
-    ensures limits { IfSome result (λ asked. IsWithinLimits asked) }
-    ensures command { IfSome result (λ asked. subcommand_name_of matches.now ≡ Some (command_of asked)) }
-    ensures numbers { IfSome result (λ asked. (options : ArgMatches) × AreOptions matches.now options × AreWritten options asked) }
+// The request of a parsed command line.
+fn invocation_in(matches: &ArgMatches<'_>) -> Option<Invocation>
+    ensures limits { IfSome result (λ invocation. IsWithinLimits invocation) }
+    ensures asked { IfSome result (λ invocation. (options : List Row) × (subcommand_rows_of matches.now ≡ Some (command_of invocation, options)) × HasOptionValues options invocation) }
 {
     if let Some(run) = matches.subcommand_matches("run") {
         let n = dim_in(run)?;
-        return Some(Asked::Run { n });
+        return Some(Invocation::Run { n });
     }
     if let Some(place) = matches.subcommand_matches("place") {
         let n = dim_in(place)?;
-        return Some(Asked::Place { n });
+        return Some(Invocation::Place { n });
     }
     let replay = matches.subcommand_matches("replay")?;
     let n = dim_in(replay)?;
     let stations = stations_in(replay)?;
-    Some(Asked::Replay { n, stations })
+    Some(Invocation::Replay { n, stations })
 }
 
-/// What a command line asks for. Its first word is the program's name.
+/// The request of a command line, whose first word is the program's name.
 ///
-/// An error is help that was asked for, a bad command line, or want of memory.
-pub fn asked_for<'a>(alloc: Global, words: &'a [String]) -> Result<Asked, Error>
-    ensures { IfOk result (λ asked. IsWithinLimits asked) }
+/// An error is the help or the version, where they are asked for, a bad command line, or out of
+/// memory.
+pub fn parse_args(alloc: Global, words: &[String]) -> Result<Invocation, Error>
+    ensures limits { IfOk result (λ invocation. IsWithinLimits invocation) }
+    ensures asked { IfOk result (λ invocation. AsksFor (map string_bytes words.now) invocation) }
+    ensures fails { FailsBy (fault_of program_app (map string_bytes words.now)) result }
 {
-    let command: Command<'a> = program(alloc)?;
-    let matches = command.try_get_matches_from(words)?;
-    if let Some(asked) = asked_in(&matches) {
-        return Ok(asked);
-    }
-    let mut command: Command<'a> = program(alloc)?;
-    let error = command.error(ErrorKind::MissingSubcommand, "no command is given")?;
-    Err(error)
+    let limits = Limits::new(alloc)?;
+    let program = program(alloc, &limits)?;
+    let matches = match program.try_get_matches_from(words) {
+        Ok(matches) => matches,
+        Err(error) => return Err(error),
+    };
+    // A good command line names one of the three commands with all its options.
+    let Some(invocation) = invocation_in(&matches) else {
+        return Err(Error::from(AllocError));
+    };
+    Ok(invocation)
 }

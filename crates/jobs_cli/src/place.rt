@@ -1,49 +1,50 @@
-// The command `place`: an allocator of regions over names.
-ghost use Rattle.std.specs.Prelude.{◌≡◌, ◌≤◌, ◌⊎◌, true, All, IfErr, IfSome, OnOk, List};
-ghost use Rattle.jobs_csv.specs.Fault.{IsFailure, is_refusal};
+// The command `place`: a region allocator over names.
+ghost use Rattle.std.specs.Prelude.{◌≡◌, ◌≤◌, All, IfErr, IfSome, OnOk, List};
 ghost use Rattle.jobs_csv.specs.Place.{Fits};
+ghost use Rattle.jobs_csv.specs.PlaceRows.{place_columns, place_fields};
+ghost use Rattle.jobs_csv.specs.Text.{file_text};
 ghost use Rattle.jobs_csv.specs.declared.place_rows.PlaceRow.{PlaceRow as Row};
 ghost use Rattle.std.specs.Io.KnownBytes.{Appends};
-ghost use Rattle.jobs_cli.specs.InTurn.{InTurn};
-ghost use Rattle.jobs_cli.specs.Place.{IsAnswer, IsPlaced, Table, nobody, place_text};
+ghost use Rattle.jobs_cli.specs.Answer.{IsCommandFault, IsMetInReading};
+ghost use Rattle.jobs_cli.specs.Place.{ArePlaced};
+ghost use Rattle.jobs_cli.specs.Program.{IsAnswerTo};
+ghost use Rattle.jobs_cli.specs.declared.invocation.Invocation.TheVariants.{Place};
 
 use crate::stations::Stations;
 use cube_shape::MAX_DIM;
-use jobs_csv::{Command, Device, Fault, Lines, What};
+use jobs_csv::{Command, Device, Fault, FaultKind, LineBuffer, PlaceRow, WriteStopped};
 use std::alloc::Global;
 use std::io::{Read, Write};
 
-// Answers the commands one after the other, and sends their rows under the header as they come.
-fn answer_all<W: Write + Device>(
+// Answers the commands one after the other, and writes each row under the header as it comes.
+fn answer_all<W: Write>(
     alloc: Global,
     n: u32,
     commands: Vec<Command>,
     writer: &mut W,
-) -> Result<(), Fault>
+) -> Result<(), WriteStopped>
     requires limit { n ≤ MAX_DIM }
     requires fits { All (λ command. Fits n command) commands.items }
-    ensures placed { OnOk result ((rows : List Row) × (last : Table) × InTurn (IsPlaced n) commands.items nobody last rows × Appends (W.contents writer.old) (W.contents writer.new) (place_text rows)) }
-    ensures failed { IfErr result (λ fault. IsFailure What.Write (W.failures writer.old) (W.failures writer.new) fault) }
+    ensures { OnOk result ((rows : List Row) × ArePlaced n commands.items rows × Appends (W.contents writer.old) (W.contents writer.new) (file_text place_columns place_fields rows)) }
 {
-    let before = writer.failures();
     let mut stations = Stations::new(alloc, n)?;
-    let mut lines = Lines::new(alloc)?.with_place_header()?;
+    let mut lines = LineBuffer::new(alloc)?.push_header::<PlaceRow>()?;
     for command in commands {
         let row = stations.answer(command);
-        lines = lines.with_place_row(&row)?.send_many(before, writer)?;
+        lines = lines.write_row(row, writer)?;
     }
-    lines.finish(before, writer)
+    lines.finish(writer)
 }
 
 /// Reads a file of commands for a machine of dimension `n`, answers them one after the other, and
-/// writes what became of each.
+/// writes a row for each.
 ///
 /// A name that holds a region has a station of its own, the first that had none. A region that is
 /// taken is the first fit for those that are held.
 ///
 /// All commands are read before any of them is answered. A fault of the input is the first one in
 /// it, and then nothing is written. `Read` and `Write` come only where that device's count of
-/// failed calls rose in this call, or stood at `u64::MAX`; every other want is `OutOfMemory`. After
+/// failed calls rose in this call, or stood at `u64::MAX`; any other failure is `OutOfMemory`. After
 /// `Write` or `OutOfMemory` the first rows may be out.
 pub fn place_on<R: Read + Device, W: Write + Device>(
     alloc: Global,
@@ -52,10 +53,18 @@ pub fn place_on<R: Read + Device, W: Write + Device>(
     writer: &mut W,
 ) -> Result<(), Fault>
     requires { n ≤ MAX_DIM }
-    ensures answered { IfSome (R.remaining reader.old) (λ bytes. IsAnswer n bytes (W.contents writer.old) (W.contents writer.new) result) }
-    ensures failed { IfErr result (λ fault. (is_refusal fault.what ≡ true) ⊎ IsFailure What.Read (R.failures reader.old) (R.failures reader.new) fault ⊎ IsFailure What.Write (W.failures writer.old) (W.failures writer.new) fault) }
-    ensures untouched { IfErr result (λ fault. (is_refusal fault.what ≡ true) ⊎ (fault.what ≡ What.Read) → writer.new ≡ writer.old) }
+    ensures answered { IfSome (R.remaining reader.old) (λ bytes. IsAnswerTo (Place n) bytes (W.contents writer.old) (W.contents writer.new) result) }
+    ensures failed { IfErr result (λ fault. IsCommandFault (R.failures reader.old) (R.failures reader.new) (W.failures writer.old) (W.failures writer.new) fault) }
+    ensures untouched { IfErr result (λ fault. IsMetInReading fault → writer.new ≡ writer.old) }
 {
     let commands = jobs_csv::read_place(alloc, n, reader)?;
-    answer_all(alloc, n, commands, writer)
+    let failures_before = writer.failures();
+    match answer_all(alloc, n, commands, writer) {
+        Ok(()) => Ok(()),
+        Err(WriteStopped) => Err(Fault::attribute(
+            FaultKind::Write,
+            failures_before,
+            writer.failures(),
+        )),
+    }
 }

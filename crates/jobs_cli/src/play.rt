@@ -1,17 +1,18 @@
-// What becomes of the lines of a schedule.
+// Playing the lines of a schedule.
 ghost use Rattle.std.specs.Prelude.{◌≡◌, ◌<◌, ◌≤◌, ◌+◌, ◌^◌, [], ◌∷◌, length, replicate, IfOk};
 ghost use Rattle.cube_core.specs.declared.act.Act.TheVariants as act;
 ghost use Rattle.cube_core.specs.World.{HasShapeOf};
-ghost use Rattle.jobs_cli.specs.InTurn.{InTurn};
-ghost use Rattle.jobs_cli.specs.Replay.{Acts, IsPlayed, RestsAfter, end_rows, rows_in};
+ghost use Rattle.jobs_cli.specs.Trace.{IsTrace};
+ghost use Rattle.jobs_cli.specs.Inner.Replay.{rows_in};
+ghost use Rattle.jobs_cli.specs.Replay.{ActStep, IsPlayed, RestsAfter, final_rows};
 
 use cube_core::World;
 use cube_shape::MAX_DIM;
 use jobs_csv::{Line, ReplayRow};
 use std::alloc::{AllocError, Global};
 
-// The rows where there is one at most.
-fn listed(alloc: Global, row: Option<ReplayRow>) -> Result<Vec<ReplayRow>, AllocError>
+// At most one row, as a list.
+fn to_list(alloc: Global, row: Option<ReplayRow>) -> Result<Vec<ReplayRow>, AllocError>
     ensures { IfOk result (λ rows. rows.items ≡ rows_in row) }
 {
     let mut rows = Vec::new(alloc);
@@ -21,10 +22,10 @@ fn listed(alloc: Global, row: Option<ReplayRow>) -> Result<Vec<ReplayRow>, Alloc
     Ok(rows)
 }
 
-// A station begins to take the region of a node, which is told only where it is refused.
+// A station begins to take the region of a node. A refusal has a row.
 #[tactic(auto, using(crate::proofs::ReplayLemmas::is_accepted, crate::proofs::ReplayLemmas::is_refused))]
 fn take(world: &mut World, station: u64, node: u64) -> Option<ReplayRow>
-    ensures acts { Acts (act.Take station node) world.old world.new (rows_in result) }
+    ensures acts { ActStep (act.Take station node) world.old world.new (rows_in result) }
     ensures shape { HasShapeOf world.old world.new }
 {
     let Err(why) = world.begin_take(station, node) else {
@@ -34,10 +35,10 @@ fn take(world: &mut World, station: u64, node: u64) -> Option<ReplayRow>
     Some(ReplayRow::Refused { station, node, why })
 }
 
-// A station begins to give its region back, which is told only where it is refused.
+// A station begins to give its region back. A refusal has a row.
 #[tactic(auto, using(crate::proofs::ReplayLemmas::is_accepted, crate::proofs::ReplayLemmas::is_refused))]
 fn release(world: &mut World, station: u64) -> Option<ReplayRow>
-    ensures acts { Acts (act.Release station) world.old world.new (rows_in result) }
+    ensures acts { ActStep (act.Release station) world.old world.new (rows_in result) }
     ensures shape { HasShapeOf world.old world.new }
 {
     let Err(why) = world.begin_release(station) else {
@@ -50,7 +51,7 @@ fn release(world: &mut World, station: u64) -> Option<ReplayRow>
 // A station makes a step.
 #[tactic(auto, using(crate::proofs::ReplayLemmas::is_accepted, crate::proofs::ReplayLemmas::is_refused))]
 fn step(world: &mut World, station: u64) -> ReplayRow
-    ensures acts { Acts (act.Step station) world.old world.new (result ∷ []) }
+    ensures acts { ActStep (act.Step station) world.old world.new (result ∷ []) }
     ensures shape { HasShapeOf world.old world.new }
 {
     let node = None;
@@ -63,7 +64,7 @@ fn step(world: &mut World, station: u64) -> ReplayRow
 // A station retires.
 #[tactic(auto, using(crate::proofs::ReplayLemmas::is_accepted, crate::proofs::ReplayLemmas::is_refused))]
 fn retire(world: &mut World, station: u64) -> ReplayRow
-    ensures acts { Acts (act.Retire station) world.old world.new (result ∷ []) }
+    ensures acts { ActStep (act.Retire station) world.old world.new (result ∷ []) }
     ensures shape { HasShapeOf world.old world.new }
 {
     let node = None;
@@ -73,14 +74,14 @@ fn retire(world: &mut World, station: u64) -> ReplayRow
     }
 }
 
-// A station makes so many steps.
+// A station makes `times` steps.
 fn steps(
     alloc: Global,
     world: &mut World,
     station: u64,
     times: u64,
 ) -> Result<Vec<ReplayRow>, AllocError>
-    ensures acts { IfOk result (λ rows. InTurn Acts (replicate times (act.Step station)) world.old world.new rows.items) }
+    ensures acts { IfOk result (λ rows. IsTrace ActStep (replicate times (act.Step station)) world.old world.new rows.items) }
     ensures shape { HasShapeOf world.old world.new }
 {
     let mut rows = Vec::new(alloc);
@@ -90,7 +91,7 @@ fn steps(
     Ok(rows)
 }
 
-// A station makes steps until it rests.
+// A station makes steps until it is at rest.
 fn run(alloc: Global, world: &mut World, station: u64) -> Result<Vec<ReplayRow>, AllocError>
     requires { station < length world.old.records }
     ensures rests { IfOk result (λ rows. RestsAfter station world.old world.new rows.items) }
@@ -105,11 +106,10 @@ fn run(alloc: Global, world: &mut World, station: u64) -> Result<Vec<ReplayRow>,
     }
 }
 
-/// Does what a line of a schedule says, and gives the rows that tell of it. The world has so many
-/// stations.
+/// Plays a line of a schedule in a world of `stations` stations, and returns its rows.
 ///
-/// Without memory the world has moved, and its rows are lost.
-pub fn play(
+/// Where memory is refused, the world has changed and the rows are lost.
+pub(crate) fn play(
     alloc: Global,
     stations: u32,
     world: &mut World,
@@ -120,21 +120,21 @@ pub fn play(
     ensures shape { HasShapeOf world.old world.new }
 {
     match line {
-        Line::Take { station, node } => return listed(alloc, take(world, station, node)),
-        Line::Release { station } => return listed(alloc, release(world, station)),
+        Line::Take { station, node } => return to_list(alloc, take(world, station, node)),
+        Line::Release { station } => return to_list(alloc, release(world, station)),
         Line::Step { station, times } => return steps(alloc, world, station, times),
         Line::Run { station } => {
             if station < u64::from(stations) {
                 return run(alloc, world, station);
             }
-            return listed(alloc, Some(step(world, station)));
+            return to_list(alloc, Some(step(world, station)));
         }
-        Line::Retire { station } => return listed(alloc, Some(retire(world, station))),
+        Line::Retire { station } => return to_list(alloc, Some(retire(world, station))),
     }
 }
 
-// The number behind that of the last node.
-fn past_nodes(n: u32) -> u64
+// The number after that of the last node.
+fn node_limit(n: u32) -> u64
     requires { n ≤ MAX_DIM }
     ensures { result ≡ 2 ^ (n + 1) }
 {
@@ -142,13 +142,13 @@ fn past_nodes(n: u32) -> u64
 }
 
 /// The rows of the end, for a world of dimension `n`.
-pub fn ends(alloc: Global, n: u32, world: &World) -> Result<Vec<ReplayRow>, AllocError>
+pub(crate) fn final_rows(alloc: Global, n: u32, world: &World) -> Result<Vec<ReplayRow>, AllocError>
     requires limit { n ≤ MAX_DIM }
     requires dim { world.now.dim ≡ n }
-    ensures { IfOk result (λ rows. rows.items ≡ end_rows world.now) }
+    ensures { IfOk result (λ rows. rows.items ≡ final_rows world.now) }
 {
     let mut rows = Vec::new(alloc);
-    for node in 1..past_nodes(n) {
+    for node in 1..node_limit(n) {
         let word = world.word(node);
         if word != 0 {
             rows.push(ReplayRow::Word { node, word })?;

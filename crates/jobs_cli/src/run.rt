@@ -1,11 +1,12 @@
 // The command `run`: the jobs of a file, answered.
-ghost use Rattle.std.specs.Prelude.{◌≡◌, ◌≤◌, ◌⊎◌, true, IfErr, IfSome};
-ghost use Rattle.jobs_csv.specs.Fault.{IsFailure, is_refusal};
-ghost use Rattle.jobs_cli.specs.Run.{IsAnswer};
+ghost use Rattle.std.specs.Prelude.{◌≡◌, ◌≤◌, IfErr, IfSome};
+ghost use Rattle.jobs_cli.specs.Answer.{IsCommandFault, IsMetInReading};
+ghost use Rattle.jobs_cli.specs.Program.{IsAnswerTo};
+ghost use Rattle.jobs_cli.specs.declared.invocation.Invocation.TheVariants.{Run};
 
 use crate::answers;
 use cube_shape::MAX_DIM;
-use jobs_csv::{Device, Fault, What};
+use jobs_csv::{Device, Fault, FaultKind, WriteStopped};
 use std::alloc::Global;
 use std::io::{Read, Write};
 
@@ -13,7 +14,7 @@ use std::io::{Read, Write};
 ///
 /// All jobs are read before the first of them is answered. A fault of the input is the
 /// first one in it, and then nothing is written. `Read` and `Write` come only where that device's
-/// count of failed calls rose in this call, or stood at `u64::MAX`; every other want is
+/// count of failed calls rose in this call, or stood at `u64::MAX`; any other failure is
 /// `OutOfMemory`. After `Write` or `OutOfMemory` the first replies may be out.
 pub fn run_on<R: Read + Device, W: Write + Device>(
     alloc: Global,
@@ -22,10 +23,18 @@ pub fn run_on<R: Read + Device, W: Write + Device>(
     writer: &mut W,
 ) -> Result<(), Fault>
     requires { n ≤ MAX_DIM }
-    ensures answered { IfSome (R.remaining reader.old) (λ bytes. IsAnswer n bytes (W.contents writer.old) (W.contents writer.new) result) }
-    ensures failed { IfErr result (λ fault. (is_refusal fault.what ≡ true) ⊎ IsFailure What.Read (R.failures reader.old) (R.failures reader.new) fault ⊎ IsFailure What.Write (W.failures writer.old) (W.failures writer.new) fault) }
-    ensures untouched { IfErr result (λ fault. (is_refusal fault.what ≡ true) ⊎ (fault.what ≡ What.Read) → writer.new ≡ writer.old) }
+    ensures answered { IfSome (R.remaining reader.old) (λ bytes. IsAnswerTo (Run n) bytes (W.contents writer.old) (W.contents writer.new) result) }
+    ensures failed { IfErr result (λ fault. IsCommandFault (R.failures reader.old) (R.failures reader.new) (W.failures writer.old) (W.failures writer.new) fault) }
+    ensures untouched { IfErr result (λ fault. IsMetInReading fault → writer.new ≡ writer.old) }
 {
     let lanes = jobs_csv::read_lanes(alloc, n, reader)?;
-    answers::answer_all(alloc, n, lanes, writer)
+    let failures_before = writer.failures();
+    match answers::answer_all(alloc, n, lanes, writer) {
+        Ok(()) => Ok(()),
+        Err(WriteStopped) => Err(Fault::attribute(
+            FaultKind::Write,
+            failures_before,
+            writer.failures(),
+        )),
+    }
 }

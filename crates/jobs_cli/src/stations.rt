@@ -2,8 +2,8 @@
 ghost use Rattle.std.specs.Prelude.{◌≡◌, ◌≢◌, ◌↔◌, ℕ, ◌<◌, ◌≤◌, None, Some, length, IsTrue, IfOk, IfNone, IfSome};
 ghost use Rattle.jobs_csv.specs.declared.place.Command.TheVariants as command;
 ghost use Rattle.jobs_csv.specs.Place.{Fits};
-ghost use Rattle.jobs_cli.specs.Place.{Tells, command_in, nobody};
-ghost use Rattle.jobs_cli.specs.Stations.{AreStations, dim_of, name_at, table_of};
+ghost use Rattle.jobs_cli.specs.Place.{PlaceStep, command_in, empty_table};
+ghost use Rattle.jobs_cli.specs.Inner.Stations.{AreStations, dim_of, name_at, named_holdings};
 
 use alloc_bits::AllocBits;
 use cube_shape::{MAX_DIM, MAX_STATIONS};
@@ -17,7 +17,7 @@ pub struct Stations {
     names: Vec<Option<Name>>,
 }
 
-// Whether it is this name.
+// Whether a station has this name.
 fn is_name(held: Option<Name>, name: Name) -> bool
     ensures { IsTrue result ↔ (held ≡ Some name) }
 {
@@ -34,8 +34,8 @@ fn station_of(names: &[Option<Name>], name: Name) -> Option<u32>
     ensures some { IfSome result (λ s. (s < MAX_STATIONS) × (name_at names.now s ≡ Some name)) }
     ensures none { IfNone result ((s : ℕ) → name_at names.now s ≢ Some name) }
 {
-    let place = names.iter().position(|held| is_name(*held, name))?;
-    Some(place as u32)
+    let index = names.iter().position(|held| is_name(*held, name))?;
+    Some(index as u32)
 }
 
 // The first station that has no name.
@@ -44,17 +44,17 @@ fn first_idle(names: &[Option<Name>]) -> Option<u32>
     ensures some { IfSome result (λ s. (s < MAX_STATIONS) × (name_at names.now s ≡ None) × ((t : ℕ) → t < s → name_at names.now t ≢ None)) }
     ensures none { IfNone result ((s : ℕ) → s < MAX_STATIONS → name_at names.now s ≢ None) }
 {
-    let place = names.iter().position(|held| held.is_none())?;
-    Some(place as u32)
+    let index = names.iter().position(|held| held.is_none())?;
+    Some(index as u32)
 }
 
 impl Stations {
     /// A machine of dimension `n` whose stations hold nothing.
-    pub fn new(alloc: Global, n: u32) -> Result<Self, AllocError>
+    pub(crate) fn new(alloc: Global, n: u32) -> Result<Self, AllocError>
         requires { n ≤ MAX_DIM }
         ensures made { IfOk result (λ made. AreStations made) }
         ensures dim { IfOk result (λ made. dim_of made ≡ n) }
-        ensures free { IfOk result (λ made. (s : ℕ) → table_of made s ≡ nobody s) }
+        ensures free { IfOk result (λ made. (s : ℕ) → named_holdings made s ≡ empty_table s) }
     {
         Ok(Stations {
             bits: AllocBits::new(alloc, n)?,
@@ -69,7 +69,7 @@ impl Stations {
         ensures made { AreStations self.new }
         ensures dim { dim_of self.new ≡ dim_of self.old }
         ensures command { command_in result ≡ command.Take name dim }
-        ensures told { Tells (dim_of self.old) result (table_of self.old) (table_of self.new) }
+        ensures step { PlaceStep (dim_of self.old) result (named_holdings self.old) (named_holdings self.new) }
     {
         if let Some(_holder) = station_of(&self.names, name) {
             return PlaceRow::Held { name, dim };
@@ -91,7 +91,7 @@ impl Stations {
         ensures made { AreStations self.new }
         ensures dim { dim_of self.new ≡ dim_of self.old }
         ensures command { command_in result ≡ command.Free name }
-        ensures told { Tells (dim_of self.old) result (table_of self.old) (table_of self.new) }
+        ensures step { PlaceStep (dim_of self.old) result (named_holdings self.old) (named_holdings self.new) }
     {
         let Some(station) = station_of(&self.names, name) else {
             return PlaceRow::NothingHeld { name };
@@ -103,16 +103,16 @@ impl Stations {
         PlaceRow::Freed { name, dim, base }
     }
 
-    /// Does what a command asks for, and tells what became of it.
-    pub fn answer(&mut self, asked: Command) -> PlaceRow
+    /// Carries out a command and returns its row.
+    pub(crate) fn answer(&mut self, command: Command) -> PlaceRow
         requires made { AreStations self.old }
-        requires fits { Fits (dim_of self.old) asked }
+        requires fits { Fits (dim_of self.old) command }
         ensures made { AreStations self.new }
         ensures dim { dim_of self.new ≡ dim_of self.old }
-        ensures command { command_in result ≡ asked }
-        ensures told { Tells (dim_of self.old) result (table_of self.old) (table_of self.new) }
+        ensures command { command_in result ≡ command }
+        ensures step { PlaceStep (dim_of self.old) result (named_holdings self.old) (named_holdings self.new) }
     {
-        match asked {
+        match command {
             Command::Take { name, dim } => self.take(name, dim),
             Command::Free { name } => self.free(name),
         }

@@ -1,10 +1,12 @@
 // Whole runs: the bytes that go in, and the bytes that come out.
-use crate::command_line::{Asked, asked_for};
+use crate::command_line::parse_args;
+use crate::invocation::Invocation;
+use crate::program;
 use crate::run::run_on;
 use clap::error::ErrorKind;
 use cube_shape::{MAX_DIM, MAX_STATIONS};
 use job_types::JobRefused;
-use jobs_csv::{Counted, Device, Fault, What};
+use jobs_csv::{Counted, Device, Fault, FaultKind, MAX_RECORDS};
 use std::alloc::Global;
 use std::io;
 use std::io::{Read, Write};
@@ -36,7 +38,7 @@ fn run_bytes(rt: &(impl AllocGlobal + Abort), n: u32, input: &[u8]) -> Result<Ra
     Ok(Ran { text, answer })
 }
 
-// Two texts, one behind the other.
+// Two texts joined.
 fn joined(alloc: Global, a: &[u8], b: &[u8]) -> Result<Vec<u8>, Fail> {
     let mut text = Vec::from_slice(alloc, a)?;
     text.extend_from_slice(b)?;
@@ -64,7 +66,7 @@ fn expect_refusal(
     n: u32,
     input: &[u8],
     row: u64,
-    what: What,
+    what: FaultKind,
 ) -> Result<(), Fail> {
     let ran = run_bytes(rt, n, input)?;
     assert!(rt;
@@ -144,23 +146,26 @@ fn counts_each_lane(rt: HostRuntime) -> Result<(), Fail> {
 // One file for each fault that an input can have.
 #[test]
 fn refuses_files(rt: HostRuntime) -> Result<(), Fail> {
-    expect_refusal(&rt, 3, b"", 0, What::Fields)?;
-    expect_refusal(&rt, 3, b"lane,kind,op,root,item\n", 0, What::Word)?;
-    let records: [(&[u8], What); 8] = [
-        (b"0,scan,add,0\n", What::Fields),
-        (b"16,scan,add,0,4\n", What::Number),
-        (b"0,gather,add,0,4\n", What::Word),
-        (b"0,scan,add,0,\n", What::Job(JobRefused::Empty)),
+    expect_refusal(&rt, 3, b"", 0, FaultKind::Fields)?;
+    expect_refusal(&rt, 3, b"lane,kind,op,root,item\n", 0, FaultKind::Word)?;
+    let records: [(&[u8], FaultKind); 8] = [
+        (b"0,scan,add,0\n", FaultKind::Fields),
+        (b"16,scan,add,0,4\n", FaultKind::Number),
+        (b"0,gather,add,0,4\n", FaultKind::Word),
+        (b"0,scan,add,0,\n", FaultKind::Job(JobRefused::Empty)),
         (
             b"0,scan,add,0,1 2 3\n",
-            What::Job(JobRefused::NotPowerOfTwo),
+            FaultKind::Job(JobRefused::NotPowerOfTwo),
         ),
         (
             b"0,reduce,add,99,1 1 1 1 1 1 1 1 1 1 1 1 1 1 1 1\n",
-            What::Job(JobRefused::TooLarge),
+            FaultKind::Job(JobRefused::TooLarge),
         ),
-        (b"0,broadcast,-,2,4 9\n", What::Job(JobRefused::BadRoot)),
-        (b"0,scan,add,0,1 2 \n", What::Number),
+        (
+            b"0,broadcast,-,2,4 9\n",
+            FaultKind::Job(JobRefused::BadRoot),
+        ),
+        (b"0,scan,add,0,1 2 \n", FaultKind::Number),
     ];
     let head = joined(rt.alloc(), JOBS, b"0,scan,add,0,1 2\n".as_slice())?;
     for (record, what) in records.as_slice() {
@@ -177,7 +182,7 @@ fn refuses_too_many(rt: HostRuntime) -> Result<(), Fail> {
         input.extend_from_slice(b"3,allreduce,add,0,1\n".as_slice())?;
     }
     input.extend_from_slice(b"x\n".as_slice())?;
-    expect_refusal(&rt, 0, &input, 1_000_001, What::TooMany)
+    expect_refusal(&rt, 0, &input, 1_000_001, FaultKind::TooMany)
 }
 
 // A device that moves at most seven bytes a call, and fails at one call.
@@ -239,10 +244,10 @@ impl<D: Write> Write for FailsAt<D> {
 const GOOD: &[u8] = b"lane,kind,op,root,items\n1,allreduce,add,0,5 6\n0,allreduce,add,0,7\n";
 
 #[test]
-fn tells_a_failed_read(rt: HostRuntime) -> Result<(), Fail> {
+fn reports_a_failed_read(rt: HostRuntime) -> Result<(), Fail> {
     let wanted = Fault {
         row: 0,
-        what: What::Read,
+        what: FaultKind::Read,
     };
     for calls in 0..1000 {
         let device = FailsAt {
@@ -264,7 +269,7 @@ fn tells_a_failed_read(rt: HostRuntime) -> Result<(), Fail> {
     Ok(())
 }
 
-// A run whose writer fails at this call, with an error or by taking nothing. It tells whether the
+// A run whose writer fails at this call, with an error or by taking nothing. Returns whether the
 // writer failed.
 fn fails_to_write(
     rt: &(impl AllocGlobal + Abort),
@@ -273,7 +278,7 @@ fn fails_to_write(
 ) -> Result<bool, Fail> {
     let wanted = Fault {
         row: 0,
-        what: What::Write,
+        what: FaultKind::Write,
     };
     let mut reader = Counted::new(GOOD);
     let device = FailsAt {
@@ -293,7 +298,7 @@ fn fails_to_write(
 
 // The replies take thirteen writes, and then comes a flush.
 #[test]
-fn tells_a_failed_write(rt: HostRuntime) -> Result<(), Fail> {
+fn reports_a_failed_write(rt: HostRuntime) -> Result<(), Fail> {
     for gives_zero in [false, true] {
         for calls in 0..13 {
             assert!(rt; fails_to_write(&rt, calls, gives_zero)?, "at call {calls}");
@@ -316,7 +321,7 @@ fn long_file(alloc: Global, count: u64) -> Result<(Vec<u8>, Vec<u8>), Fail> {
     Ok((input, wanted))
 }
 
-// The replies are sent in several pieces, and what came before a failed write is their beginning.
+// The replies are written in several pieces; what came before a failed write is their beginning.
 #[test]
 fn writes_long_files(rt: HostRuntime) -> Result<(), Fail> {
     let (input, wanted) = long_file(rt.alloc(), 8_000)?;
@@ -331,7 +336,7 @@ fn writes_long_files(rt: HostRuntime) -> Result<(), Fail> {
     };
     let mut writer = Counted::new(device);
     let answer = run_on(rt.alloc(), 0, &mut reader, &mut writer);
-    let what = What::Write;
+    let what = FaultKind::Write;
     assert!(rt; answer == Err(Fault { row: 0, what }));
     let written = &writer.get_ref().device;
     assert!(rt; written.len() > 139_900 && written.len() <= 140_000);
@@ -340,13 +345,16 @@ fn writes_long_files(rt: HostRuntime) -> Result<(), Fail> {
 }
 
 // What these words ask for, or why they ask for nothing.
-fn ask(rt: &(impl AllocGlobal + Abort), words: &[&str]) -> Result<Result<Asked, ErrorKind>, Fail> {
+fn ask(
+    rt: &(impl AllocGlobal + Abort),
+    words: &[&str],
+) -> Result<Result<Invocation, ErrorKind>, Fail> {
     let mut all = Vec::new(rt.alloc());
     for word in words {
         all.push(word.to_string(rt.alloc())?)?;
     }
-    let answer = match asked_for(rt.alloc(), &all) {
-        Ok(asked) => Ok(asked),
+    let answer = match parse_args(rt.alloc(), &all) {
+        Ok(invocation) => Ok(invocation),
         Err(error) => Err(error.kind()),
     };
     Ok(answer)
@@ -355,9 +363,9 @@ fn ask(rt: &(impl AllocGlobal + Abort), words: &[&str]) -> Result<Result<Asked, 
 #[test]
 fn reads_command_lines(rt: HostRuntime) -> Result<(), Fail> {
     let run = ["cubejobs", "run", "--dim", "0"];
-    assert!(rt; ask(&rt, run.as_slice())? == Ok(Asked::Run { n: 0 }));
+    assert!(rt; ask(&rt, run.as_slice())? == Ok(Invocation::Run { n: 0 }));
     let run = ["cubejobs", "run", "--dim=10"];
-    assert!(rt; ask(&rt, run.as_slice())? == Ok(Asked::Run { n: 10 }));
+    assert!(rt; ask(&rt, run.as_slice())? == Ok(Invocation::Run { n: 10 }));
     let run = ["cubejobs", "run", "--dim", "11"];
     assert!(rt; ask(&rt, run.as_slice())? == Err(ErrorKind::ValueValidation));
     let run = ["cubejobs", "run"];
@@ -374,13 +382,30 @@ fn reads_command_lines(rt: HostRuntime) -> Result<(), Fail> {
 #[test]
 fn reads_commands_of_regions(rt: HostRuntime) -> Result<(), Fail> {
     let place = ["cubejobs", "place", "--dim", "3"];
-    assert!(rt; ask(&rt, place.as_slice())? == Ok(Asked::Place { n: 3 }));
+    assert!(rt; ask(&rt, place.as_slice())? == Ok(Invocation::Place { n: 3 }));
     let place = ["cubejobs", "place", "--dim", "3", "--stations", "1"];
     assert!(rt; ask(&rt, place.as_slice())? == Err(ErrorKind::UnknownArgument));
-    let replay = ["cubejobs", "replay", "--dim", "2", "--stations", "32"];
-    let wanted = Asked::Replay { n: 2, stations: 32 };
+    let most = format!(in rt.alloc(); "{MAX_STATIONS}")?;
+    let replay = [
+        "cubejobs",
+        "replay",
+        "--dim",
+        "2",
+        "--stations",
+        most.as_str(),
+    ];
+    let stations = MAX_STATIONS;
+    let wanted = Invocation::Replay { n: 2, stations };
     assert!(rt; ask(&rt, replay.as_slice())? == Ok(wanted));
-    let replay = ["cubejobs", "replay", "--dim", "2", "--stations", "33"];
+    let past = format!(in rt.alloc(); "{}", MAX_STATIONS + 1)?;
+    let replay = [
+        "cubejobs",
+        "replay",
+        "--dim",
+        "2",
+        "--stations",
+        past.as_str(),
+    ];
     assert!(rt; ask(&rt, replay.as_slice())? == Err(ErrorKind::ValueValidation));
     let replay = ["cubejobs", "replay", "--dim", "2", "--stations", "0"];
     assert!(rt; ask(&rt, replay.as_slice())? == Err(ErrorKind::ValueValidation));
@@ -393,20 +418,77 @@ fn reads_commands_of_regions(rt: HostRuntime) -> Result<(), Fail> {
     Ok(())
 }
 
-// The help says how many names can hold a region.
+// The help says which numbers are within the limits.
 #[test]
-fn help_names_the_limit(rt: HostRuntime) -> Result<(), Fail> {
+fn help_names_the_limits(rt: HostRuntime) -> Result<(), Fail> {
     let mut words = Vec::new(rt.alloc());
-    for word in ["cubejobs", "place", "--help"].as_slice() {
+    for word in ["cubejobs", "replay", "--help"].as_slice() {
         words.push(word.to_string(rt.alloc())?)?;
     }
-    match asked_for(rt.alloc(), &words) {
+    let limits = [
+        format!(in rt.alloc(); "0 to {MAX_DIM}")?,
+        format!(in rt.alloc(); "1 to {MAX_STATIONS}")?,
+        format!(in rt.alloc(); "more records after the header than {MAX_RECORDS}\n")?,
+    ];
+    match parse_args(rt.alloc(), &words) {
         Ok(_) => assert!(rt; false, "no help"),
         Err(error) => {
             let help = error.to_string(rt.alloc())?;
-            let limit = format!(in rt.alloc(); "where {MAX_STATIONS} names hold one")?;
-            assert!(rt; help.contains(limit.as_str()), "{help}");
+            for limit in limits.as_slice() {
+                assert!(rt; help.contains(limit.as_str()), "{help}");
+            }
         }
     }
     Ok(())
+}
+
+// A call of the program with these words and this input has this status and writes these texts.
+fn expect_call(
+    rt: &(impl AllocGlobal + Abort),
+    words: &[&str],
+    input: &[u8],
+    status: u8,
+    output: &str,
+    line: &str,
+) -> Result<(), Fail> {
+    let mut all = Vec::new(rt.alloc());
+    for word in words {
+        all.push(word.to_string(rt.alloc())?)?;
+    }
+    let mut reader = Counted::new(input);
+    let mut writer = Counted::new(Vec::new(rt.alloc()));
+    let mut errors = Vec::new(rt.alloc());
+    let ending = program::run(rt.alloc(), &all, &mut reader, &mut writer, &mut errors);
+    assert!(rt; ending.status() == status, "{line}");
+    assert!(rt; writer.get_ref().as_slice() == output.as_bytes(), "{line}");
+    assert!(rt; errors.as_slice() == line.as_bytes(), "{line}");
+    Ok(())
+}
+
+#[test]
+fn runs_the_program(rt: HostRuntime) -> Result<(), Fail> {
+    let run = ["cubejobs", "run", "--dim", "1"];
+    let jobs = joined(rt.alloc(), JOBS, b"3,reduce,add,1,5 6\n".as_slice())?;
+    let replies = "lane,seq,kind,dim,result,rounds,messages\n3,0,reduce,1,- 11,1,1\n";
+    expect_call(&rt, run.as_slice(), &jobs, 0, replies, "")?;
+    let line = "refused: record 0: Word\n";
+    expect_call(&rt, run.as_slice(), b"a,b,c,d,e\n", 1, "", line)?;
+    let place = ["cubejobs", "place", "--dim", "1"];
+    let commands = b"command,name,dim\ntake,a,0\n";
+    let rows = "command,name,dim,base,outcome\ntake,a,0,0,given\n";
+    expect_call(&rt, place.as_slice(), commands, 0, rows, "")?;
+    let line = "refused: record 1: Fields\n";
+    expect_call(
+        &rt,
+        place.as_slice(),
+        b"command,name,dim\ntake\n",
+        1,
+        "",
+        line,
+    )?;
+    let replay = ["cubejobs", "replay", "--dim", "0", "--stations", "1"];
+    let rows = "station,event,node,word,note\n-,end,-,-,0\n";
+    expect_call(&rt, replay.as_slice(), b"station,call,arg\n", 0, rows, "")?;
+    let version = ["cubejobs", "--version"];
+    expect_call(&rt, version.as_slice(), b"", 0, "cubejobs 0.1.0\n", "")
 }

@@ -1,15 +1,15 @@
--- Records of so many fields, and others.
+-- Records of three fields, and others.
 use Rattle.std.proofs.Common.{◌≡◌, ◌≢◌, ℕ, zero, suc, ◌<◌, List, [], ◌∷◌, length, Some, is_some, true, Err, refl, arith}
 use Rattle.csv.specs.Records.{field_at}
-use Rattle.jobs_csv.specs.declared.fault.What.TheVariants as what
+use Rattle.jobs_csv.specs.declared.fault.FaultKind.TheVariants as what
 use Rattle.jobs_csv.specs.Columns.{three_header}
 
--- there is a field at each place below their number
-pub has_field : (fields : List (List ℕ)) (place : ℕ) → place < length fields → is_some (field_at fields place) ≡ true
+-- there is a field at each index below their number
+pub has_field : (fields : List (List ℕ)) (index : ℕ) → index < length fields → is_some (field_at fields index) ≡ true
 unfolding field_at
-has_field [] place lt = absurd (omega arith)
+has_field [] index lt = absurd (omega arith)
 has_field (field ∷ fields) zero lt = refl
-has_field (field ∷ fields) (suc place) lt = has_field fields place (omega arith)
+has_field (field ∷ fields) (suc index) lt = has_field fields index (omega arith)
 
 -- a record of three fields is the list of these
 pub three : (fields : List (List ℕ)) (a b c : List ℕ) → length fields ≡ 3 → field_at fields 0 ≡ Some a → field_at fields 1 ≡ Some b → field_at fields 2 ≡ Some c → fields ≡ a ∷ b ∷ c ∷ []

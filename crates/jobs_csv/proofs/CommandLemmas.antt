@@ -1,6 +1,6 @@
 -- Records that are no commands.
 use Rattle.std.proofs.Common.{◌≡◌, ◌≢◌, ℕ, List, [], ◌∷◌, length, Err, refl}
-use Rattle.jobs_csv.specs.declared.fault.What.TheVariants as what
+use Rattle.jobs_csv.specs.declared.fault.FaultKind.TheVariants as what
 use Rattle.jobs_csv.specs.Place.{command_of}
 
 pub no_command : (n : ℕ) (fields : List (List ℕ)) → length fields ≢ 3 → command_of n fields ≡ Err what.Fields

@@ -8,7 +8,7 @@ use Rattle.csv.specs.declared.error.ErrorKind.TheVariants as kind
 use Rattle.csv.specs.Reading.{ExplainsRead, ReadRecord, default_config, Reached, is_flexible, reader_state, source_of, stops_reader, strip_bom}
 use Rattle.csv.proofs.ReadFacts.{rows-end, rows-more}
 use Rattle.jobs_csv.specs.Files.{Record}
-use Rattle.jobs_csv.specs.Input.{AreAll, HasGiven, IsPlain}
+use Rattle.jobs_csv.specs.Inner.Input.{AreAll, HasGiven, IsPlain}
 
 -- a record that was found is one more
 pub more_given : {R : Type 0} (rem : R → Option (List ℕ)) (a b : Reader R) (fields : Record) (bytes : Option (List ℕ)) (rows : List Record) → IsPlain a → HasGiven rem bytes rows a → ReadRecord rem a b true fields → HasGiven rem bytes (rows ++ fields ∷ []) b

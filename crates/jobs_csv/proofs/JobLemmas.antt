@@ -1,7 +1,7 @@
 -- Records of five fields, and others that are no jobs.
 use Rattle.std.proofs.Common.{◌≡◌, ◌≢◌, ℕ, List, [], ◌∷◌, length, Some, Err, refl, arith}
 use Rattle.csv.specs.Records.{field_at}
-use Rattle.jobs_csv.specs.declared.fault.What.TheVariants as what
+use Rattle.jobs_csv.specs.declared.fault.FaultKind.TheVariants as what
 use Rattle.jobs_csv.specs.Jobs.{job_of, jobs_header}
 
 -- a record of five fields is the list of these

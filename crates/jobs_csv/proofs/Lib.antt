@@ -8,7 +8,7 @@ pub mod LineLemmas
 pub mod PlainLemmas
 pub mod WrittenLemmas
 pub mod RowLemmas
-pub mod LinesLemmas
+pub mod BufferLemmas
 pub mod JobLemmas
 pub mod PlaceTextLemmas
 pub mod SentLemmas

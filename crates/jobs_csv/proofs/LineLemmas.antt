@@ -1,10 +1,10 @@
 -- Records that are no lines of a schedule.
 use Rattle.std.proofs.Common.{◌≡◌, ◌≢◌, ℕ, List, [], ◌∷◌, length, Err, refl}
-use Rattle.jobs_csv.specs.declared.fault.What.TheVariants as what
-use Rattle.jobs_csv.specs.Schedule.{scheduled}
+use Rattle.jobs_csv.specs.declared.fault.FaultKind.TheVariants as what
+use Rattle.jobs_csv.specs.Schedule.{schedule_line}
 
-pub no_line : (fields : List (List ℕ)) → length fields ≢ 3 → scheduled fields ≡ Err what.Fields
-unfolding scheduled
+pub no_line : (fields : List (List ℕ)) → length fields ≢ 3 → schedule_line fields ≡ Err what.Fields
+unfolding schedule_line
 no_line [] d = refl
 no_line (f0 ∷ []) d = refl
 no_line (f0 ∷ f1 ∷ []) d = refl

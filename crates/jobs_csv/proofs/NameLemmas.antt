@@ -1,8 +1,9 @@
--- A text with zeros behind it.
+-- A text followed by zeros.
 use Rattle.std.proofs.Common.{◌≡◌, ℕ, zero, suc, ◌+◌, ◌-◌, ◌≤◌, true, List, ◌++◌, length, drop, refl, ap, ◌∙◌, arith}
 use Rattle.std.proofs.Math.Seq.{take-append_seam, drop-append_seam}
 use Rattle.std.proofs.lemmas.List.{length-append}
-use Rattle.jobs_csv.specs.Name.{IsPadded, is_name, zeros}
+use Rattle.jobs_csv.specs.Name.{is_name}
+use Rattle.jobs_csv.specs.Inner.Name.{IsPadded, zeros}
 
 drop_zeros : (n m : ℕ) → drop n (zeros m) ≡ zeros (m - n)
 unfolding zeros

@@ -10,6 +10,7 @@ use Rattle.std.proofs.lemmas.Bool.Decides.{nat_tests}
 use Rattle.std.proofs.lemmas.List.Elements.{All-append, All-push}
 use Rattle.std.proofs.lemmas.List.Folds.{list_any_none}
 use Rattle.csv.specs.Writing.{default_writer, field_text, needs_byte, quoted}
+use Rattle.cube_shape.specs.declared.limits.TheConstants.{MAX_STATIONS}
 use Rattle.cube_core.specs.declared.act.Refused.{Refused}
 use Rattle.cube_core.specs.declared.act.Refused.TheVariants as why
 use Rattle.cube_core.specs.declared.event.Kind.{Kind}
@@ -23,11 +24,10 @@ use Rattle.status_word.specs.Word.{mark_bit, use_of}
 use Rattle.jobs_csv.specs.declared.place_rows.PlaceRow.{PlaceRow}
 use Rattle.jobs_csv.specs.declared.place_rows.PlaceRow.TheVariants as row
 use Rattle.jobs_csv.specs.Name.{is_name, is_name_byte}
-use Rattle.jobs_csv.specs.Output.{IsPlainField}
-use Rattle.jobs_csv.specs.PlaceRows.{command_text, outcome_text}
-use Rattle.jobs_csv.specs.ReplayRows.{kind_text, note_text, shown, why_text}
-use Rattle.jobs_csv.specs.Replies.{collective_text}
-use Rattle.jobs_csv.specs.Text.{number_text}
+use Rattle.jobs_csv.specs.Inner.Rows.{command_text, outcome_text}
+use Rattle.jobs_csv.specs.ReplayRows.{event_keyword, node_word_text, note_keyword, reason_keyword}
+use Rattle.jobs_csv.specs.Replies.{collective_keyword}
+use Rattle.jobs_csv.specs.Text.{IsPlainField, number_text}
 
 -- bytes that call for none: a space, and those from the minus sign on
 plain_byte : (byte : ℕ) → (byte ≡ 32) ⊎ (45 ≤ byte) → needs_byte default_writer byte ≡ false
@@ -130,7 +130,7 @@ plain_outcome (row.NoSubcube name dim) = plain_text (codes "nosubcube") refl
 plain_outcome (row.Freed name dim base) = plain_text (codes "freed") refl
 plain_outcome (row.NothingHeld name) = plain_text (codes "nothingheld") refl
 
-pub plain_event : (k : Kind) → IsPlainField (kind_text k)
+pub plain_event : (k : Kind) → IsPlainField (event_keyword k)
 plain_event kind.Look = plain_text (codes "look") refl
 plain_event kind.Claim = plain_text (codes "claim") refl
 plain_event kind.Sweep = plain_text (codes "sweep") refl
@@ -142,7 +142,7 @@ plain_event kind.Child = plain_text (codes "child") refl
 plain_event kind.Clear = plain_text (codes "clear") refl
 plain_event kind.Retire = plain_text (codes "retire") refl
 
-pub plain_note : (n : Note) → IsPlainField (note_text n)
+pub plain_note : (n : Note) → IsPlainField (note_keyword n)
 plain_note note.Free = plain_text (codes "free") refl
 plain_note note.InUse = plain_text (codes "inuse") refl
 plain_note note.Lost = plain_text (codes "lost") refl
@@ -156,20 +156,20 @@ plain_note note.Used = plain_text (codes "used") refl
 plain_note note.Keep = plain_text (codes "keep") refl
 plain_note note.Retired = plain_text (codes "retired") refl
 
-pub plain_collective : (k : Collective) → IsPlainField (collective_text k)
+pub plain_collective : (k : Collective) → IsPlainField (collective_keyword k)
 plain_collective (collective.Broadcast root) = plain_text (codes "broadcast") refl
 plain_collective (collective.Reduce op root) = plain_text (codes "reduce") refl
 plain_collective (collective.AllReduce op) = plain_text (codes "allreduce") refl
 plain_collective (collective.Scan op) = plain_text (codes "scan") refl
 
-pub plain_why : (w : Refused) → IsPlainField (why_text w)
+pub plain_why : (w : Refused) → IsPlainField (reason_keyword w)
 plain_why why.NotIdle = plain_text (codes "notidle") refl
 plain_why why.NotHolding = plain_text (codes "notholding") refl
 plain_why why.NoStation = plain_text (codes "nostation") refl
 plain_why why.NotInCube = plain_text (codes "notincube") refl
 plain_why why.Resting = plain_text (codes "resting") refl
 
--- what stands for both choices stands for the one that is taken
+-- a choice between two plain fields is plain
 either_plain : (b : Bool) (x y : List ℕ) → IsPlainField x → IsPlainField y → IsPlainField (if b then x else y)
 either_plain true x y p q = p
 either_plain false x y p q = q
@@ -196,7 +196,7 @@ plain_marks w from (suc n) le = all_both (mark_text w from) (flat_map (mark_text
 
 -- the text of a word
 pub plain_word : (w : ℕ) → IsPlainField (word_text w)
-plain_word w = all_both (use_text w) _ (plain_use w) (plain_marks w 0 32 (omega arith))
+plain_word w = all_both (use_text w) _ (plain_use w) (plain_marks w 0 MAX_STATIONS (omega arith))
 
-pub plain_shown : (node w : ℕ) → IsPlainField (shown node w)
-plain_shown node w = either_plain (node == 0) (codes "-") (word_text w) plain_dash (plain_word w)
+pub plain_node_word : (node w : ℕ) → IsPlainField (node_word_text node w)
+plain_node_word node w = either_plain (node == 0) (codes "-") (word_text w) plain_dash (plain_word w)

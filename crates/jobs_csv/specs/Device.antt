@@ -11,8 +11,8 @@ abbrev pub failures_of : {D : Type 0} → Counted D → ℕ
 failures_of c = c.failed
 
 -- one failure more, where the count has room for it
-abbrev pub one_more_if : Bool → ℕ → ℕ
-one_more_if has_failed n = if has_failed then min (n + 1) (2 ^ 64 - 1) else n
+abbrev pub count_failure : Bool → ℕ → ℕ
+count_failure has_failed n = if has_failed then min (n + 1) (2 ^ 64 - 1) else n
 
 -- a write of a piece of this length failed: with an error, or with no byte taken of a piece that has some
 abbrev pub is_failed_write : {E : Type 0} → ℕ → Result ℕ E → Bool

@@ -1,11 +1,13 @@
--- Which faults are the input's, the status that tells a fault, and when a device is to blame.
-use Rattle.std.specs.Prelude.{◌≡◌, ◌⊎◌, ℕ, ◌<◌, ◌-◌, ◌^◌, Bool, true, false, if◌then◌else◌}
+-- Which faults are the input's, how a fault is reported, and when a device is to blame.
+use Rattle.std.specs.Prelude.{◌≡◌, ◌⊎◌, ℕ, ◌-◌, ◌^◌, ◌==◌, ◌||◌, ◌++◌, List, nat_lt, codes, Bool, true, false, if◌then◌else◌}
+use Rattle.std.specs.Fmt.{decimal}
+use Rattle.job_types.specs.declared.request.JobRefused.TheVariants as why
 use Rattle.jobs_csv.specs.declared.fault.Fault.{Fault}
-use Rattle.jobs_csv.specs.declared.fault.What.{What}
-use Rattle.jobs_csv.specs.declared.fault.What.TheVariants as what
+use Rattle.jobs_csv.specs.declared.fault.FaultKind.{FaultKind}
+use Rattle.jobs_csv.specs.declared.fault.FaultKind.TheVariants as what
 
 -- the input is refused; otherwise a device failed, or memory did, or a lane has no number left
-abbrev pub is_refusal : What → Bool
+abbrev pub is_refusal : FaultKind → Bool
 is_refusal what.Fields = true
 is_refusal what.Number = true
 is_refusal what.Word = true
@@ -16,19 +18,42 @@ is_refusal what.OutOfMemory = false
 is_refusal what.TooMany = true
 is_refusal what.Spent = false
 
--- the exit status of a program
-abbrev pub status_of : What → ℕ
-status_of w = if is_refusal w then 1 else 3
+-- the exit status of a program that reports it
+abbrev pub status_of : FaultKind → ℕ
+status_of kind = if is_refusal kind then 1 else 3
+
+-- the first word of the error message
+abbrev pub outcome_text : FaultKind → List ℕ
+outcome_text kind = if is_refusal kind then codes "refused" else codes "failed"
+
+-- the name of the kind, and for a job the reason
+abbrev pub kind_text : FaultKind → List ℕ
+kind_text what.Fields = codes "Fields"
+kind_text what.Number = codes "Number"
+kind_text what.Word = codes "Word"
+kind_text (what.Job why.Empty) = codes "Job Empty"
+kind_text (what.Job why.NotPowerOfTwo) = codes "Job NotPowerOfTwo"
+kind_text (what.Job why.TooLarge) = codes "Job TooLarge"
+kind_text (what.Job why.BadRoot) = codes "Job BadRoot"
+kind_text (what.Job why.OutOfMemory) = codes "Job OutOfMemory"
+kind_text what.Read = codes "Read"
+kind_text what.Write = codes "Write"
+kind_text what.OutOfMemory = codes "OutOfMemory"
+kind_text what.TooMany = codes "TooMany"
+kind_text what.Spent = codes "Spent"
+
+-- the error message, without the line feed
+abbrev pub fault_text : Fault → List ℕ
+fault_text fault = outcome_text fault.what ++ codes ": record " ++ decimal fault.row ++ codes ": " ++ kind_text fault.what
 
 -- a device's count of failed calls rose, or stood at its end
-abbrev pub HasFailed : ℕ → ℕ → Type 0
-HasFailed before after = (before < after) ⊎ (before ≡ 2 ^ 64 - 1)
+abbrev pub has_failed : ℕ → ℕ → Bool
+has_failed before after = nat_lt before after || (before == 2 ^ 64 - 1)
 
--- a fault of a device that has failed, or of memory; it has no record
-pub record IsFailure (device : What) (before after : ℕ) (fault : Fault) : Type 0 where
-  pub row : fault.row ≡ 0
-  pub blamed : (fault.what ≡ what.OutOfMemory) ⊎ ((fault.what ≡ device) × HasFailed before after)
+-- the fault of a call that failed: the device's where it has failed, else out of memory
+abbrev pub attribute : FaultKind → ℕ → ℕ → Fault
+attribute device before after = record { row = 0; what = if has_failed before after then device else what.OutOfMemory }
 
--- reading failed, for the device or for memory; such a fault has no record
-abbrev pub IsReadFailure : Fault → Type 0
-IsReadFailure fault = (fault.row ≡ 0) × ((fault.what ≡ what.Read) ⊎ (fault.what ≡ what.OutOfMemory))
+-- the input is refused, or a call that read it failed
+abbrev pub IsInputFault : ℕ → ℕ → Fault → Type 0
+IsInputFault before after fault = (is_refusal fault.what ≡ true) ⊎ (fault ≡ attribute what.Read before after)

@@ -1,10 +1,10 @@
--- What a file says: a row for each of its records in file order, or the first fault. A check that
--- fails hides those behind it. A format is given by what it says of a header and of any other record.
+-- The parse of a file: a row for each of its records in file order, or the first fault. Nothing is
+-- checked after it. A format is given by its parse of a header and of any other record.
 use Rattle.std.specs.Prelude.{ℕ, ◌+◌, List, [], ◌∷◌, nat_lt, Result, Ok, Err, if◌then◌else◌}
 use Rattle.csv.specs.Reading.{default_config, records, strip_bom}
 use Rattle.jobs_csv.specs.declared.fault.Fault.{Fault}
-use Rattle.jobs_csv.specs.declared.fault.What.{What}
-use Rattle.jobs_csv.specs.declared.fault.What.TheVariants as what
+use Rattle.jobs_csv.specs.declared.fault.FaultKind.{FaultKind}
+use Rattle.jobs_csv.specs.declared.fault.FaultKind.TheVariants as what
 use Rattle.jobs_csv.specs.declared.input.TheConstants.{MAX_RECORDS}
 use Rattle.jobs_csv.specs.Outcome.{◌>>=◌}
 
@@ -12,17 +12,17 @@ use Rattle.jobs_csv.specs.Outcome.{◌>>=◌}
 abbrev pub Record : Type 0
 Record = List (List ℕ)
 
--- what is said of a record carries the record's number
-abbrev pub at_row : {A : Type 0} → ℕ → Result A What → Result A Fault
+-- a fault of a record carries the record's number
+abbrev pub at_row : {A : Type 0} → ℕ → Result A FaultKind → Result A Fault
 at_row number (Ok x) = Ok x
 at_row number (Err w) = Err (record { row = number; what = w })
 
--- the row of the record of this number: first of all, it is one of those that a file may have
-abbrev pub numbered_row : {Row : Type 0} → (Record → Result Row What) → ℕ → Record → Result Row Fault
+-- the row of the record of this number, unless the file has too many records
+abbrev pub numbered_row : {Row : Type 0} → (Record → Result Row FaultKind) → ℕ → Record → Result Row Fault
 numbered_row row_of number fields = if nat_lt MAX_RECORDS number then Err (record { row = number; what = what.TooMany }) else at_row number (row_of fields)
 
 -- the rows of the records, which are numbered from the number given
-unfoldable pub rows_from : {Row : Type 0} → (Record → Result Row What) → ℕ → List Record → Result (List Row) Fault
+unfoldable pub rows_from : {Row : Type 0} → (Record → Result Row FaultKind) → ℕ → List Record → Result (List Row) Fault
 rows_from row_of number [] = Ok []
 rows_from row_of number (fields ∷ records) = do
   row ← numbered_row row_of number fields
@@ -30,7 +30,7 @@ rows_from row_of number (fields ∷ records) = do
   Ok (row ∷ rows)
 
 -- the rows of a file, given as its records; the header is record 0
-unfoldable pub file_of : {Row : Type 0} → (Record → Result (Unit {0}) What) → (Record → Result Row What) → List Record → Result (List Row) Fault
+unfoldable pub file_of : {Row : Type 0} → (Record → Result (Unit {0}) FaultKind) → (Record → Result Row FaultKind) → List Record → Result (List Row) Fault
 file_of header_of row_of [] = Err (record { row = 0; what = what.Fields })
 file_of header_of row_of (header ∷ records) = do
   good ← at_row 0 (header_of header)
@@ -40,6 +40,6 @@ file_of header_of row_of (header ∷ records) = do
 abbrev pub records_of : List ℕ → List Record
 records_of bytes = records default_config (strip_bom bytes)
 
--- what a file of these bytes says
-abbrev pub said : {Row : Type 0} → (Record → Result (Unit {0}) What) → (Record → Result Row What) → List ℕ → Result (List Row) Fault
-said header_of row_of bytes = file_of header_of row_of (records_of bytes)
+-- the parse of a file of these bytes
+abbrev pub parse_file : {Row : Type 0} → (Record → Result (Unit {0}) FaultKind) → (Record → Result Row FaultKind) → List ℕ → Result (List Row) Fault
+parse_file header_of row_of bytes = file_of header_of row_of (records_of bytes)

@@ -1,4 +1,4 @@
--- What each field of a job's record says.
+-- The parse of each field of a job's record.
 use Rattle.std.specs.Prelude.{ℕ, ◌-◌, ◌==◌, Bool, false, not, List, [], ◌∷◌, codes, Option, Some, option_and_then, Result, Ok, Err, if◌then◌else◌}
 use Rattle.std.specs.List.{slice_split}
 use Rattle.std.specs.Str.{bytes_eq}
@@ -6,20 +6,20 @@ use Rattle.job_types.specs.declared.kind.Kind.{Kind}
 use Rattle.job_types.specs.declared.kind.Kind.TheVariants as kind
 use Rattle.job_types.specs.declared.kind.Op.{Op}
 use Rattle.job_types.specs.declared.kind.Op.TheVariants as op
-use Rattle.job_types.specs.declared.job.TheConstants.{MAX_LANES}
-use Rattle.jobs_csv.specs.declared.fault.What.{What}
-use Rattle.jobs_csv.specs.declared.fault.What.TheVariants as what
+use Rattle.job_types.specs.declared.request.TheConstants.{MAX_LANES}
+use Rattle.jobs_csv.specs.declared.fault.FaultKind.{FaultKind}
+use Rattle.jobs_csv.specs.declared.fault.FaultKind.TheVariants as what
 use Rattle.jobs_csv.specs.declared.job_fields.Collective.{Collective}
 use Rattle.jobs_csv.specs.declared.job_fields.Collective.TheVariants as collective
 use Rattle.jobs_csv.specs.Fields.{dash_of, number_of, number_within}
 use Rattle.jobs_csv.specs.Outcome.{or_refuse, ◌>>=◌}
 
 -- the lane is a number below MAX_LANES
-abbrev pub lane_of : List ℕ → Result ℕ What
+abbrev pub lane_of : List ℕ → Result ℕ FaultKind
 lane_of field = number_within 0 (MAX_LANES - 1) field
 
 -- the operation
-unfoldable pub op_of : List ℕ → Result Op What
+unfoldable pub op_of : List ℕ → Result Op FaultKind
 op_of field =
     if bytes_eq field (codes "add") then Ok op.Add
     else if bytes_eq field (codes "min") then Ok op.Min
@@ -29,8 +29,8 @@ op_of field =
     else if bytes_eq field (codes "or") then Ok op.Or
     else Err what.Word
 
--- the collective without its root, which two fields say; a broadcast has no operation
-unfoldable pub collective_of : List ℕ → List ℕ → Result Collective What
+-- the collective of two fields, without its root; a broadcast has no operation
+unfoldable pub collective_of : List ℕ → List ℕ → Result Collective FaultKind
 collective_of word join =
     if bytes_eq word (codes "broadcast") then (do
       nothing ← dash_of join
@@ -53,12 +53,12 @@ with_root root (collective.Reduce op) = kind.Reduce op root
 with_root root (collective.AllReduce op) = kind.AllReduce op
 with_root root (collective.Scan op) = kind.Scan op
 
--- a root is given to a collective that has none: another one than 0
-abbrev pub has_spare_root : ℕ → Collective → Bool
-has_spare_root root collective.Broadcast = false
-has_spare_root root (collective.Reduce op) = false
-has_spare_root root (collective.AllReduce op) = not (root == 0)
-has_spare_root root (collective.Scan op) = not (root == 0)
+-- the collective has no root, and the root is not 0
+abbrev pub has_superfluous_root : ℕ → Collective → Bool
+has_superfluous_root root collective.Broadcast = false
+has_superfluous_root root (collective.Reduce op) = false
+has_superfluous_root root (collective.AllReduce op) = not (root == 0)
+has_superfluous_root root (collective.Scan op) = not (root == 0)
 
 -- the numbers of all pieces, if each has one
 unfoldable pub all_numbers : List (List ℕ) → Option (List ℕ)
@@ -71,5 +71,5 @@ numbers_of [] = Some []
 numbers_of (first ∷ rest) = all_numbers (slice_split (λ byte. byte == 32) (first ∷ rest))
 
 -- the items of a job
-unfoldable pub items_of : List ℕ → Result (List ℕ) What
+unfoldable pub items_of : List ℕ → Result (List ℕ) FaultKind
 items_of field = or_refuse what.Number (numbers_of field)

@@ -1,43 +1,43 @@
--- What a file of jobs says.
+-- The parse of a file of jobs.
 use Rattle.std.specs.Prelude.{ℕ, ◌&&◌, Bool, List, [], ◌∷◌, codes, Option, Some, None, Result, Ok, Err, if◌then◌else◌}
 use Rattle.std.specs.Str.{bytes_eq}
 use Rattle.job_types.specs.Job.{JobData, refusal_of}
-use Rattle.job_types.specs.declared.job.JobRefused.{JobRefused}
-use Rattle.job_types.specs.declared.job.JobRefused.TheVariants.{BadRoot}
+use Rattle.job_types.specs.declared.request.JobRefused.{JobRefused}
+use Rattle.job_types.specs.declared.request.JobRefused.TheVariants.{BadRoot}
 use Rattle.jobs_csv.specs.declared.fault.Fault.{Fault}
-use Rattle.jobs_csv.specs.declared.fault.What.{What}
-use Rattle.jobs_csv.specs.declared.fault.What.TheVariants as what
+use Rattle.jobs_csv.specs.declared.fault.FaultKind.{FaultKind}
+use Rattle.jobs_csv.specs.declared.fault.FaultKind.TheVariants as what
 use Rattle.jobs_csv.specs.Fields.{any_number}
-use Rattle.jobs_csv.specs.Files.{Record, said}
-use Rattle.jobs_csv.specs.JobFields.{collective_of, has_spare_root, items_of, lane_of, with_root}
+use Rattle.jobs_csv.specs.Files.{Record, parse_file}
+use Rattle.jobs_csv.specs.JobFields.{collective_of, has_superfluous_root, items_of, lane_of, with_root}
 use Rattle.jobs_csv.specs.Outcome.{◌>>=◌}
 
 -- the refusal, if there is one
-abbrev pub refuse : Option JobRefused → Result JobData What → Result JobData What
+abbrev pub refuse : Option JobRefused → Result JobData FaultKind → Result JobData FaultKind
 refuse None answer = answer
 refuse (Some reason) answer = Err (what.Job reason)
 
--- the job, unless a rule of every job refuses it, or it has a root that its collective has not
-unfoldable pub accepted : JobData → Bool → Result JobData What
-accepted job has_spare = refuse (refusal_of job.machine job.kind job.items) (if has_spare then Err (what.Job BadRoot) else Ok job)
+-- the job, unless a rule of every job refuses it, or its root is superfluous
+unfoldable pub accept_job : JobData → Bool → Result JobData FaultKind
+accept_job job has_superfluous = refuse (refusal_of job.machine job.kind job.items) (if has_superfluous then Err (what.Job BadRoot) else Ok job)
 
 -- the job of a record, for a machine of dimension n
-unfoldable pub job_of : ℕ → Record → Result JobData What
+unfoldable pub job_of : ℕ → Record → Result JobData FaultKind
 job_of n (lane ∷ kind ∷ op ∷ root ∷ items ∷ []) = do
   l ← lane_of lane
   c ← collective_of kind op
   r ← any_number root
   xs ← items_of items
-  accepted (record { machine = n; lane = l; kind = with_root r c; items = xs }) (has_spare_root r c)
+  accept_job (record { machine = n; lane = l; kind = with_root r c; items = xs }) (has_superfluous_root r c)
 job_of n _ = Err what.Fields
 
 -- the header of the jobs: five fields with these texts
-unfoldable pub jobs_header : Record → Result (Unit {0}) What
+unfoldable pub jobs_header : Record → Result (Unit {0}) FaultKind
 jobs_header (lane ∷ kind ∷ op ∷ root ∷ items ∷ []) =
     if bytes_eq lane (codes "lane") && bytes_eq kind (codes "kind") && bytes_eq op (codes "op") && bytes_eq root (codes "root") && bytes_eq items (codes "items")
     then Ok tt else Err what.Word
 jobs_header _ = Err what.Fields
 
--- what a file of jobs says, for a machine of dimension n
-abbrev pub jobs_said : ℕ → List ℕ → Result (List JobData) Fault
-jobs_said n bytes = said jobs_header (job_of n) bytes
+-- the parse of a file of jobs, for a machine of dimension n
+abbrev pub parse_jobs : ℕ → List ℕ → Result (List JobData) Fault
+parse_jobs n bytes = parse_file jobs_header (job_of n) bytes

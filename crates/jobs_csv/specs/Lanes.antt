@@ -1,11 +1,11 @@
--- Jobs taken apart by their lanes, and what a file of jobs says so.
+-- Jobs grouped by lane, and the parse of a job file in that form.
 use Rattle.std.specs.Prelude.{◌≡◌, ℕ, ◌<◌, ◌==◌, List, All, length, slice_index_or, Vec, Result}
 use Rattle.std.specs.List.{filter}
 use Rattle.std.specs.Global.{Global}
 use Rattle.job_types.specs.Job.{JobData}
-use Rattle.job_types.specs.declared.job.TheConstants.{MAX_LANES}
+use Rattle.job_types.specs.declared.request.TheConstants.{MAX_LANES}
 use Rattle.jobs_csv.specs.declared.fault.Fault.{Fault}
-use Rattle.jobs_csv.specs.Outcome.{TellsRows}
+use Rattle.jobs_csv.specs.Outcome.{ReturnsRows}
 
 -- the jobs of a lane, in the order in which they are given
 abbrev pub in_lane : ℕ → List JobData → List JobData
@@ -17,6 +17,6 @@ pub record AreLanes (lanes : List (Vec JobData Global)) (jobs : List JobData) : 
   pub below : All (λ job. job.lane < MAX_LANES) jobs
   pub each : (lane : ℕ) (none : Vec JobData Global) → lane < MAX_LANES → (slice_index_or lanes lane none).items ≡ in_lane lane jobs
 
--- the lists are the lanes of the jobs that a file says, and a refusal is the one that it says
-abbrev pub TellsLanes : Result (List JobData) Fault → Result (Vec (Vec JobData Global) Global) Fault → Type 0
-TellsLanes said result = TellsRows (λ lanes jobs. AreLanes lanes.items jobs) said result
+-- the lists are the lanes of the parsed jobs, and a refusal is the parse's error
+abbrev pub ReturnsLanes : Result (List JobData) Fault → Result (Vec (Vec JobData Global) Global) Fault → Type 0
+ReturnsLanes parse result = ReturnsRows (λ lanes jobs. AreLanes lanes.items jobs) parse result

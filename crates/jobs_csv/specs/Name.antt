@@ -1,6 +1,5 @@
 -- Names: texts of 1 to 16 bytes, each a small letter or a digit.
-use Rattle.std.specs.Prelude.{◌≡◌, ℕ, suc, zero, ◌≤◌, ◌-◌, ◌&&◌, ◌||◌, Bool, true, List, [], ◌∷◌, ◌++◌, length, take, drop, nat_lt}
-use Rattle.std.proofs.Common.{ap, sym, subst, ◌∙◌, take-append-drop, length-take-le}
+use Rattle.std.specs.Prelude.{ℕ, ◌&&◌, ◌||◌, Bool, List, length, nat_lt}
 use Rattle.std.specs.List.{list_all}
 use Rattle.std.specs.Char.{is_ascii_digit, is_ascii_lowercase}
 
@@ -11,26 +10,3 @@ is_name_byte byte = is_ascii_lowercase byte || is_ascii_digit byte
 -- the text is a name
 abbrev pub is_name : List ℕ → Bool
 is_name text = nat_lt 0 (length text) && nat_lt (length text) 17 && list_all is_name_byte text
-
--- so many zeros
-unfoldable pub zeros : ℕ → List ℕ
-zeros zero = []
-zeros (suc n) = 0 ∷ zeros n
-
--- a name of this length in front of zeros, 16 bytes in all
-pub record IsPadded (len : ℕ) (bytes : List ℕ) : Type 0 where
-  pub size : length bytes ≡ 16
-  pub within : len ≤ 16
-  pub name : is_name (take len bytes) ≡ true
-  pub padding : drop len bytes ≡ zeros (16 - len)
-
--- the length of the text
-pub same_len : (len : ℕ) (bytes : List ℕ) → IsPadded len bytes → length (take len bytes) ≡ len
-same_len len bytes h = length-take-le len bytes (subst (λ n. len ≤ n) (sym h.size) h.within)
-
--- the text and its zeros are all the bytes
-pub same_bytes : (len : ℕ) (bytes : List ℕ) → IsPadded len bytes → take len bytes ++ zeros (16 - length (take len bytes)) ≡ bytes
-same_bytes len bytes h =
-    ap (λ n. take len bytes ++ zeros (16 - n)) (same_len len bytes h)
-    ∙ ap (λ more. take len bytes ++ more) (sym h.padding)
-    ∙ take-append-drop len bytes

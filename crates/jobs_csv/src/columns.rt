@@ -1,11 +1,11 @@
-// The fields of a record, which should be so many.
+// Records of a given number of fields.
 ghost use Rattle.std.specs.Prelude.{◌≡◌, ◌≢◌, ◌<◌, ◌&&◌, [], ◌∷◌, length, Some, IfSome, IfNone};
 ghost use Rattle.std.specs.Str.{bytes_eq};
 ghost use Rattle.csv.specs.Records.{field_at, fields_of};
 ghost use Rattle.jobs_csv.specs.Columns.{three_header};
-ghost use Rattle.jobs_csv.specs.Outcome.{Tells};
+ghost use Rattle.jobs_csv.specs.Inner.Parse.{ReturnsParse};
 
-use crate::fault::What;
+use crate::fault::FaultKind;
 use csv::ByteRecord;
 
 /// The fields of a record that has three.
@@ -16,12 +16,12 @@ pub struct ThreeFields<'a> {
     pub third: &'a [u8],
 }
 
-/// The field at a place.
-pub fn field(row: &ByteRecord, place: usize) -> &[u8]
-    requires { place < length (fields_of row.now) }
-    ensures { field_at (fields_of row.now) place ≡ Some result.now }
+/// The field at an index.
+pub fn field(row: &ByteRecord, index: usize) -> &[u8]
+    requires { index < length (fields_of row.now) }
+    ensures { field_at (fields_of row.now) index ≡ Some result.now }
 {
-    row.get(place).unwrap()
+    row.get(index).unwrap()
 }
 
 /// The fields of a record, if there are three.
@@ -47,16 +47,21 @@ fn are_texts(fields: &ThreeFields<'_>, first: &[u8], second: &[u8], third: &[u8]
 }
 
 /// Checks a header of three fields: their number, and then their texts.
-pub fn three_header(row: &ByteRecord, first: &[u8], second: &[u8], third: &[u8]) -> Result<(), What>
-    ensures { Tells (λ good. good) (three_header first.now second.now third.now (fields_of row.now)) result }
+pub fn three_header(
+    row: &ByteRecord,
+    first: &[u8],
+    second: &[u8],
+    third: &[u8],
+) -> Result<(), FaultKind>
+    ensures { ReturnsParse (λ good. good) (three_header first.now second.now third.now (fields_of row.now)) result }
 {
     let fields = match three_fields(row) {
         Some(fields) => fields,
-        None => return Err(What::Fields),
+        None => return Err(FaultKind::Fields),
     };
     if are_texts(&fields, first, second, third) {
         Ok(())
     } else {
-        Err(What::Word)
+        Err(FaultKind::Word)
     }
 }

@@ -2,17 +2,17 @@
 ghost use Rattle.std.specs.Prelude.{◌≡◌, ℕ, length, is_err};
 ghost use Rattle.std.specs.Io.{ReadsAtMost, WritesAtMost};
 ghost use Rattle.std.specs.Io.KnownBytes.{Keeps, ReadConsumes, WriteAppends};
-ghost use Rattle.jobs_csv.specs.Device.{device_of, failures_of, is_failed_write, one_more_if};
+ghost use Rattle.jobs_csv.specs.Device.{device_of, failures_of, is_failed_write, count_failure};
 
 use std::io;
 use std::io::{Read, Write};
 
-/// A reader or a writer that knows how often it has failed.
+/// A reader or a writer that counts its failed calls.
 pub trait Device {
     // How many calls have failed.
     ghost failures: { Self → ℕ };
 
-    /// How many of its calls have failed. A count of `u64::MAX` stays, and stands for more too.
+    /// How many of its calls have failed. The count saturates at `u64::MAX`.
     fn failures(&self) -> u64
         ensures { result ≡ failures self.now };
 }
@@ -45,7 +45,7 @@ impl<D> Counted<D> {
 
     // Counts a call that has failed.
     fn count_if(&mut self, has_failed: bool)
-        ensures failures { failures_of self.new ≡ one_more_if has_failed (failures_of self.old) }
+        ensures failures { failures_of self.new ≡ count_failure has_failed (failures_of self.old) }
         ensures device { device_of self.new ≡ device_of self.old }
     {
         if has_failed {
@@ -68,7 +68,7 @@ impl<D: Read> Read for Counted<D> {
     fn read(&mut self, buf: &mut [u8]) -> io::Result<usize>
         ensures bound { ReadsAtMost result buf.new }
         ensures bytes { ReadConsumes (D.remaining (device_of self.old)) (D.remaining (device_of self.new)) result buf.new }
-        ensures counts { failures_of self.new ≡ one_more_if (is_err result) (failures_of self.old) }
+        ensures counts { failures_of self.new ≡ count_failure (is_err result) (failures_of self.old) }
     {
         let result = self.device.read(buf);
         self.count_if(result.is_err());
@@ -82,7 +82,7 @@ impl<D: Write> Write for Counted<D> {
     fn write(&mut self, buf: &[u8]) -> io::Result<usize>
         ensures bound { WritesAtMost result buf.now }
         ensures bytes { WriteAppends (D.contents (device_of self.old)) (D.contents (device_of self.new)) result buf.now }
-        ensures counts { failures_of self.new ≡ one_more_if (is_failed_write (length buf.now) result) (failures_of self.old) }
+        ensures counts { failures_of self.new ≡ count_failure (is_failed_write (length buf.now) result) (failures_of self.old) }
     {
         let result = self.device.write(buf);
         let has_failed = match &result {
@@ -95,7 +95,7 @@ impl<D: Write> Write for Counted<D> {
 
     fn flush(&mut self) -> io::Result<()>
         ensures bytes { Keeps (D.contents (device_of self.old)) (D.contents (device_of self.new)) }
-        ensures counts { failures_of self.new ≡ one_more_if (is_err result) (failures_of self.old) }
+        ensures counts { failures_of self.new ≡ count_failure (is_err result) (failures_of self.old) }
     {
         let result = self.device.flush();
         self.count_if(result.is_err());

@@ -1,102 +1,134 @@
-// What can be wrong with an input or a device, and how it is told.
+// What can be wrong with an input or a device, and how it is reported.
 ghost use Rattle.std.specs.Prelude.{◌≡◌};
-ghost use Rattle.jobs_csv.specs.Fault.{HasFailed, IsFailure, is_refusal, status_of};
+ghost use Rattle.jobs_csv.specs.Fault.{attribute, is_refusal, kind_text, outcome_text, status_of};
 
 use job_types::JobRefused;
 use std::alloc::AllocError;
-use thiserror::Error;
+use std::fmt;
 
 /// What is wrong.
-#[derive(Clone, Copy, Debug, PartialEq, Eq, Error)]
-pub enum What {
+#[derive(Clone, Copy, Debug, PartialEq, Eq)]
+pub enum FaultKind {
     /// A record has too few or too many fields, or there is no header.
-    #[error("Fields")]
     Fields,
     /// A field is not the number, or the numbers, that it should be.
-    #[error("Number")]
     Number,
-    /// A field is not one of the words that it should be.
-    #[error("Word")]
+    /// A field is none of the keywords that it should be.
     Word,
     /// The fields are good, and no job can be made of them.
-    #[error("Job {0:?}")]
     Job(JobRefused),
     /// The input could not be read.
-    #[error("Read")]
     Read,
     /// The output could not be written.
-    #[error("Write")]
     Write,
-    /// Memory was asked for and refused.
-    #[error("OutOfMemory")]
+    /// A request for memory was refused.
     OutOfMemory,
     /// There are more records than a file may have.
-    #[error("TooMany")]
     TooMany,
-    /// A lane has no number left to name a job by: it gave all of them to jobs before.
-    #[error("Spent")]
+    /// A lane has given all its numbers to jobs.
     Spent,
 }
 
 /// Why a file was not read, or not answered, to its end.
-#[derive(Clone, Copy, Debug, PartialEq, Eq, Error)]
-#[error("{}: record {row}: {what}", .what.outcome())]
+#[derive(Clone, Copy, Debug, PartialEq, Eq)]
 pub struct Fault {
-    /// The record that the input was refused for. The header is record 0 and the next one record 1.
+    /// The number of the refused record. The header is record 0 and the next one record 1.
     /// It is 0 for a fault of a device or of memory, and for a lane that is spent.
     pub row: u64,
     /// What is wrong.
-    pub what: What,
+    pub what: FaultKind,
 }
 
-impl What {
-    /// Whether it is the input that is at fault, and not a device, memory or a spent lane.
+/// Writing stopped: the writer failed, or a request for memory was refused.
+#[derive(Clone, Copy, Debug, PartialEq, Eq)]
+pub struct WriteStopped;
+
+impl FaultKind {
+    /// Whether the input is at fault, and not a device, memory or a spent lane.
     pub fn is_refusal(&self) -> bool
         ensures { result ≡ is_refusal self.now }
     {
         match *self {
-            What::Fields | What::Number | What::Word | What::Job(_) | What::TooMany => true,
-            What::Read | What::Write | What::OutOfMemory | What::Spent => false,
+            FaultKind::Fields
+            | FaultKind::Number
+            | FaultKind::Word
+            | FaultKind::Job(_)
+            | FaultKind::TooMany => true,
+            FaultKind::Read | FaultKind::Write | FaultKind::OutOfMemory | FaultKind::Spent => false,
         }
     }
 
-    // How the line begins that tells it.
-    fn outcome(&self) -> &'static str {
+    // The first word of the error message.
+    fn outcome(&self) -> &'static str
+        ensures { result.now ≡ outcome_text self.now }
+    {
         if self.is_refusal() {
             "refused"
         } else {
             "failed"
         }
     }
+
+    // The name of the kind, and for a job the reason.
+    fn text(&self) -> &'static str
+        ensures { result.now ≡ kind_text self.now }
+    {
+        match *self {
+            FaultKind::Fields => "Fields",
+            FaultKind::Number => "Number",
+            FaultKind::Word => "Word",
+            FaultKind::Job(JobRefused::Empty) => "Job Empty",
+            FaultKind::Job(JobRefused::NotPowerOfTwo) => "Job NotPowerOfTwo",
+            FaultKind::Job(JobRefused::TooLarge) => "Job TooLarge",
+            FaultKind::Job(JobRefused::BadRoot) => "Job BadRoot",
+            FaultKind::Job(JobRefused::OutOfMemory) => "Job OutOfMemory",
+            FaultKind::Read => "Read",
+            FaultKind::Write => "Write",
+            FaultKind::OutOfMemory => "OutOfMemory",
+            FaultKind::TooMany => "TooMany",
+            FaultKind::Spent => "Spent",
+        }
+    }
+}
+
+impl fmt::Display for FaultKind {
+    ghost use Rattle.std.specs.Prelude.{Some};
+    ghost use Rattle.jobs_csv.specs.Fault.{kind_text};
+
+    ghost output = { λ kind. Some (kind_text kind) };
+
+    fn fmt<W: fmt::Write>(&self, f: &mut fmt::Formatter<W>) -> fmt::Result {
+        f.write_str(self.text())
+    }
 }
 
 impl Fault {
-    /// There was no memory.
+    /// A request for memory was refused.
     pub fn no_memory() -> Self
-        ensures { result ≡ record { row = 0; what = What.OutOfMemory } }
+        ensures { result ≡ record { row = 0; what = FaultKind.OutOfMemory } }
     {
         Fault {
             row: 0,
-            what: What::OutOfMemory,
+            what: FaultKind::OutOfMemory,
         }
     }
 
-    /// The fault of a call that failed: the device's, where its count of failures tells so, and
-    /// want of memory otherwise. The counts are those before the call and after it.
-    pub fn blamed(device: What, before: u64, after: u64) -> Self
-        ensures failure { IsFailure device before after result }
-        ensures told { HasFailed before after → result.what ≡ device }
+    /// The fault of a call that failed: the device's exactly where its count of failed calls rose,
+    /// or stood at `u64::MAX`, and out of memory otherwise. The counts are those before the call
+    /// and after it.
+    pub fn attribute(device: FaultKind, before: u64, after: u64) -> Self
+        ensures { result ≡ attribute device before after }
     {
         let has_failed = before < after || before == u64::MAX;
         let what = if has_failed {
             device
         } else {
-            What::OutOfMemory
+            FaultKind::OutOfMemory
         };
         Fault { row: 0, what }
     }
 
-    /// The exit status of a program that tells it: 1 where the input was refused, else 3.
+    /// The exit status of a program that reports it: 1 where the input was refused, else 3.
     pub fn status(&self) -> u8
         ensures { result ≡ status_of self.now.what }
     {
@@ -104,12 +136,34 @@ impl Fault {
     }
 }
 
-impl From<AllocError> for Fault {
-    ghost use Rattle.jobs_csv.specs.declared.fault.What.{What};
+impl fmt::Display for Fault {
+    ghost use Rattle.std.specs.Prelude.{Some};
+    ghost use Rattle.jobs_csv.specs.Fault.{fault_text};
 
-    ghost from_gives = { λ _ fault. fault ≡ record { row = 0; what = What.OutOfMemory } };
+    ghost output = { λ fault. Some (fault_text fault) };
+
+    fn fmt<W: fmt::Write>(&self, f: &mut fmt::Formatter<W>) -> fmt::Result {
+        let outcome = self.what.outcome();
+        let row = self.row;
+        let kind = self.what.text();
+        write!(f, "{outcome}: record {row}: {kind}")
+    }
+}
+
+impl std::error::Error for Fault {}
+
+impl From<AllocError> for Fault {
+    ghost use Rattle.jobs_csv.specs.declared.fault.FaultKind.{FaultKind};
+
+    ghost from_gives = { λ _ fault. fault ≡ record { row = 0; what = FaultKind.OutOfMemory } };
 
     fn from(_error: AllocError) -> Fault {
         Fault::no_memory()
+    }
+}
+
+impl From<AllocError> for WriteStopped {
+    fn from(_error: AllocError) -> WriteStopped {
+        WriteStopped
     }
 }

@@ -1,11 +1,11 @@
-// What single fields say.
+// The parse of single fields.
 ghost use Rattle.std.specs.Prelude.{◌≡◌, ◌≤◌, ◌&&◌, ◌^◌, IfOk, nat_lt, Some, None, if◌then◌else◌};
 ghost use Rattle.std.specs.List.{list_all};
 ghost use Rattle.std.specs.Char.{is_ascii_digit};
 ghost use Rattle.jobs_csv.specs.Fields.{any_number, dash_of, number_of, number_within, value_of};
-ghost use Rattle.jobs_csv.specs.Outcome.{Tells};
+ghost use Rattle.jobs_csv.specs.Inner.Parse.{ReturnsParse};
 
-use crate::fault::What;
+use crate::fault::FaultKind;
 
 // The number that digits write, if they are digits and it is below 2^64.
 fn digits(field: &[u8]) -> Option<u64>
@@ -41,33 +41,33 @@ pub fn number(field: &[u8]) -> Option<u64>
 
 /// A field that is a number.
 #[tactic(auto, unfolding(crate::specs::Fields::any_number))]
-pub fn any_number(field: &[u8]) -> Result<u64, What>
-    ensures { Tells (λ number. number) (any_number field.now) result }
+pub fn any_number(field: &[u8]) -> Result<u64, FaultKind>
+    ensures { ReturnsParse (λ number. number) (any_number field.now) result }
 {
-    number(field).ok_or(What::Number)
+    number(field).ok_or(FaultKind::Number)
 }
 
 /// A field that is a number from `low` to `high`.
 #[tactic(auto, unfolding(crate::specs::Fields::number_within))]
-pub fn number_within(field: &[u8], low: u64, high: u64) -> Result<u64, What>
-    ensures told { Tells (λ number. number) (number_within low high field.now) result }
+pub fn number_within(field: &[u8], low: u64, high: u64) -> Result<u64, FaultKind>
+    ensures parse { ReturnsParse (λ number. number) (number_within low high field.now) result }
     ensures low { IfOk result (λ number. low ≤ number) }
     ensures high { IfOk result (λ number. number ≤ high) }
 {
     match number(field) {
         Some(number) if low <= number && number <= high => Ok(number),
-        _ => Err(What::Number),
+        _ => Err(FaultKind::Number),
     }
 }
 
 /// A field that is a dash, which stands for nothing.
 #[tactic(auto, unfolding(crate::specs::Fields::dash_of))]
-pub fn dash(field: &[u8]) -> Result<(), What>
-    ensures { Tells (λ good. good) (dash_of field.now) result }
+pub fn dash(field: &[u8]) -> Result<(), FaultKind>
+    ensures { ReturnsParse (λ good. good) (dash_of field.now) result }
 {
     if field == b"-".as_slice() {
         Ok(())
     } else {
-        Err(What::Word)
+        Err(FaultKind::Word)
     }
 }

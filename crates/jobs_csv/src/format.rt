@@ -1,122 +1,122 @@
 // Reading a file of any format: the loop over its records, and its first fault.
-ghost use Rattle.std.specs.Prelude.{◌≡◌, ◌∷◌, [], ◌++◌, ◌⊎◌, ℕ, List, Result, true, All, IfOk, IfErr, IfSome, OnOk};
+ghost use Rattle.std.specs.Prelude.{◌≡◌, ◌∷◌, [], ◌++◌, ℕ, List, Result, All, IfOk, IfErr, IfSome, OnOk};
 ghost use Rattle.csv.specs.Records.{fields_of};
-ghost use Rattle.jobs_csv.specs.Fault.{IsFailure, IsReadFailure, is_refusal};
-ghost use Rattle.jobs_csv.specs.Files.{Record, said};
-ghost use Rattle.jobs_csv.specs.Outcome.{Tells, TellsFile, TellsRows};
-ghost use Rattle.jobs_csv.specs.declared.fault.What.{What};
+ghost use Rattle.jobs_csv.specs.Fault.{IsInputFault};
+ghost use Rattle.jobs_csv.specs.Files.{Record, parse_file};
+ghost use Rattle.jobs_csv.specs.Inner.Parse.{ReturnsParse};
+ghost use Rattle.jobs_csv.specs.Outcome.{ReturnsFile, ReturnsRows};
+ghost use Rattle.jobs_csv.specs.declared.fault.FaultKind.{FaultKind};
 
 use crate::device::Device;
-use crate::fault::{Fault, What};
+use crate::fault::{Fault, FaultKind};
 use crate::input::{self, MAX_RECORDS};
 use csv::ByteRecord;
 use std::alloc::{AllocError, Global};
 use std::io::Read;
 
-/// A format of files: what their header is, and what the records behind it say.
+/// A format of files: its header, and the rows of the records after it.
 pub trait Format {
-    /// What a record says.
+    /// The row of a record.
     type Row: Drop;
 
-    // What is said of a header.
-    ghost header_of: { Record → Result (Unit {0}) What };
+    // The parse of a header.
+    ghost header_of: { Record → Result (Unit {0}) FaultKind };
 
-    // What a record says, or its first fault.
-    ghost row_of: { Self → Record → Result Self.Row What };
+    // The parse of a record: its row, or its first fault.
+    ghost row_of: { Self → Record → Result Self.Row FaultKind };
 
     // What is true of each row of a file.
     ghost is_row: { Self → Self.Row → Type 0 };
 
     /// Checks the header: the number of its fields, and then their texts.
-    fn header(&self, row: &ByteRecord) -> Result<(), What>
-        ensures { Tells (λ good. good) (header_of (fields_of row.now)) result };
+    fn header(&self, row: &ByteRecord) -> Result<(), FaultKind>
+        ensures { ReturnsParse (λ good. good) (header_of (fields_of row.now)) result };
 
-    /// What a record says: the number of its fields is checked, and then the fields from left to
-    /// right.
-    fn row(&self, alloc: Global, row: &ByteRecord) -> Result<Self::Row, What>
-        ensures told { Tells (λ row. row) (row_of self.now (fields_of row.now)) result }
+    /// Reads a record: checks the number of its fields, and reads the fields from left to right.
+    fn row(&self, alloc: Global, row: &ByteRecord) -> Result<Self::Row, FaultKind>
+        ensures parse { ReturnsParse (λ row. row) (row_of self.now (fields_of row.now)) result }
         ensures good { IfOk result (λ row. is_row self.now row) };
 }
 
-/// What rows are gathered in.
-pub trait Gather<Row>: Drop {
-    // It holds these rows, which came in this order.
-    ghost holds: { Self → List Row → Type 0 };
+/// A collection that rows are pushed into.
+pub trait RowSink<Row>: Drop {
+    // It holds these rows, in this order.
+    ghost contents: { Self → List Row → Type 0 };
 
-    /// One more row comes in.
-    fn gather(&mut self, row: Row) -> Result<(), AllocError>
-        requires { (rows : List Row) × holds self.old rows }
-        ensures { (rows : List Row) → holds self.old rows → OnOk result (holds self.new (rows ++ row ∷ [])) };
+    /// Pushes one more row.
+    fn push(&mut self, row: Row) -> Result<(), AllocError>
+        requires { (rows : List Row) × contents self.old rows }
+        ensures { (rows : List Row) → contents self.old rows → OnOk result (contents self.new (rows ++ row ∷ [])) };
 }
 
-impl<Row: Drop> Gather<Row> for Vec<Row> {
-    ghost holds = { λ list rows. rows ≡ list.items };
+impl<Row: Drop> RowSink<Row> for Vec<Row> {
+    ghost contents = { λ list rows. rows ≡ list.items };
 
-    fn gather(&mut self, row: Row) -> Result<(), AllocError> {
+    fn push(&mut self, row: Row) -> Result<(), AllocError> {
         self.push(row)?;
         Ok(())
     }
 }
 
-/// Reads the rows of a whole file, and gathers them behind nothing.
+/// Reads a whole file and pushes its rows into `rows`, which must be empty.
 ///
-/// A fault of the input is the first one in it. The others are `Read`, where the reader failed,
-/// and `OutOfMemory`; these have no record.
-pub fn read_records<F: Format, G: Gather<F::Row>, R: Read + Drop>(
+/// A refusal is the first fault of the file. Any other fault is `Read` or `OutOfMemory`.
+pub fn read_records<F: Format, G: RowSink<F::Row>, R: Read + Drop>(
     alloc: Global,
     format: &F,
     rows: G,
     text: R,
 ) -> Result<G, Fault>
-    requires { G.holds rows [] }
-    ensures told { IfSome (R.remaining text) (λ bytes. TellsRows G.holds (said F.header_of (F.row_of format.now) bytes) result) }
-    ensures good { IfOk result (λ gathered. (list : List F.Row) × G.holds gathered list × All (λ row. F.is_row format.now row) list) }
-    ensures failed { IfErr result (λ fault. (is_refusal fault.what ≡ true) ⊎ IsReadFailure fault) }
+    requires { G.contents rows [] }
+    ensures parse { IfSome (R.remaining text) (λ bytes. ReturnsRows G.contents (parse_file F.header_of (F.row_of format.now) bytes) result) }
+    ensures good { IfOk result (λ gathered. (list : List F.Row) × G.contents gathered list × All (λ row. F.is_row format.now row) list) }
 {
     let mut rows = rows;
-    let mut reader = input::open(alloc, text);
+    let mut reader = input::open_reader(alloc, text);
     let mut record = ByteRecord::new(alloc);
-    if !input::next_row(&mut reader, &mut record)? {
-        let what = What::Fields;
+    if !input::next_record(&mut reader, &mut record)? {
+        let what = FaultKind::Fields;
         return Err(Fault { row: 0, what });
     }
     if let Err(what) = format.header(&record) {
         return Err(Fault { row: 0, what });
     }
     for number in 1..MAX_RECORDS + 1 {
-        if !input::next_row(&mut reader, &mut record)? {
+        if !input::next_record(&mut reader, &mut record)? {
             return Ok(rows);
         }
         let row = match format.row(alloc, &record) {
             Ok(row) => row,
             Err(what) => return Err(input::fault_at(number, what)),
         };
-        if rows.gather(row).is_err() {
-            return Err(input::fault_at(number, What::OutOfMemory));
+        if rows.push(row).is_err() {
+            return Err(input::fault_at(number, FaultKind::OutOfMemory));
         }
     }
-    if input::next_row(&mut reader, &mut record)? {
+    if input::next_record(&mut reader, &mut record)? {
         let row = MAX_RECORDS + 1;
-        let what = What::TooMany;
+        let what = FaultKind::TooMany;
         return Err(Fault { row, what });
     }
     Ok(rows)
 }
 
-/// Reads the rows of a whole file from a reader that is lent, and blames the reader only where it
-/// has failed. They are gathered behind nothing.
-pub fn read_file<F: Format, G: Gather<F::Row>, R: Read + Device>(
+/// Reads a whole file from a reader that is lent, and pushes its rows into `rows`, which must be empty.
+///
+/// A failure is the reader's exactly where its count of failed calls rose in this call, or stood at
+/// `u64::MAX`, and is out of memory otherwise.
+pub fn read_file<F: Format, G: RowSink<F::Row>, R: Read + Device>(
     alloc: Global,
     format: &F,
     rows: G,
     reader: &mut R,
 ) -> Result<G, Fault>
-    requires { G.holds rows [] }
-    ensures told { IfSome (R.remaining reader.old) (λ bytes. TellsRows G.holds (said F.header_of (F.row_of format.now) bytes) result) }
-    ensures good { IfOk result (λ gathered. (list : List F.Row) × G.holds gathered list × All (λ row. F.is_row format.now row) list) }
-    ensures failed { IfErr result (λ fault. (is_refusal fault.what ≡ true) ⊎ IsFailure What.Read (R.failures reader.old) (R.failures reader.new) fault) }
+    requires { G.contents rows [] }
+    ensures parse { IfSome (R.remaining reader.old) (λ bytes. ReturnsRows G.contents (parse_file F.header_of (F.row_of format.now) bytes) result) }
+    ensures good { IfOk result (λ gathered. (list : List F.Row) × G.contents gathered list × All (λ row. F.is_row format.now row) list) }
+    ensures failed { IfErr result (λ fault. IsInputFault (R.failures reader.old) (R.failures reader.new) fault) }
 {
-    let before = reader.failures();
+    let failures_before = reader.failures();
     let fault = match read_records(alloc, format, rows, &mut *reader) {
         Ok(rows) => return Ok(rows),
         Err(fault) => fault,
@@ -124,10 +124,7 @@ pub fn read_file<F: Format, G: Gather<F::Row>, R: Read + Device>(
     if fault.what.is_refusal() {
         return Err(fault);
     }
-    if fault.what == What::OutOfMemory {
-        return Err(fault);
-    }
-    Err(Fault::blamed(What::Read, before, reader.failures()))
+    Err(Fault::attribute(FaultKind::Read, failures_before, reader.failures()))
 }
 
 /// Reads the rows of a whole file as a list, as `read_file` does.
@@ -136,9 +133,9 @@ pub fn read_list<F: Format, R: Read + Device>(
     format: &F,
     reader: &mut R,
 ) -> Result<Vec<F::Row>, Fault>
-    ensures told { IfSome (R.remaining reader.old) (λ bytes. TellsFile (said F.header_of (F.row_of format.now) bytes) result) }
+    ensures parse { IfSome (R.remaining reader.old) (λ bytes. ReturnsFile (parse_file F.header_of (F.row_of format.now) bytes) result) }
     ensures good { IfOk result (λ rows. All (λ row. F.is_row format.now row) rows.items) }
-    ensures failed { IfErr result (λ fault. (is_refusal fault.what ≡ true) ⊎ IsFailure What.Read (R.failures reader.old) (R.failures reader.new) fault) }
+    ensures failed { IfErr result (λ fault. IsInputFault (R.failures reader.old) (R.failures reader.new) fault) }
 {
     read_file(alloc, format, Vec::new(alloc), reader)
 }

@@ -2,39 +2,39 @@
 ghost use Rattle.std.specs.Prelude.{◌≡◌, ◌∷◌, [], ◌++◌, ℕ, List, Option, true, false, IfOk, IfErr, OnOk, if◌then◌else◌};
 ghost use Rattle.csv.specs.Reading.{error_kind, is_io, stops_reader};
 ghost use Rattle.csv.specs.Records.{fields_of};
-ghost use Rattle.jobs_csv.specs.Fault.{IsReadFailure, is_refusal};
+ghost use Rattle.jobs_csv.specs.Fault.{is_refusal};
 ghost use Rattle.jobs_csv.specs.Files.{Record};
-ghost use Rattle.jobs_csv.specs.Input.{AreAll, HasGiven, IsPlain};
+ghost use Rattle.jobs_csv.specs.Inner.Input.{AreAll, HasGiven, IsPlain};
 
-use crate::fault::{Fault, What};
+use crate::fault::{Fault, FaultKind};
 use csv::{ByteRecord, ErrorKind, Reader, ReaderBuilder};
 use std::alloc::Global;
 use std::io::Read;
 
-/// How many records a file may have behind its header.
+/// How many records a file may have after its header.
 pub const MAX_RECORDS: u64 = 1_000_000;
 
 /// The fault of a record, or of memory, which has no record.
-pub fn fault_at(row: u64, what: What) -> Fault
+pub fn fault_at(row: u64, what: FaultKind) -> Fault
     ensures { result ≡ record { row = (if is_refusal what then row else 0); what = what } }
 {
     let row = if what.is_refusal() { row } else { 0 };
     Fault { row, what }
 }
 
-// What a reader of records that has stopped failed for: the reader underneath, or memory.
-fn stopped_for(error: &csv::Error) -> What
+// Why a reader of records has stopped: the reader underneath failed, or memory was refused.
+fn stopped_for(error: &csv::Error) -> FaultKind
     requires { stops_reader (error_kind error.now) ≡ true }
-    ensures { result ≡ (if is_io (error_kind error.now) then What.Read else What.OutOfMemory) }
+    ensures { result ≡ (if is_io (error_kind error.now) then FaultKind.Read else FaultKind.OutOfMemory) }
 {
     match error.kind() {
-        ErrorKind::Io(_) => What::Read,
-        _ => What::OutOfMemory,
+        ErrorKind::Io(_) => FaultKind::Read,
+        _ => FaultKind::OutOfMemory,
     }
 }
 
-/// A reader of the records of a text, that has read none of it.
-pub fn open<R: Read>(alloc: Global, text: R) -> Reader<R>
+/// A reader of the records of a text, which has read none of it.
+pub fn open_reader<R: Read>(alloc: Global, text: R) -> Reader<R>
     ensures plain { IsPlain result }
     ensures none { HasGiven R.remaining (R.remaining text) [] result }
 {
@@ -44,13 +44,13 @@ pub fn open<R: Read>(alloc: Global, text: R) -> Reader<R>
         .from_reader(alloc, text)
 }
 
-/// Reads the next record into `row`, and tells whether there was one.
-pub fn next_row<R: Read>(reader: &mut Reader<R>, row: &mut ByteRecord) -> Result<bool, Fault>
+/// Reads the next record into `row`, and returns whether there was one.
+pub fn next_record<R: Read>(reader: &mut Reader<R>, row: &mut ByteRecord) -> Result<bool, Fault>
     requires { IsPlain reader.old }
     ensures plain { OnOk result (IsPlain reader.new) }
     ensures more { IfOk result (λ found. found ≡ true → (bytes : Option (List ℕ)) (rows : List Record) → HasGiven R.remaining bytes rows reader.old → HasGiven R.remaining bytes (rows ++ fields_of row.new ∷ []) reader.new) }
     ensures end { IfOk result (λ found. found ≡ false → (bytes : Option (List ℕ)) (rows : List Record) → HasGiven R.remaining bytes rows reader.old → AreAll bytes rows) }
-    ensures failed { IfErr result (λ fault. IsReadFailure fault) }
+    ensures failed { IfErr result (λ fault. is_refusal fault.what ≡ false) }
 {
     let found = match reader.read_byte_record(row) {
         Ok(found) => found,

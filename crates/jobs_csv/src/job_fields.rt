@@ -1,9 +1,9 @@
-// What each field of a job's record says.
+// The fields of a job's record.
 ghost use Rattle.std.specs.Prelude.{◌≡◌, ◌<◌, IfOk};
-ghost use Rattle.jobs_csv.specs.JobFields.{collective_of, has_spare_root, items_of, lane_of, op_of, with_root};
-ghost use Rattle.jobs_csv.specs.Outcome.{Tells};
+ghost use Rattle.jobs_csv.specs.JobFields.{collective_of, has_superfluous_root, items_of, lane_of, op_of, with_root};
+ghost use Rattle.jobs_csv.specs.Inner.Parse.{ReturnsParse};
 
-use crate::fault::What;
+use crate::fault::FaultKind;
 use crate::fields;
 use job_types::{Kind, MAX_LANES, Op};
 use std::alloc::Global;
@@ -30,9 +30,9 @@ impl Collective {
         }
     }
 
-    /// Whether it has no root, and one is given all the same: another one than 0.
-    pub fn has_spare_root(self, root: u64) -> bool
-        ensures { result ≡ has_spare_root root self }
+    /// Whether it has no root, and the root is not 0.
+    pub fn has_superfluous_root(self, root: u64) -> bool
+        ensures { result ≡ has_superfluous_root root self }
     {
         match self {
             Collective::Broadcast | Collective::Reduce { .. } => false,
@@ -42,8 +42,8 @@ impl Collective {
 }
 
 /// The lane of a field: a number below `MAX_LANES`.
-pub fn lane(field: &[u8]) -> Result<u32, What>
-    ensures told { Tells (λ lane. lane) (lane_of field.now) result }
+pub fn lane(field: &[u8]) -> Result<u32, FaultKind>
+    ensures parse { ReturnsParse (λ lane. lane) (lane_of field.now) result }
     ensures below { IfOk result (λ lane. lane < MAX_LANES) }
 {
     let lane = fields::number_within(field, 0, u64::from(MAX_LANES - 1))?;
@@ -52,8 +52,8 @@ pub fn lane(field: &[u8]) -> Result<u32, What>
 
 // The operation of a field.
 #[tactic(auto, unfolding(crate::specs::JobFields::op_of))]
-fn read_op(field: &[u8]) -> Result<Op, What>
-    ensures { Tells (λ op. op) (op_of field.now) result }
+fn read_op(field: &[u8]) -> Result<Op, FaultKind>
+    ensures { ReturnsParse (λ op. op) (op_of field.now) result }
 {
     if field == b"add".as_slice() {
         Ok(Op::Add)
@@ -68,14 +68,14 @@ fn read_op(field: &[u8]) -> Result<Op, What>
     } else if field == b"or".as_slice() {
         Ok(Op::Or)
     } else {
-        Err(What::Word)
+        Err(FaultKind::Word)
     }
 }
 
-/// The collective that its two fields say, `kind` and `op`.
+/// Reads the collective of two fields, `kind` and `op`.
 #[tactic(auto, unfolding(crate::specs::JobFields::collective_of))]
-pub fn read_collective(kind: &[u8], op: &[u8]) -> Result<Collective, What>
-    ensures { Tells (λ collective. collective) (collective_of kind.now op.now) result }
+pub fn read_collective(kind: &[u8], op: &[u8]) -> Result<Collective, FaultKind>
+    ensures { ReturnsParse (λ collective. collective) (collective_of kind.now op.now) result }
 {
     if kind == b"broadcast".as_slice() {
         fields::dash(op)?;
@@ -93,27 +93,27 @@ pub fn read_collective(kind: &[u8], op: &[u8]) -> Result<Collective, What>
         let op = read_op(op)?;
         return Ok(Collective::Scan { op });
     }
-    Err(What::Word)
+    Err(FaultKind::Word)
 }
 
 /// The items of a field: numbers with one space between two, or nothing at all.
-pub fn items(alloc: Global, field: &[u8]) -> Result<Vec<u64>, What>
-    ensures { Tells (λ items. items.items) (items_of field.now) result }
+pub fn items(alloc: Global, field: &[u8]) -> Result<Vec<u64>, FaultKind>
+    ensures { ReturnsParse (λ items. items.items) (items_of field.now) result }
 {
     if field.is_empty() {
         return Ok(Vec::new(alloc));
     }
     // A job has a power of two of items, so room that doubles from 1 on fits it exactly.
     let Ok(mut items) = Vec::with_capacity(alloc, 1) else {
-        return Err(What::OutOfMemory);
+        return Err(FaultKind::OutOfMemory);
     };
     for piece in field.split(|byte| *byte == b' ') {
         let item = match fields::number(piece) {
             Some(item) => item,
-            None => return Err(What::Number),
+            None => return Err(FaultKind::Number),
         };
         if items.push(item).is_err() {
-            return Err(What::OutOfMemory);
+            return Err(FaultKind::OutOfMemory);
         }
     }
     Ok(items)

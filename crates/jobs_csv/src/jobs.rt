@@ -1,15 +1,16 @@
 // Reading a file of jobs.
-ghost use Rattle.std.specs.Prelude.{◌≡◌, ◌≢◌, ◌<◌, ◌≤◌, ◌&&◌, ◌⊎◌, [], ◌∷◌, codes, length, true, All, IfOk, IfErr, IfSome, IfNone};
+ghost use Rattle.std.specs.Prelude.{◌≡◌, ◌≢◌, ◌<◌, ◌≤◌, ◌&&◌, [], ◌∷◌, codes, length, All, IfOk, IfErr, IfSome, IfNone};
 ghost use Rattle.std.specs.Str.{bytes_eq};
 ghost use Rattle.csv.specs.Records.{fields_of};
 ghost use Rattle.cube_shape.specs.declared.limits.TheConstants.{MAX_DIM};
-ghost use Rattle.jobs_csv.specs.Fault.{IsFailure, is_refusal};
-ghost use Rattle.jobs_csv.specs.Jobs.{accepted, job_of, jobs_header, jobs_said};
-ghost use Rattle.jobs_csv.specs.Lanes.{TellsLanes};
-ghost use Rattle.jobs_csv.specs.Outcome.{Tells, TellsFile};
+ghost use Rattle.jobs_csv.specs.Fault.{IsInputFault};
+ghost use Rattle.jobs_csv.specs.Jobs.{accept_job, job_of, jobs_header, parse_jobs};
+ghost use Rattle.jobs_csv.specs.Lanes.{ReturnsLanes};
+ghost use Rattle.jobs_csv.specs.Inner.Parse.{ReturnsParse};
+ghost use Rattle.jobs_csv.specs.Outcome.{ReturnsFile};
 
 use crate::device::Device;
-use crate::fault::{Fault, What};
+use crate::fault::{Fault, FaultKind};
 use crate::format::{self, Format};
 use crate::lanes::Lanes;
 use crate::{columns, fields, job_fields};
@@ -26,7 +27,7 @@ struct Jobs {
     ghost limit: { n ≤ MAX_DIM },
 }
 
-// The fields of a record that has as many as it should.
+// The fields of a record of five.
 #[derive(Drop)]
 struct FiveFields<'a> {
     lane: &'a [u8],
@@ -64,52 +65,58 @@ fn is_header(five: &FiveFields<'_>) -> bool
         && five.items == b"items".as_slice()
 }
 
-// The job that five fields ask for. They are read from left to right, and the first one that is
-// not good is told.
+// The job of five fields. They are read from left to right, and the first bad one is the error.
 #[tactic(auto, unfolding(crate::specs::Jobs::job_of))]
-fn read_fields(alloc: Global, n: u32, five: &FiveFields<'_>) -> Result<Job, What>
+fn read_fields(alloc: Global, n: u32, five: &FiveFields<'_>) -> Result<Job, FaultKind>
     requires { n ≤ MAX_DIM }
     ensures machine { IfOk result (λ job. job.machine ≡ n) }
-    ensures told { Tells (λ job. job) (job_of n (five.now.lane.now ∷ five.now.kind.now ∷ five.now.op.now ∷ five.now.root.now ∷ five.now.items.now ∷ [])) result }
+    ensures parse { ReturnsParse (λ job. job) (job_of n (five.now.lane.now ∷ five.now.kind.now ∷ five.now.op.now ∷ five.now.root.now ∷ five.now.items.now ∷ [])) result }
 {
     let lane = job_fields::lane(five.lane)?;
     let collective = job_fields::read_collective(five.kind, five.op)?;
     let root = fields::any_number(five.root)?;
     let items = job_fields::items(alloc, five.items)?;
-    let has_spare = collective.has_spare_root(root);
-    accept(alloc, n, lane, collective.with_root(root), items, has_spare)
+    let has_superfluous = collective.has_superfluous_root(root);
+    accept(
+        alloc,
+        n,
+        lane,
+        collective.with_root(root),
+        items,
+        has_superfluous,
+    )
 }
 
-// The job, unless a rule refuses it. A root that is given to a collective that has none is refused
-// where no rule of every job is broken.
-#[tactic(auto, unfolding(crate::specs::Jobs::accepted))]
+// The job, unless a rule refuses it. The rules of every job come first, and then the one that a
+// collective with no root has root 0.
+#[tactic(auto, unfolding(crate::specs::Jobs::accept_job))]
 fn accept(
     alloc: Global,
     n: u32,
     lane: u32,
     kind: Kind,
     items: Vec<u64>,
-    has_spare: bool,
-) -> Result<Job, What>
+    has_superfluous: bool,
+) -> Result<Job, FaultKind>
     requires machine { n ≤ MAX_DIM }
     requires lane { lane < MAX_LANES }
     ensures machine { IfOk result (λ job. job.machine ≡ n) }
-    ensures told { Tells (λ job. job) (accepted (record { machine = n; lane = lane; kind = kind; items = items.items }) has_spare) result }
+    ensures parse { ReturnsParse (λ job. job) (accept_job (record { machine = n; lane = lane; kind = kind; items = items.items }) has_superfluous) result }
 {
     match Job::new(alloc, n, lane, kind, items) {
         Ok(job) => {
-            if has_spare {
-                return Err(What::Job(JobRefused::BadRoot));
+            if has_superfluous {
+                return Err(FaultKind::Job(JobRefused::BadRoot));
             }
             Ok(job)
         }
         Err((_, JobRefused::OutOfMemory)) => {
-            if has_spare {
-                return Err(What::Job(JobRefused::BadRoot));
+            if has_superfluous {
+                return Err(FaultKind::Job(JobRefused::BadRoot));
             }
-            return Err(What::OutOfMemory);
+            return Err(FaultKind::OutOfMemory);
         }
-        Err((_, refused)) => return Err(What::Job(refused)),
+        Err((_, refused)) => return Err(FaultKind::Job(refused)),
     }
 }
 
@@ -122,22 +129,22 @@ impl Format for Jobs {
 
     ghost is_row = { λ jobs job. job.machine ≡ jobs.n };
 
-    fn header(&self, row: &ByteRecord) -> Result<(), What> {
+    fn header(&self, row: &ByteRecord) -> Result<(), FaultKind> {
         let five = match five_fields(row) {
             Some(five) => five,
-            None => return Err(What::Fields),
+            None => return Err(FaultKind::Fields),
         };
         if is_header(&five) {
             Ok(())
         } else {
-            Err(What::Word)
+            Err(FaultKind::Word)
         }
     }
 
-    fn row(&self, alloc: Global, row: &ByteRecord) -> Result<Job, What> {
+    fn row(&self, alloc: Global, row: &ByteRecord) -> Result<Job, FaultKind> {
         match five_fields(row) {
             Some(five) => read_fields(alloc, self.n, &five),
-            None => return Err(What::Fields),
+            None => return Err(FaultKind::Fields),
         }
     }
 }
@@ -145,29 +152,33 @@ impl Format for Jobs {
 /// Reads the jobs of a whole file, for a machine of dimension `n`.
 ///
 /// A refusal is the first fault of the file. `Read` comes only where the reader's count of failed
-/// calls rose in this call, or stood at `u64::MAX`; every other want is `OutOfMemory`. At most
-/// `MAX_RECORDS + 1` records behind the header are asked for.
+/// calls rose in this call, or stood at `u64::MAX`; any other failure is `OutOfMemory`. At most
+/// `MAX_RECORDS + 1` records after the header are read.
 pub fn read_jobs<R: Read + Device>(alloc: Global, n: u32, reader: &mut R) -> Result<Vec<Job>, Fault>
     requires { n ≤ MAX_DIM }
-    ensures told { IfSome (R.remaining reader.old) (λ bytes. TellsFile (jobs_said n bytes) result) }
+    ensures parse { IfSome (R.remaining reader.old) (λ bytes. ReturnsFile (parse_jobs n bytes) result) }
     ensures machine { IfOk result (λ jobs. All (λ job. job.machine ≡ n) jobs.items) }
-    ensures failed { IfErr result (λ fault. (is_refusal fault.what ≡ true) ⊎ IsFailure What.Read (R.failures reader.old) (R.failures reader.new) fault) }
+    ensures failed { IfErr result (λ fault. IsInputFault (R.failures reader.old) (R.failures reader.new) fault) }
 {
     format::read_list(alloc, &Jobs { n }, reader)
 }
 
-/// Reads the jobs of a whole file, as `read_jobs` does, and takes them apart by their lanes: it gives
-/// a list for each lane, in which the lane's jobs are in the order of the file.
+/// Reads the jobs of a whole file, as `read_jobs` does, into a list for each lane, in which the lane's
+/// jobs are in the order of the file.
 pub fn read_lanes<R: Read + Device>(
     alloc: Global,
     n: u32,
     reader: &mut R,
 ) -> Result<Vec<Vec<Job>>, Fault>
     requires { n ≤ MAX_DIM }
-    ensures told { IfSome (R.remaining reader.old) (λ bytes. TellsLanes (jobs_said n bytes) result) }
+    ensures parse { IfSome (R.remaining reader.old) (λ bytes. ReturnsLanes (parse_jobs n bytes) result) }
     ensures machine { IfOk result (λ lanes. All (λ lane. All (λ job. job.machine ≡ n) lane.items) lanes.items) }
-    ensures failed { IfErr result (λ fault. (is_refusal fault.what ≡ true) ⊎ IsFailure What.Read (R.failures reader.old) (R.failures reader.new) fault) }
+    ensures failed { IfErr result (λ fault. IsInputFault (R.failures reader.old) (R.failures reader.new) fault) }
 {
-    let lanes = format::read_file(alloc, &Jobs { n }, Lanes::new(alloc)?, reader)?;
+    let failures = reader.failures();
+    let Ok(lanes) = Lanes::new(alloc) else {
+        return Err(Fault::attribute(FaultKind::Read, failures, failures));
+    };
+    let lanes = format::read_file(alloc, &Jobs { n }, lanes, reader)?;
     Ok(lanes.jobs)
 }

@@ -2,18 +2,18 @@
 ghost use Rattle.std.specs.Prelude.{[], IfOk};
 ghost use Rattle.jobs_csv.specs.Lanes.{AreLanes};
 
-use crate::format::Gather;
+use crate::format::RowSink;
 use job_types::{Job, MAX_LANES};
 use std::alloc::{AllocError, Global};
 
-/// A list of jobs for each lane, in which the jobs of the lane are in the order in which they came.
+/// The jobs by lane, those of each lane in the order in which they were pushed.
 #[derive(Drop)]
 pub struct Lanes {
     pub jobs: Vec<Vec<Job>>,
 }
 
 impl Lanes {
-    /// No job has come.
+    /// A list for each lane, with no job.
     pub fn new(alloc: Global) -> Result<Self, AllocError>
         ensures { IfOk result (λ lanes. AreLanes lanes.jobs.items []) }
     {
@@ -25,12 +25,12 @@ impl Lanes {
     }
 }
 
-impl Gather<Job> for Lanes {
+impl RowSink<Job> for Lanes {
     ghost use Rattle.jobs_csv.specs.Lanes.{AreLanes};
 
-    ghost holds = { λ lanes jobs. AreLanes lanes.jobs.items jobs };
+    ghost contents = { λ lanes jobs. AreLanes lanes.jobs.items jobs };
 
-    fn gather(&mut self, job: Job) -> Result<(), AllocError> {
+    fn push(&mut self, job: Job) -> Result<(), AllocError> {
         let lane = job.lane() as usize;
         self.jobs[lane].push(job)?;
         Ok(())

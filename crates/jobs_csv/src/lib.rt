@@ -1,11 +1,11 @@
-//! The CSV files of the machine: what they say, and the lines that answer them.
+//! The CSV files of the machine: their parse, and the rows that answer them.
 //!
-//! `read_jobs`, `read_place` and `read_schedule` read a whole file and give what its records say, or
-//! the file's first fault; `read_lanes` gives the jobs lane by lane. One loop serves them all; a format
-//! says what its header is and what a record says. `Lines` gathers the lines of an answer and sends
-//! them many at a time to a writer that is lent, and `write_replies` does so for the replies of jobs. A
-//! reader or writer is a `Device`, which counts its failed calls, and `Counted` makes one of any: so a
-//! fault is the device's only where that count says so.
+//! `read_jobs`, `read_place` and `read_schedule` read a whole file and return its rows or its first
+//! fault; `read_lanes` returns the jobs lane by lane. One loop reads every format: a format checks a
+//! header and reads a record. One buffer writes every row: a `Row` has columns and fields, and
+//! `LineBuffer` writes their lines to a writer that is lent. A reader or writer is a `Device`, which
+//! counts its failed calls, and `Counted` makes one of any; a fault is the device's exactly where
+//! that count rose.
 #![tactic(auto)]
 
 mod columns;
@@ -17,26 +17,28 @@ mod input;
 mod job_fields;
 mod jobs;
 mod lanes;
-mod lines;
+mod line_buffer;
 mod name;
-mod output;
 mod place;
 mod place_rows;
 mod replay_rows;
 mod replies;
+mod row;
 mod schedule;
 
+pub use cube_core::{Event, Refused};
 pub use device::{Counted, Device};
-pub use fault::{Fault, What};
+pub use fault::{Fault, FaultKind, WriteStopped};
 pub use input::MAX_RECORDS;
+pub use job_types::{Job, JobRefused, Reply};
 pub use jobs::{read_jobs, read_lanes};
-pub use lines::Lines;
+pub use line_buffer::{LineBuffer, write_rows};
 pub use name::Name;
 pub use place::{Command, read_place};
 pub use place_rows::PlaceRow;
 pub use replay_rows::ReplayRow;
-pub use replies::write_replies;
-pub use schedule::{Line, MAX_TIMES, read_schedule};
+pub use row::{Row, RowFields};
+pub use schedule::{Line, MAX_STEPS, read_schedule};
 
 #[cfg(test)]
 mod tests;

@@ -1,10 +1,11 @@
+// Names of held regions.
 ghost use Rattle.std.specs.Prelude.{◌≡◌, Some, None, true, if◌then◌else◌};
 ghost use Rattle.std.specs.List.{list_all};
 ghost use Rattle.jobs_csv.specs.Name.{is_name, is_name_byte};
 
 use std::marker::Model;
 
-/// How many bytes a name may have.
+// How many bytes a name may have.
 const MAX_NAME: usize = 16;
 
 /// A name of a held region: 1 to 16 bytes, each of them `a` to `z` or a digit.
@@ -16,7 +17,7 @@ pub struct Name {
 
 impl Model for Name {
     ghost use Rattle.std.specs.Prelude.{List, ℕ, ◌++◌, ◌-◌, length, take};
-    ghost use Rattle.jobs_csv.specs.Name.{IsPadded, same_bytes, same_len, zeros};
+    ghost use Rattle.jobs_csv.specs.Inner.Name.{IsPadded, same_bytes, same_len, zeros};
 
     ghost Value = { List ℕ };
 

@@ -1,13 +1,14 @@
-// Reading a file of commands: takes and frees of regions under names.
-ghost use Rattle.std.specs.Prelude.{◌≡◌, ◌⊎◌, [], ◌∷◌, ◌≤◌, true, All, IfOk, IfErr, IfSome};
+// Reading a file of commands over names.
+ghost use Rattle.std.specs.Prelude.{◌≡◌, [], ◌∷◌, ◌≤◌, All, IfOk, IfErr, IfSome};
 ghost use Rattle.csv.specs.Records.{fields_of};
-ghost use Rattle.jobs_csv.specs.Fault.{IsFailure, is_refusal};
-ghost use Rattle.jobs_csv.specs.Outcome.{Tells, TellsFile};
-ghost use Rattle.jobs_csv.specs.Place.{Fits, asked, command_of, commands_said, name_of, place_header, verb_of};
+ghost use Rattle.jobs_csv.specs.Fault.{IsInputFault};
+ghost use Rattle.jobs_csv.specs.Inner.Parse.{ReturnsParse};
+ghost use Rattle.jobs_csv.specs.Outcome.{ReturnsFile};
+ghost use Rattle.jobs_csv.specs.Place.{Fits, verb_command, command_of, parse_commands, name_of, place_header, verb_of};
 
 use crate::columns::{self, ThreeFields};
 use crate::device::Device;
-use crate::fault::{Fault, What};
+use crate::fault::{Fault, FaultKind};
 use crate::fields;
 use crate::format::{self, Format};
 use crate::name::Name;
@@ -15,16 +16,16 @@ use csv::ByteRecord;
 use std::alloc::Global;
 use std::io::Read;
 
-/// What a record of a place file asks for.
+/// A command over a name.
 #[derive(Clone, Copy, Debug, PartialEq, Eq)]
 pub enum Command {
-    /// A region of dimension `dim`, to be held under a name.
+    /// Take a region of dimension `dim` and hold it under a name.
     Take { name: Name, dim: u32 },
-    /// The region that is held under a name is given back.
+    /// Give the region of a name back.
     Free { name: Name },
 }
 
-// The word of a command.
+// The keyword of a command.
 #[derive(Clone, Copy)]
 enum Verb {
     Take,
@@ -37,32 +38,32 @@ struct Commands {
     n: u32,
 }
 
-// The word in a field.
+// The keyword of a field.
 #[tactic(auto, unfolding(crate::specs::Place::verb_of))]
-fn read_verb(field: &[u8]) -> Result<Verb, What>
-    ensures { Tells (λ verb. verb) (verb_of field.now) result }
+fn read_verb(field: &[u8]) -> Result<Verb, FaultKind>
+    ensures { ReturnsParse (λ verb. verb) (verb_of field.now) result }
 {
     if field == b"take".as_slice() {
         Ok(Verb::Take)
     } else if field == b"free".as_slice() {
         Ok(Verb::Free)
     } else {
-        Err(What::Word)
+        Err(FaultKind::Word)
     }
 }
 
-// The name in a field.
+// The name of a field.
 #[tactic(auto, unfolding(crate::specs::Place::name_of))]
-fn read_name(field: &[u8]) -> Result<Name, What>
-    ensures { Tells (λ name. name) (name_of field.now) result }
+fn read_name(field: &[u8]) -> Result<Name, FaultKind>
+    ensures { ReturnsParse (λ name. name) (name_of field.now) result }
 {
-    Name::new(field).ok_or(What::Word)
+    Name::new(field).ok_or(FaultKind::Word)
 }
 
-// The command of this word, with what its last field says.
-#[tactic(auto, unfolding(crate::specs::Place::asked))]
-fn read_last(n: u32, verb: Verb, name: Name, dim: &[u8]) -> Result<Command, What>
-    ensures told { Tells (λ command. command) (asked n verb name dim.now) result }
+// The command of this keyword, with its last field.
+#[tactic(auto, unfolding(crate::specs::Place::verb_command))]
+fn read_last(n: u32, verb: Verb, name: Name, dim: &[u8]) -> Result<Command, FaultKind>
+    ensures parse { ReturnsParse (λ command. command) (verb_command n verb name dim.now) result }
     ensures fits { IfOk result (λ command. Fits n command) }
 {
     match verb {
@@ -77,10 +78,10 @@ fn read_last(n: u32, verb: Verb, name: Name, dim: &[u8]) -> Result<Command, What
     }
 }
 
-// The command that three fields ask for.
+// The command of three fields.
 #[tactic(auto, unfolding(crate::specs::Place::command_of))]
-fn read_fields(n: u32, three: &ThreeFields<'_>) -> Result<Command, What>
-    ensures told { Tells (λ command. command) (command_of n (three.now.first.now ∷ three.now.second.now ∷ three.now.third.now ∷ [])) result }
+fn read_fields(n: u32, three: &ThreeFields<'_>) -> Result<Command, FaultKind>
+    ensures parse { ReturnsParse (λ command. command) (command_of n (three.now.first.now ∷ three.now.second.now ∷ three.now.third.now ∷ [])) result }
     ensures fits { IfOk result (λ command. Fits n command) }
 {
     let verb = read_verb(three.first)?;
@@ -97,7 +98,7 @@ impl Format for Commands {
 
     ghost is_row = { λ commands. Fits commands.n };
 
-    fn header(&self, row: &ByteRecord) -> Result<(), What> {
+    fn header(&self, row: &ByteRecord) -> Result<(), FaultKind> {
         columns::three_header(
             row,
             b"command".as_slice(),
@@ -106,10 +107,10 @@ impl Format for Commands {
         )
     }
 
-    fn row(&self, _alloc: Global, row: &ByteRecord) -> Result<Command, What> {
+    fn row(&self, _alloc: Global, row: &ByteRecord) -> Result<Command, FaultKind> {
         match columns::three_fields(row) {
             Some(three) => read_fields(self.n, &three),
-            None => return Err(What::Fields),
+            None => return Err(FaultKind::Fields),
         }
     }
 }
@@ -117,16 +118,16 @@ impl Format for Commands {
 /// Reads the commands of a whole file, for a machine of dimension `n`.
 ///
 /// A refusal is the first fault of the file. `Read` comes only where the reader's count of failed
-/// calls rose in this call, or stood at `u64::MAX`; every other want is `OutOfMemory`. At most
-/// `MAX_RECORDS + 1` records behind the header are asked for.
+/// calls rose in this call, or stood at `u64::MAX`; any other failure is `OutOfMemory`. At most
+/// `MAX_RECORDS + 1` records after the header are read.
 pub fn read_place<R: Read + Device>(
     alloc: Global,
     n: u32,
     reader: &mut R,
 ) -> Result<Vec<Command>, Fault>
-    ensures told { IfSome (R.remaining reader.old) (λ bytes. TellsFile (commands_said n bytes) result) }
+    ensures parse { IfSome (R.remaining reader.old) (λ bytes. ReturnsFile (parse_commands n bytes) result) }
     ensures fits { IfOk result (λ commands. All (λ command. Fits n command) commands.items) }
-    ensures failed { IfErr result (λ fault. (is_refusal fault.what ≡ true) ⊎ IsFailure What.Read (R.failures reader.old) (R.failures reader.new) fault) }
+    ensures failed { IfErr result (λ fault. IsInputFault (R.failures reader.old) (R.failures reader.new) fault) }
 {
     format::read_list(alloc, &Commands { n }, reader)
 }

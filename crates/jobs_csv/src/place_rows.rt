@@ -1,22 +1,20 @@
-// Writing the lines that answer commands.
-ghost use Rattle.std.specs.Prelude.{◌≡◌, OnOk};
-ghost use Rattle.jobs_csv.specs.Output.{AddsField, AddsLine, IsPlainField};
-ghost use Rattle.jobs_csv.specs.PlaceRows.{base_in, command_text, dim_in, name_in, outcome_text, place_columns, place_fields};
+// The rows that answer commands.
+ghost use Rattle.std.specs.Prelude.{◌≡◌};
+ghost use Rattle.jobs_csv.specs.Inner.Rows.{base_in, command_text, dim_in, name_in, outcome_text};
+ghost use Rattle.jobs_csv.specs.Text.{IsPlainField};
 
 use crate::name::Name;
-use crate::output;
-use csv::Writer;
-use std::alloc::AllocError;
-use std::io::Write;
+use crate::row::{Row, RowFields};
+use std::alloc::{AllocError, Global};
 
-/// What became of a command.
+/// A row that answers a command.
 #[derive(Clone, Copy, Debug, PartialEq, Eq)]
 pub enum PlaceRow {
-    /// The region of dimension `dim` from `base` on is held under the name now.
+    /// The name holds the region of dimension `dim` from `base` on now.
     Given { name: Name, dim: u32, base: u64 },
     /// The name holds a region already.
     Held { name: Name, dim: u32 },
-    /// As many names hold a region as can.
+    /// Each station holds a region.
     NoStation { name: Name, dim: u32 },
     /// No region of this dimension is free.
     NoSubcube { name: Name, dim: u32 },
@@ -27,7 +25,7 @@ pub enum PlaceRow {
 }
 
 impl PlaceRow {
-    // The command.
+    // The keyword of the command.
     #[tactic(auto, using(crate::proofs::PlainLemmas::plain_command))]
     fn command(&self) -> &'static str
         ensures text { result.now ≡ command_text self.now }
@@ -56,7 +54,7 @@ impl PlaceRow {
         }
     }
 
-    // The dimension of the region that it is about, if it is about one.
+    // The dimension of the region, if the row has one.
     fn dim(&self) -> Option<u64>
         ensures { result ≡ dim_in self.now }
     {
@@ -80,7 +78,7 @@ impl PlaceRow {
         }
     }
 
-    // The outcome.
+    // The keyword of the outcome.
     #[tactic(auto, using(crate::proofs::PlainLemmas::plain_outcome))]
     fn outcome(&self) -> &'static str
         ensures text { result.now ≡ outcome_text self.now }
@@ -97,43 +95,28 @@ impl PlaceRow {
     }
 }
 
-/// Writes the header of the lines.
-pub fn write_header<W: Write + Drop>(writer: &mut Writer<W>) -> Result<(), AllocError>
-    ensures { OnOk result (AddsLine W.contents writer.old writer.new place_columns) }
-{
-    let fields = [
-        b"command".as_slice(),
-        b"name".as_slice(),
-        b"dim".as_slice(),
-        b"base".as_slice(),
-        b"outcome".as_slice(),
-    ];
-    let Ok(()) = writer.write_fields(&fields) else {
-        return Err(AllocError);
-    };
-    Ok(())
-}
+impl Row for PlaceRow {
+    ghost use Rattle.jobs_csv.specs.PlaceRows.{place_columns, place_fields};
 
-// Writes the name as the next field of a line.
-#[tactic(auto, using(crate::proofs::PlainLemmas::plain_name))]
-fn write_name<W: Write + Drop>(writer: &mut Writer<W>, name: Name) -> Result<(), AllocError>
-    ensures { OnOk result (AddsField W.contents writer.old writer.new name) }
-{
-    output::write_field(writer, name.text())
-}
+    ghost columns = { place_columns };
 
-/// Writes the line of a command, by way of a text that it may use.
-pub fn write_row<W: Write + Drop>(
-    row: &PlaceRow,
-    text: &mut String,
-    writer: &mut Writer<W>,
-) -> Result<(), AllocError>
-    ensures { OnOk result (AddsLine W.contents writer.old writer.new (place_fields row.now)) }
-{
-    output::write_field(writer, row.command().as_bytes())?;
-    write_name(writer, row.name())?;
-    output::write_number_or_dash(writer, text, row.dim())?;
-    output::write_number_or_dash(writer, text, row.base())?;
-    output::write_field(writer, row.outcome().as_bytes())?;
-    output::end_line(writer)
+    ghost fields = { place_fields };
+
+    #[tactic(auto, using(crate::proofs::PlainLemmas::plain_text))]
+    fn push_columns(line: &mut RowFields) -> Result<(), AllocError> {
+        line.push_text(b"command".as_slice())?;
+        line.push_text(b"name".as_slice())?;
+        line.push_text(b"dim".as_slice())?;
+        line.push_text(b"base".as_slice())?;
+        line.push_text(b"outcome".as_slice())
+    }
+
+    #[tactic(auto, using(crate::proofs::PlainLemmas::plain_name))]
+    fn push_fields(&self, _alloc: Global, line: &mut RowFields) -> Result<(), AllocError> {
+        line.push_text(self.command().as_bytes())?;
+        line.push_text(self.name().text())?;
+        line.push_number_or_dash(self.dim())?;
+        line.push_number_or_dash(self.base())?;
+        line.push_text(self.outcome().as_bytes())
+    }
 }

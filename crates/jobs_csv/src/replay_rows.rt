@@ -1,23 +1,22 @@
-// Writing the lines that a schedule leads to.
-ghost use Rattle.std.specs.Prelude.{◌≡◌, IfOk, OnOk, string_bytes};
-ghost use Rattle.jobs_csv.specs.Output.{AddsField, AddsLine, IsPlainField};
-ghost use Rattle.jobs_csv.specs.ReplayRows.{end_text, event_text, kind_text, node_in, note_text, replay_columns, replay_fields, shown, station_in, why_text, word_in};
+// The rows that a schedule leads to.
+ghost use Rattle.std.specs.Prelude.{◌≡◌, ◌∷◌, [], ◌++◌, IfOk, OnOk, string_bytes};
+ghost use Rattle.jobs_csv.specs.Inner.Rows.{end_text, event_text, node_in, station_in, word_in};
+ghost use Rattle.jobs_csv.specs.ReplayRows.{event_keyword, node_word_text, note_keyword, reason_keyword};
+ghost use Rattle.jobs_csv.specs.Text.{IsPlainField};
 
-use crate::output;
-use csv::Writer;
+use crate::row::{Row, RowFields};
 use cube_core::{Event, Kind, Note, Refused};
 use status_word::Word;
 use std::alloc::{AllocError, Global};
-use std::io::Write;
 
-/// What a schedule led to.
+/// A row of a schedule.
 #[derive(Clone, Copy, Debug, PartialEq, Eq)]
 pub enum ReplayRow {
     /// A station made an event.
     Made {
         event: Event,
     },
-    /// A call of a station was refused. The call was a take of `node`, or none that names a node.
+    /// A call of a station was refused. `node` is the node of a take.
     Refused {
         station: u64,
         node: Option<u64>,
@@ -34,11 +33,11 @@ pub enum ReplayRow {
     },
 }
 
-// The word of an event.
+// The keyword of an event.
 #[tactic(auto, using(crate::proofs::PlainLemmas::plain_event))]
-fn kind_word(kind: Kind) -> &'static str
-    ensures text { result.now ≡ kind_text kind }
-    ensures plain { IsPlainField (kind_text kind) }
+fn event_keyword(kind: Kind) -> &'static str
+    ensures text { result.now ≡ event_keyword kind }
+    ensures plain { IsPlainField (event_keyword kind) }
 {
     match kind {
         Kind::Look => "look",
@@ -54,11 +53,11 @@ fn kind_word(kind: Kind) -> &'static str
     }
 }
 
-// The word of how an event ended.
+// The keyword of how an event ended.
 #[tactic(auto, using(crate::proofs::PlainLemmas::plain_note))]
-fn note_word(note: Note) -> &'static str
-    ensures text { result.now ≡ note_text note }
-    ensures plain { IsPlainField (note_text note) }
+fn note_keyword(note: Note) -> &'static str
+    ensures text { result.now ≡ note_keyword note }
+    ensures plain { IsPlainField (note_keyword note) }
 {
     match note {
         Note::Free => "free",
@@ -76,11 +75,11 @@ fn note_word(note: Note) -> &'static str
     }
 }
 
-// The word of a refusal.
+// The keyword of a refusal.
 #[tactic(auto, using(crate::proofs::PlainLemmas::plain_why))]
-fn why_word(why: Refused) -> &'static str
-    ensures text { result.now ≡ why_text why }
-    ensures plain { IsPlainField (why_text why) }
+fn reason_keyword(why: Refused) -> &'static str
+    ensures text { result.now ≡ reason_keyword why }
+    ensures plain { IsPlainField (reason_keyword why) }
 {
     match why {
         Refused::NotIdle => "notidle",
@@ -91,11 +90,11 @@ fn why_word(why: Refused) -> &'static str
     }
 }
 
-// The word of a node as text; a dash for the roll, which is no node.
-#[tactic(auto, using(crate::proofs::PlainLemmas::plain_shown))]
-fn word_shown(alloc: Global, node: u64, word: u64) -> Result<String, AllocError>
-    ensures text { IfOk result (λ text. string_bytes text ≡ shown node word) }
-    ensures plain { IsPlainField (shown node word) }
+// The text of a node's word; a dash for the roll, which is no node.
+#[tactic(auto, using(crate::proofs::PlainLemmas::plain_node_word))]
+fn node_word(alloc: Global, node: u64, word: u64) -> Result<String, AllocError>
+    ensures text { IfOk result (λ text. string_bytes text ≡ node_word_text node word) }
+    ensures plain { IsPlainField (node_word_text node word) }
 {
     if node == 0 {
         String::from_str(alloc, "-")
@@ -105,7 +104,7 @@ fn word_shown(alloc: Global, node: u64, word: u64) -> Result<String, AllocError>
 }
 
 impl ReplayRow {
-    // The station that it is about, if it is about one.
+    // The station of the row, if it has one.
     fn station(&self) -> Option<u64>
         ensures { result ≡ station_in self.now }
     {
@@ -116,19 +115,19 @@ impl ReplayRow {
         }
     }
 
-    // What happened.
+    // The keyword of what happened.
     fn event(&self) -> &'static str
         ensures text { result.now ≡ event_text self.now }
         ensures plain { IsPlainField (event_text self.now) }
     {
         match *self {
-            ReplayRow::Made { event } => kind_word(event.kind),
+            ReplayRow::Made { event } => event_keyword(event.kind),
             ReplayRow::Refused { .. } => "refused",
             ReplayRow::Word { .. } | ReplayRow::End { .. } => "end",
         }
     }
 
-    // The node that it is about, if it is about one.
+    // The node of the row, if it has one.
     fn node(&self) -> Option<u64>
         ensures { result ≡ node_in self.now }
     {
@@ -140,70 +139,57 @@ impl ReplayRow {
         }
     }
 
-    // The word of the node, or a dash.
+    // The text of the node's word, or a dash.
     fn word(&self, alloc: Global) -> Result<String, AllocError>
         ensures text { IfOk result (λ text. string_bytes text ≡ word_in self.now) }
         ensures plain { IsPlainField (word_in self.now) }
     {
         match *self {
-            ReplayRow::Made { event } => word_shown(alloc, event.node, event.word),
-            ReplayRow::Word { node, word } => word_shown(alloc, node, word),
+            ReplayRow::Made { event } => node_word(alloc, event.node, event.word),
+            ReplayRow::Word { node, word } => node_word(alloc, node, word),
             ReplayRow::Refused { .. } | ReplayRow::End { .. } => String::from_str(alloc, "-"),
         }
     }
-}
 
-/// Writes the header of the lines.
-pub fn write_header<W: Write + Drop>(writer: &mut Writer<W>) -> Result<(), AllocError>
-    ensures { OnOk result (AddsLine W.contents writer.old writer.new replay_columns) }
-{
-    let fields = [
-        b"station".as_slice(),
-        b"event".as_slice(),
-        b"node".as_slice(),
-        b"word".as_slice(),
-        b"note".as_slice(),
-    ];
-    let Ok(()) = writer.write_fields(&fields) else {
-        return Err(AllocError);
-    };
-    Ok(())
-}
-
-// Writes the last field of a line: how it ended, or the count.
-fn write_note<W: Write + Drop>(
-    row: &ReplayRow,
-    text: &mut String,
-    writer: &mut Writer<W>,
-) -> Result<(), AllocError>
-    ensures { OnOk result (AddsField W.contents writer.old writer.new (end_text row.now)) }
-{
-    match *row {
-        ReplayRow::Made { event } => {
-            return output::write_field(writer, note_word(event.note).as_bytes());
+    // Pushes the last field: how the event ended, or the count.
+    fn push_note(&self, line: &mut RowFields) -> Result<(), AllocError>
+        ensures { OnOk result (line.new ≡ line.old ++ end_text self.now ∷ []) }
+    {
+        match *self {
+            ReplayRow::Made { event } => {
+                return line.push_text(note_keyword(event.note).as_bytes());
+            }
+            ReplayRow::Refused { why, .. } => {
+                return line.push_text(reason_keyword(why).as_bytes());
+            }
+            ReplayRow::Word { .. } => return line.push_number_or_dash(None),
+            ReplayRow::End { count } => return line.push_number(count),
         }
-        ReplayRow::Refused { why, .. } => {
-            return output::write_field(writer, why_word(why).as_bytes());
-        }
-        ReplayRow::Word { .. } => return output::write_number_or_dash(writer, text, None),
-        ReplayRow::End { count } => return output::write_number(writer, text, count),
     }
 }
 
-/// Writes the line of what a schedule led to, by way of a text that it may use.
-pub fn write_row<W: Write + Drop>(
-    alloc: Global,
-    row: &ReplayRow,
-    text: &mut String,
-    writer: &mut Writer<W>,
-) -> Result<(), AllocError>
-    ensures { OnOk result (AddsLine W.contents writer.old writer.new (replay_fields row.now)) }
-{
-    let word = row.word(alloc)?;
-    output::write_number_or_dash(writer, text, row.station())?;
-    output::write_field(writer, row.event().as_bytes())?;
-    output::write_number_or_dash(writer, text, row.node())?;
-    output::write_field(writer, word.as_bytes())?;
-    write_note(row, text, writer)?;
-    output::end_line(writer)
+impl Row for ReplayRow {
+    ghost use Rattle.jobs_csv.specs.ReplayRows.{replay_columns, replay_fields};
+
+    ghost columns = { replay_columns };
+
+    ghost fields = { replay_fields };
+
+    #[tactic(auto, using(crate::proofs::PlainLemmas::plain_text))]
+    fn push_columns(line: &mut RowFields) -> Result<(), AllocError> {
+        line.push_text(b"station".as_slice())?;
+        line.push_text(b"event".as_slice())?;
+        line.push_text(b"node".as_slice())?;
+        line.push_text(b"word".as_slice())?;
+        line.push_text(b"note".as_slice())
+    }
+
+    fn push_fields(&self, alloc: Global, line: &mut RowFields) -> Result<(), AllocError> {
+        let word = self.word(alloc)?;
+        line.push_number_or_dash(self.station())?;
+        line.push_text(self.event().as_bytes())?;
+        line.push_number_or_dash(self.node())?;
+        line.push_text(word.as_bytes())?;
+        self.push_note(line)
+    }
 }

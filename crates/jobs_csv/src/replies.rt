@@ -1,25 +1,18 @@
-// Writing the replies.
-ghost use Rattle.std.specs.Prelude.{◌≡◌, ◌∷◌, [], ◌++◌, ◌==◌, length, ℕ, List, IfErr, IfOk, OnOk, string_bytes, if◌then◌else◌};
-ghost use Rattle.std.specs.Io.KnownBytes.{Appends};
-ghost use Rattle.jobs_csv.specs.Fault.{IsFailure};
-ghost use Rattle.jobs_csv.specs.Output.{AddsLine, IsPlainField};
-ghost use Rattle.jobs_csv.specs.Replies.{collective_text, places_text, replies_text, reply_columns, reply_fields};
-ghost use Rattle.jobs_csv.specs.Text.{line_of, number_text};
+// The rows of the replies.
+ghost use Rattle.std.specs.Prelude.{◌≡◌, ◌∷◌, [], ◌++◌, ◌==◌, length, IfOk, OnOk, string_bytes, if◌then◌else◌};
+ghost use Rattle.jobs_csv.specs.Replies.{collective_keyword, places_text};
+ghost use Rattle.jobs_csv.specs.Text.{IsPlainField, number_text};
 
-use crate::device::Device;
-use crate::fault::{Fault, What};
-use crate::lines::Lines;
-use crate::output;
-use csv::Writer;
+use crate::row::{Row, RowFields};
 use job_types::{Kind, Reply};
 use std::alloc::{AllocError, Global};
-use std::io::Write;
+use std::fmt::Write as _;
 
-// The word of a collective.
+// The keyword of a collective.
 #[tactic(auto, using(crate::proofs::PlainLemmas::plain_collective))]
-fn kind_word(kind: Kind) -> &'static str
-    ensures text { result.now ≡ collective_text kind }
-    ensures plain { IsPlainField (collective_text kind) }
+fn kind_keyword(kind: Kind) -> &'static str
+    ensures text { result.now ≡ collective_keyword kind }
+    ensures plain { IsPlainField (collective_keyword kind) }
 {
     match kind {
         Kind::Broadcast { .. } => "broadcast",
@@ -29,88 +22,70 @@ fn kind_word(kind: Kind) -> &'static str
     }
 }
 
-// Puts what the place of a rank holds behind a text of the places before it.
-fn push_next(text: &mut String, rank: u64, place: Option<u64>) -> Result<(), AllocError>
-    ensures text { OnOk result (string_bytes text.new ≡ string_bytes text.old ++ ((if rank == 0 then [] else 32 ∷ []) ++ number_text place)) }
-    ensures plain { OnOk result (IsPlainField (number_text place)) }
+// Appends a number, or a dash for nothing.
+fn push_item(text: &mut String, item: Option<u64>) -> Result<(), AllocError>
+    ensures text { OnOk result (string_bytes text.new ≡ string_bytes text.old ++ number_text item) }
+    ensures plain { IsPlainField (number_text item) }
+{
+    match item {
+        Some(item) => return write!(text, "{item}"),
+        None => return text.push_str("-"),
+    }
+}
+
+// Appends the item at the place of a rank, with a space before it where it is not the first.
+fn push_place(text: &mut String, rank: u64, item: Option<u64>) -> Result<(), AllocError>
+    ensures text { OnOk result (string_bytes text.new ≡ string_bytes text.old ++ ((if rank == 0 then [] else 32 ∷ []) ++ number_text item)) }
+    ensures plain { OnOk result (IsPlainField (number_text item)) }
 {
     if rank > 0 {
         text.push_str(" ")?;
     }
-    output::push_number_or_dash(text, place)?;
+    push_item(text, item)?;
     Ok(())
 }
 
-// Makes a text say what the places hold in the end, by rank.
-fn set_places(text: &mut String, reply: &Reply) -> Result<(), AllocError>
-    ensures text { OnOk result (string_bytes text.new ≡ places_text (length reply.now.job.items) reply.now.job) }
-    ensures plain { OnOk result (IsPlainField (string_bytes text.new)) }
+// The items at the places in the end, by rank.
+fn places(alloc: Global, reply: &Reply) -> Result<String, AllocError>
+    ensures text { IfOk result (λ text. string_bytes text ≡ places_text (length reply.now.job.items) reply.now.job) }
+    ensures plain { IfOk result (λ text. IsPlainField (string_bytes text)) }
 {
-    text.clear();
+    let mut text = String::new(alloc);
     let ranks = reply.job().items().len() as u64;
     for rank in 0..ranks {
-        push_next(text, rank, reply.at(rank))?;
+        push_place(&mut text, rank, reply.at(rank))?;
     }
-    Ok(())
+    Ok(text)
 }
 
-/// Writes the header of the replies.
-pub fn write_header<W: Write + Drop>(writer: &mut Writer<W>) -> Result<(), AllocError>
-    ensures { OnOk result (AddsLine W.contents writer.old writer.new reply_columns) }
-{
-    let fields = [
-        b"lane".as_slice(),
-        b"seq".as_slice(),
-        b"kind".as_slice(),
-        b"dim".as_slice(),
-        b"result".as_slice(),
-        b"rounds".as_slice(),
-        b"messages".as_slice(),
-    ];
-    let Ok(()) = writer.write_fields(&fields) else {
-        return Err(AllocError);
-    };
-    Ok(())
-}
+impl Row for Reply {
+    ghost use Rattle.jobs_csv.specs.Replies.{reply_columns, reply_fields};
 
-/// Writes the line of a reply, by way of a text that it may use.
-pub fn write_reply<W: Write + Drop>(
-    reply: &Reply,
-    text: &mut String,
-    writer: &mut Writer<W>,
-) -> Result<(), AllocError>
-    ensures { OnOk result (AddsLine W.contents writer.old writer.new (reply_fields reply.now.id reply.now.job)) }
-{
-    let id = reply.id();
-    let tally = reply.tally();
-    output::write_number(writer, text, u64::from(id.lane))?;
-    output::write_number(writer, text, id.seq)?;
-    output::write_field(writer, kind_word(reply.job().kind()).as_bytes())?;
-    output::write_number(writer, text, u64::from(reply.job().dim()))?;
-    set_places(text, reply)?;
-    output::write_field(writer, text.as_bytes())?;
-    output::write_number(writer, text, u64::from(tally.rounds))?;
-    output::write_number(writer, text, tally.messages)?;
-    output::end_line(writer)
-}
+    ghost columns = { reply_columns };
 
-/// Writes the lines of these replies under their header, and lets each reply go once its line is
-/// made.
-///
-/// `Write` comes only where the writer's count of failed calls rose in this call, or stood at
-/// `u64::MAX`; every other want is `OutOfMemory`. After a fault the first lines may be out.
-pub fn write_replies<W: Write + Device>(
-    alloc: Global,
-    replies: Vec<Reply>,
-    writer: &mut W,
-) -> Result<(), Fault>
-    ensures sent { OnOk result (Appends (W.contents writer.old) (W.contents writer.new) (replies_text replies.items)) }
-    ensures failed { IfErr result (λ fault. IsFailure What.Write (W.failures writer.old) (W.failures writer.new) fault) }
-{
-    let before = writer.failures();
-    let mut lines = Lines::new(alloc)?.with_reply_header()?;
-    for reply in replies {
-        lines = lines.add_reply(reply, before, writer)?;
+    ghost fields = { reply_fields };
+
+    #[tactic(auto, using(crate::proofs::PlainLemmas::plain_text))]
+    fn push_columns(line: &mut RowFields) -> Result<(), AllocError> {
+        line.push_text(b"lane".as_slice())?;
+        line.push_text(b"seq".as_slice())?;
+        line.push_text(b"kind".as_slice())?;
+        line.push_text(b"dim".as_slice())?;
+        line.push_text(b"result".as_slice())?;
+        line.push_text(b"rounds".as_slice())?;
+        line.push_text(b"messages".as_slice())
     }
-    lines.finish(before, writer)
+
+    fn push_fields(&self, alloc: Global, line: &mut RowFields) -> Result<(), AllocError> {
+        let id = self.id();
+        let tally = self.tally();
+        let items = places(alloc, self)?;
+        line.push_number(u64::from(id.lane))?;
+        line.push_number(id.seq)?;
+        line.push_text(kind_keyword(self.job().kind()).as_bytes())?;
+        line.push_number(u64::from(self.job().dim()))?;
+        line.push_text(items.as_bytes())?;
+        line.push_number(u64::from(tally.rounds))?;
+        line.push_number(tally.messages)
+    }
 }

@@ -1,21 +1,22 @@
 // Reading a file of a schedule: calls and steps of stations.
-ghost use Rattle.std.specs.Prelude.{◌≡◌, ◌⊎◌, [], ◌∷◌, true, All, IfOk, IfErr, IfSome};
+ghost use Rattle.std.specs.Prelude.{◌≡◌, [], ◌∷◌, All, IfOk, IfErr, IfSome};
 ghost use Rattle.csv.specs.Records.{fields_of};
-ghost use Rattle.jobs_csv.specs.Fault.{IsFailure, is_refusal};
-ghost use Rattle.jobs_csv.specs.Outcome.{Tells, TellsFile};
-ghost use Rattle.jobs_csv.specs.Schedule.{HasTimes, call_of, called, schedule_header, schedule_said, scheduled};
+ghost use Rattle.jobs_csv.specs.Fault.{IsInputFault};
+ghost use Rattle.jobs_csv.specs.Inner.Parse.{ReturnsParse};
+ghost use Rattle.jobs_csv.specs.Outcome.{ReturnsFile};
+ghost use Rattle.jobs_csv.specs.Schedule.{HasValidCount, keyword_of, keyword_line, schedule_header, parse_schedule, schedule_line};
 
 use crate::columns::{self, ThreeFields};
 use crate::device::Device;
-use crate::fault::{Fault, What};
+use crate::fault::{Fault, FaultKind};
 use crate::fields;
 use crate::format::{self, Format};
 use csv::ByteRecord;
 use std::alloc::Global;
 use std::io::Read;
 
-/// How often one line of a schedule may have a station step.
-pub const MAX_TIMES: u64 = 100;
+/// The most steps of one line of a schedule.
+pub const MAX_STEPS: u64 = 100;
 
 /// One line of a schedule: a call of a station, or steps of it.
 #[derive(Clone, Copy, Debug, PartialEq, Eq)]
@@ -24,17 +25,17 @@ pub enum Line {
     Take { station: u64, node: u64 },
     /// The station begins to give its region back.
     Release { station: u64 },
-    /// The station makes so many steps, 1 to `MAX_TIMES`.
+    /// The station makes `times` steps, from 1 to `MAX_STEPS`.
     Step { station: u64, times: u64 },
-    /// The station makes steps until it rests.
+    /// The station makes steps until it is at rest.
     Run { station: u64 },
     /// The station retires.
     Retire { station: u64 },
 }
 
-// The word of a line.
+// The keyword of a line.
 #[derive(Clone, Copy)]
-enum Call {
+enum Keyword {
     Take,
     Release,
     Step,
@@ -46,65 +47,65 @@ enum Call {
 #[derive(Clone, Copy)]
 struct Schedule;
 
-// The word in a field.
-#[tactic(auto, unfolding(crate::specs::Schedule::call_of))]
-fn read_call(field: &[u8]) -> Result<Call, What>
-    ensures { Tells (λ call. call) (call_of field.now) result }
+// The keyword of a field.
+#[tactic(auto, unfolding(crate::specs::Schedule::keyword_of))]
+fn read_keyword(field: &[u8]) -> Result<Keyword, FaultKind>
+    ensures { ReturnsParse (λ keyword. keyword) (keyword_of field.now) result }
 {
     if field == b"take".as_slice() {
-        Ok(Call::Take)
+        Ok(Keyword::Take)
     } else if field == b"release".as_slice() {
-        Ok(Call::Release)
+        Ok(Keyword::Release)
     } else if field == b"step".as_slice() {
-        Ok(Call::Step)
+        Ok(Keyword::Step)
     } else if field == b"run".as_slice() {
-        Ok(Call::Run)
+        Ok(Keyword::Run)
     } else if field == b"retire".as_slice() {
-        Ok(Call::Retire)
+        Ok(Keyword::Retire)
     } else {
-        Err(What::Word)
+        Err(FaultKind::Word)
     }
 }
 
-// The line of this call of a station, with what its last field says.
-#[tactic(auto, unfolding(crate::specs::Schedule::called))]
-fn read_last(station: u64, call: Call, arg: &[u8]) -> Result<Line, What>
-    ensures told { Tells (λ line. line) (called station call arg.now) result }
-    ensures times { IfOk result (λ line. HasTimes line) }
+// The line of this keyword of a station, with its last field.
+#[tactic(auto, unfolding(crate::specs::Schedule::keyword_line))]
+fn read_last(station: u64, keyword: Keyword, arg: &[u8]) -> Result<Line, FaultKind>
+    ensures parse { ReturnsParse (λ line. line) (keyword_line station keyword arg.now) result }
+    ensures times { IfOk result (λ line. HasValidCount line) }
 {
-    match call {
-        Call::Take => {
+    match keyword {
+        Keyword::Take => {
             let node = fields::any_number(arg)?;
             return Ok(Line::Take { station, node });
         }
-        Call::Release => {
+        Keyword::Release => {
             fields::dash(arg)?;
             return Ok(Line::Release { station });
         }
-        Call::Step => {
-            let times = fields::number_within(arg, 1, MAX_TIMES)?;
+        Keyword::Step => {
+            let times = fields::number_within(arg, 1, MAX_STEPS)?;
             return Ok(Line::Step { station, times });
         }
-        Call::Run => {
+        Keyword::Run => {
             fields::dash(arg)?;
             return Ok(Line::Run { station });
         }
-        Call::Retire => {
+        Keyword::Retire => {
             fields::dash(arg)?;
             return Ok(Line::Retire { station });
         }
     }
 }
 
-// The line that three fields say.
-#[tactic(auto, unfolding(crate::specs::Schedule::scheduled))]
-fn read_fields(three: &ThreeFields<'_>) -> Result<Line, What>
-    ensures told { Tells (λ line. line) (scheduled (three.now.first.now ∷ three.now.second.now ∷ three.now.third.now ∷ [])) result }
-    ensures times { IfOk result (λ line. HasTimes line) }
+// The line of three fields.
+#[tactic(auto, unfolding(crate::specs::Schedule::schedule_line))]
+fn read_fields(three: &ThreeFields<'_>) -> Result<Line, FaultKind>
+    ensures parse { ReturnsParse (λ line. line) (schedule_line (three.now.first.now ∷ three.now.second.now ∷ three.now.third.now ∷ [])) result }
+    ensures times { IfOk result (λ line. HasValidCount line) }
 {
     let station = fields::any_number(three.first)?;
-    let call = read_call(three.second)?;
-    read_last(station, call, three.third)
+    let keyword = read_keyword(three.second)?;
+    read_last(station, keyword, three.third)
 }
 
 impl Format for Schedule {
@@ -112,11 +113,11 @@ impl Format for Schedule {
 
     ghost header_of = { schedule_header };
 
-    ghost row_of = { λ _. scheduled };
+    ghost row_of = { λ _. schedule_line };
 
-    ghost is_row = { λ _. HasTimes };
+    ghost is_row = { λ _. HasValidCount };
 
-    fn header(&self, row: &ByteRecord) -> Result<(), What> {
+    fn header(&self, row: &ByteRecord) -> Result<(), FaultKind> {
         columns::three_header(
             row,
             b"station".as_slice(),
@@ -125,10 +126,10 @@ impl Format for Schedule {
         )
     }
 
-    fn row(&self, _alloc: Global, row: &ByteRecord) -> Result<Line, What> {
+    fn row(&self, _alloc: Global, row: &ByteRecord) -> Result<Line, FaultKind> {
         match columns::three_fields(row) {
             Some(three) => read_fields(&three),
-            None => return Err(What::Fields),
+            None => return Err(FaultKind::Fields),
         }
     }
 }
@@ -136,12 +137,12 @@ impl Format for Schedule {
 /// Reads the lines of a whole schedule.
 ///
 /// A refusal is the first fault of the file. `Read` comes only where the reader's count of failed
-/// calls rose in this call, or stood at `u64::MAX`; every other want is `OutOfMemory`. At most
-/// `MAX_RECORDS + 1` records behind the header are asked for.
+/// calls rose in this call, or stood at `u64::MAX`; any other failure is `OutOfMemory`. At most
+/// `MAX_RECORDS + 1` records after the header are read.
 pub fn read_schedule<R: Read + Device>(alloc: Global, reader: &mut R) -> Result<Vec<Line>, Fault>
-    ensures told { IfSome (R.remaining reader.old) (λ bytes. TellsFile (schedule_said bytes) result) }
-    ensures times { IfOk result (λ lines. All (λ line. HasTimes line) lines.items) }
-    ensures failed { IfErr result (λ fault. (is_refusal fault.what ≡ true) ⊎ IsFailure What.Read (R.failures reader.old) (R.failures reader.new) fault) }
+    ensures parse { IfSome (R.remaining reader.old) (λ bytes. ReturnsFile (parse_schedule bytes) result) }
+    ensures times { IfOk result (λ lines. All (λ line. HasValidCount line) lines.items) }
+    ensures failed { IfErr result (λ fault. IsInputFault (R.failures reader.old) (R.failures reader.new) fault) }
 {
     format::read_list(alloc, &Schedule, reader)
 }

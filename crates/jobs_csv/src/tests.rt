@@ -1,6 +1,6 @@
-// What the files say, and how faults are told.
+// The texts of faults, fields and names, and which device a fault names.
 use crate::device::{Counted, Device};
-use crate::fault::{Fault, What};
+use crate::fault::{Fault, FaultKind};
 use crate::fields;
 use crate::name::Name;
 use job_types::JobRefused;
@@ -11,11 +11,11 @@ use std::process::Abort;
 use std::test::Fail;
 
 mod jobs;
-mod lines;
 mod place;
+mod rows;
 mod schedule;
 
-// Two texts, one behind the other.
+// Two texts joined.
 fn joined(alloc: Global, a: &[u8], b: &[u8]) -> Result<Vec<u8>, Fail> {
     let mut text = Vec::from_slice(alloc, a)?;
     text.extend_from_slice(b)?;
@@ -73,7 +73,7 @@ impl<D: Write> Write for FailsAt<D> {
 fn expect_line(
     rt: &(impl AllocGlobal + Abort),
     row: u64,
-    what: What,
+    what: FaultKind,
     status: u8,
     line: &str,
 ) -> Result<(), Fail> {
@@ -87,33 +87,33 @@ fn expect_line(
 
 #[test]
 fn prints_faults(rt: HostRuntime) -> Result<(), Fail> {
-    expect_line(&rt, 0, What::Fields, 1, "refused: record 0: Fields")?;
-    expect_line(&rt, 7, What::Number, 1, "refused: record 7: Number")?;
-    expect_line(&rt, 1, What::Word, 1, "refused: record 1: Word")?;
-    let what = What::Job(JobRefused::Empty);
+    expect_line(&rt, 0, FaultKind::Fields, 1, "refused: record 0: Fields")?;
+    expect_line(&rt, 7, FaultKind::Number, 1, "refused: record 7: Number")?;
+    expect_line(&rt, 1, FaultKind::Word, 1, "refused: record 1: Word")?;
+    let what = FaultKind::Job(JobRefused::Empty);
     expect_line(&rt, 1, what, 1, "refused: record 1: Job Empty")?;
-    let what = What::Job(JobRefused::NotPowerOfTwo);
+    let what = FaultKind::Job(JobRefused::NotPowerOfTwo);
     expect_line(&rt, 2, what, 1, "refused: record 2: Job NotPowerOfTwo")?;
-    let what = What::Job(JobRefused::TooLarge);
+    let what = FaultKind::Job(JobRefused::TooLarge);
     expect_line(&rt, 3, what, 1, "refused: record 3: Job TooLarge")?;
-    let what = What::Job(JobRefused::BadRoot);
+    let what = FaultKind::Job(JobRefused::BadRoot);
     expect_line(&rt, 4, what, 1, "refused: record 4: Job BadRoot")?;
     let line = "refused: record 1000001: TooMany";
-    expect_line(&rt, 1_000_001, What::TooMany, 1, line)?;
-    expect_line(&rt, 0, What::Read, 3, "failed: record 0: Read")?;
-    expect_line(&rt, 0, What::Write, 3, "failed: record 0: Write")?;
+    expect_line(&rt, 1_000_001, FaultKind::TooMany, 1, line)?;
+    expect_line(&rt, 0, FaultKind::Read, 3, "failed: record 0: Read")?;
+    expect_line(&rt, 0, FaultKind::Write, 3, "failed: record 0: Write")?;
     let line = "failed: record 0: OutOfMemory";
-    expect_line(&rt, 0, What::OutOfMemory, 3, line)?;
-    expect_line(&rt, 0, What::Spent, 3, "failed: record 0: Spent")
+    expect_line(&rt, 0, FaultKind::OutOfMemory, 3, line)?;
+    expect_line(&rt, 0, FaultKind::Spent, 3, "failed: record 0: Spent")
 }
 
 #[test]
 fn blames_devices(rt: HostRuntime) -> Result<(), Fail> {
     let row = 0;
-    let what = What::Read;
-    assert!(rt; Fault::blamed(what, 3, 4) == Fault { row, what });
-    assert!(rt; Fault::blamed(what, 3, 3) == Fault::no_memory());
-    assert!(rt; Fault::blamed(what, u64::MAX, u64::MAX) == Fault { row, what });
+    let what = FaultKind::Read;
+    assert!(rt; Fault::attribute(what, 3, 4) == Fault { row, what });
+    assert!(rt; Fault::attribute(what, 3, 3) == Fault::no_memory());
+    assert!(rt; Fault::attribute(what, u64::MAX, u64::MAX) == Fault { row, what });
     Ok(())
 }
 
@@ -147,9 +147,9 @@ fn reads_fields(rt: HostRuntime) -> Result<(), Fail> {
     assert!(rt; fields::number(b"18446744073709551616") == None);
     assert!(rt; fields::number(b"") == None && fields::number(b"01") == None);
     assert!(rt; fields::number_within(b"3", 1, 3) == Ok(3));
-    assert!(rt; fields::number_within(b"4", 1, 3) == Err(What::Number));
-    assert!(rt; fields::number_within(b"0", 1, 3) == Err(What::Number));
-    assert!(rt; fields::dash(b"-") == Ok(()) && fields::dash(b"0") == Err(What::Word));
+    assert!(rt; fields::number_within(b"4", 1, 3) == Err(FaultKind::Number));
+    assert!(rt; fields::number_within(b"0", 1, 3) == Err(FaultKind::Number));
+    assert!(rt; fields::dash(b"-") == Ok(()) && fields::dash(b"0") == Err(FaultKind::Word));
     Ok(())
 }
 

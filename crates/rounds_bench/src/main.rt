@@ -1,6 +1,6 @@
 //! Repeats one collective on `2^DIM` places, so that it can be timed:
-//! `rounds_bench COLLECTIVE DIM TIMES`. The collective is `broadcast`, `reduce`, `allreduce` or `scan`,
-//! of sums; its root is the last place.
+//! `rounds_bench COLLECTIVE DIM TIMES`. The collective is `broadcast`, `reduce`, `allreduce` or
+//! `scan`, of sums; its root is the last place.
 //!
 //! It prints a number that all places determine in the end.
 #![tactic(auto)]
@@ -13,7 +13,7 @@ use std::io;
 use std::process::ExitCode;
 use std::rt::Env;
 
-// The greatest dimension that can be asked for.
+// The largest dimension of a run.
 const MAX_DIM: u32 = 20;
 
 // A number that all places determine.
@@ -44,7 +44,7 @@ fn run(shape: Shape, dim: u32, items: &mut [Add], scratch: &mut [Add])
     };
 }
 
-// Puts its rank at each place.
+// Puts its rank at each rank's place.
 fn number(items: &mut [Add])
     requires values { All (λ item. item.0 < 2 ^ 64) items.old }
     ensures places { length items.new ≡ length items.old }
@@ -55,7 +55,7 @@ fn number(items: &mut [Add])
     }
 }
 
-// Runs a collective so many times, each on what the one before it left.
+// Runs a collective `times` times, each run on the items that the run before it left.
 fn repeat(shape: Shape, dim: u32, times: u64, items: &mut [Add], scratch: &mut [Add])
     requires dim { dim ≤ MAX_DIM }
     requires places { length items.old ≡ 2 ^ dim }
@@ -67,19 +67,7 @@ fn repeat(shape: Shape, dim: u32, times: u64, items: &mut [Add], scratch: &mut [
     }
 }
 
-// What a collective leaves of the numbers from 0 on, after so many times.
-fn repeated(alloc: Global, shape: Shape, dim: u32, times: u64) -> Result<u64, AllocError>
-    requires { dim ≤ MAX_DIM }
-{
-    let places = 1usize << dim;
-    let mut items = vec![in alloc; Add(0); places]?;
-    let mut scratch = vec![in alloc; Add(0); places]?;
-    number(&mut items);
-    repeat(shape, dim, times, &mut items, &mut scratch);
-    Ok(digest(&items))
-}
-
-// The collective of this name.
+// The shape of the collective of this name.
 fn shape_named(name: &str) -> Option<Shape> {
     match name {
         "broadcast" => Some(Shape::Broadcast),
@@ -90,44 +78,57 @@ fn shape_named(name: &str) -> Option<Shape> {
     }
 }
 
-// The words of the command line, from the program's name on.
-fn words<R: Env + AllocGlobal>(rt: &R) -> io::Result<Vec<String>> {
-    let words = std::env::args(rt)?.collect(rt.alloc())?;
-    Ok(words)
+// The arguments of the command line, from the program's name on.
+fn arguments<R: Env + AllocGlobal>(rt: &R) -> io::Result<Vec<String>> {
+    let arguments = std::env::args(rt)?.collect(rt.alloc())?;
+    Ok(arguments)
 }
 
-// What is asked for.
+// The run that the arguments ask for.
 #[derive(Clone, Copy)]
-struct Asked {
+struct Invocation {
     shape: Shape,
     dim: u32,
     times: u64,
 }
 
-// The collective, the dimension and the number of times that are asked for.
-fn read_words(words: &[String]) -> Option<Asked>
-    ensures { IfSome result (λ asked. asked.dim ≤ MAX_DIM) }
+// The run that the arguments ask for, if they are well formed.
+fn parse_arguments(arguments: &[String]) -> Option<Invocation>
+    ensures { IfSome result (λ invocation. invocation.dim ≤ MAX_DIM) }
 {
-    if words.len() != 4 {
+    if arguments.len() != 4 {
         return None;
     }
-    let shape = shape_named(&words[1])?;
-    let dim = words[2].parse::<u32>().ok()?;
-    let times = words[3].parse::<u64>().ok()?;
+    let shape = shape_named(&arguments[1])?;
+    let dim = arguments[2].parse::<u32>().ok()?;
+    let times = arguments[3].parse::<u64>().ok()?;
     if dim > MAX_DIM {
         return None;
     }
-    Some(Asked { shape, dim, times })
+    Some(Invocation { shape, dim, times })
+}
+
+// The digest of the items after `times` runs of a collective, from the ranks as the first items.
+fn digest_after(alloc: Global, invocation: Invocation) -> Result<u64, AllocError>
+    requires { invocation.dim ≤ MAX_DIM }
+{
+    let Invocation { shape, dim, times } = invocation;
+    let places = 1usize << dim;
+    let mut items = vec![in alloc; Add(0); places]?;
+    let mut scratch = vec![in alloc; Add(0); places]?;
+    number(&mut items);
+    repeat(shape, dim, times, &mut items, &mut scratch);
+    Ok(digest(&items))
 }
 
 fn main(rt: HostRuntime) -> ExitCode {
-    let Ok(words) = words(&rt) else {
+    let Ok(arguments) = arguments(&rt) else {
         return ExitCode::from(3);
     };
-    let Some(asked) = read_words(&words) else {
+    let Some(invocation) = parse_arguments(&arguments) else {
         return ExitCode::from(2);
     };
-    let Ok(digest) = repeated(rt.alloc(), asked.shape, asked.dim, asked.times) else {
+    let Ok(digest) = digest_after(rt.alloc(), invocation) else {
         return ExitCode::from(3);
     };
     match rt.println(digest) {

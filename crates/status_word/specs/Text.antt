@@ -12,7 +12,8 @@ text_if w bit text = if bit_at w bit == 1 then text else []
 
 -- `O`, `L` and `R` for the bits of use that are set, or a dash for none
 abbrev pub use_text : ℕ → List ℕ
-use_text w = if use_of w == 0 then codes "-" else text_if w 0 (codes "O") ++ text_if w 1 (codes "L") ++ text_if w 2 (codes "R")
+use_text w = if use_of w == 0 then codes "-"
+    else text_if w 0 (codes "O") ++ text_if w 1 (codes "L") ++ text_if w 2 (codes "R")
 
 -- a plus sign and the station's number, if its mark stands
 abbrev pub mark_text : ℕ → ℕ → List ℕ

@@ -9,8 +9,9 @@
 mod use_bits;
 mod word;
 
+pub use cube_shape::{MAX_STATIONS, Side};
 pub use use_bits::UseBits;
-pub use word::Word;
+pub use word::{Word, flags_are_the_bits_of_use};
 
 #[cfg(test)]
 mod tests;

@@ -43,6 +43,9 @@ fn changes_of_bits(rt: HostRuntime) {
     assert_eq!(rt; Word(4).with_side(Side::Left), Word(6));
     assert_eq!(rt; Word(519).without_marks(), Word(7));
     assert_eq!(rt; Word(2).mark(1), Word(514));
+    assert_eq!(rt; Word(514).mark(1), Word(514));
+    assert_eq!(rt; Word::mark_mask(3), Word(2048));
+    assert_eq!(rt; Word::side_mask(Side::Right), Word(4));
     assert_eq!(rt; Word(6 + 256).cleared(true, false), Word(4));
     assert_eq!(rt; Word(6 + 256).cleared(false, true), Word(2));
     assert_eq!(rt; Word(6 + 256).cleared(true, true), Word(0));

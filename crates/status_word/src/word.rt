@@ -1,5 +1,7 @@
 ghost use Rattle.std.specs.Prelude.{◌≡◌, ℕ, ◌^◌, ◌<◌, ◌↔◌, ◌++◌, false, IsTrue, IfOk, OnOk, string_bytes};
 ghost use Rattle.status_word.specs.Word.{HasSide, IsFree, IsMarked, IsOccupied, IsSet, SameElsewhere, cleared as cleared_word, mark_bit, side_bit, use_of, with_mark, with_side as word_with_side};
+ghost use Rattle.status_word.specs.declared.word.TheConstants.Word.{BUSY};
+ghost use Rattle.status_word.specs.declared.use_bits.TheConstants.UseBits.{LEFT, OCC, RIGHT};
 ghost use Rattle.status_word.specs.Text.{mark_text, use_text, word_text};
 
 use crate::use_bits::UseBits;
@@ -18,6 +20,26 @@ const FIRST_MARK: u32 = 8;
 impl Word {
     /// The word of a node that is given out as a whole: OCC and both sides, and no mark.
     pub const BUSY: Word = Word(7);
+
+    /// The word that has the mark of a station and no other bit.
+    pub fn mark_mask(station: u32) -> Word
+        requires { station < MAX_STATIONS }
+        ensures value { result.0 ≡ 2 ^ mark_bit station }
+        ensures alone { (bit : ℕ) → IsSet result.0 bit ↔ (bit ≡ mark_bit station) }
+    {
+        Word(1 << (FIRST_MARK + station))
+    }
+
+    /// The word that has the bit of a side and no other.
+    pub fn side_mask(side: Side) -> Word
+        ensures value { result.0 ≡ 2 ^ side_bit side }
+        ensures alone { (bit : ℕ) → IsSet result.0 bit ↔ (bit ≡ side_bit side) }
+    {
+        match side {
+            Side::Left => Word(2),
+            Side::Right => Word(4),
+        }
+    }
 
     /// What the word says of its region.
     pub fn use_bits(self) -> UseBits
@@ -64,10 +86,7 @@ impl Word {
         ensures has { HasSide side result.0 }
         ensures others { SameElsewhere (side_bit side) self.0 result.0 }
     {
-        match side {
-            Side::Left => Word(self.0 | 2),
-            Side::Right => Word(self.0 | 4),
-        }
+        Word(self.0 | Word::side_mask(side).0)
     }
 
     /// The word with no mark.
@@ -85,15 +104,17 @@ impl Word {
         ensures has { IsMarked station result.0 }
         ensures others { SameElsewhere (mark_bit station) self.0 result.0 }
     {
-        Word(self.0 | 1 << (FIRST_MARK + station))
+        Word(self.0 | Word::mark_mask(station).0)
     }
 
     /// The word without its marks, and without each side whose child was seen free.
     pub fn cleared(self, left_free: bool, right_free: bool) -> Word
         ensures value { result.0 ≡ cleared_word self.0 left_free right_free }
         ensures occupied { IsOccupied result.0 ↔ IsOccupied self.0 }
-        ensures left { HasSide Side.Left result.0 ↔ (HasSide Side.Left self.0 × (left_free ≡ false)) }
-        ensures right { HasSide Side.Right result.0 ↔ (HasSide Side.Right self.0 × (right_free ≡ false)) }
+        ensures left { HasSide Side.Left result.0 ↔ (HasSide Side.Left self.0
+            × (left_free ≡ false)) }
+        ensures right { HasSide Side.Right result.0 ↔ (HasSide Side.Right self.0
+            × (right_free ≡ false)) }
         ensures unmarked { (station : ℕ) → IsMarked station result.0 → ⊥ }
     {
         match (left_free, right_free) {
@@ -139,7 +160,8 @@ impl Word {
     // Adds a plus sign and the number of a station, if its mark stands.
     fn push_mark(self, text: &mut String, station: u32) -> Result<(), AllocError>
         requires { station < MAX_STATIONS }
-        ensures { OnOk result (string_bytes text.new ≡ string_bytes text.old ++ mark_text self.0 station) }
+        ensures { OnOk result (string_bytes text.new
+            ≡ string_bytes text.old ++ mark_text self.0 station) }
     {
         if self.is_marked(station) {
             write!(text, "+{station}")?;
@@ -147,3 +169,14 @@ impl Word {
         Ok(())
     }
 }
+
+/// The word of a node that is given out has OCC and both sides and no mark, and each flag of
+/// `UseBits` is the bit of its name.
+pub fn flags_are_the_bits_of_use()
+    ensures occupied { IsOccupied BUSY.0 }
+    ensures sides { (side : Side) → HasSide side BUSY.0 }
+    ensures unmarked { (station : ℕ) → IsMarked station BUSY.0 → ⊥ }
+    ensures occ { ⟦<UseBits as Flags>⟧.set_of OCC ≡ 2 ^ 0 }
+    ensures left { ⟦<UseBits as Flags>⟧.set_of LEFT ≡ 2 ^ side_bit Side.Left }
+    ensures right { ⟦<UseBits as Flags>⟧.set_of RIGHT ≡ 2 ^ side_bit Side.Right }
+{}

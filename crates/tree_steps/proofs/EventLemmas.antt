@@ -12,6 +12,7 @@ use Rattle.cube_shape.specs.Node.{IsInCube, OnPath, child_of, child_towards}
 use Rattle.status_word.specs.Word.{side_bit, mark_bit, with_side, with_mark, cleared}
 use Rattle.cube_core.specs.declared.act.Act.{Act}
 use Rattle.cube_core.specs.declared.act.Act.TheVariants.{Take, Release, Step, Retire}
+use Rattle.cube_core.specs.declared.event.Event.{Event}
 use Rattle.cube_core.specs.declared.event.Kind.{Kind}
 use Rattle.cube_core.specs.declared.event.Kind.TheVariants.{Look, Claim, Raise}
 use Rattle.cube_core.specs.declared.event.Note.{Note}
@@ -21,7 +22,7 @@ use Rattle.cube_core.specs.declared.phase.Phase.TheVariants.{Idle, Looking, Look
 use Rattle.cube_core.specs.declared.phase.Seen.{Seen}
 use Rattle.cube_core.specs.declared.phase.Seen.TheVariants as seen
 use Rattle.cube_core.specs.Phase.{side_of, is_seen_free}
-use Rattle.cube_core.specs.Event.{Transition, transition, retirement, zero_event, single_event, busy, is_free, is_occupied, note_after_raise}
+use Rattle.cube_core.specs.Event.{Transition, transition, retirement, zero_event, busy, is_free, is_occupied, note_after_raise}
 use Rattle.cube_core.specs.Schedule.{AreOneEvent, step_refusal}
 use Rattle.cube_core.proofs.OneEventLemmas.{step_is_event, take_is_event, release_is_event, retire_is_event}
 use Rattle.cube_core.proofs.RunningLemmas.{step_at as event_is, clears}
@@ -124,6 +125,10 @@ either-cond true x y = refl
 either-cond false x y = refl
 
 -- ---- the event that answers
+
+-- one event, as a list
+abbrev single_event : ℕ → Kind → ℕ → ℕ → Note → List Event
+single_event station kind node word note = record { station = station; kind = kind; node = node; word = word; note = note } ∷ []
 
 -- the only new event of a step
 pub answers : {m new : Known} {p : Phase} → IsAt m p → (found : ℕ) → new ≡ step_at found m → (kind : Kind) (node word : ℕ) (note : Note) → (transition (first_of m).station p).events found ≡ single_event (first_of m).station kind node word note → Answered kind node note (first_of m) (first_of new)

@@ -1,4 +1,4 @@
-//! Short schedules in which a wrong step would do harm, event by event, with what the right one does.
+//! Short schedules in which a wrong step would do harm, with what the right one does.
 
 use crate::tests::{Row, follows};
 use crate::{Kind, Note, World};

@@ -1,5 +1,8 @@
-ghost use Rattle.std.specs.Prelude.{◌≡◌, ◌^◌, ◌≤◌, length};
+//! Jobs that are answered, refused, and short of memory; the results are worked out by hand.
+
+ghost use Rattle.std.specs.Prelude.{◌≡◌, ◌≤◌, length};
 ghost use Rattle.cube_shape.specs.Region.{IsAligned};
+ghost use Rattle.job_types.specs.Dim.{dim_of};
 
 use super::*;
 use crate::kind::Op;
@@ -11,10 +14,10 @@ const SUM: Kind = Kind::AllReduce { op: Op::Add };
 
 const ID: JobId = JobId { lane: 3, seq: 40 };
 
-/// The first region that has a processor for each item of the job.
+// The first region that has a processor for each item of the job.
 fn first_region(job: &Job) -> Region
     ensures aligned { IsAligned job.now.machine result }
-    ensures dimension { 2 ^ result.dim ≡ length job.now.items }
+    ensures dimension { result.dim ≡ dim_of (length job.now.items) }
 {
     Region {
         base: 0,
@@ -22,7 +25,7 @@ fn first_region(job: &Job) -> Region
     }
 }
 
-/// The reply to a job of this kind on these items, on a machine of dimension `n`.
+// The reply to a job of this kind on these items, on a machine of dimension `n`.
 fn reply_to(alloc: Global, n: u32, kind: Kind, items: &[u64]) -> Result<Reply, Fail>
     requires { n ≤ MAX_DIM }
 {
@@ -36,8 +39,8 @@ fn reply_to(alloc: Global, n: u32, kind: Kind, items: &[u64]) -> Result<Reply, F
     }
 }
 
-/// Answers a job of this kind on these items, on a machine of dimension `n`, and looks at each place of
-/// the reply, past the last one, and at the tally.
+// Answers a job of this kind on these items, on a machine of dimension `n`, and checks each place
+// of the reply, two past the last one, and the tally.
 fn check_reply(
     rt: &impl Abort,
     alloc: Global,
@@ -159,6 +162,69 @@ fn broadcasts_from_the_root(rt: HostRuntime) -> Result<(), Fail> {
     )
 }
 
+// Answers a job of this kind on the items 0 to 1023, on the largest machine, and checks the places
+// of these ranks and the tally.
+fn check_largest(
+    rt: &impl Abort,
+    alloc: Global,
+    kind: Kind,
+    places: &[(u64, Option<u64>)],
+    messages: u64,
+) -> Result<(), Fail> {
+    let mut items = Vec::with_capacity(alloc, 1024)?;
+    for item in 0..1024 {
+        items.push(item)?;
+    }
+    let reply = reply_to(alloc, MAX_DIM, kind, &items)?;
+    for (rank, held) in places {
+        assert_eq!(rt; reply.at(*rank), *held, "place {rank} of {kind:?}");
+    }
+    let tally = Tally {
+        rounds: 10,
+        messages,
+    };
+    assert_eq!(rt; reply.tally(), tally, "of {kind:?}");
+    Ok(())
+}
+
+// The items 0 to r add up to r * (r + 1) / 2.
+#[test]
+fn answers_the_largest_jobs(rt: HostRuntime) -> Result<(), Fail> {
+    let op = Op::Add;
+    let cases: [(Kind, &[(u64, Option<u64>)], u64); 4] = [
+        (
+            Kind::Broadcast { root: 700 },
+            &[(0, Some(700)), (1023, Some(700)), (1024, None)],
+            1023,
+        ),
+        (
+            Kind::Reduce { op, root: 1023 },
+            &[(0, None), (1023, Some(523_776)), (1024, None)],
+            1023,
+        ),
+        (
+            Kind::AllReduce { op },
+            &[(0, Some(523_776)), (1023, Some(523_776)), (1024, None)],
+            10_240,
+        ),
+        (
+            Kind::Scan { op },
+            &[
+                (0, Some(0)),
+                (511, Some(130_816)),
+                (512, Some(131_328)),
+                (1023, Some(523_776)),
+                (1024, None),
+            ],
+            10_240,
+        ),
+    ];
+    for (kind, places, messages) in cases {
+        check_largest(&rt, rt.alloc(), kind, places, messages)?;
+    }
+    Ok(())
+}
+
 #[test]
 fn joins_the_bits_that_differ(rt: HostRuntime) -> Result<(), Fail> {
     let differing = Kind::AllReduce { op: Op::Xor };
@@ -238,8 +304,8 @@ fn a_refusal_gives_the_items_back(rt: HostRuntime) -> Result<(), Fail> {
     Ok(())
 }
 
-/// With enough memory there is a job, and it is answered. Where some of its room is refused, the items
-/// come back.
+// With enough memory there is a job, and it is answered. Where its workspace is refused, the items
+// come back.
 #[test]
 fn without_memory_the_items_come_back(rt: HostRuntime) -> Result<(), Fail> {
     let items = Vec::from_slice(rt.alloc(), &[1, 2])?;

@@ -2,7 +2,7 @@
 use super::{FailsAt, joined};
 use crate::place::place_on;
 use cube_shape::{MAX_DIM, MAX_STATIONS};
-use jobs_csv::{Counted, Device, Fault, What};
+use jobs_csv::{Counted, Device, Fault, FaultKind};
 use std::process::Abort;
 use std::test::Fail;
 
@@ -58,8 +58,8 @@ fn holds_a_name_once(rt: HostRuntime) -> Result<(), Fail> {
     expect_rows(&rt, 1, commands, rows)
 }
 
-// As many names as there are stations hold a region; the next is told so, though no subcube of its
-// dimension is free, and a name that holds one already is told that.
+// Each station holds a region. The next name gets `nostation`, though no subcube of its dimension is
+// free, and a name that holds one gets `held`.
 #[test]
 fn runs_out_of_stations(rt: HostRuntime) -> Result<(), Fail> {
     let mut commands = String::new(rt.alloc());
@@ -92,7 +92,7 @@ fn expect_refusal(
     rt: &(impl AllocGlobal + Abort),
     input: &[u8],
     row: u64,
-    what: What,
+    what: FaultKind,
 ) -> Result<(), Fail> {
     let mut reader = Counted::new(input);
     let mut writer = Counted::new(Vec::new(rt.alloc()));
@@ -107,20 +107,20 @@ fn expect_refusal(
 
 #[test]
 fn refuses_files(rt: HostRuntime) -> Result<(), Fail> {
-    expect_refusal(&rt, b"", 0, What::Fields)?;
-    expect_refusal(&rt, b"command,name,dims\n", 0, What::Word)?;
+    expect_refusal(&rt, b"", 0, FaultKind::Fields)?;
+    expect_refusal(&rt, b"command,name,dims\n", 0, FaultKind::Word)?;
     let input = b"command,name,dim\ntake,a,1\ntake,b,4\n";
-    expect_refusal(&rt, input, 2, What::Number)?;
+    expect_refusal(&rt, input, 2, FaultKind::Number)?;
     let input = b"command,name,dim\nfree,a,0\n";
-    expect_refusal(&rt, input, 1, What::Word)
+    expect_refusal(&rt, input, 1, FaultKind::Word)
 }
 
 const GOOD: &[u8] = b"command,name,dim\ntake,a,1\ntake,b,0\nfree,a,-\n";
 
 #[test]
-fn tells_a_failed_read(rt: HostRuntime) -> Result<(), Fail> {
+fn reports_a_failed_read(rt: HostRuntime) -> Result<(), Fail> {
     let row = 0;
-    let what = What::Read;
+    let what = FaultKind::Read;
     for calls in 0..1000 {
         let mut reader = Counted::new(FailsAt::new(GOOD, calls));
         let mut writer = Counted::new(Vec::new(rt.alloc()));
@@ -137,9 +137,9 @@ fn tells_a_failed_read(rt: HostRuntime) -> Result<(), Fail> {
 }
 
 #[test]
-fn tells_a_failed_write(rt: HostRuntime) -> Result<(), Fail> {
+fn reports_a_failed_write(rt: HostRuntime) -> Result<(), Fail> {
     let row = 0;
-    let what = What::Write;
+    let what = FaultKind::Write;
     for calls in 0..1000 {
         let mut reader = Counted::new(GOOD);
         let mut writer = Counted::new(FailsAt::new(Vec::new(rt.alloc()), calls));

@@ -2,7 +2,7 @@
 use super::{FailsAt, joined};
 use crate::replay::replay_on;
 use cube_shape::{MAX_DIM, MAX_STATIONS};
-use jobs_csv::{Counted, Device, Fault, What};
+use jobs_csv::{Counted, Device, Fault, FaultKind};
 use std::process::Abort;
 use std::test::Fail;
 
@@ -140,7 +140,7 @@ fn expect_refusal(
     rt: &(impl AllocGlobal + Abort),
     input: &[u8],
     row: u64,
-    what: What,
+    what: FaultKind,
 ) -> Result<(), Fail> {
     let mut reader = Counted::new(input);
     let mut writer = Counted::new(Vec::new(rt.alloc()));
@@ -155,20 +155,20 @@ fn expect_refusal(
 
 #[test]
 fn refuses_schedules(rt: HostRuntime) -> Result<(), Fail> {
-    expect_refusal(&rt, b"", 0, What::Fields)?;
-    expect_refusal(&rt, b"station,call,args\n", 0, What::Word)?;
+    expect_refusal(&rt, b"", 0, FaultKind::Fields)?;
+    expect_refusal(&rt, b"station,call,args\n", 0, FaultKind::Word)?;
     let input = b"station,call,arg\n0,run,-\n0,step,101\n";
-    expect_refusal(&rt, input, 2, What::Number)?;
+    expect_refusal(&rt, input, 2, FaultKind::Number)?;
     let input = b"station,call,arg\n0,run,1\n";
-    expect_refusal(&rt, input, 1, What::Word)
+    expect_refusal(&rt, input, 1, FaultKind::Word)
 }
 
 const GOOD: &[u8] = b"station,call,arg\n0,take,1\n0,run,-\n";
 
 #[test]
-fn tells_a_failed_read(rt: HostRuntime) -> Result<(), Fail> {
+fn reports_a_failed_read(rt: HostRuntime) -> Result<(), Fail> {
     let row = 0;
-    let what = What::Read;
+    let what = FaultKind::Read;
     for calls in 0..1000 {
         let mut reader = Counted::new(FailsAt::new(GOOD, calls));
         let mut writer = Counted::new(Vec::new(rt.alloc()));
@@ -185,9 +185,9 @@ fn tells_a_failed_read(rt: HostRuntime) -> Result<(), Fail> {
 }
 
 #[test]
-fn tells_a_failed_write(rt: HostRuntime) -> Result<(), Fail> {
+fn reports_a_failed_write(rt: HostRuntime) -> Result<(), Fail> {
     let row = 0;
-    let what = What::Write;
+    let what = FaultKind::Write;
     for calls in 0..1000 {
         let mut reader = Counted::new(GOOD);
         let mut writer = Counted::new(FailsAt::new(Vec::new(rt.alloc()), calls));

@@ -1,9 +1,9 @@
 // Files of jobs, and replies.
 use super::{FailsAt, joined};
 use crate::device::{Counted, Device};
-use crate::fault::{Fault, What};
+use crate::fault::{Fault, FaultKind};
 use crate::jobs::{read_jobs, read_lanes};
-use crate::replies::write_replies;
+use crate::line_buffer::write_rows;
 use cube_shape::{MAX_DIM, Region};
 use job_types::{Job, JobId, JobRefused, Kind, Op, Reply};
 use std::process::Abort;
@@ -18,7 +18,7 @@ fn expect_refusal(
     rt: &(impl AllocGlobal + Abort),
     input: &[u8],
     row: u64,
-    what: What,
+    what: FaultKind,
 ) -> Result<(), Fail> {
     let mut reader = Counted::new(input);
     match read_jobs(rt.alloc(), 3, &mut reader) {
@@ -58,7 +58,7 @@ fn expect_replies(
         replies.push(answered(job, 0))?;
     }
     let mut writer = Counted::new(Vec::new(rt.alloc()));
-    let answer = write_replies(rt.alloc(), replies, &mut writer);
+    let answer = write_rows(rt.alloc(), replies, &mut writer);
     assert!(rt; answer == Ok(()), "at {records}");
     assert!(rt;
         writer.get_ref().as_slice() == wanted.as_slice(),
@@ -118,7 +118,7 @@ fn reads_lanes(rt: HostRuntime) -> Result<(), Fail> {
     }
     let mut reader = Counted::new(b"lane,kind\n".as_slice());
     let answer = read_lanes(rt.alloc(), 3, &mut reader);
-    assert!(rt; answer.err().map(|fault| fault.what) == Some(What::Fields));
+    assert!(rt; answer.err().map(|fault| fault.what) == Some(FaultKind::Fields));
     Ok(())
 }
 
@@ -193,17 +193,17 @@ fn reads_what_csv_reads(rt: HostRuntime) -> Result<(), Fail> {
 
 #[test]
 fn refuses_headers(rt: HostRuntime) -> Result<(), Fail> {
-    let inputs: [(&[u8], What); 8] = [
-        (b"", What::Fields),
-        (b"\n\n", What::Fields),
-        (b"lane,kind,op,root\n", What::Fields),
-        (b"lane,kind,op,root,items,more\n", What::Fields),
-        (b"lane,kind,op,root,item\n", What::Word),
-        (b"Lane,kind,op,root,items\n", What::Word),
-        (b"lane,kind,op,root, items\n", What::Word),
+    let inputs: [(&[u8], FaultKind); 8] = [
+        (b"", FaultKind::Fields),
+        (b"\n\n", FaultKind::Fields),
+        (b"lane,kind,op,root\n", FaultKind::Fields),
+        (b"lane,kind,op,root,items,more\n", FaultKind::Fields),
+        (b"lane,kind,op,root,item\n", FaultKind::Word),
+        (b"Lane,kind,op,root,items\n", FaultKind::Word),
+        (b"lane,kind,op,root, items\n", FaultKind::Word),
         (
             b"\xEF\xBB\xBF\xEF\xBB\xBFlane,kind,op,root,items\n",
-            What::Word,
+            FaultKind::Word,
         ),
     ];
     for (input, what) in inputs.as_slice() {
@@ -214,75 +214,87 @@ fn refuses_headers(rt: HostRuntime) -> Result<(), Fail> {
 
 #[test]
 fn refuses_records(rt: HostRuntime) -> Result<(), Fail> {
-    let records: [(&[u8], What); 51] = [
-        (b"0,allreduce,add,0\n", What::Fields),
-        (b"0,allreduce,add,0,1,2\n", What::Fields),
-        (b" \n", What::Fields),
-        (b"\"\"\n", What::Fields),
-        (b"16,allreduce,add,0,4\n", What::Number),
-        (b"4294967296,allreduce,add,0,4\n", What::Number),
-        (b",allreduce,add,0,4\n", What::Number),
-        (b"00,allreduce,add,0,4\n", What::Number),
-        (b"+1,allreduce,add,0,4\n", What::Number),
-        (b" 1,allreduce,add,0,4\n", What::Number),
-        (b"0x1,allreduce,add,0,4\n", What::Number),
-        (b"16,scan,add,0,4\n", What::Number),
-        (b"0,gather,add,0,4\n", What::Word),
-        (b"0,Scan,add,0,4\n", What::Word),
-        (b"0,scan,plus,0,4\n", What::Word),
-        (b"0,scan,-,0,4\n", What::Word),
-        (b"0,allreduce,plus,0,4\n", What::Word),
-        (b"0,reduce,-,0,1\n", What::Word),
-        (b"0,reduce,,0,4\n", What::Word),
-        (b"0,broadcast,add,0,1\n", What::Word),
-        (b"0,broadcast,add,0,4\n", What::Word),
-        (b"0,broadcast,,0,4\n", What::Word),
-        (b"0,broadcast,-,-,4\n", What::Number),
-        (b"0,,add,0,4\n", What::Word),
-        (b"0,allreduce ,add,0,4\n", What::Word),
-        (b"0,\xFF,add,0,4\n", What::Word),
-        (b"0,allreduce,-,x,4\n", What::Word),
-        (b"0,allreduce,add,00,1\n", What::Number),
-        (b"0,allreduce,add,,1\n", What::Number),
-        (b"0,allreduce,add,-1,1\n", What::Number),
-        (b"0,allreduce,add,1,1 x\n", What::Number),
-        (b"0,allreduce,add,0,1  2\n", What::Number),
-        (b"0,allreduce,add,0, 1 2\n", What::Number),
-        (b"0,allreduce,add,0, \n", What::Number),
-        (b"0,allreduce,add,0,1 02\n", What::Number),
-        (b"0,allreduce,add,0,18446744073709551616\n", What::Number),
-        (b"0,broadcast,-,1,\n", What::Job(JobRefused::Empty)),
-        (b"0,broadcast,-,9,\n", What::Job(JobRefused::Empty)),
-        (b"0,allreduce,add,0,\n", What::Job(JobRefused::Empty)),
+    let records: [(&[u8], FaultKind); 51] = [
+        (b"0,allreduce,add,0\n", FaultKind::Fields),
+        (b"0,allreduce,add,0,1,2\n", FaultKind::Fields),
+        (b" \n", FaultKind::Fields),
+        (b"\"\"\n", FaultKind::Fields),
+        (b"16,allreduce,add,0,4\n", FaultKind::Number),
+        (b"4294967296,allreduce,add,0,4\n", FaultKind::Number),
+        (b",allreduce,add,0,4\n", FaultKind::Number),
+        (b"00,allreduce,add,0,4\n", FaultKind::Number),
+        (b"+1,allreduce,add,0,4\n", FaultKind::Number),
+        (b" 1,allreduce,add,0,4\n", FaultKind::Number),
+        (b"0x1,allreduce,add,0,4\n", FaultKind::Number),
+        (b"16,scan,add,0,4\n", FaultKind::Number),
+        (b"0,gather,add,0,4\n", FaultKind::Word),
+        (b"0,Scan,add,0,4\n", FaultKind::Word),
+        (b"0,scan,plus,0,4\n", FaultKind::Word),
+        (b"0,scan,-,0,4\n", FaultKind::Word),
+        (b"0,allreduce,plus,0,4\n", FaultKind::Word),
+        (b"0,reduce,-,0,1\n", FaultKind::Word),
+        (b"0,reduce,,0,4\n", FaultKind::Word),
+        (b"0,broadcast,add,0,1\n", FaultKind::Word),
+        (b"0,broadcast,add,0,4\n", FaultKind::Word),
+        (b"0,broadcast,,0,4\n", FaultKind::Word),
+        (b"0,broadcast,-,-,4\n", FaultKind::Number),
+        (b"0,,add,0,4\n", FaultKind::Word),
+        (b"0,allreduce ,add,0,4\n", FaultKind::Word),
+        (b"0,\xFF,add,0,4\n", FaultKind::Word),
+        (b"0,allreduce,-,x,4\n", FaultKind::Word),
+        (b"0,allreduce,add,00,1\n", FaultKind::Number),
+        (b"0,allreduce,add,,1\n", FaultKind::Number),
+        (b"0,allreduce,add,-1,1\n", FaultKind::Number),
+        (b"0,allreduce,add,1,1 x\n", FaultKind::Number),
+        (b"0,allreduce,add,0,1  2\n", FaultKind::Number),
+        (b"0,allreduce,add,0, 1 2\n", FaultKind::Number),
+        (b"0,allreduce,add,0, \n", FaultKind::Number),
+        (b"0,allreduce,add,0,1 02\n", FaultKind::Number),
+        (
+            b"0,allreduce,add,0,18446744073709551616\n",
+            FaultKind::Number,
+        ),
+        (b"0,broadcast,-,1,\n", FaultKind::Job(JobRefused::Empty)),
+        (b"0,broadcast,-,9,\n", FaultKind::Job(JobRefused::Empty)),
+        (b"0,allreduce,add,0,\n", FaultKind::Job(JobRefused::Empty)),
         (
             b"0,broadcast,-,9,1 2 3\n",
-            What::Job(JobRefused::NotPowerOfTwo),
+            FaultKind::Job(JobRefused::NotPowerOfTwo),
         ),
-        (b"0,broadcast,-,2,4 9\n", What::Job(JobRefused::BadRoot)),
-        (b"0,reduce,max,4,1 2 3 4\n", What::Job(JobRefused::BadRoot)),
-        (b"0,scan,add,1,4 9\n", What::Job(JobRefused::BadRoot)),
+        (
+            b"0,broadcast,-,2,4 9\n",
+            FaultKind::Job(JobRefused::BadRoot),
+        ),
+        (
+            b"0,reduce,max,4,1 2 3 4\n",
+            FaultKind::Job(JobRefused::BadRoot),
+        ),
+        (b"0,scan,add,1,4 9\n", FaultKind::Job(JobRefused::BadRoot)),
         (
             b"0,scan,add,1,1 2 3\n",
-            What::Job(JobRefused::NotPowerOfTwo),
+            FaultKind::Job(JobRefused::NotPowerOfTwo),
         ),
         (
             b"0,reduce,add,99,1 1 1 1 1 1 1 1 1 1 1 1 1 1 1 1\n",
-            What::Job(JobRefused::TooLarge),
+            FaultKind::Job(JobRefused::TooLarge),
         ),
-        (b"0,scan,add,0,\n", What::Job(JobRefused::Empty)),
-        (b"0,allreduce,add,1,\n", What::Job(JobRefused::Empty)),
+        (b"0,scan,add,0,\n", FaultKind::Job(JobRefused::Empty)),
+        (b"0,allreduce,add,1,\n", FaultKind::Job(JobRefused::Empty)),
         (
             b"0,allreduce,add,1,1 2 3\n",
-            What::Job(JobRefused::NotPowerOfTwo),
+            FaultKind::Job(JobRefused::NotPowerOfTwo),
         ),
         (
             b"0,allreduce,add,1,1 1 1 1 1 1 1 1 1 1 1 1 1 1 1 1\n",
-            What::Job(JobRefused::TooLarge),
+            FaultKind::Job(JobRefused::TooLarge),
         ),
-        (b"0,allreduce,add,1,4 9\n", What::Job(JobRefused::BadRoot)),
+        (
+            b"0,allreduce,add,1,4 9\n",
+            FaultKind::Job(JobRefused::BadRoot),
+        ),
         (
             b"0,allreduce,add,18446744073709551615,4\n",
-            What::Job(JobRefused::BadRoot),
+            FaultKind::Job(JobRefused::BadRoot),
         ),
     ];
     for (record, what) in records.as_slice() {
@@ -293,17 +305,17 @@ fn refuses_records(rt: HostRuntime) -> Result<(), Fail> {
 }
 
 #[test]
-fn tells_the_first_fault(rt: HostRuntime) -> Result<(), Fail> {
+fn reports_the_first_fault(rt: HostRuntime) -> Result<(), Fail> {
     let good = b"0,allreduce,add,0,1 2\n";
     let head = joined(rt.alloc(), JOBS, good.as_slice())?;
     let cut = joined(rt.alloc(), &head, b"0,scan,add,0,1 2 ".as_slice())?;
-    expect_refusal(&rt, &cut, 2, What::Number)?;
+    expect_refusal(&rt, &cut, 2, FaultKind::Number)?;
     let ragged = joined(
         rt.alloc(),
         &head,
         b"0,allreduce,add\n16,x,x,x,x\n".as_slice(),
     )?;
-    expect_refusal(&rt, &ragged, 2, What::Fields)
+    expect_refusal(&rt, &ragged, 2, FaultKind::Fields)
 }
 
 // Two replies.
@@ -320,7 +332,7 @@ fn two_replies(rt: &(impl AllocGlobal + Abort)) -> Result<Vec<Reply>, Fail> {
     Ok(replies)
 }
 
-// A write of replies whose writer fails at this call, with an error or by taking nothing. It tells
+// A write of replies whose writer fails at this call, with an error or by taking nothing. Returns
 // whether the writer failed.
 fn fails_to_write(
     rt: &(impl AllocGlobal + Abort),
@@ -328,14 +340,14 @@ fn fails_to_write(
     gives_zero: bool,
 ) -> Result<bool, Fail> {
     let row = 0;
-    let what = What::Write;
+    let what = FaultKind::Write;
     let device = FailsAt {
         device: Vec::new(rt.alloc()),
         calls,
         gives_zero,
     };
     let mut writer = Counted::new(device);
-    let answer = write_replies(rt.alloc(), two_replies(rt)?, &mut writer);
+    let answer = write_rows(rt.alloc(), two_replies(rt)?, &mut writer);
     if writer.failures() == 0 {
         assert!(rt; answer == Ok(()));
         return Ok(false);
@@ -346,7 +358,7 @@ fn fails_to_write(
 
 // The header has 41 bytes and each line 26: fourteen writes of seven bytes at most, and a flush.
 #[test]
-fn tells_a_failed_write(rt: HostRuntime) -> Result<(), Fail> {
+fn reports_a_failed_write(rt: HostRuntime) -> Result<(), Fail> {
     for gives_zero in [false, true] {
         for calls in 0..14 {
             assert!(rt; fails_to_write(&rt, calls, gives_zero)?, "at call {calls}");

@@ -1,7 +1,7 @@
 // Files of commands.
 use super::{FailsAt, joined};
 use crate::device::{Counted, Device};
-use crate::fault::{Fault, What};
+use crate::fault::{Fault, FaultKind};
 use crate::name::Name;
 use crate::place::{Command, read_place};
 use std::process::Abort;
@@ -39,7 +39,7 @@ fn expect_refusal(
     rt: &(impl AllocGlobal + Abort),
     input: &[u8],
     row: u64,
-    what: What,
+    what: FaultKind,
 ) -> Result<(), Fail> {
     let mut reader = Counted::new(input);
     match read_place(rt.alloc(), 3, &mut reader) {
@@ -67,41 +67,41 @@ fn reads_commands(rt: HostRuntime) -> Result<(), Fail> {
 
 #[test]
 fn refuses_headers(rt: HostRuntime) -> Result<(), Fail> {
-    expect_refusal(&rt, b"", 0, What::Fields)?;
-    expect_refusal(&rt, b"\n\n", 0, What::Fields)?;
-    expect_refusal(&rt, b"command,name\n", 0, What::Fields)?;
-    expect_refusal(&rt, b"command,name,dim,base\n", 0, What::Fields)?;
-    expect_refusal(&rt, b"command,name,dims\n", 0, What::Word)?;
-    expect_refusal(&rt, b"Command,name,dim\ntake,A,1\n", 0, What::Word)?;
-    expect_refusal(&rt, b"command, name,dim\n", 0, What::Word)?;
-    expect_refusal(&rt, b"station,call,arg\n", 0, What::Word)
+    expect_refusal(&rt, b"", 0, FaultKind::Fields)?;
+    expect_refusal(&rt, b"\n\n", 0, FaultKind::Fields)?;
+    expect_refusal(&rt, b"command,name\n", 0, FaultKind::Fields)?;
+    expect_refusal(&rt, b"command,name,dim,base\n", 0, FaultKind::Fields)?;
+    expect_refusal(&rt, b"command,name,dims\n", 0, FaultKind::Word)?;
+    expect_refusal(&rt, b"Command,name,dim\ntake,A,1\n", 0, FaultKind::Word)?;
+    expect_refusal(&rt, b"command, name,dim\n", 0, FaultKind::Word)?;
+    expect_refusal(&rt, b"station,call,arg\n", 0, FaultKind::Word)
 }
 
 #[test]
 fn refuses_records(rt: HostRuntime) -> Result<(), Fail> {
-    let records: [(&[u8], What); 22] = [
-        (b"take,A,1\n", What::Word),
-        (b"take,abcdefghijklmnopq,1\n", What::Word),
-        (b"take,a,4\n", What::Number),
-        (b"free,a,0\n", What::Word),
-        (b"take,a\n", What::Fields),
-        (b"take,a,1,2\n", What::Fields),
-        (b" \n", What::Fields),
-        (b"\"\"\n", What::Fields),
-        (b"give,A,x\n", What::Word),
-        (b"Take,a,1\n", What::Word),
-        (b",a,1\n", What::Word),
-        (b"\xFF,a,1\n", What::Word),
-        (b"take,,x\n", What::Word),
-        (b"take,a_b,1\n", What::Word),
-        (b"free,a\xFF,-\n", What::Word),
-        (b"take,a,-\n", What::Number),
-        (b"take,a,\n", What::Number),
-        (b"take,a,00\n", What::Number),
-        (b"take,a,+1\n", What::Number),
-        (b"take,a,18446744073709551616\n", What::Number),
-        (b"free,a,\n", What::Word),
-        (b"free,a,--\n", What::Word),
+    let records: [(&[u8], FaultKind); 22] = [
+        (b"take,A,1\n", FaultKind::Word),
+        (b"take,abcdefghijklmnopq,1\n", FaultKind::Word),
+        (b"take,a,4\n", FaultKind::Number),
+        (b"free,a,0\n", FaultKind::Word),
+        (b"take,a\n", FaultKind::Fields),
+        (b"take,a,1,2\n", FaultKind::Fields),
+        (b" \n", FaultKind::Fields),
+        (b"\"\"\n", FaultKind::Fields),
+        (b"give,A,x\n", FaultKind::Word),
+        (b"Take,a,1\n", FaultKind::Word),
+        (b",a,1\n", FaultKind::Word),
+        (b"\xFF,a,1\n", FaultKind::Word),
+        (b"take,,x\n", FaultKind::Word),
+        (b"take,a_b,1\n", FaultKind::Word),
+        (b"free,a\xFF,-\n", FaultKind::Word),
+        (b"take,a,-\n", FaultKind::Number),
+        (b"take,a,\n", FaultKind::Number),
+        (b"take,a,00\n", FaultKind::Number),
+        (b"take,a,+1\n", FaultKind::Number),
+        (b"take,a,18446744073709551616\n", FaultKind::Number),
+        (b"free,a,\n", FaultKind::Word),
+        (b"free,a,--\n", FaultKind::Word),
     ];
     for (record, what) in records.as_slice() {
         let input = joined(rt.alloc(), HEADER, record)?;
@@ -111,10 +111,10 @@ fn refuses_records(rt: HostRuntime) -> Result<(), Fail> {
 }
 
 #[test]
-fn tells_the_first_fault(rt: HostRuntime) -> Result<(), Fail> {
+fn reports_the_first_fault(rt: HostRuntime) -> Result<(), Fail> {
     let records = b"take,a,1\ntake,b,9\ntake,C,1\n";
     let input = joined(rt.alloc(), HEADER, records.as_slice())?;
-    expect_refusal(&rt, &input, 2, What::Number)
+    expect_refusal(&rt, &input, 2, FaultKind::Number)
 }
 
 #[test]
@@ -123,13 +123,13 @@ fn refuses_too_many(rt: HostRuntime) -> Result<(), Fail> {
     for _ in 0..1_000_001 {
         input.extend_from_slice(b"free,a,-\n".as_slice())?;
     }
-    expect_refusal(&rt, &input, 1_000_001, What::TooMany)
+    expect_refusal(&rt, &input, 1_000_001, FaultKind::TooMany)
 }
 
 #[test]
-fn tells_a_failed_read(rt: HostRuntime) -> Result<(), Fail> {
+fn reports_a_failed_read(rt: HostRuntime) -> Result<(), Fail> {
     let row = 0;
-    let what = What::Read;
+    let what = FaultKind::Read;
     for calls in 0..1000 {
         let device = FailsAt {
             device: b"command,name,dim\ntake,a,1\nfree,a,-\n".as_slice(),

@@ -1,7 +1,7 @@
 // Files of schedules.
 use super::joined;
 use crate::device::{Counted, Device};
-use crate::fault::{Fault, What};
+use crate::fault::{Fault, FaultKind};
 use crate::schedule::{Line, read_schedule};
 use std::process::Abort;
 use std::test::Fail;
@@ -13,7 +13,7 @@ fn expect_refusal(
     rt: &(impl AllocGlobal + Abort),
     input: &[u8],
     row: u64,
-    what: What,
+    what: FaultKind,
 ) -> Result<(), Fail> {
     let mut reader = Counted::new(input);
     match read_schedule(rt.alloc(), &mut reader) {
@@ -62,34 +62,34 @@ fn reads_schedules(rt: HostRuntime) -> Result<(), Fail> {
 
 #[test]
 fn refuses_headers(rt: HostRuntime) -> Result<(), Fail> {
-    expect_refusal(&rt, b"", 0, What::Fields)?;
-    expect_refusal(&rt, b"station,call\n", 0, What::Fields)?;
-    expect_refusal(&rt, b"station,call,args\n", 0, What::Word)?;
-    expect_refusal(&rt, b"station,Call,arg\nx,run,-\n", 0, What::Word)?;
-    expect_refusal(&rt, b"command,name,dim\n", 0, What::Word)
+    expect_refusal(&rt, b"", 0, FaultKind::Fields)?;
+    expect_refusal(&rt, b"station,call\n", 0, FaultKind::Fields)?;
+    expect_refusal(&rt, b"station,call,args\n", 0, FaultKind::Word)?;
+    expect_refusal(&rt, b"station,Call,arg\nx,run,-\n", 0, FaultKind::Word)?;
+    expect_refusal(&rt, b"command,name,dim\n", 0, FaultKind::Word)
 }
 
 #[test]
 fn refuses_records(rt: HostRuntime) -> Result<(), Fail> {
-    let records: [(&[u8], What); 18] = [
-        (b"0,step,101\n", What::Number),
-        (b"0,run,1\n", What::Word),
-        (b"0,step,0\n", What::Number),
-        (b"0,step,-\n", What::Number),
-        (b"0,step,01\n", What::Number),
-        (b"0,take,-\n", What::Number),
-        (b"0,take,\n", What::Number),
-        (b"0,take,18446744073709551616\n", What::Number),
-        (b"0,release,0\n", What::Word),
-        (b"0,retire,\n", What::Word),
-        (b"0,walk,-\n", What::Word),
-        (b"0,Run,-\n", What::Word),
-        (b"0,,-\n", What::Word),
-        (b"00,walk,-\n", What::Number),
-        (b",run,-\n", What::Number),
-        (b"-,run,-\n", What::Number),
-        (b"0,run\n", What::Fields),
-        (b"0,run,-,-\n", What::Fields),
+    let records: [(&[u8], FaultKind); 18] = [
+        (b"0,step,101\n", FaultKind::Number),
+        (b"0,run,1\n", FaultKind::Word),
+        (b"0,step,0\n", FaultKind::Number),
+        (b"0,step,-\n", FaultKind::Number),
+        (b"0,step,01\n", FaultKind::Number),
+        (b"0,take,-\n", FaultKind::Number),
+        (b"0,take,\n", FaultKind::Number),
+        (b"0,take,18446744073709551616\n", FaultKind::Number),
+        (b"0,release,0\n", FaultKind::Word),
+        (b"0,retire,\n", FaultKind::Word),
+        (b"0,walk,-\n", FaultKind::Word),
+        (b"0,Run,-\n", FaultKind::Word),
+        (b"0,,-\n", FaultKind::Word),
+        (b"00,walk,-\n", FaultKind::Number),
+        (b",run,-\n", FaultKind::Number),
+        (b"-,run,-\n", FaultKind::Number),
+        (b"0,run\n", FaultKind::Fields),
+        (b"0,run,-,-\n", FaultKind::Fields),
     ];
     for (record, what) in records.as_slice() {
         let good = joined(rt.alloc(), HEADER, b"0,run,-\n")?;

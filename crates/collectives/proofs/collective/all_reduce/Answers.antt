@@ -8,27 +8,27 @@ loop-round-init g c = record {
   values = c.requires.values;
 }
 
-pub exchange-requires-clause-half : goal.exchange-requires-clause-half
-exchange-requires-clause-half g c =
+pub all_reduce_round-requires-clause-half : goal.all_reduce_round-requires-clause-half
+all_reduce_round-requires-clause-half g c =
     IsRound-positive (length c.args.items.now) c.args.k c.loop-round.round c.distance.result
     (record { places = c.requires.places; within = c.loop-round-test.true; half_is = c.distance.ensures })
 
-pub exchange-requires-clause-whole : goal.exchange-requires-clause-whole
-exchange-requires-clause-whole g c =
+pub all_reduce_round-requires-clause-whole : goal.all_reduce_round-requires-clause-whole
+all_reduce_round-requires-clause-whole g c =
     IsRound-whole (length c.loop-round.items) c.args.k c.loop-round.round c.distance.result
     (record { places = c.loop-round.auto.items ∙ c.requires.places; within = c.loop-round-test.true; half_is = c.distance.ensures })
 
-pub exchange-requires-clause-block : goal.exchange-requires-clause-block
-exchange-requires-clause-block g c =
+pub all_reduce_round-requires-clause-block : goal.all_reduce_round-requires-clause-block
+all_reduce_round-requires-clause-block g c =
     IsRound-block (length c.loop-round.items) c.args.k c.loop-round.round c.distance.result
     (record { places = c.loop-round.auto.items ∙ c.requires.places; within = c.loop-round-test.true; half_is = c.distance.ensures })
 
 pub loop-round-preserved : goal.loop-round-preserved
 loop-round-preserved g c = record {
-  totals = HoldsTotals-round g.met.M.Monoid.laws c.args.k c.loop-round.round c.distance.result c.args.items.now c.loop-round.items c.exchange.new.items
+  totals = HoldsTotals-round g.met.M.Monoid.laws c.args.k c.loop-round.round c.distance.result c.args.items.now c.loop-round.items c.all_reduce_round.new.items
       (record { places = c.loop-round.auto.items ∙ c.requires.places; within = c.loop-round-test.true; half_is = c.distance.ensures })
-      (omega arith) c.requires.values c.loop-round.invariant.totals c.exchange.ensures.joined;
-  values = c.exchange.ensures.values;
+      (omega arith) c.requires.values c.loop-round.invariant.totals c.all_reduce_round.ensures.joined;
+  values = c.all_reduce_round.ensures.values;
 }
 
 pub returns-clause-held : goal.returns-clause-held

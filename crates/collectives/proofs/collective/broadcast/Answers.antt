@@ -14,20 +14,20 @@ power_below i k within =
 pub loop-round-init : goal.loop-round-init
 loop-round-init g c = HoldsRoot-start c.args.root c.args.items.now
 
-pub spread-requires-clause-half : goal.spread-requires-clause-half
-spread-requires-clause-half g c =
+pub broadcast_round-requires-clause-half : goal.broadcast_round-requires-clause-half
+broadcast_round-requires-clause-half g c =
     let power = power_below c.loop-round.round c.args.k c.loop-round-test.true in
     let limit = power_below c.args.k 32 c.requires.dim in
     omega (arith, c.distance.ensures, power, limit)
 
-pub spread-requires-clause-places : goal.spread-requires-clause-places
-spread-requires-clause-places g c = λ v within.
+pub broadcast_round-requires-clause-places : goal.broadcast_round-requires-clause-places
+broadcast_round-requires-clause-places g c = λ v within.
     (let power = power_below c.loop-round.round c.args.k c.loop-round-test.true in
     let inside = xor_lt c.args.k v c.args.root (omega (arith, c.distance.ensures, power)) c.requires.root in
     omega (arith, inside, c.requires.places, c.loop-round.auto.items))
 
 pub loop-round-preserved : goal.loop-round-preserved
-loop-round-preserved g c = HoldsRoot-round c.args.root c.loop-round.round c.distance.result c.args.items.now c.loop-round.items c.spread.new.items c.distance.ensures c.loop-round.invariant c.spread.ensures
+loop-round-preserved g c = HoldsRoot-round c.args.root c.loop-round.round c.distance.result c.args.items.now c.loop-round.items c.broadcast_round.new.items c.distance.ensures c.loop-round.invariant c.broadcast_round.ensures
 
 pub returns-clause-held : goal.returns-clause-held
 returns-clause-held g c =

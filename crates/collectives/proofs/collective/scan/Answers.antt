@@ -14,31 +14,31 @@ loop-round-init g c =
       total_values = subst (λ totals. All m.is_value totals) copied c.requires.values;
     }
 
-pub extend-requires-clause-half : goal.extend-requires-clause-half
-extend-requires-clause-half g c =
+pub scan_round-requires-clause-half : goal.scan_round-requires-clause-half
+scan_round-requires-clause-half g c =
     IsRound-positive (length c.args.items.now) c.args.k c.loop-round.round c.distance.result
     (record { places = c.requires.places; within = c.loop-round-test.true; half_is = c.distance.ensures })
 
-pub extend-requires-clause-whole : goal.extend-requires-clause-whole
-extend-requires-clause-whole g c =
+pub scan_round-requires-clause-whole : goal.scan_round-requires-clause-whole
+scan_round-requires-clause-whole g c =
     IsRound-whole (length c.loop-round.items) c.args.k c.loop-round.round c.distance.result
     (record { places = c.loop-round.auto.items ∙ c.requires.places; within = c.loop-round-test.true; half_is = c.distance.ensures })
 
-pub extend-requires-clause-block : goal.extend-requires-clause-block
-extend-requires-clause-block g c =
+pub scan_round-requires-clause-block : goal.scan_round-requires-clause-block
+scan_round-requires-clause-block g c =
     IsRound-block (length c.loop-round.items) c.args.k c.loop-round.round c.distance.result
     (record { places = c.loop-round.auto.items ∙ c.requires.places; within = c.loop-round-test.true; half_is = c.distance.ensures })
 
 pub loop-round-preserved : goal.loop-round-preserved
 loop-round-preserved g c = record {
-  prefixes = HoldsPrefixes-round g.met.M.Monoid.laws c.args.k c.loop-round.round c.distance.result c.args.items.now c.loop-round.items c.loop-round.scratch c.extend.new.prefixes
+  prefixes = HoldsPrefixes-round g.met.M.Monoid.laws c.args.k c.loop-round.round c.distance.result c.args.items.now c.loop-round.items c.loop-round.scratch c.scan_round.new.prefixes
       (record { places = c.loop-round.auto.items ∙ c.requires.places; within = c.loop-round-test.true; half_is = c.distance.ensures })
-      (omega arith) (omega arith) c.requires.values c.loop-round.invariant.prefixes c.loop-round.invariant.totals c.extend.ensures.prepended;
-  totals = HoldsTotals-round g.met.M.Monoid.laws c.args.k c.loop-round.round c.distance.result c.args.items.now c.loop-round.scratch c.extend.new.totals
+      (omega arith) (omega arith) c.requires.values c.loop-round.invariant.prefixes c.loop-round.invariant.totals c.scan_round.ensures.prepended;
+  totals = HoldsTotals-round g.met.M.Monoid.laws c.args.k c.loop-round.round c.distance.result c.args.items.now c.loop-round.scratch c.scan_round.new.totals
       (record { places = c.loop-round.auto.scratch ∙ c.copy_from_slice.ensures.len ∙ c.requires.scratch; within = c.loop-round-test.true; half_is = c.distance.ensures })
-      (omega arith) c.requires.values c.loop-round.invariant.totals c.extend.ensures.joined;
-  values = c.extend.ensures.values;
-  total_values = c.extend.ensures.total_values;
+      (omega arith) c.requires.values c.loop-round.invariant.totals c.scan_round.ensures.joined;
+  values = c.scan_round.ensures.values;
+  total_values = c.scan_round.ensures.total_values;
 }
 
 pub returns-clause-held : goal.returns-clause-held

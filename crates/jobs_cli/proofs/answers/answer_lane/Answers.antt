@@ -3,10 +3,11 @@ use Rattle.std.proofs.lemmas.Iterator.Adapters.{YieldsList-from_vec}
 use Rattle.std.proofs.lemmas.Iterator.Consumers.{YieldsList-end}
 use Rattle.std.proofs.lemmas.List.{flat_map_more, length_push, map-id}
 use Rattle.job_types.specs.Reply.{ReplyData}
-use Rattle.jobs_csv.specs.Replies.{reply_fields, reply_lines}
+use Rattle.std.specs.List.{flat_map}
+use Rattle.jobs_csv.specs.Replies.{reply_fields}
 use Rattle.jobs_csv.specs.Text.{line_of}
-use Rattle.jobs_csv.proofs.SentLemmas.{HasSent, more_gathered, more_sent, none_sent}
-use Rattle.jobs_cli.proofs.OrderLemmas.{no_name, reply_push}
+use Rattle.jobs_csv.proofs.SentLemmas.{IsSentOrBuffered, more_buffered, more_sent, nothing_sent}
+use Rattle.jobs_cli.proofs.OrderLemmas.{no_ids, reply_push}
 use Rattle.jobs_cli.proofs.answers.answer_lane.Goals as goal
 
 pub loop-job-init : goal.loop-job-init
@@ -14,7 +15,7 @@ loop-job-init g c = record {
   free = c.requires.free;
   dim = refl;
   seq = refl;
-  sent = ([], sym no_name, none_sent _ _ _ (sym (append-nil c.args.lines)));
+  sent = ([], sym no_ids, nothing_sent _ _ _ (sym (append-nil c.args.lines)));
 }
 
 pub loop-job-preserved : goal.loop-job-preserved
@@ -22,10 +23,10 @@ loop-job-preserved g c =
     let old = g.W.Write.contents c.args.writer.now in
     let now = g.W.Write.contents c.loop-job.writer in
     let reply = c.answer-reply.result in
-    let line = line_of (reply_fields reply.id reply.job) in
+    let line = line_of (reply_fields reply) in
     let (replies, same, sent) = c.loop-job.invariant.sent in
-    let (out, sends, all) = c.in_ok-lines.ensures.sent in
-    let gathered = more_gathered old now c.loop-job.lines (c.loop-job.lines ++ line) line (c.args.lines ++ reply_lines replies) sent refl in
+    let (out, sends, all) = c.in_ok-lines.ensures in
+    let buffered = more_buffered old now c.loop-job.lines (c.loop-job.lines ++ line) line (c.args.lines ++ flat_map (λ (r : ReplyData). line_of (reply_fields r)) replies) sent refl in
     record {
       free = c.answer-reply.ensures.free;
       dim = c.answer-reply.ensures.dim ∙ c.loop-job.invariant.dim;
@@ -33,7 +34,7 @@ loop-job-preserved g c =
       sent = (
         replies ++ reply ∷ [],
         reply_push replies c.loop-job.yielded reply c.in-Some.job c.loop-job.seq same (search rules) c.loop-job.invariant.seq,
-        subst (HasSent old _ _) (flat_map_more (λ (r : ReplyData). line_of (reply_fields r.id r.job)) c.args.lines replies reply) (more_sent old now _ _ _ out _ gathered sends all),
+        subst (IsSentOrBuffered old _ _) (flat_map_more (λ (r : ReplyData). line_of (reply_fields r)) c.args.lines replies reply) (more_sent old now _ _ _ out _ buffered sends all),
       );
     }
 

@@ -1,16 +1,18 @@
 use Rattle.std.proofs.Common.{◌≡◌, List}
 use Rattle.jobs_csv.specs.declared.place_rows.PlaceRow.{PlaceRow}
-use Rattle.jobs_csv.proofs.SentLemmas.{HasSent}
-use Rattle.jobs_cli.specs.InTurn.{InTurn}
-use Rattle.jobs_cli.specs.Place.{IsPlaced, nobody, place_text}
-use Rattle.jobs_cli.specs.Stations.{AreStations, dim_of, table_of}
+use Rattle.jobs_csv.proofs.SentLemmas.{IsSentOrBuffered}
+use Rattle.jobs_cli.specs.Trace.{IsTrace}
+use Rattle.jobs_csv.specs.PlaceRows.{place_columns, place_fields}
+use Rattle.jobs_csv.specs.Text.{file_text}
+use Rattle.jobs_cli.specs.Place.{IsPlaced, empty_table}
+use Rattle.jobs_cli.specs.Inner.Stations.{AreStations, dim_of, named_holdings}
 use Rattle.jobs_cli.proofs.place.answer_all.Given as goal
 
--- the commands so far are answered, and their rows are sent or gathered
+-- the commands so far are answered, and their rows are written out or buffered
 abbrev pub invariant-loop-command : goal.invariant-loop-command
 invariant-loop-command g l = record {
   made : AreStations l.stations;
   dim : dim_of l.stations ≡ l.fn.n;
-  sent : (rows : List PlaceRow) × InTurn (IsPlaced l.fn.n) l.yielded nobody (table_of l.stations) rows
-      × HasSent (g.W.Write.contents l.fn.writer) (g.W.Write.contents l.writer) l.lines (place_text rows);
+  sent : (rows : List PlaceRow) × IsTrace (IsPlaced l.fn.n) l.yielded empty_table (named_holdings l.stations) rows
+      × IsSentOrBuffered (g.W.Write.contents l.fn.writer) (g.W.Write.contents l.writer) l.lines (file_text place_columns place_fields rows);
 }

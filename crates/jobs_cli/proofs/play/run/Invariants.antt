@@ -3,14 +3,14 @@ use Rattle.cube_core.specs.Count.{events_due}
 use Rattle.cube_core.specs.Schedule.{phase_of}
 use Rattle.cube_core.specs.World.{HasShapeOf}
 use Rattle.cube_core.specs.declared.act.Act.TheVariants as act
-use Rattle.jobs_cli.specs.InTurn.{InTurn}
-use Rattle.jobs_cli.specs.Replay.{Moves}
+use Rattle.jobs_cli.specs.Trace.{IsTrace}
+use Rattle.jobs_cli.specs.Replay.{AcceptedStep}
 use Rattle.jobs_cli.proofs.play.run.Given as goal
 
 abbrev pub invariant-loop-event : goal.invariant-loop-event
 invariant-loop-event l = record {
   there : l.station < length l.world.records;
-  moves : (steps : ℕ) × InTurn Moves (replicate steps (act.Step l.station)) l.fn.world l.world l.rows.items;
+  moves : (steps : ℕ) × IsTrace AcceptedStep (replicate steps (act.Step l.station)) l.fn.world l.world l.rows.items;
   shape : HasShapeOf l.fn.world l.world;
 }
 

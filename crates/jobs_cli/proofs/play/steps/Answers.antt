@@ -1,6 +1,6 @@
 use Rattle.std.proofs.Common.{◌≡◌, ◌++◌, ◌∷◌, [], rules}
 use Rattle.cube_core.specs.declared.act.Act.TheVariants as act
-use Rattle.jobs_cli.specs.Replay.{Acts}
+use Rattle.jobs_cli.specs.Replay.{ActStep}
 use Rattle.jobs_cli.proofs.ReplayLemmas.{kept_twice, once_more}
 use Rattle.jobs_cli.proofs.play.steps.Goals as goal
 
@@ -8,6 +8,6 @@ pub loop-made-preserved : goal.loop-made-preserved
 loop-made-preserved c =
     let rows : c.push.new.self.items ≡ c.loop-made.rows.items ++ c.step.result ∷ [] = search rules in
     record {
-      acts = rw rows (once_more Acts (act.Step c.args.station) c.loop-made._made c.args.world.now c.loop-made.world c.step.new.world c.loop-made.rows.items (c.step.result ∷ []) c.loop-made.invariant.acts c.step.ensures.acts);
+      acts = rw rows (once_more ActStep (act.Step c.args.station) c.loop-made._made c.args.world.now c.loop-made.world c.step.new.world c.loop-made.rows.items (c.step.result ∷ []) c.loop-made.invariant.acts c.step.ensures.acts);
       shape = kept_twice c.args.world.now c.loop-made.world c.step.new.world c.loop-made.invariant.shape c.step.ensures.shape;
     }

@@ -1,12 +1,12 @@
 use Rattle.std.proofs.Common.{replicate}
 use Rattle.cube_core.specs.World.{HasShapeOf}
 use Rattle.cube_core.specs.declared.act.Act.TheVariants as act
-use Rattle.jobs_cli.specs.InTurn.{InTurn}
-use Rattle.jobs_cli.specs.Replay.{Acts}
+use Rattle.jobs_cli.specs.Trace.{IsTrace}
+use Rattle.jobs_cli.specs.Replay.{ActStep}
 use Rattle.jobs_cli.proofs.play.steps.Given as goal
 
 abbrev pub invariant-loop-made : goal.invariant-loop-made
 invariant-loop-made l = record {
-  acts : InTurn Acts (replicate l._made (act.Step l.fn.station)) l.fn.world l.world l.rows.items;
+  acts : IsTrace ActStep (replicate l._made (act.Step l.fn.station)) l.fn.world l.world l.rows.items;
   shape : HasShapeOf l.fn.world l.world;
 }

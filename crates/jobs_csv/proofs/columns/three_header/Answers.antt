@@ -1,6 +1,6 @@
 use Rattle.std.proofs.Common.{ap, sym, ◌∙◌, if◌then◌else◌, Ok, Err}
 use Rattle.csv.specs.Records.{fields_of}
-use Rattle.jobs_csv.specs.declared.fault.What.TheVariants as what
+use Rattle.jobs_csv.specs.declared.fault.FaultKind.TheVariants as what
 use Rattle.jobs_csv.specs.Columns.{three_header}
 use Rattle.jobs_csv.proofs.ColumnLemmas.{no_three_header}
 use Rattle.jobs_csv.proofs.columns.three_header.Goals as goal

@@ -4,7 +4,7 @@ use Rattle.std.proofs.lemmas.Bool.Decides.{nat_tests}
 use Rattle.jobs_csv.specs.Fields.{value_of}
 use Rattle.jobs_csv.proofs.fields.digits.Goals as goal
 
--- one more digit behind the value
+-- one more digit after the value
 abbrev step : ℕ → ℕ → ℕ
 step value digit = 10 * value + (digit - 48)
 

@@ -3,7 +3,7 @@ use Rattle.std.proofs.lemmas.Iterator.Splits.{YieldsList-from_slice_split}
 use Rattle.std.proofs.lemmas.Iterator.Consumers.{YieldsList-at, YieldsList-turn, YieldsList-end}
 use Rattle.std.proofs.lemmas.List.{at_drop_more, at_drop_all, length_push}
 use Rattle.std.specs.List.{slice_split}
-use Rattle.jobs_csv.specs.declared.fault.What.TheVariants as what
+use Rattle.jobs_csv.specs.declared.fault.FaultKind.TheVariants as what
 use Rattle.jobs_csv.specs.Fields.{number_of}
 use Rattle.jobs_csv.specs.JobFields.{all_numbers, items_of, numbers_of}
 use Rattle.jobs_csv.specs.Outcome.{or_refuse}
@@ -25,7 +25,7 @@ unfolding items_of numbers_of
 items_of_pieces [] e = search rules
 items_of_pieces (byte ∷ rest) e = refl
 
--- the number of one piece, and those of the pieces behind it
+-- the number of one piece, and those of the pieces after it
 with_first : Option (List ℕ) → Option ℕ → Option (List ℕ)
 with_first rest first = option_and_then (λ x. option_and_then (λ xs. Some (x ∷ xs)) rest) first
 

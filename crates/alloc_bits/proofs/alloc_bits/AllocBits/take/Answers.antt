@@ -3,8 +3,8 @@ use Rattle.std.proofs.Common.{◌≡◌, ℕ, ◌≤◌, sym, subst, None, ◌++
 use Rattle.std.specs.FinMap.{get}
 use Rattle.cube_shape.specs.Region.{block}
 use Rattle.cube_shape.specs.Machine.{Gives, HasNoFit, IsFirstFit}
-use Rattle.alloc_bits.specs.Bits.{slot_of, pairs_of}
-use Rattle.alloc_bits.proofs.MarksLemmas.{of_slots, to_slots, no_fit, first_fit, gives, Marks-given, Marks-written, holdings_written}
+use Rattle.alloc_bits.specs.Inner.{slot_of, pairs_of}
+use Rattle.alloc_bits.proofs.RepresentsLemmas.{of_slots, to_slots, no_fit, first_fit, gives, Represents-given, Represents-written, holdings_written}
 use Rattle.alloc_bits.proofs.alloc_bits.AllocBits.take.Goals as goal
 
 pub returns-in_default-clause-refused : goal.returns-in_default-clause-refused
@@ -17,14 +17,14 @@ invariant_of-self c =
     let found = rw c.deref.ensures.value at c.in-Some.ensures.found in
     let idle = to_slots (λ _ held. held c.args.station ≡ None) c.self.inside.dim c.self.inside.slots.items c.args.self.now c.self.view_is c.requires.idle in
     let fits = to_slots (λ n _. c.args.k ≤ n) c.self.inside.dim c.self.inside.slots.items c.args.self.now c.self.view_is c.requires.dim in
-    let same_slots = rw c.deref_mut-2.ensures.value at c.put.ensures.len in
+    let same_slots = rw c.deref_mut-2.ensures.value at c.set_slot.ensures.len in
     let same_bits = rw c.deref_mut.ensures.value at c.write.ensures.len in
-    let others = rw c.deref_mut-2.ensures.value at c.put.ensures.others in
+    let others = rw c.deref_mut-2.ensures.value at c.set_slot.ensures.others in
     let outside = rw c.deref_mut.ensures.value at c.write.ensures.outside in
-    let given = gives c.self.inside.dim c.self.inside.slots.items c.self.inside.bits.items c.self.invariant c.args.k found.0 c.args.station c.in-Some.region c.put.new.slots
-    fits idle found.1 found.2 c.put.ensures.own others in
-    Marks-written c.self.inside.dim _ _ c.self.inside.slots.items c.put.new.slots c.self.inside.bits.items c.write.new.bits c.self.inside.slots.ok.0 same_slots c.self.inside.bits.ok.0 same_bits
-    (Marks-given c.self.inside.dim c.args.station c.self.inside.slots.items c.put.new.slots c.self.inside.bits.items c.write.new.bits c.in-Some.region
+    let given = gives c.self.inside.dim c.self.inside.slots.items c.self.inside.bits.items c.self.invariant c.args.k found.0 c.args.station c.in-Some.region c.set_slot.new.slots
+    fits idle found.1 found.2 c.set_slot.ensures.own others in
+    Represents-written c.self.inside.dim _ _ c.self.inside.slots.items c.set_slot.new.slots c.self.inside.bits.items c.write.new.bits c.self.inside.slots.ok.0 same_slots c.self.inside.bits.ok.0 same_bits
+    (Represents-given c.self.inside.dim c.args.station c.self.inside.slots.items c.set_slot.new.slots c.self.inside.bits.items c.write.new.bits c.in-Some.region
     same_slots same_bits outside c.self.invariant c.args.k given c.write.ensures.inside)
 
 pub returns-clause-first : goal.returns-clause-first
@@ -38,10 +38,10 @@ returns-clause-given c =
     let found = rw c.deref.ensures.value at c.in-Some.ensures.found in
     let idle = to_slots (λ _ held. held c.args.station ≡ None) c.self.inside.dim c.self.inside.slots.items c.args.self.now c.self.view_is c.requires.idle in
     let fits = to_slots (λ n _. c.args.k ≤ n) c.self.inside.dim c.self.inside.slots.items c.args.self.now c.self.view_is c.requires.dim in
-    let same_slots = rw c.deref_mut-2.ensures.value at c.put.ensures.len in
-    let others = rw c.deref_mut-2.ensures.value at c.put.ensures.others in
-    let given = gives c.self.inside.dim c.self.inside.slots.items c.self.inside.bits.items c.self.invariant c.args.k found.0 c.args.station c.in-Some.region c.put.new.slots
-    fits idle found.1 found.2 c.put.ensures.own others in
-    of_slots (λ n held. Gives n c.args.station c.args.k held (get (pairs_of (take c.self.inside.slots.len (c.put.new.slots ++ drop (length c.put.new.slots) c.self.inside.slots.items)))) c.in-Some.region) c.self.inside.dim c.self.inside.slots.items c.args.self.now c.self.view_is
+    let same_slots = rw c.deref_mut-2.ensures.value at c.set_slot.ensures.len in
+    let others = rw c.deref_mut-2.ensures.value at c.set_slot.ensures.others in
+    let given = gives c.self.inside.dim c.self.inside.slots.items c.self.inside.bits.items c.self.invariant c.args.k found.0 c.args.station c.in-Some.region c.set_slot.new.slots
+    fits idle found.1 found.2 c.set_slot.ensures.own others in
+    of_slots (λ n held. Gives n c.args.station c.args.k held (get (pairs_of (take c.self.inside.slots.len (c.set_slot.new.slots ++ drop (length c.set_slot.new.slots) c.self.inside.slots.items)))) c.in-Some.region) c.self.inside.dim c.self.inside.slots.items c.args.self.now c.self.view_is
     (subst (λ new. Gives c.self.inside.dim c.args.station c.args.k (slot_of c.self.inside.slots.items) new c.in-Some.region)
-    (sym (holdings_written _ c.self.inside.slots.items c.put.new.slots c.self.inside.slots.ok.0 same_slots)) given)
+    (sym (holdings_written _ c.self.inside.slots.items c.set_slot.new.slots c.self.inside.slots.ok.0 same_slots)) given)

@@ -1,5 +1,6 @@
 use Rattle.std.proofs.Common.{rules, ◌≡◌, true, arith}
-use Rattle.jobs_csv.specs.Name.{is_name, zeros}
+use Rattle.jobs_csv.specs.Name.{is_name}
+use Rattle.jobs_csv.specs.Inner.Name.{zeros}
 use Rattle.jobs_csv.proofs.NameLemmas.{padded}
 use Rattle.jobs_csv.proofs.name.Name.new.Goals as goal
 

@@ -1,16 +1,14 @@
-use Rattle.std.proofs.Common.{◌+◌, sym, subst, arith}
-use Rattle.std.proofs.lemmas.Nat.{one_shl}
-use Rattle.std.proofs.Common.{bit_or}
+-- To set the mark of a station is to join the word that has only this bit.
+use Rattle.std.proofs.Common.{sym, subst, bit_or}
 use Rattle.status_word.specs.Word.{IsMarked, SameElsewhere, mark_bit}
 use Rattle.status_word.proofs.WordLemmas.{with_mark-has, with_mark-same}
 use Rattle.status_word.proofs.word.Word.mark.Goals as goal
 
 pub returns-clause-has : goal.returns-clause-has
 returns-clause-has c =
-    subst (λ mask. IsMarked c.args.station (bit_or c.args.self.0 mask)) (sym (one_shl (8 + c.args.station) 64 (omega arith)))
-    (with_mark-has c.args.station c.args.self.0)
+    subst (λ mask. IsMarked c.args.station (bit_or c.args.self.0 mask)) (sym c.mark_mask.ensures.value) (with_mark-has c.args.station c.args.self.0)
 
 pub returns-clause-others : goal.returns-clause-others
 returns-clause-others c =
-    subst (λ mask. SameElsewhere (mark_bit c.args.station) c.args.self.0 (bit_or c.args.self.0 mask)) (sym (one_shl (8 + c.args.station) 64 (omega arith)))
+    subst (λ mask. SameElsewhere (mark_bit c.args.station) c.args.self.0 (bit_or c.args.self.0 mask)) (sym c.mark_mask.ensures.value)
     (with_mark-same c.args.station c.args.self.0)

@@ -7,7 +7,7 @@ pub fetch_or-found-requires : goal.fetch_or-found-requires
 fetch_or-found-requires c = (
   search rules,
   node_word c.args.self.now c.args.at c.requires.node.1,
-  steps _ _ _ _ _ _ _ c.requires.phase refl refl (λ w. raise_writes c.args.at c.args.node _ _ w _ c.child_towards.ensures.value c.side.ensures c.bit_of_side-bit.ensures),
+  steps _ _ _ _ _ _ _ c.requires.phase refl refl (λ w. raise_writes c.args.at c.args.node _ _ w _ c.child_towards.ensures.value c.side.ensures.child c.bit_of_side-bit.ensures),
 )
 
 pub returns-clause-walks : goal.returns-clause-walks

@@ -1,0 +1,12 @@
+//! One message of a collective.
+
+/// A message of a collective.
+#[derive(Clone, Copy, Debug, PartialEq, Eq, Hash)]
+pub struct Message {
+    /// The round it is sent in, from 0 on.
+    pub round: u32,
+    /// The rank that sends it.
+    pub from: u64,
+    /// The rank that receives it.
+    pub to: u64,
+}

@@ -1,0 +1,16 @@
+use Rattle.std.proofs.Common.{ap, ◌∙◌, subst}
+use Rattle.cube_core.specs.declared.act.Act.TheVariants.{Step}
+use Rattle.std.proofs.Common.{[], ◌∷◌}
+use Rattle.cube_core.specs.Event.{transition}
+use Rattle.cube_core.specs.Phase.{step_refusal}
+use Rattle.cube_core.specs.Schedule.{AreOneEvent}
+use Rattle.cube_core.proofs.OneEventLemmas.{step_is_event, take_is_event, release_is_event, retire_is_event}
+use Rattle.cube_core.proofs.world.calls_are_single_events.Goals as goal
+
+pub returns : goal.returns
+returns c = record {
+  step = λ n s p r is moves. subst (λ q. AreOneEvent n (Step s ∷ []) s r (transition s q)) is (step_is_event n s r (ap step_refusal is ∙ moves));
+  take = take_is_event;
+  release = release_is_event;
+  retire = retire_is_event;
+}

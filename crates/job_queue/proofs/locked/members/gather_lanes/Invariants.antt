@@ -1,0 +1,14 @@
+use Rattle.std.proofs.Common.{◌≡◌, ◌++◌, None, [], map, length}
+use Rattle.std.specs.List.{All}
+use Rattle.job_queue.specs.Locked.View.{view}
+use Rattle.job_queue.specs.Locked.Step.{IsIdle}
+use Rattle.job_queue.specs.Locked.Handle.{table_of, line_id, is_lane, lane_record}
+use Rattle.job_queue.proofs.locked.members.gather_lanes.Given as goal
+
+abbrev pub invariant-loop-lane : goal.invariant-loop-lane
+invariant-loop-lane l =
+    (l.seat.table_id ≡ table_of l.lock) × IsIdle l.seat.me × (l.seat.me ≡ (view l.fn.seat.me.0.about l.seat.me.0.lanes l.fn.seat.me.0.passes l.fn.seat.me.0.closers None, []))
+    × (l.seat.me.0.lanes ++ map lane_record l.lanes.items ≡ l.fn.seat.me.0.lanes ++ map lane_record l.fn.lanes.items) × All (is_lane (line_id l.lock)) l.lanes.items
+
+abbrev pub decreases-loop-lane : goal.decreases-loop-lane
+decreases-loop-lane l = length l.lanes.items

@@ -1,0 +1,55 @@
+-- Which line it is, and what a call does to the record of the lane or pass that makes it.
+use Rattle.std.specs.Prelude.{◌≡◌, ℕ, ◌⊎◌, List, [], ◌∷◌, ◌++◌, Option, None, length}
+use Rattle.atomic_table.specs.Seated.{TableId}
+use Rattle.job_types.specs.declared.reply.JobId.{JobId}
+use Rattle.job_queue.specs.declared.job_line.Sizes.{Sizes}
+use Rattle.job_queue.specs.declared.job_line.Refused.{Refused}
+use Rattle.job_queue.specs.declared.job_line.Refused.TheVariants.{Closed, Full, LaneSpent}
+use Rattle.job_queue.specs.declared.job_line.Taken.{Taken}
+use Rattle.job_queue.specs.declared.job_line.Taken.TheVariants.{Job, EmptyNow, Ended}
+use Rattle.job_queue.specs.declared.record.QueuedJob.{QueuedJob}
+use Rattle.job_queue.specs.declared.record.LaneRecord.{LaneRecord}
+use Rattle.job_queue.specs.declared.record.Reading.{Reading}
+use Rattle.job_queue.specs.Record.{job_id, queued, entry, accepted, Seals}
+
+-- which line it is: the tables of its atomic steps, and its sizes
+pub record LineId : Type 0 where
+  pub tables : List TableId
+  pub sizes : Sizes
+
+-- the job is for this machine, and came in by the lane of its id
+abbrev pub IsMadeFor : ℕ → QueuedJob → Type 0
+IsMadeFor machine q = (q.job.machine ≡ machine) × (q.job.lane ≡ q.id.lane)
+
+-- the id that the lane's next accepted job gets
+abbrev pub next_id : LaneRecord → JobId
+next_id lane = job_id lane.number (length (accepted lane.entries))
+
+-- the lane's record gains one entry, and nothing else
+abbrev pub GainsEntry : LaneRecord → ℕ → Option QueuedJob → LaneRecord → Type 0
+GainsEntry old number job new = new ≡ record old { entries = old.entries ++ entry number job ∷ [] }
+
+-- what a refusal does to the lane's record: a count that was seen, a full entry, or nothing
+abbrev pub GainsRefusal : LaneRecord → Refused → LaneRecord → Type 0
+GainsRefusal old (Closed seen) new = new ≡ record old { seen = old.seen ++ seen ∷ [] }
+GainsRefusal old Full new = (number : ℕ) × GainsEntry old number None new
+GainsRefusal old LaneSpent new = new ≡ old
+
+-- the jobs that the call took: one or none
+abbrev pub taken_by : Taken → List QueuedJob
+taken_by (Job id job) = queued id job ∷ []
+taken_by EmptyNow = []
+taken_by Ended = []
+
+-- What the call read. Where it found the line empty to the end it read once, and its answer is
+-- Ended exactly where that reading seals the line.
+abbrev pub GainsReading : List Reading → Taken → List Reading → Type 0
+GainsReading old (Job id job) new = (new ≡ old) ⊎ ((r : Reading) × (new ≡ old ++ r ∷ []) × Seals r)
+GainsReading old EmptyNow new = (r : Reading) × (new ≡ old ++ r ∷ []) × ¬ Seals r
+GainsReading old Ended new = (r : Reading) × (new ≡ old ++ r ∷ []) × Seals r
+
+-- a job that was taken is for this machine
+abbrev pub TakesMadeFor : ℕ → Taken → Type 0
+TakesMadeFor machine (Job id job) = IsMadeFor machine (queued id job)
+TakesMadeFor machine EmptyNow = Unit {0}
+TakesMadeFor machine Ended = Unit {0}

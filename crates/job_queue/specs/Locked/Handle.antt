@@ -1,0 +1,47 @@
+-- A locked line and its handles as plain data.
+use Rattle.std.specs.Prelude.{◌≡◌, ℕ, [], ◌∷◌}
+use Rattle.atomic_table.specs.Seated.{TableId}
+use Rattle.job_queue.specs.declared.job_line.Sizes.{Sizes}
+use Rattle.job_queue.specs.declared.record.LaneRecord.{LaneRecord}
+use Rattle.job_queue.specs.declared.record.PassRecord.{PassRecord}
+use Rattle.job_queue.specs.declared.locked.store_lock.StoreLock.{StoreLock}
+use Rattle.job_queue.specs.declared.locked.handle.Lane.{Lane}
+use Rattle.job_queue.specs.declared.locked.handle.Pass.{Pass}
+use Rattle.job_queue.specs.declared.locked.handle.Closer.{Closer}
+use Rattle.job_queue.specs.declared.locked.handle.CloseNote.{CloseNote}
+use Rattle.job_queue.specs.Line.{LineId}
+use Rattle.job_queue.specs.Locked.Step.{lane_in, pass_in}
+
+abbrev pub table_of : StoreLock → TableId
+table_of lock = lock.table.shared.table_id
+
+abbrev pub sizes_of : StoreLock → Sizes
+sizes_of lock = lock.table.shared.key
+
+abbrev pub line_id : StoreLock → LineId
+line_id lock = record { tables = table_of lock ∷ []; sizes = sizes_of lock }
+
+-- a seat of this table, whose view is of a line of these sizes
+abbrev pub IsOf : LineId → TableId → Sizes → Type 0
+IsOf id table about = (id.tables ≡ table ∷ []) × (about ≡ id.sizes)
+
+abbrev pub is_lane : LineId → Lane → Type 0
+is_lane id lane = IsOf id lane.seat.table_id lane.seat.me.0.about
+
+abbrev pub is_pass : LineId → Pass → Type 0
+is_pass id pass = IsOf id pass.seat.table_id pass.seat.me.0.about
+
+abbrev pub is_closer : LineId → Closer → Type 0
+is_closer id closer = IsOf id closer.seat.table_id closer.seat.me.0.about
+
+abbrev pub is_note : LineId → CloseNote → Type 0
+is_note id note = IsOf id note.seat.table_id note.seat.me.0.about
+
+abbrev pub lane_record : Lane → LaneRecord
+lane_record lane = lane_in lane.seat.me.0.lanes
+
+abbrev pub pass_record : Pass → PassRecord
+pass_record pass = pass_in pass.seat.me.0.passes
+
+abbrev pub note_number : CloseNote → ℕ
+note_number note = note.number

@@ -1,0 +1,216 @@
+// The contract of a line of jobs.
+ghost use Rattle.std.specs.Prelude.{◌≡◌, ◌≢◌, ℕ, ◌<◌, ◌≤◌, List, Ok, Err, Some, None, IfOk, IfErr, OnErr, map, length, slice_index, ◌++◌};
+ghost use Rattle.std.specs.List.{All};
+ghost use Rattle.histories.specs.Sums.{times};
+ghost use Rattle.job_queue.specs.Record.{queued, fresh_lanes, fresh_passes, accepted, IsSettled};
+ghost use Rattle.job_queue.specs.Line.{LineId, next_id, GainsEntry, GainsRefusal, GainsReading, taken_by, TakesMadeFor};
+ghost use Rattle.job_queue.specs.Run.{WholeRun};
+
+use crate::record::QueuedJob;
+use job_types::{Job, JobId, MAX_LANES};
+use std::alloc::{AllocError, Global};
+use std::collections::VecDeque;
+use std::sync::Wait;
+
+/// How many passes a line has at most.
+pub const MAX_PASSES: u32 = 16;
+
+/// How many jobs a line holds at most.
+pub const MAX_CAPACITY: usize = 1024;
+
+/// How many entries a lane makes at most.
+pub const MAX_ENTRIES: u64 = 1 << 48;
+
+/// The sizes of a line.
+#[derive(Clone, Copy, Debug, PartialEq, Eq)]
+pub struct Sizes {
+    /// The dimension of the machine that its jobs are for.
+    pub machine: u32,
+    /// The number of its lanes, which are numbered from 0.
+    pub lanes: u32,
+    /// The number of its passes, which are numbered from 0.
+    pub passes: u32,
+    /// How many jobs it holds at most.
+    pub capacity: usize,
+}
+
+/// A new line, with all that its callers need.
+pub struct Opened<L, N, P, C> {
+    /// The line.
+    pub line: L,
+    /// Its lanes, in the order of their numbers.
+    pub lanes: Vec<N>,
+    /// Its passes, in the order of their numbers.
+    pub passes: Vec<P>,
+    /// What closes it.
+    pub closer: C,
+}
+
+/// The line accepted a job.
+#[derive(Clone, Copy, Debug, PartialEq, Eq)]
+pub struct Receipt {
+    /// The id that the job got.
+    pub id: JobId,
+    /// The number of the entry that it came in by.
+    pub number: u64,
+}
+
+/// Why the line did not accept a job.
+#[derive(Clone, Copy, Debug, PartialEq, Eq)]
+pub enum Refused {
+    /// The line is closed.
+    Closed {
+        /// The count of entries that was found beside the closed mark.
+        seen: u64,
+    },
+    /// The line was full when the job came. It cost an entry.
+    Full,
+    /// The lane has made `MAX_ENTRIES` entries.
+    LaneSpent,
+}
+
+/// What a pass took.
+#[derive(Debug, Drop)]
+pub enum Taken {
+    /// A job, with its id.
+    Job(JobId, Job),
+    /// The line was empty, and jobs may still come.
+    EmptyNow,
+    /// The line was empty, and no job will come.
+    Ended,
+}
+
+/// What is left of a line.
+#[derive(Debug, Drop)]
+pub struct Rest {
+    /// The jobs that no pass took, front first.
+    pub jobs: VecDeque<QueuedJob>,
+    /// The number of accepted jobs of each lane, at the lane's number.
+    pub accepted: Vec<u64>,
+}
+
+/// A line of jobs with lanes, by which jobs come in, and passes, by which they are taken.
+///
+/// Each lane and each pass has a record, which tells what it is known to have done, and which only
+/// its own calls change. Lanes, passes, closers and notes are given only to calls of the line that
+/// made them.
+pub trait JobLine {
+    ghost use Rattle.job_queue.specs.declared.record.LaneRecord.{LaneRecord};
+    ghost use Rattle.job_queue.specs.declared.record.PassRecord.{PassRecord};
+
+    /// The right to hand in jobs by one lane.
+    type Lane;
+    /// The right to take jobs.
+    type Pass;
+    /// The right to close the line.
+    type Closer;
+    /// Shows that the line is closed.
+    type Note;
+
+    ghost id: { Self → LineId };
+
+    ghost is_lane: { LineId → Self.Lane → Type 0 };
+
+    ghost is_pass: { LineId → Self.Pass → Type 0 };
+
+    ghost is_closer: { LineId → Self.Closer → Type 0 };
+
+    ghost is_note: { LineId → Self.Note → Type 0 };
+
+    ghost lane_record: { Self.Lane → LaneRecord };
+
+    ghost pass_record: { Self.Pass → PassRecord };
+
+    ghost note_number: { Self.Note → ℕ };
+
+    /// Opens a line. It reserves all its room before it makes a lane, a pass or the closer, and no
+    /// other call takes memory.
+    fn open(
+        alloc: Global,
+        sizes: Sizes,
+    ) -> Result<Opened<Self, Self::Lane, Self::Pass, Self::Closer>, AllocError>
+        requires lanes { sizes.lanes ≤ MAX_LANES }
+        requires passes { sizes.passes ≤ MAX_PASSES }
+        requires capacity { sizes.capacity ≤ MAX_CAPACITY }
+        ensures sizes { IfOk result (λ made. (id made.line).sizes ≡ sizes) }
+        ensures lanes { IfOk result (λ made. All (is_lane (id made.line)) made.lanes.items) }
+        ensures passes { IfOk result (λ made. All (is_pass (id made.line)) made.passes.items) }
+        ensures closer { IfOk result (λ made. is_closer (id made.line) made.closer) }
+        ensures fresh_lanes { IfOk result (λ made.
+            map lane_record made.lanes.items ≡ fresh_lanes sizes.lanes) }
+        ensures fresh_passes { IfOk result (λ made.
+            map pass_record made.passes.items ≡ fresh_passes sizes.passes) };
+
+    /// The lane's number.
+    fn lane_number(lane: &Self::Lane) -> u32
+        ensures { result ≡ (lane_record lane.now).number };
+
+    /// The close number: how many entries came before the close.
+    fn close_number(note: &Self::Note) -> u64
+        ensures { result ≡ note_number note.now };
+
+    /// Hands in a job, which was made for the line's machine and for this lane.
+    ///
+    /// An accepted job costs the lane one entry, and so does `Full`. A refusal gives the job back.
+    /// `LaneSpent` comes exactly where the lane has made `MAX_ENTRIES` entries.
+    fn submit<R: Wait>(
+        &self,
+        rt: &R,
+        lane: &mut Self::Lane,
+        job: Job,
+    ) -> Result<Receipt, (Job, Refused)>
+        requires lane { is_lane (id self.now) lane.old }
+        requires machine { job.machine ≡ (id self.now).sizes.machine }
+        requires made_for_lane { job.lane ≡ (lane_record lane.old).number }
+        ensures lane { is_lane (id self.now) lane.new }
+        ensures settled { IsSettled (lane_record lane.new) }
+        ensures accepted { IfOk result (λ receipt. GainsEntry (lane_record lane.old)
+            receipt.number (Some (queued receipt.id job)) (lane_record lane.new)) }
+        ensures id { IfOk result (λ receipt. receipt.id ≡ next_id (lane_record lane.old)) }
+        ensures gives_back { IfErr result (λ r. r.0 ≡ job) }
+        ensures refused { IfErr result (λ r.
+            GainsRefusal (lane_record lane.old) r.1 (lane_record lane.new)) }
+        ensures spent_first { MAX_ENTRIES ≤ length (lane_record lane.old).entries →
+            result ≡ Err (job, Refused.LaneSpent) }
+        ensures spent_only { IfErr result (λ r. r.1 ≡ Refused.LaneSpent →
+            MAX_ENTRIES ≤ length (lane_record lane.old).entries) };
+
+    /// Takes the job at the front of the line, if there is one.
+    fn take<R: Wait>(&self, rt: &R, pass: &mut Self::Pass) -> Taken
+        requires { is_pass (id self.now) pass.old }
+        ensures pass { is_pass (id self.now) pass.new }
+        ensures number { (pass_record pass.new).number ≡ (pass_record pass.old).number }
+        ensures taken { (pass_record pass.new).taken
+            ≡ (pass_record pass.old).taken ++ taken_by result }
+        ensures readings { GainsReading (pass_record pass.old).readings result
+            (pass_record pass.new).readings }
+        ensures machine { TakesMadeFor (id self.now).sizes.machine result };
+
+    /// Closes the line.
+    fn close<R: Wait>(&self, rt: &R, closer: Self::Closer) -> Self::Note
+        requires { is_closer (id self.now) closer }
+        ensures { is_note (id self.now) result };
+
+    /// Ends a closed line. It is given as many lanes and passes of the line as the line has, so
+    /// these are all of them.
+    fn into_rest<R: Wait>(
+        self,
+        rt: &R,
+        lanes: Vec<Self::Lane>,
+        passes: Vec<Self::Pass>,
+        note: Self::Note,
+    ) -> Rest
+        requires lanes { All (is_lane (id self)) lanes.items }
+        requires all_lanes { length lanes.items ≡ (id self).sizes.lanes }
+        requires passes { All (is_pass (id self)) passes.items }
+        requires all_passes { length passes.items ≡ (id self).sizes.passes }
+        requires note { is_note (id self) note }
+        ensures run { WholeRun (map lane_record lanes.items) (map pass_record passes.items)
+            result.jobs.items (note_number note) }
+        ensures numbers { (k : ℕ) → k < (id self).sizes.lanes →
+            times k (map (λ l. (lane_record l).number) lanes.items) ≡ 1 }
+        ensures lane_count { length result.accepted.items ≡ (id self).sizes.lanes }
+        ensures accepted { All (λ l. slice_index result.accepted.items (lane_record l).number
+            ≡ length (accepted (lane_record l).entries)) lanes.items }
+        ensures fits { length result.jobs.items ≤ (id self).sizes.capacity };
+}

@@ -1,0 +1,16 @@
+//! The line of jobs: many threads hand in jobs, and many take them.
+//!
+//! A line has lanes, by which jobs come in, and passes, by which they are taken. An accepted job is
+//! taken at most once and in the order of its lane, and no job enters after the close. `JobLine` is
+//! the contract of every line, in terms of what each lane and each pass is known to have done.
+//! `LockedLine` is the plainest line that meets it.
+#![tactic(auto)]
+
+mod job_line;
+mod locked;
+mod record;
+
+pub use job_line::{
+    JobLine, MAX_CAPACITY, MAX_ENTRIES, MAX_PASSES, Opened, Receipt, Refused, Rest, Sizes, Taken,
+};
+pub use record::{Entry, LaneRecord, PassRecord, QueuedJob, Reading};

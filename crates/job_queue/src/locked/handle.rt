@@ -1,0 +1,55 @@
+// What the callers of a locked line hold. None of it has a `Drop`: it is spent in the line's end.
+ghost use Rattle.std.specs.Prelude.{◌≡◌, ℕ, [], ◌∷◌, None, Some};
+ghost use Rattle.job_queue.specs.Locked.View.{pass_view, closer_view};
+ghost use Rattle.job_queue.specs.Locked.Step.{IsLaneSeat, pass_in};
+
+use super::store_lock::Seat;
+
+/// The right to hand in jobs by one lane of a `LockedLine`.
+pub struct Lane {
+    pub(crate) seat: Seat,
+    pub(crate) number: u32,
+    pub(crate) entries: u64,
+    ghost known: { IsLaneSeat seat.me number entries },
+}
+
+/// The right to take jobs of a `LockedLine`.
+pub struct Pass {
+    pub(crate) seat: Seat,
+    ghost known: { seat.me ≡ (pass_view seat.me.0.about (pass_in seat.me.0.passes), []) },
+}
+
+/// The right to close a `LockedLine`. There is one.
+pub struct Closer {
+    pub(crate) seat: Seat,
+    ghost known: { seat.me ≡ (closer_view seat.me.0.about None, []) },
+}
+
+/// Shows that a `LockedLine` is closed.
+pub struct CloseNote {
+    pub(crate) seat: Seat,
+    pub(crate) number: u64,
+    ghost known: { seat.me ≡ (closer_view seat.me.0.about (Some number), []) },
+}
+
+impl Lane {
+    ghost use Rattle.job_queue.specs.Locked.Handle.{lane_record};
+
+    /// The lane's number.
+    pub fn number(&self) -> u32
+        ensures { result ≡ (lane_record self.now).number }
+    {
+        self.number
+    }
+}
+
+impl CloseNote {
+    ghost use Rattle.job_queue.specs.Locked.Handle.{note_number};
+
+    /// The close number: how many entries came before the close.
+    pub fn number(&self) -> u64
+        ensures { result ≡ note_number self.now }
+    {
+        self.number
+    }
+}

@@ -1,0 +1,8 @@
+-- The rows of the functions that play one act, for their proofs.
+use Rattle.std.specs.Prelude.{List, [], ◌∷◌, Option, Some, None}
+use Rattle.jobs_csv.specs.declared.replay_rows.ReplayRow.{ReplayRow}
+
+-- at most one row, as a list
+abbrev pub rows_in : Option ReplayRow → List ReplayRow
+rows_in None = []
+rows_in (Some r) = r ∷ []

@@ -1,0 +1,119 @@
+// From the words of a command line to the end of the program.
+ghost use Rattle.std.specs.Prelude.{◌≡◌, ◌⊎◌, ◌++◌, ◌∷◌, [], Bool, true, IfErr, IfSome, IsTrue, map, string_bytes};
+ghost use Rattle.std.specs.Io.KnownBytes.{Appends};
+ghost use Rattle.clap.specs.Words.{FailsBy, fault_of, kind_of};
+ghost use Rattle.clap.specs.declared.error.kind.ErrorKind.TheVariants.{DisplayHelp, DisplayVersion, OutOfMemory};
+ghost use Rattle.jobs_csv.specs.Fault.{attribute, fault_text};
+ghost use Rattle.jobs_csv.specs.declared.fault.Fault.{Fault as TheFault};
+ghost use Rattle.jobs_cli.specs.Answer.{IsCommandFault, IsMetInReading};
+ghost use Rattle.jobs_cli.specs.CommandLine.{IsWithinLimits, program_app};
+ghost use Rattle.jobs_cli.specs.Program.{EndsBy, IsAnswerTo, exit_status};
+
+use crate::invocation::Invocation;
+use crate::{command_line, place, replay, run};
+use clap::error::ErrorKind;
+use jobs_csv::{Device, Fault, FaultKind};
+use std::alloc::Global;
+use std::io::{Read, Write};
+
+/// How a call of the program ends.
+#[derive(Clone, Copy, Debug, PartialEq, Eq)]
+pub enum Ending {
+    /// The command is done, or the help or the version is shown.
+    Done,
+    /// The command line is bad.
+    Rejected,
+    /// The command failed. `is_reported` says whether the error line was written.
+    Failed { fault: Fault, is_reported: bool },
+}
+
+impl Ending {
+    /// The exit status.
+    pub fn status(&self) -> u8
+        ensures { result ≡ exit_status self.now }
+    {
+        match self {
+            Ending::Done => 0,
+            Ending::Rejected => 2,
+            Ending::Failed { fault, .. } => fault.status(),
+        }
+    }
+}
+
+// Reports a fault in one line.
+fn report<E: Write>(fault: Fault, errors: &mut E) -> Ending
+    ensures failed { (is_reported : Bool) × (result ≡ Ending.Failed fault is_reported) }
+    ensures line { result ≡ Ending.Failed fault true → Appends (E.contents errors.old) (E.contents errors.new) (fault_text fault ++ 10 ∷ []) }
+{
+    let is_reported = errors.writeln(fault).is_ok();
+    Ending::Failed { fault, is_reported }
+}
+
+// Does what the request asks for.
+fn answer<R: Read + Device, W: Write + Device>(
+    alloc: Global,
+    invocation: Invocation,
+    reader: &mut R,
+    writer: &mut W,
+) -> Result<(), Fault>
+    requires { IsWithinLimits invocation }
+    ensures answered { IfSome (R.remaining reader.old) (λ bytes. IsAnswerTo invocation bytes (W.contents writer.old) (W.contents writer.new) result) }
+    ensures failed { IfErr result (λ fault. IsCommandFault (R.failures reader.old) (R.failures reader.new) (W.failures writer.old) (W.failures writer.new) fault) }
+    ensures untouched { IfErr result (λ fault. IsMetInReading fault → writer.new ≡ writer.old) }
+{
+    match invocation {
+        Invocation::Run { n } => run::run_on(alloc, n, reader, writer),
+        Invocation::Place { n } => place::place_on(alloc, n, reader, writer),
+        Invocation::Replay { n, stations } => replay::replay_on(alloc, n, stations, reader, writer),
+    }
+}
+
+// Writes the help or the version, which were asked for.
+fn show<W: Write + Device, E: Write>(error: &clap::Error, writer: &mut W, errors: &mut E) -> Ending
+    ensures shown { (result ≡ Ending.Done) ⊎ ((is_reported : Bool) × (result ≡ Ending.Failed (attribute FaultKind.Write (W.failures writer.old) (W.failures writer.new)) is_reported)) }
+    ensures line { (fault : TheFault) → result ≡ Ending.Failed fault true → Appends (E.contents errors.old) (E.contents errors.new) (fault_text fault ++ 10 ∷ []) }
+    ensures quiet { result ≡ Ending.Done → errors.new ≡ errors.old }
+{
+    let failures_before = writer.failures();
+    if write!(writer, "{error}").is_ok() && writer.flush().is_ok() {
+        return Ending::Done;
+    }
+    report(
+        Fault::attribute(FaultKind::Write, failures_before, writer.failures()),
+        errors,
+    )
+}
+
+/// Does what the words of a command line ask for, of which the first is the program's name.
+///
+/// The line of a fault and what is wrong with a command line go to `errors`.
+pub fn run<R: Read + Device, W: Write + Device, E: Write>(
+    alloc: Global,
+    words: &[String],
+    reader: &mut R,
+    writer: &mut W,
+    errors: &mut E,
+) -> Ending
+    ensures ends { EndsBy (map string_bytes words.now) (R.remaining reader.old) (W.contents writer.old) (W.contents writer.new) (IsCommandFault (R.failures reader.old) (R.failures reader.new) (W.failures writer.old) (W.failures writer.new)) result }
+    ensures line { (fault : TheFault) → result ≡ Ending.Failed fault true → Appends (E.contents errors.old) (E.contents errors.new) (fault_text fault ++ 10 ∷ []) }
+    ensures quiet { result ≡ Ending.Done → errors.new ≡ errors.old }
+    ensures rejected { result ≡ Ending.Rejected → (reader.new ≡ reader.old) × (writer.new ≡ writer.old) }
+{
+    let error = match command_line::parse_args(alloc, words) {
+        Ok(invocation) => {
+            return match answer(alloc, invocation, reader, writer) {
+                Ok(()) => Ending::Done,
+                Err(fault) => report(fault, errors),
+            };
+        }
+        Err(error) => error,
+    };
+    match error.kind() {
+        ErrorKind::OutOfMemory => report(Fault::no_memory(), errors),
+        ErrorKind::DisplayHelp | ErrorKind::DisplayVersion => show(&error, writer, errors),
+        _ => {
+            let _written = write!(errors, "{error}");
+            Ending::Rejected
+        }
+    }
+}

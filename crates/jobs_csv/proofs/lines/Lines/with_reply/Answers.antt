@@ -1,5 +1,0 @@
-use Rattle.jobs_csv.proofs.LinesLemmas.{line_gathered}
-use Rattle.jobs_csv.proofs.lines.Lines.with_reply.Goals as goal
-
-pub invariant_of-self : goal.invariant_of-self
-invariant_of-self c = line_gathered _ _ _ _ c.deref_mut.ensures.value c.self.invariant c.in_ok-write_reply.ensures

@@ -1,0 +1,27 @@
+-- How a name is kept: in front of zeros, 16 bytes in all. The two lemmas stand here for the model of a name.
+use Rattle.std.specs.Prelude.{◌≡◌, ℕ, suc, zero, ◌≤◌, ◌-◌, true, List, [], ◌∷◌, ◌++◌, length, take, drop}
+use Rattle.std.proofs.Common.{ap, sym, subst, ◌∙◌, take-append-drop, length-take-le}
+use Rattle.jobs_csv.specs.Name.{is_name}
+
+-- n zeros
+unfoldable pub zeros : ℕ → List ℕ
+zeros zero = []
+zeros (suc n) = 0 ∷ zeros n
+
+-- a name of this length in front of zeros, 16 bytes in all
+pub record IsPadded (len : ℕ) (bytes : List ℕ) : Type 0 where
+  pub size : length bytes ≡ 16
+  pub within : len ≤ 16
+  pub name : is_name (take len bytes) ≡ true
+  pub padding : drop len bytes ≡ zeros (16 - len)
+
+-- the length of the text
+pub same_len : (len : ℕ) (bytes : List ℕ) → IsPadded len bytes → length (take len bytes) ≡ len
+same_len len bytes h = length-take-le len bytes (subst (λ n. len ≤ n) (sym h.size) h.within)
+
+-- the text and its zeros are all the bytes
+pub same_bytes : (len : ℕ) (bytes : List ℕ) → IsPadded len bytes → take len bytes ++ zeros (16 - length (take len bytes)) ≡ bytes
+same_bytes len bytes h =
+    ap (λ n. take len bytes ++ zeros (16 - n)) (same_len len bytes h)
+    ∙ ap (λ more. take len bytes ++ more) (sym h.padding)
+    ∙ take-append-drop len bytes

@@ -1,0 +1,186 @@
+// The lines of a file, buffered on their way to a writer that is lent.
+ghost use Rattle.std.specs.Prelude.{◌≡◌, [], ◌++◌, ℕ, List, IfErr, IfOk, OnOk};
+ghost use Rattle.std.specs.Io.KnownBytes.{Appends, Keeps};
+ghost use Rattle.jobs_csv.specs.Fault.{attribute};
+ghost use Rattle.jobs_csv.specs.Text.{file_text, line_of};
+
+use crate::device::Device;
+use crate::fault::{Fault, FaultKind, WriteStopped};
+use crate::row::{Row, RowFields};
+use csv::Writer;
+use std::alloc::{AllocError, Global};
+use std::io::Write;
+use std::marker::Model;
+
+// The buffer is full once it has this many bytes.
+const FULL: usize = 65_536;
+
+/// The lines of one file on their way to a writer.
+///
+/// A contract sees the text that is buffered. A call that fails drops the buffer.
+#[derive(Drop)]
+pub struct LineBuffer {
+    // Both are large structs, and a buffer is passed by value.
+    writer: Box<Writer<Vec<u8>>>,
+    fields: Box<RowFields>,
+    alloc: Global,
+}
+
+impl Model for LineBuffer {
+    ghost use Rattle.std.specs.Prelude.{List, ℕ};
+    ghost use Rattle.jobs_csv.specs.Inner.Output.{HasText, buffered, items_held};
+
+    ghost Value = { List ℕ };
+
+    ghost view = { λ l. buffered l.writer.value };
+
+    ghost invariant = { λ l. HasText items_held l.writer.value (buffered l.writer.value) };
+}
+
+// Writes out all of a text.
+fn write_out<W: Write>(text: &[u8], writer: &mut W) -> Result<(), WriteStopped>
+    ensures { OnOk result (Appends (W.contents writer.old) (W.contents writer.new) text.now) }
+{
+    if writer.write_all(text).is_err() {
+        return Err(WriteStopped);
+    }
+    Ok(())
+}
+
+// Flushes the writer.
+fn flush_writer<W: Write>(writer: &mut W) -> Result<(), WriteStopped>
+    ensures { OnOk result (Keeps (W.contents writer.old) (W.contents writer.new)) }
+{
+    if writer.flush().is_err() {
+        return Err(WriteStopped);
+    }
+    Ok(())
+}
+
+impl LineBuffer {
+    /// An empty buffer.
+    pub fn new(alloc: Global) -> Result<Self, AllocError>
+        ensures { IfOk result (λ lines. lines ≡ []) }
+    {
+        Ok(LineBuffer {
+            writer: Box::new(alloc, Writer::from_writer(Vec::new(alloc)))?,
+            fields: Box::new(alloc, RowFields::new(alloc))?,
+            alloc,
+        })
+    }
+
+    /// Buffers the header of a type of rows.
+    pub fn push_header<T: Row>(mut self) -> Result<Self, AllocError>
+        ensures { IfOk result (λ lines. lines ≡ self ++ line_of T.columns) }
+    {
+        self.fields.clear();
+        T::push_columns(&mut self.fields)?;
+        self.fields.write_to(&mut self.writer)?;
+        Ok(self)
+    }
+
+    /// Buffers the line of a row.
+    pub fn push<T: Row>(mut self, row: &T) -> Result<Self, AllocError>
+        ensures { IfOk result (λ lines. lines ≡ self ++ line_of (T.fields row.now)) }
+    {
+        self.fields.clear();
+        row.push_fields(self.alloc, &mut self.fields)?;
+        self.fields.write_to(&mut self.writer)?;
+        Ok(self)
+    }
+
+    /// Buffers the line of a row and drops the row. A full buffer is written out.
+    pub fn write_row<T: Row + Drop, W: Write>(
+        self,
+        row: T,
+        writer: &mut W,
+    ) -> Result<Self, WriteStopped>
+        ensures { IfOk result (λ lines. (out : List ℕ) × Appends (W.contents writer.old) (W.contents writer.new) out × (out ++ lines ≡ self ++ line_of (T.fields row))) }
+    {
+        let lines = self.push(&row)?;
+        let lines = lines.flush_if_full(writer)?;
+        Ok(lines)
+    }
+
+    /// Writes out the buffered lines and empties the buffer.
+    pub fn flush<W: Write>(self, writer: &mut W) -> Result<Self, WriteStopped>
+        ensures written { OnOk result (Appends (W.contents writer.old) (W.contents writer.new) self) }
+        ensures empty { IfOk result (λ lines. lines ≡ []) }
+    {
+        let LineBuffer {
+            writer: buffer,
+            fields,
+            alloc,
+        } = self;
+        let Ok(mut text) = Box::into_inner(buffer).into_inner() else {
+            return Err(WriteStopped);
+        };
+        write_out(&text, writer)?;
+        text.clear();
+        let Ok(writer) = Box::new(alloc, Writer::from_writer(text)) else {
+            return Err(WriteStopped);
+        };
+        Ok(LineBuffer {
+            writer,
+            fields,
+            alloc,
+        })
+    }
+
+    /// Writes out the buffered lines, as `flush` does, if the buffer is full.
+    pub fn flush_if_full<W: Write>(self, writer: &mut W) -> Result<Self, WriteStopped>
+        ensures { IfOk result (λ lines. (out : List ℕ) × Appends (W.contents writer.old) (W.contents writer.new) out × (out ++ lines ≡ self)) }
+    {
+        if self.writer.get_ref().len() >= FULL {
+            self.flush(writer)
+        } else {
+            Ok(self)
+        }
+    }
+
+    /// Writes out the last lines and flushes the writer.
+    pub fn finish<W: Write>(self, writer: &mut W) -> Result<(), WriteStopped>
+        ensures { OnOk result (Appends (W.contents writer.old) (W.contents writer.new) self) }
+    {
+        let _empty = self.flush(writer)?;
+        flush_writer(writer)
+    }
+}
+
+// Writes the lines of these rows under their header.
+fn write_all_rows<T: Row + Drop, W: Write>(
+    alloc: Global,
+    rows: Vec<T>,
+    writer: &mut W,
+) -> Result<(), WriteStopped>
+    ensures { OnOk result (Appends (W.contents writer.old) (W.contents writer.new) (file_text T.columns T.fields rows.items)) }
+{
+    let mut lines = LineBuffer::new(alloc)?.push_header::<T>()?;
+    for row in rows {
+        lines = lines.write_row(row, writer)?;
+    }
+    lines.finish(writer)
+}
+
+/// Writes the lines of these rows under their header, and drops each row once its line is made.
+///
+/// A failure is the writer's where its count of failed calls rose in this call, or stood at
+/// `u64::MAX`, and is out of memory otherwise. After it the first lines may be out.
+pub fn write_rows<T: Row + Drop, W: Write + Device>(
+    alloc: Global,
+    rows: Vec<T>,
+    writer: &mut W,
+) -> Result<(), Fault>
+    ensures written { OnOk result (Appends (W.contents writer.old) (W.contents writer.new) (file_text T.columns T.fields rows.items)) }
+    ensures failed { IfErr result (λ fault. fault ≡ attribute FaultKind.Write (W.failures writer.old) (W.failures writer.new)) }
+{
+    let failures_before = writer.failures();
+    match write_all_rows(alloc, rows, writer) {
+        Ok(()) => Ok(()),
+        Err(WriteStopped) => Err(Fault::attribute(
+            FaultKind::Write,
+            failures_before,
+            writer.failures(),
+        )),
+    }
+}

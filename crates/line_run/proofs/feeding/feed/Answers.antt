@@ -1,0 +1,49 @@
+use Rattle.std.proofs.Common.{◌≡◌, ◌++◌, ◌∷◌, [], List, map, ℕ, None, Some, sym, ap, ◌∙◌, append_assoc}
+use Rattle.std.proofs.lemmas.List.{map-append}
+use Rattle.std.proofs.lemmas.List.Elements.{All-rest, All-same}
+use Rattle.job_types.specs.Job.{JobData}
+use Rattle.job_queue.specs.declared.record.QueuedJob.{QueuedJob}
+use Rattle.job_queue.specs.declared.record.LaneRecord.{LaneRecord}
+use Rattle.job_queue.specs.Record.{accepted}
+use Rattle.job_queue.specs.Line.{GainsEntry}
+use Rattle.job_queue.proofs.DeedLemmas.{accepted-push, accepted-full}
+use Rattle.line_run.specs.Fed.{job_of, accepted_jobs, IsFor}
+use Rattle.line_run.proofs.feeding.feed.Goals as goal
+
+-- an accepted job goes from the front of the list to the end of the lane's jobs
+fed_one : (old new : LaneRecord) (number : ℕ) (q : QueuedJob) (rest : List JobData) → GainsEntry old number (Some q) new → accepted_jobs new ++ rest ≡ accepted_jobs old ++ q.job ∷ rest
+fed_one old new number q rest gains =
+    ap (λ (r : LaneRecord). accepted_jobs r ++ rest) gains
+    ∙ (ap (λ (qs : List QueuedJob). map job_of qs ++ rest) (accepted-push old.entries number q)
+    ∙ (ap (λ (js : List JobData). js ++ rest) (map-append job_of (accepted old.entries) (q ∷ [])) ∙ append_assoc (accepted_jobs old) (q.job ∷ []) rest))
+
+-- a full entry brings no job
+fed_none : (old new : LaneRecord) (number : ℕ) → GainsEntry old number None new → accepted_jobs new ≡ accepted_jobs old
+fed_none old new number gains = ap accepted_jobs gains ∙ ap (map job_of) (accepted-full old.entries number)
+
+pub loop-preserved-in-Ok : goal.loop-preserved-in-Ok
+loop-preserved-in-Ok g c =
+    let line = g.L.JobLine in
+    let inv = c.loop.invariant in
+    let rest = c.pop_front.new.self.items in
+    let items = c.in-Some-pop_front.ensures.items in
+    let gains = c.in-Ok.ensures.accepted in (
+      c.in-Ok.ensures.lane,
+      ap (λ (r : LaneRecord). r.number) gains ∙ inv.1,
+      All-rest (IsFor (line.id c.args.line.now).sizes.machine (line.lane_record c.args.lane.now).number) c.in-Some-pop_front.job rest _ items inv.2,
+      fed_one (line.lane_record c.loop.lane) (line.lane_record c.submit.new.lane) _ _ rest gains ∙ (ap (λ (js : List JobData). accepted_jobs (line.lane_record c.loop.lane) ++ js) (sym items) ∙ inv.3),
+    )
+
+pub loop-preserved : goal.loop-preserved
+loop-preserved g c =
+    let line = g.L.JobLine in
+    let inv = c.loop.invariant in
+    let rest = c.pop_front.new.self.items in
+    let full = c.in-Err-default-Full in
+    let gains = (rw full.field-0-1-is at full.ensures.refused) in
+    let items : c.push_front_reserved.new.self.items ≡ c.loop.jobs.items = c.push_front_reserved.ensures.items ∙ (ap (λ (j : JobData). j ∷ rest) full.ensures.gives_back ∙ sym c.in-Some-pop_front.ensures.items) in (
+      full.ensures.lane,
+      ap (λ (r : LaneRecord). r.number) gains.1 ∙ inv.1,
+      All-same (IsFor (line.id c.args.line.now).sizes.machine (line.lane_record c.args.lane.now).number) _ _ items inv.2,
+      ap (λ (js : List JobData). js ++ c.push_front_reserved.new.self.items) (fed_none (line.lane_record c.loop.lane) (line.lane_record c.submit.new.lane) gains.0 gains.1) ∙ (ap (λ (js : List JobData). accepted_jobs (line.lane_record c.loop.lane) ++ js) items ∙ inv.3),
+    )

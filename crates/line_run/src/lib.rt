@@ -1,0 +1,16 @@
+//! Callers of a line of jobs, proved from the contract of `JobLine` alone: a feeder, a taker, and a
+//! whole run with two of each on threads of their own.
+//!
+//! They show what the contract gives to a user of any line.
+#![tactic(auto)]
+
+mod draining;
+mod feeding;
+mod member;
+mod pair;
+mod running;
+
+pub use draining::drain;
+pub use feeding::feed;
+pub use member::{Door, Feeder, Naming, Taker};
+pub use running::{Finished, run};

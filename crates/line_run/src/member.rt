@@ -1,0 +1,194 @@
+// What a thread has: a lane with its jobs, a pass with what it took, or the right to close. The type
+// says what is known of it, so it may lie under a lock.
+ghost use Rattle.std.specs.Prelude.{◌≡◌, ℕ, ◌++◌, List, None, Some, IfSome, MatchOption};
+ghost use Rattle.std.specs.List.{All};
+ghost use Rattle.line_run.specs.Fed.{accepted_jobs, IsFor};
+
+use crate::draining::drain;
+use crate::feeding::feed;
+use job_queue::{JobLine, QueuedJob};
+use job_types::Job;
+use std::collections::VecDeque;
+use std::marker::{Brand, Model, PhantomData};
+use std::sync::Wait;
+
+/// Names one run: its line, and the jobs of each lane.
+pub trait Naming {
+    ghost use Rattle.std.specs.Prelude.{ℕ, List};
+    ghost use Rattle.job_types.specs.Job.{JobData};
+    ghost use Rattle.job_queue.specs.Line.{LineId};
+
+    ghost line: { LineId };
+
+    ghost jobs: { ℕ → List JobData };
+}
+
+impl Naming for Brand {
+    ghost use Rattle.std.specs.Prelude.{[]};
+    ghost use Rattle.line_run.specs.Fed.{no_line};
+
+    ghost line = { no_line };
+
+    ghost jobs = { λ _. [] };
+}
+
+/// A lane, and the jobs that it has still to hand in.
+pub struct Feeder<J: Naming, L: JobLine> {
+    lane: L::Lane,
+    left: VecDeque<Job>,
+    of: PhantomData<J>,
+}
+
+impl<J: Naming, L: JobLine> Model for Feeder<J, L> {
+    ghost use Rattle.std.specs.Prelude.{◌≡◌, ◌++◌};
+    ghost use Rattle.std.specs.List.{All};
+    ghost use Rattle.line_run.specs.Fed.{accepted_jobs, IsFor};
+
+    ghost Value = { Unit {0} };
+
+    ghost view = { λ f. tt };
+
+    ghost invariant = { λ f. L.is_lane J.line f.lane
+        × All (IsFor J.line.sizes.machine (L.lane_record f.lane).number) f.left.items
+        × (accepted_jobs (L.lane_record f.lane) ++ f.left.items ≡ J.jobs (L.lane_record f.lane).number) };
+}
+
+impl<J: Naming, L: JobLine> Feeder<J, L> {
+    pub fn new(lane: L::Lane, left: VecDeque<Job>) -> Feeder<J, L>
+        requires lane { L.is_lane J.line lane }
+        requires made_for { All (IsFor J.line.sizes.machine (L.lane_record lane).number) left.items }
+        requires jobs { accepted_jobs (L.lane_record lane) ++ left.items ≡ J.jobs (L.lane_record lane).number }
+    {
+        Feeder {
+            lane,
+            left,
+            of: PhantomData,
+        }
+    }
+
+    pub fn feed<R: Wait>(&mut self, rt: &R, line: &L)
+        requires { L.id line.now ≡ J.line }
+    {
+        feed(rt, line, &mut self.lane, &mut self.left);
+    }
+
+    pub fn into_parts(self) -> (L::Lane, VecDeque<Job>)
+        ensures lane { L.is_lane J.line result.0 }
+        ensures jobs { accepted_jobs (L.lane_record result.0) ++ result.1.items ≡ J.jobs (L.lane_record result.0).number }
+    {
+        let Feeder { lane, left, of: _ } = self;
+        (lane, left)
+    }
+}
+
+/// A pass, and the jobs that it took.
+pub struct Taker<J: Naming, L: JobLine> {
+    pass: L::Pass,
+    taken: Vec<QueuedJob>,
+    of: PhantomData<J>,
+}
+
+impl<J: Naming, L: JobLine> Model for Taker<J, L> {
+    ghost use Rattle.std.specs.Prelude.{◌≡◌};
+
+    ghost Value = { Unit {0} };
+
+    ghost view = { λ t. tt };
+
+    ghost invariant = { λ t. L.is_pass J.line t.pass × ((L.pass_record t.pass).taken ≡ t.taken.items) };
+}
+
+impl<J: Naming, L: JobLine> Taker<J, L> {
+    pub fn new(pass: L::Pass, taken: Vec<QueuedJob>) -> Taker<J, L>
+        requires pass { L.is_pass J.line pass }
+        requires taken { (L.pass_record pass).taken ≡ taken.items }
+    {
+        Taker {
+            pass,
+            taken,
+            of: PhantomData,
+        }
+    }
+
+    pub fn drain<R: Wait>(&mut self, rt: &R, line: &L)
+        requires { L.id line.now ≡ J.line }
+    {
+        drain(rt, line, &mut self.pass, &mut self.taken);
+    }
+
+    pub fn into_parts(self) -> (L::Pass, Vec<QueuedJob>)
+        ensures pass { L.is_pass J.line result.0 }
+        ensures taken { (L.pass_record result.0).taken ≡ result.1.items }
+    {
+        let Taker { pass, taken, of: _ } = self;
+        (pass, taken)
+    }
+}
+
+/// The right to close, or the note of the close.
+pub struct Door<J: Naming, L: JobLine> {
+    closer: Option<L::Closer>,
+    note: Option<L::Note>,
+    of: PhantomData<J>,
+}
+
+impl<J: Naming, L: JobLine> Model for Door<J, L> {
+    ghost use Rattle.std.specs.Prelude.{◌≡◌, None, MatchOption};
+
+    ghost Value = { Unit {0} };
+
+    ghost view = { λ d. tt };
+
+    ghost invariant = { λ d. MatchOption d.closer
+        (MatchOption d.note ⊥ (L.is_note J.line)) (λ c. L.is_closer J.line c × (d.note ≡ None)) };
+}
+
+impl<J: Naming, L: JobLine> Door<J, L> {
+    pub fn new(closer: L::Closer) -> Door<J, L>
+        requires { L.is_closer J.line closer }
+    {
+        Door {
+            closer: Some(closer),
+            note: None,
+            of: PhantomData,
+        }
+    }
+
+    pub fn close<R: Wait>(&mut self, rt: &R, line: &L)
+        requires { L.id line.now ≡ J.line }
+    {
+        if let Some(closer) = self.closer.take() {
+            match self.note.replace(line.close(rt, closer)) {
+                None => {}
+                Some(note) => never(note),
+            }
+        }
+    }
+
+    pub fn into_note<R: Wait>(self, rt: &R, line: &L) -> L::Note
+        requires { L.id line.now ≡ J.line }
+        ensures { L.is_note J.line result }
+    {
+        let Door {
+            closer,
+            note,
+            of: _,
+        } = self;
+        match (closer, note) {
+            (Some(closer), None) => line.close(rt, closer),
+            (None, Some(note)) => note,
+            (Some(closer), Some(note)) => {
+                never(closer);
+                note
+            }
+            (None, None) => unreachable!(),
+        }
+    }
+}
+
+// No call comes here.
+fn never<T>(_value: T)
+    requires { ⊥ }
+{
+    unreachable!()
+}

@@ -1,0 +1,17 @@
+//! How a stranger stands on the crates of this repository: one small proved caller of each.
+//!
+//! Each caller is quoted in the `CALLING.md` of the crate that it calls.
+#![tactic(auto)]
+
+mod count;
+mod extent;
+mod schedule;
+mod two_regions;
+
+pub use count::count_jobs;
+pub use extent::{Extent, share_extent};
+pub use schedule::play;
+pub use two_regions::take_two;
+
+#[cfg(test)]
+mod tests;

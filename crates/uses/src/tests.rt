@@ -1,0 +1,97 @@
+//! Each caller once; the results are worked out by hand.
+
+ghost use Rattle.std.specs.Prelude.{All};
+ghost use Rattle.uses.specs.Extent.{IsExtentValue};
+
+use crate::{Extent, count_jobs, play, share_extent, take_two};
+use alloc_bits::AllocBits;
+use cube_core::{Act, Phase};
+use cube_shape::Region;
+use jobs_csv::{Fault, FaultKind};
+use std::test::Fail;
+
+#[test]
+fn two_regions_are_apart(rt: HostRuntime) -> Result<(), Fail> {
+    let mut bits = AllocBits::new(rt.alloc(), 2)?;
+    let taken = take_two(&mut bits, 3, 7, 1)?;
+    assert_eq!(rt; taken.0, Region { base: 0, dim: 1 });
+    assert_eq!(rt; taken.1, Region { base: 2, dim: 1 });
+    Ok(())
+}
+
+// The extents of four numbers, each alone.
+fn extents() -> [Extent; 4]
+    ensures { All IsExtentValue result }
+{
+    [
+        Extent {
+            least: 5,
+            greatest: 5,
+        },
+        Extent {
+            least: 9,
+            greatest: 9,
+        },
+        Extent {
+            least: 2,
+            greatest: 2,
+        },
+        Extent {
+            least: 7,
+            greatest: 7,
+        },
+    ]
+}
+
+#[test]
+fn every_rank_has_the_extent_of_all(rt: HostRuntime) {
+    let mut extents = extents();
+    share_extent(&mut extents, 2);
+    let all = Extent {
+        least: 2,
+        greatest: 9,
+    };
+    assert_eq!(rt; extents, [all; 4]);
+}
+
+// Station 0 holds node 2, the lower half, so station 1 finds it occupied and is idle again.
+#[test]
+fn a_schedule_leaves_lawful_holdings(rt: HostRuntime) -> Result<(), Fail> {
+    let first = Act::Take {
+        station: 0,
+        node: 2,
+    };
+    let second = Act::Take {
+        station: 1,
+        node: 2,
+    };
+    let step = Act::Step { station: 0 };
+    let acts = [
+        first,
+        step,
+        step,
+        step,
+        step,
+        second,
+        Act::Step { station: 1 },
+    ];
+    let world = play(rt.alloc(), 1, 2, &acts)?;
+    assert!(rt; world.phase(0) == Phase::Holding { node: 2 });
+    assert!(rt; world.phase(1) == Phase::Idle);
+    Ok(())
+}
+
+#[test]
+fn a_file_has_two_jobs(rt: HostRuntime) {
+    let file = b"lane,kind,op,root,items\n0,allreduce,add,0,1 2\n1,broadcast,-,0,7\n";
+    match count_jobs(rt.alloc(), 3, file.as_slice()) {
+        Ok(count) => assert_eq!(rt; count, 2),
+        Err(fault) => assert!(rt; false, "{fault}"),
+    }
+    let wrong = Err(Fault {
+        row: 0,
+        what: FaultKind::Word,
+    });
+    let file = b"lane,kind,op,root,item\n";
+    assert!(rt; count_jobs(rt.alloc(), 3, file.as_slice()) == wrong);
+}
