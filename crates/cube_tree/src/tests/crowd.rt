@@ -1,12 +1,14 @@
 //! Many threads at once: what is held at one moment is checked by a counter for each processor.
-ghost use Rattle.std.specs.Prelude.{◌≡◌, All, IsSomeAnd};
+ghost use Rattle.std.specs.Prelude.{◌≡◌, ◌+◌, ◌≤◌, [], All, IsSomeAnd, vec_len, vec_capacity};
 ghost use Rattle.cube_tree.specs.Handles.{cube_dim, IsStationOf};
 
 use super::{closed, opened};
 use crate::{Cube, Station, Subcube};
+use std::alloc::{AllocError, Global};
 use std::mem;
 use std::sync::atomic::AtomicU64;
 use std::sync::atomic::Ordering::SeqCst;
+use std::test::Fail;
 use std::thread;
 use std::thread::Threads;
 
@@ -89,4 +91,57 @@ fn run_all<R: Threads + Sync>(
             ensures { IsSomeAnd slot.exit.now (λ station. IsStationOf cube.entry.now station) }
         { run(cube, slot, held, clashes) },
     );
+}
+
+// Each station of the list gets a slot.
+fn seat_all(cube: &Cube, list: &mut Vec<Station>, slots: &mut Vec<Option<Station>>)
+    requires stations { All (IsStationOf cube.now) list.old.items }
+    requires empty { slots.old.items ≡ [] }
+    requires room { vec_len list.old ≤ vec_capacity slots.old }
+    ensures none { vec_len list.new ≡ 0 }
+    ensures seated { All (λ slot. IsSomeAnd slot (λ station. IsStationOf cube.now station)) slots.new.items }
+{
+    let _ = &cube.tree;
+    while let Some(station) = list.pop() {
+        slots.push_reserved(Some(station));
+    }
+}
+
+// All stations retire.
+fn retire_all(cube: &Cube, slots: &mut Vec<Option<Station>>)
+    requires { All (λ slot. IsSomeAnd slot (λ station. IsStationOf cube.now station)) slots.old.items }
+    ensures { vec_len slots.new ≡ 0 }
+{
+    while let Some(slot) = slots.pop() {
+        match slot {
+            Some(station) => station.retire(cube),
+            None => (),
+        }
+    }
+}
+
+// A counter for each of 32 processors.
+fn counters(alloc: Global) -> Result<Vec<AtomicU64>, AllocError> {
+    let mut held = Vec::new(alloc);
+    for _ in 0..32 {
+        held.push(AtomicU64::new(0))?;
+    }
+    Ok(held)
+}
+
+#[test]
+fn a_crowd_holds_no_processor_twice(rt: HostRuntime) -> Result<(), Fail> {
+    let held = counters(rt.alloc())?;
+    let clashes = AtomicU64::new(0);
+    let mut slots = Vec::with_capacity(rt.alloc(), 8).expect(&rt, "no memory");
+    let (cube, mut list) = opened(&rt, rt.alloc(), 5, 8);
+    seat_all(&cube, &mut list, &mut slots);
+    list.destroy_empty();
+    run_all(&rt, &cube, slots.as_mut_slice(), &held, &clashes);
+    retire_all(&cube, &mut slots);
+    slots.destroy_empty();
+    assert_eq!(rt; clashes.load(SeqCst), 0);
+    let machine = closed(&rt, cube);
+    assert!(rt; machine.words().iter().skip(1).all(|word| *word == 0));
+    Ok(())
 }
