@@ -3,3 +3,4 @@ mod OpeningLemmas
 mod EndLemmas
 mod TryLemmas
 mod ApartLemmas
+pub mod SharedLemmas

@@ -21,3 +21,6 @@ pub use handles::{Cube, FreeMachine, Station, StillOut, Subcube};
 pub use refusal::Refusal;
 pub use refused::CubeRefused;
 pub use tree_steps::Why;
+
+#[cfg(test)]
+mod tests;

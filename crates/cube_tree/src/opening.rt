@@ -20,6 +20,7 @@ impl Cube {
             ↔ ((n ≤ MAX_DIM) × ((stations ≡ 0) ⊎ (MAX_STATIONS < stations))) }
         ensures size { IfOk result (λ made. cube_size made.0 ≡ size_with n stations) }
         ensures loads { IfOk result (λ made. loads_of made.0 ≡ []) }
+        ensures count { IfOk result (λ made. vec_len made.1 ≡ stations) }
         ensures idle { IfOk result (λ made. map station_entry made.1.items ≡ idle_entries 0 stations) }
         ensures of_cube { IfOk result (λ made. All (IsStationOf made.0) made.1.items) }
     {
@@ -56,6 +57,7 @@ fn deal(tree: &Tree, seat: &mut Seat, list: &mut Vec<Station>, stations: u32)
     ensures seat { seat.new.table_id ≡ seat.old.table_id }
     ensures bare { IsBare seat.new.me }
     ensures loads { seat.new.me.0.loads ≡ [] }
+    ensures len { vec_len list.new ≡ stations }
     ensures idle { map station_entry list.new.items ≡ idle_entries 0 stations }
     ensures of_tree { All (HasTable (id_of tree.now)) list.new.items }
 {

@@ -33,6 +33,7 @@ returns c =
       seat = c.loop-number.invariant.same;
       bare = last.0;
       loads = last.1;
+      len = omega (arith, all, c.loop-number.invariant.len);
       idle = c.loop-number.invariant.idle ∙ ap (idle_entries 0) all;
       of_tree = c.loop-number.invariant.of_tree;
     }
