@@ -31,7 +31,7 @@ missing_bits n roll all missing few small ones is s = elim (cases_lt s n) [
     sum = ap (λ m. bit_at m s) is ∙ bit_at_and all (bit_not w64 roll) s
 
     there : (IsSet roll s → ⊥) → bit_at missing s ≡ 1 - bit_at roll s → bit_at roll s < 2 → IsSet missing s
-    there clear bit two = elim (cases_eq (bit_at roll s) 1) [ | inl has ↦ absurd (clear has) | inr other ↦ omega (arith, bit, two, other) ]
+    there clear bit two = elim (cases_eq (bit_at roll s) 1) [ inl has ↦ absurd (clear has) | inr other ↦ omega (arith, bit, two, other) ]
 
 -- where none is missing, the roll has the bit of each
 pub none_missing : (n roll missing : ℕ) → IsMissing n roll missing → missing ≡ 0 → IsWhole n roll

@@ -120,9 +120,7 @@ fn refused_all(rt: &impl Abort, cube: &Cube, station: Station, k: u32, counts: R
 fn closed(rt: &impl Abort, cube: Cube) -> FreeMachine {
     match cube.close() {
         Ok(machine) => machine,
-        Err(StillOut { cube, missing: _ }) => {
-            panic!(rt; "a station is out")
-        }
+        Err(StillOut { cube, missing: _ }) => { panic!(rt; "a station is out") }
     }
 }
 

@@ -150,9 +150,8 @@ impl Tree {
         ensures walks { Walks seat.old.me seat.new.me }
         ensures phase { IsAt seat.new.me (Phase.Unmarked at) }
     {
-        self.table
-            .shared
-            .fetch_and::<Next>(seat, at as usize, USE_BITS);
+        let kept = USE_BITS;
+        self.table.shared.fetch_and::<Next>(seat, at as usize, kept);
     }
 
     /// The station's mark is set: the word that it made, unless the node is occupied.

@@ -5,12 +5,11 @@ ghost use Rattle.cube_tree.specs.Handles.{cube_dim, IsStationOf};
 use super::{closed, opened};
 use crate::{Cube, Station, Subcube};
 use std::alloc::{AllocError, Global};
-use std::mem;
 use std::sync::atomic::AtomicU64;
 use std::sync::atomic::Ordering::SeqCst;
 use std::test::Fail;
-use std::thread;
 use std::thread::Threads;
+use std::{mem, thread};
 
 // Counts up on the processors of a region that is held: how many were counted already.
 fn enter(subcube: &Subcube, held: &[AtomicU64]) -> u64 {
@@ -87,7 +86,8 @@ fn run_all<R: Threads + Sync>(
         rt,
         slots,
         count,
-        &|_, slot| requires { IsSomeAnd slot.now (λ station. IsStationOf cube.now station) × (cube_dim cube.now ≡ 5) }
+        &|_, slot|
+            requires { IsSomeAnd slot.now (λ station. IsStationOf cube.now station) × (cube_dim cube.now ≡ 5) }
             ensures { IsSomeAnd slot.exit.now (λ station. IsStationOf cube.entry.now station) }
         { run(cube, slot, held, clashes) },
     );

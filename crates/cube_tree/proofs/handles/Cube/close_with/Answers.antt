@@ -25,7 +25,9 @@ finish-requires-clause-retired c = whole_roll c.load_roll.ensures.loads
     (λ s below. none_left c.loop-station.stations.items s _ (omega (arith, c.loop-station.stations.ok.0, c.in_default.ensures.cases.0)) (c.loop-station.invariant.all s below)))
 
 pub returns-clause-roll : goal.returns-clause-roll
-returns-clause-roll c = (c.load_roll.result, c.finish.ensures.loads ∙ ap (λ (m : Known). m.0.loads) c.load_roll.ensures.loads.kept ∙ ap (λ l. c.load_roll.result ∷ l) c.loop-station.invariant.loads,
+returns-clause-roll c = (
+  c.load_roll.result,
+  c.finish.ensures.loads ∙ ap (λ (m : Known). m.0.loads) c.load_roll.ensures.loads.kept ∙ ap (λ l. c.load_roll.result ∷ l) c.loop-station.invariant.loads,
   bits_of _ c.load_roll.result c.loop-station.seat.me _ c.load_roll.ensures.loads c.loop-station.invariant.gone
-  (λ s below. none_left c.loop-station.stations.items s _ (omega (arith, c.loop-station.stations.ok.0, c.in_default.ensures.cases.0)) (c.loop-station.invariant.all s below)),
+      (λ s below. none_left c.loop-station.stations.items s _ (omega (arith, c.loop-station.stations.ok.0, c.in_default.ensures.cases.0)) (c.loop-station.invariant.all s below)),
 )

@@ -12,14 +12,14 @@ use Rattle.cube_tree.proofs.handles.Station.try_node.Goals as goal
 pub invariant_of-result : goal.invariant_of-result
 invariant_of-result c =
     let dims = ap (λ (size : Size). size.dim) c.size-dim.ensures in record {
-  holds = begun_after c.args.self.idle (Looking c.args.node.0) c.in-Ok.ensures.walks c.in-Ok.ensures.phase;
-  limit = c.args.self.limit;
-  positive = c.requires.node.0;
-  in_cube = subst (λ d. c.args.node.0 < 2 ^ (d + 1)) (sym dims) c.requires.node.1;
-  words = ap (λ (id : TableId). id.words) (c.in-Ok.ensures.seat ∙ c.requires.cube) ∙ c.args.cube.now.tree.words ∙ ap (λ d. 2 ^ (d + 1)) (sym dims);
-  dim_in_limits = subst (λ d. d ≤ MAX_DIM) (sym dims) c.args.cube.now.tree.dim_in_limits;
-  named = c.region_at_node.ensures;
-}
+      holds = begun_after c.args.self.idle (Looking c.args.node.0) c.in-Ok.ensures.walks c.in-Ok.ensures.phase;
+      limit = c.args.self.limit;
+      positive = c.requires.node.0;
+      in_cube = subst (λ d. c.args.node.0 < 2 ^ (d + 1)) (sym dims) c.requires.node.1;
+      words = ap (λ (id : TableId). id.words) (c.in-Ok.ensures.seat ∙ c.requires.cube) ∙ c.args.cube.now.tree.words ∙ ap (λ d. 2 ^ (d + 1)) (sym dims);
+      dim_in_limits = subst (λ d. d ≤ MAX_DIM) (sym dims) c.args.cube.now.tree.dim_in_limits;
+      named = c.region_at_node.ensures;
+    }
 
 pub invariant_of-result-in-Err : goal.invariant_of-result-in-Err
 invariant_of-result-in-Err c = record {
