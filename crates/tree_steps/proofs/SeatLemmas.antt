@@ -216,7 +216,7 @@ compares k slots id m = loads_word k slots id m.0 m.1 0 (λ _. m.0) (λ found af
     known t ruled me had = (had, (refl, off))
       where
         off : (a b : Entry) → m.0.stations ≡ a ∷ b ∷ [] → AreOffPath a b
-        off a b two v w holds_a holds_b on = elim on [ | inl over ↦ not_over k ruled.acts a.station b.station v w other at_a at_b over | inr under ↦ not_over k ruled.acts b.station a.station w v (λ e. other (sym e)) at_b at_a under ]
+        off a b two v w holds_a holds_b on = elim on [ inl over ↦ not_over k ruled.acts a.station b.station v w other at_a at_b over | inr under ↦ not_over k ruled.acts b.station a.station w v (λ e. other (sym e)) at_b at_a under ]
           where
             entries : All (IsEntryOf k ruled.acts) (a ∷ b ∷ [])
             entries = subst (All (IsEntryOf k ruled.acts)) two had.stations
