@@ -13,4 +13,5 @@ mod record;
 pub use job_line::{
     JobLine, MAX_CAPACITY, MAX_ENTRIES, MAX_PASSES, Opened, Receipt, Refused, Rest, Sizes, Taken,
 };
+pub use locked::{CloseNote, Closer, Lane, LockedLine, Pass};
 pub use record::{Entry, LaneRecord, PassRecord, QueuedJob, Reading};

@@ -1,5 +1,7 @@
 -- What the end of a line with two lanes and two passes says of the jobs that were handed in.
-use Rattle.std.proofs.Common.{◌≡◌, ℕ, ◌+◌, ◌<◌, ◌⊎◌, ⊎_elim, inl, inr, List, [], ◌∷◌, ◌++◌, map, ap, arith}
+use Rattle.std.proofs.Common.{sym, ◌≡◌, ℕ, ◌+◌, ◌<◌, ◌⊎◌, ⊎_elim, inl, inr, List, [], ◌∷◌, ◌++◌, map, ap, arith}
+use Rattle.std.specs.List.{All}
+use Rattle.std.proofs.lemmas.List.Elements.{All-head, All-tail, All-same}
 use mathlib.Core.Logic.{dite}
 use native.Mathlib.Decide.{ℕ_discrete}
 use Rattle.histories.specs.Sums.{total, is_at, times}
@@ -11,6 +13,16 @@ use Rattle.job_queue.specs.declared.record.PassRecord.{PassRecord}
 use Rattle.job_queue.specs.Record.{accepted}
 use Rattle.job_queue.specs.Run.{WholeRun}
 use Rattle.line_run.specs.Fed.{job_of, accepted_jobs}
+
+-- ---- lists of two
+
+pub first_of_two : {A : Type 0} (P : A → Type 0) (xs : List A) (a b : A) → xs ≡ a ∷ b ∷ [] → All P xs → P a
+first_of_two P xs a b is all = All-head P a (b ∷ []) (All-same P (a ∷ b ∷ []) xs (sym is) all)
+
+pub second_of_two : {A : Type 0} (P : A → Type 0) (xs : List A) (a b : A) → xs ≡ a ∷ b ∷ [] → All P xs → P b
+second_of_two P xs a b is all = All-head P b [] (All-tail P a (b ∷ []) (All-same P (a ∷ b ∷ []) xs (sym is) all))
+
+-- ---- a whole run
 
 found_at : (k x : ℕ) → is_at k x ≡ 1 → x ≡ k
 found_at k x found = dite (ℕ_discrete x k) (λ e. e) (λ ne. absurd (omega (arith, is_at-other k x ne)))

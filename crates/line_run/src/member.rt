@@ -160,7 +160,7 @@ impl<J: Naming, L: JobLine> Door<J, L> {
         if let Some(closer) = self.closer.take() {
             match self.note.replace(line.close(rt, closer)) {
                 None => {}
-                Some(note) => never(note),
+                Some(_note) => unreachable!(),
             }
         }
     }
@@ -177,18 +177,8 @@ impl<J: Naming, L: JobLine> Door<J, L> {
         match (closer, note) {
             (Some(closer), None) => line.close(rt, closer),
             (None, Some(note)) => note,
-            (Some(closer), Some(note)) => {
-                never(closer);
-                note
-            }
+            (Some(_closer), Some(_note)) => unreachable!(),
             (None, None) => unreachable!(),
         }
     }
-}
-
-// No call comes here.
-fn never<T>(_value: T)
-    requires { ⊥ }
-{
-    unreachable!()
 }

@@ -1,6 +1,5 @@
 use Rattle.std.proofs.Common.{◌≡◌, ℕ, ◌+◌, ◌<◌, arith, ◌∷◌, [], ◌++◌, List, map, get_or, sym, ap, subst, ◌∙◌}
 use Rattle.std.specs.List.{All}
-use Rattle.std.proofs.lemmas.List.Elements.{All-head, All-tail, All-same}
 use Rattle.job_types.specs.Job.{JobData}
 use Rattle.job_queue.specs.declared.record.QueuedJob.{QueuedJob}
 use Rattle.job_queue.specs.declared.record.LaneRecord.{LaneRecord}
@@ -10,14 +9,8 @@ use Rattle.job_queue.specs.Line.{LineId}
 use Rattle.job_queue.specs.Run.{WholeRun}
 use Rattle.histories.specs.Sums.{total, times}
 use Rattle.line_run.specs.Fed.{IsFor, job_of}
-use Rattle.line_run.proofs.RunLemmas.{each_once}
+use Rattle.line_run.proofs.RunLemmas.{each_once, first_of_two, second_of_two}
 use Rattle.line_run.proofs.running.run_named.Goals as goal
-
-first_of_two : {A : Type 0} (P : A → Type 0) (xs : List A) (a b : A) → xs ≡ a ∷ b ∷ [] → All P xs → P a
-first_of_two P xs a b is all = All-head P a (b ∷ []) (All-same P (a ∷ b ∷ []) xs (sym is) all)
-
-second_of_two : {A : Type 0} (P : A → Type 0) (xs : List A) (a b : A) → xs ≡ a ∷ b ∷ [] → All P xs → P b
-second_of_two P xs a b is all = All-head P b [] (All-tail P a (b ∷ []) (All-same P (a ∷ b ∷ []) xs (sym is) all))
 
 -- a fact of the line that was opened is one of the line that is named
 of_line : (P : LineId → Type 0) (opened named : LineId) → opened ≡ named → P opened → P named
