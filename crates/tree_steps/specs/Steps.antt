@@ -1,6 +1,5 @@
 -- What single events make of what a seat knows, and what the steps of the table tell of it.
 use Rattle.std.specs.Prelude.{◌≡◌, ℕ, ◌<◌, ◌∷◌, ◌++◌, List, [], All, false, ◌⊎◌}
-
 use Rattle.atomic_table.specs.Table.{Me, Step}
 use Rattle.cube_shape.specs.Node.{OnPath}
 use Rattle.cube_core.specs.declared.phase.Phase.{Phase}

@@ -215,7 +215,8 @@ impl Tree {
         ensures phase { MatchBool result (IsAt seat.new.me (phase_after_zero at)) (IsAt seat.new.me Phase.Idle) }
     {
         let cleared = Word(word).cleared(left.is_free(), right.is_free());
-        let found = self.table
+        let found = self
+            .table
             .shared
             .compare_exchange::<Next>(seat, at as usize, word, cleared.0);
         let won = found == word;
