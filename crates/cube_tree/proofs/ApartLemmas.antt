@@ -1,5 +1,5 @@
 -- Two stations that hold regions, on one seat.
-use Rattle.std.proofs.Common.{◌≡◌, ℕ, ◌+◌, ◌*◌, ◌^◌, ◌<◌, ◌≤◌, List, [], ◌∷◌, ◌++◌, refl, sym, ◌∙◌, ap, subst, arith}
+use Rattle.std.proofs.Common.{◌≡◌, ℕ, ◌+◌, ◌^◌, ◌<◌, [], ◌∷◌, ◌++◌, sym, ◌∙◌, ap, subst, arith}
 use Rattle.std.proofs.lemmas.Nat.{pow_pos}
 use Rattle.atomic_table.specs.Seated.{TableId}
 use Rattle.cube_shape.specs.Region.{AreApart}
@@ -8,11 +8,10 @@ use Rattle.cube_shape.proofs.RegionLemmas.{AreApart-paths}
 use Rattle.cube_core.specs.declared.phase.Phase.{Phase}
 use Rattle.cube_core.specs.Held.{region_at}
 use Rattle.cube_core.proofs.RunningLemmas.{region_named}
-use Rattle.tree_steps.specs.declared.view.Entry.{Entry}
 use Rattle.tree_steps.specs.Steps.{Known, first_of, joined, AreOffPath}
 use Rattle.cube_tree.specs.Seats.{IsSeatOf}
 use Rattle.cube_tree.specs.declared.handles.Subcube.{Subcube}
-use Rattle.cube_tree.specs.Handles.{held_node, held_region, subcube_entry}
+use Rattle.cube_tree.specs.Handles.{held_region, subcube_entry}
 
 -- the seat of both
 pub both_there : {s t : ℕ} {p q : Phase} {m o : Known} (new : Known) → IsSeatOf s p m → IsSeatOf t q o → new ≡ (joined m.0 o.0, m.1) → new.0.stations ≡ first_of m ∷ first_of o ∷ []

@@ -1,8 +1,8 @@
 -- The seat of a handle, before and after what its station does.
-use Rattle.std.proofs.Common.{◌≡◌, ℕ, [], ◌∷◌, ◌+◌, ◌*◌, ◌^◌, ◌<◌, ◌≤◌, length, refl, sym, ◌∙◌, ap, subst}
+use Rattle.std.proofs.Common.{◌≡◌, ℕ, [], ◌∷◌, ◌<◌, refl, sym, ◌∙◌, ap, subst}
 use Rattle.cube_shape.specs.Node.{IsInCube}
 use Rattle.cube_core.specs.declared.phase.Phase.{Phase}
-use Rattle.cube_core.specs.declared.phase.Phase.TheVariants.{Idle, Looking, Holding, Leaving, Retired}
+use Rattle.cube_core.specs.declared.phase.Phase.TheVariants.{Idle, Retired}
 use Rattle.cube_core.specs.Event.{retirement}
 use Rattle.tree_steps.specs.declared.view.Entry.{Entry}
 use Rattle.tree_steps.specs.Rule.{others}

@@ -1,9 +1,8 @@
 -- The first seat is cut into one for each station.
-use Rattle.std.proofs.Common.{◌≡◌, ℕ, zero, suc, ◌+◌, ◌-◌, ◌<◌, ◌≤◌, false, List, [], ◌∷◌, ◌++◌, map, refl, sym, ◌∙◌, ap, subst, arith}
+use Rattle.std.proofs.Common.{◌≡◌, ℕ, zero, suc, ◌+◌, ◌-◌, ◌<◌, false, List, [], ◌∷◌, ◌++◌, map, refl, sym, ◌∙◌, ap, subst, arith}
 use Rattle.cube_core.specs.declared.phase.Phase.TheVariants.{Idle}
-use Rattle.tree_steps.specs.Rule.{first, others, idle_entry, idle_entries}
+use Rattle.tree_steps.specs.Rule.{first, idle_entry, idle_entries}
 use Rattle.tree_steps.specs.Steps.{Known, without_first, only_first}
-use Rattle.tree_steps.specs.declared.view.Entry.{Entry}
 use Rattle.cube_tree.specs.Seats.{IsSeatOf, IsBare}
 use Rattle.cube_tree.specs.Handles.{station_entry}
 use Rattle.cube_tree.specs.declared.handles.Station.{Station}

@@ -1,5 +1,5 @@
 -- Sums and bounds of tries.
-use Rattle.std.proofs.Common.{◌≡◌, ℕ, zero, suc, ◌+◌, ◌-◌, ◌*◌, ◌^◌, ◌<◌, ◌≤◌, length, refl, sym, ◌∙◌, ap, subst, arith, suc-mul}
+use Rattle.std.proofs.Common.{◌≡◌, ℕ, zero, suc, ◌+◌, ◌-◌, ◌*◌, ◌^◌, ◌<◌, ◌≤◌, length, ap, subst, arith, suc-mul}
 use Rattle.std.proofs.lemmas.Nat.{pow-add, pow_pos}
 use Rattle.std.proofs.Math.Pow.{pow_mono}
 use Rattle.std.proofs.Math.Nat.{mul-le-mul_right}
@@ -13,7 +13,7 @@ use Rattle.cube_tree.specs.declared.refusal.Refusal.{Refusal}
 use Rattle.cube_tree.specs.declared.handles.Cube.{Cube}
 use Rattle.cube_tree.specs.declared.handles.Subcube.{Subcube}
 use Rattle.cube_tree.specs.Handles.{cube_dim, subcube_entry, IsRefusedTry, TakesNode}
-use Rattle.cube_tree.specs.Tries.{counted, refusal_sum, Tries, OneMore, TakesOne, IsRefusedAll}
+use Rattle.cube_tree.specs.Tries.{counted, refusal_sum, Tries, TakesOne, IsRefusedAll}
 
 -- a node of the level that is j levels below the root
 pub node_of_level : (n k m : ℕ) → k ≤ n → m < 2 ^ (n - k) → IsInCube n (2 ^ (n - k) + m) × (depth n (2 ^ (n - k) + m) ≡ n - k)

@@ -14,7 +14,6 @@ use Rattle.atomic_table.specs.Seated.{TableId}
 use Rattle.cube_tree.specs.declared.handles.Cube.{Cube}
 use Rattle.cube_tree.specs.declared.handles.Station.{Station}
 use Rattle.cube_tree.specs.declared.handles.Subcube.{Subcube}
-use Rattle.cube_tree.specs.declared.handles.FreeMachine.{FreeMachine}
 
 -- the machine of a cube, and what its loads of the roll found, the newest first
 abbrev pub cube_size : Cube → Size

@@ -1,5 +1,5 @@
 //! Takes and releases of stations on one thread, refused openings, and closings.
-ghost use Rattle.std.specs.Prelude.{◌≡◌, ◌+◌, ◌<◌, ◌≤◌, All, vec_len};
+ghost use Rattle.std.specs.Prelude.{◌≡◌, ◌+◌, ◌<◌, ◌≤◌, [], All, vec_len, vec_capacity};
 ghost use Rattle.cube_shape.specs.Node.{IsInCube};
 ghost use Rattle.cube_tree.specs.Handles.{cube_dim, cube_size, size_with, IsStationOf, IsSubcubeOf, held_node};
 
@@ -43,10 +43,7 @@ fn given(rt: &impl Abort, cube: &Cube, station: Station, node: u64) -> Subcube
 {
     match station.try_node(cube, Node(node)) {
         Ok(subcube) => subcube,
-        Err((station, _)) => {
-            station.retire(cube);
-            panic!(rt; "the node is refused")
-        }
+        Err(_) => panic!(rt; "the node is refused"),
     }
 }
 
@@ -57,16 +54,9 @@ fn refused(rt: &impl Abort, cube: &Cube, station: Station, node: u64, reason: Wh
     ensures { IsStationOf cube.now result }
 {
     match station.try_node(cube, Node(node)) {
-        Ok(subcube) => {
-            subcube.release(cube).retire(cube);
-            panic!(rt; "the node is given")
-        }
+        Ok(_) => panic!(rt; "the node is given"),
         Err((station, why)) => {
-            let same = why == reason;
-            if !same {
-                station.retire(cube);
-                panic!(rt; "another reason")
-            }
+            assert!(rt; why == reason);
             station
         }
     }
@@ -80,17 +70,10 @@ fn given_any(rt: &impl Abort, cube: &Cube, station: Station, k: u32, base: u64) 
 {
     match station.try_take(cube, k) {
         Ok(subcube) => {
-            let same = subcube.region() == Region { base, dim: k };
-            if !same {
-                subcube.release(cube).retire(cube);
-                panic!(rt; "another region is given")
-            }
+            assert!(rt; subcube.region() == Region { base, dim: k });
             subcube
         }
-        Err((station, _)) => {
-            station.retire(cube);
-            panic!(rt; "no region is given")
-        }
+        Err(_) => panic!(rt; "no region is given"),
     }
 }
 
@@ -101,16 +84,9 @@ fn refused_all(rt: &impl Abort, cube: &Cube, station: Station, k: u32, counts: R
     ensures { IsStationOf cube.now result }
 {
     match station.try_take(cube, k) {
-        Ok(subcube) => {
-            subcube.release(cube).retire(cube);
-            panic!(rt; "a region is given")
-        }
+        Ok(_) => panic!(rt; "a region is given"),
         Err((station, refusal)) => {
-            let same = refusal == counts;
-            if !same {
-                station.retire(cube);
-                panic!(rt; "other counts")
-            }
+            assert!(rt; refusal == counts);
             station
         }
     }
@@ -120,7 +96,7 @@ fn refused_all(rt: &impl Abort, cube: &Cube, station: Station, k: u32, counts: R
 fn closed(rt: &impl Abort, cube: Cube) -> FreeMachine {
     match cube.close() {
         Ok(machine) => machine,
-        Err(StillOut { cube, missing: _ }) => { panic!(rt; "a station is out") }
+        Err(_) => panic!(rt; "a station is out"),
     }
 }
 
@@ -200,4 +176,61 @@ fn a_cube_with_a_station_out_is_given_back(rt: HostRuntime) {
             assert_eq!(rt; machine.words(), [3, 0, 0, 0].as_slice());
         }
     }
+}
+
+// Why no cube of this size is opened.
+fn refusal_of(rt: &impl Abort, alloc: Global, n: u32, stations: u32) -> CubeRefused {
+    match Cube::open(alloc, n, stations) {
+        Ok(_) => panic!(rt; "the cube is opened"),
+        Err(why) => why,
+    }
+}
+
+// Each station of the list takes a processor: the first one that is free.
+fn take_all(rt: &impl Abort, cube: &Cube, list: &mut Vec<Station>, held: &mut Vec<Subcube>)
+    requires stations { All (IsStationOf cube.now) list.old.items }
+    requires empty { held.old.items ≡ [] }
+    requires room { vec_len list.old ≤ vec_capacity held.old }
+    ensures none { vec_len list.new ≡ 0 }
+    ensures held { All (IsSubcubeOf cube.now) held.new.items }
+{
+    while let Some(station) = list.pop() {
+        let base = held.len() as u64;
+        held.push_reserved(given_any(rt, cube, station, 0, base));
+    }
+}
+
+// All is given back, and all stations retire.
+fn give_all_back(cube: &Cube, held: &mut Vec<Subcube>)
+    requires { All (IsSubcubeOf cube.now) held.old.items }
+    ensures { vec_len held.new ≡ 0 }
+{
+    while let Some(subcube) = held.pop() {
+        subcube.release(cube).retire(cube);
+    }
+}
+
+#[test]
+fn cubes_at_the_limits(rt: HostRuntime) {
+    assert_eq!(rt;
+        refusal_of(&rt, rt.alloc(), 3, 33),
+        CubeRefused::BadStations
+    );
+    assert_eq!(rt; refusal_of(&rt, rt.alloc(), 3, 0), CubeRefused::BadStations);
+    assert_eq!(rt;
+        refusal_of(&rt, rt.alloc(), 11, 1),
+        CubeRefused::BadDimension
+    );
+    assert_eq!(rt;
+        refusal_of(&rt, rt.alloc(), 11, 33),
+        CubeRefused::BadDimension
+    );
+    let mut held = Vec::with_capacity(rt.alloc(), 32).expect(&rt, "no memory");
+    let (cube, mut list) = opened(&rt, rt.alloc(), 10, 32);
+    take_all(&rt, &cube, &mut list, &mut held);
+    list.destroy_empty();
+    give_all_back(&cube, &mut held);
+    held.destroy_empty();
+    let machine = closed(&rt, cube);
+    assert!(rt; machine.words().iter().skip(1).all(|word| *word == 0));
 }

@@ -1,14 +1,12 @@
 -- How many events a station makes at most in a walk.
-use Rattle.std.proofs.Common.{◌≡◌, ℕ, ◌+◌, ◌*◌, ◌≤◌, List, [], ◌∷◌, ◌++◌, length, refl, ap, subst, arith, length-append}
-use Rattle.cube_core.specs.declared.event.Event.{Event}
-use Rattle.cube_core.specs.declared.phase.Phase.{Phase}
+use Rattle.std.proofs.Common.{ℕ, ◌+◌, ◌*◌, ◌≤◌, List, [], ◌∷◌, length, ap, arith, length-append}
 use Rattle.cube_core.specs.declared.phase.Phase.TheVariants.{Looking, Leaving}
 use Rattle.cube_core.specs.Event.{transition}
 use Rattle.cube_core.specs.Count.{depth, events_due}
 use Rattle.cube_core.proofs.RunningLemmas.{IsPlaced, paid}
 use Rattle.cube_shape.specs.Node.{IsInCube}
 use Rattle.tree_steps.specs.declared.view.Entry.{Entry}
-use Rattle.tree_steps.specs.Steps.{entry_in, step_entry, steps_entry, Makes}
+use Rattle.tree_steps.specs.Steps.{entry_in, steps_entry, Makes}
 
 -- what it has made and has still to make is no more than before, whatever it finds
 record IsWithin (n : ℕ) (old new : Entry) : Type 0 where

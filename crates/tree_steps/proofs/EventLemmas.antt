@@ -1,5 +1,5 @@
 -- A step of the table is an event of the first station: what it asks, and what is known after it.
-use Rattle.std.proofs.Common.{◌≡◌, ◌≢◌, ℕ, ◌+◌, ◌*◌, ◌/◌, ◌%◌, ◌^◌, ◌<◌, bit_or, arith, true, false, cond, eqb, not, eq-eqb, ne_eqb, Bool, List, [], ◌∷◌, ◌++◌, None, refl, sym, ◌∙◌, ap, subst}
+use Rattle.std.proofs.Common.{◌≡◌, ◌≢◌, ℕ, ◌/◌, ◌%◌, ◌^◌, ◌<◌, bit_or, arith, true, false, cond, eqb, not, eq-eqb, ne_eqb, Bool, List, [], ◌∷◌, ◌++◌, None, refl, sym, ◌∙◌, ap, subst}
 use Rattle.std.specs.Prelude.{◌↔◌, IsTrue}
 use Rattle.std.proofs.lemmas.Bool.{true≢false}
 use prog.Atomic.{either}
@@ -10,7 +10,6 @@ use Rattle.cube_shape.specs.declared.node.Side.TheVariants.{Left, Right}
 use Rattle.cube_shape.proofs.PathLemmas.{OnPath-trans, OnPath-parent}
 use Rattle.cube_shape.specs.Node.{IsInCube, OnPath, child_of, child_towards}
 use Rattle.status_word.specs.Word.{side_bit, mark_bit, with_side, with_mark, cleared}
-use Rattle.cube_core.specs.declared.act.Act.{Act}
 use Rattle.cube_core.specs.declared.act.Act.TheVariants.{Take, Release, Step, Retire}
 use Rattle.cube_core.specs.declared.event.Event.{Event}
 use Rattle.cube_core.specs.declared.event.Kind.{Kind}
@@ -23,11 +22,10 @@ use Rattle.cube_core.specs.declared.phase.Seen.{Seen}
 use Rattle.cube_core.specs.declared.phase.Seen.TheVariants as seen
 use Rattle.cube_core.specs.Phase.{side_of, is_seen_free}
 use Rattle.cube_core.specs.Event.{Transition, transition, retirement, zero_event, busy, is_free, is_occupied, note_after_raise}
-use Rattle.cube_core.specs.Schedule.{AreOneEvent, step_refusal}
+use Rattle.cube_core.specs.Schedule.{step_refusal}
 use Rattle.cube_core.proofs.OneEventLemmas.{step_is_event, take_is_event, release_is_event, retire_is_event}
 use Rattle.cube_core.proofs.RunningLemmas.{step_at as event_is, clears}
 use Rattle.tree_steps.specs.declared.view.Entry.{Entry}
-use Rattle.tree_steps.specs.declared.view.View.{View}
 use Rattle.tree_steps.specs.declared.view.Size.{Size}
 use Rattle.tree_steps.specs.Rule.{IsRuled, record_in, others}
 use Rattle.tree_steps.specs.Steps.{Known, first_of, entry_after, begin, step_at, retire_at, steps_at, Walks, IsAt, Answered}

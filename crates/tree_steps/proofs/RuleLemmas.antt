@@ -1,21 +1,20 @@
 -- How the steps of a station, and cuts and joins of seats, keep the rule.
-use Rattle.std.proofs.Common.{◌≡◌, ◌≢◌, ℕ, zero, suc, ◌+◌, ◌^◌, ◌<◌, ◌≤◌, inl, inr, true, false, cond, eqb, List, [], ◌∷◌, ◌++◌, length, get_or, set, refl, sym, ◌∙◌, ap, subst, arith, eq-eqb, ne_eqb}
+use Rattle.std.proofs.Common.{◌≡◌, ◌≢◌, ℕ, zero, suc, ◌+◌, ◌<◌, ◌≤◌, cond, List, [], ◌∷◌, ◌++◌, get_or, set, refl, sym, ◌∙◌, ap, subst, arith, eq-eqb}
 use Rattle.std.specs.Prelude.{All}
 use mathlib.Core.Option.{some, some-injective, some-ne-none}
 use lib.ListN.{get_elem?}
-use Rattle.std.proofs.lemmas.Bool.{cases_eq}
-use Rattle.std.proofs.lemmas.List.{get_or-set_same, get_or-set_other, length-set}
-use Rattle.std.proofs.lemmas.List.Elements.{All-nil, All-cons, All-head, All-tail, All-weaker, All-append}
-use Rattle.atomic_table.specs.Table.{State as Table, Me, keeps, Allows, Splits, Joins}
+use Rattle.std.proofs.lemmas.List.{get_or-set_same, get_or-set_other}
+use Rattle.std.proofs.lemmas.List.Elements.{All-nil, All-cons, All-head, All-tail, All-weaker}
+use Rattle.atomic_table.specs.Table.{keeps, Allows}
 use Rattle.cube_core.specs.declared.act.Act.{Act}
 use Rattle.cube_core.specs.Event.{Transition}
-use Rattle.cube_core.specs.Schedule.{Record, State, AreOneEvent, record_of, word_of, initial, apply_event, apply_all}
+use Rattle.cube_core.specs.Schedule.{Record, State, AreOneEvent, record_of, word_of, initial, apply_event}
 use Rattle.cube_core.proofs.RunningLemmas.{apply_all-append, apply_all_dim, initial_stations}
 use Rattle.tree_steps.specs.declared.view.Entry.{Entry}
 use Rattle.tree_steps.specs.declared.view.View.{View}
 use Rattle.tree_steps.specs.declared.view.Size.{Size}
-use Rattle.tree_steps.specs.Rule.{record_in, others, times, times_in, world_after, IsEntryOf, WasRoll, AreAll, IsView, IsRuled}
-use Rattle.tree_steps.specs.Steps.{Known, put_first, with_first, entry_after}
+use Rattle.tree_steps.specs.Rule.{record_in, others, times, times_in, world_after, IsEntryOf, WasRoll, IsView, IsRuled}
+use Rattle.tree_steps.specs.Steps.{Known, entry_after}
 
 -- ---- how many entries are of a station
 

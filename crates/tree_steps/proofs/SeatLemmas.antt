@@ -1,5 +1,5 @@
 -- The rule at the opening, and how it is kept where seats are cut, joined or only look.
-use Rattle.std.proofs.Common.{◌≡◌, ◌≢◌, ℕ, zero, suc, ◌+◌, ◌^◌, ◌<◌, ◌≤◌, ◌⊎◌, inl, inr, true, false, cond, eqb, List, [], ◌∷◌, ◌++◌, length, get_or, set, replicate, refl, sym, ◌∙◌, ap, subst, arith, eq-eqb, ne_eqb}
+use Rattle.std.proofs.Common.{◌≡◌, ◌≢◌, ℕ, zero, suc, ◌+◌, ◌^◌, ◌<◌, ◌≤◌, inl, inr, cond, List, [], ◌∷◌, length, get_or, set, replicate, refl, sym, ◌∙◌, ap, subst, arith, eq-eqb, ne_eqb}
 use Rattle.std.specs.Prelude.{All, slice_index}
 use Rattle.std.proofs.lemmas.Bool.{true≢false, cases_eq, cases_lt}
 use Rattle.std.proofs.lemmas.List.{set-get_or, get_or-replicate, get_or-set_same, get_or-set_other, get_or_past}
@@ -9,21 +9,20 @@ use lib.ListN.{get_elem?}
 use Rattle.atomic_table.specs.Table.{State as Table, keeps, Allows, Splits, Joins, opening}
 use Rattle.atomic_table.proofs.Lists.{set_else}
 use Rattle.cube_shape.specs.Node.{OnPath}
-use Rattle.cube_shape.proofs.PathLemmas.{OnPath-le, OnPath-zero, child_towards_is}
+use Rattle.cube_shape.proofs.PathLemmas.{OnPath-le, child_towards_is}
 use Rattle.cube_shape.specs.Node.{child_towards}
 use Rattle.status_word.specs.Word.{IsSet}
 use Rattle.cube_core.specs.declared.act.Act.{Act}
-use Rattle.cube_core.specs.declared.phase.Phase.{Phase}
 use Rattle.cube_core.specs.declared.phase.Phase.TheVariants.{Idle, Holding, Retired}
 use Rattle.cube_core.specs.Phase.{owned, stop, Owns}
 use Rattle.cube_core.specs.Safety.{IsSafe}
-use Rattle.cube_core.specs.Schedule.{Record, State, record_of, phase_of, word_of, initial}
+use Rattle.cube_core.specs.Schedule.{Record, phase_of, word_of}
 use Rattle.cube_core.proofs.RunningLemmas.{lawful_after, initial_stations, closed_words}
 use Rattle.tree_steps.specs.declared.view.Entry.{Entry}
 use Rattle.tree_steps.specs.declared.view.View.{View}
 use Rattle.tree_steps.specs.declared.view.Size.{Size}
-use Rattle.tree_steps.specs.Rule.{record_in, others, times, times_in, world_after, IsEntryOf, WasRoll, IsView, IsRuled, idle_entry, idle_entries, first_view}
-use Rattle.tree_steps.specs.Steps.{Known, KeepsLoad, keeps_load, AreOffPath, first_alone, without_first, only_first, without_stations, joined, blank}
+use Rattle.tree_steps.specs.Rule.{others, times, world_after, IsEntryOf, WasRoll, IsView, IsRuled, idle_entry, idle_entries, first_view}
+use Rattle.tree_steps.specs.Steps.{Known, KeepsLoad, AreOffPath, first_alone, without_first, only_first, without_stations, joined, blank}
 use Rattle.tree_steps.proofs.RuleLemmas.{times-append, times_here, times_at, times_in-set, times_in-append, view_at}
 
 -- ---- the opening

@@ -1,5 +1,5 @@
 -- The words of a tree, by its size.
-use Rattle.std.proofs.Common.{◌≡◌, ℕ, ◌+◌, ◌^◌, ◌<◌, sym, subst}
+use Rattle.std.proofs.Common.{ℕ, ◌+◌, ◌^◌, ◌<◌, sym, subst}
 use Rattle.std.proofs.lemmas.Nat.{pow_pos}
 use Rattle.cube_shape.specs.Node.{IsInCube}
 use Rattle.tree_steps.specs.declared.tree.Tree.{Tree}

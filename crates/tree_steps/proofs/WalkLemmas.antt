@@ -6,7 +6,6 @@ use Rattle.cube_core.specs.declared.event.Note.{Note}
 use Rattle.cube_core.specs.declared.phase.Phase.{Phase}
 use Rattle.cube_core.specs.Event.{transition}
 use Rattle.tree_steps.specs.declared.view.Entry.{Entry}
-use Rattle.tree_steps.specs.declared.view.View.{View}
 use Rattle.tree_steps.specs.Rule.{first, others}
 use Rattle.tree_steps.specs.Steps.{Known, first_of, begin, step_at, steps_at, step_entry, steps_entry, Walks, Makes, Answered}
 

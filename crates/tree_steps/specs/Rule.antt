@@ -1,7 +1,7 @@
 -- What holds between any two steps: some schedule of the tree as a pure machine leads to these words and
 -- phases, and the trail of each station is its events in that schedule.
-use Rattle.std.specs.Prelude.{◌≡◌, ℕ, zero, suc, ◌+◌, ◌<◌, ◌≤◌, ◌==◌, if◌then◌else◌, true, false, List, [], ◌∷◌, ◌++◌, length, All}
-use Rattle.atomic_table.specs.Table.{State as Table, Me}
+use Rattle.std.specs.Prelude.{◌≡◌, ℕ, zero, suc, ◌+◌, ◌<◌, ◌≤◌, ◌==◌, if◌then◌else◌, true, false, List, [], ◌∷◌, ◌++◌, All}
+use Rattle.atomic_table.specs.Table.{State as Table}
 use Rattle.cube_core.specs.declared.act.Act.{Act}
 use Rattle.cube_core.specs.declared.phase.Phase.TheVariants.{Idle, Retired}
 use Rattle.cube_core.specs.Phase.{IsAtRest}

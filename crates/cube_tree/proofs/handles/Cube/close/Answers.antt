@@ -1,4 +1,4 @@
-use Rattle.std.proofs.Common.{rules, ◌∙◌, ap, subst}
+use Rattle.std.proofs.Common.{subst}
 use Rattle.tree_steps.specs.declared.view.Size.{Size}
 use Rattle.cube_tree.specs.Ends.{IsMissing}
 use Rattle.cube_tree.proofs.EndLemmas.{none_missing, whole_roll}

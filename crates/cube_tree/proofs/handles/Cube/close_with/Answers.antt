@@ -1,4 +1,4 @@
-use Rattle.std.proofs.Common.{rules, ◌≡◌, ◌∷◌, ◌++◌, ◌∙◌, ap, arith, append-nil}
+use Rattle.std.proofs.Common.{rules, ◌∷◌, ◌++◌, ◌∙◌, ap, arith, append-nil}
 use Rattle.std.proofs.lemmas.List.Elements.{All-pop}
 use Rattle.tree_steps.specs.Steps.{Known}
 use Rattle.tree_steps.specs.Tree.{id_of}

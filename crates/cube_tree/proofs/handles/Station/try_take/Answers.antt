@@ -1,6 +1,5 @@
-use Rattle.std.proofs.Common.{rules, ◌≡◌, ◌+◌, ◌-◌, ◌^◌, ◌<◌, ◌∙◌, sym, ap, subst, arith}
+use Rattle.std.proofs.Common.{◌≡◌, ◌+◌, ◌-◌, ◌^◌, sym, subst, arith}
 use Rattle.cube_shape.specs.Node.{IsInCube}
-use Rattle.tree_steps.specs.Answer.{IsAnswered}
 use Rattle.cube_tree.specs.Handles.{cube_dim, station_entry, IsRefusedTry, TakesNode}
 use Rattle.cube_tree.specs.Tries.{Tries}
 use Rattle.cube_tree.proofs.TryLemmas.{node_of_level, tries_sum, refused_all, takes_one, one_more}

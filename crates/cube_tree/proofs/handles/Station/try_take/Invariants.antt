@@ -1,4 +1,4 @@
-use Rattle.std.proofs.Common.{ℕ, ◌-◌, ◌^◌}
+use Rattle.std.proofs.Common.{◌-◌, ◌^◌}
 use Rattle.cube_tree.specs.Handles.{cube_dim, station_entry, IsStationOf}
 use Rattle.cube_tree.specs.Tries.{Tries}
 use Rattle.cube_tree.proofs.handles.Station.try_take.Given as goal

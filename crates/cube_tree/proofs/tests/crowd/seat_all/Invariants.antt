@@ -1,4 +1,4 @@
-use Rattle.std.proofs.Common.{◌≡◌, ◌+◌, ◌≤◌, vec_len, vec_capacity}
+use Rattle.std.proofs.Common.{◌+◌, ◌≤◌, vec_len, vec_capacity}
 use Rattle.std.specs.Prelude.{All, IsSomeAnd}
 use Rattle.cube_tree.specs.Handles.{IsStationOf}
 use Rattle.cube_tree.proofs.tests.crowd.seat_all.Given as goal

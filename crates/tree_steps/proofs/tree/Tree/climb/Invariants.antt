@@ -1,4 +1,4 @@
-use Rattle.std.proofs.Common.{◌≡◌, ℕ, ◌<◌}
+use Rattle.std.proofs.Common.{◌≡◌, ◌<◌}
 use Rattle.cube_shape.specs.Node.{OnPath}
 use Rattle.cube_core.specs.Event.{phase_after_raise}
 use Rattle.tree_steps.specs.Steps.{IsAt, Walks}

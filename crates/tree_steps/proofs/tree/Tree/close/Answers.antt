@@ -1,4 +1,4 @@
-use Rattle.std.proofs.Common.{◌≡◌, ℕ, ◌<◌, rules, arith, sym, ap, subst, ◌∙◌, get_or}
+use Rattle.std.proofs.Common.{ℕ, ◌<◌, arith, sym, ap, subst, ◌∙◌, get_or}
 use Rattle.status_word.specs.Word.{IsSet}
 use Rattle.tree_steps.specs.declared.view.Size.{Size}
 use Rattle.tree_steps.proofs.SeatLemmas.{copied_more, copied_all, closes}

@@ -1,4 +1,4 @@
-use Rattle.std.proofs.Common.{rules, refl, ap, sym, ◌^◌, bit_or, ◌∙◌}
+use Rattle.std.proofs.Common.{rules, ap, sym, ◌^◌, bit_or, ◌∙◌}
 use Rattle.tree_steps.proofs.EventLemmas.{retires}
 use Rattle.tree_steps.proofs.TreeLemmas.{roll_word}
 use Rattle.tree_steps.proofs.tree.Tree.retire.Goals as goal

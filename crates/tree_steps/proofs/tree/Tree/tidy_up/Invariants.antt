@@ -1,4 +1,4 @@
-use Rattle.std.proofs.Common.{◌≡◌, ℕ, ◌+◌, ◌^◌, ◌<◌}
+use Rattle.std.proofs.Common.{◌≡◌, ◌+◌, ◌^◌, ◌<◌}
 use Rattle.cube_core.specs.Event.{phase_after_zero}
 use Rattle.tree_steps.specs.Steps.{IsAt, Walks}
 use Rattle.tree_steps.specs.Tree.{dim_of}
