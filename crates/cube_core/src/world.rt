@@ -124,7 +124,8 @@ impl World {
             ≡ without_trails (apply (Act.Step station) self.old)) }
         ensures shape { HasShapeOf self.old self.new }
         ensures lawful { IsTreeLawful self.new }
-        ensures count { OnOk result (events_due self.old.dim (phase_of self.new station) < events_due self.old.dim (phase_of self.old station)) }
+        ensures count { OnOk result (events_due self.old.dim (phase_of self.new station)
+            < events_due self.old.dim (phase_of self.old station)) }
         ensures others { (t : ℕ) → t ≢ station → phase_of self.new t ≡ phase_of self.old t }
         ensures event { IfOk result (λ event.
             (record_of (apply (Act.Step station) self.old) station).trail

@@ -43,9 +43,11 @@ impl Cube {
     /// given back with the stations whose bit was clear, of which there is at least one.
     pub fn close(self) -> Result<FreeMachine, StillOut>
         ensures free { IfOk result (IsWhollyFree (cube_dim self)) }
-        ensures roll { IfOk result (λ machine. (roll : ℕ) × (machine_loads machine ≡ roll ∷ loads_of self)
+        ensures roll { IfOk result (λ machine. (roll : ℕ)
+            × (machine_loads machine ≡ roll ∷ loads_of self)
             × IsWhole (cube_size self).stations roll) }
-        ensures missing { IfErr result (λ out. (roll : ℕ) × (loads_of out.cube ≡ roll ∷ loads_of self)
+        ensures missing { IfErr result (λ out. (roll : ℕ)
+            × (loads_of out.cube ≡ roll ∷ loads_of self)
             × IsMissing (cube_size self).stations roll out.missing) }
         ensures some { IfErr result (λ out. out.missing ≢ 0) }
         ensures back { IfErr result (λ out. IsSameCube self out.cube) }

@@ -21,7 +21,8 @@ impl Cube {
         ensures size { IfOk result (λ made. cube_size made.0 ≡ size_with n stations) }
         ensures loads { IfOk result (λ made. loads_of made.0 ≡ []) }
         ensures count { IfOk result (λ made. vec_len made.1 ≡ stations) }
-        ensures idle { IfOk result (λ made. map station_entry made.1.items ≡ idle_entries 0 stations) }
+        ensures idle { IfOk result (λ made. map station_entry made.1.items
+            ≡ idle_entries 0 stations) }
         ensures of_cube { IfOk result (λ made. All (IsStationOf made.0) made.1.items) }
     {
         if !Dim(n).fits(MAX_DIM) {

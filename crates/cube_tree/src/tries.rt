@@ -23,9 +23,11 @@ impl Station {
     pub fn try_take(self, cube: &Cube, k: u32) -> Result<Subcube, (Station, Refusal)>
         requires cube { IsStationOf cube.now self }
         requires dim { k ≤ cube_dim cube.now }
-        ensures taken { IfOk result (TakesOne cube.now (cube_dim cube.now - k) (station_entry self)) }
+        ensures taken { IfOk result (TakesOne cube.now (cube_dim cube.now - k)
+            (station_entry self)) }
         ensures back { IfErr result (λ refused. IsStationOf cube.now refused.0) }
-        ensures refused { IfErr result (λ refused. IsRefusedAll (cube_dim cube.now) (cube_dim cube.now - k)
+        ensures refused { IfErr result (λ refused.
+            IsRefusedAll (cube_dim cube.now) (cube_dim cube.now - k)
             (station_entry self) (station_entry refused.0) refused.1) }
     {
         let nodes = region_count(cube, k);

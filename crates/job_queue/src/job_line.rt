@@ -91,9 +91,8 @@ pub struct Rest {
 
 /// A line of jobs with lanes, by which jobs come in, and passes, by which they are taken.
 ///
-/// Each lane and each pass has a record, which tells what it is known to have done, and which only
-/// its own calls change. Lanes, passes, closers and notes are given only to calls of the line that
-/// made them.
+/// Each lane and each pass has a record of what it is known to have done, which only its own calls
+/// change. Lanes, passes, closers and notes are given only to calls of the line that made them.
 pub trait JobLine {
     ghost use Rattle.job_queue.specs.declared.record.LaneRecord.{LaneRecord};
     ghost use Rattle.job_queue.specs.declared.record.PassRecord.{PassRecord};

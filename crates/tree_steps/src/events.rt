@@ -60,7 +60,8 @@ impl Tree {
         ensures walks { Walks (begin (Phase.Looking node) seat.old.me) seat.new.me }
         ensures phase { MatchOption result (IsAt seat.new.me Phase.Idle)
             (λ word. IsAt seat.new.me (Phase.Looked node word)) }
-        ensures refused { IfNone result (Answered Kind.Look node Note.InUse (first_of seat.old.me) (first_of seat.new.me)) }
+        ensures refused { IfNone result (Answered Kind.Look node Note.InUse (first_of seat.old.me)
+            (first_of seat.new.me)) }
     {
         let word = self.table.shared.load::<Look>(seat, node as usize);
         if Word(word).is_free() {
@@ -77,8 +78,10 @@ impl Tree {
         requires node { IsInCube (dim_of self.now) node }
         ensures seat { seat.new.table_id ≡ seat.old.table_id }
         ensures walks { Walks seat.old.me seat.new.me }
-        ensures phase { MatchBool result (IsAt seat.new.me (phase_after_raise node node)) (IsAt seat.new.me Phase.Idle) }
-        ensures refused { OnFalse result (Answered Kind.Claim node Note.Lost (first_of seat.old.me) (first_of seat.new.me)) }
+        ensures phase { MatchBool result (IsAt seat.new.me (phase_after_raise node node))
+            (IsAt seat.new.me Phase.Idle) }
+        ensures refused { OnFalse result (Answered Kind.Claim node Note.Lost (first_of seat.old.me)
+            (first_of seat.new.me)) }
     {
         self.table
             .shared
@@ -109,8 +112,10 @@ impl Tree {
         requires on_path { OnPath at node }
         ensures seat { seat.new.table_id ≡ seat.old.table_id }
         ensures walks { Walks seat.old.me seat.new.me }
-        ensures phase { MatchBool result (IsAt seat.new.me (phase_after_raise node at)) (IsAt seat.new.me (Phase.Backing node at)) }
-        ensures refused { OnFalse result (Answered Kind.Raise at Note.Under (first_of seat.old.me) (first_of seat.new.me)) }
+        ensures phase { MatchBool result (IsAt seat.new.me (phase_after_raise node at))
+            (IsAt seat.new.me (Phase.Backing node at)) }
+        ensures refused { OnFalse result (Answered Kind.Raise at Note.Under (first_of seat.old.me)
+            (first_of seat.new.me)) }
     {
         let bit = bit_of_side(side(child_towards(Node(at), Node(node))));
         let found = self.table.shared.fetch_or::<Next>(seat, at as usize, bit);
@@ -212,7 +217,8 @@ impl Tree {
         requires node { IsInCube (dim_of self.now) at }
         ensures seat { seat.new.table_id ≡ seat.old.table_id }
         ensures walks { Walks seat.old.me seat.new.me }
-        ensures phase { MatchBool result (IsAt seat.new.me (phase_after_zero at)) (IsAt seat.new.me Phase.Idle) }
+        ensures phase { MatchBool result (IsAt seat.new.me (phase_after_zero at))
+            (IsAt seat.new.me Phase.Idle) }
     {
         let cleared = Word(word).cleared(left.is_free(), right.is_free());
         let found = self

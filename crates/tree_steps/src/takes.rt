@@ -22,8 +22,10 @@ impl Tree {
         requires node { IsInCube (dim_of self.now) node }
         ensures seat { seat.new.table_id ≡ seat.old.table_id }
         ensures walks { Walks (begin (Phase.Looking node) seat.old.me) seat.new.me }
-        ensures phase { MatchResult result (λ _. IsAt seat.new.me (Phase.Holding node)) (λ _. IsAt seat.new.me Phase.Idle) }
-        ensures refused { IfErr result (λ why. IsAnswered why node (first_of seat.old.me) (first_of seat.new.me)) }
+        ensures phase { MatchResult result (λ _. IsAt seat.new.me (Phase.Holding node)) (λ _.
+            IsAt seat.new.me Phase.Idle) }
+        ensures refused { IfErr result (λ why.
+            IsAnswered why node (first_of seat.old.me) (first_of seat.new.me)) }
     {
         let Some(word) = self.look(seat, node) else {
             return Err(Why::InUse);
@@ -61,8 +63,10 @@ impl Tree {
         requires node { IsInCube (dim_of self.now) node }
         ensures seat { seat.new.table_id ≡ seat.old.table_id }
         ensures walks { Walks seat.old.me seat.new.me }
-        ensures phase { MatchOption result (IsAt seat.new.me (Phase.Holding node)) (λ at. IsAt seat.new.me (Phase.Backing node at)) }
-        ensures refused { IfSome result (λ at. Answered Kind.Raise at Note.Under (first_of seat.old.me) (first_of seat.new.me)) }
+        ensures phase { MatchOption result (IsAt seat.new.me (Phase.Holding node)) (λ at.
+            IsAt seat.new.me (Phase.Backing node at)) }
+        ensures refused { IfSome result (λ at.
+            Answered Kind.Raise at Note.Under (first_of seat.old.me) (first_of seat.new.me)) }
     {
         let mut at = node;
         while at > 1 {
@@ -83,8 +87,10 @@ impl Tree {
         requires on_path { OnPath at node }
         ensures seat { seat.new.table_id ≡ seat.old.table_id }
         ensures walks { Walks seat.old.me seat.new.me }
-        ensures phase { MatchBool result (IsAt seat.new.me (phase_after_raise node at)) (IsAt seat.new.me (Phase.Backing node at)) }
-        ensures refused { OnFalse result (Answered Kind.Raise at Note.Under (first_of seat.old.me) (first_of seat.new.me)) }
+        ensures phase { MatchBool result (IsAt seat.new.me (phase_after_raise node at))
+            (IsAt seat.new.me (Phase.Backing node at)) }
+        ensures refused { OnFalse result (Answered Kind.Raise at Note.Under (first_of seat.old.me)
+            (first_of seat.new.me)) }
     {
         self.sweep(seat, node, at);
         self.raise(seat, node, at)
@@ -135,7 +141,8 @@ impl Tree {
         requires node { 2 * at + 1 < 2 ^ (dim_of self.now + 1) }
         ensures seat { seat.new.table_id ≡ seat.old.table_id }
         ensures walks { Walks seat.old.me seat.new.me }
-        ensures phase { MatchBool result (IsAt seat.new.me (phase_after_zero at)) (IsAt seat.new.me Phase.Idle) }
+        ensures phase { MatchBool result (IsAt seat.new.me (phase_after_zero at))
+            (IsAt seat.new.me Phase.Idle) }
     {
         self.unmark(seat, at);
         let Some(word) = self.mark(seat, station, at) else {

@@ -77,7 +77,8 @@ fn run_all<R: Threads + Sync>(
     held: &[AtomicU64],
     clashes: &AtomicU64,
 )
-    requires stations { All (λ slot. IsSomeAnd slot (λ station. IsStationOf cube.now station)) slots.old }
+    requires stations { All (λ slot. IsSomeAnd slot (λ station. IsStationOf cube.now station))
+        slots.old }
     requires dim { cube_dim cube.now ≡ 5 }
     ensures { All (λ slot. IsSomeAnd slot (λ station. IsStationOf cube.now station)) slots.new }
 {
@@ -87,7 +88,8 @@ fn run_all<R: Threads + Sync>(
         slots,
         count,
         &|_, slot|
-            requires { IsSomeAnd slot.now (λ station. IsStationOf cube.now station) × (cube_dim cube.now ≡ 5) }
+            requires { IsSomeAnd slot.now (λ station. IsStationOf cube.now station)
+                × (cube_dim cube.now ≡ 5) }
             ensures { IsSomeAnd slot.exit.now (λ station. IsStationOf cube.entry.now station) }
         { run(cube, slot, held, clashes) },
     );
@@ -99,7 +101,8 @@ fn seat_all(cube: &Cube, list: &mut Vec<Station>, slots: &mut Vec<Option<Station
     requires empty { slots.old.items ≡ [] }
     requires room { vec_len list.old ≤ vec_capacity slots.old }
     ensures none { vec_len list.new ≡ 0 }
-    ensures seated { All (λ slot. IsSomeAnd slot (λ station. IsStationOf cube.now station)) slots.new.items }
+    ensures seated { All (λ slot. IsSomeAnd slot (λ station. IsStationOf cube.now station))
+        slots.new.items }
 {
     let _ = &cube.tree;
     while let Some(station) = list.pop() {
@@ -109,7 +112,8 @@ fn seat_all(cube: &Cube, list: &mut Vec<Station>, slots: &mut Vec<Option<Station
 
 // All stations retire.
 fn retire_all(cube: &Cube, slots: &mut Vec<Option<Station>>)
-    requires { All (λ slot. IsSomeAnd slot (λ station. IsStationOf cube.now station)) slots.old.items }
+    requires { All (λ slot. IsSomeAnd slot (λ station. IsStationOf cube.now station))
+        slots.old.items }
     ensures { vec_len slots.new ≡ 0 }
 {
     while let Some(slot) = slots.pop() {

@@ -61,7 +61,8 @@ impl StoreLock {
     pub fn deal_lane(&self, seat: &mut Seat) -> Seat
         requires table { seat.old.table_id ≡ table_of self.now }
         requires idle { IsIdle seat.old.me }
-        ensures tables { (seat.new.table_id ≡ table_of self.now) × (result.table_id ≡ table_of self.now) }
+        ensures tables { (seat.new.table_id ≡ table_of self.now)
+            × (result.table_id ≡ table_of self.now) }
         ensures left { seat.new.me ≡ (without_lane seat.old.me.0, []) }
         ensures dealt { result.me ≡ (lane_alone seat.old.me.0, []) }
     {
@@ -72,7 +73,8 @@ impl StoreLock {
     pub fn deal_pass(&self, seat: &mut Seat) -> Seat
         requires table { seat.old.table_id ≡ table_of self.now }
         requires idle { IsIdle seat.old.me }
-        ensures tables { (seat.new.table_id ≡ table_of self.now) × (result.table_id ≡ table_of self.now) }
+        ensures tables { (seat.new.table_id ≡ table_of self.now)
+            × (result.table_id ≡ table_of self.now) }
         ensures left { seat.new.me ≡ (without_pass seat.old.me.0, []) }
         ensures dealt { result.me ≡ (pass_alone seat.old.me.0, []) }
     {
@@ -81,7 +83,8 @@ impl StoreLock {
 
     // Takes in the records of another seat.
     pub fn gather(&self, seat: &mut Seat, other: Seat)
-        requires tables { (seat.old.table_id ≡ table_of self.now) × (other.table_id ≡ table_of self.now) }
+        requires tables { (seat.old.table_id ≡ table_of self.now)
+            × (other.table_id ≡ table_of self.now) }
         requires idle { IsIdle seat.old.me × IsIdle other.me }
         ensures table { seat.new.table_id ≡ table_of self.now }
         ensures both { seat.new.me ≡ (joined seat.old.me.0 other.me.0, []) }
@@ -135,7 +138,8 @@ impl StoreLock {
 
     pub fn push(&self, seat: &mut Seat, lane: u32, job: Job) -> Result<Receipt, (Job, SawFull)>
         requires table { seat.old.table_id ≡ table_of self.now }
-        requires held { (x : State) × (seat.old.me.1 ≡ (0, x) ∷ []) × (lane < length x.accepted.items)
+        requires held { (x : State) × (seat.old.me.1 ≡ (0, x) ∷ [])
+            × (lane < length x.accepted.items)
             × (x.entries + 1 < 2 ^ 64) × (slice_index x.accepted.items lane + 1 < 2 ^ 64) }
         ensures table { seat.new.table_id ≡ table_of self.now }
         ensures pushed { (x : State) → seat.old.me.1 ≡ (0, x) ∷ [] → (y : State)
@@ -230,7 +234,8 @@ impl StoreLock {
     // The state, once one seat has the records of all members.
     pub fn end(self, seat: Seat) -> Store
         requires table { seat.table_id ≡ table_of self }
-        requires whole { (number : ℕ) × (seat.me.1 ≡ []) × IsWhole (sizes_of self) seat.me.0 number }
+        requires whole { (number : ℕ) × (seat.me.1 ≡ [])
+            × IsWhole (sizes_of self) seat.me.0 number }
         ensures { (number : ℕ) → IsWhole (sizes_of self) seat.me.0 number →
             IsEnd (sizes_of self) seat.me.0 number result }
     {
