@@ -26,7 +26,8 @@ pub fn field(row: &ByteRecord, index: usize) -> &[u8]
 
 /// The fields of a record, if there are three.
 pub fn three_fields(row: &ByteRecord) -> Option<ThreeFields<'_>>
-    ensures some { IfSome result (λ three. fields_of row.now ≡ three.first.now ∷ three.second.now ∷ three.third.now ∷ []) }
+    ensures some { IfSome result (λ three.
+        fields_of row.now ≡ three.first.now ∷ three.second.now ∷ three.third.now ∷ []) }
     ensures none { IfNone result (length (fields_of row.now) ≢ 3) }
 {
     if row.len() != 3 {
@@ -41,7 +42,9 @@ pub fn three_fields(row: &ByteRecord) -> Option<ThreeFields<'_>>
 
 // Whether the fields have these texts.
 fn are_texts(fields: &ThreeFields<'_>, first: &[u8], second: &[u8], third: &[u8]) -> bool
-    ensures { result ≡ (bytes_eq fields.now.first.now first.now && bytes_eq fields.now.second.now second.now && bytes_eq fields.now.third.now third.now) }
+    ensures { result ≡ (bytes_eq fields.now.first.now first.now
+        && bytes_eq fields.now.second.now second.now
+        && bytes_eq fields.now.third.now third.now) }
 {
     fields.first == first && fields.second == second && fields.third == third
 }
@@ -53,7 +56,8 @@ pub fn three_header(
     second: &[u8],
     third: &[u8],
 ) -> Result<(), FaultKind>
-    ensures { ReturnsParse (λ good. good) (three_header first.now second.now third.now (fields_of row.now)) result }
+    ensures { ReturnsParse (λ good. good)
+        (three_header first.now second.now third.now (fields_of row.now)) result }
 {
     let fields = match three_fields(row) {
         Some(fields) => fields,

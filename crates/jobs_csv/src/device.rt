@@ -67,8 +67,10 @@ impl<D: Read> Read for Counted<D> {
 
     fn read(&mut self, buf: &mut [u8]) -> io::Result<usize>
         ensures bound { ReadsAtMost result buf.new }
-        ensures bytes { ReadConsumes (D.remaining (device_of self.old)) (D.remaining (device_of self.new)) result buf.new }
-        ensures counts { failures_of self.new ≡ count_failure (is_err result) (failures_of self.old) }
+        ensures bytes { ReadConsumes (D.remaining (device_of self.old))
+            (D.remaining (device_of self.new)) result buf.new }
+        ensures counts { failures_of self.new
+            ≡ count_failure (is_err result) (failures_of self.old) }
     {
         let result = self.device.read(buf);
         self.count_if(result.is_err());
@@ -81,8 +83,10 @@ impl<D: Write> Write for Counted<D> {
 
     fn write(&mut self, buf: &[u8]) -> io::Result<usize>
         ensures bound { WritesAtMost result buf.now }
-        ensures bytes { WriteAppends (D.contents (device_of self.old)) (D.contents (device_of self.new)) result buf.now }
-        ensures counts { failures_of self.new ≡ count_failure (is_failed_write (length buf.now) result) (failures_of self.old) }
+        ensures bytes { WriteAppends (D.contents (device_of self.old))
+            (D.contents (device_of self.new)) result buf.now }
+        ensures counts { failures_of self.new
+            ≡ count_failure (is_failed_write (length buf.now) result) (failures_of self.old) }
     {
         let result = self.device.write(buf);
         let has_failed = match &result {
@@ -95,7 +99,8 @@ impl<D: Write> Write for Counted<D> {
 
     fn flush(&mut self) -> io::Result<()>
         ensures bytes { Keeps (D.contents (device_of self.old)) (D.contents (device_of self.new)) }
-        ensures counts { failures_of self.new ≡ count_failure (is_err result) (failures_of self.old) }
+        ensures counts { failures_of self.new
+            ≡ count_failure (is_err result) (failures_of self.old) }
     {
         let result = self.device.flush();
         self.count_if(result.is_err());

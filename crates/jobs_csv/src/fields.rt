@@ -9,7 +9,8 @@ use crate::fault::FaultKind;
 
 // The number that digits write, if they are digits and it is below 2^64.
 fn digits(field: &[u8]) -> Option<u64>
-    ensures { result ≡ (if list_all is_ascii_digit field.now && nat_lt (value_of field.now) (2 ^ 64) then Some (value_of field.now) else None) }
+    ensures { result ≡ (if list_all is_ascii_digit field.now && nat_lt (value_of field.now) (2 ^ 64)
+        then Some (value_of field.now) else None) }
 {
     let mut value: u64 = 0;
     for byte in field {

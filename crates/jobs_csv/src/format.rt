@@ -46,7 +46,8 @@ pub trait RowSink<Row>: Drop {
     /// Pushes one more row.
     fn push(&mut self, row: Row) -> Result<(), AllocError>
         requires { (rows : List Row) × contents self.old rows }
-        ensures { (rows : List Row) → contents self.old rows → OnOk result (contents self.new (rows ++ row ∷ [])) };
+        ensures { (rows : List Row) → contents self.old rows
+            → OnOk result (contents self.new (rows ++ row ∷ [])) };
 }
 
 impl<Row: Drop> RowSink<Row> for Vec<Row> {
@@ -68,8 +69,11 @@ pub fn read_records<F: Format, G: RowSink<F::Row>, R: Read + Drop>(
     text: R,
 ) -> Result<G, Fault>
     requires { G.contents rows [] }
-    ensures parse { IfSome (R.remaining text) (λ bytes. ReturnsRows G.contents (parse_file F.header_of (F.row_of format.now) bytes) result) }
-    ensures good { IfOk result (λ gathered. (list : List F.Row) × G.contents gathered list × All (λ row. F.is_row format.now row) list) }
+    ensures parse { IfSome (R.remaining text) (λ bytes.
+        ReturnsRows G.contents (parse_file F.header_of (F.row_of format.now) bytes) result) }
+    ensures good { IfOk result (λ gathered. (list : List F.Row)
+        × G.contents gathered list
+        × All (λ row. F.is_row format.now row) list) }
 {
     let mut rows = rows;
     let mut reader = input::open_reader(alloc, text);
@@ -101,7 +105,8 @@ pub fn read_records<F: Format, G: RowSink<F::Row>, R: Read + Drop>(
     Ok(rows)
 }
 
-/// Reads a whole file from a reader that is lent, and pushes its rows into `rows`, which must be empty.
+/// Reads a whole file from a reader that is lent, and pushes its rows into `rows`, which must be
+/// empty.
 ///
 /// A failure is the reader's exactly where its count of failed calls rose in this call, or stood at
 /// `u64::MAX`, and is out of memory otherwise.
@@ -112,9 +117,12 @@ pub fn read_file<F: Format, G: RowSink<F::Row>, R: Read + Device>(
     reader: &mut R,
 ) -> Result<G, Fault>
     requires { G.contents rows [] }
-    ensures parse { IfSome (R.remaining reader.old) (λ bytes. ReturnsRows G.contents (parse_file F.header_of (F.row_of format.now) bytes) result) }
-    ensures good { IfOk result (λ gathered. (list : List F.Row) × G.contents gathered list × All (λ row. F.is_row format.now row) list) }
-    ensures failed { IfErr result (λ fault. IsInputFault (R.failures reader.old) (R.failures reader.new) fault) }
+    ensures parse { IfSome (R.remaining reader.old) (λ bytes.
+        ReturnsRows G.contents (parse_file F.header_of (F.row_of format.now) bytes) result) }
+    ensures good { IfOk result (λ gathered. (list : List F.Row)
+        × G.contents gathered list
+        × All (λ row. F.is_row format.now row) list) }
+    ensures failed { IfErr result (IsInputFault (R.failures reader.old) (R.failures reader.new)) }
 {
     let failures_before = reader.failures();
     let fault = match read_records(alloc, format, rows, &mut *reader) {
@@ -133,9 +141,10 @@ pub fn read_list<F: Format, R: Read + Device>(
     format: &F,
     reader: &mut R,
 ) -> Result<Vec<F::Row>, Fault>
-    ensures parse { IfSome (R.remaining reader.old) (λ bytes. ReturnsFile (parse_file F.header_of (F.row_of format.now) bytes) result) }
+    ensures parse { IfSome (R.remaining reader.old) (λ bytes.
+        ReturnsFile (parse_file F.header_of (F.row_of format.now) bytes) result) }
     ensures good { IfOk result (λ rows. All (λ row. F.is_row format.now row) rows.items) }
-    ensures failed { IfErr result (λ fault. IsInputFault (R.failures reader.old) (R.failures reader.new) fault) }
+    ensures failed { IfErr result (IsInputFault (R.failures reader.old) (R.failures reader.new)) }
 {
     read_file(alloc, format, Vec::new(alloc), reader)
 }

@@ -25,7 +25,8 @@ pub fn fault_at(row: u64, what: FaultKind) -> Fault
 // Why a reader of records has stopped: the reader underneath failed, or memory was refused.
 fn stopped_for(error: &csv::Error) -> FaultKind
     requires { stops_reader (error_kind error.now) ≡ true }
-    ensures { result ≡ (if is_io (error_kind error.now) then FaultKind.Read else FaultKind.OutOfMemory) }
+    ensures { result
+        ≡ (if is_io (error_kind error.now) then FaultKind.Read else FaultKind.OutOfMemory) }
 {
     match error.kind() {
         ErrorKind::Io(_) => FaultKind::Read,
@@ -48,8 +49,13 @@ pub fn open_reader<R: Read>(alloc: Global, text: R) -> Reader<R>
 pub fn next_record<R: Read>(reader: &mut Reader<R>, row: &mut ByteRecord) -> Result<bool, Fault>
     requires { IsPlain reader.old }
     ensures plain { OnOk result (IsPlain reader.new) }
-    ensures more { IfOk result (λ found. found ≡ true → (bytes : Option (List ℕ)) (rows : List Record) → HasGiven R.remaining bytes rows reader.old → HasGiven R.remaining bytes (rows ++ fields_of row.new ∷ []) reader.new) }
-    ensures end { IfOk result (λ found. found ≡ false → (bytes : Option (List ℕ)) (rows : List Record) → HasGiven R.remaining bytes rows reader.old → AreAll bytes rows) }
+    ensures more { IfOk result (λ found. found ≡ true
+        → (bytes : Option (List ℕ)) (rows : List Record)
+        → HasGiven R.remaining bytes rows reader.old
+        → HasGiven R.remaining bytes (rows ++ fields_of row.new ∷ []) reader.new) }
+    ensures end { IfOk result (λ found. found ≡ false
+        → (bytes : Option (List ℕ)) (rows : List Record)
+        → HasGiven R.remaining bytes rows reader.old → AreAll bytes rows) }
     ensures failed { IfErr result (λ fault. is_refusal fault.what ≡ false) }
 {
     let found = match reader.read_byte_record(row) {

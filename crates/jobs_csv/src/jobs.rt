@@ -39,7 +39,8 @@ struct FiveFields<'a> {
 
 // The fields of a record, if there are five.
 fn five_fields(row: &ByteRecord) -> Option<FiveFields<'_>>
-    ensures some { IfSome result (λ five. fields_of row.now ≡ five.lane.now ∷ five.kind.now ∷ five.op.now ∷ five.root.now ∷ five.items.now ∷ []) }
+    ensures some { IfSome result (λ five. fields_of row.now
+        ≡ five.lane.now ∷ five.kind.now ∷ five.op.now ∷ five.root.now ∷ five.items.now ∷ []) }
     ensures none { IfNone result (length (fields_of row.now) ≢ 5) }
 {
     if row.len() != 5 {
@@ -56,7 +57,10 @@ fn five_fields(row: &ByteRecord) -> Option<FiveFields<'_>>
 
 // Whether the fields are those of a header.
 fn is_header(five: &FiveFields<'_>) -> bool
-    ensures { result ≡ (bytes_eq five.now.lane.now (codes "lane") && bytes_eq five.now.kind.now (codes "kind") && bytes_eq five.now.op.now (codes "op") && bytes_eq five.now.root.now (codes "root") && bytes_eq five.now.items.now (codes "items")) }
+    ensures { result ≡ (bytes_eq five.now.lane.now (codes "lane")
+        && bytes_eq five.now.kind.now (codes "kind") && bytes_eq five.now.op.now (codes "op")
+        && bytes_eq five.now.root.now (codes "root")
+        && bytes_eq five.now.items.now (codes "items")) }
 {
     five.lane == b"lane".as_slice()
         && five.kind == b"kind".as_slice()
@@ -70,7 +74,8 @@ fn is_header(five: &FiveFields<'_>) -> bool
 fn read_fields(alloc: Global, n: u32, five: &FiveFields<'_>) -> Result<Job, FaultKind>
     requires { n ≤ MAX_DIM }
     ensures machine { IfOk result (λ job. job.machine ≡ n) }
-    ensures parse { ReturnsParse (λ job. job) (job_of n (five.now.lane.now ∷ five.now.kind.now ∷ five.now.op.now ∷ five.now.root.now ∷ five.now.items.now ∷ [])) result }
+    ensures parse { ReturnsParse (λ job. job) (job_of n (five.now.lane.now ∷ five.now.kind.now
+        ∷ five.now.op.now ∷ five.now.root.now ∷ five.now.items.now ∷ [])) result }
 {
     let lane = job_fields::lane(five.lane)?;
     let collective = job_fields::read_collective(five.kind, five.op)?;
@@ -101,7 +106,9 @@ fn accept(
     requires machine { n ≤ MAX_DIM }
     requires lane { lane < MAX_LANES }
     ensures machine { IfOk result (λ job. job.machine ≡ n) }
-    ensures parse { ReturnsParse (λ job. job) (accept_job (record { machine = n; lane = lane; kind = kind; items = items.items }) has_superfluous) result }
+    ensures parse { ReturnsParse (λ job. job) (accept_job
+        (record { machine = n; lane = lane; kind = kind; items = items.items })
+        has_superfluous) result }
 {
     match Job::new(alloc, n, lane, kind, items) {
         Ok(job) => {
@@ -156,24 +163,27 @@ impl Format for Jobs {
 /// `MAX_RECORDS + 1` records after the header are read.
 pub fn read_jobs<R: Read + Device>(alloc: Global, n: u32, reader: &mut R) -> Result<Vec<Job>, Fault>
     requires { n ≤ MAX_DIM }
-    ensures parse { IfSome (R.remaining reader.old) (λ bytes. ReturnsFile (parse_jobs n bytes) result) }
+    ensures parse { IfSome (R.remaining reader.old) (λ bytes.
+        ReturnsFile (parse_jobs n bytes) result) }
     ensures machine { IfOk result (λ jobs. All (λ job. job.machine ≡ n) jobs.items) }
-    ensures failed { IfErr result (λ fault. IsInputFault (R.failures reader.old) (R.failures reader.new) fault) }
+    ensures failed { IfErr result (IsInputFault (R.failures reader.old) (R.failures reader.new)) }
 {
     format::read_list(alloc, &Jobs { n }, reader)
 }
 
-/// Reads the jobs of a whole file, as `read_jobs` does, into a list for each lane, in which the lane's
-/// jobs are in the order of the file.
+/// Reads the jobs of a whole file, as `read_jobs` does, into a list for each lane, in which the
+/// lane's jobs are in the order of the file.
 pub fn read_lanes<R: Read + Device>(
     alloc: Global,
     n: u32,
     reader: &mut R,
 ) -> Result<Vec<Vec<Job>>, Fault>
     requires { n ≤ MAX_DIM }
-    ensures parse { IfSome (R.remaining reader.old) (λ bytes. ReturnsLanes (parse_jobs n bytes) result) }
-    ensures machine { IfOk result (λ lanes. All (λ lane. All (λ job. job.machine ≡ n) lane.items) lanes.items) }
-    ensures failed { IfErr result (λ fault. IsInputFault (R.failures reader.old) (R.failures reader.new) fault) }
+    ensures parse { IfSome (R.remaining reader.old) (λ bytes.
+        ReturnsLanes (parse_jobs n bytes) result) }
+    ensures machine { IfOk result (λ lanes.
+        All (λ lane. All (λ job. job.machine ≡ n) lane.items) lanes.items) }
+    ensures failed { IfErr result (IsInputFault (R.failures reader.old) (R.failures reader.new)) }
 {
     let failures = reader.failures();
     let Ok(lanes) = Lanes::new(alloc) else {

@@ -1,11 +1,11 @@
 //! The CSV files of the machine: their parse, and the rows that answer them.
 //!
 //! `read_jobs`, `read_place` and `read_schedule` read a whole file and return its rows or its first
-//! fault; `read_lanes` returns the jobs lane by lane. One loop reads every format: a format checks a
-//! header and reads a record. One buffer writes every row: a `Row` has columns and fields, and
-//! `LineBuffer` writes their lines to a writer that is lent. A reader or writer is a `Device`, which
-//! counts its failed calls, and `Counted` makes one of any; a fault is the device's exactly where
-//! that count rose.
+//! fault; `read_lanes` returns the jobs lane by lane. One loop reads every format: a format checks
+//! a header and reads a record. One buffer writes every row: a `Row` has columns and fields, and
+//! `LineBuffer` writes their lines to a writer that is lent. A reader or writer is a `Device`,
+//! which counts its failed calls, and `Counted` makes one of any; a fault is the device's exactly
+//! where that count rose.
 #![tactic(auto)]
 
 mod columns;

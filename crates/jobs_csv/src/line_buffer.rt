@@ -95,7 +95,9 @@ impl LineBuffer {
         row: T,
         writer: &mut W,
     ) -> Result<Self, WriteStopped>
-        ensures { IfOk result (λ lines. (out : List ℕ) × Appends (W.contents writer.old) (W.contents writer.new) out × (out ++ lines ≡ self ++ line_of (T.fields row))) }
+        ensures { IfOk result (λ lines. (out : List ℕ)
+            × Appends (W.contents writer.old) (W.contents writer.new) out
+            × (out ++ lines ≡ self ++ line_of (T.fields row))) }
     {
         let lines = self.push(&row)?;
         let lines = lines.flush_if_full(writer)?;
@@ -104,7 +106,8 @@ impl LineBuffer {
 
     /// Writes out the buffered lines and empties the buffer.
     pub fn flush<W: Write>(self, writer: &mut W) -> Result<Self, WriteStopped>
-        ensures written { OnOk result (Appends (W.contents writer.old) (W.contents writer.new) self) }
+        ensures written { OnOk result
+            (Appends (W.contents writer.old) (W.contents writer.new) self) }
         ensures empty { IfOk result (λ lines. lines ≡ []) }
     {
         let LineBuffer {
@@ -129,7 +132,9 @@ impl LineBuffer {
 
     /// Writes out the buffered lines, as `flush` does, if the buffer is full.
     pub fn flush_if_full<W: Write>(self, writer: &mut W) -> Result<Self, WriteStopped>
-        ensures { IfOk result (λ lines. (out : List ℕ) × Appends (W.contents writer.old) (W.contents writer.new) out × (out ++ lines ≡ self)) }
+        ensures { IfOk result (λ lines. (out : List ℕ)
+            × Appends (W.contents writer.old) (W.contents writer.new) out
+            × (out ++ lines ≡ self)) }
     {
         if self.writer.get_ref().len() >= FULL {
             self.flush(writer)
@@ -153,7 +158,8 @@ fn write_all_rows<T: Row + Drop, W: Write>(
     rows: Vec<T>,
     writer: &mut W,
 ) -> Result<(), WriteStopped>
-    ensures { OnOk result (Appends (W.contents writer.old) (W.contents writer.new) (file_text T.columns T.fields rows.items)) }
+    ensures { OnOk result (Appends (W.contents writer.old) (W.contents writer.new)
+        (file_text T.columns T.fields rows.items)) }
 {
     let mut lines = LineBuffer::new(alloc)?.push_header::<T>()?;
     for row in rows {
@@ -171,8 +177,10 @@ pub fn write_rows<T: Row + Drop, W: Write + Device>(
     rows: Vec<T>,
     writer: &mut W,
 ) -> Result<(), Fault>
-    ensures written { OnOk result (Appends (W.contents writer.old) (W.contents writer.new) (file_text T.columns T.fields rows.items)) }
-    ensures failed { IfErr result (λ fault. fault ≡ attribute FaultKind.Write (W.failures writer.old) (W.failures writer.new)) }
+    ensures written { OnOk result (Appends (W.contents writer.old) (W.contents writer.new)
+        (file_text T.columns T.fields rows.items)) }
+    ensures failed { IfErr result (λ fault.
+        fault ≡ attribute FaultKind.Write (W.failures writer.old) (W.failures writer.new)) }
 {
     let failures_before = writer.failures();
     match write_all_rows(alloc, rows, writer) {

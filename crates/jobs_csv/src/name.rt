@@ -25,9 +25,11 @@ impl Model for Name {
 
     ghost invariant = { λ n. IsPadded n.len n.bytes };
 
-    ghost inverse = { λ text. record { bytes = text ++ zeros (16 - length text); len = length text } };
+    ghost inverse = { λ text.
+        record { bytes = text ++ zeros (16 - length text); len = length text } };
 
-    ghost inverse_ok = { λ n h i. record { bytes = same_bytes n.len n.bytes h i; len = same_len n.len n.bytes h i } };
+    ghost inverse_ok = { λ n h i.
+        record { bytes = same_bytes n.len n.bytes h i; len = same_len n.len n.bytes h i } };
 }
 
 // Whether each byte is one that a name may have.

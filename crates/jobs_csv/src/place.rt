@@ -81,7 +81,8 @@ fn read_last(n: u32, verb: Verb, name: Name, dim: &[u8]) -> Result<Command, Faul
 // The command of three fields.
 #[tactic(auto, unfolding(crate::specs::Place::command_of))]
 fn read_fields(n: u32, three: &ThreeFields<'_>) -> Result<Command, FaultKind>
-    ensures parse { ReturnsParse (λ command. command) (command_of n (three.now.first.now ∷ three.now.second.now ∷ three.now.third.now ∷ [])) result }
+    ensures parse { ReturnsParse (λ command. command) (command_of n (three.now.first.now
+        ∷ three.now.second.now ∷ three.now.third.now ∷ [])) result }
     ensures fits { IfOk result (λ command. Fits n command) }
 {
     let verb = read_verb(three.first)?;
@@ -125,9 +126,10 @@ pub fn read_place<R: Read + Device>(
     n: u32,
     reader: &mut R,
 ) -> Result<Vec<Command>, Fault>
-    ensures parse { IfSome (R.remaining reader.old) (λ bytes. ReturnsFile (parse_commands n bytes) result) }
+    ensures parse { IfSome (R.remaining reader.old) (λ bytes.
+        ReturnsFile (parse_commands n bytes) result) }
     ensures fits { IfOk result (λ commands. All (λ command. Fits n command) commands.items) }
-    ensures failed { IfErr result (λ fault. IsInputFault (R.failures reader.old) (R.failures reader.new) fault) }
+    ensures failed { IfErr result (IsInputFault (R.failures reader.old) (R.failures reader.new)) }
 {
     format::read_list(alloc, &Commands { n }, reader)
 }

@@ -35,7 +35,8 @@ fn push_item(text: &mut String, item: Option<u64>) -> Result<(), AllocError>
 
 // Appends the item at the place of a rank, with a space before it where it is not the first.
 fn push_place(text: &mut String, rank: u64, item: Option<u64>) -> Result<(), AllocError>
-    ensures text { OnOk result (string_bytes text.new ≡ string_bytes text.old ++ ((if rank == 0 then [] else 32 ∷ []) ++ number_text item)) }
+    ensures text { OnOk result (string_bytes text.new ≡ string_bytes text.old
+        ++ ((if rank == 0 then [] else 32 ∷ []) ++ number_text item)) }
     ensures plain { OnOk result (IsPlainField (number_text item)) }
 {
     if rank > 0 {
@@ -47,7 +48,8 @@ fn push_place(text: &mut String, rank: u64, item: Option<u64>) -> Result<(), All
 
 // The items at the places in the end, by rank.
 fn places(alloc: Global, reply: &Reply) -> Result<String, AllocError>
-    ensures text { IfOk result (λ text. string_bytes text ≡ places_text (length reply.now.job.items) reply.now.job) }
+    ensures text { IfOk result (λ text. string_bytes text
+        ≡ places_text (length reply.now.job.items) reply.now.job) }
     ensures plain { IfOk result (λ text. IsPlainField (string_bytes text)) }
 {
     let mut text = String::new(alloc);

@@ -100,7 +100,8 @@ fn read_last(station: u64, keyword: Keyword, arg: &[u8]) -> Result<Line, FaultKi
 // The line of three fields.
 #[tactic(auto, unfolding(crate::specs::Schedule::schedule_line))]
 fn read_fields(three: &ThreeFields<'_>) -> Result<Line, FaultKind>
-    ensures parse { ReturnsParse (λ line. line) (schedule_line (three.now.first.now ∷ three.now.second.now ∷ three.now.third.now ∷ [])) result }
+    ensures parse { ReturnsParse (λ line. line) (schedule_line (three.now.first.now
+        ∷ three.now.second.now ∷ three.now.third.now ∷ [])) result }
     ensures times { IfOk result (λ line. HasValidCount line) }
 {
     let station = fields::any_number(three.first)?;
@@ -140,9 +141,10 @@ impl Format for Schedule {
 /// calls rose in this call, or stood at `u64::MAX`; any other failure is `OutOfMemory`. At most
 /// `MAX_RECORDS + 1` records after the header are read.
 pub fn read_schedule<R: Read + Device>(alloc: Global, reader: &mut R) -> Result<Vec<Line>, Fault>
-    ensures parse { IfSome (R.remaining reader.old) (λ bytes. ReturnsFile (parse_schedule bytes) result) }
+    ensures parse { IfSome (R.remaining reader.old) (λ bytes.
+        ReturnsFile (parse_schedule bytes) result) }
     ensures times { IfOk result (λ lines. All (λ line. HasValidCount line) lines.items) }
-    ensures failed { IfErr result (λ fault. IsInputFault (R.failures reader.old) (R.failures reader.new) fault) }
+    ensures failed { IfErr result (IsInputFault (R.failures reader.old) (R.failures reader.new)) }
 {
     format::read_list(alloc, &Schedule, reader)
 }
