@@ -1,8 +1,11 @@
 -- Records of three fields, and others.
-use Rattle.std.proofs.Common.{◌≡◌, ◌≢◌, ℕ, zero, suc, ◌<◌, List, [], ◌∷◌, length, Some, is_some, true, Err, refl, arith}
+use Rattle.std.proofs.Common.{◌≡◌, ◌≢◌, ℕ, zero, suc, ◌<◌, ◌==◌, List, [], ◌∷◌, length, Some, is_some, true, false, Ok, Err, if◌then◌else◌, refl, ap, arith}
+use Rattle.std.proofs.lemmas.Bool.Decides.{nat_tests}
+use Rattle.std.specs.Cmp.Lexicographic.{pointwise}
+use Rattle.std.specs.Str.{bytes_eq}
 use Rattle.csv.specs.Records.{field_at}
 use Rattle.jobs_csv.specs.declared.fault.FaultKind.TheVariants as what
-use Rattle.jobs_csv.specs.Columns.{three_header}
+use Rattle.jobs_csv.specs.Columns.{header_of}
 
 -- there is a field at each index below their number
 pub has_field : (fields : List (List ℕ)) (index : ℕ) → index < length fields → is_some (field_at fields index) ≡ true
@@ -20,11 +23,9 @@ three (f0 ∷ f1 ∷ []) a b c n p0 p1 p2 = absurd (omega arith)
 three (f0 ∷ f1 ∷ f2 ∷ []) a b c n p0 p1 p2 = cc
 three (f0 ∷ f1 ∷ f2 ∷ f3 ∷ rest) a b c n p0 p1 p2 = absurd (omega arith)
 
--- any other record is no header of three
-pub no_three_header : (x y z : List ℕ) (fields : List (List ℕ)) → length fields ≢ 3 → three_header x y z fields ≡ Err what.Fields
-unfolding three_header
-no_three_header x y z [] n = refl
-no_three_header x y z (f0 ∷ []) n = refl
-no_three_header x y z (f0 ∷ f1 ∷ []) n = refl
-no_three_header x y z (f0 ∷ f1 ∷ f2 ∷ []) n = absurd (n refl)
-no_three_header x y z (f0 ∷ f1 ∷ f2 ∷ f3 ∷ rest) n = refl
+-- a record of another number of fields is no header
+pub no_header : (columns fields : List (List ℕ)) → length fields ≢ length columns → header_of columns fields ≡ Err what.Fields
+unfolding header_of
+no_header columns fields n =
+    let other : (length fields == length columns) ≡ false = grind (arith, nat_tests) in
+    ap (λ same. if same then (if pointwise bytes_eq fields columns then Ok tt else Err what.Word) else Err what.Fields) other

@@ -2,7 +2,7 @@
 use Rattle.std.proofs.Common.{◌≡◌, ◌≢◌, ℕ, List, [], ◌∷◌, length, Some, Err, refl, arith}
 use Rattle.csv.specs.Records.{field_at}
 use Rattle.jobs_csv.specs.declared.fault.FaultKind.TheVariants as what
-use Rattle.jobs_csv.specs.Jobs.{job_of, jobs_header}
+use Rattle.jobs_csv.specs.Jobs.{job_of}
 
 -- a record of five fields is the list of these
 pub five : (fields : List (List ℕ)) (a b c d e : List ℕ) → length fields ≡ 5 → field_at fields 0 ≡ Some a → field_at fields 1 ≡ Some b → field_at fields 2 ≡ Some c → field_at fields 3 ≡ Some d → field_at fields 4 ≡ Some e → fields ≡ a ∷ b ∷ c ∷ d ∷ e ∷ []
@@ -15,18 +15,7 @@ five (f0 ∷ f1 ∷ f2 ∷ f3 ∷ []) a b c d e n p0 p1 p2 p3 p4 = absurd (omega
 five (f0 ∷ f1 ∷ f2 ∷ f3 ∷ f4 ∷ []) a b c d e n p0 p1 p2 p3 p4 = cc
 five (f0 ∷ f1 ∷ f2 ∷ f3 ∷ f4 ∷ f5 ∷ rest) a b c d e n p0 p1 p2 p3 p4 = absurd (omega arith)
 
--- any other record is no header
-pub no_header : (fields : List (List ℕ)) → length fields ≢ 5 → jobs_header fields ≡ Err what.Fields
-unfolding jobs_header
-no_header [] n = refl
-no_header (f0 ∷ []) n = refl
-no_header (f0 ∷ f1 ∷ []) n = refl
-no_header (f0 ∷ f1 ∷ f2 ∷ []) n = refl
-no_header (f0 ∷ f1 ∷ f2 ∷ f3 ∷ []) n = refl
-no_header (f0 ∷ f1 ∷ f2 ∷ f3 ∷ f4 ∷ []) n = absurd (n refl)
-no_header (f0 ∷ f1 ∷ f2 ∷ f3 ∷ f4 ∷ f5 ∷ rest) n = refl
-
--- nor has it a job
+-- any other record has no job
 pub no_job : (machine : ℕ) (fields : List (List ℕ)) → length fields ≢ 5 → job_of machine fields ≡ Err what.Fields
 unfolding job_of
 no_job machine [] n = refl

@@ -8,15 +8,11 @@ use Rattle.jobs_csv.specs.declared.fault.FaultKind.TheVariants as what
 
 -- the input is refused; otherwise a device failed, or memory did, or a lane has no number left
 abbrev pub is_refusal : FaultKind → Bool
-is_refusal what.Fields = true
-is_refusal what.Number = true
-is_refusal what.Word = true
-is_refusal (what.Job reason) = true
 is_refusal what.Read = false
 is_refusal what.Write = false
 is_refusal what.OutOfMemory = false
-is_refusal what.TooMany = true
 is_refusal what.Spent = false
+is_refusal _ = true
 
 -- the exit status of a program that reports it
 abbrev pub status_of : FaultKind → ℕ

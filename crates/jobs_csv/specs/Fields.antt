@@ -37,6 +37,11 @@ within low high number = if nat_lt number low || nat_lt high number then None el
 unfoldable pub number_within : ℕ → ℕ → List ℕ → Result ℕ FaultKind
 number_within low high field = or_refuse what.Number (option_and_then (within low high) (number_of field))
 
+-- what the table has under the text of the field
+unfoldable pub among : {A : Type 0} → List (List ℕ × A) → List ℕ → Result A FaultKind
+among [] field = Err what.Word
+among ((text, value) ∷ others) field = if bytes_eq field text then Ok value else among others field
+
 -- a field that is a dash, which stands for nothing
 unfoldable pub dash_of : List ℕ → Result (Unit {0}) FaultKind
 dash_of field = if bytes_eq field (codes "-") then Ok tt else Err what.Word

@@ -32,9 +32,7 @@ rows_from row_of number (fields ∷ records) = do
 -- the rows of a file, given as its records; the header is record 0
 unfoldable pub file_of : {Row : Type 0} → (Record → Result (Unit {0}) FaultKind) → (Record → Result Row FaultKind) → List Record → Result (List Row) Fault
 file_of header_of row_of [] = Err (record { row = 0; what = what.Fields })
-file_of header_of row_of (header ∷ records) = do
-  good ← at_row 0 (header_of header)
-  rows_from row_of 1 records
+file_of header_of row_of (header ∷ records) = at_row 0 (header_of header) >>= (λ good. rows_from row_of 1 records)
 
 -- the records of a file
 abbrev pub records_of : List ℕ → List Record

@@ -11,7 +11,7 @@ use Rattle.jobs_csv.specs.declared.fault.FaultKind.{FaultKind}
 use Rattle.jobs_csv.specs.declared.fault.FaultKind.TheVariants as what
 use Rattle.jobs_csv.specs.declared.job_fields.Collective.{Collective}
 use Rattle.jobs_csv.specs.declared.job_fields.Collective.TheVariants as collective
-use Rattle.jobs_csv.specs.Fields.{dash_of, number_of, number_within}
+use Rattle.jobs_csv.specs.Fields.{among, dash_of, number_of, number_within}
 use Rattle.jobs_csv.specs.Outcome.{or_refuse, ◌>>=◌}
 
 -- the lane is a number below MAX_LANES
@@ -20,30 +20,16 @@ lane_of field = number_within 0 (MAX_LANES - 1) field
 
 -- the operation
 unfoldable pub op_of : List ℕ → Result Op FaultKind
-op_of field =
-    if bytes_eq field (codes "add") then Ok op.Add
-    else if bytes_eq field (codes "min") then Ok op.Min
-    else if bytes_eq field (codes "max") then Ok op.Max
-    else if bytes_eq field (codes "xor") then Ok op.Xor
-    else if bytes_eq field (codes "and") then Ok op.And
-    else if bytes_eq field (codes "or") then Ok op.Or
-    else Err what.Word
+op_of field = among ((codes "add", op.Add) ∷ (codes "min", op.Min) ∷ (codes "max", op.Max)
+    ∷ (codes "xor", op.Xor) ∷ (codes "and", op.And) ∷ (codes "or", op.Or) ∷ []) field
 
 -- the collective of two fields, without its root; a broadcast has no operation
 unfoldable pub collective_of : List ℕ → List ℕ → Result Collective FaultKind
 collective_of word join =
-    if bytes_eq word (codes "broadcast") then (do
-      nothing ← dash_of join
-      Ok collective.Broadcast)
-    else if bytes_eq word (codes "reduce") then (do
-      o ← op_of join
-      Ok (collective.Reduce o))
-    else if bytes_eq word (codes "allreduce") then (do
-      o ← op_of join
-      Ok (collective.AllReduce o))
-    else if bytes_eq word (codes "scan") then (do
-      o ← op_of join
-      Ok (collective.Scan o))
+    if bytes_eq word (codes "broadcast") then (dash_of join >>= (λ nothing. Ok collective.Broadcast))
+    else if bytes_eq word (codes "reduce") then (op_of join >>= (λ op. Ok (collective.Reduce op)))
+    else if bytes_eq word (codes "allreduce") then (op_of join >>= (λ op. Ok (collective.AllReduce op)))
+    else if bytes_eq word (codes "scan") then (op_of join >>= (λ op. Ok (collective.Scan op)))
     else Err what.Word
 
 -- the collective with its root, if it has one
@@ -57,8 +43,7 @@ with_root root (collective.Scan op) = kind.Scan op
 abbrev pub has_superfluous_root : ℕ → Collective → Bool
 has_superfluous_root root collective.Broadcast = false
 has_superfluous_root root (collective.Reduce op) = false
-has_superfluous_root root (collective.AllReduce op) = not (root == 0)
-has_superfluous_root root (collective.Scan op) = not (root == 0)
+has_superfluous_root root _ = not (root == 0)
 
 -- the numbers of all pieces, if each has one
 unfoldable pub all_numbers : List (List ℕ) → Option (List ℕ)

@@ -1,12 +1,12 @@
 -- The parse of a file of jobs.
-use Rattle.std.specs.Prelude.{ℕ, ◌&&◌, Bool, List, [], ◌∷◌, codes, Option, Some, None, Result, Ok, Err, if◌then◌else◌}
-use Rattle.std.specs.Str.{bytes_eq}
+use Rattle.std.specs.Prelude.{ℕ, Bool, List, [], ◌∷◌, codes, Option, Some, None, Result, Ok, Err, if◌then◌else◌}
 use Rattle.job_types.specs.Job.{JobData, refusal_of}
 use Rattle.job_types.specs.declared.request.JobRefused.{JobRefused}
 use Rattle.job_types.specs.declared.request.JobRefused.TheVariants.{BadRoot}
 use Rattle.jobs_csv.specs.declared.fault.Fault.{Fault}
 use Rattle.jobs_csv.specs.declared.fault.FaultKind.{FaultKind}
 use Rattle.jobs_csv.specs.declared.fault.FaultKind.TheVariants as what
+use Rattle.jobs_csv.specs.Columns.{header_of}
 use Rattle.jobs_csv.specs.Fields.{any_number}
 use Rattle.jobs_csv.specs.Files.{Record, parse_file}
 use Rattle.jobs_csv.specs.JobFields.{collective_of, has_superfluous_root, items_of, lane_of, with_root}
@@ -31,13 +31,10 @@ job_of n (lane ∷ kind ∷ op ∷ root ∷ items ∷ []) = do
   accept_job (record { machine = n; lane = l; kind = with_root r c; items = xs }) (has_superfluous_root r c)
 job_of n _ = Err what.Fields
 
--- the header of the jobs: five fields with these texts
-unfoldable pub jobs_header : Record → Result (Unit {0}) FaultKind
-jobs_header (lane ∷ kind ∷ op ∷ root ∷ items ∷ []) =
-    if bytes_eq lane (codes "lane") && bytes_eq kind (codes "kind") && bytes_eq op (codes "op") && bytes_eq root (codes "root") && bytes_eq items (codes "items")
-    then Ok tt else Err what.Word
-jobs_header _ = Err what.Fields
+-- the texts of the header
+abbrev pub job_columns : List (List ℕ)
+job_columns = codes "lane" ∷ codes "kind" ∷ codes "op" ∷ codes "root" ∷ codes "items" ∷ []
 
 -- the parse of a file of jobs, for a machine of dimension n
 abbrev pub parse_jobs : ℕ → List ℕ → Result (List JobData) Fault
-parse_jobs n bytes = parse_file jobs_header (job_of n) bytes
+parse_jobs n bytes = parse_file (header_of job_columns) (job_of n) bytes

@@ -1,8 +1,9 @@
 // Records of a given number of fields.
-ghost use Rattle.std.specs.Prelude.{◌≡◌, ◌≢◌, ◌<◌, ◌&&◌, [], ◌∷◌, length, Some, IfSome, IfNone};
+ghost use Rattle.std.specs.Prelude.{◌≡◌, ◌≢◌, ◌<◌, [], ◌∷◌, length, Some, IfSome, IfNone};
+ghost use Rattle.std.specs.Cmp.Lexicographic.{pointwise};
 ghost use Rattle.std.specs.Str.{bytes_eq};
 ghost use Rattle.csv.specs.Records.{field_at, fields_of};
-ghost use Rattle.jobs_csv.specs.Columns.{three_header};
+ghost use Rattle.jobs_csv.specs.Columns.{header_of};
 ghost use Rattle.jobs_csv.specs.Inner.Parse.{ReturnsParse};
 
 use crate::fault::FaultKind;
@@ -42,9 +43,9 @@ pub fn three_fields(row: &ByteRecord) -> Option<ThreeFields<'_>>
 
 // Whether the fields have these texts.
 fn are_texts(fields: &ThreeFields<'_>, first: &[u8], second: &[u8], third: &[u8]) -> bool
-    ensures { result ≡ (bytes_eq fields.now.first.now first.now
-        && bytes_eq fields.now.second.now second.now
-        && bytes_eq fields.now.third.now third.now) }
+    ensures { result ≡ pointwise bytes_eq
+        (fields.now.first.now ∷ fields.now.second.now ∷ fields.now.third.now ∷ [])
+        (first.now ∷ second.now ∷ third.now ∷ []) }
 {
     fields.first == first && fields.second == second && fields.third == third
 }
@@ -57,7 +58,7 @@ pub fn three_header(
     third: &[u8],
 ) -> Result<(), FaultKind>
     ensures { ReturnsParse (λ good. good)
-        (three_header first.now second.now third.now (fields_of row.now)) result }
+        (header_of (first.now ∷ second.now ∷ third.now ∷ []) (fields_of row.now)) result }
 {
     let fields = match three_fields(row) {
         Some(fields) => fields,

@@ -51,7 +51,7 @@ pub fn lane(field: &[u8]) -> Result<u32, FaultKind>
 }
 
 // The operation of a field.
-#[tactic(auto, unfolding(crate::specs::JobFields::op_of))]
+#[tactic(auto, unfolding(crate::specs::JobFields::op_of, crate::specs::Fields::among))]
 fn read_op(field: &[u8]) -> Result<Op, FaultKind>
     ensures { ReturnsParse (λ op. op) (op_of field.now) result }
 {

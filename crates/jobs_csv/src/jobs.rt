@@ -1,10 +1,12 @@
 // Reading a file of jobs.
-ghost use Rattle.std.specs.Prelude.{◌≡◌, ◌≢◌, ◌<◌, ◌≤◌, ◌&&◌, [], ◌∷◌, codes, length, All, IfOk, IfErr, IfSome, IfNone};
+ghost use Rattle.std.specs.Prelude.{◌≡◌, ◌≢◌, ◌<◌, ◌≤◌, [], ◌∷◌, length, All, IfOk, IfErr, IfSome, IfNone};
+ghost use Rattle.std.specs.Cmp.Lexicographic.{pointwise};
 ghost use Rattle.std.specs.Str.{bytes_eq};
 ghost use Rattle.csv.specs.Records.{fields_of};
 ghost use Rattle.cube_shape.specs.declared.limits.TheConstants.{MAX_DIM};
+ghost use Rattle.jobs_csv.specs.Columns.{header_of};
 ghost use Rattle.jobs_csv.specs.Fault.{IsInputFault};
-ghost use Rattle.jobs_csv.specs.Jobs.{accept_job, job_of, jobs_header, parse_jobs};
+ghost use Rattle.jobs_csv.specs.Jobs.{accept_job, job_columns, job_of, parse_jobs};
 ghost use Rattle.jobs_csv.specs.Lanes.{ReturnsLanes};
 ghost use Rattle.jobs_csv.specs.Inner.Parse.{ReturnsParse};
 ghost use Rattle.jobs_csv.specs.Outcome.{ReturnsFile};
@@ -57,10 +59,8 @@ fn five_fields(row: &ByteRecord) -> Option<FiveFields<'_>>
 
 // Whether the fields are those of a header.
 fn is_header(five: &FiveFields<'_>) -> bool
-    ensures { result ≡ (bytes_eq five.now.lane.now (codes "lane")
-        && bytes_eq five.now.kind.now (codes "kind") && bytes_eq five.now.op.now (codes "op")
-        && bytes_eq five.now.root.now (codes "root")
-        && bytes_eq five.now.items.now (codes "items")) }
+    ensures { result ≡ pointwise bytes_eq (five.now.lane.now ∷ five.now.kind.now
+        ∷ five.now.op.now ∷ five.now.root.now ∷ five.now.items.now ∷ []) job_columns }
 {
     five.lane == b"lane".as_slice()
         && five.kind == b"kind".as_slice()
@@ -130,7 +130,7 @@ fn accept(
 impl Format for Jobs {
     type Row = Job;
 
-    ghost header_of = { jobs_header };
+    ghost header_of = { header_of job_columns };
 
     ghost row_of = { λ jobs. job_of jobs.n };
 

@@ -1,10 +1,11 @@
 // Reading a file of commands over names.
 ghost use Rattle.std.specs.Prelude.{◌≡◌, [], ◌∷◌, ◌≤◌, All, IfOk, IfErr, IfSome};
 ghost use Rattle.csv.specs.Records.{fields_of};
+ghost use Rattle.jobs_csv.specs.Columns.{header_of};
 ghost use Rattle.jobs_csv.specs.Fault.{IsInputFault};
 ghost use Rattle.jobs_csv.specs.Inner.Parse.{ReturnsParse};
 ghost use Rattle.jobs_csv.specs.Outcome.{ReturnsFile};
-ghost use Rattle.jobs_csv.specs.Place.{Fits, verb_command, command_of, parse_commands, name_of, place_header, verb_of};
+ghost use Rattle.jobs_csv.specs.Place.{Fits, verb_command, command_columns, command_of, parse_commands, name_of, verb_of};
 
 use crate::columns::{self, ThreeFields};
 use crate::device::Device;
@@ -39,7 +40,7 @@ struct Commands {
 }
 
 // The keyword of a field.
-#[tactic(auto, unfolding(crate::specs::Place::verb_of))]
+#[tactic(auto, unfolding(crate::specs::Place::verb_of, crate::specs::Fields::among))]
 fn read_verb(field: &[u8]) -> Result<Verb, FaultKind>
     ensures { ReturnsParse (λ verb. verb) (verb_of field.now) result }
 {
@@ -93,7 +94,7 @@ fn read_fields(n: u32, three: &ThreeFields<'_>) -> Result<Command, FaultKind>
 impl Format for Commands {
     type Row = Command;
 
-    ghost header_of = { place_header };
+    ghost header_of = { header_of command_columns };
 
     ghost row_of = { λ commands. command_of commands.n };
 

@@ -1,10 +1,11 @@
 // Reading a file of a schedule: calls and steps of stations.
 ghost use Rattle.std.specs.Prelude.{◌≡◌, [], ◌∷◌, All, IfOk, IfErr, IfSome};
 ghost use Rattle.csv.specs.Records.{fields_of};
+ghost use Rattle.jobs_csv.specs.Columns.{header_of};
 ghost use Rattle.jobs_csv.specs.Fault.{IsInputFault};
 ghost use Rattle.jobs_csv.specs.Inner.Parse.{ReturnsParse};
 ghost use Rattle.jobs_csv.specs.Outcome.{ReturnsFile};
-ghost use Rattle.jobs_csv.specs.Schedule.{HasValidCount, keyword_of, keyword_line, schedule_header, parse_schedule, schedule_line};
+ghost use Rattle.jobs_csv.specs.Schedule.{HasValidCount, keyword_of, keyword_line, parse_schedule, schedule_columns, schedule_line};
 
 use crate::columns::{self, ThreeFields};
 use crate::device::Device;
@@ -48,7 +49,7 @@ enum Keyword {
 struct Schedule;
 
 // The keyword of a field.
-#[tactic(auto, unfolding(crate::specs::Schedule::keyword_of))]
+#[tactic(auto, unfolding(crate::specs::Schedule::keyword_of, crate::specs::Fields::among))]
 fn read_keyword(field: &[u8]) -> Result<Keyword, FaultKind>
     ensures { ReturnsParse (λ keyword. keyword) (keyword_of field.now) result }
 {
@@ -112,7 +113,7 @@ fn read_fields(three: &ThreeFields<'_>) -> Result<Line, FaultKind>
 impl Format for Schedule {
     type Row = Line;
 
-    ghost header_of = { schedule_header };
+    ghost header_of = { header_of schedule_columns };
 
     ghost row_of = { λ _. schedule_line };
 
