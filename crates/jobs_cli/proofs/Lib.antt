@@ -3,3 +3,4 @@ pub mod TraceLemmas
 pub mod StationLemmas
 pub mod ReplayLemmas
 pub mod CommandLineLemmas
+pub mod ProgramLemmas

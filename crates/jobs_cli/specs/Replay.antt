@@ -6,7 +6,7 @@ use Rattle.cube_core.specs.declared.act.Act.TheVariants as act
 use Rattle.cube_core.specs.declared.act.Refused.{Refused}
 use Rattle.cube_core.specs.declared.event.Event.{Event}
 use Rattle.cube_core.specs.Phase.{IsAtRest}
-use Rattle.cube_core.specs.Schedule.{State, apply, initial, phase_of, record_of, refusal, word_of}
+use Rattle.cube_core.specs.Schedule.{State, apply, initial, phase_of, refusal, station_of, trail_of, word_of}
 use Rattle.cube_core.specs.World.{without_trails}
 use Rattle.jobs_csv.specs.declared.schedule.Line.{Line}
 use Rattle.jobs_csv.specs.declared.schedule.Line.TheVariants as line
@@ -14,23 +14,20 @@ use Rattle.jobs_csv.specs.declared.replay_rows.ReplayRow.{ReplayRow}
 use Rattle.jobs_csv.specs.declared.replay_rows.ReplayRow.TheVariants as row
 use Rattle.jobs_cli.specs.Trace.{IsTrace}
 
--- the station makes this event: its trail grows by it
-abbrev pub EmitsEvent : Act → ℕ → State → Event → Type 0
-EmitsEvent a station w event = (record_of (apply a w) station).trail ≡ event ∷ (record_of w station).trail
+-- the station of the act makes this event: its trail grows by it
+abbrev pub EmitsEvent : Act → State → Event → Type 0
+EmitsEvent a w event = trail_of (apply a w) (station_of a) ≡ event ∷ trail_of w (station_of a)
 
 -- the rows of an accepted act: one for an event, and none for a take or a release, which only begins
 abbrev pub AreRows : Act → State → List ReplayRow → Type 0
 AreRows (act.Take station node) w rows = rows ≡ []
 AreRows (act.Release station) w rows = rows ≡ []
-AreRows (act.Step station) w rows = (event : Event) × EmitsEvent (act.Step station) station w event × (rows ≡ row.Made event ∷ [])
-AreRows (act.Retire station) w rows = (event : Event) × EmitsEvent (act.Retire station) station w event × (rows ≡ row.Made event ∷ [])
+AreRows a w rows = (event : Event) × EmitsEvent a w event × (rows ≡ row.Made event ∷ [])
 
 -- the row of a refused act, which shows the node that a take asked for
 abbrev pub refused_row : Act → Refused → ReplayRow
 refused_row (act.Take station node) why = row.Refused station (Some node) why
-refused_row (act.Release station) why = row.Refused station None why
-refused_row (act.Step station) why = row.Refused station None why
-refused_row (act.Retire station) why = row.Refused station None why
+refused_row a why = row.Refused (station_of a) None why
 
 -- The step relation of one act. A refused act changes nothing and yields one row; an accepted act
 -- yields the world that `apply` computes, without trails.

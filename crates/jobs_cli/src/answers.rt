@@ -43,7 +43,11 @@ fn answer_lane<W: Write>(
 ) -> Result<LineBuffer, WriteStopped>
     requires free { (s : ℕ) → held_in bits.old s ≡ None }
     requires machine { All (λ job. job.machine ≡ bits.old.dim) jobs.items }
-    ensures sent { IfOk result (λ more. (replies : List ReplyData) × (map answered_job replies ≡ with_ids_from 0 jobs.items) × (out : List ℕ) × Appends (W.contents writer.old) (W.contents writer.new) out × (out ++ more ≡ lines ++ flat_map (λ reply. line_of (reply_fields reply)) replies)) }
+    ensures sent { IfOk result (λ more. (replies : List ReplyData)
+        × (map answered_job replies ≡ with_ids_from 0 jobs.items)
+        × (out : List ℕ)
+        × Appends (W.contents writer.old) (W.contents writer.new) out
+        × (out ++ more ≡ lines ++ flat_map (λ reply. line_of (reply_fields reply)) replies)) }
     ensures free { (s : ℕ) → held_in bits.new s ≡ None }
     ensures dim { bits.new.dim ≡ bits.old.dim }
 {
@@ -68,7 +72,10 @@ pub(crate) fn answer_all<W: Write>(
 ) -> Result<(), WriteStopped>
     requires limit { n ≤ MAX_DIM }
     requires machine { All (λ lane. All (λ job. job.machine ≡ n) lane.items) lanes.items }
-    ensures { OnOk result ((replies : List ReplyData) × (map answered_job replies ≡ lane_by_lane lanes.items) × Appends (W.contents writer.old) (W.contents writer.new) (file_text reply_columns reply_fields replies)) }
+    ensures { OnOk result ((replies : List ReplyData)
+        × (map answered_job replies ≡ lane_by_lane lanes.items)
+        × Appends (W.contents writer.old) (W.contents writer.new)
+        (file_text reply_columns reply_fields replies)) }
 {
     let mut bits = AllocBits::new(alloc, n)?;
     let mut lines = LineBuffer::new(alloc)?.push_header::<Reply>()?;

@@ -158,7 +158,8 @@ fn command<'a>(
 
 // The command `replay`, which has stations too.
 fn replay_command<'a>(alloc: Global, limits: &'a Limits) -> Result<Command<'a>, AllocError>
-    ensures app { IfOk result (λ command. app_of command ≡ with_rule (command_app (codes "replay")) stations_rule) }
+    ensures app { IfOk result (λ command.
+        app_of command ≡ with_rule (command_app (codes "replay")) stations_rule) }
     ensures local { IfOk result (λ command. (out-Command command).has_globals ≡ false) }
 {
     let replay = command(alloc, "replay", ABOUT_REPLAY, LONG_ABOUT_REPLAY, limits)?;
@@ -184,7 +185,8 @@ fn program<'a>(alloc: Global, limits: &'a Limits) -> Result<Command<'a>, AllocEr
 // The dimension that a command was given.
 fn dim_in(matches: &ArgMatches<'_>) -> Option<u32>
     ensures limit { IfSome result (λ n. n ≤ MAX_DIM) }
-    ensures value { IfSome result (λ n. HasOptionValue (rows_of (found_of matches.now)) (codes "dim") n) }
+    ensures value { IfSome result (λ n.
+        HasOptionValue (rows_of (found_of matches.now)) (codes "dim") n) }
 {
     let n = matches.get_one::<u32>("dim")?;
     if Dim(n).fits(MAX_DIM) { Some(n) } else { None }
@@ -193,7 +195,8 @@ fn dim_in(matches: &ArgMatches<'_>) -> Option<u32>
 // The number of stations that a command was given.
 fn stations_in(matches: &ArgMatches<'_>) -> Option<u32>
     ensures limits { IfSome result (λ stations. (1 ≤ stations) × (stations ≤ MAX_STATIONS)) }
-    ensures value { IfSome result (λ stations. HasOptionValue (rows_of (found_of matches.now)) (codes "stations") stations) }
+    ensures value { IfSome result (λ stations.
+        HasOptionValue (rows_of (found_of matches.now)) (codes "stations") stations) }
 {
     let stations = matches.get_one::<u32>("stations")?;
     if stations >= 1 && stations <= MAX_STATIONS {
@@ -206,7 +209,9 @@ fn stations_in(matches: &ArgMatches<'_>) -> Option<u32>
 // The request of a parsed command line.
 fn invocation_in(matches: &ArgMatches<'_>) -> Option<Invocation>
     ensures limits { IfSome result (λ invocation. IsWithinLimits invocation) }
-    ensures asked { IfSome result (λ invocation. (options : List Row) × (subcommand_rows_of matches.now ≡ Some (command_of invocation, options)) × HasOptionValues options invocation) }
+    ensures asked { IfSome result (λ invocation. (options : List Row)
+        × (subcommand_rows_of matches.now ≡ Some (command_of invocation, options))
+        × HasOptionValues options invocation) }
 {
     if let Some(run) = matches.subcommand_matches("run") {
         let n = dim_in(run)?;

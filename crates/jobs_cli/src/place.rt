@@ -25,7 +25,9 @@ fn answer_all<W: Write>(
 ) -> Result<(), WriteStopped>
     requires limit { n ≤ MAX_DIM }
     requires fits { All (λ command. Fits n command) commands.items }
-    ensures { OnOk result ((rows : List Row) × ArePlaced n commands.items rows × Appends (W.contents writer.old) (W.contents writer.new) (file_text place_columns place_fields rows)) }
+    ensures { OnOk result ((rows : List Row) × ArePlaced n commands.items rows
+        × Appends (W.contents writer.old) (W.contents writer.new)
+        (file_text place_columns place_fields rows)) }
 {
     let mut stations = Stations::new(alloc, n)?;
     let mut lines = LineBuffer::new(alloc)?.push_header::<PlaceRow>()?;
@@ -44,8 +46,8 @@ fn answer_all<W: Write>(
 ///
 /// All commands are read before any of them is answered. A fault of the input is the first one in
 /// it, and then nothing is written. `Read` and `Write` come only where that device's count of
-/// failed calls rose in this call, or stood at `u64::MAX`; any other failure is `OutOfMemory`. After
-/// `Write` or `OutOfMemory` the first rows may be out.
+/// failed calls rose in this call, or stood at `u64::MAX`; any other failure is `OutOfMemory`.
+/// After `Write` or `OutOfMemory` the first rows may be out.
 pub fn place_on<R: Read + Device, W: Write + Device>(
     alloc: Global,
     n: u32,
@@ -53,8 +55,11 @@ pub fn place_on<R: Read + Device, W: Write + Device>(
     writer: &mut W,
 ) -> Result<(), Fault>
     requires { n ≤ MAX_DIM }
-    ensures answered { IfSome (R.remaining reader.old) (λ bytes. IsAnswerTo (Place n) bytes (W.contents writer.old) (W.contents writer.new) result) }
-    ensures failed { IfErr result (λ fault. IsCommandFault (R.failures reader.old) (R.failures reader.new) (W.failures writer.old) (W.failures writer.new) fault) }
+    ensures answered { IfSome (R.remaining reader.old) (λ bytes.
+        IsAnswerTo (Place n) bytes (W.contents writer.old) (W.contents writer.new) result) }
+    ensures failed { IfErr result
+        (IsCommandFault (R.failures reader.old) (R.failures reader.new)
+        (W.failures writer.old) (W.failures writer.new)) }
     ensures untouched { IfErr result (λ fault. IsMetInReading fault → writer.new ≡ writer.old) }
 {
     let commands = jobs_csv::read_place(alloc, n, reader)?;

@@ -81,7 +81,8 @@ fn steps(
     station: u64,
     times: u64,
 ) -> Result<Vec<ReplayRow>, AllocError>
-    ensures acts { IfOk result (λ rows. IsTrace ActStep (replicate times (act.Step station)) world.old world.new rows.items) }
+    ensures acts { IfOk result (λ rows.
+        IsTrace ActStep (replicate times (act.Step station)) world.old world.new rows.items) }
     ensures shape { HasShapeOf world.old world.new }
 {
     let mut rows = Vec::new(alloc);

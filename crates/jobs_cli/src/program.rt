@@ -7,6 +7,7 @@ ghost use Rattle.jobs_csv.specs.Fault.{attribute, fault_text};
 ghost use Rattle.jobs_csv.specs.declared.fault.Fault.{Fault as TheFault};
 ghost use Rattle.jobs_cli.specs.Answer.{IsCommandFault, IsMetInReading};
 ghost use Rattle.jobs_cli.specs.CommandLine.{IsWithinLimits, program_app};
+ghost use Rattle.jobs_cli.specs.Inner.Ending.{EndsAfter};
 ghost use Rattle.jobs_cli.specs.Program.{EndsBy, IsAnswerTo, exit_status};
 
 use crate::invocation::Invocation;
@@ -43,7 +44,8 @@ impl Ending {
 // Reports a fault in one line.
 fn report<E: Write>(fault: Fault, errors: &mut E) -> Ending
     ensures failed { (is_reported : Bool) × (result ≡ Ending.Failed fault is_reported) }
-    ensures line { result ≡ Ending.Failed fault true → Appends (E.contents errors.old) (E.contents errors.new) (fault_text fault ++ 10 ∷ []) }
+    ensures line { result ≡ Ending.Failed fault true
+        → Appends (E.contents errors.old) (E.contents errors.new) (fault_text fault ++ 10 ∷ []) }
 {
     let is_reported = errors.writeln(fault).is_ok();
     Ending::Failed { fault, is_reported }
@@ -57,8 +59,11 @@ fn answer<R: Read + Device, W: Write + Device>(
     writer: &mut W,
 ) -> Result<(), Fault>
     requires { IsWithinLimits invocation }
-    ensures answered { IfSome (R.remaining reader.old) (λ bytes. IsAnswerTo invocation bytes (W.contents writer.old) (W.contents writer.new) result) }
-    ensures failed { IfErr result (λ fault. IsCommandFault (R.failures reader.old) (R.failures reader.new) (W.failures writer.old) (W.failures writer.new) fault) }
+    ensures answered { IfSome (R.remaining reader.old) (λ bytes.
+        IsAnswerTo invocation bytes (W.contents writer.old) (W.contents writer.new) result) }
+    ensures failed { IfErr result
+        (IsCommandFault (R.failures reader.old) (R.failures reader.new)
+        (W.failures writer.old) (W.failures writer.new)) }
     ensures untouched { IfErr result (λ fault. IsMetInReading fault → writer.new ≡ writer.old) }
 {
     match invocation {
@@ -68,10 +73,35 @@ fn answer<R: Read + Device, W: Write + Device>(
     }
 }
 
+// Does what the request asks for, and reports its fault in one line.
+fn carry_out<R: Read + Device, W: Write + Device, E: Write>(
+    alloc: Global,
+    invocation: Invocation,
+    reader: &mut R,
+    writer: &mut W,
+    errors: &mut E,
+) -> Ending
+    requires { IsWithinLimits invocation }
+    ensures ends { EndsAfter invocation (R.remaining reader.old)
+        (W.contents writer.old) (W.contents writer.new)
+        (IsCommandFault (R.failures reader.old) (R.failures reader.new)
+        (W.failures writer.old) (W.failures writer.new)) result }
+    ensures line { (fault : TheFault) → result ≡ Ending.Failed fault true
+        → Appends (E.contents errors.old) (E.contents errors.new) (fault_text fault ++ 10 ∷ []) }
+    ensures quiet { result ≡ Ending.Done → errors.new ≡ errors.old }
+{
+    match answer(alloc, invocation, reader, writer) {
+        Ok(()) => Ending::Done,
+        Err(fault) => report(fault, errors),
+    }
+}
+
 // Writes the help or the version, which were asked for.
 fn show<W: Write + Device, E: Write>(error: &clap::Error, writer: &mut W, errors: &mut E) -> Ending
-    ensures shown { (result ≡ Ending.Done) ⊎ ((is_reported : Bool) × (result ≡ Ending.Failed (attribute FaultKind.Write (W.failures writer.old) (W.failures writer.new)) is_reported)) }
-    ensures line { (fault : TheFault) → result ≡ Ending.Failed fault true → Appends (E.contents errors.old) (E.contents errors.new) (fault_text fault ++ 10 ∷ []) }
+    ensures shown { (result ≡ Ending.Done) ⊎ ((is_reported : Bool) × (result ≡ Ending.Failed
+        (attribute FaultKind.Write (W.failures writer.old) (W.failures writer.new)) is_reported)) }
+    ensures line { (fault : TheFault) → result ≡ Ending.Failed fault true
+        → Appends (E.contents errors.old) (E.contents errors.new) (fault_text fault ++ 10 ∷ []) }
     ensures quiet { result ≡ Ending.Done → errors.new ≡ errors.old }
 {
     let failures_before = writer.failures();
@@ -94,18 +124,18 @@ pub fn run<R: Read + Device, W: Write + Device, E: Write>(
     writer: &mut W,
     errors: &mut E,
 ) -> Ending
-    ensures ends { EndsBy (map string_bytes words.now) (R.remaining reader.old) (W.contents writer.old) (W.contents writer.new) (IsCommandFault (R.failures reader.old) (R.failures reader.new) (W.failures writer.old) (W.failures writer.new)) result }
-    ensures line { (fault : TheFault) → result ≡ Ending.Failed fault true → Appends (E.contents errors.old) (E.contents errors.new) (fault_text fault ++ 10 ∷ []) }
+    ensures ends { EndsBy (map string_bytes words.now) (R.remaining reader.old)
+        (W.contents writer.old) (W.contents writer.new)
+        (IsCommandFault (R.failures reader.old) (R.failures reader.new)
+        (W.failures writer.old) (W.failures writer.new)) result }
+    ensures line { (fault : TheFault) → result ≡ Ending.Failed fault true
+        → Appends (E.contents errors.old) (E.contents errors.new) (fault_text fault ++ 10 ∷ []) }
     ensures quiet { result ≡ Ending.Done → errors.new ≡ errors.old }
-    ensures rejected { result ≡ Ending.Rejected → (reader.new ≡ reader.old) × (writer.new ≡ writer.old) }
+    ensures rejected { result ≡ Ending.Rejected
+        → (reader.new ≡ reader.old) × (writer.new ≡ writer.old) }
 {
     let error = match command_line::parse_args(alloc, words) {
-        Ok(invocation) => {
-            return match answer(alloc, invocation, reader, writer) {
-                Ok(()) => Ending::Done,
-                Err(fault) => report(fault, errors),
-            };
-        }
+        Ok(invocation) => return carry_out(alloc, invocation, reader, writer, errors),
         Err(error) => error,
     };
     match error.kind() {

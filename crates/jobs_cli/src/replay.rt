@@ -19,7 +19,8 @@ use std::io::{Read, Write};
 
 // Buffers the lines of more rows.
 fn push_rows(lines: LineBuffer, rows: Vec<ReplayRow>) -> Result<LineBuffer, AllocError>
-    ensures { IfOk result (λ more. more ≡ lines ++ flat_map (λ row. line_of (replay_fields row)) rows.items) }
+    ensures { IfOk result (λ more. more ≡ lines
+        ++ flat_map (λ row. line_of (replay_fields row)) rows.items) }
 {
     let mut lines = lines;
     for row in rows {
@@ -28,8 +29,8 @@ fn push_rows(lines: LineBuffer, rows: Vec<ReplayRow>) -> Result<LineBuffer, Allo
     Ok(lines)
 }
 
-// Plays the lines of a schedule one after the other, and writes the rows of each under the header as
-// they come, and then the rows of the end.
+// Plays the lines of a schedule one after the other, and writes the rows of each under the header
+// as they come, and then the rows of the end.
 fn play_all<W: Write>(
     alloc: Global,
     n: u32,
@@ -39,7 +40,9 @@ fn play_all<W: Write>(
 ) -> Result<(), WriteStopped>
     requires dim { n ≤ MAX_DIM }
     requires stations { stations ≤ MAX_STATIONS }
-    ensures { OnOk result ((rows : List Row) × AreReplayed n stations schedule.items rows × Appends (W.contents writer.old) (W.contents writer.new) (file_text replay_columns replay_fields rows)) }
+    ensures { OnOk result ((rows : List Row) × AreReplayed n stations schedule.items rows
+        × Appends (W.contents writer.old) (W.contents writer.new)
+        (file_text replay_columns replay_fields rows)) }
 {
     let mut world = World::new(alloc, n, stations)?;
     let mut lines = LineBuffer::new(alloc)?.push_header::<ReplayRow>()?;
@@ -56,8 +59,8 @@ fn play_all<W: Write>(
 ///
 /// The whole schedule is read before any of it is played. A fault of the input is the first one in
 /// it, and then nothing is written. `Read` and `Write` come only where that device's count of
-/// failed calls rose in this call, or stood at `u64::MAX`; any other failure is `OutOfMemory`. After
-/// `Write` or `OutOfMemory` the first rows may be out.
+/// failed calls rose in this call, or stood at `u64::MAX`; any other failure is `OutOfMemory`.
+/// After `Write` or `OutOfMemory` the first rows may be out.
 pub fn replay_on<R: Read + Device, W: Write + Device>(
     alloc: Global,
     n: u32,
@@ -67,8 +70,11 @@ pub fn replay_on<R: Read + Device, W: Write + Device>(
 ) -> Result<(), Fault>
     requires dim { n ≤ MAX_DIM }
     requires stations { stations ≤ MAX_STATIONS }
-    ensures answered { IfSome (R.remaining reader.old) (λ bytes. IsAnswerTo (Replay n stations) bytes (W.contents writer.old) (W.contents writer.new) result) }
-    ensures failed { IfErr result (λ fault. IsCommandFault (R.failures reader.old) (R.failures reader.new) (W.failures writer.old) (W.failures writer.new) fault) }
+    ensures answered { IfSome (R.remaining reader.old) (λ bytes. IsAnswerTo (Replay n stations)
+        bytes (W.contents writer.old) (W.contents writer.new) result) }
+    ensures failed { IfErr result
+        (IsCommandFault (R.failures reader.old) (R.failures reader.new)
+        (W.failures writer.old) (W.failures writer.new)) }
     ensures untouched { IfErr result (λ fault. IsMetInReading fault → writer.new ≡ writer.old) }
 {
     let schedule = jobs_csv::read_schedule(alloc, reader)?;

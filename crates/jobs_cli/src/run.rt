@@ -23,8 +23,11 @@ pub fn run_on<R: Read + Device, W: Write + Device>(
     writer: &mut W,
 ) -> Result<(), Fault>
     requires { n ≤ MAX_DIM }
-    ensures answered { IfSome (R.remaining reader.old) (λ bytes. IsAnswerTo (Run n) bytes (W.contents writer.old) (W.contents writer.new) result) }
-    ensures failed { IfErr result (λ fault. IsCommandFault (R.failures reader.old) (R.failures reader.new) (W.failures writer.old) (W.failures writer.new) fault) }
+    ensures answered { IfSome (R.remaining reader.old) (λ bytes.
+        IsAnswerTo (Run n) bytes (W.contents writer.old) (W.contents writer.new) result) }
+    ensures failed { IfErr result
+        (IsCommandFault (R.failures reader.old) (R.failures reader.new)
+        (W.failures writer.old) (W.failures writer.new)) }
     ensures untouched { IfErr result (λ fault. IsMetInReading fault → writer.new ≡ writer.old) }
 {
     let lanes = jobs_csv::read_lanes(alloc, n, reader)?;

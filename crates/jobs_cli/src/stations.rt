@@ -41,7 +41,8 @@ fn station_of(names: &[Option<Name>], name: Name) -> Option<u32>
 // The first station that has no name.
 fn first_idle(names: &[Option<Name>]) -> Option<u32>
     requires { length names.now ≡ MAX_STATIONS }
-    ensures some { IfSome result (λ s. (s < MAX_STATIONS) × (name_at names.now s ≡ None) × ((t : ℕ) → t < s → name_at names.now t ≢ None)) }
+    ensures some { IfSome result (λ s. (s < MAX_STATIONS) × (name_at names.now s ≡ None)
+        × ((t : ℕ) → t < s → name_at names.now t ≢ None)) }
     ensures none { IfNone result ((s : ℕ) → s < MAX_STATIONS → name_at names.now s ≢ None) }
 {
     let index = names.iter().position(|held| held.is_none())?;
@@ -69,7 +70,8 @@ impl Stations {
         ensures made { AreStations self.new }
         ensures dim { dim_of self.new ≡ dim_of self.old }
         ensures command { command_in result ≡ command.Take name dim }
-        ensures step { PlaceStep (dim_of self.old) result (named_holdings self.old) (named_holdings self.new) }
+        ensures step { PlaceStep (dim_of self.old) result (named_holdings self.old)
+            (named_holdings self.new) }
     {
         if let Some(_holder) = station_of(&self.names, name) {
             return PlaceRow::Held { name, dim };
@@ -91,7 +93,8 @@ impl Stations {
         ensures made { AreStations self.new }
         ensures dim { dim_of self.new ≡ dim_of self.old }
         ensures command { command_in result ≡ command.Free name }
-        ensures step { PlaceStep (dim_of self.old) result (named_holdings self.old) (named_holdings self.new) }
+        ensures step { PlaceStep (dim_of self.old) result (named_holdings self.old)
+            (named_holdings self.new) }
     {
         let Some(station) = station_of(&self.names, name) else {
             return PlaceRow::NothingHeld { name };
@@ -110,7 +113,8 @@ impl Stations {
         ensures made { AreStations self.new }
         ensures dim { dim_of self.new ≡ dim_of self.old }
         ensures command { command_in result ≡ command }
-        ensures step { PlaceStep (dim_of self.old) result (named_holdings self.old) (named_holdings self.new) }
+        ensures step { PlaceStep (dim_of self.old) result (named_holdings self.old)
+            (named_holdings self.new) }
     {
         match command {
             Command::Take { name, dim } => self.take(name, dim),

@@ -1,0 +1,6 @@
+use Rattle.std.proofs.Common.{map, string_bytes}
+use Rattle.jobs_cli.proofs.ProgramLemmas.{carried_out}
+use Rattle.jobs_cli.proofs.program.run.Goals as goal
+
+pub returns-in-Ok-clause-ends : goal.returns-in-Ok-clause-ends
+returns-in-Ok-clause-ends g c = carried_out (map string_bytes c.args.words.now) _ _ _ _ _ _ c.in-Ok.ensures.asked c.carry_out.ensures.ends
