@@ -1,0 +1,53 @@
+//! The turns of one station.
+ghost use Rattle.std.specs.Prelude.{◌≡◌, ◌≤◌};
+ghost use Rattle.cube_tree.specs.Handles.{cube_dim, IsStationOf};
+
+use cube_tree::{Cube, Station};
+
+/// The dimensions that takes ask for.
+#[derive(Clone, Copy)]
+pub enum Sizes {
+    /// 0.
+    Leaf,
+    /// 0 to 5 in turn.
+    Mixed,
+}
+
+// The dimension that a station asks for in a turn.
+fn dim_of(sizes: Sizes, number: u32, turn: u64) -> u32
+    ensures { result ≤ 5 }
+{
+    match sizes {
+        Sizes::Leaf => 0,
+        Sizes::Mixed => (number % 6 + (turn % 6) as u32) % 6,
+    }
+}
+
+// One take with its release: the station, and whether it was given the region.
+fn turn(cube: &Cube, station: Station, k: u32) -> (Station, bool)
+    requires cube { IsStationOf cube.now station }
+    requires dim { k ≤ cube_dim cube.now }
+    ensures { IsStationOf cube.now result.0 }
+{
+    match station.try_take(cube, k) {
+        Ok(subcube) => (subcube.release(cube), true),
+        Err((station, _)) => (station, false),
+    }
+}
+
+/// So many turns of a station: how many takes were given.
+pub fn turns(cube: &Cube, station: Station, sizes: Sizes, count: u64) -> (Station, u64)
+    requires cube { IsStationOf cube.now station }
+    requires dim { cube_dim cube.now ≡ 10 }
+    ensures { IsStationOf cube.now result.0 }
+{
+    let number = station.number();
+    let mut station = station;
+    let mut given = 0u64;
+    for index in 0..count {
+        let (back, is_given) = turn(cube, station, dim_of(sizes, number, index));
+        station = back;
+        given = given.wrapping_add(u64::from(is_given));
+    }
+    (station, given)
+}
