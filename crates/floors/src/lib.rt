@@ -1,0 +1,10 @@
+//! Floors: machines whose stations take subcubes and give them back, from many threads at once.
+//!
+//! `Floor` is the contract of every floor: the regions that its stations hold at one moment are
+//! aligned and apart, each station has a record of the regions that it was given, and once all
+//! stations have come back the machine is wholly free.
+#![tactic(auto)]
+
+mod floor;
+
+pub use floor::Floor;
