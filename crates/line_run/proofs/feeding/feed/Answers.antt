@@ -4,10 +4,9 @@ use Rattle.std.proofs.lemmas.List.Elements.{All-rest, All-same}
 use Rattle.job_types.specs.Job.{JobData}
 use Rattle.job_queue.specs.declared.record.QueuedJob.{QueuedJob}
 use Rattle.job_queue.specs.declared.record.LaneRecord.{LaneRecord}
-use Rattle.job_queue.specs.Record.{accepted}
-use Rattle.job_queue.specs.Line.{GainsEntry}
+use Rattle.job_queue.specs.Record.{accepted, job_of, accepted_jobs}
+use Rattle.job_queue.specs.Line.{GainsEntry, IsFor}
 use Rattle.job_queue.proofs.DeedLemmas.{accepted-push, accepted-full}
-use Rattle.line_run.specs.Fed.{job_of, accepted_jobs, IsFor}
 use Rattle.line_run.proofs.feeding.feed.Goals as goal
 
 -- an accepted job goes from the front of the list to the end of the lane's jobs

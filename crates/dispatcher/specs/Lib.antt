@@ -1,0 +1,4 @@
+pub mod Reply
+pub mod Shop
+pub mod Stop
+pub mod Finished

@@ -1,0 +1,15 @@
+-- Which shop it is.
+use Rattle.std.specs.Prelude.{◌≡◌, ℕ, ◌<◌}
+use Rattle.job_queue.specs.Line.{LineId}
+use Rattle.floors.specs.Floor.{FloorId}
+
+-- which shop it is: its line and its floor
+pub record ShopId : Type 0 where
+  pub line : LineId
+  pub floor : FloorId
+
+-- the line's jobs are for the floor's machine, and there is a station for each pass
+pub record IsOneMachine (line : LineId) (floor : FloorId) : Type 0 where
+  pub machine : line.sizes.machine ≡ floor.dim
+  pub stations : line.sizes.passes ≡ floor.stations
+  pub some : 0 < floor.stations
