@@ -73,27 +73,24 @@ pub fn feed<R: Wait, L: JobLine, F: Floor>(
                 stop: FeedStop::Done,
             };
         };
-        match shop.line.submit(rt, lane, job) {
-            Ok(_) => backoff.reset(),
-            Err((job, Refused::Full)) => {
+        let Err((job, refused)) = shop.line.submit(rt, lane, job) else {
+            backoff.reset();
+            continue;
+        };
+        let stop = match refused {
+            Refused::Full => {
                 left.push_front_reserved(job);
                 backoff.snooze();
+                continue;
             }
-            Err((job, Refused::Closed { seen })) => {
-                return FeedEnd {
-                    back: Some(job),
-                    left,
-                    stop: FeedStop::Closed { seen },
-                };
-            }
-            Err((job, Refused::LaneSpent)) => {
-                return FeedEnd {
-                    back: Some(job),
-                    left,
-                    stop: FeedStop::LaneSpent,
-                };
-            }
-        }
+            Refused::Closed { seen } => FeedStop::Closed { seen },
+            Refused::LaneSpent => FeedStop::LaneSpent,
+        };
+        return FeedEnd {
+            back: Some(job),
+            left,
+            stop,
+        };
     }
     unreachable!()
 }
