@@ -1,1 +1,3 @@
 pub mod WorkLemmas
+pub mod OpenLemmas
+pub mod FinishLemmas

@@ -8,11 +8,17 @@
 
 mod dispatching;
 mod feeding;
+mod finishing;
+mod opening;
+mod room;
 mod runner;
 mod serving;
 mod shop;
 
 pub use dispatching::dispatch;
 pub use feeding::{FeedEnd, FeedStop, feed};
+pub use finishing::Finished;
+pub use opening::{Opened, ShopRefused};
+pub use room::Room;
 pub use runner::{Plain, Runner};
-pub use shop::{Shop, Stop, Worker, WorkerEnd};
+pub use shop::{CloseNote, Closer, Shop, Stop, Worker, WorkerEnd};
