@@ -66,7 +66,10 @@ fn play<R: Wait, F: Floor>(
 
 fn is_wholly_free(machine: &FreeMachine, n: u32, words: usize) -> bool {
     let all = LockedFloor::words(machine);
-    LockedFloor::dim(machine) == n && all.len() == words && all.iter().all(|word| *word == 0)
+    machine.bits().is_wholly_free()
+        && LockedFloor::dim(machine) == n
+        && all.len() == words
+        && all.iter().all(|word| *word == 0)
 }
 
 #[test]
