@@ -11,3 +11,6 @@ mod locked;
 
 pub use floor::Floor;
 pub use locked::{FreeMachine, Held, LockedFloor, Station};
+
+#[cfg(test)]
+mod tests;

@@ -31,3 +31,15 @@ pub struct FreeMachine {
     pub(crate) words: Vec<u64>,
     ghost free: { (s : ℕ) → held_in bits s ≡ None },
 }
+
+impl FreeMachine {
+    ghost use Rattle.floors.specs.Locked.Handle.{machine_dim};
+
+    /// The allocation bits at the end: no station holds a region.
+    pub fn bits(&self) -> &AllocBits
+        ensures dim { result.now.dim ≡ machine_dim self.now }
+        ensures free { (s : ℕ) → held_in result.now s ≡ None }
+    {
+        &self.bits
+    }
+}
