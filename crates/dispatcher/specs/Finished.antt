@@ -1,7 +1,7 @@
 -- What all replies of a shop say together with the records of its lanes, once it has finished.
-use Rattle.std.specs.Prelude.{◌≡◌, ℕ, ◌+◌, ◌<◌, List, ◌++◌, map}
+use Rattle.std.specs.Prelude.{◌≡◌, ℕ, ◌+◌, ◌*◌, ◌<◌, List, ◌++◌, map}
 use Rattle.std.specs.List.{AllByRecursion as Each}
-use Rattle.histories.specs.Sums.{total}
+use Rattle.histories.specs.Sums.{total, is_at}
 use Rattle.job_types.specs.Reply.{ReplyData}
 use Rattle.job_queue.specs.declared.record.QueuedJob.{QueuedJob}
 use Rattle.job_queue.specs.declared.record.LaneRecord.{LaneRecord}
@@ -11,6 +11,14 @@ use Rattle.dispatcher.specs.Reply.{answered, IsRight}
 -- how the jobs of these replies weigh
 abbrev pub weight_of : (QueuedJob → ℕ) → List ReplyData → ℕ
 weight_of weight replies = total weight (map answered replies)
+
+-- 1 for a reply to the job of this lane and seq, and 0 for any other
+abbrev pub is_to : ℕ → ℕ → ReplyData → ℕ
+is_to lane seq reply = is_at lane reply.id.lane * is_at seq reply.id.seq
+
+-- how many replies there are to the job of this lane and seq
+abbrev pub replies_to : ℕ → ℕ → List (List ReplyData) → List ReplyData → ℕ
+replies_to lane seq by_worker rest = total (total (is_to lane seq)) by_worker + total (is_to lane seq) rest
 
 -- The machine's dimension, the records of all lanes, the replies of each worker, those to the jobs
 -- that no worker took, and the number of the close note.

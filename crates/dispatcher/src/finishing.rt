@@ -8,7 +8,7 @@ ghost use Rattle.job_queue.specs.Record.{accepted};
 ghost use Rattle.job_queue.specs.Line.{IsMadeFor};
 ghost use Rattle.dispatcher.specs.Shop.{room_for};
 ghost use Rattle.dispatcher.specs.Reply.{answered, IsRight};
-ghost use Rattle.dispatcher.specs.Finished.{FinishedRun};
+ghost use Rattle.dispatcher.specs.Finished.{replies_to, FinishedRun};
 
 use crate::room::Gathered;
 use crate::runner::Runner;
@@ -91,6 +91,12 @@ impl<L: JobLine, F: Floor> Shop<L, F> {
         ensures finished { FinishedRun self.floor.dim (map L.lane_record lanes.items)
             (map (λ replies. replies.items) result.by_worker.items) result.rest.items
             (L.note_number note.line) }
+        ensures answered_once { (lane seq : ℕ) → seq < slice_index result.accepted.items lane →
+            replies_to lane seq (map (λ replies. replies.items) result.by_worker.items)
+                result.rest.items ≡ 1 }
+        ensures no_other { (lane seq : ℕ) → slice_index result.accepted.items lane ≤ seq →
+            replies_to lane seq (map (λ replies. replies.items) result.by_worker.items)
+                result.rest.items ≡ 0 }
         ensures by_worker { map (λ replies. replies.items) result.by_worker.items
             ≡ map (λ e. e.replies.items) ends.items }
         ensures lane_numbers { (k : ℕ) → k < self.line.sizes.lanes →
