@@ -18,12 +18,13 @@ use Rattle.job_queue.specs.declared.locked.store.Store.{Store}
 use Rattle.job_queue.specs.declared.locked.view.View.{View}
 use Rattle.job_queue.specs.declared.locked.view.CloserRecord.{CloserRecord}
 use Rattle.job_queue.specs.Record.{accepted, AreSeqs, Rises, Seals}
+use Rattle.job_queue.specs.Line.{IsMadeFor}
 use Rattle.job_queue.specs.Run.{WholeRun}
 use Rattle.job_queue.specs.Locked.View.{out_of, is_out}
 use Rattle.job_queue.specs.Locked.Deed.{entered, waiting, is_closed, lane_part, pass_part, closer_part, closed_at}
 use Rattle.job_queue.specs.Locked.Rule.{Fits, Keeps}
 use Rattle.job_queue.specs.Locked.End.{IsWhole, IsEnd}
-use Rattle.job_queue.proofs.DeedLemmas.{entries_below, waiting_fits, closed_count}
+use Rattle.job_queue.proofs.DeedLemmas.{entries_below, waiting_fits, waiting_made_for, closed_count}
 use Rattle.job_queue.proofs.HistoryLemmas.{balanced, seqs, rises, rises-end, entered_before, Stands, seen_stands, Sealed, readings_sealed}
 use Rattle.job_queue.proofs.KeepLemmas.{St, lanes_in, passes_in, closers_in, lane_number, pass_number, closer_number}
 
@@ -95,6 +96,7 @@ module _ (sizes : Sizes) (s : St) (k : Keeps sizes s) (id : ℕ) (v : View) (me 
     accepted_by = all_weaker (True lanes_in lane_number sizes.lanes (lane_part k.history)) (λ r. get_or x.accepted.items r.number 0 ≡ length (accepted r.entries))
         (λ r true. fits.accepted_by r.number true.1 ∙ ap (λ (z : LaneRecord). length (accepted z.entries)) (sym true.0)) v.lanes (k.lanes.each id v me);
     fits = omega (arith, ap length fits.jobs, waiting_fits sizes k.history k.legal);
+    made_for = subst (AllByRecursion (IsMadeFor sizes.machine)) (sym fits.jobs) (waiting_made_for sizes k.history k.legal);
   }
 
 -- the slot of a closed table has the state at the end

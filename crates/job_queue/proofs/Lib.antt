@@ -1,4 +1,5 @@
 pub mod DeedLemmas
+pub mod FeedLemmas
 pub mod KeepLemmas
 pub mod StepLemmas
 pub mod HistoryLemmas

@@ -1,6 +1,7 @@
 -- Which line it is, and what a call does to the record of the lane or pass that makes it.
 use Rattle.std.specs.Prelude.{◌≡◌, ℕ, ◌⊎◌, List, [], ◌∷◌, ◌++◌, Option, None, length}
 use Rattle.atomic_table.specs.Seated.{TableId}
+use Rattle.job_types.specs.Job.{JobData}
 use Rattle.job_types.specs.declared.reply.JobId.{JobId}
 use Rattle.job_queue.specs.declared.job_line.Sizes.{Sizes}
 use Rattle.job_queue.specs.declared.job_line.Refused.{Refused}
@@ -17,9 +18,13 @@ pub record LineId : Type 0 where
   pub tables : List TableId
   pub sizes : Sizes
 
+-- the job was made for this machine and this lane
+abbrev pub IsFor : ℕ → ℕ → JobData → Type 0
+IsFor machine lane job = (job.machine ≡ machine) × (job.lane ≡ lane)
+
 -- the job is for this machine, and came in by the lane of its id
 abbrev pub IsMadeFor : ℕ → QueuedJob → Type 0
-IsMadeFor machine q = (q.job.machine ≡ machine) × (q.job.lane ≡ q.id.lane)
+IsMadeFor machine q = IsFor machine q.id.lane q.job
 
 -- the id that the lane's next accepted job gets
 abbrev pub next_id : LaneRecord → JobId

@@ -1,5 +1,5 @@
 -- The records of lanes and passes, and what their jobs are.
-use Rattle.std.specs.Prelude.{◌≡◌, ℕ, zero, suc, ◌+◌, ◌<◌, false, true, Option, Some, None, List, [], ◌∷◌, ◌++◌}
+use Rattle.std.specs.Prelude.{◌≡◌, ℕ, zero, suc, ◌+◌, ◌<◌, false, true, Option, Some, None, List, [], ◌∷◌, ◌++◌, map}
 use Rattle.std.specs.List.{AllByRecursion as Each}
 use Rattle.job_types.specs.Job.{JobData}
 use Rattle.job_types.specs.declared.reply.JobId.{JobId}
@@ -45,6 +45,13 @@ accepted_with None jobs = jobs
 abbrev pub accepted : List Entry → List QueuedJob
 accepted [] = []
 accepted (e ∷ entries) = accepted_with e.job (accepted entries)
+
+-- the jobs that the lane has accepted, in order
+abbrev pub job_of : QueuedJob → JobData
+job_of q = q.job
+
+abbrev pub accepted_jobs : LaneRecord → List JobData
+accepted_jobs lane = map job_of (accepted lane.entries)
 
 -- every entry of the lane is settled, and it has entered at no other time
 abbrev pub IsSettled : LaneRecord → Type 0

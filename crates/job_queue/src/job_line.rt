@@ -3,7 +3,7 @@ ghost use Rattle.std.specs.Prelude.{◌≡◌, ◌≢◌, ℕ, ◌<◌, ◌≤�
 ghost use Rattle.std.specs.List.{All};
 ghost use Rattle.histories.specs.Sums.{times};
 ghost use Rattle.job_queue.specs.Record.{queued, fresh_lanes, fresh_passes, accepted, IsSettled};
-ghost use Rattle.job_queue.specs.Line.{LineId, next_id, GainsEntry, GainsRefusal, GainsReading, taken_by, TakesMadeFor};
+ghost use Rattle.job_queue.specs.Line.{LineId, next_id, GainsEntry, GainsRefusal, GainsReading, taken_by, IsMadeFor, TakesMadeFor};
 ghost use Rattle.job_queue.specs.Run.{WholeRun};
 
 use crate::record::QueuedJob;
@@ -211,5 +211,6 @@ pub trait JobLine {
         ensures lane_count { length result.accepted.items ≡ (id self).sizes.lanes }
         ensures accepted { All (λ l. slice_index result.accepted.items (lane_record l).number
             ≡ length (accepted (lane_record l).entries)) lanes.items }
-        ensures fits { length result.jobs.items ≤ (id self).sizes.capacity };
+        ensures fits { length result.jobs.items ≤ (id self).sizes.capacity }
+        ensures machine { All (IsMadeFor (id self).sizes.machine) result.jobs.items };
 }

@@ -10,9 +10,8 @@ use Rattle.job_types.specs.Job.{JobData}
 use Rattle.job_queue.specs.declared.record.QueuedJob.{QueuedJob}
 use Rattle.job_queue.specs.declared.record.LaneRecord.{LaneRecord}
 use Rattle.job_queue.specs.declared.record.PassRecord.{PassRecord}
-use Rattle.job_queue.specs.Record.{accepted}
+use Rattle.job_queue.specs.Record.{accepted, job_of, accepted_jobs}
 use Rattle.job_queue.specs.Run.{WholeRun}
-use Rattle.line_run.specs.Fed.{job_of, accepted_jobs}
 
 -- ---- lists of two
 

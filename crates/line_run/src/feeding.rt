@@ -1,7 +1,8 @@
 // Hands in jobs by one lane.
 ghost use Rattle.std.specs.Prelude.{◌≡◌, ◌++◌};
 ghost use Rattle.std.specs.List.{All};
-ghost use Rattle.line_run.specs.Fed.{accepted_jobs, IsFor};
+ghost use Rattle.job_queue.specs.Record.{accepted_jobs};
+ghost use Rattle.job_queue.specs.Line.{IsFor};
 
 use job_queue::{JobLine, Refused};
 use job_types::Job;

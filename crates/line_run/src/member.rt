@@ -2,7 +2,8 @@
 // says what is known of it, so it may lie under a lock.
 ghost use Rattle.std.specs.Prelude.{◌≡◌, ℕ, ◌++◌, List, None, Some, IfSome, MatchOption};
 ghost use Rattle.std.specs.List.{All};
-ghost use Rattle.line_run.specs.Fed.{accepted_jobs, IsFor};
+ghost use Rattle.job_queue.specs.Record.{accepted_jobs};
+ghost use Rattle.job_queue.specs.Line.{IsFor};
 
 use crate::draining::drain;
 use crate::feeding::feed;
@@ -42,7 +43,8 @@ pub struct Feeder<J: Naming, L: JobLine> {
 impl<J: Naming, L: JobLine> Model for Feeder<J, L> {
     ghost use Rattle.std.specs.Prelude.{◌≡◌, ◌++◌};
     ghost use Rattle.std.specs.List.{All};
-    ghost use Rattle.line_run.specs.Fed.{accepted_jobs, IsFor};
+    ghost use Rattle.job_queue.specs.Record.{accepted_jobs};
+    ghost use Rattle.job_queue.specs.Line.{IsFor};
 
     ghost Value = { Unit {0} };
 

@@ -3,8 +3,8 @@ ghost use Rattle.std.specs.Prelude.{◌≡◌, ℕ, ◌+◌, ◌++◌, [], ◌�
 ghost use Rattle.std.specs.List.{All};
 ghost use Rattle.histories.specs.Sums.{total};
 ghost use Rattle.job_types.specs.Job.{JobData};
-ghost use Rattle.job_queue.specs.Record.{fresh_lanes, fresh_passes};
-ghost use Rattle.line_run.specs.Fed.{IsFor, job_of};
+ghost use Rattle.job_queue.specs.Record.{fresh_lanes, fresh_passes, job_of};
+ghost use Rattle.job_queue.specs.Line.{IsFor};
 
 use crate::member::{Door, Feeder, Naming, Taker};
 use crate::pair::{Pair, both};

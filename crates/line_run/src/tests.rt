@@ -3,7 +3,7 @@ ghost use Rattle.std.specs.Prelude.{◌≡◌, ℕ, ◌<◌, ◌≤◌, IfOk, ma
 ghost use Rattle.std.specs.List.{All};
 ghost use Rattle.job_types.specs.Job.{JobData};
 ghost use Rattle.job_queue.specs.Record.{fresh_lanes, fresh_passes};
-ghost use Rattle.line_run.specs.Fed.{IsFor};
+ghost use Rattle.job_queue.specs.Line.{IsFor};
 
 use crate::pair::{Pair, both};
 use crate::running::run;

@@ -6,6 +6,7 @@ use Rattle.job_queue.specs.declared.job_line.Sizes.{Sizes}
 use Rattle.job_queue.specs.declared.locked.store.Store.{Store}
 use Rattle.job_queue.specs.declared.locked.view.View.{View}
 use Rattle.job_queue.specs.Record.{accepted}
+use Rattle.job_queue.specs.Line.{IsMadeFor}
 use Rattle.job_queue.specs.Run.{WholeRun}
 
 -- the view has as many lanes and passes as the line, and the closer, who closed it at the number
@@ -21,3 +22,4 @@ pub record IsEnd (sizes : Sizes) (v : View) (number : ℕ) (x : Store) : Type 0 
   pub lane_count : length x.accepted.items ≡ sizes.lanes
   pub accepted_by : Each (λ r. slice_index x.accepted.items r.number ≡ length (accepted r.entries)) v.lanes
   pub fits : length x.jobs.items ≤ sizes.capacity
+  pub made_for : Each (IsMadeFor sizes.machine) x.jobs.items

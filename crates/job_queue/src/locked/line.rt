@@ -3,7 +3,7 @@ ghost use Rattle.std.specs.Prelude.{◌≡◌, ◌≢◌, ℕ, ◌+◌, ◌-◌,
 ghost use Rattle.std.specs.List.{All};
 ghost use Rattle.histories.specs.Sums.{times};
 ghost use Rattle.job_queue.specs.Record.{queued, fresh_lanes, fresh_passes, accepted, IsSettled};
-ghost use Rattle.job_queue.specs.Line.{next_id, GainsEntry, GainsRefusal, GainsReading, taken_by, TakesMadeFor};
+ghost use Rattle.job_queue.specs.Line.{next_id, GainsEntry, GainsRefusal, GainsReading, taken_by, IsMadeFor, TakesMadeFor};
 ghost use Rattle.job_queue.specs.Run.{WholeRun};
 ghost use Rattle.job_queue.specs.Locked.Handle.{line_id};
 
@@ -170,6 +170,7 @@ impl JobLine for LockedLine {
         ensures accepted { All (λ l. slice_index result.accepted.items (record_of_lane l).number
             ≡ length (accepted (record_of_lane l).entries)) lanes.items }
         ensures fits { length result.jobs.items ≤ (line_id self.lock).sizes.capacity }
+        ensures machine { All (IsMadeFor (line_id self.lock).sizes.machine) result.jobs.items }
     {
         let LockedLine { lock } = self;
         let CloseNote {

@@ -4,22 +4,10 @@ use Rattle.std.proofs.lemmas.List.Elements.{All-rest, All-same}
 use Rattle.job_types.specs.Job.{JobData}
 use Rattle.job_queue.specs.declared.record.QueuedJob.{QueuedJob}
 use Rattle.job_queue.specs.declared.record.LaneRecord.{LaneRecord}
-use Rattle.job_queue.specs.Record.{accepted}
-use Rattle.job_queue.specs.Line.{GainsEntry}
-use Rattle.job_queue.proofs.DeedLemmas.{accepted-push, accepted-full}
-use Rattle.line_run.specs.Fed.{job_of, accepted_jobs, IsFor}
+use Rattle.job_queue.specs.Record.{accepted, job_of, accepted_jobs}
+use Rattle.job_queue.specs.Line.{GainsEntry, IsFor}
+use Rattle.job_queue.proofs.FeedLemmas.{fed_one, fed_none}
 use Rattle.line_run.proofs.feeding.feed.Goals as goal
-
--- an accepted job goes from the front of the list to the end of the lane's jobs
-fed_one : (old new : LaneRecord) (number : ℕ) (q : QueuedJob) (rest : List JobData) → GainsEntry old number (Some q) new → accepted_jobs new ++ rest ≡ accepted_jobs old ++ q.job ∷ rest
-fed_one old new number q rest gains =
-    ap (λ (r : LaneRecord). accepted_jobs r ++ rest) gains
-    ∙ (ap (λ (qs : List QueuedJob). map job_of qs ++ rest) (accepted-push old.entries number q)
-    ∙ (ap (λ (js : List JobData). js ++ rest) (map-append job_of (accepted old.entries) (q ∷ [])) ∙ append_assoc (accepted_jobs old) (q.job ∷ []) rest))
-
--- a full entry brings no job
-fed_none : (old new : LaneRecord) (number : ℕ) → GainsEntry old number None new → accepted_jobs new ≡ accepted_jobs old
-fed_none old new number gains = ap accepted_jobs gains ∙ ap (map job_of) (accepted-full old.entries number)
 
 pub loop-preserved-in-Ok : goal.loop-preserved-in-Ok
 loop-preserved-in-Ok g c =

@@ -1,6 +1,7 @@
 use Rattle.std.proofs.Common.{◌≡◌, ◌++◌}
 use Rattle.std.specs.List.{All}
-use Rattle.line_run.specs.Fed.{accepted_jobs, IsFor}
+use Rattle.job_queue.specs.Record.{accepted_jobs}
+use Rattle.job_queue.specs.Line.{IsFor}
 use Rattle.line_run.proofs.feeding.feed.Given as goal
 
 abbrev pub invariant-loop : goal.invariant-loop

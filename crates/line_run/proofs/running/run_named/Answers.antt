@@ -4,11 +4,10 @@ use Rattle.job_types.specs.Job.{JobData}
 use Rattle.job_queue.specs.declared.record.QueuedJob.{QueuedJob}
 use Rattle.job_queue.specs.declared.record.LaneRecord.{LaneRecord}
 use Rattle.job_queue.specs.declared.record.PassRecord.{PassRecord}
-use Rattle.job_queue.specs.Record.{fresh_lane}
-use Rattle.job_queue.specs.Line.{LineId}
+use Rattle.job_queue.specs.Record.{fresh_lane, job_of}
+use Rattle.job_queue.specs.Line.{LineId, IsFor}
 use Rattle.job_queue.specs.Run.{WholeRun}
 use Rattle.histories.specs.Sums.{total, times}
-use Rattle.line_run.specs.Fed.{IsFor, job_of}
 use Rattle.line_run.proofs.RunLemmas.{each_once, first_of_two, second_of_two}
 use Rattle.line_run.proofs.running.run_named.Goals as goal
 

@@ -1,5 +1,5 @@
 use Rattle.std.proofs.lemmas.List.Elements.{All-push, All-same}
-use Rattle.line_run.specs.Fed.{IsFor}
+use Rattle.job_queue.specs.Line.{IsFor}
 use Rattle.line_run.proofs.tests.jobs.Goals as goal
 
 pub loop-preserved : goal.loop-preserved

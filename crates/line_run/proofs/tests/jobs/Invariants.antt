@@ -1,5 +1,5 @@
 use Rattle.std.specs.List.{All}
-use Rattle.line_run.specs.Fed.{IsFor}
+use Rattle.job_queue.specs.Line.{IsFor}
 use Rattle.line_run.proofs.tests.jobs.Given as goal
 
 abbrev pub invariant-loop : goal.invariant-loop

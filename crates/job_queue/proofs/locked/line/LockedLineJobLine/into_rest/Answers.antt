@@ -10,6 +10,7 @@ use Rattle.job_queue.specs.declared.locked.store.Store.{Store}
 use Rattle.job_queue.specs.declared.locked.handle.Lane.{Lane}
 use Rattle.job_queue.specs.declared.locked.handle.Pass.{Pass}
 use Rattle.job_queue.specs.Record.{accepted}
+use Rattle.job_queue.specs.Line.{IsMadeFor}
 use Rattle.job_queue.specs.Locked.View.{view, closer_view}
 use Rattle.job_queue.specs.Locked.Step.{Sat}
 use Rattle.job_queue.specs.Locked.Handle.{sizes_of, lane_record, pass_record}
@@ -87,3 +88,13 @@ returns-clause-fits g c =
     let is = all_records c.args.note.seat.me c.gather_lanes.new.seat.me c.gather_passes.new.seat.me n lanes passes c.args.note.known c.gather_lanes.ensures.records c.gather_passes.ensures.records in
     let end = at_end S c.args.note.seat.me.0.about c.gather_passes.new.seat.me n lanes passes c.end-jobs.result is c.requires.all_lanes c.requires.all_passes (c.end-jobs.ensures n) in
     end.fits
+
+pub returns-clause-machine : goal.returns-clause-machine
+returns-clause-machine g c =
+    let n = c.args.note.number in
+    let S = sizes_of c.args.self.lock in
+    let lanes = c.args.lanes.items in
+    let passes = c.args.passes.items in
+    let is = all_records c.args.note.seat.me c.gather_lanes.new.seat.me c.gather_passes.new.seat.me n lanes passes c.args.note.known c.gather_lanes.ensures.records c.gather_passes.ensures.records in
+    let end = at_end S c.args.note.seat.me.0.about c.gather_passes.new.seat.me n lanes passes c.end-jobs.result is c.requires.all_lanes c.requires.all_passes (c.end-jobs.ensures n) in
+    All-from_recursion (IsMadeFor S.machine) c.end-jobs.result.jobs.items end.made_for

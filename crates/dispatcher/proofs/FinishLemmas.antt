@@ -1,0 +1,67 @@
+-- From what the line says at its end to what the replies say.
+use Rattle.std.proofs.Common.{◌≡◌, ◌+◌, ◌∷◌, [], ◌++◌, List, map, ℕ, refl, sym, ap, subst, ◌∙◌, arith}
+use Rattle.std.specs.List.{All, AllByRecursion}
+use Rattle.std.proofs.lemmas.List.{map-append}
+use Rattle.std.proofs.lemmas.List.Elements.{All-head, All-tail}
+use Rattle.histories.specs.Sums.{total}
+use Rattle.histories.proofs.SumLemmas.{total-map, total-same}
+use Rattle.histories.proofs.ViewLemmas.{all_weaker}
+use Rattle.job_types.specs.Reply.{ReplyData}
+use Rattle.job_queue.specs.declared.record.QueuedJob.{QueuedJob}
+use Rattle.job_queue.specs.declared.record.LaneRecord.{LaneRecord}
+use Rattle.job_queue.specs.declared.record.PassRecord.{PassRecord}
+use Rattle.job_queue.specs.Record.{Rises}
+use Rattle.job_queue.specs.Run.{WholeRun}
+use Rattle.dispatcher.specs.Reply.{answered, IsRight}
+use Rattle.dispatcher.specs.Finished.{weight_of, FinishedRun}
+
+-- what holds of each, read one by one
+pub each_of : {A : Type 0} (P : A → Type 0) (xs : List A) → All P xs → AllByRecursion P xs
+each_of P [] all = tt
+each_of P (x ∷ xs) all = (All-head P x xs all, each_of P xs (All-tail P x xs all))
+
+each_part : {A B : Type 0} (P : B → Type 0) (f : A → B) (xs : List A) → AllByRecursion (λ x. P (f x)) xs → AllByRecursion P (map f xs)
+each_part P f [] all = tt
+each_part P f (x ∷ xs) all = (all.0, each_part P f xs all.1)
+
+of_each_part : {A B : Type 0} (P : B → Type 0) (f : A → B) (xs : List A) → AllByRecursion P (map f xs) → AllByRecursion (λ x. P (f x)) xs
+of_each_part P f [] all = tt
+of_each_part P f (x ∷ xs) all = (all.0, of_each_part P f xs all.1)
+
+module _ {E P V : Type 0} (pass_of : E → P) (record_of : P → PassRecord) (replies_of : E → V) (items_of : V → List ReplyData) where
+  -- where each worker has replied to what its pass took, all have
+  pub taken_answered : (es : List E) → All (λ e. (record_of (pass_of e)).taken ≡ map answered (items_of (replies_of e))) es
+      → map (λ p. p.taken) (map record_of (map pass_of es)) ≡ map (map answered) (map items_of (map replies_of es))
+  taken_answered [] all = refl
+  taken_answered (e ∷ es) all =
+      let Own : E → Type 0 = λ x. (record_of (pass_of x)).taken ≡ map answered (items_of (replies_of x)) in
+      let rest : List (List QueuedJob) = map (map answered) (map items_of (map replies_of es)) in
+      ap (λ (ts : List (List QueuedJob)). (record_of (pass_of e)).taken ∷ ts) (taken_answered es (All-tail Own e es all))
+      ∙ ap (λ (t : List QueuedJob). t ∷ rest) (All-head Own e es all)
+
+  pub replies_right : (n : ℕ) (es : List E) → All (λ e. All (IsRight n) (items_of (replies_of e))) es → AllByRecursion (AllByRecursion (IsRight n)) (map items_of (map replies_of es))
+  replies_right n [] all = tt
+  replies_right n (e ∷ es) all =
+      let Own : E → Type 0 = λ x. All (IsRight n) (items_of (replies_of x)) in
+      (each_of (IsRight n) (items_of (replies_of e)) (All-head Own e es all), replies_right n es (All-tail Own e es all))
+
+-- the lanes, passes and jobs of a whole run, as replies
+pub finished : (n : ℕ) (lanes : List LaneRecord) (passes : List PassRecord) (by_worker : List (List ReplyData)) (jobs : List QueuedJob) (rest : List ReplyData) (note : ℕ) → WholeRun lanes passes jobs note
+    → map (λ p. p.taken) passes ≡ map (map answered) by_worker → map answered rest ≡ jobs → AllByRecursion (AllByRecursion (IsRight n)) by_worker → AllByRecursion (IsRight n) rest → FinishedRun n lanes by_worker rest note
+finished n lanes passes by_worker jobs rest note run taken left right rest_right =
+    let together : (rs : List ReplyData) → map answered rs ++ jobs ≡ map answered (rs ++ rest) = λ rs. ap (λ (js : List QueuedJob). map answered rs ++ js) (sym left) ∙ sym (map-append answered rs rest) in
+    record {
+      balance = λ weight.
+          let passes_weigh : total (λ (p : PassRecord). total weight p.taken) passes ≡ total (weight_of weight) by_worker =
+          sym (total-map (total weight) (λ (p : PassRecord). p.taken) passes) ∙ (ap (total (total weight)) taken ∙ total-map (total weight) (map answered) by_worker) in
+          omega (arith, run.balance weight, passes_weigh, ap (total weight) left);
+      seqs = run.seqs;
+      rises = all_weaker (λ (rs : List ReplyData). Rises (map answered rs ++ jobs)) (λ rs. Rises (map answered (rs ++ rest))) (λ rs risen. subst Rises (together rs) risen) by_worker
+          (of_each_part (λ (ts : List QueuedJob). Rises (ts ++ jobs)) (map answered) by_worker
+          (subst (AllByRecursion (λ (ts : List QueuedJob). Rises (ts ++ jobs))) taken
+          (each_part (λ (ts : List QueuedJob). Rises (ts ++ jobs)) (λ (p : PassRecord). p.taken) passes run.rises)));
+      rest_rises = subst Rises (sym left) run.rest_rises;
+      right = right;
+      rest_right = rest_right;
+      entered_before = run.entered_before;
+    }

@@ -1,0 +1,4 @@
+pub mod WorkLemmas
+pub mod OpenLemmas
+pub mod FinishLemmas
+pub mod OnceLemmas

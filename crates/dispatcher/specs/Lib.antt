@@ -1,0 +1,5 @@
+pub mod Reply
+pub mod Shop
+pub mod Stop
+pub mod Opening
+pub mod Finished

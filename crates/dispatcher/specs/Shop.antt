@@ -1,0 +1,31 @@
+-- Which shop it is, and how much room its end has.
+use Rattle.std.specs.Prelude.{◌≡◌, ℕ, ◌<◌}
+use Rattle.job_queue.specs.Line.{LineId}
+use Rattle.floors.specs.Floor.{FloorId}
+
+-- which shop it is: its line and its floor
+pub record ShopId : Type 0 where
+  pub line : LineId
+  pub floor : FloorId
+
+-- the line's jobs are for the floor's machine, and there is a station for each pass
+pub record IsOneMachine (line : LineId) (floor : FloorId) : Type 0 where
+  pub machine : line.sizes.machine ≡ floor.dim
+  pub stations : line.sizes.passes ≡ floor.stations
+  pub some : 0 < floor.stations
+
+-- the shop has these sizes
+pub record HasSizes (n lanes dispatchers capacity : ℕ) (shop : ShopId) : Type 0 where
+  pub dim : shop.floor.dim ≡ n
+  pub lanes_are : shop.line.sizes.lanes ≡ lanes
+  pub workers : shop.line.sizes.passes ≡ dispatchers
+  pub holds : shop.line.sizes.capacity ≡ capacity
+
+-- how many workers, and how many jobs that are left, the end of a shop has room for
+pub record RoomSize : Type 0 where
+  pub workers : ℕ
+  pub jobs : ℕ
+
+-- room for all workers and for a full line
+abbrev pub room_for : ShopId → RoomSize
+room_for shop = record { workers = shop.line.sizes.passes; jobs = shop.line.sizes.capacity }

@@ -1,0 +1,127 @@
+//! The end of a shop.
+ghost use Rattle.std.specs.Prelude.{◌≡◌, ℕ, ◌<◌, ◌≤◌, [], map, length, slice_index};
+ghost use Rattle.std.specs.List.{All};
+ghost use Rattle.std.specs.Vec.{vec_capacity};
+ghost use Rattle.histories.specs.Sums.{times};
+ghost use Rattle.floors.specs.Floor.{IsWhollyFree};
+ghost use Rattle.job_queue.specs.Record.{accepted};
+ghost use Rattle.job_queue.specs.Line.{IsMadeFor};
+ghost use Rattle.dispatcher.specs.Shop.{room_for};
+ghost use Rattle.dispatcher.specs.Reply.{answered, IsRight};
+ghost use Rattle.dispatcher.specs.Finished.{replies_to, FinishedRun};
+
+use crate::room::Gathered;
+use crate::runner::Runner;
+use crate::serving::serve;
+use crate::shop::{CloseNote, Shop, WorkerEnd};
+use floors::Floor;
+use job_queue::{JobLine, QueuedJob, Rest};
+use job_types::Reply;
+use std::collections::VecDeque;
+use std::sync::Wait;
+
+/// All replies of a shop, and its machine, which is wholly free.
+pub struct Finished<M> {
+    /// The replies of each worker, in the order in which the workers were given.
+    pub by_worker: Vec<Vec<Reply>>,
+    /// The replies to the jobs that no worker took.
+    pub rest: Vec<Reply>,
+    /// The number of accepted jobs of each lane, at the lane's number.
+    pub accepted: Vec<u64>,
+    /// The machine.
+    pub machine: M,
+}
+
+// Answers the jobs on the last station, front first.
+fn answer_rest<R: Wait, F: Floor, T: Runner>(
+    rt: &R,
+    floor: &F,
+    runner: &T,
+    mut stations: Vec<F::Station>,
+    mut jobs: VecDeque<QueuedJob>,
+    mut rest: Vec<Reply>,
+) -> (Vec<F::Station>, Vec<Reply>)
+    requires some { 0 < length stations.items }
+    requires stations { All (F.is_station (F.id floor.now)) stations.items }
+    requires made_for { All (IsMadeFor (F.id floor.now).dim) jobs.items }
+    requires empty { rest.items ≡ [] }
+    requires room { length jobs.items ≤ vec_capacity rest }
+    ensures count { length result.0.items ≡ length stations.items }
+    ensures stations { All (F.is_station (F.id floor.now)) result.0.items }
+    ensures answers { map answered result.1.items ≡ jobs.items }
+    ensures right { All (IsRight (F.id floor.now).dim) result.1.items }
+{
+    let Some(mut station) = stations.pop() else {
+        unreachable!()
+    };
+    while let Some(queued) = jobs.pop_front() {
+        let QueuedJob { id, job } = queued;
+        let (back, reply) = serve(rt, floor, runner, station, id, job);
+        station = back;
+        rest.push_reserved(reply);
+    }
+    stations.push_reserved(station);
+    (stations, rest)
+}
+
+impl<L: JobLine, F: Floor> Shop<L, F> {
+    /// Ends a closed shop. It is given as many lanes and workers of the shop as the shop has, so these
+    /// are all of them. It answers the jobs that no worker took, front first, and ends the floor.
+    ///
+    /// Each accepted job then has exactly one right reply, and the machine is wholly free. No memory
+    /// is taken.
+    pub fn finish<R: Wait, T: Runner>(
+        self,
+        rt: &R,
+        runner: &T,
+        lanes: Vec<L::Lane>,
+        ends: Vec<WorkerEnd<L, F>>,
+        note: CloseNote<L, F>,
+    ) -> Finished<F::Machine>
+        requires lanes { All (L.is_lane self.line) lanes.items }
+        requires all_lanes { length lanes.items ≡ self.line.sizes.lanes }
+        requires passes { All (λ e. L.is_pass self.line e.pass) ends.items }
+        requires stations { All (λ e. F.is_station self.floor e.station) ends.items }
+        requires all_workers { length ends.items ≡ self.line.sizes.passes }
+        requires replies { All (λ e.
+            (L.pass_record e.pass).taken ≡ map answered e.replies.items) ends.items }
+        requires right { All (λ e. All (IsRight self.floor.dim) e.replies.items) ends.items }
+        requires note { L.is_note self.line note.line }
+        requires room { note.room ≡ room_for self }
+        ensures finished { FinishedRun self.floor.dim (map L.lane_record lanes.items)
+            (map (λ replies. replies.items) result.by_worker.items) result.rest.items
+            (L.note_number note.line) }
+        ensures answered_once { (lane seq : ℕ) → seq < slice_index result.accepted.items lane →
+            replies_to lane seq (map (λ replies. replies.items) result.by_worker.items)
+                result.rest.items ≡ 1 }
+        ensures no_other { (lane seq : ℕ) → slice_index result.accepted.items lane ≤ seq →
+            replies_to lane seq (map (λ replies. replies.items) result.by_worker.items)
+                result.rest.items ≡ 0 }
+        ensures by_worker { map (λ replies. replies.items) result.by_worker.items
+            ≡ map (λ e. e.replies.items) ends.items }
+        ensures lane_numbers { (k : ℕ) → k < self.line.sizes.lanes →
+            times k (map (λ l. (L.lane_record l).number) lanes.items) ≡ 1 }
+        ensures lane_count { length result.accepted.items ≡ self.line.sizes.lanes }
+        ensures accepted { All (λ l. slice_index result.accepted.items (L.lane_record l).number
+            ≡ length (accepted (L.lane_record l).entries)) lanes.items }
+        ensures dim { F.machine_dim result.machine ≡ self.floor.dim }
+        ensures free { IsWhollyFree self.floor.dim (F.machine_words result.machine) }
+    {
+        let CloseNote { line: note, room } = note;
+        let Gathered {
+            passes,
+            stations,
+            by_worker,
+            rest,
+        } = room.gather(ends);
+        let Shop { line, floor } = self;
+        let Rest { jobs, accepted } = line.into_rest(rt, lanes, passes, note);
+        let (stations, rest) = answer_rest(rt, &floor, runner, stations, jobs, rest);
+        Finished {
+            by_worker,
+            rest,
+            accepted,
+            machine: floor.close(stations),
+        }
+    }
+}

@@ -1,0 +1,24 @@
+//! The dispatcher: jobs come in by a line, workers answer each on a subcube of its own, and once the
+//! shop has finished each accepted job has exactly one right reply.
+//!
+//! A `Shop` is a line of jobs and the floor of one machine. Feeders hand in jobs by its lanes, and
+//! workers take them, answer them on subcubes, and keep their replies. Everything is proved of any
+//! line, any floor and any runner, from their traits alone.
+#![tactic(auto)]
+
+mod dispatching;
+mod feeding;
+mod finishing;
+mod opening;
+mod room;
+mod runner;
+mod serving;
+mod shop;
+
+pub use dispatching::dispatch;
+pub use feeding::{FeedEnd, FeedStop, feed};
+pub use finishing::Finished;
+pub use opening::{Opened, ShopRefused};
+pub use room::Room;
+pub use runner::{Plain, Runner};
+pub use shop::{CloseNote, Closer, Shop, Stop, Worker, WorkerEnd};

@@ -1,0 +1,169 @@
+//! The opening of a shop.
+ghost use Rattle.std.specs.Prelude.{◌≡◌, ◌≢◌, ◌≤◌, [], Some, None, Err, IfOk, IfErr, map, length};
+ghost use Rattle.std.specs.List.{All};
+ghost use Rattle.std.specs.Vec.{vec_capacity};
+ghost use Rattle.job_queue.specs.Record.{fresh_lanes, fresh_passes};
+ghost use Rattle.dispatcher.specs.Opening.{refusal_of};
+ghost use Rattle.dispatcher.specs.Shop.{HasSizes, room_for};
+
+use crate::room::Room;
+use crate::shop::{Closer, Shop, Worker};
+use cube_shape::MAX_DIM;
+use floors::Floor;
+use job_queue::{JobLine, MAX_CAPACITY, MAX_PASSES, Sizes};
+use job_types::MAX_LANES;
+use std::alloc::Global;
+use std::collections::VecDeque;
+use thiserror::Error;
+
+/// Why a shop is not opened.
+#[derive(Clone, Copy, Debug, PartialEq, Eq, Hash, Error)]
+pub enum ShopRefused {
+    /// The dimension is above the largest one.
+    #[error("the dimension is above the largest one")]
+    BadDimension,
+    /// There would be no lane, or more than the largest number of them.
+    #[error("the number of lanes is not within its limits")]
+    BadLanes,
+    /// There would be no worker, or more than the largest number of them.
+    #[error("the number of workers is not within its limits")]
+    BadDispatchers,
+    /// The line would hold no job, or more than the largest number of them.
+    #[error("the capacity is not within its limits")]
+    BadCapacity,
+    /// There was no memory.
+    #[error("out of memory")]
+    OutOfMemory,
+}
+
+/// A new shop, with all that its callers need.
+pub struct Opened<L: JobLine, F: Floor> {
+    /// The shop.
+    pub shop: Shop<L, F>,
+    /// Its lanes, in the order of their numbers.
+    pub lanes: Vec<L::Lane>,
+    /// Its workers, in the order of their passes.
+    pub workers: Vec<Worker<L, F>>,
+    /// What closes it.
+    pub closer: Closer<L, F>,
+}
+
+// Why these sizes are refused, if they are.
+fn refusal(n: u32, lanes: u32, dispatchers: u32, capacity: usize) -> Option<ShopRefused>
+    ensures { result ≡ refusal_of n lanes dispatchers capacity }
+{
+    if n > MAX_DIM {
+        Some(ShopRefused::BadDimension)
+    } else if lanes == 0 || lanes > MAX_LANES {
+        Some(ShopRefused::BadLanes)
+    } else if dispatchers == 0 || dispatchers > MAX_PASSES {
+        Some(ShopRefused::BadDispatchers)
+    } else if capacity == 0 || capacity > MAX_CAPACITY {
+        Some(ShopRefused::BadCapacity)
+    } else {
+        None
+    }
+}
+
+// A worker of each pass and the station beside it.
+fn pair_up<L: JobLine, F: Floor>(
+    passes: Vec<L::Pass>,
+    stations: Vec<F::Station>,
+    mut workers: Vec<Worker<L, F>>,
+) -> Vec<Worker<L, F>>
+    requires beside { length passes.items ≡ length stations.items }
+    requires empty { workers.items ≡ [] }
+    requires room { length passes.items ≤ vec_capacity workers }
+    ensures passes { map (λ w. w.pass) result.items ≡ passes.items }
+    ensures stations { map (λ w. w.station) result.items ≡ stations.items }
+{
+    let mut passes = VecDeque::from_vec(passes);
+    let mut stations = VecDeque::from_vec(stations);
+    while let Some(pass) = passes.pop_front() {
+        let Some(station) = stations.pop_front() else {
+            unreachable!()
+        };
+        workers.push_reserved(Worker { pass, station });
+    }
+    passes.destroy_empty();
+    stations.destroy_empty();
+    workers
+}
+
+impl<L: JobLine, F: Floor> Shop<L, F> {
+    /// Opens a shop for a machine of dimension `n`, with this many lanes and workers and a line that
+    /// holds up to `capacity` jobs.
+    ///
+    /// The sizes are checked in this order, and the first one that is not within its limits is the
+    /// error. All room is reserved here, that of `finish` too. Where there is no memory for the line,
+    /// the floor is ended again.
+    pub fn open(
+        alloc: Global,
+        n: u32,
+        lanes: u32,
+        dispatchers: u32,
+        capacity: usize,
+    ) -> Result<Opened<L, F>, ShopRefused>
+    where
+        F::Machine: Drop,
+        ensures refused { IfErr result (λ e.
+            e ≢ ShopRefused.OutOfMemory → refusal_of n lanes dispatchers capacity ≡ Some e) }
+        ensures memory_last { IfErr result (λ e.
+            e ≡ ShopRefused.OutOfMemory → refusal_of n lanes dispatchers capacity ≡ None) }
+        ensures accepted { IfOk result (λ made. refusal_of n lanes dispatchers capacity ≡ None) }
+        ensures sizes { IfOk result (λ made. HasSizes n lanes dispatchers capacity made.shop) }
+        ensures lanes { IfOk result (λ made. All (L.is_lane made.shop.line) made.lanes.items) }
+        ensures fresh_lanes { IfOk result (λ made.
+            map L.lane_record made.lanes.items ≡ fresh_lanes lanes) }
+        ensures passes { IfOk result (λ made.
+            All (λ w. L.is_pass made.shop.line w.pass) made.workers.items) }
+        ensures fresh_passes { IfOk result (λ made.
+            map (λ w. L.pass_record w.pass) made.workers.items ≡ fresh_passes dispatchers) }
+        ensures stations { IfOk result (λ made.
+            All (λ w. F.is_station made.shop.floor w.station) made.workers.items) }
+        ensures no_grants { IfOk result (λ made.
+            All (λ w. F.grants w.station ≡ []) made.workers.items) }
+        ensures closer { IfOk result (λ made. L.is_closer made.shop.line made.closer.line) }
+        ensures room { IfOk result (λ made. made.closer.room ≡ room_for made.shop) }
+    {
+        if let Some(refused) = refusal(n, lanes, dispatchers, capacity) {
+            return Err(refused);
+        }
+        let Ok(room) = Room::new(alloc, dispatchers, capacity) else {
+            return Err(ShopRefused::OutOfMemory);
+        };
+        let Ok(workers) = Vec::with_capacity(alloc, dispatchers as usize) else {
+            room.let_go();
+            return Err(ShopRefused::OutOfMemory);
+        };
+        let Ok((floor, stations)) = F::open(alloc, n, dispatchers) else {
+            room.let_go();
+            workers.destroy_empty();
+            return Err(ShopRefused::OutOfMemory);
+        };
+        let sizes = Sizes {
+            machine: n,
+            lanes,
+            passes: dispatchers,
+            capacity,
+        };
+        let Ok(opened) = L::open(alloc, sizes) else {
+            room.let_go();
+            workers.destroy_empty();
+            let _machine = floor.close(stations);
+            return Err(ShopRefused::OutOfMemory);
+        };
+        let job_queue::Opened {
+            line,
+            lanes,
+            passes,
+            closer,
+        } = opened;
+        Ok(Opened {
+            shop: Shop { line, floor },
+            lanes,
+            workers: pair_up(passes, stations, workers),
+            closer: Closer { line: closer, room },
+        })
+    }
+}

@@ -1,0 +1,26 @@
+//! How a job is answered on the subcube that it got.
+ghost use Rattle.std.specs.Prelude.{◌≡◌, length};
+ghost use Rattle.cube_shape.specs.Region.{IsAligned};
+ghost use Rattle.job_types.specs.Dim.{dim_of};
+
+use job_types::{Job, JobId, Region, Reply};
+use std::sync::Wait;
+
+/// Answers jobs. The threads of a shop share one runner.
+pub trait Runner {
+    /// Answers the job on an aligned region of its machine, which has a processor for each item.
+    fn run<R: Wait>(&self, rt: &R, id: JobId, region: Region, job: Job) -> Reply
+        requires aligned { IsAligned job.machine region }
+        requires dimension { region.dim ≡ dim_of (length job.items) }
+        ensures { result ≡ record { id = id; job = job; region = region } };
+}
+
+/// The runner that runs the rounds of the job's collective, and nothing else.
+#[derive(Clone, Copy, Debug)]
+pub struct Plain;
+
+impl Runner for Plain {
+    fn run<R: Wait>(&self, _rt: &R, id: JobId, region: Region, job: Job) -> Reply {
+        job.answer(id, region)
+    }
+}

@@ -1,0 +1,16 @@
+//! Floors: machines whose stations take subcubes and give them back, from many threads at once.
+//!
+//! `Floor` is the contract of every floor: the regions that its stations hold at one moment are
+//! aligned and apart, each station has a record of the regions that it was given, and once all
+//! stations have come back the machine is wholly free. `LockedFloor` is the plainest floor that
+//! meets it.
+#![tactic(auto)]
+
+mod floor;
+mod locked;
+
+pub use floor::Floor;
+pub use locked::{FreeMachine, Held, LockedFloor, Station};
+
+#[cfg(test)]
+mod tests;

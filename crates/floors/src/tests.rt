@@ -1,0 +1,106 @@
+//! Calls of a floor by its contract alone, on one thread.
+ghost use Rattle.std.specs.Prelude.{◌≡◌, ◌<◌, ◌≤◌, [], ◌∷◌, length};
+ghost use Rattle.std.specs.List.{All};
+ghost use Rattle.std.specs.Vec.{vec_capacity};
+
+mod crowd;
+
+use crate::{Floor, FreeMachine, LockedFloor};
+use cube_shape::{MAX_DIM, MAX_STATIONS, Region};
+use std::alloc::Global;
+use std::process::Abort;
+use std::sync::Wait;
+
+// A floor with its stations.
+fn opened<F: Floor>(rt: &impl Abort, alloc: Global, n: u32, stations: u32) -> (F, Vec<F::Station>)
+    requires dim { n ≤ MAX_DIM }
+    requires some { 0 < stations }
+    requires few { stations ≤ MAX_STATIONS }
+    ensures dim { (F.id result.0).dim ≡ n }
+    ensures stations { (F.id result.0).stations ≡ stations }
+    ensures count { length result.1.items ≡ stations }
+    ensures of_floor { All (F.is_station (F.id result.0)) result.1.items }
+{
+    F::open(alloc, n, stations).expect(rt, "no memory")
+}
+
+// Both members of a list of two.
+fn both_of<T>(members: &mut Vec<T>) -> (T, T)
+    requires { length members.old.items ≡ 2 }
+    ensures members { members.old.items ≡ result.0 ∷ result.1 ∷ [] }
+    ensures room { (members.new.items ≡ []) × (2 ≤ vec_capacity members.new) }
+{
+    let Some(second) = members.pop() else {
+        unreachable!()
+    };
+    let Some(first) = members.pop() else {
+        unreachable!()
+    };
+    (first, second)
+}
+
+// Three takes and as many releases by two stations, and the end of the floor: the regions that were
+// given, and the machine.
+fn play<R: Wait, F: Floor>(
+    rt: &R,
+    floor: F,
+    mut stations: Vec<F::Station>,
+) -> ([Region; 3], F::Machine)
+    requires dim { 1 ≤ (F.id floor).dim }
+    requires two { (F.id floor).stations ≡ 2 }
+    requires all { length stations.items ≡ 2 }
+    requires of_floor { All (F.is_station (F.id floor)) stations.items }
+{
+    let (first, second) = both_of(&mut stations);
+    let first = floor.take(rt, first, 1);
+    let second = floor.take(rt, second, 1);
+    let (first, second) = floor.apart(first, second);
+    let given = (F::region(&first), F::region(&second));
+    let first = floor.release(rt, first);
+    let first = floor.take(rt, first, 0);
+    let last = F::region(&first);
+    stations.push_reserved(floor.release(rt, first));
+    stations.push_reserved(floor.release(rt, second));
+    ([given.0, given.1, last], floor.close(stations))
+}
+
+fn is_wholly_free(machine: &FreeMachine, n: u32, words: usize) -> bool {
+    let all = LockedFloor::words(machine);
+    machine.bits().is_wholly_free()
+        && LockedFloor::dim(machine) == n
+        && all.len() == words
+        && all.iter().all(|word| *word == 0)
+}
+
+#[test]
+fn each_call_once(rt: HostRuntime) {
+    let (floor, stations) = opened::<LockedFloor>(&rt, rt.alloc(), 2, 2);
+    let (regions, machine) = play(&rt, floor, stations);
+    assert_eq!(rt; regions[0], Region { base: 0, dim: 1 });
+    assert_eq!(rt; regions[1], Region { base: 2, dim: 1 });
+    assert_eq!(rt; regions[2], Region { base: 0, dim: 0 });
+    assert!(rt; is_wholly_free(&machine, 2, 8));
+}
+
+#[test]
+fn two_floors_share_nothing(rt: HostRuntime) {
+    let (floor, mut stations) = opened::<LockedFloor>(&rt, rt.alloc(), 3, 1);
+    let (other, mut others) = opened::<LockedFloor>(&rt, rt.alloc(), 3, 1);
+    let held = floor.take(&rt, stations.pop().unwrap(), 3);
+    let also_held = other.take(&rt, others.pop().unwrap(), 3);
+    assert_eq!(rt; LockedFloor::region(&held), Region { base: 0, dim: 3 });
+    assert_eq!(rt; LockedFloor::region(&also_held), Region { base: 0, dim: 3 });
+    stations.push_reserved(floor.release(&rt, held));
+    others.push_reserved(other.release(&rt, also_held));
+    assert!(rt; is_wholly_free(&floor.close(stations), 3, 16));
+    assert!(rt; is_wholly_free(&other.close(others), 3, 16));
+}
+
+#[test]
+fn smallest_floor_and_largest(rt: HostRuntime) {
+    let (smallest, stations) = opened::<LockedFloor>(&rt, rt.alloc(), 0, 1);
+    assert!(rt; is_wholly_free(&smallest.close(stations), 0, 2));
+    let (largest, stations) = opened::<LockedFloor>(&rt, rt.alloc(), MAX_DIM, MAX_STATIONS);
+    assert_eq!(rt; stations.len(), 32);
+    assert!(rt; is_wholly_free(&largest.close(stations), 10, 2048));
+}
