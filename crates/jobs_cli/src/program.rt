@@ -7,7 +7,7 @@ ghost use Rattle.jobs_csv.specs.Fault.{attribute, fault_text};
 ghost use Rattle.jobs_csv.specs.declared.fault.Fault.{Fault as TheFault};
 ghost use Rattle.jobs_cli.specs.Answer.{IsCommandFault, IsMetInReading};
 ghost use Rattle.jobs_cli.specs.CommandLine.{IsWithinLimits, program_app};
-ghost use Rattle.jobs_cli.specs.Inner.Ending.{EndsAfter};
+ghost use Rattle.jobs_cli.specs.Inner.Ending.{EndsAfter, EndsOn};
 ghost use Rattle.jobs_cli.specs.Program.{EndsBy, IsAnswerTo, exit_status};
 
 use crate::invocation::Invocation;
@@ -114,6 +114,28 @@ fn show<W: Write + Device, E: Write>(error: &clap::Error, writer: &mut W, errors
     )
 }
 
+// Shows the help or the version where they were asked for, or says what is wrong with the words.
+fn explain<W: Write + Device, E: Write>(
+    error: &clap::Error,
+    writer: &mut W,
+    errors: &mut E,
+) -> Ending
+    ensures ends { EndsOn (kind_of error.now) result }
+    ensures line { (fault : TheFault) → result ≡ Ending.Failed fault true
+        → Appends (E.contents errors.old) (E.contents errors.new) (fault_text fault ++ 10 ∷ []) }
+    ensures quiet { result ≡ Ending.Done → errors.new ≡ errors.old }
+    ensures rejected { result ≡ Ending.Rejected → writer.new ≡ writer.old }
+{
+    match error.kind() {
+        ErrorKind::OutOfMemory => return report(Fault::no_memory(), errors),
+        ErrorKind::DisplayHelp | ErrorKind::DisplayVersion => return show(error, writer, errors),
+        _ => {
+            let _written = write!(errors, "{error}");
+            return Ending::Rejected;
+        }
+    }
+}
+
 /// Does what the words of a command line ask for, of which the first is the program's name.
 ///
 /// The line of a fault and what is wrong with a command line go to `errors`.
@@ -138,12 +160,5 @@ pub fn run<R: Read + Device, W: Write + Device, E: Write>(
         Ok(invocation) => return carry_out(alloc, invocation, reader, writer, errors),
         Err(error) => error,
     };
-    match error.kind() {
-        ErrorKind::OutOfMemory => report(Fault::no_memory(), errors),
-        ErrorKind::DisplayHelp | ErrorKind::DisplayVersion => show(&error, writer, errors),
-        _ => {
-            let _written = write!(errors, "{error}");
-            Ending::Rejected
-        }
-    }
+    explain(&error, writer, errors)
 }

@@ -1,9 +1,8 @@
 -- The parse of an input: its value or its first refusal; and what a call returns for it.
-use Rattle.std.specs.Prelude.{◌≡◌, ⊤, true, List, Vec, Option, Some, None, Result, Ok, Err}
+use Rattle.std.specs.Prelude.{◌≡◌, true, List, Vec, Option, Some, None, Result, Ok, Err}
 use Rattle.std.specs.Global.{Global}
 use Rattle.jobs_csv.specs.declared.fault.Fault.{Fault}
 use Rattle.jobs_csv.specs.declared.fault.FaultKind.{FaultKind}
-use Rattle.jobs_csv.specs.declared.fault.FaultKind.TheVariants as what
 use Rattle.jobs_csv.specs.Fault.{is_refusal}
 
 -- in order: nothing is read after a refusal

@@ -1,5 +1,5 @@
 -- The rows of a schedule: its events, the calls that were refused, and the words in the end.
-use Rattle.std.specs.Prelude.{ℕ, ◌==◌, List, [], ◌∷◌, codes, Option, Some, None, if◌then◌else◌}
+use Rattle.std.specs.Prelude.{ℕ, ◌==◌, List, [], ◌∷◌, codes, if◌then◌else◌}
 use Rattle.std.specs.Fmt.{decimal}
 use Rattle.status_word.specs.Text.{word_text}
 use Rattle.cube_core.specs.declared.act.Refused.{Refused}
