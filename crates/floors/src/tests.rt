@@ -10,6 +10,7 @@ use cube_shape::{MAX_DIM, MAX_STATIONS, Region};
 use std::alloc::Global;
 use std::process::Abort;
 use std::sync::Wait;
+use std::test::Fail;
 
 // A floor with its stations.
 fn opened<F: Floor>(rt: &impl Abort, alloc: Global, n: u32, stations: u32) -> (F, Vec<F::Station>)
@@ -73,13 +74,14 @@ fn is_wholly_free(machine: &FreeMachine, n: u32, words: usize) -> bool {
 }
 
 #[test]
-fn each_call_once(rt: HostRuntime) {
-    let (floor, stations) = opened::<LockedFloor>(&rt, rt.alloc(), 2, 2);
+fn each_call_once(rt: HostRuntime) -> Result<(), Fail> {
+    let (floor, stations) = LockedFloor::open(rt.alloc(), 2, 2)?;
     let (regions, machine) = play(&rt, floor, stations);
     assert_eq!(rt; regions[0], Region { base: 0, dim: 1 });
     assert_eq!(rt; regions[1], Region { base: 2, dim: 1 });
     assert_eq!(rt; regions[2], Region { base: 0, dim: 0 });
     assert!(rt; is_wholly_free(&machine, 2, 8));
+    Ok(())
 }
 
 #[test]

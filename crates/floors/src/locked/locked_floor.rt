@@ -16,8 +16,8 @@ use cube_shape::{MAX_DIM, MAX_STATIONS, Region};
 use std::alloc::{AllocError, Global};
 use std::sync::Wait;
 
-/// A floor whose allocation bits lie under one lock. A take gets the first fit.
-#[derive(Drop)]
+/// A floor whose allocation bits, an `AllocBits`, lie under one lock. It cannot be dropped, and is
+/// spent by `close`.
 pub struct LockedFloor {
     lock: BitsLock,
     // The words of the machine at the end, which are reserved when the floor opens.
