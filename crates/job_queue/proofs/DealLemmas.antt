@@ -15,9 +15,9 @@ use Rattle.job_types.specs.declared.request.TheConstants.{MAX_LANES}
 use Rattle.job_queue.specs.declared.job_line.Sizes.{Sizes}
 use Rattle.job_queue.specs.declared.locked.store.Store.{Store}
 use Rattle.job_queue.specs.declared.locked.view.View.{View}
-use Rattle.job_queue.specs.Locked.View.{IsEmptyStore, members, out_of, is_out, first_of, rest_of, lanes_from, passes_from, first_view, without_lane, lane_alone, without_pass, pass_alone, joined, spent_view}
-use Rattle.job_queue.specs.Locked.Deed.{lane_part, pass_part, closer_part}
-use Rattle.job_queue.specs.Locked.Rule.{Fits, Keeps}
+use Rattle.job_queue.specs.Inner.Locked.View.{IsEmptyStore, members, out_of, is_out, first_of, rest_of, lanes_from, passes_from, first_view, without_lane, lane_alone, without_pass, pass_alone, joined, spent_view}
+use Rattle.job_queue.specs.Inner.Locked.Deed.{lane_part, pass_part, closer_part}
+use Rattle.job_queue.specs.Inner.Locked.Rule.{Fits, Keeps}
 use Rattle.job_queue.proofs.KeepLemmas.{St, lanes_in, passes_in, closers_in, lane_number, pass_number, closer_number}
 
 -- ---- the first view

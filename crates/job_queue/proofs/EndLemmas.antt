@@ -20,10 +20,10 @@ use Rattle.job_queue.specs.declared.locked.view.CloserRecord.{CloserRecord}
 use Rattle.job_queue.specs.Record.{accepted, AreSeqs, Rises, Seals}
 use Rattle.job_queue.specs.Line.{IsMadeFor}
 use Rattle.job_queue.specs.Run.{WholeRun}
-use Rattle.job_queue.specs.Locked.View.{out_of, is_out}
-use Rattle.job_queue.specs.Locked.Deed.{entered, waiting, is_closed, lane_part, pass_part, closer_part, closed_at}
-use Rattle.job_queue.specs.Locked.Rule.{Fits, Keeps}
-use Rattle.job_queue.specs.Locked.End.{IsWhole, IsEnd}
+use Rattle.job_queue.specs.Inner.Locked.View.{out_of, is_out}
+use Rattle.job_queue.specs.Inner.Locked.Deed.{entered, waiting, is_closed, lane_part, pass_part, closer_part, closed_at}
+use Rattle.job_queue.specs.Inner.Locked.Rule.{Fits, Keeps}
+use Rattle.job_queue.specs.Inner.Locked.End.{IsWhole, IsEnd}
 use Rattle.job_queue.proofs.DeedLemmas.{entries_below, waiting_fits, waiting_made_for, closed_count}
 use Rattle.job_queue.proofs.HistoryLemmas.{balanced, seqs, rises, rises-end, entered_before, Stands, seen_stands, Sealed, readings_sealed}
 use Rattle.job_queue.proofs.KeepLemmas.{St, lanes_in, passes_in, closers_in, lane_number, pass_number, closer_number}

@@ -7,8 +7,8 @@ use Rattle.job_queue.specs.declared.record.LaneRecord.{LaneRecord}
 use Rattle.job_queue.specs.declared.record.PassRecord.{PassRecord}
 use Rattle.job_queue.specs.declared.locked.store.Store.{Store}
 use Rattle.job_queue.specs.Record.{accepted, IsSettled}
-use Rattle.job_queue.specs.Locked.View.{lane_view, pass_view, closer_view, holding}
-use Rattle.job_queue.specs.Locked.Step.{Sat, Knows, Took, lane_in, pass_in, IsLaneOut, IsPassOut, IsCloserOut, IsLaneSeat}
+use Rattle.job_queue.specs.Inner.Locked.View.{lane_view, pass_view, closer_view, holding}
+use Rattle.job_queue.specs.Inner.Locked.Step.{Sat, Knows, Took, lane_in, pass_in, IsLaneOut, IsPassOut, IsCloserOut, IsLaneSeat}
 use Rattle.job_queue.proofs.DeedLemmas.{accepted-length}
 
 -- ---- a lane

@@ -13,9 +13,9 @@ use Rattle.job_queue.specs.declared.record.Entry.{Entry}
 use Rattle.job_queue.specs.declared.record.Reading.{Reading}
 use Rattle.job_queue.specs.declared.record.LaneRecord.{LaneRecord}
 use Rattle.job_queue.specs.declared.record.PassRecord.{PassRecord}
-use Rattle.job_queue.specs.Record.{entry, reading, accepted, job_id, AreSeqs, Rises}
-use Rattle.job_queue.specs.Locked.View.{rest_of}
-use Rattle.job_queue.specs.Locked.Deed.{Deed, accepts, fills, finds_closed, takes_job, finds_empty, closes, entered, waiting, is_closed, lane_after, lane_part, pass_after, pass_part, IsLegal}
+use Rattle.job_queue.specs.Record.{entry, accepted, job_id, AreSeqs, Rises}
+use Rattle.job_queue.specs.Inner.Locked.View.{reading, rest_of}
+use Rattle.job_queue.specs.Inner.Locked.Deed.{Deed, accepts, fills, finds_closed, takes_job, finds_empty, closes, entered, waiting, is_closed, lane_after, lane_part, pass_after, pass_part, IsLegal}
 use Rattle.job_queue.proofs.DeedLemmas.{lane_own, lane_other, pass_own, pass_other, accepted-push, accepted-full}
 
 -- ---- lists of jobs

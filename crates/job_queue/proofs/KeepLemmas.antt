@@ -15,9 +15,9 @@ use Rattle.job_queue.specs.declared.record.PassRecord.{PassRecord}
 use Rattle.job_queue.specs.declared.locked.store.Store.{Store}
 use Rattle.job_queue.specs.declared.locked.view.View.{View}
 use Rattle.job_queue.specs.declared.locked.view.CloserRecord.{CloserRecord}
-use Rattle.job_queue.specs.Locked.View.{holding, members, out_of, is_out}
-use Rattle.job_queue.specs.Locked.Deed.{Deed, lane_part, pass_part, closer_part, May}
-use Rattle.job_queue.specs.Locked.Rule.{Fits, Keeps}
+use Rattle.job_queue.specs.Inner.Locked.View.{holding, members, out_of, is_out}
+use Rattle.job_queue.specs.Inner.Locked.Deed.{Deed, lane_part, pass_part, closer_part, May}
+use Rattle.job_queue.specs.Inner.Locked.Rule.{Fits, Keeps}
 
 abbrev pub St : Type 0
 St = State Store View

@@ -1,4 +1,4 @@
 pub mod Record
 pub mod Line
 pub mod Run
-pub mod Locked
+pub mod Inner

@@ -18,9 +18,6 @@ queued id job = record { id = id; job = job }
 abbrev pub entry : ℕ → Option QueuedJob → Entry
 entry number job = record { number = number; job = job }
 
-abbrev pub reading : ℕ → ℕ → Rattle.std.specs.Prelude.Bool → Reading
-reading settled counted closed = record { settled = settled; counted = counted; closed = closed }
-
 -- the record of a lane, or of a pass, that has done nothing
 abbrev pub fresh_lane : ℕ → LaneRecord
 fresh_lane number = record { number = number; entries = []; pending = None; late = false; seen = [] }

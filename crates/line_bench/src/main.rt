@@ -174,7 +174,7 @@ where
     for_each_mut(rt, passes, MAX_PASSES as usize, &drain_one);
 }
 
-// Feeds by all lanes and drains by all passes at once.
+// Feeds by all lanes and drains by all passes at once. Where no thread can be made, it feeds first.
 fn run_threads<'a, R: Threads + Wait + Sync, L: JobLine + Sync>(
     rt: &'a R,
     line: &'a L,
@@ -202,7 +202,7 @@ where
         requires { All (L.is_pass (L.id line.now)) passes.now }
         ensures { All (L.is_pass (L.id line.entry.now)) passes.exit.now }
     { drain_all(rt, line, passes, taken, count) };
-    join_mut(rt, &mut feeding, &mut draining);
+    join_mut(rt, &mut draining, &mut feeding);
 }
 
 // The number of jobs that were taken, and the nanoseconds that it took.

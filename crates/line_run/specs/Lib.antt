@@ -1,1 +1,1 @@
-pub mod Fed
+pub mod Inner

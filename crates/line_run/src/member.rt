@@ -1,6 +1,6 @@
 // What a thread has: a lane with its jobs, a pass with what it took, or the right to close. The type
 // says what is known of it, so it may lie under a lock.
-ghost use Rattle.std.specs.Prelude.{◌≡◌, ℕ, ◌++◌, List, None, Some, IfSome, MatchOption};
+ghost use Rattle.std.specs.Prelude.{◌≡◌, ℕ, ◌++◌, List, None, Some, IfSome, MatchOption, true, false};
 ghost use Rattle.std.specs.List.{All};
 ghost use Rattle.job_queue.specs.Record.{accepted_jobs};
 ghost use Rattle.job_queue.specs.Line.{IsFor};
@@ -26,7 +26,7 @@ pub trait Naming {
 
 impl Naming for Brand {
     ghost use Rattle.std.specs.Prelude.{[]};
-    ghost use Rattle.line_run.specs.Fed.{no_line};
+    ghost use Rattle.line_run.specs.Inner.Naming.{no_line};
 
     ghost line = { no_line };
 
@@ -41,14 +41,16 @@ pub struct Feeder<J: Naming, L: JobLine> {
 }
 
 impl<J: Naming, L: JobLine> Model for Feeder<J, L> {
-    ghost use Rattle.std.specs.Prelude.{◌≡◌, ◌++◌};
+    ghost use Rattle.std.specs.Prelude.{◌≡◌, ◌++◌, List};
     ghost use Rattle.std.specs.List.{All};
     ghost use Rattle.job_queue.specs.Record.{accepted_jobs};
     ghost use Rattle.job_queue.specs.Line.{IsFor};
+    ghost use Rattle.job_types.specs.Job.{JobData};
+    ghost use Rattle.job_queue.specs.declared.record.LaneRecord.{LaneRecord};
 
-    ghost Value = { Unit {0} };
+    ghost Value = { LaneRecord × List JobData };
 
-    ghost view = { λ f. tt };
+    ghost view = { λ f. (L.lane_record f.lane, f.left.items) };
 
     ghost invariant = { λ f. L.is_lane J.line f.lane
         × All (IsFor J.line.sizes.machine (L.lane_record f.lane).number) f.left.items
@@ -60,6 +62,7 @@ impl<J: Naming, L: JobLine> Feeder<J, L> {
         requires lane { L.is_lane J.line lane }
         requires made_for { All (IsFor J.line.sizes.machine (L.lane_record lane).number) left.items }
         requires jobs { accepted_jobs (L.lane_record lane) ++ left.items ≡ J.jobs (L.lane_record lane).number }
+        ensures { result ≡ (L.lane_record lane, left.items) }
     {
         Feeder {
             lane,
@@ -77,6 +80,7 @@ impl<J: Naming, L: JobLine> Feeder<J, L> {
     pub fn into_parts(self) -> (L::Lane, VecDeque<Job>)
         ensures lane { L.is_lane J.line result.0 }
         ensures jobs { accepted_jobs (L.lane_record result.0) ++ result.1.items ≡ J.jobs (L.lane_record result.0).number }
+        ensures parts { (L.lane_record result.0, result.1.items) ≡ self }
     {
         let Feeder { lane, left, of: _ } = self;
         (lane, left)
@@ -92,10 +96,11 @@ pub struct Taker<J: Naming, L: JobLine> {
 
 impl<J: Naming, L: JobLine> Model for Taker<J, L> {
     ghost use Rattle.std.specs.Prelude.{◌≡◌};
+    ghost use Rattle.job_queue.specs.declared.record.PassRecord.{PassRecord};
 
-    ghost Value = { Unit {0} };
+    ghost Value = { PassRecord };
 
-    ghost view = { λ t. tt };
+    ghost view = { λ t. L.pass_record t.pass };
 
     ghost invariant = { λ t. L.is_pass J.line t.pass × ((L.pass_record t.pass).taken ≡ t.taken.items) };
 }
@@ -104,6 +109,7 @@ impl<J: Naming, L: JobLine> Taker<J, L> {
     pub fn new(pass: L::Pass, taken: Vec<QueuedJob>) -> Taker<J, L>
         requires pass { L.is_pass J.line pass }
         requires taken { (L.pass_record pass).taken ≡ taken.items }
+        ensures { result ≡ L.pass_record pass }
     {
         Taker {
             pass,
@@ -121,6 +127,7 @@ impl<J: Naming, L: JobLine> Taker<J, L> {
     pub fn into_parts(self) -> (L::Pass, Vec<QueuedJob>)
         ensures pass { L.is_pass J.line result.0 }
         ensures taken { (L.pass_record result.0).taken ≡ result.1.items }
+        ensures record { L.pass_record result.0 ≡ self }
     {
         let Taker { pass, taken, of: _ } = self;
         (pass, taken)
@@ -135,11 +142,13 @@ pub struct Door<J: Naming, L: JobLine> {
 }
 
 impl<J: Naming, L: JobLine> Model for Door<J, L> {
-    ghost use Rattle.std.specs.Prelude.{◌≡◌, None, MatchOption};
+    ghost use Rattle.std.specs.Prelude.{◌≡◌, Bool, None, MatchOption};
+    ghost use Rattle.std.specs.Option.{is_some};
 
-    ghost Value = { Unit {0} };
+    // whether it is closed
+    ghost Value = { Bool };
 
-    ghost view = { λ d. tt };
+    ghost view = { λ d. is_some d.note };
 
     ghost invariant = { λ d. MatchOption d.closer
         (MatchOption d.note ⊥ (L.is_note J.line)) (λ c. L.is_closer J.line c × (d.note ≡ None)) };
@@ -148,6 +157,7 @@ impl<J: Naming, L: JobLine> Model for Door<J, L> {
 impl<J: Naming, L: JobLine> Door<J, L> {
     pub fn new(closer: L::Closer) -> Door<J, L>
         requires { L.is_closer J.line closer }
+        ensures { result ≡ false }
     {
         Door {
             closer: Some(closer),
@@ -158,6 +168,7 @@ impl<J: Naming, L: JobLine> Door<J, L> {
 
     pub fn close<R: Wait>(&mut self, rt: &R, line: &L)
         requires { L.id line.now ≡ J.line }
+        ensures { self.new ≡ true }
     {
         if let Some(closer) = self.closer.take() {
             match self.note.replace(line.close(rt, closer)) {

@@ -1,7 +1,7 @@
 // What the callers of a locked line hold. None of it has a `Drop`: it is spent in the line's end.
 ghost use Rattle.std.specs.Prelude.{◌≡◌, ℕ, [], ◌∷◌, None, Some};
-ghost use Rattle.job_queue.specs.Locked.View.{pass_view, closer_view};
-ghost use Rattle.job_queue.specs.Locked.Step.{IsLaneSeat, pass_in};
+ghost use Rattle.job_queue.specs.Inner.Locked.View.{pass_view, closer_view};
+ghost use Rattle.job_queue.specs.Inner.Locked.Step.{IsLaneSeat, pass_in};
 
 use super::store_lock::Seat;
 
@@ -33,7 +33,7 @@ pub struct CloseNote {
 }
 
 impl Lane {
-    ghost use Rattle.job_queue.specs.Locked.Handle.{lane_record};
+    ghost use Rattle.job_queue.specs.Inner.Locked.Handle.{lane_record};
 
     /// The lane's number.
     pub fn number(&self) -> u32
@@ -44,7 +44,7 @@ impl Lane {
 }
 
 impl CloseNote {
-    ghost use Rattle.job_queue.specs.Locked.Handle.{note_number};
+    ghost use Rattle.job_queue.specs.Inner.Locked.Handle.{note_number};
 
     /// The close number: how many entries came before the close.
     pub fn number(&self) -> u64

@@ -5,7 +5,7 @@ ghost use Rattle.histories.specs.Sums.{times};
 ghost use Rattle.job_queue.specs.Record.{queued, fresh_lanes, fresh_passes, accepted, IsSettled};
 ghost use Rattle.job_queue.specs.Line.{next_id, GainsEntry, GainsRefusal, GainsReading, taken_by, IsMadeFor, TakesMadeFor};
 ghost use Rattle.job_queue.specs.Run.{WholeRun};
-ghost use Rattle.job_queue.specs.Locked.Handle.{line_id};
+ghost use Rattle.job_queue.specs.Inner.Locked.Handle.{line_id};
 
 use super::handle::{CloseNote, Closer, Lane, Pass};
 use super::members::{deal_lanes, deal_passes, gather_lanes, gather_passes};
@@ -33,7 +33,7 @@ impl JobLine for LockedLine {
 
     type Note = CloseNote;
 
-    ghost use Rattle.job_queue.specs.Locked.Handle.{line_id, is_lane as IsLane, is_pass as IsPass, is_closer as IsCloser, is_note as IsNote, lane_record as record_of_lane, pass_record as record_of_pass, note_number as number_of_note};
+    ghost use Rattle.job_queue.specs.Inner.Locked.Handle.{line_id, is_lane as IsLane, is_pass as IsPass, is_closer as IsCloser, is_note as IsNote, lane_record as record_of_lane, pass_record as record_of_pass, note_number as number_of_note};
 
     ghost id = { λ line. line_id line.lock };
 

@@ -3,9 +3,9 @@ ghost use Rattle.std.specs.Prelude.{◌≡◌, ℕ, ◌<◌, ◌≤◌, ◌++◌
 ghost use Rattle.std.specs.List.{All};
 ghost use Rattle.std.specs.Vec.{vec_capacity};
 ghost use Rattle.job_queue.specs.Record.{fresh_lanes, fresh_passes};
-ghost use Rattle.job_queue.specs.Locked.View.{view, first_view, passes_from, closer_view};
-ghost use Rattle.job_queue.specs.Locked.Step.{IsIdle};
-ghost use Rattle.job_queue.specs.Locked.Handle.{table_of, sizes_of, line_id, is_lane, is_pass, lane_record, pass_record};
+ghost use Rattle.job_queue.specs.Inner.Locked.View.{view, first_view, passes_from, closer_view};
+ghost use Rattle.job_queue.specs.Inner.Locked.Step.{IsIdle};
+ghost use Rattle.job_queue.specs.Inner.Locked.Handle.{table_of, sizes_of, line_id, is_lane, is_pass, lane_record, pass_record};
 
 use super::handle::{Lane, Pass};
 use super::store_lock::{Seat, StoreLock};

@@ -1,8 +1,8 @@
 // The rule of a locked line's table, and the names of its steps.
 ghost use Rattle.std.specs.Prelude.{◌≡◌};
-ghost use Rattle.job_queue.specs.Locked.View.{first_view, without_lane, lane_alone, without_pass, pass_alone, joined, spent_view};
-ghost use Rattle.job_queue.specs.Locked.Rule.{Keeps};
-ghost use Rattle.job_queue.specs.Locked.Step.{took, after_entry, after_full_entry, after_seen, after_taken, after_reading, after_close};
+ghost use Rattle.job_queue.specs.Inner.Locked.View.{first_view, without_lane, lane_alone, without_pass, pass_alone, joined, spent_view};
+ghost use Rattle.job_queue.specs.Inner.Locked.Rule.{Keeps};
+ghost use Rattle.job_queue.specs.Inner.Locked.Step.{took, after_entry, after_full_entry, after_seen, after_taken, after_reading, after_close};
 
 use super::store::Store;
 use super::view::View;

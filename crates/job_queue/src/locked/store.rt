@@ -39,7 +39,7 @@ impl SawEmpty {
 }
 
 impl Store {
-    ghost use Rattle.job_queue.specs.Locked.View.{IsEmptyStore, Pushes, Pops, Shuts};
+    ghost use Rattle.job_queue.specs.Inner.Locked.View.{IsEmptyStore, Pushes, Pops, Shuts};
 
     pub(crate) fn new(alloc: Global, sizes: Sizes) -> Result<Store, AllocError>
         ensures { IfOk result (IsEmptyStore sizes) }

@@ -9,9 +9,9 @@ ghost use Rattle.job_queue.specs.declared.locked.store.Store.{Store as State};
 ghost use Rattle.job_queue.specs.declared.record.QueuedJob.{QueuedJob as Queued};
 ghost use Rattle.job_queue.specs.declared.record.LaneRecord.{LaneRecord};
 ghost use Rattle.job_queue.specs.declared.record.PassRecord.{PassRecord};
-ghost use Rattle.job_queue.specs.Locked.View.{Pushes, Pops, Shuts, first_view, without_lane, lane_alone, without_pass, pass_alone, joined, members};
-ghost use Rattle.job_queue.specs.Locked.Step.{IsIdle, Took, IsLaneOut, IsPassOut, IsCloserOut, Accepts, Fills, Hands, Same, Closes, after_entry, after_full_entry, after_seen, after_taken, after_reading, after_close};
-ghost use Rattle.job_queue.specs.Locked.End.{IsWhole, IsEnd};
+ghost use Rattle.job_queue.specs.Inner.Locked.View.{Pushes, Pops, Shuts, first_view, without_lane, lane_alone, without_pass, pass_alone, joined, members};
+ghost use Rattle.job_queue.specs.Inner.Locked.Step.{IsIdle, Took, IsLaneOut, IsPassOut, IsCloserOut, Accepts, Fills, Hands, Same, Closes, after_entry, after_full_entry, after_seen, after_taken, after_reading, after_close};
+ghost use Rattle.job_queue.specs.Inner.Locked.End.{IsWhole, IsEnd};
 
 use super::plays::{
     Accept, DealLane, DealPass, Enter, Fill, Gather, Hand, LineRule, Read, Refuse, Shut,
@@ -23,8 +23,12 @@ use crate::record::QueuedJob;
 use atomic_table::{Refused, Table};
 use job_types::{Job, MAX_LANES};
 use std::alloc::{AllocError, Global};
+use std::hint::spin_loop;
 use std::sync::{Mutex, Wait};
 use std::thread::yield_now;
+
+// How often a call tries to take the state before it goes to the door. Most calls hold it for less time.
+const TRIES: u32 = 30;
 
 pub type Seat = atomic_table::Seat<Store, View>;
 
@@ -36,7 +40,7 @@ pub struct StoreLock {
 }
 
 impl StoreLock {
-    ghost use Rattle.job_queue.specs.Locked.Handle.{table_of, sizes_of};
+    ghost use Rattle.job_queue.specs.Inner.Locked.Handle.{table_of, sizes_of};
 
     // A lock with an empty state, and the seat that has the records of all members.
     pub fn new(alloc: Global, sizes: Sizes) -> Result<(StoreLock, Seat), AllocError>
@@ -103,19 +107,37 @@ impl StoreLock {
         self.table.shared.compare_exchange::<Enter>(seat, 0, 0, 1) == 0
     }
 
-    // Takes the state. The threads that wait for it stand at the door, and the first one tries.
+    // Takes the state, where it comes home within a few tries.
+    fn try_some(&self, seat: &mut Seat) -> bool
+        requires table { seat.old.table_id ≡ table_of self.now }
+        requires idle { IsIdle seat.old.me }
+        ensures table { seat.new.table_id ≡ table_of self.now }
+        ensures took { result ≡ true → Took seat.old.me seat.new.me }
+        ensures kept { result ≡ false → seat.new.me ≡ seat.old.me }
+    {
+        for _ in 0..TRIES {
+            if self.try_enter(seat) {
+                return true;
+            }
+            spin_loop();
+        }
+        false
+    }
+
+    // Takes the state. A thread that has tried some times waits at the door, and the first one there
+    // tries on.
     pub fn enter<R: Wait>(&self, rt: &R, seat: &mut Seat)
         requires table { seat.old.table_id ≡ table_of self.now }
         requires idle { IsIdle seat.old.me }
         ensures table { seat.new.table_id ≡ table_of self.now }
         ensures took { Took seat.old.me seat.new.me }
     {
-        if self.try_enter(seat) {
+        if self.try_some(seat) {
             return;
         }
         let _door = self.door.lock(rt);
         for _ in rt.forever() {
-            if self.try_enter(seat) {
+            if self.try_some(seat) {
                 return;
             }
             yield_now();

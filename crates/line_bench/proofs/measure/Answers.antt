@@ -1,5 +1,5 @@
 use Rattle.std.proofs.Common.{◌≡◌, sym, ap, ◌∙◌}
-use Rattle.job_queue.specs.Locked.Handle.{line_id, is_pass, lane_record, pass_record}
+use Rattle.job_queue.specs.Inner.Locked.Handle.{line_id, is_pass, lane_record, pass_record}
 use Rattle.line_bench.proofs.MemberLemmas.{lanes_lent, passes_lent, lent_all}
 use Rattle.line_bench.proofs.measure.Goals as goal
 

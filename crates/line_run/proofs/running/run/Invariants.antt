@@ -1,4 +1,4 @@
-use Rattle.line_run.specs.Fed.{of_two}
+use Rattle.line_run.specs.Inner.Naming.{of_two}
 use Rattle.line_run.proofs.running.run.Given as goal
 
 abbrev pub ghosts-run_named : goal.ghosts-run_named

@@ -4,9 +4,9 @@ use Rattle.std.proofs.lemmas.List.Elements.{All-push, All-same}
 use Rattle.atomic_table.specs.Seated.{TableId}
 use Rattle.job_queue.specs.declared.record.LaneRecord.{LaneRecord}
 use Rattle.job_queue.specs.Record.{fresh_lane, fresh_lanes}
-use Rattle.job_queue.specs.Locked.View.{view, first_view, lanes_from, lane_view, without_lane, lane_alone}
-use Rattle.job_queue.specs.Locked.Step.{Sat, lane_in}
-use Rattle.job_queue.specs.Locked.Handle.{sizes_of, line_id, is_lane, lane_record}
+use Rattle.job_queue.specs.Inner.Locked.View.{view, first_view, lanes_from, lane_view, without_lane, lane_alone}
+use Rattle.job_queue.specs.Inner.Locked.Step.{Sat, lane_in}
+use Rattle.job_queue.specs.Inner.Locked.Handle.{sizes_of, line_id, is_lane, lane_record}
 use Rattle.job_queue.proofs.HandleLemmas.{lane_seat}
 use Rattle.job_queue.proofs.locked.members.deal_lanes.Goals as goal
 

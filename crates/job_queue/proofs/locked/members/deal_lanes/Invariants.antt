@@ -2,8 +2,8 @@ use Rattle.std.proofs.Common.{◌≡◌, ◌-◌, ◌≤◌, None, [], map}
 use Rattle.std.specs.List.{All}
 use Rattle.std.specs.Vec.{vec_len, vec_capacity}
 use Rattle.job_queue.specs.Record.{fresh_lanes}
-use Rattle.job_queue.specs.Locked.View.{view, first_view, lanes_from}
-use Rattle.job_queue.specs.Locked.Handle.{table_of, sizes_of, line_id, is_lane, lane_record}
+use Rattle.job_queue.specs.Inner.Locked.View.{view, first_view, lanes_from}
+use Rattle.job_queue.specs.Inner.Locked.Handle.{table_of, sizes_of, line_id, is_lane, lane_record}
 use Rattle.job_queue.proofs.locked.members.deal_lanes.Given as goal
 
 abbrev pub invariant-loop-number : goal.invariant-loop-number

@@ -4,9 +4,9 @@ use Rattle.std.proofs.lemmas.List.Elements.{All-push, All-same}
 use Rattle.atomic_table.specs.Seated.{TableId}
 use Rattle.job_queue.specs.declared.record.PassRecord.{PassRecord}
 use Rattle.job_queue.specs.Record.{fresh_pass, fresh_passes}
-use Rattle.job_queue.specs.Locked.View.{view, first_view, passes_from, pass_view, without_pass, pass_alone}
-use Rattle.job_queue.specs.Locked.Step.{Sat, pass_in}
-use Rattle.job_queue.specs.Locked.Handle.{sizes_of, line_id, is_pass, pass_record}
+use Rattle.job_queue.specs.Inner.Locked.View.{view, first_view, passes_from, pass_view, without_pass, pass_alone}
+use Rattle.job_queue.specs.Inner.Locked.Step.{Sat, pass_in}
+use Rattle.job_queue.specs.Inner.Locked.Handle.{sizes_of, line_id, is_pass, pass_record}
 use Rattle.job_queue.proofs.HandleLemmas.{pass_seat}
 use Rattle.job_queue.proofs.locked.members.deal_passes.Goals as goal
 

@@ -3,9 +3,9 @@ use Rattle.std.proofs.lemmas.List.{append-nil}
 use Rattle.std.proofs.lemmas.List.Elements.{All-rest}
 use Rattle.job_queue.specs.declared.record.LaneRecord.{LaneRecord}
 use Rattle.job_queue.specs.declared.locked.view.CloserRecord.{CloserRecord}
-use Rattle.job_queue.specs.Locked.View.{view, joined}
-use Rattle.job_queue.specs.Locked.Step.{Sat, IsIdle, pass_in}
-use Rattle.job_queue.specs.Locked.Handle.{line_id, is_pass, pass_record}
+use Rattle.job_queue.specs.Inner.Locked.View.{view, joined}
+use Rattle.job_queue.specs.Inner.Locked.Step.{Sat, IsIdle, pass_in}
+use Rattle.job_queue.specs.Inner.Locked.Handle.{line_id, is_pass, pass_record}
 use Rattle.job_queue.proofs.locked.members.gather_passes.Goals as goal
 
 pub loop-pass-preserved : goal.loop-pass-preserved

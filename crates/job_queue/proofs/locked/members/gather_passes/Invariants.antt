@@ -1,8 +1,8 @@
 use Rattle.std.proofs.Common.{◌≡◌, ◌++◌, None, [], map, length}
 use Rattle.std.specs.List.{All}
-use Rattle.job_queue.specs.Locked.View.{view}
-use Rattle.job_queue.specs.Locked.Step.{IsIdle}
-use Rattle.job_queue.specs.Locked.Handle.{table_of, line_id, is_pass, pass_record}
+use Rattle.job_queue.specs.Inner.Locked.View.{view}
+use Rattle.job_queue.specs.Inner.Locked.Step.{IsIdle}
+use Rattle.job_queue.specs.Inner.Locked.Handle.{table_of, line_id, is_pass, pass_record}
 use Rattle.job_queue.proofs.locked.members.gather_passes.Given as goal
 
 abbrev pub invariant-loop-pass : goal.invariant-loop-pass

@@ -1,5 +1,5 @@
 use Rattle.std.proofs.Common.{◌∷◌, [], ap, ◌∙◌}
-use Rattle.job_queue.specs.Locked.Step.{Sat}
+use Rattle.job_queue.specs.Inner.Locked.Step.{Sat}
 use Rattle.job_queue.proofs.HandleLemmas.{closer_took, closer_out}
 use Rattle.job_queue.proofs.locked.line.LockedLineJobLine.close.Goals as goal
 

@@ -11,10 +11,10 @@ use Rattle.job_queue.specs.declared.locked.handle.Lane.{Lane}
 use Rattle.job_queue.specs.declared.locked.handle.Pass.{Pass}
 use Rattle.job_queue.specs.Record.{accepted}
 use Rattle.job_queue.specs.Line.{IsMadeFor}
-use Rattle.job_queue.specs.Locked.View.{view, closer_view}
-use Rattle.job_queue.specs.Locked.Step.{Sat}
-use Rattle.job_queue.specs.Locked.Handle.{sizes_of, lane_record, pass_record}
-use Rattle.job_queue.specs.Locked.End.{IsWhole, IsEnd}
+use Rattle.job_queue.specs.Inner.Locked.View.{view, closer_view}
+use Rattle.job_queue.specs.Inner.Locked.Step.{Sat}
+use Rattle.job_queue.specs.Inner.Locked.Handle.{sizes_of, lane_record, pass_record}
+use Rattle.job_queue.specs.Inner.Locked.End.{IsWhole, IsEnd}
 use Rattle.job_queue.proofs.locked.line.LockedLineJobLine.into_rest.Goals as goal
 
 -- the seat has the records of all members

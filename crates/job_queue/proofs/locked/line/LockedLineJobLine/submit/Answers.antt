@@ -3,7 +3,7 @@ use Rattle.job_types.specs.declared.reply.JobId.{JobId}
 use Rattle.job_queue.specs.declared.job_line.Sizes.{Sizes}
 use Rattle.job_queue.specs.declared.record.QueuedJob.{QueuedJob}
 use Rattle.job_queue.specs.Record.{entry, job_id, queued}
-use Rattle.job_queue.specs.Locked.Step.{Sat, lane_in, last_of, after_entry, Accepts}
+use Rattle.job_queue.specs.Inner.Locked.Step.{Sat, lane_in, last_of, after_entry, Accepts}
 use Rattle.job_queue.proofs.StepLemmas.{last-push}
 use Rattle.job_queue.proofs.HandleLemmas.{lane_took, lane_out, lane_may_push}
 use Rattle.job_queue.proofs.locked.line.LockedLineJobLine.submit.Goals as goal

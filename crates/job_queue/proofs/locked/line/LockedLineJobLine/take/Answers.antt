@@ -1,8 +1,8 @@
 use Rattle.std.proofs.Common.{◌≡◌, ℕ, ◌∷◌, [], Bool, Option, Some, None, true, false, sym, refl, ap, ◌∙◌}
 use Rattle.std.specs.Option.{MatchOption, is_some}
 use Rattle.std.proofs.lemmas.Bool.{true≢false}
-use Rattle.job_queue.specs.Record.{reading}
-use Rattle.job_queue.specs.Locked.Step.{Sat, pass_in, after_reading}
+use Rattle.job_queue.specs.Inner.Locked.View.{reading}
+use Rattle.job_queue.specs.Inner.Locked.Step.{Sat, pass_in, after_reading}
 use Rattle.job_queue.proofs.HandleLemmas.{pass_took, pass_out}
 use Rattle.job_queue.proofs.locked.line.LockedLineJobLine.take.Goals as goal
 

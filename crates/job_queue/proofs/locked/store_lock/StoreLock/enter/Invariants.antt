@@ -1,5 +1,5 @@
 use Rattle.std.proofs.Common.{◌≡◌}
-use Rattle.job_queue.specs.Locked.Handle.{table_of}
+use Rattle.job_queue.specs.Inner.Locked.Handle.{table_of}
 use Rattle.job_queue.proofs.locked.store_lock.StoreLock.enter.Given as goal
 
 abbrev pub invariant-loop : goal.invariant-loop

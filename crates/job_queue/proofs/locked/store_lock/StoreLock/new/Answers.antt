@@ -1,8 +1,8 @@
 use Rattle.std.proofs.Common.{◌≡◌, sym, ap, subst, ◌∙◌, [], ◌∷◌, ◌++◌, List}
 use Rattle.atomic_table.specs.Table.{opening}
 use Rattle.job_queue.specs.declared.locked.store.Store.{Store}
-use Rattle.job_queue.specs.Locked.View.{first_view}
-use Rattle.job_queue.specs.Locked.Rule.{Keeps}
+use Rattle.job_queue.specs.Inner.Locked.View.{first_view}
+use Rattle.job_queue.specs.Inner.Locked.Rule.{Keeps}
 use Rattle.job_queue.proofs.DealLemmas.{opens}
 use Rattle.job_queue.proofs.locked.store_lock.StoreLock.new.Goals as goal
 

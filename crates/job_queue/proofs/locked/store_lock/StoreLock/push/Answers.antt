@@ -1,7 +1,7 @@
 use Rattle.std.proofs.Common.{sym, ap, subst, ◌∙◌, ◌≡◌, ℕ, ◌∷◌, List, get_or}
 use Rattle.atomic_table.specs.Table.{rest}
 use Rattle.job_queue.specs.declared.locked.store.Store.{Store}
-use Rattle.job_queue.specs.Locked.View.{Pushes}
+use Rattle.job_queue.specs.Inner.Locked.View.{Pushes}
 use Rattle.job_queue.proofs.locked.store_lock.StoreLock.push.Goals as goal
 
 pub slot_mut-requires : goal.slot_mut-requires

@@ -1,8 +1,9 @@
--- The jobs of two lanes, and what a name of a run stands for before it is picked.
+-- What the name of a run stands for.
 use Rattle.std.specs.Prelude.{ℕ, zero, suc, List, []}
 use Rattle.job_types.specs.Job.{JobData}
 use Rattle.job_queue.specs.Line.{LineId}
 
+-- what a name stands for before it is picked
 abbrev pub no_line : LineId
 no_line = record { tables = []; sizes = record { machine = 0; lanes = 0; passes = 0; capacity = 0 } }
 

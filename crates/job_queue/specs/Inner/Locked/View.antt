@@ -1,11 +1,12 @@
 -- The state of a locked line, what work on it does, and what seats know.
-use Rattle.std.specs.Prelude.{◌≡◌, ℕ, zero, suc, ◌+◌, ◌<◌, ◌≤◌, true, false, Option, Some, None, Result, Ok, Err, List, [], ◌∷◌, ◌++◌, length, slice_index, slice_set, replicate}
+use Rattle.std.specs.Prelude.{◌≡◌, ℕ, zero, suc, ◌+◌, ◌<◌, ◌≤◌, Bool, true, false, Option, Some, None, Result, Ok, Err, List, [], ◌∷◌, ◌++◌, length, slice_index, slice_set, replicate}
 use Rattle.job_types.specs.Job.{JobData}
 use Rattle.job_queue.specs.declared.job_line.Sizes.{Sizes}
 use Rattle.job_queue.specs.declared.job_line.Receipt.{Receipt}
 use Rattle.job_queue.specs.declared.record.QueuedJob.{QueuedJob}
 use Rattle.job_queue.specs.declared.record.LaneRecord.{LaneRecord}
 use Rattle.job_queue.specs.declared.record.PassRecord.{PassRecord}
+use Rattle.job_queue.specs.declared.record.Reading.{Reading}
 use Rattle.job_queue.specs.declared.locked.store.Store.{Store}
 use Rattle.job_queue.specs.declared.locked.store.SawFull.{SawFull}
 use Rattle.job_queue.specs.declared.locked.store.SawEmpty.{SawEmpty}
@@ -37,6 +38,10 @@ Pops x (Err saw) y = (x.jobs.items ≡ []) × (y.jobs.items ≡ x.jobs.items) ×
 -- the closed mark is set
 abbrev pub Shuts : Store → ℕ → Store → Type 0
 Shuts x number y = (number ≡ x.entries) × (y.jobs.items ≡ x.jobs.items) × (y.accepted.items ≡ x.accepted.items) × (y.entries ≡ x.entries) × (y.closed ≡ true) × (y.capacity ≡ x.capacity)
+
+-- what an empty take reads
+abbrev pub reading : ℕ → ℕ → Bool → Reading
+reading settled counted closed = record { settled = settled; counted = counted; closed = closed }
 
 -- ---- what a seat knows
 

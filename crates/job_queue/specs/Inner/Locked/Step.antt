@@ -10,9 +10,9 @@ use Rattle.job_queue.specs.declared.record.LaneRecord.{LaneRecord}
 use Rattle.job_queue.specs.declared.record.PassRecord.{PassRecord}
 use Rattle.job_queue.specs.declared.locked.store.Store.{Store}
 use Rattle.job_queue.specs.declared.locked.view.View.{View}
-use Rattle.job_queue.specs.Record.{accepted, entry, reading, job_id, fresh_lane, fresh_pass, IsSettled}
+use Rattle.job_queue.specs.Record.{accepted, entry, job_id, fresh_lane, fresh_pass, IsSettled}
 use Rattle.job_queue.specs.Line.{IsMadeFor}
-use Rattle.job_queue.specs.Locked.View.{lane_view, pass_view, closer_view, holding, members, KeepsMark}
+use Rattle.job_queue.specs.Inner.Locked.View.{reading, lane_view, pass_view, closer_view, holding, members, KeepsMark}
 
 abbrev pub Sat : Type 0
 Sat = Me Store View

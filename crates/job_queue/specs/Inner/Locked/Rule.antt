@@ -10,8 +10,8 @@ use Rattle.job_queue.specs.declared.job_line.Sizes.{Sizes}
 use Rattle.job_queue.specs.declared.locked.store.Store.{Store}
 use Rattle.job_queue.specs.declared.locked.view.View.{View}
 use Rattle.job_queue.specs.Record.{accepted}
-use Rattle.job_queue.specs.Locked.View.{is_out, members}
-use Rattle.job_queue.specs.Locked.Deed.{Deed, entered, waiting, is_closed, lane_part, pass_part, closer_part, IsLegal}
+use Rattle.job_queue.specs.Inner.Locked.View.{is_out, members}
+use Rattle.job_queue.specs.Inner.Locked.Deed.{Deed, entered, waiting, is_closed, lane_part, pass_part, closer_part, IsLegal}
 
 -- the state is the one that the history leaves
 pub record Fits (sizes : Sizes) (history : List Deed) (x : Store) : Type 0 where

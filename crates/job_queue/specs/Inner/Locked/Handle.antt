@@ -10,7 +10,7 @@ use Rattle.job_queue.specs.declared.locked.handle.Pass.{Pass}
 use Rattle.job_queue.specs.declared.locked.handle.Closer.{Closer}
 use Rattle.job_queue.specs.declared.locked.handle.CloseNote.{CloseNote}
 use Rattle.job_queue.specs.Line.{LineId}
-use Rattle.job_queue.specs.Locked.Step.{lane_in, pass_in}
+use Rattle.job_queue.specs.Inner.Locked.Step.{lane_in, pass_in}
 
 abbrev pub table_of : StoreLock → TableId
 table_of lock = lock.table.shared.table_id

@@ -7,9 +7,9 @@ use Rattle.job_queue.specs.declared.record.QueuedJob.{QueuedJob}
 use Rattle.job_queue.specs.declared.record.LaneRecord.{LaneRecord}
 use Rattle.job_queue.specs.declared.record.PassRecord.{PassRecord}
 use Rattle.job_queue.specs.declared.locked.view.CloserRecord.{CloserRecord}
-use Rattle.job_queue.specs.Record.{entry, reading, fresh_lane, fresh_pass, accepted, job_id}
+use Rattle.job_queue.specs.Record.{entry, fresh_lane, fresh_pass, accepted, job_id}
 use Rattle.job_queue.specs.Line.{IsMadeFor}
-use Rattle.job_queue.specs.Locked.View.{rest_of}
+use Rattle.job_queue.specs.Inner.Locked.View.{reading, rest_of}
 
 pub data Deed : Type 0 where
   -- a lane made the entry of this number, and its job came in, or the line was full

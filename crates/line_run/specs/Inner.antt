@@ -1,0 +1,2 @@
+-- What no public contract reaches.
+pub mod Naming
