@@ -4,6 +4,7 @@ ghost use Rattle.cube_shape.specs.Node.{IsInCube};
 ghost use Rattle.cube_tree.specs.Handles.{cube_dim, cube_size, size_with, IsStationOf, IsSubcubeOf, held_node};
 
 mod crowd;
+mod together;
 
 use crate::{Cube, CubeRefused, FreeMachine, Refusal, Station, StillOut, Subcube, Why, apart};
 use cube_shape::{MAX_DIM, MAX_STATIONS, Node, Region};
