@@ -56,6 +56,8 @@ pub fn feed<R: Wait, L: JobLine, F: Floor>(
     ensures number { (L.lane_record lane.new).number ≡ (L.lane_record lane.old).number }
     ensures fed { accepted_jobs (L.lane_record lane.new) ++ given_back result.back ++ result.left.items
         ≡ accepted_jobs (L.lane_record lane.old) ++ jobs.items }
+    ensures jobs { All (IsFor shop.now.line.sizes.machine (L.lane_record lane.new).number)
+        (given_back result.back ++ result.left.items) }
     ensures done { result.stop ≡ FeedStop.Done → given_back result.back ++ result.left.items ≡ [] }
     ensures refused { result.stop ≢ FeedStop.Done → IsSome result.back }
     ensures closed { (seen : ℕ) → result.stop ≡ FeedStop.Closed seen →

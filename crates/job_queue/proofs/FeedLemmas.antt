@@ -5,7 +5,9 @@ use Rattle.job_types.specs.Job.{JobData}
 use Rattle.job_queue.specs.declared.record.QueuedJob.{QueuedJob}
 use Rattle.job_queue.specs.declared.record.LaneRecord.{LaneRecord}
 use Rattle.job_queue.specs.Record.{accepted, job_of, accepted_jobs}
-use Rattle.job_queue.specs.Line.{GainsEntry}
+use Rattle.job_queue.specs.declared.job_line.Refused.{Refused}
+use Rattle.job_queue.specs.declared.job_line.Refused.TheVariants.{Closed, Full, LaneSpent}
+use Rattle.job_queue.specs.Line.{GainsEntry, GainsRefusal}
 use Rattle.job_queue.proofs.DeedLemmas.{accepted-push, accepted-full}
 
 -- an accepted job goes from the front of the list to the end of the lane's jobs
@@ -18,3 +20,9 @@ fed_one old new number q rest gains =
 -- a full entry brings no job
 pub fed_none : (old new : LaneRecord) (number : ℕ) → GainsEntry old number None new → accepted_jobs new ≡ accepted_jobs old
 fed_none old new number gains = ap accepted_jobs gains ∙ ap (map job_of) (accepted-full old.entries number)
+
+-- no refusal changes the lane's number
+pub refused_number : (old : LaneRecord) (why : Refused) (new : LaneRecord) → GainsRefusal old why new → new.number ≡ old.number
+refused_number old (Closed seen) new gains = ap (λ (r : LaneRecord). r.number) gains
+refused_number old Full new gains = ap (λ (r : LaneRecord). r.number) gains.1
+refused_number old LaneSpent new gains = ap (λ (r : LaneRecord). r.number) gains

@@ -1,10 +1,11 @@
-use Rattle.std.proofs.Common.{◌≡◌, ◌++◌, ◌∷◌, List, sym, ap, ◌∙◌}
+use Rattle.std.proofs.Common.{◌≡◌, ◌++◌, ◌∷◌, List, ℕ, sym, ap, subst, ◌∙◌}
+use Rattle.std.specs.List.{All}
 use Rattle.std.proofs.lemmas.List.Elements.{All-rest, All-same}
 use Rattle.job_types.specs.Job.{JobData}
 use Rattle.job_queue.specs.declared.record.LaneRecord.{LaneRecord}
 use Rattle.job_queue.specs.Record.{accepted_jobs}
 use Rattle.job_queue.specs.Line.{IsFor}
-use Rattle.job_queue.proofs.FeedLemmas.{fed_one, fed_none}
+use Rattle.job_queue.proofs.FeedLemmas.{fed_one, fed_none, refused_number}
 use Rattle.dispatcher.proofs.WorkLemmas.{at_line}
 use Rattle.dispatcher.proofs.feeding.feed.Goals as goal
 
@@ -34,3 +35,13 @@ loop-preserved g c =
       All-same (IsFor c.args.shop.now.line.sizes.machine (line.lane_record c.args.lane.now).number) _ _ items inv.2,
       ap (λ (js : List JobData). js ++ c.push_front_reserved.new.self.items) (fed_none (line.lane_record c.loop.lane) (line.lane_record c.submit.new.lane) gains.0 gains.1) ∙ (ap (λ (js : List JobData). accepted_jobs (line.lane_record c.loop.lane) ++ js) items ∙ inv.3),
     )
+
+pub returns-in-loop-clause-jobs : goal.returns-in-loop-clause-jobs
+returns-in-loop-clause-jobs g c =
+    let line = g.L.JobLine in
+    let machine = c.args.shop.now.line.sizes.machine in
+    let rest = c.pop_front.new.self.items in
+    let items : c.in-Err.job ∷ rest ≡ c.loop.left.items = ap (λ (j : JobData). j ∷ rest) c.in-Err.ensures.gives_back ∙ sym c.in-Some-pop_front.ensures.items in
+    let number = refused_number (line.lane_record c.loop.lane) _ (line.lane_record c.submit.new.lane) c.in-Err.ensures.refused ∙ c.loop.invariant.1 in
+    subst (λ (n : ℕ). All (IsFor machine n) (c.in-Err.job ∷ rest)) (sym number)
+    (All-same (IsFor machine (line.lane_record c.args.lane.now).number) _ _ items c.loop.invariant.2)

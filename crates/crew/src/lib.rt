@@ -1,0 +1,7 @@
+//! A shop that is run on threads: a feeder of each lane and every worker at once, and nothing is lost,
+//! also where a thread cannot be started or memory runs out.
+#![tactic(auto)]
+
+mod member;
+
+pub use member::{Door, Fed, Feeder, Naming, Post};

@@ -1,0 +1,272 @@
+// What a thread has: a lane with its jobs, a worker, or the right to close. The type says what is known
+// of it, so it may lie under a lock, and no thread that was not started takes it along.
+ghost use Rattle.std.specs.Prelude.{◌≡◌, ℕ, ◌++◌, [], List, None, Some, map, MatchOption};
+ghost use Rattle.std.specs.List.{All};
+ghost use Rattle.job_queue.specs.Record.{accepted_jobs};
+ghost use Rattle.job_queue.specs.Line.{IsFor};
+ghost use Rattle.dispatcher.specs.Reply.{answered, region_of, IsRight};
+ghost use Rattle.dispatcher.specs.Shop.{room_for};
+ghost use Rattle.dispatcher.specs.Stop.{given_back};
+
+use dispatcher::{
+    CloseNote, Closer, FeedEnd, FeedStop, Runner, Shop, Stop, Worker, WorkerEnd, dispatch, feed,
+};
+use floors::Floor;
+use job_queue::JobLine;
+use job_types::Job;
+use std::alloc::Global;
+use std::collections::VecDeque;
+use std::marker::{Brand, Model, PhantomData};
+use std::mem::replace;
+use std::sync::Wait;
+
+/// Names one run: its shop, and the jobs of each lane.
+pub trait Naming {
+    ghost use Rattle.std.specs.Prelude.{ℕ, List};
+    ghost use Rattle.job_types.specs.Job.{JobData};
+    ghost use Rattle.dispatcher.specs.Shop.{ShopId};
+
+    ghost shop: { ShopId };
+
+    ghost jobs: { ℕ → List JobData };
+}
+
+impl Naming for Brand {
+    ghost use Rattle.std.specs.Prelude.{[]};
+    ghost use Rattle.crew.specs.Member.{no_shop};
+
+    ghost shop = { no_shop };
+
+    ghost jobs = { λ _. [] };
+}
+
+/// A lane, and the jobs that it has still to hand in.
+pub struct Feeder<J: Naming, L: JobLine> {
+    lane: L::Lane,
+    back: Option<Job>,
+    left: VecDeque<Job>,
+    stop: Option<FeedStop>,
+    of: PhantomData<J>,
+}
+
+impl<J: Naming, L: JobLine> Model for Feeder<J, L> {
+    ghost use Rattle.std.specs.Prelude.{◌≡◌, ◌++◌};
+    ghost use Rattle.std.specs.List.{All};
+    ghost use Rattle.job_queue.specs.Record.{accepted_jobs};
+    ghost use Rattle.job_queue.specs.Line.{IsFor};
+    ghost use Rattle.dispatcher.specs.Stop.{given_back};
+
+    ghost Value = { Unit {0} };
+
+    ghost view = { λ f. tt };
+
+    ghost invariant = { λ f. L.is_lane J.shop.line f.lane
+        × All (IsFor J.shop.line.sizes.machine (L.lane_record f.lane).number) f.left.items
+        × (accepted_jobs (L.lane_record f.lane) ++ given_back f.back ++ f.left.items
+            ≡ J.jobs (L.lane_record f.lane).number) };
+}
+
+/// What became of a feeder.
+pub struct Fed<L: JobLine> {
+    /// Its lane.
+    pub lane: L::Lane,
+    /// The job that the line refused for good, if it did.
+    pub back: Option<Job>,
+    /// The jobs after it that were not handed in.
+    pub left: VecDeque<Job>,
+    /// Why the feed has stopped, or `None` where it was never run.
+    pub stop: Option<FeedStop>,
+}
+
+impl<J: Naming, L: JobLine> Feeder<J, L> {
+    pub fn new(lane: L::Lane, jobs: VecDeque<Job>) -> Feeder<J, L>
+        requires lane { L.is_lane J.shop.line lane }
+        requires made_for { All (IsFor J.shop.line.sizes.machine (L.lane_record lane).number)
+            jobs.items }
+        requires jobs { accepted_jobs (L.lane_record lane) ++ jobs.items
+            ≡ J.jobs (L.lane_record lane).number }
+    {
+        Feeder {
+            lane,
+            back: None,
+            left: jobs,
+            stop: None,
+            of: PhantomData,
+        }
+    }
+
+    // Hands in the jobs that are left, unless one was refused for good before.
+    pub fn feed<R: Wait, F: Floor>(&mut self, rt: &R, alloc: Global, shop: &Shop<L, F>)
+        requires { shop.now ≡ J.shop }
+    {
+        if self.back.is_some() {
+            return;
+        }
+        let jobs = replace(&mut self.left, VecDeque::new(alloc));
+        let FeedEnd { back, left, stop } = feed(rt, shop, &mut self.lane, jobs);
+        self.back = back;
+        self.left = left;
+        self.stop = Some(stop);
+    }
+
+    pub fn into_parts(self) -> Fed<L>
+        ensures lane { L.is_lane J.shop.line result.lane }
+        ensures jobs { accepted_jobs (L.lane_record result.lane) ++ given_back result.back
+            ++ result.left.items ≡ J.jobs (L.lane_record result.lane).number }
+    {
+        let Feeder {
+            lane,
+            back,
+            left,
+            stop,
+            of: _,
+        } = self;
+        Fed {
+            lane,
+            back,
+            left,
+            stop,
+        }
+    }
+}
+
+/// A worker, or what it was when it stopped.
+pub struct Post<J: Naming, L: JobLine, F: Floor> {
+    worker: Option<Worker<L, F>>,
+    end: Option<WorkerEnd<L, F>>,
+    of: PhantomData<J>,
+}
+
+impl<J: Naming, L: JobLine, F: Floor> Model for Post<J, L, F> {
+    ghost use Rattle.std.specs.Prelude.{◌≡◌, [], None, map, MatchOption};
+    ghost use Rattle.std.specs.List.{All};
+    ghost use Rattle.dispatcher.specs.Reply.{answered, region_of, IsRight};
+
+    ghost Value = { Unit {0} };
+
+    ghost view = { λ p. tt };
+
+    ghost invariant = { λ p. MatchOption p.worker
+        (MatchOption p.end ⊥ (λ e. L.is_pass J.shop.line e.pass × F.is_station J.shop.floor e.station
+            × ((L.pass_record e.pass).taken ≡ map answered e.replies.items)
+            × (F.grants e.station ≡ map region_of e.replies.items)
+            × All (IsRight J.shop.floor.dim) e.replies.items))
+        (λ w. L.is_pass J.shop.line w.pass × F.is_station J.shop.floor w.station
+            × ((L.pass_record w.pass).taken ≡ []) × (F.grants w.station ≡ []) × (p.end ≡ None)) };
+}
+
+impl<J: Naming, L: JobLine, F: Floor> Post<J, L, F> {
+    pub fn new(worker: Worker<L, F>) -> Post<J, L, F>
+        requires pass { L.is_pass J.shop.line worker.pass }
+        requires station { F.is_station J.shop.floor worker.station }
+        requires fresh { (L.pass_record worker.pass).taken ≡ [] }
+        requires no_grants { F.grants worker.station ≡ [] }
+    {
+        Post {
+            worker: Some(worker),
+            end: None,
+            of: PhantomData,
+        }
+    }
+
+    // Takes and answers jobs, where that was not done before. It tells whether memory has run out.
+    pub fn dispatch<R: Wait, T: Runner>(
+        &mut self,
+        rt: &R,
+        alloc: Global,
+        shop: &Shop<L, F>,
+        runner: &T,
+    ) -> bool
+        requires { shop.now ≡ J.shop }
+    {
+        let Some(worker) = self.worker.take() else {
+            return false;
+        };
+        let end = dispatch(rt, alloc, shop, worker, runner);
+        let spent = end.stop == Stop::OutOfMemory;
+        match self.end.replace(end) {
+            None => {}
+            Some(_end) => unreachable!(),
+        }
+        spent
+    }
+
+    pub fn into_end(self, alloc: Global) -> WorkerEnd<L, F>
+        ensures pass { L.is_pass J.shop.line result.pass }
+        ensures station { F.is_station J.shop.floor result.station }
+        ensures replies { (L.pass_record result.pass).taken ≡ map answered result.replies.items }
+        ensures grants { F.grants result.station ≡ map region_of result.replies.items }
+        ensures right { All (IsRight J.shop.floor.dim) result.replies.items }
+    {
+        let Post { worker, end, of: _ } = self;
+        match (worker, end) {
+            (Some(worker), None) => worker.stand_down(alloc),
+            (None, Some(end)) => end,
+            (Some(_worker), Some(_end)) => unreachable!(),
+            (None, None) => unreachable!(),
+        }
+    }
+}
+
+/// The right to close, or the note of the close.
+pub struct Door<J: Naming, L: JobLine, F: Floor> {
+    closer: Option<Closer<L, F>>,
+    note: Option<CloseNote<L, F>>,
+    of: PhantomData<J>,
+}
+
+impl<J: Naming, L: JobLine, F: Floor> Model for Door<J, L, F> {
+    ghost use Rattle.std.specs.Prelude.{◌≡◌, None, MatchOption};
+    ghost use Rattle.dispatcher.specs.Shop.{room_for};
+
+    ghost Value = { Unit {0} };
+
+    ghost view = { λ d. tt };
+
+    ghost invariant = { λ d. MatchOption d.closer
+        (MatchOption d.note ⊥ (λ n. L.is_note J.shop.line n.line × (n.room ≡ room_for J.shop)))
+        (λ c. L.is_closer J.shop.line c.line × (c.room ≡ room_for J.shop) × (d.note ≡ None)) };
+}
+
+impl<J: Naming, L: JobLine, F: Floor> Door<J, L, F> {
+    pub fn new(closer: Closer<L, F>) -> Door<J, L, F>
+        requires closer { L.is_closer J.shop.line closer.line }
+        requires room { closer.room ≡ room_for J.shop }
+    {
+        Door {
+            closer: Some(closer),
+            note: None,
+            of: PhantomData,
+        }
+    }
+
+    // Closes the shop, where that was not done before.
+    pub fn close<R: Wait>(&mut self, rt: &R, shop: &Shop<L, F>)
+        requires { shop.now ≡ J.shop }
+    {
+        if let Some(closer) = self.closer.take() {
+            match self.note.replace(shop.close(rt, closer)) {
+                None => {}
+                Some(_note) => unreachable!(),
+            }
+        }
+    }
+
+    pub fn into_note<R: Wait>(self, rt: &R, shop: &Shop<L, F>) -> CloseNote<L, F>
+        requires { shop.now ≡ J.shop }
+        ensures note { L.is_note J.shop.line result.line }
+        ensures room { result.room ≡ room_for J.shop }
+    {
+        let Door {
+            closer,
+            note,
+            of: _,
+        } = self;
+        match (closer, note) {
+            (Some(closer), None) => shop.close(rt, closer),
+            (None, Some(note)) => note,
+            (Some(_closer), Some(_note)) => unreachable!(),
+            (None, None) => unreachable!(),
+        }
+    }
+}
