@@ -1,1 +1,1 @@
-pub mod Member
+pub mod InnerNaming

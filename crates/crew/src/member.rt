@@ -33,7 +33,7 @@ pub trait Naming {
 
 impl Naming for Brand {
     ghost use Rattle.std.specs.Prelude.{[]};
-    ghost use Rattle.crew.specs.Member.{no_shop};
+    ghost use Rattle.crew.specs.InnerNaming.{no_shop};
 
     ghost shop = { no_shop };
 
@@ -63,7 +63,7 @@ impl<J: Naming, L: JobLine> Model for Feeder<J, L> {
     ghost invariant = { λ f. L.is_lane J.shop.line f.lane
         × All (IsFor J.shop.line.sizes.machine (L.lane_record f.lane).number) f.left.items
         × (accepted_jobs (L.lane_record f.lane) ++ given_back f.back ++ f.left.items
-            ≡ J.jobs (L.lane_record f.lane).number) };
+        ≡ J.jobs (L.lane_record f.lane).number) };
 }
 
 /// What became of a feeder.
@@ -148,11 +148,11 @@ impl<J: Naming, L: JobLine, F: Floor> Model for Post<J, L, F> {
 
     ghost invariant = { λ p. MatchOption p.worker
         (MatchOption p.end ⊥ (λ e. L.is_pass J.shop.line e.pass × F.is_station J.shop.floor e.station
-            × ((L.pass_record e.pass).taken ≡ map answered e.replies.items)
-            × (F.grants e.station ≡ map region_of e.replies.items)
-            × All (IsRight J.shop.floor.dim) e.replies.items))
+        × ((L.pass_record e.pass).taken ≡ map answered e.replies.items)
+        × (F.grants e.station ≡ map region_of e.replies.items)
+        × All (IsRight J.shop.floor.dim) e.replies.items))
         (λ w. L.is_pass J.shop.line w.pass × F.is_station J.shop.floor w.station
-            × ((L.pass_record w.pass).taken ≡ []) × (F.grants w.station ≡ []) × (p.end ≡ None)) };
+        × ((L.pass_record w.pass).taken ≡ []) × (F.grants w.station ≡ []) × (p.end ≡ None)) };
 }
 
 impl<J: Naming, L: JobLine, F: Floor> Post<J, L, F> {

@@ -92,10 +92,10 @@ module _ (lane seq : ℕ) where
   replied n lanes by_worker rest note run =
       let one : (rs : List ReplyData) → weight_of (is_job lane seq) rs ≡ total (is_to lane seq) rs = λ rs. total-map (is_job lane seq) answered rs in
       omega (arith, run.balance (is_job lane seq), one rest, sum_of by_worker)
-      where
-        sum_of : (rss : List (List ReplyData)) → total (weight_of (is_job lane seq)) rss ≡ total (total (is_to lane seq)) rss
-        sum_of [] = refl
-        sum_of (rs ∷ rss) = omega (arith, total-map (is_job lane seq) answered rs, sum_of rss)
+    where
+      sum_of : (rss : List (List ReplyData)) → total (weight_of (is_job lane seq)) rss ≡ total (total (is_to lane seq)) rss
+      sum_of [] = refl
+      sum_of (rs ∷ rss) = omega (arith, total-map (is_job lane seq) answered rs, sum_of rss)
 
   pub answered_once : (n count : ℕ) (lanes : List LaneRecord) (by_worker : List (List ReplyData)) (rest : List ReplyData) (note : ℕ) (counts : List ℕ) → FinishedRun n lanes by_worker rest note → length counts ≡ count
       → ((k : ℕ) → k < count → times k (map (λ l. l.number) lanes) ≡ 1) → AllByRecursion (λ l. get_or counts l.number 0 ≡ length (accepted l.entries)) lanes → seq < get_or counts lane 0 → replies_to lane seq by_worker rest ≡ 1

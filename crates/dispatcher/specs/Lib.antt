@@ -3,3 +3,4 @@ pub mod Shop
 pub mod Stop
 pub mod Opening
 pub mod Finished
+pub mod InnerShop

@@ -1,5 +1,5 @@
 -- Which shop it is, and how much room its end has.
-use Rattle.std.specs.Prelude.{◌≡◌, ℕ, ◌<◌}
+use Rattle.std.specs.Prelude.{◌≡◌, ℕ}
 use Rattle.job_queue.specs.Line.{LineId}
 use Rattle.floors.specs.Floor.{FloorId}
 
@@ -7,12 +7,6 @@ use Rattle.floors.specs.Floor.{FloorId}
 pub record ShopId : Type 0 where
   pub line : LineId
   pub floor : FloorId
-
--- the line's jobs are for the floor's machine, and there is a station for each pass
-pub record IsOneMachine (line : LineId) (floor : FloorId) : Type 0 where
-  pub machine : line.sizes.machine ≡ floor.dim
-  pub stations : line.sizes.passes ≡ floor.stations
-  pub some : 0 < floor.stations
 
 -- the shop has these sizes
 pub record HasSizes (n lanes dispatchers capacity : ℕ) (shop : ShopId) : Type 0 where

@@ -93,10 +93,10 @@ impl<L: JobLine, F: Floor> Shop<L, F> {
             (L.note_number note.line) }
         ensures answered_once { (lane seq : ℕ) → seq < slice_index result.accepted.items lane →
             replies_to lane seq (map (λ replies. replies.items) result.by_worker.items)
-                result.rest.items ≡ 1 }
+            result.rest.items ≡ 1 }
         ensures no_other { (lane seq : ℕ) → slice_index result.accepted.items lane ≤ seq →
             replies_to lane seq (map (λ replies. replies.items) result.by_worker.items)
-                result.rest.items ≡ 0 }
+            result.rest.items ≡ 0 }
         ensures by_worker { map (λ replies. replies.items) result.by_worker.items
             ≡ map (λ e. e.replies.items) ends.items }
         ensures lane_numbers { (k : ℕ) → k < self.line.sizes.lanes →

@@ -18,7 +18,8 @@ pub struct Shop<L: JobLine, F: Floor> {
 }
 
 impl<L: JobLine, F: Floor> Model for Shop<L, F> {
-    ghost use Rattle.dispatcher.specs.Shop.{ShopId, IsOneMachine};
+    ghost use Rattle.dispatcher.specs.Shop.{ShopId};
+    ghost use Rattle.dispatcher.specs.InnerShop.{IsOneMachine};
 
     ghost Value = { ShopId };
 

@@ -20,10 +20,10 @@ loop-queued-preserved g c =
       c.serve-back.ensures.station,
       All-rest (IsMadeFor dim) c.in-Some-pop_front.queued left _ items inv.1,
       ap (λ (rs : List ReplyData). map answered rs ++ left) pushed
-      ∙ (ap (λ (qs : List QueuedJob). qs ++ left) (map-append answered old (reply ∷ []))
-      ∙ (append_assoc (map answered old) (answered reply ∷ []) left
-      ∙ (ap (λ (q : QueuedJob). map answered old ++ q ∷ left) c.serve-back.ensures.answers
-      ∙ (ap (λ (qs : List QueuedJob). map answered old ++ qs) (sym items) ∙ inv.2)))),
+          ∙ (ap (λ (qs : List QueuedJob). qs ++ left) (map-append answered old (reply ∷ []))
+          ∙ (append_assoc (map answered old) (answered reply ∷ []) left
+          ∙ (ap (λ (q : QueuedJob). map answered old ++ q ∷ left) c.serve-back.ensures.answers
+          ∙ (ap (λ (qs : List QueuedJob). map answered old ++ qs) (sym items) ∙ inv.2)))),
       All-same (IsRight dim) _ _ pushed (All-push (IsRight dim) old reply inv.3 c.serve-back.ensures.right),
       omega (arith, inv.4, c.push_reserved.ensures.len, c.push_reserved.ensures.capacity, ap length items),
     )
