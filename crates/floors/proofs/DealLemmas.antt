@@ -13,9 +13,9 @@ use Rattle.histories.proofs.ViewLemmas.{True, splits, joins}
 use Rattle.alloc_bits.specs.Allocation.{Allocation, held_in}
 use Rattle.floors.specs.declared.locked.view.Size.{Size}
 use Rattle.floors.specs.declared.locked.view.View.{View}
-use Rattle.floors.specs.Locked.View.{members, out_of, is_out, first_of, rest_of, stations_from, first_view, without_station, station_alone, joined, spent_view}
-use Rattle.floors.specs.Locked.Deed.{station_part}
-use Rattle.floors.specs.Locked.Rule.{Fits, Keeps}
+use Rattle.floors.specs.Inner.Locked.View.{members, out_of, is_out, first_of, rest_of, stations_from, first_view, without_station, station_alone, joined, spent_view}
+use Rattle.floors.specs.Inner.Locked.Deed.{station_part}
+use Rattle.floors.specs.Inner.Locked.Rule.{Fits, Keeps}
 use Rattle.floors.proofs.KeepLemmas.{stations_in, station_number}
 
 -- ---- the first view

@@ -4,7 +4,7 @@ use Rattle.cube_shape.specs.Machine.{IsLawful}
 use Rattle.cube_shape.proofs.MachineLemmas.{IsLawful-none, IsLawful-gives, IsLawful-takes_back}
 use Rattle.floors.specs.declared.locked.view.Size.{Size}
 use Rattle.floors.specs.declared.locked.view.StationRecord.{StationRecord}
-use Rattle.floors.specs.Locked.Deed.{Deed, gets, frees, is_by, station_after, station_part, held_after, IsLegal}
+use Rattle.floors.specs.Inner.Locked.Deed.{Deed, gets, frees, is_by, station_after, station_part, held_after, IsLegal}
 
 pub part_own : (d : Deed) (h : List Deed) (s : ℕ) → is_by d s ≡ true → station_part (d ∷ h) s ≡ station_after d (station_part h s)
 part_own d h s own = ap (λ b. cond b (station_after d (station_part h s)) (station_part h s)) own

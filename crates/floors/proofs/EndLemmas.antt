@@ -14,11 +14,11 @@ use Rattle.alloc_bits.specs.Allocation.{Allocation, held_in}
 use Rattle.floors.specs.declared.locked.view.Size.{Size}
 use Rattle.floors.specs.declared.locked.view.StationRecord.{StationRecord}
 use Rattle.floors.specs.declared.locked.view.View.{View}
-use Rattle.floors.specs.Locked.View.{out_of, is_out}
-use Rattle.floors.specs.Locked.Deed.{station_part, held_after}
-use Rattle.floors.specs.Locked.Rule.{Fits, Keeps}
-use Rattle.floors.specs.Locked.Step.{Sat}
-use Rattle.floors.specs.Locked.End.{IsWhole}
+use Rattle.floors.specs.Inner.Locked.View.{out_of, is_out}
+use Rattle.floors.specs.Inner.Locked.Deed.{station_part, held_after}
+use Rattle.floors.specs.Inner.Locked.Rule.{Fits, Keeps}
+use Rattle.floors.specs.Inner.Locked.Step.{Sat}
+use Rattle.floors.specs.Inner.Locked.End.{IsWhole}
 use Rattle.floors.proofs.DeedLemmas.{held_beyond}
 use Rattle.floors.proofs.KeepLemmas.{St, stations_in, station_number}
 

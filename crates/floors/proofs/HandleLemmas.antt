@@ -7,8 +7,8 @@ use Rattle.cube_shape.specs.Machine.{Gives, TakesBack}
 use Rattle.alloc_bits.specs.Allocation.{Allocation, held_in}
 use Rattle.floors.specs.declared.locked.view.Size.{Size}
 use Rattle.floors.specs.declared.locked.view.StationRecord.{StationRecord}
-use Rattle.floors.specs.Locked.View.{view, station_view, holding, joined}
-use Rattle.floors.specs.Locked.Step.{Sat, Knows, Took, station_in, IsOut, IsPair, IsStationSeat}
+use Rattle.floors.specs.Inner.Locked.View.{view, station_view, holding, joined}
+use Rattle.floors.specs.Inner.Locked.Step.{Sat, Knows, Took, station_in, IsOut, IsPair, IsStationSeat}
 
 pub station_seat : (m : Sat) (about : Size) (r : StationRecord) (number : ℕ) (holds : Option Region) → m ≡ (station_view about r, []) → r.number ≡ number → r.holds ≡ holds → number < MAX_STATIONS → IsStationSeat m number holds
 station_seat m about r number holds is numbered held within = subst (λ (z : Sat). IsStationSeat z number holds) (sym is) record { alone = refl; numbered = numbered; held = held; within = within }

@@ -13,9 +13,9 @@ use Rattle.alloc_bits.specs.Allocation.{Allocation}
 use Rattle.floors.specs.declared.locked.view.Size.{Size}
 use Rattle.floors.specs.declared.locked.view.StationRecord.{StationRecord}
 use Rattle.floors.specs.declared.locked.view.View.{View}
-use Rattle.floors.specs.Locked.View.{holding, members, out_of, is_out}
-use Rattle.floors.specs.Locked.Deed.{Deed, station_part, IsLegal}
-use Rattle.floors.specs.Locked.Rule.{Fits, Keeps}
+use Rattle.floors.specs.Inner.Locked.View.{holding, members, out_of, is_out}
+use Rattle.floors.specs.Inner.Locked.Deed.{Deed, station_part, IsLegal}
+use Rattle.floors.specs.Inner.Locked.Rule.{Fits, Keeps}
 
 abbrev pub St : Type 0
 St = State Allocation View

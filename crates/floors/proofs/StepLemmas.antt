@@ -17,10 +17,10 @@ use Rattle.alloc_bits.specs.Allocation.{Allocation, held_in}
 use Rattle.floors.specs.declared.locked.view.Size.{Size}
 use Rattle.floors.specs.declared.locked.view.StationRecord.{StationRecord}
 use Rattle.floors.specs.declared.locked.view.View.{View}
-use Rattle.floors.specs.Locked.View.{view, station_view, holding, members}
-use Rattle.floors.specs.Locked.Deed.{Deed, gets, frees, is_by, station_after, station_part, held_after, May}
-use Rattle.floors.specs.Locked.Rule.{Fits, Keeps}
-use Rattle.floors.specs.Locked.Step.{Sat, IsIdle, Knows, took, granted, after_grant, after_free, after_nothing, IsOut, IsPair, AreHeldApart, AreFirstTwoApart}
+use Rattle.floors.specs.Inner.Locked.View.{view, station_view, holding, members}
+use Rattle.floors.specs.Inner.Locked.Deed.{Deed, gets, frees, is_by, station_after, station_part, held_after, May}
+use Rattle.floors.specs.Inner.Locked.Rule.{Fits, Keeps}
+use Rattle.floors.specs.Inner.Locked.Step.{Sat, IsIdle, Knows, took, granted, after_grant, after_free, after_nothing, IsOut, IsPair, AreHeldApart, AreFirstTwoApart}
 use Rattle.floors.proofs.DeedLemmas.{part_own, part_other, lawful}
 use Rattle.floors.proofs.KeepLemmas.{St, stations_in, station_number, takes_slot, changes_nothing, gives_slot}
 

@@ -1,3 +1,3 @@
 pub mod Floor
-pub mod Locked
+pub mod Inner
 pub use Rattle.cube_shape.specs.Region.{AreApart, IsAligned}

@@ -11,8 +11,9 @@ use std::sync::Wait;
 /// A machine whose stations take subcubes of it and give them back, from many threads at once.
 ///
 /// A station holds one subcube at most: a take turns it into what is held, and a release turns that
-/// back. Both carry the station's grants, the regions that it was given, in order, which only its own
-/// takes add to. Stations and what they hold are given only to calls of the floor that made them.
+/// back. Both carry the station's grants, the regions that it was given, in order, which only its
+/// own takes add to. Stations and what they hold are given only to calls of the floor that made
+/// them.
 pub trait Floor {
     ghost use Rattle.std.specs.Prelude.{List};
     ghost use Rattle.cube_shape.specs.declared.region.Region.{Region as HeldRegion};
@@ -41,8 +42,8 @@ pub trait Floor {
 
     ghost machine_words: { Self.Machine → List ℕ };
 
-    /// Opens a machine of dimension `n`, wholly free, with this many stations. It reserves the words of
-    /// the machine too, so that no other call takes memory.
+    /// Opens a machine of dimension `n`, wholly free, with this many stations. It reserves the words
+    /// of the machine too, so that no other call takes memory.
     fn open(alloc: Global, n: u32, stations: u32) -> Result<(Self, Vec<Self::Station>), AllocError>
         requires dim { n ≤ MAX_DIM }
         requires some { 0 < stations }
@@ -53,7 +54,7 @@ pub trait Floor {
         ensures of_floor { IfOk result (λ made. All (is_station (id made.0)) made.1.items) }
         ensures fresh { IfOk result (λ made. All (λ s. grants s ≡ []) made.1.items) };
 
-    /// Takes a subcube of dimension `k`. It tries until one is given.
+    /// Takes a subcube of dimension `k`. It tries until one is given, with a pause between tries.
     fn take<R: Wait>(&self, rt: &R, station: Self::Station, k: u32) -> Self::Held
         requires of_floor { is_station (id self.now) station }
         requires dim { k ≤ (id self.now).dim }

@@ -1,7 +1,7 @@
 // What the calls of a locked floor do to the allocation bits.
 ghost use Rattle.std.specs.Prelude.{◌≡◌, ◌<◌, ◌≤◌, None};
 ghost use Rattle.alloc_bits.specs.Allocation.{held_in};
-ghost use Rattle.floors.specs.Locked.View.{Allots, Withdraws, HoldsSome};
+ghost use Rattle.floors.specs.Inner.Locked.View.{Allots, Withdraws, HoldsSome};
 
 use alloc_bits::AllocBits;
 use cube_shape::{MAX_STATIONS, Region};

@@ -1,13 +1,14 @@
-// The lock of a floor. Its allocation bits lie in the one slot of a table, and a call takes them by one
-// exchange and gives them back by one store, in which the record of its station gains what the call did.
+// The lock of a floor. Its allocation bits lie in the one slot of a table, and a call takes them by
+// one exchange and gives them back by one store, in which the record of its station gains what the
+// call did.
 ghost use Rattle.std.specs.Prelude.{◌≡◌, ℕ, ◌<◌, ◌≤◌, [], ◌∷◌, true, false, None, IfOk};
 ghost use Rattle.cube_shape.specs.declared.region.Region.{Region as HeldRegion};
 ghost use Rattle.cube_shape.specs.Machine.{Gives, TakesBack};
 ghost use Rattle.alloc_bits.specs.Allocation.{Allocation, held_in};
 ghost use Rattle.floors.specs.declared.locked.view.StationRecord.{StationRecord};
-ghost use Rattle.floors.specs.Locked.View.{Allots, Withdraws, HoldsSome, first_view, without_station, station_alone, joined};
-ghost use Rattle.floors.specs.Locked.Step.{IsIdle, IsPair, AreHeldApart, Took, IsOut, after_grant, after_free, after_nothing};
-ghost use Rattle.floors.specs.Locked.End.{IsWhole};
+ghost use Rattle.floors.specs.Inner.Locked.View.{Allots, Withdraws, HoldsSome, first_view, without_station, station_alone, joined};
+ghost use Rattle.floors.specs.Inner.Locked.Step.{IsIdle, IsPair, AreHeldApart, Took, IsOut, after_grant, after_free, after_nothing};
+ghost use Rattle.floors.specs.Inner.Locked.End.{IsWhole};
 
 use super::bits::{allot, withdraw};
 use super::plays::{Compare, Deal, Enter, FloorRule, Free, Gather, Grant, Leave};
@@ -29,7 +30,7 @@ pub struct BitsLock {
 }
 
 impl BitsLock {
-    ghost use Rattle.floors.specs.Locked.Handle.{table_of, size_of};
+    ghost use Rattle.floors.specs.Inner.Locked.Handle.{table_of, size_of};
 
     // A lock with a wholly free machine, and the seat that has the records of all stations.
     pub fn new(alloc: Global, size: Size) -> Result<(BitsLock, Seat), AllocError>

@@ -1,8 +1,8 @@
-// What the callers of a locked floor hold. A station and what it holds have no `Drop`: they are spent
-// in the floor's end.
+// What the callers of a locked floor hold. A station and what it holds have no `Drop`: they are
+// spent in the floor's end.
 ghost use Rattle.std.specs.Prelude.{◌≡◌, ℕ, None, Some};
 ghost use Rattle.alloc_bits.specs.Allocation.{held_in};
-ghost use Rattle.floors.specs.Locked.Step.{IsStationSeat};
+ghost use Rattle.floors.specs.Inner.Locked.Step.{IsStationSeat};
 
 use super::bits_lock::Seat;
 use alloc_bits::AllocBits;
@@ -33,7 +33,7 @@ pub struct FreeMachine {
 }
 
 impl FreeMachine {
-    ghost use Rattle.floors.specs.Locked.Handle.{machine_dim};
+    ghost use Rattle.floors.specs.Inner.Locked.Handle.{machine_dim};
 
     /// The allocation bits at the end: no station holds a region.
     pub fn bits(&self) -> &AllocBits

@@ -3,8 +3,8 @@ ghost use Rattle.std.specs.Prelude.{◌≡◌, ℕ, ◌+◌, ◌^◌, ◌<◌, �
 ghost use Rattle.std.specs.List.{All};
 ghost use Rattle.cube_shape.specs.Region.{AreApart, IsAligned};
 ghost use Rattle.floors.specs.Floor.{IsWhollyFree};
-ghost use Rattle.floors.specs.Locked.Step.{IsStationSeat};
-ghost use Rattle.floors.specs.Locked.Handle.{floor_id, size_of, IsOf, grants_in};
+ghost use Rattle.floors.specs.Inner.Locked.Step.{IsStationSeat};
+ghost use Rattle.floors.specs.Inner.Locked.Handle.{floor_id, size_of, IsOf, grants_in};
 
 use super::bits_lock::{BitsLock, Seat};
 use super::handle::{FreeMachine, Held, Station};
@@ -59,7 +59,7 @@ impl Floor for LockedFloor {
 
     type Machine = FreeMachine;
 
-    ghost use Rattle.floors.specs.Locked.Handle.{floor_id, is_station as IsStation, is_held as IsHeld, grants_of, held_grants as grants_of_held, held_region as region_of_held, machine_dim as dim_of_machine, machine_words as words_of_machine};
+    ghost use Rattle.floors.specs.Inner.Locked.Handle.{floor_id, is_station as IsStation, is_held as IsHeld, grants_of, held_grants as grants_of_held, held_region as region_of_held, machine_dim as dim_of_machine, machine_words as words_of_machine};
 
     ghost id = { λ floor. floor_id floor.lock };
 

@@ -2,9 +2,9 @@
 ghost use Rattle.std.specs.Prelude.{◌≡◌, ℕ, ◌<◌, ◌≤◌, [], length};
 ghost use Rattle.std.specs.List.{All};
 ghost use Rattle.std.specs.Vec.{vec_capacity};
-ghost use Rattle.floors.specs.Locked.View.{first_view};
-ghost use Rattle.floors.specs.Locked.End.{IsWhole};
-ghost use Rattle.floors.specs.Locked.Handle.{table_of, size_of, floor_id, is_station, grants_of};
+ghost use Rattle.floors.specs.Inner.Locked.View.{first_view};
+ghost use Rattle.floors.specs.Inner.Locked.End.{IsWhole};
+ghost use Rattle.floors.specs.Inner.Locked.Handle.{table_of, size_of, floor_id, is_station, grants_of};
 
 use super::bits_lock::{BitsLock, Seat};
 use super::handle::Station;

@@ -1,8 +1,8 @@
 // The rule of a locked floor's table, and the names of its steps.
 ghost use Rattle.std.specs.Prelude.{◌≡◌};
-ghost use Rattle.floors.specs.Locked.View.{first_view, without_station, station_alone, joined, spent_view};
-ghost use Rattle.floors.specs.Locked.Rule.{Keeps};
-ghost use Rattle.floors.specs.Locked.Step.{took, after_grant, after_free, after_nothing, AreFirstTwoApart};
+ghost use Rattle.floors.specs.Inner.Locked.View.{first_view, without_station, station_alone, joined, spent_view};
+ghost use Rattle.floors.specs.Inner.Locked.Rule.{Keeps};
+ghost use Rattle.floors.specs.Inner.Locked.Step.{took, after_grant, after_free, after_nothing, AreFirstTwoApart};
 
 use super::view::{Size, View};
 use alloc_bits::AllocBits;

@@ -92,8 +92,8 @@ fn hold<R: Wait, F: Floor>(rt: &R, floor: &F, station: F::Station, shared: &Shar
     floor.release(rt, whole)
 }
 
-// Comes for one processor while the other holds them all, and counts a clash where it is given before
-// the other gives it back.
+// Comes for one processor while the other holds them all, and counts a clash where it is given
+// before the other gives it back.
 fn come<R: Wait, F: Floor>(rt: &R, floor: &F, station: F::Station, shared: &Shared) -> F::Station
     requires floor { F.is_station (F.id floor.now) station }
     requires dim { (F.id floor.now).dim ≡ 3 }

@@ -1,9 +1,9 @@
 use Rattle.std.proofs.Common.{◌≡◌, ℕ, suc, ◌+◌, ◌-◌, [], ◌∷◌, None, sym, refl, ap, ◌∙◌, arith}
 use Rattle.std.proofs.lemmas.List.Elements.{All-push, All-same}
 use Rattle.atomic_table.specs.Seated.{TableId}
-use Rattle.floors.specs.Locked.View.{view, stations_from, station_view, fresh_station, without_station, station_alone}
-use Rattle.floors.specs.Locked.Step.{Sat}
-use Rattle.floors.specs.Locked.Handle.{size_of, floor_id, is_station, grants_of, grants_in}
+use Rattle.floors.specs.Inner.Locked.View.{view, stations_from, station_view, fresh_station, without_station, station_alone}
+use Rattle.floors.specs.Inner.Locked.Step.{Sat}
+use Rattle.floors.specs.Inner.Locked.Handle.{size_of, floor_id, is_station, grants_of, grants_in}
 use Rattle.floors.proofs.HandleLemmas.{station_seat}
 use Rattle.floors.proofs.locked.members.deal_stations.Goals as goal
 

@@ -1,8 +1,8 @@
 use Rattle.std.proofs.Common.{◌≡◌, ◌-◌, ◌≤◌, None, []}
 use Rattle.std.specs.List.{All}
 use Rattle.std.specs.Vec.{vec_len, vec_capacity}
-use Rattle.floors.specs.Locked.View.{view, stations_from}
-use Rattle.floors.specs.Locked.Handle.{table_of, size_of, floor_id, is_station, grants_of}
+use Rattle.floors.specs.Inner.Locked.View.{view, stations_from}
+use Rattle.floors.specs.Inner.Locked.Handle.{table_of, size_of, floor_id, is_station, grants_of}
 use Rattle.floors.proofs.locked.members.deal_stations.Given as goal
 
 abbrev pub invariant-loop-number : goal.invariant-loop-number

@@ -1,7 +1,7 @@
 use Rattle.std.proofs.Common.{◌≡◌, ◌+◌, None, length}
 use Rattle.std.specs.List.{All, AllByRecursion}
-use Rattle.floors.specs.Locked.Step.{IsIdle}
-use Rattle.floors.specs.Locked.Handle.{table_of, size_of, floor_id, is_station}
+use Rattle.floors.specs.Inner.Locked.Step.{IsIdle}
+use Rattle.floors.specs.Inner.Locked.Handle.{table_of, size_of, floor_id, is_station}
 use Rattle.floors.proofs.locked.members.gather_stations.Given as goal
 
 abbrev pub invariant-loop-other : goal.invariant-loop-other

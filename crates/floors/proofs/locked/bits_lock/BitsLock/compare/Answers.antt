@@ -1,5 +1,5 @@
 use Rattle.std.proofs.Common.{arith, subst}
-use Rattle.floors.specs.Locked.Step.{Sat, AreFirstTwoApart}
+use Rattle.floors.specs.Inner.Locked.Step.{Sat, AreFirstTwoApart}
 use Rattle.floors.proofs.StepLemmas.{compares}
 use Rattle.floors.proofs.locked.bits_lock.BitsLock.compare.Goals as goal
 

@@ -1,5 +1,5 @@
 use Rattle.std.proofs.Common.{subst}
-use Rattle.floors.specs.Locked.Step.{Sat, Took}
+use Rattle.floors.specs.Inner.Locked.Step.{Sat, Took}
 use Rattle.floors.proofs.locked.bits_lock.BitsLock.enter.Goals as goal
 
 pub returns-then-try_enter-clause-took : goal.returns-then-try_enter-clause-took

@@ -1,5 +1,5 @@
 use Rattle.std.proofs.Common.{◌≡◌}
-use Rattle.floors.specs.Locked.Handle.{table_of}
+use Rattle.floors.specs.Inner.Locked.Handle.{table_of}
 use Rattle.floors.proofs.locked.bits_lock.BitsLock.enter.Given as goal
 
 abbrev pub invariant-loop : goal.invariant-loop

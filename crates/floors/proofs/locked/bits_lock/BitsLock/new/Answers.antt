@@ -1,8 +1,8 @@
 use Rattle.std.proofs.Common.{◌≡◌, ap, sym, subst, ◌∙◌, [], ◌∷◌, ◌++◌, List}
 use Rattle.atomic_table.specs.Table.{opening}
 use Rattle.alloc_bits.specs.Allocation.{Allocation}
-use Rattle.floors.specs.Locked.View.{first_view}
-use Rattle.floors.specs.Locked.Rule.{Keeps}
+use Rattle.floors.specs.Inner.Locked.View.{first_view}
+use Rattle.floors.specs.Inner.Locked.Rule.{Keeps}
 use Rattle.floors.proofs.DealLemmas.{opens}
 use Rattle.floors.proofs.locked.bits_lock.BitsLock.new.Goals as goal
 

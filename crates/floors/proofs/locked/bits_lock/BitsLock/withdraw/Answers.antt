@@ -1,7 +1,7 @@
 use Rattle.std.proofs.Common.{sym, ap, subst, ◌∙◌, ◌≡◌, ℕ, ◌∷◌, List, get_or}
 use Rattle.atomic_table.specs.Table.{rest}
 use Rattle.alloc_bits.specs.Allocation.{Allocation}
-use Rattle.floors.specs.Locked.View.{Withdraws}
+use Rattle.floors.specs.Inner.Locked.View.{Withdraws}
 use Rattle.floors.proofs.locked.bits_lock.BitsLock.withdraw.Goals as goal
 
 pub slot_mut-requires : goal.slot_mut-requires

@@ -1,5 +1,5 @@
 use Rattle.std.proofs.Common.{◌∷◌, [], None, ap, ◌∙◌, arith}
-use Rattle.floors.specs.Locked.Step.{Sat, station_in}
+use Rattle.floors.specs.Inner.Locked.Step.{Sat, station_in}
 use Rattle.floors.proofs.HandleLemmas.{station_took, station_holds, station_out, gives_at_record}
 use Rattle.floors.proofs.locked.locked_floor.LockedFloor.try_take.Goals as goal
 

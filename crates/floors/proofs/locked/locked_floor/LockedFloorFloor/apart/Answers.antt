@@ -1,5 +1,5 @@
 use Rattle.std.proofs.Common.{Some}
-use Rattle.floors.specs.Locked.Step.{station_in}
+use Rattle.floors.specs.Inner.Locked.Step.{station_in}
 use Rattle.floors.proofs.HandleLemmas.{pair_of}
 use Rattle.floors.proofs.locked.locked_floor.LockedFloorFloor.apart.Goals as goal
 

@@ -1,5 +1,5 @@
 use Rattle.std.proofs.Common.{◌∷◌, [], Some, ap, ◌∙◌}
-use Rattle.floors.specs.Locked.Step.{Sat, station_in}
+use Rattle.floors.specs.Inner.Locked.Step.{Sat, station_in}
 use Rattle.floors.proofs.HandleLemmas.{station_took, station_holds, station_out, takes_back_at_record}
 use Rattle.floors.proofs.locked.locked_floor.LockedFloorFloor.release.Goals as goal
 

@@ -1,6 +1,6 @@
 use Rattle.std.proofs.Common.{◌≡◌, None}
-use Rattle.floors.specs.Locked.Step.{IsStationSeat}
-use Rattle.floors.specs.Locked.Handle.{floor_id, IsOf, grants_in, grants_of}
+use Rattle.floors.specs.Inner.Locked.Step.{IsStationSeat}
+use Rattle.floors.specs.Inner.Locked.Handle.{floor_id, IsOf, grants_in, grants_of}
 use Rattle.floors.proofs.locked.locked_floor.LockedFloorFloor.take.Given as goal
 
 abbrev pub invariant-loop : goal.invariant-loop

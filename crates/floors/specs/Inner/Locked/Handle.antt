@@ -8,7 +8,7 @@ use Rattle.floors.specs.declared.locked.handle.Station.{Station}
 use Rattle.floors.specs.declared.locked.handle.Held.{Held}
 use Rattle.floors.specs.declared.locked.handle.FreeMachine.{FreeMachine}
 use Rattle.floors.specs.Floor.{FloorId}
-use Rattle.floors.specs.Locked.Step.{Sat, station_in}
+use Rattle.floors.specs.Inner.Locked.Step.{Sat, station_in}
 
 abbrev pub table_of : BitsLock → TableId
 table_of lock = lock.table.shared.table_id

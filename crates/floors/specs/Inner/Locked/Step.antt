@@ -8,7 +8,7 @@ use Rattle.cube_shape.specs.Region.{AreApart}
 use Rattle.alloc_bits.specs.Allocation.{Allocation, held_in}
 use Rattle.floors.specs.declared.locked.view.StationRecord.{StationRecord}
 use Rattle.floors.specs.declared.locked.view.View.{View}
-use Rattle.floors.specs.Locked.View.{view, station_view, holding, members, fresh_station}
+use Rattle.floors.specs.Inner.Locked.View.{view, station_view, holding, members, fresh_station}
 
 abbrev pub Sat : Type 0
 Sat = Me Allocation View

@@ -2,7 +2,7 @@
 use Rattle.std.specs.Prelude.{◌≡◌, None, [], length}
 use Rattle.std.specs.List.{AllByRecursion as Each}
 use Rattle.floors.specs.declared.locked.view.Size.{Size}
-use Rattle.floors.specs.Locked.Step.{Sat}
+use Rattle.floors.specs.Inner.Locked.Step.{Sat}
 
 -- the seat has as many records as there are stations, and none of these holds a region
 pub record IsWhole (size : Size) (m : Sat) : Type 0 where

@@ -8,8 +8,8 @@ use Rattle.histories.specs.Views.{Tied}
 use Rattle.alloc_bits.specs.Allocation.{Allocation, held_in}
 use Rattle.floors.specs.declared.locked.view.Size.{Size}
 use Rattle.floors.specs.declared.locked.view.View.{View}
-use Rattle.floors.specs.Locked.View.{is_out, members}
-use Rattle.floors.specs.Locked.Deed.{Deed, station_part, held_after, IsLegal}
+use Rattle.floors.specs.Inner.Locked.View.{is_out, members}
+use Rattle.floors.specs.Inner.Locked.Deed.{Deed, station_part, held_after, IsLegal}
 
 -- the bits are those that the history leaves
 pub record Fits (size : Size) (history : List Deed) (x : Allocation) : Type 0 where

@@ -6,7 +6,7 @@ use Rattle.cube_shape.specs.declared.region.Region.{Region}
 use Rattle.cube_shape.specs.Machine.{Holdings, Gives, TakesBack}
 use Rattle.floors.specs.declared.locked.view.Size.{Size}
 use Rattle.floors.specs.declared.locked.view.StationRecord.{StationRecord}
-use Rattle.floors.specs.Locked.View.{fresh_station}
+use Rattle.floors.specs.Inner.Locked.View.{fresh_station}
 
 pub data Deed : Type 0 where
   -- a station got the region
