@@ -19,7 +19,7 @@ use Rattle.job_queue.specs.declared.locked.view.View.{View}
 use Rattle.job_queue.specs.declared.locked.view.CloserRecord.{CloserRecord}
 use Rattle.job_queue.specs.Record.{entry, accepted}
 use Rattle.job_queue.specs.Line.{IsMadeFor}
-use Rattle.job_queue.specs.Inner.Locked.View.{reading, view, lane_view, pass_view, closer_view, holding, members, rest_of}
+use Rattle.job_queue.specs.Inner.Locked.View.{view, lane_view, pass_view, closer_view, holding, members, rest_of}
 use Rattle.job_queue.specs.Inner.Locked.Deed.{Deed, accepts, fills, finds_closed, takes_job, finds_empty, closes, waiting, is_by_lane, lane_after, lane_part, is_by_pass, pass_after, pass_part, closed_at, closer_part, May}
 use Rattle.job_queue.specs.Inner.Locked.Rule.{Fits, Keeps}
 use Rattle.job_queue.specs.Inner.Locked.Step.{Sat, IsIdle, Knows, took, last_of, front_of, after_entry, after_full_entry, after_seen, after_taken, after_reading, after_close, IsLaneOut, IsPassOut, IsCloserOut, Accepts, Fills, Hands, Same, Closes}

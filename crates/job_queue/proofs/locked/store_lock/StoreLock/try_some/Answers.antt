@@ -1,4 +1,4 @@
-use Rattle.std.proofs.Common.{subst, ◌∙◌}
+use Rattle.std.proofs.Common.{subst}
 use Rattle.job_queue.specs.Inner.Locked.Step.{Sat, Took}
 use Rattle.job_queue.proofs.locked.store_lock.StoreLock.try_some.Goals as goal
 
