@@ -6,11 +6,13 @@
 mod count;
 mod extent;
 mod schedule;
+mod subcubes;
 mod two_regions;
 
 pub use count::count_jobs;
 pub use extent::{Extent, share_extent};
 pub use schedule::play;
+pub use subcubes::{hold_two, hold_two_and_close};
 pub use two_regions::take_two;
 
 #[cfg(test)]

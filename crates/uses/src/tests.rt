@@ -3,10 +3,11 @@
 ghost use Rattle.std.specs.Prelude.{All};
 ghost use Rattle.uses.specs.Extent.{IsExtentValue};
 
-use crate::{Extent, count_jobs, play, share_extent, take_two};
+use crate::{Extent, count_jobs, hold_two_and_close, play, share_extent, take_two};
 use alloc_bits::AllocBits;
 use cube_core::{Act, Phase};
 use cube_shape::Region;
+use cube_tree::Cube;
 use jobs_csv::{Fault, FaultKind};
 use std::test::Fail;
 
@@ -94,4 +95,21 @@ fn a_file_has_two_jobs(rt: HostRuntime) {
     });
     let file = b"lane,kind,op,root,item\n";
     assert!(rt; count_jobs(rt.alloc(), 3, file.as_slice()) == wrong);
+}
+
+// On a machine of two processors each station gets one, and both together are the machine.
+#[test]
+fn two_subcubes_are_apart(rt: HostRuntime) {
+    let (cube, mut stations) = Cube::open(rt.alloc(), 1, 2).expect(&rt, "no memory");
+    let second = stations.pop().unwrap();
+    let first = stations.pop().unwrap();
+    stations.destroy_empty();
+    match hold_two_and_close(cube, first, second, 0) {
+        (Some((low, high)), Ok(machine)) => {
+            assert_eq!(rt; low, Region { base: 0, dim: 0 });
+            assert_eq!(rt; high, Region { base: 1, dim: 0 });
+            assert_eq!(rt; machine.words(), [3, 0, 0, 0].as_slice());
+        }
+        _ => panic!(rt; "a take is refused, or the cube is not closed"),
+    }
 }

@@ -1,0 +1,58 @@
+//! A caller of `cube_tree`.
+
+ghost use Rattle.std.specs.Prelude.{◌≡◌, ◌≤◌, IfSome, IfOk};
+ghost use Rattle.cube_shape.specs.Region.{AreApart};
+ghost use Rattle.cube_tree.specs.Ends.{IsWhollyFree};
+ghost use Rattle.cube_tree.specs.Handles.{cube_dim, IsStationOf};
+
+use cube_shape::Region;
+use cube_tree::{Cube, FreeMachine, Station, StillOut, apart};
+
+/// Two stations hold a region of dimension `k` each at the same moment, give it back and retire.
+/// The regions that they held are apart; none are told where a take was refused.
+pub fn hold_two(cube: &Cube, first: Station, second: Station, k: u32) -> Option<(Region, Region)>
+    requires first { IsStationOf cube.now first }
+    requires second { IsStationOf cube.now second }
+    requires dim { k ≤ cube_dim cube.now }
+    ensures { IfSome result (λ held. AreApart held.0 held.1) }
+{
+    let subcube = match first.try_take(cube, k) {
+        Ok(subcube) => subcube,
+        Err((first, _)) => {
+            first.retire(cube);
+            second.retire(cube);
+            return None;
+        }
+    };
+    let other = match second.try_take(cube, k) {
+        Ok(other) => other,
+        Err((second, _)) => {
+            subcube.release(cube).retire(cube);
+            second.retire(cube);
+            return None;
+        }
+    };
+    let (subcube, other) = apart(subcube, other, cube);
+    let held = (subcube.region(), other.region());
+    subcube.release(cube).retire(cube);
+    other.release(cube).retire(cube);
+    Some(held)
+}
+
+/// The same on a cube of their own, which is closed after it: if no further station is out, the
+/// machine is wholly free.
+pub fn hold_two_and_close(
+    cube: Cube,
+    first: Station,
+    second: Station,
+    k: u32,
+) -> (Option<(Region, Region)>, Result<FreeMachine, StillOut>)
+    requires first { IsStationOf cube first }
+    requires second { IsStationOf cube second }
+    requires dim { k ≤ cube_dim cube }
+    ensures apart { IfSome result.0 (λ held. AreApart held.0 held.1) }
+    ensures free { IfOk result.1 (IsWhollyFree (cube_dim cube)) }
+{
+    let held = hold_two(&cube, first, second, k);
+    (held, cube.close())
+}
