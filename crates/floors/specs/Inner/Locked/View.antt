@@ -1,16 +1,16 @@
 -- What work on the allocation bits does, and what seats know.
 use Rattle.std.specs.Prelude.{◌≡◌, ℕ, zero, suc, ◌+◌, Option, Some, None, List, [], ◌∷◌, ◌++◌, length}
 use Rattle.cube_shape.specs.declared.region.Region.{Region}
-use Rattle.cube_shape.specs.Machine.{Gives, TakesBack}
+use Rattle.cube_shape.specs.Machine.{Gives, HasNoFit, TakesBack}
 use Rattle.alloc_bits.specs.Allocation.{Allocation, held_in}
 use Rattle.floors.specs.declared.locked.view.Size.{Size}
 use Rattle.floors.specs.declared.locked.view.StationRecord.{StationRecord}
 use Rattle.floors.specs.declared.locked.view.View.{View}
 
--- the station gets a region of dimension k, or nothing changes
+-- the station gets a region of dimension k; or no such region is free, and nothing changes
 abbrev pub Allots : Allocation → ℕ → ℕ → Option Region → Allocation → Type 0
 Allots x station k (Some r) y = Gives x.dim station k (held_in x) (held_in y) r × (y.dim ≡ x.dim)
-Allots x station k None y = y ≡ x
+Allots x station k None y = (y ≡ x) × HasNoFit x.dim k (held_in x)
 
 abbrev pub HoldsSome : Allocation → ℕ → Type 0
 HoldsSome x station = (r : Region) × (held_in x station ≡ Some r)

@@ -36,5 +36,5 @@ leave-requires-clause-ready g c =
     let p = c.in-None.ensures.allotted x (ap (λ (m : Sat). m.1) t.1) in (
       r,
       x,
-      station_out c.allot.new.seat.me m.0.about r x x (p.1 ∙ (ap (λ y. (c.enter.new.seat.me.0, (0, y) ∷ [])) p.2 ∙ ap (λ (m : Sat). (m.0, (0, x) ∷ [])) (station_took m c.enter.new.seat.me c.args.number None c.requires.station t))),
+      station_out c.allot.new.seat.me m.0.about r x x (p.1 ∙ (ap (λ y. (c.enter.new.seat.me.0, (0, y) ∷ [])) p.2.0 ∙ ap (λ (m : Sat). (m.0, (0, x) ∷ [])) (station_took m c.enter.new.seat.me c.args.number None c.requires.station t))),
     )
