@@ -21,6 +21,7 @@ use std::collections::VecDeque;
 use std::sync::Wait;
 
 /// All replies of a shop, and its machine, which is wholly free.
+#[derive(Drop)]
 pub struct Finished<M> {
     /// The replies of each worker, in the order in which the workers were given.
     pub by_worker: Vec<Vec<Reply>>,

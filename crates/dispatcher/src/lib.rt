@@ -14,6 +14,8 @@ mod room;
 mod runner;
 mod serving;
 mod shop;
+#[cfg(test)]
+mod tests;
 
 pub use dispatching::dispatch;
 pub use feeding::{FeedEnd, FeedStop, feed};

@@ -1,0 +1,300 @@
+//! A `Shop` of one lane and one worker, over the locked line and the locked floor.
+ghost use Rattle.std.specs.Prelude.{◌≡◌, ◌≢◌, None, IfOk};
+ghost use Rattle.std.specs.List.{All};
+ghost use Rattle.job_queue.specs.Line.{IsFor};
+ghost use Rattle.dispatcher.specs.Opening.{refusal_of};
+
+mod single;
+
+use crate::{FeedEnd, FeedStop, Finished, Plain, Shop, ShopRefused, Stop, dispatch, feed};
+use floors::{Floor, FreeMachine, LockedFloor};
+use job_queue::{JobLine, LockedLine, Receipt, Refused};
+use job_types::{Job, JobId, Kind, Op, Region, Reply};
+use single::{Single, finish};
+use std::alloc::{AllocError, Global};
+use std::collections::VecDeque;
+use std::sync::Wait;
+use std::test::Fail;
+
+// Why a shop of these sizes is refused.
+fn refused(alloc: Global, n: u32, lanes: u32, dispatchers: u32, capacity: usize) -> ShopRefused
+    requires { refusal_of n lanes dispatchers capacity ≢ None }
+{
+    match Shop::<LockedLine, LockedFloor>::open(alloc, n, lanes, dispatchers, capacity) {
+        Err(refused) => refused,
+        Ok(_opened) => unreachable!(),
+    }
+}
+
+#[test]
+fn first_bad_size_is_the_refusal(rt: HostRuntime) {
+    let alloc = rt.alloc();
+    assert_eq!(rt; refused(alloc, 11, 0, 0, 0), ShopRefused::BadDimension);
+    assert_eq!(rt; refused(alloc, 3, 17, 1, 1), ShopRefused::BadLanes);
+    assert_eq!(rt; refused(alloc, 3, 0, 0, 0), ShopRefused::BadLanes);
+    assert_eq!(rt; refused(alloc, 3, 1, 17, 1), ShopRefused::BadDispatchers);
+    assert_eq!(rt; refused(alloc, 3, 1, 0, 0), ShopRefused::BadDispatchers);
+    assert_eq!(rt; refused(alloc, 3, 1, 1, 1025), ShopRefused::BadCapacity);
+    assert_eq!(rt; refused(alloc, 3, 1, 1, 0), ShopRefused::BadCapacity);
+}
+
+// The sum of these numbers by lane 0 of a machine of dimension 2, for each of their processors.
+fn job(alloc: Global, numbers: &[u64]) -> Result<Job, AllocError>
+    ensures { IfOk result (IsFor 2 0) }
+{
+    let items = Vec::from_slice(alloc, numbers)?;
+    match Job::new(alloc, 2, 0, Kind::AllReduce { op: Op::Add }, items) {
+        Ok(job) => Ok(job),
+        Err((_, _)) => Err(AllocError),
+    }
+}
+
+// Three jobs, of one, two and four numbers.
+fn three_jobs(alloc: Global) -> Result<VecDeque<Job>, AllocError>
+    ensures { IfOk result (λ jobs. All (IsFor 2 0) jobs.items) }
+{
+    let mut jobs = VecDeque::new(alloc);
+    let first = job(alloc, &[5])?;
+    jobs.push_back(first)?;
+    let second = job(alloc, &[1, 2])?;
+    jobs.push_back(second)?;
+    let third = job(alloc, &[1, 2, 3, 4])?;
+    jobs.push_back(third)?;
+    Ok(jobs)
+}
+
+// A job that was given back, and why.
+type Back = (Job, Refused);
+
+// What became of three submits by one lane, with a close before the third, and of the shop.
+struct Script<M> {
+    outcomes: [Result<Receipt, Back>; 3],
+    close_number: u64,
+    finished: Finished<M>,
+}
+
+fn play<R: Wait, L: JobLine, F: Floor>(
+    rt: &R,
+    alloc: Global,
+    single: Single<L, F>,
+    jobs: (Job, Job, Job),
+) -> Script<F::Machine>
+    requires machine { single.line.sizes.machine ≡ 2 }
+    requires jobs { IsFor 2 0 jobs.0 × IsFor 2 0 jobs.1 × IsFor 2 0 jobs.2 }
+{
+    let Single {
+        shop,
+        mut lane,
+        lanes,
+        worker,
+        ends,
+        closer,
+    } = single;
+    let (first, second, third) = jobs;
+    let first = shop.submit(rt, &mut lane, first);
+    let second = shop.submit(rt, &mut lane, second);
+    let note = shop.close(rt, closer);
+    let close_number = note.number();
+    let third = shop.submit(rt, &mut lane, third);
+    let end = worker.stand_down(alloc);
+    Script {
+        outcomes: [first, second, third],
+        close_number,
+        finished: finish(rt, shop, (lane, lanes), (end, ends), note),
+    }
+}
+
+fn is_wholly_free(machine: &FreeMachine, n: u32, words: usize) -> bool {
+    let all = LockedFloor::words(machine);
+    LockedFloor::dim(machine) == n && all.len() == words && all.iter().all(|word| *word == 0)
+}
+
+// Whether this is a refusal for this reason, with a job of these numbers.
+fn gives_back(outcome: &Result<Receipt, Back>, why: Refused, numbers: &[u64]) -> bool {
+    match outcome {
+        Ok(_) => false,
+        Err((job, refused)) => *refused == why && job.items() == numbers,
+    }
+}
+
+#[test]
+fn close_against_submit(rt: HostRuntime) -> Result<(), Fail> {
+    let jobs = (
+        job(rt.alloc(), &[1, 2])?,
+        job(rt.alloc(), &[3, 4])?,
+        job(rt.alloc(), &[5, 6])?,
+    );
+    let single = Single::<LockedLine, LockedFloor>::open(rt.alloc(), 2, 1)?;
+    let Script {
+        outcomes,
+        close_number,
+        finished,
+    } = play(&rt, rt.alloc(), single, jobs);
+    let Finished {
+        by_worker,
+        rest,
+        accepted,
+        machine,
+    } = finished;
+    let id = JobId { lane: 0, seq: 0 };
+    assert!(rt; matches!(&outcomes[0], Ok(receipt) if *receipt == Receipt { id, number: 0 }));
+    assert!(rt; gives_back(&outcomes[1], Refused::Full, &[3, 4]));
+    assert_eq!(rt; close_number, 2);
+    assert!(rt; gives_back(&outcomes[2], Refused::Closed { seen: 2 }, &[5, 6]));
+    assert!(rt; by_worker.len() == 1 && by_worker[0].is_empty());
+    assert_eq!(rt; rest.len(), 1);
+    assert_eq!(rt; rest[0].id(), id);
+    assert_eq!(rt; rest[0].region(), Region { base: 0, dim: 1 });
+    assert!(rt; rest[0].at(0) == Some(3) && rest[0].at(1) == Some(3));
+    assert!(rt; accepted.as_slice() == [1].as_slice());
+    assert!(rt; is_wholly_free(&machine, 2, 8));
+    Ok(())
+}
+
+// What became of jobs that came before the close and of some that came after it.
+#[derive(Drop)]
+struct Run<M> {
+    fed: FeedEnd,
+    late: FeedEnd,
+    stop: Stop,
+    finished: Finished<M>,
+}
+
+// Feeds jobs of lane 0 by it.
+fn feed_lane<R: Wait, L: JobLine, F: Floor>(
+    rt: &R,
+    shop: &Shop<L, F>,
+    lane: &mut L::Lane,
+    jobs: VecDeque<Job>,
+) -> FeedEnd
+    requires machine { shop.now.line.sizes.machine ≡ 2 }
+    requires lane { L.is_lane shop.now.line lane.old }
+    requires number { (L.lane_record lane.old).number ≡ 0 }
+    requires jobs { All (IsFor 2 0) jobs.items }
+    ensures lane { L.is_lane shop.now.line lane.new }
+    ensures number { (L.lane_record lane.new).number ≡ 0 }
+{
+    feed(rt, shop, lane, jobs)
+}
+
+// Feeds the first jobs, closes, feeds the others, and lets the worker run to its end.
+fn feed_and_dispatch<R: Wait, L: JobLine, F: Floor>(
+    rt: &R,
+    alloc: Global,
+    single: Single<L, F>,
+    jobs: VecDeque<Job>,
+    late_jobs: VecDeque<Job>,
+) -> Run<F::Machine>
+    requires machine { single.line.sizes.machine ≡ 2 }
+    requires jobs { All (IsFor 2 0) jobs.items }
+    requires late_jobs { All (IsFor 2 0) late_jobs.items }
+{
+    let Single {
+        shop,
+        mut lane,
+        lanes,
+        worker,
+        ends,
+        closer,
+    } = single;
+    let fed = feed_lane(rt, &shop, &mut lane, jobs);
+    let note = shop.close(rt, closer);
+    let late = feed_lane(rt, &shop, &mut lane, late_jobs);
+    let end = dispatch(rt, alloc, &shop, worker, &Plain);
+    let stop = end.stop;
+    Run {
+        fed,
+        late,
+        stop,
+        finished: finish(rt, shop, (lane, lanes), (end, ends), note),
+    }
+}
+
+// Whether these are the replies to lane 0's jobs from this seq on, in order.
+fn are_seqs_from(seq: u64, replies: &[Reply]) -> bool {
+    for (k, reply) in replies.iter().enumerate() {
+        if reply.id()
+            != (JobId {
+                lane: 0,
+                seq: seq.wrapping_add(k as u64),
+            })
+        {
+            return false;
+        }
+    }
+    true
+}
+
+// Whether the seqs of these replies, followed by those of the rest, are 0, 1 and 2.
+fn are_three_seqs(first: &[Reply], rest: &[Reply]) -> bool {
+    first.len() <= 3
+        && rest.len() == 3 - first.len()
+        && are_seqs_from(0, first)
+        && are_seqs_from(first.len() as u64, rest)
+}
+
+// With no memory the jobs are not made or the shop is not opened. Once it is open, a worker that gets
+// none for its replies leaves the jobs to the end.
+#[test]
+fn replies_outlive_any_refused_growth(rt: HostRuntime) {
+    let Ok(jobs) = three_jobs(rt.alloc()) else {
+        return;
+    };
+    let Ok(single) = Single::<LockedLine, LockedFloor>::open(rt.alloc(), 2, 4) else {
+        return;
+    };
+    let Run { stop, finished, .. } = feed_and_dispatch(
+        &rt,
+        rt.alloc(),
+        single,
+        jobs,
+        VecDeque::new(rt.alloc()),
+    );
+    let Finished {
+        by_worker,
+        rest,
+        ..
+    } = finished;
+    assert_eq!(rt; by_worker.len(), 1);
+    assert!(rt; are_three_seqs(&by_worker[0], &rest));
+    assert!(rt; stop == Stop::Ended || stop == Stop::OutOfMemory && rest.len() > 0);
+}
+
+#[test]
+fn feed_stops_at_the_close(rt: HostRuntime) -> Result<(), Fail> {
+    let jobs = three_jobs(rt.alloc())?;
+    let late_jobs = three_jobs(rt.alloc())?;
+    let single = Single::<LockedLine, LockedFloor>::open(rt.alloc(), 2, 4)?;
+    let Run {
+        fed,
+        late,
+        stop,
+        finished,
+    } = feed_and_dispatch(&rt, rt.alloc(), single, jobs, late_jobs);
+    assert!(rt; fed.stop == FeedStop::Done && fed.back.is_none() && fed.left.is_empty());
+    assert_eq!(rt; late.stop, FeedStop::Closed { seen: 3 });
+    assert!(rt; matches!(&late.back, Some(job) if job.items() == [5].as_slice()));
+    assert!(rt; late.left.len() == 2 && late.left[0].items() == [1, 2].as_slice());
+    assert_eq!(rt; stop, Stop::Ended);
+    let Finished {
+        by_worker,
+        rest,
+        accepted,
+        machine,
+    } = finished;
+    assert_eq!(rt; by_worker.len(), 1);
+    let replies = &by_worker[0];
+    assert!(rt; rest.is_empty() && replies.len() == 3);
+    for (k, reply) in replies.iter().enumerate() {
+        assert_eq!(rt;
+            reply.region(),
+            Region {
+                base: 0,
+                dim: k as u32
+            }
+        );
+    }
+    assert!(rt; accepted.as_slice() == [3].as_slice());
+    assert!(rt; is_wholly_free(&machine, 2, 8));
+    Ok(())
+}
