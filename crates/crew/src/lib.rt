@@ -2,6 +2,8 @@
 //! also where a thread cannot be started or memory runs out.
 #![tactic(auto)]
 
+mod gang;
 mod member;
+mod threads;
 
 pub use member::{Door, Fed, Feeder, Naming, Post};
