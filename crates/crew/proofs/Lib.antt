@@ -1,1 +1,2 @@
 mod MemberLemmas
+mod SlotLemmas

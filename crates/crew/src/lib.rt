@@ -4,6 +4,7 @@
 
 mod gang;
 mod member;
+mod slots;
 mod threads;
 
 pub use member::{Door, Fed, Feeder, Naming, Post};
