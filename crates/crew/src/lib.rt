@@ -4,7 +4,9 @@
 
 mod gang;
 mod member;
+mod running;
 mod slots;
 mod threads;
 
 pub use member::{Door, Fed, Feeder, Naming, Post};
+pub use running::{RunEnd, Unfed, run};
