@@ -1,10 +1,11 @@
 -- What the members of a run say together.
 use Rattle.std.proofs.Common.{◌≡◌, ℕ, zero, suc, ◌++◌, ◌∷◌, [], List, map, length, length-append, append_assoc, refl, sym, ap, ◌∙◌, arith}
 use Rattle.std.specs.List.{All, AllZip}
-use Rattle.std.proofs.lemmas.List.Elements.{All-head, All-tail}
+use Rattle.std.proofs.lemmas.List.Elements.{All-nil, All-head, All-tail, All-push}
 use Rattle.job_types.specs.Job.{JobData}
 use Rattle.job_queue.specs.declared.record.LaneRecord.{LaneRecord}
-use Rattle.job_queue.specs.Record.{fresh_lane, fresh_lanes, accepted_jobs}
+use Rattle.job_queue.specs.declared.record.PassRecord.{PassRecord}
+use Rattle.job_queue.specs.Record.{fresh_lane, fresh_lanes, fresh_pass, fresh_passes, accepted_jobs}
 use Rattle.crew.specs.Run.{UnfedJobs, unfed_by}
 
 pub lanes_count : (count : ℕ) → length (fresh_lanes count) ≡ count
@@ -21,3 +22,8 @@ all_fed {A} lane_of record_of back left jobs (x ∷ xs) all =
       (refl, sym (append_assoc (accepted_jobs (record_of (lane_of x))) (back x) (left x)) ∙ All-head Own x xs all),
       all_fed lane_of record_of back left jobs xs (All-tail Own x xs all),
     )
+
+-- fresh passes have taken nothing
+pub none_taken : (count : ℕ) → All (λ (r : PassRecord). r.taken ≡ []) (fresh_passes count)
+none_taken zero = All-nil (λ (r : PassRecord). r.taken ≡ [])
+none_taken (suc count) = All-push (λ (r : PassRecord). r.taken ≡ []) (fresh_passes count) (fresh_pass count) (none_taken count) refl
