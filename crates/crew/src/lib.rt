@@ -6,6 +6,8 @@ mod gang;
 mod member;
 mod running;
 mod slots;
+#[cfg(test)]
+mod tests;
 mod threads;
 
 pub use member::{Door, Fed, Feeder, Naming, Post};
