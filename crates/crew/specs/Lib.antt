@@ -1,1 +1,2 @@
 pub mod InnerNaming
+pub mod Run

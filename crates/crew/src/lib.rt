@@ -2,6 +2,13 @@
 //! also where a thread cannot be started or memory runs out.
 #![tactic(auto)]
 
+mod gang;
 mod member;
+mod running;
+mod slots;
+#[cfg(test)]
+mod tests;
+mod threads;
 
 pub use member::{Door, Fed, Feeder, Naming, Post};
+pub use running::{RunEnd, Unfed, run};

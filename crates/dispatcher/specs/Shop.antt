@@ -11,6 +11,7 @@ pub record ShopId : Type 0 where
 -- the shop has these sizes
 pub record HasSizes (n lanes dispatchers capacity : ℕ) (shop : ShopId) : Type 0 where
   pub dim : shop.floor.dim ≡ n
+  pub machine : shop.line.sizes.machine ≡ n
   pub lanes_are : shop.line.sizes.lanes ≡ lanes
   pub workers : shop.line.sizes.passes ≡ dispatchers
   pub holds : shop.line.sizes.capacity ≡ capacity

@@ -20,7 +20,7 @@ mod tests;
 pub use dispatching::dispatch;
 pub use feeding::{FeedEnd, FeedStop, feed};
 pub use finishing::Finished;
-pub use opening::{Opened, ShopRefused};
+pub use opening::{Opened, ShopRefused, refusal};
 pub use room::Room;
 pub use runner::{Plain, Runner};
 pub use shop::{CloseNote, Closer, Shop, Stop, Worker, WorkerEnd};

@@ -48,8 +48,9 @@ pub struct Opened<L: JobLine, F: Floor> {
     pub closer: Closer<L, F>,
 }
 
-// Why these sizes are refused, if they are.
-fn refusal(n: u32, lanes: u32, dispatchers: u32, capacity: usize) -> Option<ShopRefused>
+/// Why a shop of these sizes is refused, if it is: the first size that is not within its limits, in
+/// the order dimension, lanes, workers, capacity.
+pub fn refusal(n: u32, lanes: u32, dispatchers: u32, capacity: usize) -> Option<ShopRefused>
     ensures { result ≡ refusal_of n lanes dispatchers capacity }
 {
     if n > MAX_DIM {

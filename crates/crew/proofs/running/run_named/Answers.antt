@@ -1,0 +1,69 @@
+use Rattle.std.proofs.Common.{◌≡◌, ℕ, ◌<◌, ◌++◌, [], List, map, length, get_or, sym, ap, subst, ◌∙◌, arith}
+use Rattle.std.specs.List.{All, AllZip}
+use Rattle.std.proofs.lemmas.List.{length-map}
+use Rattle.std.proofs.lemmas.List.Elements.{All-map, All-same, All-weaker}
+use Rattle.histories.specs.Sums.{times}
+use Rattle.job_types.specs.Job.{JobData}
+use Rattle.job_queue.specs.declared.record.LaneRecord.{LaneRecord}
+use Rattle.job_queue.specs.Record.{accepted_jobs}
+use Rattle.dispatcher.specs.Reply.{IsRight}
+use Rattle.dispatcher.specs.Stop.{given_back}
+use Rattle.dispatcher.specs.Finished.{FinishedRun}
+use Rattle.dispatcher.proofs.WorkLemmas.{at_line, at_floor}
+use Rattle.dispatcher.proofs.OpenLemmas.{map_twice}
+use Rattle.crew.specs.Run.{UnfedJobs, unfed_by}
+use Rattle.crew.proofs.RunLemmas.{lanes_count, all_fed}
+use Rattle.crew.proofs.running.run_named.Goals as goal
+
+pub man_posts-posts-requires-clause-passes : goal.man_posts-posts-requires-clause-passes
+man_posts-posts-requires-clause-passes g c = at_line (λ i. All (λ w. g.L.JobLine.is_pass i w.pass) c.args.opened.workers.items) _ _ c.requires.shop c.requires.passes
+
+pub man_posts-posts-requires-clause-stations : goal.man_posts-posts-requires-clause-stations
+man_posts-posts-requires-clause-stations g c = at_floor (λ i. All (λ w. g.F.Floor.is_station i w.station) c.args.opened.workers.items) _ _ c.requires.shop c.requires.stations
+
+pub man_feeders-feeders-requires-clause-lanes : goal.man_feeders-feeders-requires-clause-lanes
+man_feeders-feeders-requires-clause-lanes g c = at_line (λ i. All (g.L.JobLine.is_lane i) c.args.opened.lanes.items) _ _ c.requires.shop c.requires.lanes
+
+pub man_feeders-feeders-requires-clause-jobs : goal.man_feeders-feeders-requires-clause-jobs
+man_feeders-feeders-requires-clause-jobs g c = λ k below. c.requires.jobs k
+
+pub finish-requires-clause-lanes : goal.finish-requires-clause-lanes
+finish-requires-clause-lanes g c =
+    let P = g.L.JobLine.is_lane g.J.Naming.shop.line in
+    let lanes = c.part-lanes.result.0.items in
+    at_line (λ i. All (g.L.JobLine.is_lane i) lanes) _ _ (sym c.requires.shop)
+    (All-same P lanes _ c.part-lanes.ensures.lanes (All-map P (λ f. f.lane) c.relieve_feeders.new.fed.items c.relieve_feeders.ensures.lanes))
+
+pub finish-requires-clause-all_lanes : goal.finish-requires-clause-all_lanes
+finish-requires-clause-all_lanes g c =
+    let opened = c.args.opened.lanes.items in
+    let given = sym (length-map opened g.L.JobLine.lane_record) ∙ (ap length c.requires.fresh_lanes ∙ lanes_count (length c.args.jobs.items)) in
+    ap length c.part-lanes.ensures.lanes ∙ (length-map c.relieve_feeders.new.fed.items (λ f. f.lane) ∙ (c.relieve_feeders.ensures.count ∙ (c.man_feeders-feeders.ensures.count ∙ (given ∙ sym c.requires.all_lanes))))
+
+pub finish-requires-clause-passes : goal.finish-requires-clause-passes
+finish-requires-clause-passes g c = at_line (λ i. All (λ e. g.L.JobLine.is_pass i e.pass) c.relieve_posts.new.ends.items) _ _ (sym c.requires.shop) c.relieve_posts.ensures.passes
+
+pub finish-requires-clause-stations : goal.finish-requires-clause-stations
+finish-requires-clause-stations g c = at_floor (λ i. All (λ e. g.F.Floor.is_station i e.station) c.relieve_posts.new.ends.items) _ _ (sym c.requires.shop) c.relieve_posts.ensures.stations
+
+pub finish-requires-clause-right : goal.finish-requires-clause-right
+finish-requires-clause-right g c = at_floor (λ i. All (λ e. All (IsRight i.dim) e.replies.items) c.relieve_posts.new.ends.items) _ _ (sym c.requires.shop) c.relieve_posts.ensures.right
+
+pub returns-clause-run : goal.returns-clause-run
+returns-clause-run g c =
+    let line = g.L.JobLine in
+    let fed = c.relieve_feeders.new.fed.items in
+    let lanes = c.part-lanes.result.0.items in
+    let jobs = map (λ js. js.items) c.args.jobs.items in
+    let Own : LaneRecord → UnfedJobs → Type 0 = λ l u. (u.lane ≡ l.number) × (accepted_jobs l ++ u.jobs ≡ get_or jobs l.number []) in
+    let together = all_fed (λ f. f.lane) line.lane_record (λ f. given_back f.back) (λ f. f.left.items) (λ k. get_or jobs k []) fed
+    (All-weaker (λ f. accepted_jobs (line.lane_record f.lane) ++ given_back f.back ++ f.left.items ≡ g.J.Naming.jobs (line.lane_record f.lane).number) (λ f. accepted_jobs (line.lane_record f.lane) ++ given_back f.back ++ f.left.items ≡ get_or jobs (line.lane_record f.lane).number [])
+    (λ f own. own ∙ sym (c.requires.jobs (line.lane_record f.lane).number)) fed c.relieve_feeders.ensures.jobs) in
+    let by_lane = subst (λ ls. AllZip Own (map line.lane_record ls) (map (λ f. unfed_by (line.lane_record f.lane).number (given_back f.back ++ f.left.items)) fed)) (sym c.part-lanes.ensures.lanes) together in
+    record {
+      lanes = map line.lane_record lanes;
+      note = line.note_number c.into_note-note.result.line;
+      finished = at_floor (λ i. FinishedRun i.dim (map line.lane_record lanes) (map (λ v. v.items) c.finish.result.by_worker.items) c.finish.result.rest.items (line.note_number c.into_note-note.result.line)) _ _ c.requires.shop c.finish.ensures.finished;
+      fed = subst (λ us. AllZip Own (map line.lane_record lanes) us) (sym c.part-lanes.ensures.unfed) by_lane;
+      numbers = λ k below. ap (times k) (map_twice line.lane_record (λ (l : LaneRecord). l.number) lanes) ∙ c.finish.ensures.lane_numbers k (omega (arith, below, length-map c.args.jobs.items (λ js. js.items), c.requires.all_lanes));
+    }

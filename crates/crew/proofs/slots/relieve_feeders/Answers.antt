@@ -1,0 +1,19 @@
+use Rattle.std.proofs.Common.{◌≡◌, ◌++◌, arith}
+use Rattle.job_queue.specs.Record.{accepted_jobs}
+use Rattle.dispatcher.specs.Stop.{given_back}
+use Rattle.crew.proofs.SlotLemmas.{all_pushed, longer}
+use Rattle.crew.proofs.slots.relieve_feeders.Goals as goal
+
+pub loop-feeder-preserved : goal.loop-feeder-preserved
+loop-feeder-preserved g c =
+    let line = g.L.JobLine in
+    let inv = c.loop-feeder.invariant in
+    let old = c.loop-feeder.fed.items in
+    let new = c.push_reserved.new.self.items in
+    let fed = c.into_parts.result in
+    let pushed = c.push_reserved.ensures.items in (
+      all_pushed (λ f. line.is_lane g.J.Naming.shop.line f.lane) old new fed pushed inv.0 c.into_parts.ensures.lane,
+      all_pushed (λ f. accepted_jobs (line.lane_record f.lane) ++ given_back f.back ++ f.left.items ≡ g.J.Naming.jobs (line.lane_record f.lane).number) old new fed pushed inv.1 c.into_parts.ensures.jobs,
+      omega (arith, inv.2, longer old new fed pushed, longer c.pop.new.self.items c.loop-feeder.feeders.items c.in-Some.feeder c.in-Some.ensures.items),
+      omega (arith, inv.3, c.push_reserved.ensures.capacity),
+    )

@@ -1,0 +1,126 @@
+// How members go into their slots, and come out again.
+ghost use Rattle.std.specs.Prelude.{◌≡◌, ◌≢◌, ℕ, ◌+◌, ◌<◌, ◌≤◌, ◌++◌, [], List, map, length, slice_index_or};
+ghost use Rattle.std.specs.List.{All};
+ghost use Rattle.std.specs.Vec.{vec_capacity};
+ghost use Rattle.job_queue.specs.Record.{accepted_jobs, fresh_lanes};
+ghost use Rattle.job_queue.specs.Line.{IsFor};
+ghost use Rattle.dispatcher.specs.Reply.{answered, IsRight};
+ghost use Rattle.dispatcher.specs.Stop.{given_back};
+
+use crate::member::{Fed, Feeder, Naming, Post};
+use dispatcher::{Worker, WorkerEnd};
+use floors::Floor;
+use job_queue::JobLine;
+use job_types::Job;
+use std::alloc::Global;
+use std::collections::VecDeque;
+use std::sync::Mutex;
+
+// A slot for each worker. One for which there is no memory stands down at once.
+pub fn man_posts<J: Naming, L: JobLine, F: Floor>(
+    alloc: Global,
+    mut workers: Vec<Worker<L, F>>,
+    ends: &mut Vec<WorkerEnd<L, F>>,
+) -> Vec<Mutex<Post<J, L, F>>>
+    requires passes { All (λ w. L.is_pass J.shop.line w.pass) workers.items }
+    requires stations { All (λ w. F.is_station J.shop.floor w.station) workers.items }
+    requires fresh { All (λ w. (L.pass_record w.pass).taken ≡ []) workers.items }
+    requires no_grants { All (λ w. F.grants w.station ≡ []) workers.items }
+    requires empty { ends.old.items ≡ [] }
+    requires room { length workers.items ≤ vec_capacity ends.old }
+    ensures count { length result.items + length ends.new.items ≡ length workers.items }
+    ensures passes { All (λ e. L.is_pass J.shop.line e.pass) ends.new.items }
+    ensures stations { All (λ e. F.is_station J.shop.floor e.station) ends.new.items }
+    ensures replies { All (λ e. (L.pass_record e.pass).taken ≡ map answered e.replies.items)
+        ends.new.items }
+    ensures right { All (λ e. All (IsRight J.shop.floor.dim) e.replies.items) ends.new.items }
+    ensures room { length workers.items ≤ vec_capacity ends.new }
+{
+    let mut posts = Vec::new(alloc);
+    while let Some(worker) = workers.pop() {
+        if let Err(failed) = posts.push(Mutex::new(Post::new(worker))) {
+            ends.push_reserved(failed.value.into_inner().into_end(alloc));
+        }
+    }
+    workers.destroy_empty();
+    posts
+}
+
+// The workers that have stopped, out of their slots.
+pub fn relieve_posts<J: Naming, L: JobLine, F: Floor>(
+    alloc: Global,
+    mut posts: Vec<Mutex<Post<J, L, F>>>,
+    ends: &mut Vec<WorkerEnd<L, F>>,
+)
+    requires room { length posts.items + length ends.old.items ≤ vec_capacity ends.old }
+    requires passes { All (λ e. L.is_pass J.shop.line e.pass) ends.old.items }
+    requires stations { All (λ e. F.is_station J.shop.floor e.station) ends.old.items }
+    requires replies { All (λ e. (L.pass_record e.pass).taken ≡ map answered e.replies.items)
+        ends.old.items }
+    requires right { All (λ e. All (IsRight J.shop.floor.dim) e.replies.items) ends.old.items }
+    ensures count { length ends.new.items ≡ length posts.items + length ends.old.items }
+    ensures passes { All (λ e. L.is_pass J.shop.line e.pass) ends.new.items }
+    ensures stations { All (λ e. F.is_station J.shop.floor e.station) ends.new.items }
+    ensures replies { All (λ e. (L.pass_record e.pass).taken ≡ map answered e.replies.items)
+        ends.new.items }
+    ensures right { All (λ e. All (IsRight J.shop.floor.dim) e.replies.items) ends.new.items }
+{
+    while let Some(post) = posts.pop() {
+        ends.push_reserved(post.into_inner().into_end(alloc));
+    }
+    posts.destroy_empty();
+}
+
+// A slot for each lane with its jobs. One for which there is no memory hands in nothing.
+pub fn man_feeders<J: Naming, L: JobLine>(
+    alloc: Global,
+    mut lanes: Vec<L::Lane>,
+    mut jobs: Vec<VecDeque<Job>>,
+    fed: &mut Vec<Fed<L>>,
+) -> (Vec<Mutex<Feeder<J, L>>>, Vec<L::Lane>)
+    requires lanes { All (L.is_lane J.shop.line) lanes.items }
+    requires fresh { map L.lane_record lanes.items ≡ fresh_lanes (length jobs.items) }
+    requires jobs { (k : ℕ) → k < length jobs.items →
+        slice_index_or (map (λ js. js.items) jobs.items) k [] ≡ J.jobs k }
+    requires made_for { (k : ℕ) → k < length jobs.items →
+        All (IsFor J.shop.line.sizes.machine k) (J.jobs k) }
+    requires empty { fed.old.items ≡ [] }
+    requires room { length lanes.items ≤ vec_capacity fed.old }
+    ensures count { length result.0.items + length fed.new.items ≡ length lanes.items }
+    ensures lanes { All (λ f. L.is_lane J.shop.line f.lane) fed.new.items }
+    ensures jobs { All (λ f. accepted_jobs (L.lane_record f.lane) ++ given_back f.back ++ f.left.items
+        ≡ J.jobs (L.lane_record f.lane).number) fed.new.items }
+    ensures room { length lanes.items ≤ vec_capacity fed.new }
+    ensures lane_room { (result.1.items ≡ []) × (length lanes.items ≤ vec_capacity result.1) }
+{
+    let mut feeders = Vec::new(alloc);
+    while let Some(lane) = lanes.pop() {
+        let Some(list) = jobs.pop() else {
+            unreachable!()
+        };
+        if let Err(failed) = feeders.push(Mutex::new(Feeder::new(lane, list))) {
+            fed.push_reserved(failed.value.into_inner().into_parts());
+        }
+    }
+    (feeders, lanes)
+}
+
+// The feeders, out of their slots.
+pub fn relieve_feeders<J: Naming, L: JobLine>(
+    mut feeders: Vec<Mutex<Feeder<J, L>>>,
+    fed: &mut Vec<Fed<L>>,
+)
+    requires room { length feeders.items + length fed.old.items ≤ vec_capacity fed.old }
+    requires lanes { All (λ f. L.is_lane J.shop.line f.lane) fed.old.items }
+    requires jobs { All (λ f. accepted_jobs (L.lane_record f.lane) ++ given_back f.back ++ f.left.items
+        ≡ J.jobs (L.lane_record f.lane).number) fed.old.items }
+    ensures count { length fed.new.items ≡ length feeders.items + length fed.old.items }
+    ensures lanes { All (λ f. L.is_lane J.shop.line f.lane) fed.new.items }
+    ensures jobs { All (λ f. accepted_jobs (L.lane_record f.lane) ++ given_back f.back ++ f.left.items
+        ≡ J.jobs (L.lane_record f.lane).number) fed.new.items }
+{
+    while let Some(feeder) = feeders.pop() {
+        fed.push_reserved(feeder.into_inner().into_parts());
+    }
+    feeders.destroy_empty();
+}

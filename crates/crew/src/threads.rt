@@ -1,0 +1,87 @@
+// The threads of a run. Nothing else in this crate starts one.
+use std::sync::Wait;
+use std::thread;
+use std::thread::Threads;
+
+// Members that wait for a thread each, and how a thread works at one of them.
+pub trait Crew {
+    ghost is_ready: { Self → Type 0 };
+
+    // How many workers there are.
+    fn worker_count(&self) -> usize;
+
+    // How many feeders there are.
+    fn feeder_count(&self) -> usize;
+
+    // What the thread of a worker does.
+    fn work<R: Wait>(&self, rt: &R, index: usize)
+        requires { is_ready self.now };
+
+    // What the thread of a feeder does.
+    fn feed<R: Wait>(&self, rt: &R, index: usize)
+        requires { is_ready self.now };
+
+    // Closes the shop, where that was not done before.
+    fn close<R: Wait>(&self, rt: &R)
+        requires { is_ready self.now };
+}
+
+// Starts a thread for each worker, and then one for each feeder; closes the shop once all feeders have
+// ended, and waits for the workers. Where a thread cannot be started no other one is, and the answer is
+// false.
+pub fn run_threads<R: Threads + Wait + Sync, C: Crew + Sync>(rt: &R, crew: &C) -> bool
+    requires { C.is_ready crew.now }
+{
+    thread::scope(
+        thread::scope_env(),
+        rt,
+        |workers|
+            requires { C.is_ready crew.now }
+        {
+            let mut started = true;
+            for index in 0..crew.worker_count() {
+                if started {
+                    started = workers
+                        .spawn(
+                            move ||
+                                requires { C.is_ready crew.now }
+                            { crew.work(rt, index) },
+                        )
+                        .is_ok();
+                }
+            }
+            if started {
+                started = feed_on_threads(rt, crew);
+            }
+            crew.close(rt);
+            started
+        },
+    )
+}
+
+// Starts a thread for each feeder, and waits for them.
+fn feed_on_threads<R: Threads + Wait + Sync, C: Crew + Sync>(rt: &R, crew: &C) -> bool
+    requires { C.is_ready crew.now }
+{
+    thread::scope(
+        thread::scope_env(),
+        rt,
+        |feeders|
+            requires { C.is_ready crew.now }
+        {
+            let mut started = true;
+            for index in 0..crew.feeder_count() {
+                if started {
+                    started = feeders
+                        .spawn(
+                            move ||
+                                requires { C.is_ready crew.now }
+                            { crew.feed(rt, index) },
+                        )
+                        .is_ok();
+                }
+            }
+            started
+        },
+    )
+}
