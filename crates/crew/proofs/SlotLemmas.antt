@@ -58,10 +58,10 @@ all_listed items_of P old new list pushed all own k below =
     let lists : map items_of new ≡ map items_of old ++ items_of list ∷ [] = ap (map items_of) pushed ∙ map-append items_of old (list ∷ []) in
     let len = length-map old items_of in
     ⊎_elim (λ (early : k < length old).
-        subst (P k) (sym (ap (λ (ls : List (List JobData)). get_or ls k []) lists ∙ get_or-append (map items_of old) (items_of list ∷ []) [] k (omega (arith, early, len)))) (all k early))
+    subst (P k) (sym (ap (λ (ls : List (List JobData)). get_or ls k []) lists ∙ get_or-append (map items_of old) (items_of list ∷ []) [] k (omega (arith, early, len)))) (all k early))
     (λ (late : length old ≤ k).
-        let last : k ≡ length old = omega (arith, late, below, longer old new list pushed) in
-        let at_end : get_or (map items_of new) (length old) [] ≡ items_of list =
-        ap (λ (ls : List (List JobData)). get_or ls (length old) []) lists ∙ (ap (λ (n : ℕ). get_or (map items_of old ++ items_of list ∷ []) n []) (sym len) ∙ get_or-append_seam (map items_of old) (items_of list) [] []) in
-        subst (λ (n : ℕ). P n (get_or (map items_of new) n [])) (sym last) (subst (P (length old)) (sym at_end) own))
+    let last : k ≡ length old = omega (arith, late, below, longer old new list pushed) in
+    let at_end : get_or (map items_of new) (length old) [] ≡ items_of list =
+    ap (λ (ls : List (List JobData)). get_or ls (length old) []) lists ∙ (ap (λ (n : ℕ). get_or (map items_of old ++ items_of list ∷ []) n []) (sym len) ∙ get_or-append_seam (map items_of old) (items_of list) [] []) in
+    subst (λ (n : ℕ). P n (get_or (map items_of new) n [])) (sym last) (subst (P (length old)) (sym at_end) own))
     (cases_lt k (length old))

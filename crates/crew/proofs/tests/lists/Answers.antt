@@ -12,5 +12,5 @@ loop-lane-preserved c =
     let pushed = c.in_ok-push.ensures.items in (
       longer old new list pushed ∙ ap (λ (n : ℕ). n + 1) c.loop-lane.invariant.0,
       all_listed (λ js. js.items) (λ k js. All (IsFor 2 k) js) old new list pushed c.loop-lane.invariant.1
-      (subst (λ (n : ℕ). All (IsFor 2 n) list.items) (sym c.loop-lane.invariant.0) c.in_ok-list.ensures),
+          (subst (λ (n : ℕ). All (IsFor 2 n) list.items) (sym c.loop-lane.invariant.0) c.in_ok-list.ensures),
     )
