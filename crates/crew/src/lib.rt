@@ -10,5 +10,4 @@ mod slots;
 mod tests;
 mod threads;
 
-pub use member::{Door, Fed, Feeder, Naming, Post};
 pub use running::{RunEnd, Unfed, run};

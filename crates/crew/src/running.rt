@@ -157,9 +157,11 @@ where
     requires all_workers { length opened.workers.items ≡ opened.shop.line.sizes.passes }
     requires closer { L.is_closer opened.shop.line opened.closer.line }
     requires closer_room { opened.closer.room ≡ room_for opened.shop }
-    requires ends { (room.ends.items ≡ []) × (length opened.workers.items ≤ vec_capacity room.ends) }
+    requires ends { (room.ends.items ≡ [])
+        × (length opened.workers.items ≤ vec_capacity room.ends) }
     requires fed { (room.fed.items ≡ []) × (length opened.lanes.items ≤ vec_capacity room.fed) }
-    requires unfed { (room.unfed.items ≡ []) × (length opened.lanes.items ≤ vec_capacity room.unfed) }
+    requires unfed { (room.unfed.items ≡ [])
+        × (length opened.lanes.items ≤ vec_capacity room.unfed) }
     ensures run { IsRun J.shop.floor.dim (map (λ js. js.items) jobs.items)
         (map (λ replies. replies.items) result.finished.by_worker.items) result.finished.rest.items
         (map (λ u. unfed_by u.lane (given_back u.back ++ u.left.items)) result.unfed.items) }

@@ -88,7 +88,8 @@ pub fn man_feeders<J: Naming, L: JobLine>(
     requires room { length lanes.items ≤ vec_capacity fed.old }
     ensures count { length result.0.items + length fed.new.items ≡ length lanes.items }
     ensures lanes { All (λ f. L.is_lane J.shop.line f.lane) fed.new.items }
-    ensures jobs { All (λ f. accepted_jobs (L.lane_record f.lane) ++ given_back f.back ++ f.left.items
+    ensures jobs { All (λ f.
+        accepted_jobs (L.lane_record f.lane) ++ given_back f.back ++ f.left.items
         ≡ J.jobs (L.lane_record f.lane).number) fed.new.items }
     ensures room { length lanes.items ≤ vec_capacity fed.new }
     ensures lane_room { (result.1.items ≡ []) × (length lanes.items ≤ vec_capacity result.1) }
@@ -112,11 +113,13 @@ pub fn relieve_feeders<J: Naming, L: JobLine>(
 )
     requires room { length feeders.items + length fed.old.items ≤ vec_capacity fed.old }
     requires lanes { All (λ f. L.is_lane J.shop.line f.lane) fed.old.items }
-    requires jobs { All (λ f. accepted_jobs (L.lane_record f.lane) ++ given_back f.back ++ f.left.items
+    requires jobs { All (λ f.
+        accepted_jobs (L.lane_record f.lane) ++ given_back f.back ++ f.left.items
         ≡ J.jobs (L.lane_record f.lane).number) fed.old.items }
     ensures count { length fed.new.items ≡ length feeders.items + length fed.old.items }
     ensures lanes { All (λ f. L.is_lane J.shop.line f.lane) fed.new.items }
-    ensures jobs { All (λ f. accepted_jobs (L.lane_record f.lane) ++ given_back f.back ++ f.left.items
+    ensures jobs { All (λ f.
+        accepted_jobs (L.lane_record f.lane) ++ given_back f.back ++ f.left.items
         ≡ J.jobs (L.lane_record f.lane).number) fed.new.items }
 {
     while let Some(feeder) = feeders.pop() {

@@ -54,8 +54,8 @@ pub fn feed<R: Wait, L: JobLine, F: Floor>(
         jobs.items }
     ensures lane { L.is_lane shop.now.line lane.new }
     ensures number { (L.lane_record lane.new).number ≡ (L.lane_record lane.old).number }
-    ensures fed { accepted_jobs (L.lane_record lane.new) ++ given_back result.back ++ result.left.items
-        ≡ accepted_jobs (L.lane_record lane.old) ++ jobs.items }
+    ensures fed { accepted_jobs (L.lane_record lane.new) ++ given_back result.back
+        ++ result.left.items ≡ accepted_jobs (L.lane_record lane.old) ++ jobs.items }
     ensures jobs { All (IsFor shop.now.line.sizes.machine (L.lane_record lane.new).number)
         (given_back result.back ++ result.left.items) }
     ensures done { result.stop ≡ FeedStop.Done → given_back result.back ++ result.left.items ≡ [] }
