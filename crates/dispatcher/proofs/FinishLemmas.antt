@@ -1,10 +1,10 @@
 -- From what the line says at its end to what the replies say.
-use Rattle.std.proofs.Common.{◌≡◌, ◌+◌, ◌∷◌, [], ◌++◌, List, map, ℕ, refl, sym, ap, subst, ◌∙◌, arith}
+use Rattle.std.proofs.Common.{◌≡◌, ◌∷◌, [], ◌++◌, List, map, ℕ, refl, sym, ap, subst, ◌∙◌, arith}
 use Rattle.std.specs.List.{All, AllByRecursion}
 use Rattle.std.proofs.lemmas.List.{map-append}
 use Rattle.std.proofs.lemmas.List.Elements.{All-head, All-tail}
 use Rattle.histories.specs.Sums.{total}
-use Rattle.histories.proofs.SumLemmas.{total-map, total-same}
+use Rattle.histories.proofs.SumLemmas.{total-map}
 use Rattle.histories.proofs.ViewLemmas.{all_weaker}
 use Rattle.job_types.specs.Reply.{ReplyData}
 use Rattle.job_queue.specs.declared.record.QueuedJob.{QueuedJob}

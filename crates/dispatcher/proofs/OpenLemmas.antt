@@ -1,5 +1,5 @@
 -- Facts of the parts of members, as facts of the members.
-use Rattle.std.proofs.Common.{◌≡◌, ◌+◌, ◌∷◌, [], ◌++◌, List, map, length, ℕ, zero, suc, length-append, refl, sym, ap, subst, ◌∙◌, arith}
+use Rattle.std.proofs.Common.{◌≡◌, ◌∷◌, [], List, map, length, ℕ, zero, suc, length-append, refl, ap, ◌∙◌, arith}
 use Rattle.std.specs.List.{All}
 use Rattle.std.proofs.lemmas.List.Elements.{All-nil, All-cons, All-head, All-tail, All-same}
 use Rattle.job_queue.specs.Record.{fresh_pass, fresh_passes}

@@ -1,5 +1,5 @@
 -- Which sizes of a shop are refused.
-use Rattle.std.specs.Prelude.{ℕ, Bool, not, ◌&&◌, Option, Some, None, nat_lt, nat_le, if◌then◌else◌}
+use Rattle.std.specs.Prelude.{ℕ, Bool, not, ◌&&◌, Option, Some, None, nat_lt, if◌then◌else◌}
 use Rattle.cube_shape.specs.declared.limits.TheConstants.{MAX_DIM}
 use Rattle.job_types.specs.declared.request.TheConstants.{MAX_LANES}
 use Rattle.job_queue.specs.declared.job_line.TheConstants.{MAX_PASSES, MAX_CAPACITY}

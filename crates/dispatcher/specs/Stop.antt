@@ -1,5 +1,5 @@
 -- What a worker or a feeder found last.
-use Rattle.std.specs.Prelude.{◌≡◌, ℕ, ◌++◌, [], ◌∷◌, List, Option, Some, None}
+use Rattle.std.specs.Prelude.{◌≡◌, ◌++◌, [], ◌∷◌, List, Option, Some, None}
 use Rattle.job_types.specs.Job.{JobData}
 use Rattle.job_queue.specs.declared.record.Reading.{Reading}
 use Rattle.job_queue.specs.Record.{Seals}

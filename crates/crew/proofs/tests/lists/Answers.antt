@@ -1,4 +1,4 @@
-use Rattle.std.proofs.Common.{◌≡◌, ◌+◌, ℕ, sym, subst, ap, ◌∙◌}
+use Rattle.std.proofs.Common.{◌+◌, ℕ, sym, subst, ap, ◌∙◌}
 use Rattle.std.specs.List.{All}
 use Rattle.job_queue.specs.Line.{IsFor}
 use Rattle.crew.proofs.SlotLemmas.{longer, all_listed}

@@ -1,7 +1,5 @@
-use Rattle.std.proofs.Common.{◌≡◌, ◌++◌, List, [], ℕ, sym, ap, subst, ◌∙◌}
+use Rattle.std.proofs.Common.{◌++◌, sym, ap, subst, ◌∙◌}
 use Rattle.std.specs.List.{All}
-use Rattle.std.proofs.lemmas.List.Elements.{All-same}
-use Rattle.job_types.specs.Job.{JobData}
 use Rattle.job_queue.specs.Record.{accepted_jobs}
 use Rattle.job_queue.specs.Line.{IsFor}
 use Rattle.dispatcher.specs.Shop.{ShopId}

@@ -1,4 +1,4 @@
-use Rattle.std.proofs.Common.{◌≡◌, ◌++◌, List, [], None, Some, map, sym, ap, subst, ◌∙◌}
+use Rattle.std.proofs.Common.{◌++◌, map, sym, ap, subst, ◌∙◌}
 use Rattle.std.specs.List.{All}
 use Rattle.dispatcher.specs.Shop.{ShopId}
 use Rattle.dispatcher.specs.Reply.{answered, region_of, IsRight}

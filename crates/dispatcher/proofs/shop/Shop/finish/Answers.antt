@@ -1,14 +1,11 @@
-use Rattle.std.proofs.Common.{◌≡◌, ◌<◌, List, ℕ, map, length, get_or, sym, ap, subst, ◌∙◌}
+use Rattle.std.proofs.Common.{◌≡◌, ◌<◌, ℕ, map, length, get_or, sym, ap, subst, ◌∙◌}
 use Rattle.std.specs.List.{All, AllByRecursion}
 use Rattle.std.proofs.lemmas.List.Elements.{All-map, All-same}
 use Rattle.histories.specs.Sums.{times}
 use Rattle.job_queue.specs.declared.record.LaneRecord.{LaneRecord}
 use Rattle.job_queue.specs.Record.{accepted}
-use Rattle.job_queue.specs.Line.{LineId, IsMadeFor}
-use Rattle.floors.specs.Floor.{FloorId}
-use Rattle.job_types.specs.Reply.{ReplyData}
+use Rattle.job_queue.specs.Line.{IsMadeFor}
 use Rattle.dispatcher.specs.Reply.{answered, IsRight}
-use Rattle.dispatcher.specs.Finished.{FinishedRun}
 use Rattle.dispatcher.proofs.WorkLemmas.{at_line, at_floor}
 use Rattle.dispatcher.proofs.OpenLemmas.{map_twice}
 use Rattle.dispatcher.proofs.FinishLemmas.{each_of, taken_answered, replies_right, finished}
