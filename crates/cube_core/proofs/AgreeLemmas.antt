@@ -10,7 +10,8 @@ use Rattle.cube_core.specs.declared.phase.Seen.{Seen}
 use Rattle.cube_core.specs.declared.phase.Seen.TheVariants as seen
 use Rattle.cube_core.specs.declared.phase.Phase.{Phase}
 use Rattle.cube_core.specs.declared.phase.Phase.TheVariants.{Idle, Looking, Looked, Climbing, Swept, Holding, Arriving, Unmarked, Marked}
-use Rattle.cube_core.specs.Phase.{side_of, owned, stop, is_seen_free, marked_at, marked_word, saw, HasPassed}
+use Rattle.cube_core.specs.Phase.{side_of, owned, is_seen_free, marked_word, HasPassed}
+use Rattle.cube_core.specs.InnerPhase.{stop, marked_at, saw}
 use Rattle.cube_core.specs.Event.{cleared_as_seen}
 use Rattle.cube_core.proofs.BitLemmas.{with_mark-use}
 use Rattle.cube_core.proofs.ChangeLemmas.{Fit, Agrees, Change, quiet, claimed, raised, zeroed, cleared_kept, with_side-occupied}

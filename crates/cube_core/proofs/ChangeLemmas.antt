@@ -11,7 +11,8 @@ use Rattle.status_word.proofs.WordLemmas.{IsOccupied-in_use, HasSide-in_use, wit
 use Rattle.cube_core.proofs.BitLemmas.{side_bit-low}
 use Rattle.cube_core.specs.declared.phase.Phase.{Phase}
 use Rattle.cube_core.specs.declared.phase.Phase.TheVariants.{Idle, Looking, Looked, Climbing, Swept, Holding, Leaving, Backing, Arriving, Unmarked, Marked, Retired}
-use Rattle.cube_core.specs.Phase.{side_of, owned, stop, HasPassed}
+use Rattle.cube_core.specs.Phase.{side_of, owned, HasPassed}
+use Rattle.cube_core.specs.InnerPhase.{stop}
 use Rattle.cube_core.specs.Event.{busy}
 
 -- ---- the invariant, of the words and the phases as functions

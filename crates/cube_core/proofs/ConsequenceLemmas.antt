@@ -9,7 +9,8 @@ use Rattle.cube_shape.proofs.PathLemmas.{OnPath-self, OnPath-zero, OnPath-trans,
 use Rattle.status_word.specs.Word.{IsFree, IsInUse, use_of}
 use Rattle.cube_core.specs.declared.phase.Phase.{Phase}
 use Rattle.cube_core.specs.declared.phase.Phase.TheVariants.{Idle, Looking, Looked, Climbing, Swept, Holding, Leaving, Backing, Arriving, Unmarked, Marked, Retired}
-use Rattle.cube_core.specs.Phase.{owned, node_held, marked_at, to_clear, MustClear, IsAtRest, IsEngagedAt}
+use Rattle.cube_core.specs.Phase.{owned, node_held, MustClear, IsAtRest, IsEngagedAt}
+use Rattle.cube_core.specs.InnerPhase.{marked_at, to_clear}
 use Rattle.cube_core.proofs.HeldLemmas.{holder_is}
 use Rattle.cube_core.proofs.SeenFreeLemmas.{used_on_path}
 use Rattle.cube_core.proofs.InvariantLemmas.{Invariant}

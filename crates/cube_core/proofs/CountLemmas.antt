@@ -1,6 +1,5 @@
 -- The count of events: one for each accepted step, never more than was due, and the node that a take named.
-use Rattle.std.proofs.Common.{◌≡◌, ℕ, suc, ◌+◌, ◌-◌, ◌*◌, ◌<◌, ◌≤◌, inl, inr, List, [], ◌∷◌, ◌++◌, length, Option, Some, None, refl, sym, ◌∙◌, ap, subst, arith}
-use Rattle.std.proofs.lemmas.Bool.{cases_eq}
+use Rattle.std.proofs.Common.{◌≡◌, ℕ, suc, ◌+◌, ◌-◌, ◌*◌, ◌<◌, ◌≤◌, inl, inr, List, [], ◌∷◌, ◌++◌, length, Some, None, refl, sym, ◌∙◌, ap, subst, arith}
 use Rattle.std.proofs.lemmas.List.{get_or-set_same}
 use Rattle.cube_shape.specs.declared.region.Region.{Region}
 use Rattle.cube_shape.specs.Node.{IsNodeOf}
@@ -12,11 +11,12 @@ use Rattle.cube_core.specs.declared.phase.Phase.TheVariants.{Looking, Holding, L
 use Rattle.cube_core.specs.declared.act.Act.{Act}
 use Rattle.cube_core.specs.declared.act.Act.TheVariants.{Take, Release, Step}
 use Rattle.cube_core.specs.declared.act.Refused.{Refused}
-use Rattle.cube_core.specs.Phase.{asked, owned, node_held, step_refusal}
+use Rattle.cube_core.specs.Phase.{owned, node_held, step_refusal}
+use Rattle.cube_core.specs.InnerPhase.{asked}
 use Rattle.cube_core.specs.Event.{transition}
-use Rattle.cube_core.specs.Schedule.{Record, State, record_of, phase_of, trail_of, word_of, apply_begin, refusal, station_of, apply_accepted, unless_refused, apply, apply_all, HasOnlySteps}
+use Rattle.cube_core.specs.Schedule.{Record, State, record_of, phase_of, trail_of, word_of, apply_begin, refusal, station_of, apply_accepted, apply, apply_all, HasOnlySteps}
 use Rattle.cube_core.specs.Held.{held_of}
-use Rattle.cube_core.specs.Count.{depth, events_due, made_and_due, IsCounted}
+use Rattle.cube_core.specs.Count.{depth, events_due, IsCounted}
 use Rattle.cube_core.proofs.LevelLemmas.{dim_at-level}
 use Rattle.cube_core.proofs.MoveLemmas.{IsTaking, step_event, step_move, due_falls, taking_kept}
 use Rattle.cube_core.proofs.HeldLemmas.{held_named}
@@ -30,6 +30,15 @@ phase_here act w q none is = ap (λ u. events_due w.dim (phase_of u (station_of 
 -- what a release leaves to do is that of the node that is held
 release_due : (n : ℕ) (p : Phase) → p ≡ Holding (owned p) → events_due n (Leaving (owned p)) ≡ 1 + 5 * depth n (node_held p)
 release_due n p holds = ap (λ h. 1 + 5 * depth n h) (sym (ap node_held holds))
+
+-- what is due once a take has begun, and once a release has
+pub take_due : (s v : ℕ) (w : State) → refusal (Take s v) w ≡ None → events_due w.dim (phase_of (apply (Take s v) w) s) ≡ 3 + 7 * depth w.dim v
+take_due s v w none = phase_here (Take s v) w (Looking v) none (apply_begin_phase s (Looking v) w (accepted (Take s v) w none).0)
+
+pub release_is_due : (s : ℕ) (w : State) → refusal (Release s) w ≡ None → events_due w.dim (phase_of (apply (Release s) w) s) ≡ 1 + 5 * depth w.dim (node_held (phase_of w s))
+release_is_due s w none =
+    phase_here (Release s) w (Leaving (owned (phase_of w s))) none (apply_begin_phase s (Leaving (owned (phase_of w s))) w (accepted (Release s) w none).0)
+    ∙ release_due w.dim (phase_of w s) (release_holds w.dim s (phase_of w s) (accepted (Release s) w none).1)
 
 -- ---- the events of a station
 
@@ -67,17 +76,6 @@ step_pays w s k none =
     let longer : length (trail_of (apply (Step s) w) s) ≡ suc (length (trail_of w s)) = ap length (one_event w s none).2 in
     omega (arith, less, longer)
 
--- nor any step that of any station
-pub never_rises : (w : State) → Stands w → (s t : ℕ) → made_and_due (apply (Step s) w) t ≤ made_and_due w t
-never_rises w k s t = subst (λ n. length (trail_of (apply (Step s) w) t) + events_due n (phase_of (apply (Step s) w) t) ≤ made_and_due w t) (sym (apply_leads (Step s) w k).dim) (elim (cases_eq t s) [
-  | inl same ↦ subst (λ u. made_by w.dim (record_of (apply (Step s) w) u) ≤ made_by w.dim (record_of w u)) (sym same) (turn (refusal (Step s) w) refl)
-  | inr other ↦ subst (λ r. made_by w.dim r ≤ made_by w.dim (record_of w t)) (sym (others_record (Step s) w t other)) (omega arith)
-])
-  where
-    turn : (r : Option Refused) → refusal (Step s) w ≡ r → made_by w.dim (record_of (unless_refused r (Step s) w) s) ≤ made_by w.dim (record_of w s)
-    turn None none = subst (λ u. made_by w.dim (record_of u s) ≤ made_by w.dim (record_of w s)) (apply-accepted (Step s) w none) (step_pays w s k none)
-    turn (Some why) _ = omega arith
-
 -- so all that a station makes by steps alone is what was due
 steps_bounded : (w : State) (s : ℕ) (later : List Act) → Stands w → HasOnlySteps s later → length (trail_of (apply_all later w) s) ≤ made_by w.dim (record_of w s)
 steps_bounded w s later k steps =
@@ -113,15 +111,11 @@ node_depth n v r named =
 pub Stands-counted : (w : State) → Stands w → IsCounted w
 Stands-counted w k = record {
   levels = node_depth w.dim;
-  take = λ s v none. phase_here (Take s v) w (Looking v) none (apply_begin_phase s (Looking v) w (accepted (Take s v) w none).0);
-  release = λ s none. phase_here (Release s) w (Leaving (owned (phase_of w s))) none (apply_begin_phase s (Leaving (owned (phase_of w s))) w (accepted (Release s) w none).0) ∙ release_due w.dim (phase_of w s) (release_holds (phase_of w s) (accepted (Release s) w none).1);
   falls = λ s none. falls w s k none;
   one_event = one_event w;
-  never_rises = never_rises w k;
-  others = λ act t other. ap (λ (r : Record). r.phase) (others_record act w t other);
-  others_trail = λ act t other. ap (λ (r : Record). r.trail) (others_record act w t other);
+  others = λ act t other. others_record act w t other;
   take_events = λ s v later none steps. begin_bounded (Take s v) s (Looking v) w later k (accepted (Take s v) w none).0 none refl steps;
-  release_events = λ s later none steps. subst (λ d. length (trail_of (apply_all later (apply (Release s) w)) s) ≤ length (trail_of w s) + d) (release_due w.dim (phase_of w s) (release_holds (phase_of w s) (accepted (Release s) w none).1))
+  release_events = λ s later none steps. subst (λ d. length (trail_of (apply_all later (apply (Release s) w)) s) ≤ length (trail_of w s) + d) (release_due w.dim (phase_of w s) (release_holds w.dim s (phase_of w s) (accepted (Release s) w none).1))
       (begin_bounded (Release s) s (Leaving (owned (phase_of w s))) w later k (accepted (Release s) w none).0 none refl steps);
 }
 

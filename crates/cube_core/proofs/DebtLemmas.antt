@@ -9,7 +9,8 @@ use Rattle.cube_core.specs.declared.phase.Seen.{Seen}
 use Rattle.cube_core.specs.declared.phase.Seen.TheVariants as seen
 use Rattle.cube_core.specs.declared.phase.Phase.{Phase}
 use Rattle.cube_core.specs.declared.phase.Phase.TheVariants.{Idle, Looking, Looked, Climbing, Swept, Holding, Leaving, Backing, Arriving, Unmarked, Marked, Retired}
-use Rattle.cube_core.specs.Phase.{side_of, owned, stop, marked_at, marked_word, is_seen_free, MustClear}
+use Rattle.cube_core.specs.Phase.{side_of, owned, marked_word, is_seen_free, MustClear}
+use Rattle.cube_core.specs.InnerPhase.{stop, marked_at}
 use Rattle.cube_core.specs.Event.{cleared_as_seen}
 use Rattle.cube_core.proofs.BitLemmas.{IsInUse-use_of, IsInUse-more, IsInUse-with_mark, IsInUse-with_side, cleared-had, cleared-none, with_mark-use}
 use Rattle.cube_core.proofs.ChangeLemmas.{Agrees, Change, each_word}

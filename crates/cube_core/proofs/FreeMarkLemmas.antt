@@ -5,7 +5,8 @@ use Rattle.status_word.specs.Word.{IsFree, use_of, with_mark}
 use Rattle.status_word.proofs.WordLemmas.{IsOccupied-in_use}
 use Rattle.cube_core.specs.declared.phase.Phase.{Phase}
 use Rattle.cube_core.specs.declared.phase.Phase.TheVariants.{Idle, Marked}
-use Rattle.cube_core.specs.Phase.{side_of, marked_at, marked_word, is_seen_free}
+use Rattle.cube_core.specs.Phase.{side_of, marked_word, is_seen_free}
+use Rattle.cube_core.specs.InnerPhase.{marked_at}
 use Rattle.cube_core.proofs.BitLemmas.{use_of-twice, use_of-cleared, IsInUse-with_mark, IsInUse-with_side}
 use Rattle.cube_core.proofs.ChangeLemmas.{Change, each, each_word}
 use Rattle.cube_core.proofs.MoveLemmas.{Move, begins_take, begins_release, retires, looks_free, looks_used, claims, claims_lost, sweeps, raises, raises_under, zeroes, zeroes_back, unmarks, marks, marks_stop, looks_left, looks_right, clears, clears_lost}

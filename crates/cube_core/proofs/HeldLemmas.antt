@@ -9,7 +9,8 @@ use Rattle.cube_shape.proofs.PathLemmas.{OnPath-le, child_towards_is}
 use Rattle.cube_shape.proofs.RegionLemmas.{IsNodeOf-aligned, AreApart-paths}
 use Rattle.cube_core.specs.declared.phase.Phase.{Phase}
 use Rattle.cube_core.specs.declared.phase.Phase.TheVariants.{Idle, Looking, Looked, Climbing, Swept, Holding, Leaving, Backing, Arriving, Unmarked, Marked, Retired}
-use Rattle.cube_core.specs.Phase.{asked, owned, stop, node_held}
+use Rattle.cube_core.specs.Phase.{owned, node_held}
+use Rattle.cube_core.specs.InnerPhase.{asked, stop}
 use Rattle.cube_core.specs.Held.{dim_at, region_at, region_held, IsMachineStep}
 use Rattle.cube_core.proofs.LevelLemmas.{region_at-named}
 use Rattle.cube_core.proofs.ChangeLemmas.{Fit, Agrees, Change, each}

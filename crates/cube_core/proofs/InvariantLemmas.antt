@@ -6,7 +6,8 @@ use Rattle.std.proofs.lemmas.Nat.Bits.{bit_at-zero}
 use Rattle.status_word.specs.Word.{IsSet, IsOccupied, use_of}
 use Rattle.cube_core.specs.declared.phase.Phase.{Phase}
 use Rattle.cube_core.specs.declared.phase.Phase.TheVariants.{Idle, Retired}
-use Rattle.cube_core.specs.Phase.{owned, marked_at, HasPassed}
+use Rattle.cube_core.specs.Phase.{owned, HasPassed}
+use Rattle.cube_core.specs.InnerPhase.{marked_at}
 use Rattle.cube_core.proofs.ChangeLemmas.{Fit, Agrees, Change}
 use Rattle.cube_core.proofs.MoveLemmas.{unmarked_at, Move}
 use Rattle.cube_core.proofs.SeenFreeLemmas.{Shut, shut_kept}

@@ -5,7 +5,8 @@ use Rattle.status_word.specs.Word.{mark_bit, IsSet, IsMarked, with_mark}
 use Rattle.status_word.proofs.WordLemmas.{use_of-unmarked, with_mark-has}
 use Rattle.cube_core.specs.declared.phase.Phase.{Phase}
 use Rattle.cube_core.specs.declared.phase.Phase.TheVariants.{Unmarked}
-use Rattle.cube_core.specs.Phase.{marked_at, marked_word}
+use Rattle.cube_core.specs.Phase.{marked_word}
+use Rattle.cube_core.specs.InnerPhase.{marked_at}
 use Rattle.cube_core.proofs.BitLemmas.{with_mark-other}
 use Rattle.cube_core.proofs.ChangeLemmas.{Change, each, each_word}
 use Rattle.cube_core.proofs.MoveLemmas.{unmarked_at, Move, claims, raises, zeroes, zeroes_back, unmarks, marks, looks_left, looks_right, clears}

@@ -11,7 +11,8 @@ use Rattle.cube_core.specs.declared.phase.Seen.{Seen}
 use Rattle.cube_core.specs.declared.phase.Seen.TheVariants as seen
 use Rattle.cube_core.specs.declared.phase.Phase.{Phase}
 use Rattle.cube_core.specs.declared.phase.Phase.TheVariants.{Idle, Looking, Looked, Climbing, Swept, Holding, Leaving, Backing, Arriving, Unmarked, Marked, Retired}
-use Rattle.cube_core.specs.Phase.{side_of, asked, owned, stop, node_held, swept_from, marked_at, MustClear}
+use Rattle.cube_core.specs.Phase.{side_of, owned, node_held, MustClear}
+use Rattle.cube_core.specs.InnerPhase.{asked, stop, swept_from, marked_at}
 use Rattle.cube_core.specs.Event.{Transition, transition, busy, phase_after_raise, phase_after_zero, is_free, is_occupied, cleared_as_seen, clear_event, seen_at}
 use Rattle.cube_core.specs.Schedule.{step_refusal}
 use Rattle.cube_core.specs.Count.{depth, unseen, events_due}

@@ -76,7 +76,7 @@ retired_refused act w gone = turn (ltb (station_of act) (length w.records))
 retired_next : (n stations s : ℕ) (act : Act) (acts : List Act) → phase_of (apply_all acts (initial n stations)) s ≡ Retired → phase_of (apply_all (act ∷ acts) (initial n stations)) s ≡ Retired
 retired_next n stations s act acts before = elim (cases_eq s (station_of act)) [
   | inl same ↦ ap (λ w. phase_of w s) (retired_refused act (apply_all acts (initial n stations)) (subst (λ t. phase_of (apply_all acts (initial n stations)) t ≡ Retired) same before)) ∙ before
-  | inr other ↦ (every_schedule n stations acts).counted.others act s other ∙ before
+  | inr other ↦ ap (λ (r : Record). r.phase) ((every_schedule n stations acts).counted.others act s other) ∙ before
 ]
 
 pub retired_stays : (n stations s : ℕ) (later earlier : List Act) → phase_of (apply_all earlier (initial n stations)) s ≡ Retired → phase_of (apply_all (later ++ earlier) (initial n stations)) s ≡ Retired

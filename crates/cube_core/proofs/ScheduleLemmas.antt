@@ -1,17 +1,18 @@
 -- What the invariant says after every schedule, in the words of the law.
-use Rattle.std.proofs.Common.{◌≡◌, ℕ, ◌+◌, ◌^◌, ◌<◌, ◌≤◌, inl, inr, sym, ◌∙◌, subst, arith}
+use Rattle.std.proofs.Common.{◌≡◌, ℕ, ◌+◌, ◌^◌, ◌<◌, ◌≤◌, inl, inr, List, sym, ◌∙◌, subst, arith}
 use Rattle.std.proofs.lemmas.Bool.{cases_eq}
 use Rattle.std.proofs.lemmas.List.{get_or_past}
 use Rattle.status_word.specs.Word.{IsSet, IsOccupied, IsMarked}
+use Rattle.cube_core.specs.declared.act.Act.{Act}
 use Rattle.cube_core.specs.Phase.{Owns}
 use Rattle.cube_core.specs.Schedule.{State, phase_of, word_of, initial, apply_all}
 use Rattle.cube_core.specs.Safety.{IsSafe}
 use Rattle.cube_core.specs.Debts.{HasDebts}
-use Rattle.cube_core.specs.Law.{IsTreeLawful, EveryScheduleIsLawful}
+use Rattle.cube_core.specs.Law.{IsTreeLawful}
 use Rattle.cube_core.proofs.ConsequenceLemmas.{in_use_engaged, at_rest_exact, retired_zero}
 use Rattle.cube_core.proofs.HeldLemmas.{held_named, held_lawful}
 pub use Rattle.cube_core.proofs.StandsLemmas.{Stands, accepted, apply-accepted, apply_all_stands, apply_begin_phase, below_inner, initial_stands, node_there, others_record}
-pub use Rattle.cube_core.proofs.CountLemmas.{Stands-counted}
+pub use Rattle.cube_core.proofs.CountLemmas.{Stands-counted, take_due, release_is_due}
 use Rattle.cube_core.proofs.CountLemmas.{take_named}
 use Rattle.cube_core.proofs.StandsLemmas.{apply_leads}
 
@@ -63,6 +64,6 @@ Stands-lawful w k = record {
   counted = Stands-counted w k;
 }
 
-pub every_schedule : EveryScheduleIsLawful
+pub every_schedule : (n stations : ℕ) (acts : List Act) → IsTreeLawful (apply_all acts (initial n stations))
 every_schedule n stations acts =
     Stands-lawful (apply_all acts (initial n stations)) (apply_all_stands acts (initial n stations) (initial_stands n stations))

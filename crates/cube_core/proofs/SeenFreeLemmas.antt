@@ -12,7 +12,8 @@ use Rattle.cube_core.specs.declared.phase.Seen.{Seen}
 use Rattle.cube_core.specs.declared.phase.Seen.TheVariants as seen
 use Rattle.cube_core.specs.declared.phase.Phase.{Phase}
 use Rattle.cube_core.specs.declared.phase.Phase.TheVariants.{Idle, Looking, Looked, Climbing, Swept, Holding, Leaving, Backing, Arriving, Unmarked, Marked, Retired}
-use Rattle.cube_core.specs.Phase.{side_of, owned, stop, swept_from, marked_at, marked_word, saw, is_seen_free, IsMarkedAt, HasPassed, HasSwept}
+use Rattle.cube_core.specs.Phase.{side_of, owned, marked_word, is_seen_free, IsMarkedAt, HasPassed, HasSwept}
+use Rattle.cube_core.specs.InnerPhase.{stop, swept_from, marked_at, saw}
 use Rattle.cube_core.specs.Event.{busy}
 use Rattle.cube_core.proofs.BitLemmas.{with_side-marks, with_mark-other}
 use Rattle.cube_core.proofs.ChangeLemmas.{Agrees, Change, each, each_word}

@@ -11,9 +11,10 @@ use Rattle.cube_core.specs.declared.phase.Phase.TheVariants.{Idle, Looking, Look
 use Rattle.cube_core.specs.declared.act.Act.{Act}
 use Rattle.cube_core.specs.declared.act.Act.TheVariants.{Take, Release, Step, Retire}
 use Rattle.cube_core.specs.declared.act.Refused.{Refused}
-use Rattle.cube_core.specs.Phase.{asked, owned, node_held}
+use Rattle.cube_core.specs.Phase.{owned, node_held}
+use Rattle.cube_core.specs.InnerPhase.{asked}
 use Rattle.cube_core.specs.Event.{Transition, transition, retirement}
-use Rattle.cube_core.specs.Schedule.{Record, State, record_of, phase_of, word_of, initial, apply_begin, apply_event, take_refusal, release_refusal, retire_refusal, phase_refusal, refusal, station_of, apply_accepted, unless_refused, apply, apply_all, HasOnlySteps}
+use Rattle.cube_core.specs.Schedule.{Record, State, record_of, phase_of, word_of, initial, apply_begin, apply_event, phase_refusal, refusal, station_of, apply_accepted, unless_refused, apply, apply_all, HasOnlySteps}
 use Rattle.cube_core.specs.Held.{IsMachineStep, region_held, held_of}
 use Rattle.cube_core.proofs.ChangeLemmas.{Fit, IsInner, Change}
 use Rattle.cube_core.proofs.MoveLemmas.{Move, IsRisen, begins_take, begins_release, retires, claims, raises, zeroes, zeroes_back, clears, step_move, double}
@@ -111,53 +112,53 @@ accepted act w = turn _ (ltb (station_of act) (length w.records)) refl
     turn why true is none = (ltb-true (station_of act) (length w.records) is, none)
     turn why false is none = absurd (cc)
 
-take_idle : (n v : ℕ) (p : Phase) → take_refusal n v p ≡ None → (p ≡ Idle) × IsInCube n v
-take_idle n v Idle none = turn _ (ltb 0 v) (ltb v (2 ^ (n + 1))) refl refl none
+take_idle : (n s v : ℕ) (p : Phase) → phase_refusal n (Take s v) p ≡ None → (p ≡ Idle) × IsInCube n v
+take_idle n s v Idle none = turn _ (ltb 0 v) (ltb v (2 ^ (n + 1))) refl refl none
   where
-    turn : (why : Refused) (s t : Bool) → ltb 0 v ≡ s → ltb v (2 ^ (n + 1)) ≡ t → cond (s && t) None (Some why) ≡ None → (Idle ≡ Idle) × IsInCube n v
+    turn : (why : Refused) (b t : Bool) → ltb 0 v ≡ b → ltb v (2 ^ (n + 1)) ≡ t → cond (b && t) None (Some why) ≡ None → (Idle ≡ Idle) × IsInCube n v
     turn why true true low high is = (refl, (ltb-true 0 v low, ltb-true v (2 ^ (n + 1)) high))
     turn why true false low high is = absurd (cc)
     turn why false true low high is = absurd (cc)
     turn why false false low high is = absurd (cc)
-take_idle n v (Looking h) none = absurd (cc)
-take_idle n v (Looked h w) none = absurd (cc)
-take_idle n v (Climbing h a) none = absurd (cc)
-take_idle n v (Swept h a) none = absurd (cc)
-take_idle n v (Holding h) none = absurd (cc)
-take_idle n v (Leaving h) none = absurd (cc)
-take_idle n v (Backing h a) none = absurd (cc)
-take_idle n v (Arriving a) none = absurd (cc)
-take_idle n v (Unmarked a) none = absurd (cc)
-take_idle n v (Marked a w left right) none = absurd (cc)
-take_idle n v Retired none = absurd (cc)
+take_idle n s v (Looking h) none = absurd (cc)
+take_idle n s v (Looked h w) none = absurd (cc)
+take_idle n s v (Climbing h a) none = absurd (cc)
+take_idle n s v (Swept h a) none = absurd (cc)
+take_idle n s v (Holding h) none = absurd (cc)
+take_idle n s v (Leaving h) none = absurd (cc)
+take_idle n s v (Backing h a) none = absurd (cc)
+take_idle n s v (Arriving a) none = absurd (cc)
+take_idle n s v (Unmarked a) none = absurd (cc)
+take_idle n s v (Marked a w left right) none = absurd (cc)
+take_idle n s v Retired none = absurd (cc)
 
-pub release_holds : (p : Phase) → release_refusal p ≡ None → p ≡ Holding (owned p)
-release_holds Idle none = absurd (cc)
-release_holds (Looking h) none = absurd (cc)
-release_holds (Looked h w) none = absurd (cc)
-release_holds (Climbing h a) none = absurd (cc)
-release_holds (Swept h a) none = absurd (cc)
-release_holds (Holding h) none = refl
-release_holds (Leaving h) none = absurd (cc)
-release_holds (Backing h a) none = absurd (cc)
-release_holds (Arriving a) none = absurd (cc)
-release_holds (Unmarked a) none = absurd (cc)
-release_holds (Marked a w left right) none = absurd (cc)
-release_holds Retired none = absurd (cc)
+pub release_holds : (n s : ℕ) (p : Phase) → phase_refusal n (Release s) p ≡ None → p ≡ Holding (owned p)
+release_holds n s Idle none = absurd (cc)
+release_holds n s (Looking h) none = absurd (cc)
+release_holds n s (Looked h w) none = absurd (cc)
+release_holds n s (Climbing h a) none = absurd (cc)
+release_holds n s (Swept h a) none = absurd (cc)
+release_holds n s (Holding h) none = refl
+release_holds n s (Leaving h) none = absurd (cc)
+release_holds n s (Backing h a) none = absurd (cc)
+release_holds n s (Arriving a) none = absurd (cc)
+release_holds n s (Unmarked a) none = absurd (cc)
+release_holds n s (Marked a w left right) none = absurd (cc)
+release_holds n s Retired none = absurd (cc)
 
-retire_idle : (p : Phase) → retire_refusal p ≡ None → p ≡ Idle
-retire_idle Idle none = refl
-retire_idle (Looking h) none = absurd (cc)
-retire_idle (Looked h w) none = absurd (cc)
-retire_idle (Climbing h a) none = absurd (cc)
-retire_idle (Swept h a) none = absurd (cc)
-retire_idle (Holding h) none = absurd (cc)
-retire_idle (Leaving h) none = absurd (cc)
-retire_idle (Backing h a) none = absurd (cc)
-retire_idle (Arriving a) none = absurd (cc)
-retire_idle (Unmarked a) none = absurd (cc)
-retire_idle (Marked a w left right) none = absurd (cc)
-retire_idle Retired none = absurd (cc)
+retire_idle : (n s : ℕ) (p : Phase) → phase_refusal n (Retire s) p ≡ None → p ≡ Idle
+retire_idle n s Idle none = refl
+retire_idle n s (Looking h) none = absurd (cc)
+retire_idle n s (Looked h w) none = absurd (cc)
+retire_idle n s (Climbing h a) none = absurd (cc)
+retire_idle n s (Swept h a) none = absurd (cc)
+retire_idle n s (Holding h) none = absurd (cc)
+retire_idle n s (Leaving h) none = absurd (cc)
+retire_idle n s (Backing h a) none = absurd (cc)
+retire_idle n s (Arriving a) none = absurd (cc)
+retire_idle n s (Unmarked a) none = absurd (cc)
+retire_idle n s (Marked a w left right) none = absurd (cc)
+retire_idle n s Retired none = absurd (cc)
 
 -- what an act leads to: the invariant holds there, and the act was a step of the machine of pairs
 pub record LeadsTo (w : State) (u : ℕ) (new : State) : Type 0 where
@@ -178,16 +179,16 @@ move_leads w new u p v y q k dim words stations move is change =
 
 apply_accepted_leads : (act : Act) (w : State) → Stands w → (station_of act < length w.records) → phase_refusal w.dim act (phase_of w (station_of act)) ≡ None → LeadsTo w (station_of act) (apply_accepted act w)
 apply_accepted_leads (Take s v) w k there none =
-    let idle = take_idle w.dim v (phase_of w s) none in
+    let idle = take_idle w.dim s v (phase_of w s) none in
     move_leads w _ s Idle 0 (word_of w 0) (Looking v) k refl refl (length-set w.records s _) (begins_take v idle.1) idle.0 (apply_begin_change s (Looking v) w there)
 apply_accepted_leads (Release s) w k there none =
-    let holds = release_holds (phase_of w s) none in
+    let holds = release_holds w.dim s (phase_of w s) none in
     move_leads w _ s (Holding (owned (phase_of w s))) 0 (word_of w 0) (Leaving (owned (phase_of w s))) k refl refl (length-set w.records s _) (begins_release (owned (phase_of w s)) (subst (Fit w.dim) holds (k.holds.agrees.fit s))) holds (apply_begin_change s (Leaving (owned (phase_of w s))) w there)
 apply_accepted_leads (Step s) w k there none =
     let in_range = subst (λ m. (transition s (phase_of w s)).node < m) (sym k.word_count) (node_there w.dim s (phase_of w s) (k.holds.agrees.fit s)) in
     move_leads w _ s (phase_of w s) _ _ _ k refl (length-set w.words (transition s (phase_of w s)).node _) (length-set w.records s _) (step_move w.dim s (word_of w) (phase_of w s) (k.holds.agrees.fit s) none) refl (apply_event_change (transition s (phase_of w s)) s w in_range there)
 apply_accepted_leads (Retire s) w k there none =
-    let idle = retire_idle (phase_of w s) none in
+    let idle = retire_idle w.dim s (phase_of w s) none in
     let in_range = subst (λ m. 0 < m) (sym k.word_count) (pow_pos (w.dim + 1)) in
     move_leads w _ s Idle _ _ _ k refl (length-set w.words 0 _) (length-set w.records s _) retires idle (apply_event_change (retirement s) s w in_range there)
 

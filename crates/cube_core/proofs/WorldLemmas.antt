@@ -16,14 +16,14 @@ use Rattle.cube_core.specs.declared.act.Refused.{Refused}
 use Rattle.cube_core.specs.declared.act.Refused.TheVariants.{NotIdle, NoStation, NotInCube}
 use Rattle.cube_core.specs.Phase.{owned, node_held}
 use Rattle.cube_core.specs.Event.{Transition, transition, retirement}
-use Rattle.cube_core.specs.Schedule.{Record, State, record_of, phase_of, word_of, initial, apply_begin, apply_event, take_refusal, release_refusal, retire_refusal, step_refusal, phase_refusal, refusal, station_of, apply_accepted, unless_refused, apply, apply_all}
-use Rattle.cube_core.specs.World.{record_without_trail, without_trails, HasShapeOf}
-use Rattle.cube_core.specs.InnerWorld.{state_of, IsReached, IsWorld}
+use Rattle.cube_core.specs.Schedule.{Record, State, record_of, phase_of, word_of, initial, apply_begin, apply_event, step_refusal, phase_refusal, refusal, station_of, apply_accepted, unless_refused, apply, apply_all}
+use Rattle.cube_core.specs.World.{without_trails, HasShapeOf}
+use Rattle.cube_core.specs.InnerWorld.{record_without_trail, state_of, IsReached, IsWorld}
 use Rattle.cube_core.specs.Count.{depth, events_due, IsCounted}
 use Rattle.cube_core.specs.Law.{IsTreeLawful}
 use Rattle.cube_core.proofs.ChangeLemmas.{Fit, IsInner}
 use Rattle.cube_core.proofs.InvariantLemmas.{Invariant}
-use Rattle.cube_core.proofs.ScheduleLemmas.{Stands, Stands-lawful, Stands-counted, apply-accepted, initial_stands, apply_all_stands, node_there}
+use Rattle.cube_core.proofs.ScheduleLemmas.{Stands, Stands-lawful, Stands-counted, take_due, release_is_due, apply-accepted, initial_stands, apply_all_stands, node_there}
 
 -- ---- records whose trails are left out
 
@@ -185,46 +185,46 @@ made_initial n stations limit few words phases zeros idle = (
         is_copies = ap (λ rs. record { dim = n; words = replicate (2 ^ (n + 1)) 0; records = rs }) (all_idle stations)
 
 -- a take of a station that is not idle, and a release of one that does not hold
-pub take_busy : (n v : ℕ) (p : Phase) → (p ≡ Idle → ⊥) → take_refusal n v p ≡ Some NotIdle
-take_busy n v Idle other = absurd (other refl)
-take_busy n v (Looking h) other = refl
-take_busy n v (Looked h w) other = refl
-take_busy n v (Climbing h a) other = refl
-take_busy n v (Swept h a) other = refl
-take_busy n v (Holding h) other = refl
-take_busy n v (Leaving h) other = refl
-take_busy n v (Backing h a) other = refl
-take_busy n v (Arriving a) other = refl
-take_busy n v (Unmarked a) other = refl
-take_busy n v (Marked a w left right) other = refl
-take_busy n v Retired other = refl
+pub take_busy : (n s v : ℕ) (p : Phase) → (p ≡ Idle → ⊥) → phase_refusal n (Take s v) p ≡ Some NotIdle
+take_busy n s v Idle other = absurd (other refl)
+take_busy n s v (Looking h) other = refl
+take_busy n s v (Looked h w) other = refl
+take_busy n s v (Climbing h a) other = refl
+take_busy n s v (Swept h a) other = refl
+take_busy n s v (Holding h) other = refl
+take_busy n s v (Leaving h) other = refl
+take_busy n s v (Backing h a) other = refl
+take_busy n s v (Arriving a) other = refl
+take_busy n s v (Unmarked a) other = refl
+take_busy n s v (Marked a w left right) other = refl
+take_busy n s v Retired other = refl
 
-pub retire_busy : (p : Phase) → (p ≡ Idle → ⊥) → retire_refusal p ≡ Some NotIdle
-retire_busy Idle other = absurd (other refl)
-retire_busy (Looking h) other = refl
-retire_busy (Looked h w) other = refl
-retire_busy (Climbing h a) other = refl
-retire_busy (Swept h a) other = refl
-retire_busy (Holding h) other = refl
-retire_busy (Leaving h) other = refl
-retire_busy (Backing h a) other = refl
-retire_busy (Arriving a) other = refl
-retire_busy (Unmarked a) other = refl
-retire_busy (Marked a w left right) other = refl
-retire_busy Retired other = refl
+pub retire_busy : (n s : ℕ) (p : Phase) → (p ≡ Idle → ⊥) → phase_refusal n (Retire s) p ≡ Some NotIdle
+retire_busy n s Idle other = absurd (other refl)
+retire_busy n s (Looking h) other = refl
+retire_busy n s (Looked h w) other = refl
+retire_busy n s (Climbing h a) other = refl
+retire_busy n s (Swept h a) other = refl
+retire_busy n s (Holding h) other = refl
+retire_busy n s (Leaving h) other = refl
+retire_busy n s (Backing h a) other = refl
+retire_busy n s (Arriving a) other = refl
+retire_busy n s (Unmarked a) other = refl
+retire_busy n s (Marked a w left right) other = refl
+retire_busy n s Retired other = refl
 
 -- why an act of a station that is there is refused, and that of one that is not
 pub refusal-there : (act : Act) (w : State) → station_of act < length w.records → refusal act w ≡ phase_refusal w.dim act (phase_of w (station_of act))
 refusal-there act w there = ap (λ t. cond t (phase_refusal w.dim act (phase_of w (station_of act))) (Some NoStation)) (lt-ltb (station_of act) (length w.records) there)
 
 pub take_accepted : (s v : ℕ) (w : State) → s < length w.records → Idle ≡ phase_of w s → IsInCube w.dim v → refusal (Take s v) w ≡ None
-take_accepted s v w there idle in_cube = refusal-there (Take s v) w there ∙ ap (take_refusal w.dim v) (sym idle) ∙ ap (λ t. cond (t && ltb v (2 ^ (w.dim + 1))) None (Some NotInCube)) (lt-ltb 0 v in_cube.0) ∙ ap (λ t. cond t None (Some NotInCube)) (lt-ltb v (2 ^ (w.dim + 1)) in_cube.1)
+take_accepted s v w there idle in_cube = refusal-there (Take s v) w there ∙ ap (phase_refusal w.dim (Take s v)) (sym idle) ∙ ap (λ t. cond (t && ltb v (2 ^ (w.dim + 1))) None (Some NotInCube)) (lt-ltb 0 v in_cube.0) ∙ ap (λ t. cond t None (Some NotInCube)) (lt-ltb v (2 ^ (w.dim + 1)) in_cube.1)
 
 pub retire_accepted : (s : ℕ) (w : State) → s < length w.records → Idle ≡ phase_of w s → refusal (Retire s) w ≡ None
-retire_accepted s w there idle = refusal-there (Retire s) w there ∙ ap retire_refusal (sym idle)
+retire_accepted s w there idle = refusal-there (Retire s) w there ∙ ap (phase_refusal w.dim (Retire s)) (sym idle)
 
 pub release_accepted : (s h : ℕ) (w : State) → s < length w.records → Holding h ≡ phase_of w s → refusal (Release s) w ≡ None
-release_accepted s h w there holds = refusal-there (Release s) w there ∙ ap release_refusal (sym holds)
+release_accepted s h w there holds = refusal-there (Release s) w there ∙ ap (phase_refusal w.dim (Release s)) (sym holds)
 
 -- ---- what the invariant says of the phase of a station, and of the node of its next event
 
@@ -310,16 +310,16 @@ counted : (w : State) → IsWorld w → IsCounted w
 counted w world = Stands-counted w (reached-stands w world.reached)
 
 pub take_count : (s v : ℕ) (w new : State) → IsWorld w → refusal (Take s v) w ≡ None → new ≡ without_trails (apply (Take s v) w) → events_due w.dim (phase_of new s) ≡ 3 + 7 * depth w.dim v
-take_count s v w new world none is = ap (events_due w.dim) (phase_after (Take s v) w new s is) ∙ (counted w world).take s v none
+take_count s v w new world none is = ap (events_due w.dim) (phase_after (Take s v) w new s is) ∙ take_due s v w none
 
 pub release_count : (s : ℕ) (w new : State) → IsWorld w → refusal (Release s) w ≡ None → new ≡ without_trails (apply (Release s) w) → events_due w.dim (phase_of new s) ≡ 1 + 5 * depth w.dim (node_held (phase_of w s))
-release_count s w new world none is = ap (events_due w.dim) (phase_after (Release s) w new s is) ∙ (counted w world).release s none
+release_count s w new world none is = ap (events_due w.dim) (phase_after (Release s) w new s is) ∙ release_is_due s w none
 
 pub step_count : (s : ℕ) (w new : State) → IsWorld w → refusal (Step s) w ≡ None → new ≡ without_trails (apply (Step s) w) → events_due w.dim (phase_of new s) < events_due w.dim (phase_of w s)
 step_count s w new world none is = subst (λ p. events_due w.dim p < events_due w.dim (phase_of w s)) (sym (phase_after (Step s) w new s is)) ((counted w world).falls s none)
 
 pub others_same : (act : Act) (w new : State) → IsWorld w → new ≡ without_trails (apply act w) → (t : ℕ) → t ≢ station_of act → phase_of new t ≡ phase_of w t
-others_same act w new world is t other = phase_after act w new t is ∙ (counted w world).others act t other
+others_same act w new world is t other = phase_after act w new t is ∙ ap (λ (r : Record). r.phase) ((counted w world).others act t other)
 
 pub IsWorld-lawful : (w : State) → IsWorld w → IsTreeLawful w
 IsWorld-lawful w world = reached-lawful w world.reached

@@ -37,10 +37,8 @@ is_occupied w = bit_at w 0 == 1
 -- one event of a station at a node: from the word that it finds, the word that it writes, the next
 -- phase and the note. The event shows the word that it wrote
 abbrev pub event_at : ℕ → Kind → ℕ → (ℕ → ℕ) → (ℕ → Phase) → (ℕ → Note) → Transition
-event_at station kind node writes next note =
-    let made : ℕ → Event = λ w.
-    record { station = station; kind = kind; node = node; word = writes w; note = note w } in
-    record { node = node; writes = writes; next = next; events = λ w. made w ∷ [] }
+event_at station kind node writes next note = record { node = node; writes = writes; next = next; events = λ w.
+    record { station = station; kind = kind; node = node; word = writes w; note = note w } ∷ [] }
 
 -- past a on the way up from h: the station holds h where a is the root, else it climbs on
 abbrev pub phase_after_raise : ℕ → ℕ → Phase
@@ -62,10 +60,6 @@ seen_at w = if is_free w then seen.Free else seen.Used
 
 abbrev pub seen_note : ℕ → Note
 seen_note w = if is_free w then note.Free else note.Used
-
--- no event: the phase stays
-abbrev pub no_event : Phase → Transition
-no_event phase = record { node = 0; writes = λ w. w; next = λ w. phase; events = λ w. [] }
 
 -- the node gets the word 0, whatever is found
 abbrev pub zero_event : ℕ → ℕ → Transition
@@ -89,12 +83,10 @@ clear_event s a marked y = event_at s Clear a (λ w. if w == marked then y else 
 -- the first while a child is not seen yet, then the second
 abbrev pub if_unseen : Seen → Transition → Transition → Transition
 if_unseen seen.NotYet first second = first
-if_unseen seen.Free first second = second
-if_unseen seen.Used first second = second
+if_unseen _ first second = second
 
 -- what a station does in its phase
 abbrev pub transition : ℕ → Phase → Transition
-transition s Idle = no_event Idle
 -- a load
 transition s (Looking h) = event_at s Look h (λ w. w)
     (λ w. if is_free w then Looked h w else Idle)
@@ -109,7 +101,6 @@ transition s (Climbing h a) = event_at s Sweep a use_of (λ w. Swept h a) (λ w.
 transition s (Swept h a) = event_at s Raise a (with_side (side_of (child_towards a h)))
     (λ w. if is_occupied w then Backing h a else phase_after_raise h a)
     (λ w. if is_occupied w then note.Under else note_after_raise a)
-transition s (Holding h) = no_event (Holding h)
 transition s (Leaving h) = zero_event s h
 transition s (Backing h a) = zero_event s h
 -- all marks go
@@ -123,7 +114,8 @@ transition s (Marked a w left right) =
     if_unseen left (child_event s (child_of a Left) (λ found. Marked a w found right))
     (if_unseen right (child_event s (child_of a Right) (λ found. Marked a w left found))
     (clear_event s a w (cleared_as_seen w left right)))
-transition s Retired = no_event Retired
+-- at rest it makes no event, and its phase stays
+transition s phase = record { node = 0; writes = λ w. w; next = λ w. phase; events = λ w. [] }
 
 -- an idle station sets its bit in the roll, and makes no event any more
 abbrev pub retirement : ℕ → Transition

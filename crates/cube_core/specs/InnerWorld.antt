@@ -1,10 +1,14 @@
 -- No public contract cites these: how a world's fields represent a state, and what the type keeps.
-use Rattle.std.specs.Prelude.{◌≡◌, ℕ, ◌≤◌, List, length, map}
+use Rattle.std.specs.Prelude.{◌≡◌, ℕ, ◌≤◌, List, [], length, map}
 use Rattle.cube_shape.specs.declared.limits.TheConstants.{MAX_DIM, MAX_STATIONS}
 use Rattle.cube_core.specs.declared.phase.Phase.{Phase}
 use Rattle.cube_core.specs.declared.act.Act.{Act}
-use Rattle.cube_core.specs.Schedule.{State, apply_all, initial}
-use Rattle.cube_core.specs.World.{record_without_trail, without_trails}
+use Rattle.cube_core.specs.Schedule.{Record, State, apply_all, initial}
+use Rattle.cube_core.specs.World.{without_trails}
+
+-- the record of a station of which only the phase is known
+abbrev pub record_without_trail : Phase → Record
+record_without_trail phase = record { phase = phase; trail = [] }
 
 -- the state with these phases
 abbrev pub state_of : ℕ → List ℕ → List Phase → State

@@ -8,9 +8,9 @@ use Rattle.cube_core.specs.declared.phase.Phase.{Phase}
 use Rattle.cube_core.specs.declared.phase.Phase.TheVariants.{Idle, Looking, Holding, Leaving, Retired}
 use Rattle.cube_core.specs.declared.act.Act.{Act}
 use Rattle.cube_core.specs.declared.act.Act.TheVariants.{Take, Release, Step, Retire}
-use Rattle.cube_core.specs.Phase.{asked, node_held, step_refusal, IsEngagedAt, IsAtRest}
+use Rattle.cube_core.specs.Phase.{standing, node_held, step_refusal, IsEngagedAt, IsAtRest}
 use Rattle.cube_core.specs.Event.{transition, retirement}
-use Rattle.cube_core.specs.Schedule.{Record, State, phase_of, word_of, refusal, station_of, apply, apply_all, initial, HasOnlySteps, AreOneEvent}
+use Rattle.cube_core.specs.Schedule.{Record, State, phase_of, word_of, refusal, station_of, apply, apply_all, HasOnlySteps, AreOneEvent}
 use Rattle.cube_core.specs.Safety.{IsSafe}
 use Rattle.cube_core.specs.Debts.{HasDebts}
 use Rattle.cube_core.specs.Held.{held_of, IsMachineStep}
@@ -29,7 +29,7 @@ pub record IsTreeLawful (w : State) : Type 0 where
   -- each further act is a step of its station on the machine of regions, or leaves the held set alone:
   -- the region that is given is that of the node asked
   pub steps : (act : Act)
-      → IsMachineStep w.dim (station_of act) (asked (phase_of w (station_of act)))
+      → IsMachineStep w.dim (station_of act) (standing (phase_of w (station_of act))).asked
       (held_of w) (held_of (apply act w))
   -- and the node asked is that of the take: from an accepted take on, for as long as all further acts of
   -- the station are steps, it holds the region of the node that the take named, or none
@@ -59,8 +59,3 @@ pub record CallsAreSingleEvents : Type 0 where
       → AreOneEvent n (Step s ∷ Release s ∷ []) s r (transition s (Leaving h))
   pub retire : (n s : ℕ) (r : Record) → r.phase ≡ Idle
       → AreOneEvent n (Retire s ∷ []) s r (retirement s)
-
--- after every list of acts from an opened world, for every dimension and number of stations
-abbrev pub EveryScheduleIsLawful : Type 0
-EveryScheduleIsLawful = (n stations : ℕ) (acts : List Act)
-    → IsTreeLawful (apply_all acts (initial n stations))

@@ -7,6 +7,7 @@ pub mod Debts
 pub mod Held
 pub mod Count
 pub mod Law
+pub mod InnerPhase
 pub mod InnerEffect
 pub mod InnerWorld
 pub use Rattle.cube_shape.specs.Node.{IsInCube, IsNodeOf, OnPath, child_of, child_towards, parent_of}

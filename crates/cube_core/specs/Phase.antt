@@ -52,38 +52,19 @@ standing (Unmarked a) = record nowhere { to_clear = a }
 standing (Marked a w left right) = record nowhere { to_clear = a; marked_at = a; marked_word = w; saw = seen_of left right }
 standing Retired = nowhere
 
-abbrev pub asked : Phase → ℕ
-asked phase = (standing phase).asked
-
 abbrev pub owned : Phase → ℕ
 owned phase = (standing phase).owned
-
-abbrev pub stop : Phase → ℕ
-stop phase = (standing phase).stop
-
-abbrev pub swept_from : Phase → ℕ
-swept_from phase = (standing phase).swept_from
 
 abbrev pub node_held : Phase → ℕ
 node_held phase = (standing phase).held
 
-abbrev pub to_clear : Phase → ℕ
-to_clear phase = (standing phase).to_clear
-
-abbrev pub marked_at : Phase → ℕ
-marked_at phase = (standing phase).marked_at
-
 abbrev pub marked_word : Phase → ℕ
 marked_word phase = (standing phase).marked_word
 
-abbrev pub saw : Phase → Side → Seen
-saw phase = (standing phase).saw
-
 -- the child was seen free
 abbrev pub is_seen_free : Seen → Bool
-is_seen_free seen.NotYet = false
 is_seen_free seen.Free = true
-is_seen_free seen.Used = false
+is_seen_free _ = false
 
 -- it is to clear the node v, where the word x stands: Arriving or Unmarked there, or Marked there
 -- with x still the word that its mark made, and no child seen in use
@@ -115,16 +96,16 @@ Owns phase v = (0 < v) × (owned phase ≡ v)
 -- it has passed the parent of c through c: an ancestor of the node that it owns, where its Raise
 -- found no OCC
 abbrev pub HasPassed : Phase → ℕ → Type 0
-HasPassed phase c = OnPath c (owned phase) × (stop phase < parent_of c)
+HasPassed phase c = OnPath c (owned phase) × ((standing phase).stop < parent_of c)
 
 -- it has passed the parent of c through c, or is swept there
 abbrev pub HasSwept : Phase → ℕ → Type 0
-HasSwept phase c = OnPath c (owned phase) × (swept_from phase ≤ parent_of c)
+HasSwept phase c = OnPath c (owned phase) × ((standing phase).swept_from ≤ parent_of c)
 
 -- it is marked at the node v
 abbrev pub IsMarkedAt : Phase → ℕ → Type 0
-IsMarkedAt phase v = (0 < v) × (marked_at phase ≡ v)
+IsMarkedAt phase v = (0 < v) × ((standing phase).marked_at ≡ v)
 
 -- it is engaged at the node v: it owns a node of the subtree of v, or is to clear one
 abbrev pub IsEngagedAt : Phase → ℕ → Type 0
-IsEngagedAt phase v = OnPath v (owned phase) ⊎ OnPath v (to_clear phase)
+IsEngagedAt phase v = OnPath v (owned phase) ⊎ OnPath v (standing phase).to_clear

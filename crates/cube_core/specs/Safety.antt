@@ -3,7 +3,7 @@ use Rattle.std.specs.Prelude.{◌≡◌, ℕ, ◌<◌, ◌↔◌}
 use Rattle.cube_shape.specs.Node.{parent_of}
 use Rattle.status_word.specs.Word.{IsSet, IsOccupied, HasSide, IsMarked}
 use Rattle.cube_core.specs.declared.phase.Seen.TheVariants as seen
-use Rattle.cube_core.specs.Phase.{side_of, marked_word, saw, Owns, HasPassed, HasSwept, IsMarkedAt}
+use Rattle.cube_core.specs.Phase.{side_of, standing, marked_word, Owns, HasPassed, HasSwept, IsMarkedAt}
 use Rattle.cube_core.specs.Schedule.{State, phase_of, word_of}
 
 pub record IsSafe (w : State) : Type 0 where
@@ -21,5 +21,5 @@ pub record IsSafe (w : State) : Type 0 where
       → IsSet (marked_word (phase_of w s)) i → IsSet (word_of w v) i
   -- and if that station saw child c free, no station is swept at v, or has passed v, through c
   pub seen_free : (s t c : ℕ) → IsMarkedAt (phase_of w s) (parent_of c)
-      → IsMarked s (word_of w (parent_of c)) → saw (phase_of w s) (side_of c) ≡ seen.Free
+      → IsMarked s (word_of w (parent_of c)) → (standing (phase_of w s)).saw (side_of c) ≡ seen.Free
       → HasSwept (phase_of w t) c → ⊥

@@ -50,21 +50,6 @@ apply_event d s w =
     let record_after : Record = record { phase = d.next found; trail = d.events found ++ (record_of w s).trail } in
     record w { words = slice_set w.words d.node (d.writes found); records = slice_set w.records s record_after }
 
--- why a take of node v is refused in a phase, if it is
-abbrev pub take_refusal : ℕ → ℕ → Phase → Option Refused
-take_refusal n v Idle = if nat_lt 0 v && nat_lt v (2 ^ (n + 1)) then None else Some NotInCube
-take_refusal n v _ = Some NotIdle
-
--- a retirement
-abbrev pub retire_refusal : Phase → Option Refused
-retire_refusal Idle = None
-retire_refusal _ = Some NotIdle
-
--- a release
-abbrev pub release_refusal : Phase → Option Refused
-release_refusal (Holding h) = None
-release_refusal _ = Some NotHolding
-
 -- the station that an act is of
 abbrev pub station_of : Act → ℕ
 station_of (Take s v) = s
@@ -72,14 +57,18 @@ station_of (Release s) = s
 station_of (Step s) = s
 station_of (Retire s) = s
 
--- why an act of a station that is there is refused in its phase
+-- why an act of a station that is there is refused in its phase: a take first for the phase, and then
+-- for the node
 abbrev pub phase_refusal : ℕ → Act → Phase → Option Refused
-phase_refusal n (Take s v) phase = take_refusal n v phase
-phase_refusal n (Release s) phase = release_refusal phase
+phase_refusal n (Take s v) Idle = if nat_lt 0 v && nat_lt v (2 ^ (n + 1)) then None else Some NotInCube
+phase_refusal n (Take s v) _ = Some NotIdle
+phase_refusal n (Release s) (Holding h) = None
+phase_refusal n (Release s) _ = Some NotHolding
 phase_refusal n (Step s) phase = step_refusal phase
-phase_refusal n (Retire s) phase = retire_refusal phase
+phase_refusal n (Retire s) Idle = None
+phase_refusal n (Retire s) _ = Some NotIdle
 
--- why an act is refused: first that there is no such station, then the phase, then the node
+-- why an act is refused: first that there is no such station
 abbrev pub refusal : Act → State → Option Refused
 refusal act w =
     if nat_lt (station_of act) (length w.records)

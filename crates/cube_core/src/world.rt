@@ -1,11 +1,11 @@
-ghost use Rattle.std.specs.Prelude.{◌≡◌, ◌≢◌, ℕ, ◌+◌, ◌*◌, ◌^◌, ◌<◌, ◌≤◌, ◌∷◌, Some, None, length, reverse, IfSome, IfNone, IfOk, IfErr, OnOk, OnErr};
+ghost use Rattle.std.specs.Prelude.{◌≡◌, ◌≢◌, ℕ, ◌+◌, ◌*◌, ◌^◌, ◌<◌, ◌≤◌, ◌∷◌, List, Some, None, length, reverse, IfSome, IfNone, IfOk, IfErr, OnOk, OnErr};
 ghost use Rattle.cube_core.specs.Schedule.{apply, apply_all, initial, phase_of, record_of, refusal, step_refusal, word_of};
 ghost use Rattle.cube_core.specs.World.{HasShapeOf, without_trails};
 ghost use Rattle.cube_core.specs.Event.{transition, retirement};
 ghost use Rattle.cube_core.specs.InnerEffect.{IsEffect};
 ghost use Rattle.cube_core.specs.Count.{depth, events_due};
 ghost use Rattle.cube_core.specs.Phase.{node_held};
-ghost use Rattle.cube_core.specs.Law.{CallsAreSingleEvents, EveryScheduleIsLawful, IsTreeLawful};
+ghost use Rattle.cube_core.specs.Law.{CallsAreSingleEvents, IsTreeLawful};
 
 use crate::act::{Act, Refused};
 use crate::effect::{self, Effect};
@@ -276,7 +276,8 @@ impl World {
 ///   `j` levels below the root makes at most `3 + 7 * j` events and a release at most `1 + 5 * j`, in
 ///   every list of acts in which the station's own are steps.
 pub fn every_schedule_is_lawful()
-    ensures { EveryScheduleIsLawful }
+    ensures { (n stations : ℕ) (acts : List Act)
+        → IsTreeLawful (apply_all acts (initial n stations)) }
 {}
 
 /// What a station that runs on shared words makes in one atomic step is one event: a step, a take

@@ -14,7 +14,8 @@ use Rattle.cube_shape.specs.Node.{child_towards}
 use Rattle.status_word.specs.Word.{IsSet}
 use Rattle.cube_core.specs.declared.act.Act.{Act}
 use Rattle.cube_core.specs.declared.phase.Phase.TheVariants.{Idle, Holding, Retired}
-use Rattle.cube_core.specs.Phase.{owned, stop, Owns}
+use Rattle.cube_core.specs.Phase.{owned, Owns}
+use Rattle.cube_core.specs.InnerPhase.{stop}
 use Rattle.cube_core.specs.Safety.{IsSafe}
 use Rattle.cube_core.specs.Schedule.{Record, phase_of, word_of}
 use Rattle.cube_core.proofs.RunningLemmas.{lawful_after, initial_stations, closed_words}
