@@ -10,7 +10,7 @@ use Rattle.cube_core.specs.declared.act.Act.{Act}
 use Rattle.cube_core.specs.declared.act.Act.TheVariants.{Take, Release, Step, Retire}
 use Rattle.cube_core.specs.Phase.{standing, node_held, step_refusal, IsEngagedAt, IsAtRest}
 use Rattle.cube_core.specs.Event.{transition, retirement}
-use Rattle.cube_core.specs.Schedule.{Record, State, phase_of, word_of, refusal, station_of, apply, apply_all, HasOnlySteps, AreOneEvent}
+use Rattle.cube_core.specs.Schedule.{Record, State, phase_of, word_of, refusal, station_of, apply, apply_all, HasOnlySteps}
 use Rattle.cube_core.specs.Safety.{IsSafe}
 use Rattle.cube_core.specs.Debts.{HasDebts}
 use Rattle.cube_core.specs.Held.{held_of, IsMachineStep}
@@ -47,15 +47,3 @@ pub record IsTreeLawful (w : State) : Type 0 where
   pub roll : (s : ℕ) → s < length w.records → IsSet (word_of w 0) s ↔ (phase_of w s ≡ Retired)
   -- every take and every release comes to an end
   pub counted : IsCounted w
-
--- what a running station makes in one step is one event: a step, a take or a release with the step
--- after it, or a retirement
-pub record CallsAreSingleEvents : Type 0 where
-  pub step : (n s : ℕ) (p : Phase) (r : Record) → r.phase ≡ p → step_refusal p ≡ None
-      → AreOneEvent n (Step s ∷ []) s r (transition s p)
-  pub take : (n s v : ℕ) (r : Record) → r.phase ≡ Idle → IsInCube n v
-      → AreOneEvent n (Step s ∷ Take s v ∷ []) s r (transition s (Looking v))
-  pub release : (n s h : ℕ) (r : Record) → r.phase ≡ Holding h
-      → AreOneEvent n (Step s ∷ Release s ∷ []) s r (transition s (Leaving h))
-  pub retire : (n s : ℕ) (r : Record) → r.phase ≡ Idle
-      → AreOneEvent n (Retire s ∷ []) s r (retirement s)

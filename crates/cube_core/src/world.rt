@@ -1,11 +1,12 @@
-ghost use Rattle.std.specs.Prelude.{◌≡◌, ◌≢◌, ℕ, ◌+◌, ◌*◌, ◌^◌, ◌<◌, ◌≤◌, ◌∷◌, List, Some, None, length, reverse, IfSome, IfNone, IfOk, IfErr, OnOk, OnErr};
-ghost use Rattle.cube_core.specs.Schedule.{apply, apply_all, initial, phase_of, record_of, refusal, step_refusal, word_of};
+ghost use Rattle.std.specs.Prelude.{◌≡◌, ◌≢◌, ℕ, ◌+◌, ◌*◌, ◌^◌, ◌<◌, ◌≤◌, ◌∷◌, [], List, Some, None, length, reverse, IfSome, IfNone, IfOk, IfErr, OnOk, OnErr};
+ghost use Rattle.cube_shape.specs.Node.{IsInCube};
+ghost use Rattle.cube_core.specs.Schedule.{AreOneEvent, Record, apply, apply_all, initial, phase_of, record_of, refusal, step_refusal, word_of};
 ghost use Rattle.cube_core.specs.World.{HasShapeOf, without_trails};
 ghost use Rattle.cube_core.specs.Event.{transition, retirement};
 ghost use Rattle.cube_core.specs.InnerEffect.{IsEffect};
 ghost use Rattle.cube_core.specs.Count.{depth, events_due};
 ghost use Rattle.cube_core.specs.Phase.{node_held};
-ghost use Rattle.cube_core.specs.Law.{CallsAreSingleEvents, IsTreeLawful};
+ghost use Rattle.cube_core.specs.Law.{IsTreeLawful};
 
 use crate::act::{Act, Refused};
 use crate::effect::{self, Effect};
@@ -286,5 +287,12 @@ pub fn every_schedule_is_lawful()
 /// On every world in which a station has this phase, the calls make of the world what the one event
 /// makes of it, whatever the words are.
 pub fn calls_are_single_events()
-    ensures { CallsAreSingleEvents }
+    ensures step { (n s : ℕ) (p : Phase) (r : Record) → r.phase ≡ p → step_refusal p ≡ None
+        → AreOneEvent n (Act.Step s ∷ []) s r (transition s p) }
+    ensures take { (n s v : ℕ) (r : Record) → r.phase ≡ Phase.Idle → IsInCube n v
+        → AreOneEvent n (Act.Step s ∷ Act.Take s v ∷ []) s r (transition s (Phase.Looking v)) }
+    ensures release { (n s h : ℕ) (r : Record) → r.phase ≡ Phase.Holding h
+        → AreOneEvent n (Act.Step s ∷ Act.Release s ∷ []) s r (transition s (Phase.Leaving h)) }
+    ensures retire { (n s : ℕ) (r : Record) → r.phase ≡ Phase.Idle
+        → AreOneEvent n (Act.Retire s ∷ []) s r (retirement s) }
 {}

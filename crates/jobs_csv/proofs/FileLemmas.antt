@@ -4,7 +4,7 @@ use Rattle.std.proofs.lemmas.List.{length_push}
 use Rattle.std.proofs.lemmas.Bool.{false≢true}
 use Rattle.std.proofs.lemmas.Bool.Decides.{nat_tests}
 use Rattle.csv.specs.declared.reader.Reader.{Reader}
-use Rattle.csv.specs.Reading.{reader_state, strip_bom}
+use Rattle.csv.specs.Reading.{default_config, reader_state, records as all_records, strip_bom}
 use Rattle.jobs_csv.specs.declared.fault.Fault.{Fault}
 use Rattle.jobs_csv.specs.declared.fault.FaultKind.{FaultKind}
 use Rattle.jobs_csv.specs.declared.fault.FaultKind.TheVariants as what
@@ -12,7 +12,7 @@ use Rattle.jobs_csv.specs.declared.input.TheConstants.{MAX_RECORDS}
 use Rattle.jobs_csv.specs.Fault.{is_refusal}
 use Rattle.jobs_csv.specs.Inner.Parse.{IsParseError}
 use Rattle.jobs_csv.specs.Outcome.{ReturnsFile, ReturnsRows, ◌>>=◌}
-use Rattle.jobs_csv.specs.Files.{Record, at_row, file_of, numbered_row, records_of, rows_from, parse_file}
+use Rattle.jobs_csv.specs.Files.{Record, at_row, file_of, numbered_row, rows_from, parse_file}
 use Rattle.jobs_csv.specs.Inner.Input.{AreAll, HasGiven}
 use Rattle.jobs_csv.proofs.CsvRecords.{first_records, whole_records}
 
@@ -68,7 +68,7 @@ no_record header_of row_of None all = tt
 no_record header_of row_of (Some bytes) all = λ _. ap (file_of header_of row_of) (whole_records (strip_bom bytes) [] all)
 
 -- the records that were given are the first of the file
-given_first : {R : Type 0} (rem : R → Option (List ℕ)) (bytes : List ℕ) (records : List Record) (reader : Reader R) → HasGiven rem (Some bytes) records reader → (more : List Record) × (records_of bytes ≡ records ++ more)
+given_first : {R : Type 0} (rem : R → Option (List ℕ)) (bytes : List ℕ) (records : List Record) (reader : Reader R) → HasGiven rem (Some bytes) records reader → (more : List Record) × (all_records default_config (strip_bom bytes) ≡ records ++ more)
 given_first rem bytes records reader given = first_records (strip_bom bytes) records (reader_state reader) given.0 given.2
 
 -- a header that is refused

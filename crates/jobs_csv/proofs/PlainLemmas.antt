@@ -23,7 +23,8 @@ use Rattle.status_word.specs.Text.{mark_text, text_if, use_text, word_text}
 use Rattle.status_word.specs.Word.{mark_bit, use_of}
 use Rattle.jobs_csv.specs.declared.place_rows.PlaceRow.{PlaceRow}
 use Rattle.jobs_csv.specs.declared.place_rows.PlaceRow.TheVariants as row
-use Rattle.jobs_csv.specs.Name.{is_name, is_name_byte}
+use Rattle.jobs_csv.specs.Name.{is_name}
+use Rattle.jobs_csv.specs.Inner.Name.{is_name_byte}
 use Rattle.jobs_csv.specs.Inner.Rows.{command_text, outcome_text}
 use Rattle.jobs_csv.specs.ReplayRows.{event_keyword, node_word_text, note_keyword, reason_keyword}
 use Rattle.jobs_csv.specs.Replies.{collective_keyword}

@@ -34,10 +34,7 @@ unfoldable pub file_of : {Row : Type 0} → (Record → Result (Unit {0}) FaultK
 file_of header_of row_of [] = Err (record { row = 0; what = what.Fields })
 file_of header_of row_of (header ∷ records) = at_row 0 (header_of header) >>= (λ good. rows_from row_of 1 records)
 
--- the records of a file
-abbrev pub records_of : List ℕ → List Record
-records_of bytes = records default_config (strip_bom bytes)
-
--- the parse of a file of these bytes
+-- the parse of a file of these bytes: the records that `csv` gives in its default dialect, with a byte
+-- order mark taken off
 abbrev pub parse_file : {Row : Type 0} → (Record → Result (Unit {0}) FaultKind) → (Record → Result Row FaultKind) → List ℕ → Result (List Row) Fault
-parse_file header_of row_of bytes = file_of header_of row_of (records_of bytes)
+parse_file header_of row_of bytes = file_of header_of row_of (records default_config (strip_bom bytes))

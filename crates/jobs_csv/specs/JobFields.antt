@@ -1,48 +1,35 @@
 -- The parse of each field of a job's record.
-use Rattle.std.specs.Prelude.{ℕ, ◌-◌, ◌==◌, Bool, false, not, List, [], ◌∷◌, codes, Option, Some, option_and_then, Result, Ok, Err, if◌then◌else◌}
+use Rattle.std.specs.Prelude.{ℕ, ◌==◌, Bool, false, not, List, [], ◌∷◌, codes, Option, Some, option_and_then, Result, Ok, Err, if◌then◌else◌}
 use Rattle.std.specs.List.{slice_split}
 use Rattle.std.specs.Str.{bytes_eq}
 use Rattle.job_types.specs.declared.kind.Kind.{Kind}
 use Rattle.job_types.specs.declared.kind.Kind.TheVariants as kind
 use Rattle.job_types.specs.declared.kind.Op.{Op}
 use Rattle.job_types.specs.declared.kind.Op.TheVariants as op
-use Rattle.job_types.specs.declared.request.TheConstants.{MAX_LANES}
 use Rattle.jobs_csv.specs.declared.fault.FaultKind.{FaultKind}
 use Rattle.jobs_csv.specs.declared.fault.FaultKind.TheVariants as what
-use Rattle.jobs_csv.specs.declared.job_fields.Collective.{Collective}
-use Rattle.jobs_csv.specs.declared.job_fields.Collective.TheVariants as collective
-use Rattle.jobs_csv.specs.Fields.{among, dash_of, number_of, number_within}
+use Rattle.jobs_csv.specs.Fields.{among, dash_of, number_of}
 use Rattle.jobs_csv.specs.Outcome.{or_refuse, ◌>>=◌}
-
--- the lane is a number below MAX_LANES
-abbrev pub lane_of : List ℕ → Result ℕ FaultKind
-lane_of field = number_within 0 (MAX_LANES - 1) field
 
 -- the operation
 unfoldable pub op_of : List ℕ → Result Op FaultKind
 op_of field = among ((codes "add", op.Add) ∷ (codes "min", op.Min) ∷ (codes "max", op.Max)
     ∷ (codes "xor", op.Xor) ∷ (codes "and", op.And) ∷ (codes "or", op.Or) ∷ []) field
 
--- the collective of two fields, without its root; a broadcast has no operation
-unfoldable pub collective_of : List ℕ → List ℕ → Result Collective FaultKind
+-- the collective of two fields, which is given its root later; a broadcast has no operation, and an
+-- all-reduce and a scan have no root
+unfoldable pub collective_of : List ℕ → List ℕ → Result (ℕ → Kind) FaultKind
 collective_of word join =
-    if bytes_eq word (codes "broadcast") then (dash_of join >>= (λ nothing. Ok collective.Broadcast))
-    else if bytes_eq word (codes "reduce") then (op_of join >>= (λ op. Ok (collective.Reduce op)))
-    else if bytes_eq word (codes "allreduce") then (op_of join >>= (λ op. Ok (collective.AllReduce op)))
-    else if bytes_eq word (codes "scan") then (op_of join >>= (λ op. Ok (collective.Scan op)))
+    if bytes_eq word (codes "broadcast") then (dash_of join >>= (λ nothing. Ok (λ root. kind.Broadcast root)))
+    else if bytes_eq word (codes "reduce") then (op_of join >>= (λ op. Ok (λ root. kind.Reduce op root)))
+    else if bytes_eq word (codes "allreduce") then (op_of join >>= (λ op. Ok (λ root. kind.AllReduce op)))
+    else if bytes_eq word (codes "scan") then (op_of join >>= (λ op. Ok (λ root. kind.Scan op)))
     else Err what.Word
 
--- the collective with its root, if it has one
-abbrev pub with_root : ℕ → Collective → Kind
-with_root root collective.Broadcast = kind.Broadcast root
-with_root root (collective.Reduce op) = kind.Reduce op root
-with_root root (collective.AllReduce op) = kind.AllReduce op
-with_root root (collective.Scan op) = kind.Scan op
-
 -- the collective has no root, and the root is not 0
-abbrev pub has_superfluous_root : ℕ → Collective → Bool
-has_superfluous_root root collective.Broadcast = false
-has_superfluous_root root (collective.Reduce op) = false
+abbrev pub has_superfluous_root : ℕ → Kind → Bool
+has_superfluous_root root (kind.Broadcast own) = false
+has_superfluous_root root (kind.Reduce op own) = false
 has_superfluous_root root _ = not (root == 0)
 
 -- the numbers of all pieces, if each has one

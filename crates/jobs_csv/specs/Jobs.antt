@@ -1,15 +1,16 @@
 -- The parse of a file of jobs.
-use Rattle.std.specs.Prelude.{ℕ, Bool, List, [], ◌∷◌, codes, Option, Some, None, Result, Ok, Err, if◌then◌else◌}
+use Rattle.std.specs.Prelude.{ℕ, ◌-◌, Bool, List, [], ◌∷◌, codes, Option, Some, None, Result, Ok, Err, if◌then◌else◌}
 use Rattle.job_types.specs.Job.{JobData, refusal_of}
 use Rattle.job_types.specs.declared.request.JobRefused.{JobRefused}
 use Rattle.job_types.specs.declared.request.JobRefused.TheVariants.{BadRoot}
+use Rattle.job_types.specs.declared.request.TheConstants.{MAX_LANES}
 use Rattle.jobs_csv.specs.declared.fault.Fault.{Fault}
 use Rattle.jobs_csv.specs.declared.fault.FaultKind.{FaultKind}
 use Rattle.jobs_csv.specs.declared.fault.FaultKind.TheVariants as what
 use Rattle.jobs_csv.specs.Columns.{header_of}
-use Rattle.jobs_csv.specs.Fields.{any_number}
+use Rattle.jobs_csv.specs.Fields.{any_number, number_within}
 use Rattle.jobs_csv.specs.Files.{Record, parse_file}
-use Rattle.jobs_csv.specs.JobFields.{collective_of, has_superfluous_root, items_of, lane_of, with_root}
+use Rattle.jobs_csv.specs.JobFields.{collective_of, has_superfluous_root, items_of}
 use Rattle.jobs_csv.specs.Outcome.{◌>>=◌}
 
 -- the refusal, if there is one
@@ -24,17 +25,13 @@ accept_job job has_superfluous = refuse (refusal_of job.machine job.kind job.ite
 -- the job of a record, for a machine of dimension n
 unfoldable pub job_of : ℕ → Record → Result JobData FaultKind
 job_of n (lane ∷ kind ∷ op ∷ root ∷ items ∷ []) = do
-  l ← lane_of lane
-  c ← collective_of kind op
+  l ← number_within 0 (MAX_LANES - 1) lane
+  collective ← collective_of kind op
   r ← any_number root
   xs ← items_of items
-  accept_job (record { machine = n; lane = l; kind = with_root r c; items = xs }) (has_superfluous_root r c)
+  accept_job (record { machine = n; lane = l; kind = collective r; items = xs }) (has_superfluous_root r (collective r))
 job_of n _ = Err what.Fields
-
--- the texts of the header
-abbrev pub job_columns : List (List ℕ)
-job_columns = codes "lane" ∷ codes "kind" ∷ codes "op" ∷ codes "root" ∷ codes "items" ∷ []
 
 -- the parse of a file of jobs, for a machine of dimension n
 abbrev pub parse_jobs : ℕ → List ℕ → Result (List JobData) Fault
-parse_jobs n bytes = parse_file (header_of job_columns) (job_of n) bytes
+parse_jobs n bytes = parse_file (header_of (codes "lane" ∷ codes "kind" ∷ codes "op" ∷ codes "root" ∷ codes "items" ∷ [])) (job_of n) bytes

@@ -1,6 +1,8 @@
 // The fields of a job's record.
-ghost use Rattle.std.specs.Prelude.{◌≡◌, ◌<◌, IfOk};
-ghost use Rattle.jobs_csv.specs.JobFields.{collective_of, has_superfluous_root, items_of, lane_of, op_of, with_root};
+ghost use Rattle.std.specs.Prelude.{◌≡◌, ◌-◌, ◌<◌, IfOk};
+ghost use Rattle.jobs_csv.specs.JobFields.{collective_of, has_superfluous_root, items_of, op_of};
+ghost use Rattle.jobs_csv.specs.Fields.{number_within};
+ghost use Rattle.jobs_csv.specs.Inner.JobFields.{with_root};
 ghost use Rattle.jobs_csv.specs.Inner.Parse.{ReturnsParse};
 
 use crate::fault::FaultKind;
@@ -32,7 +34,7 @@ impl Collective {
 
     /// Whether it has no root, and the root is not 0.
     pub fn has_superfluous_root(self, root: u64) -> bool
-        ensures { result ≡ has_superfluous_root root self }
+        ensures { result ≡ has_superfluous_root root (with_root root self) }
     {
         match self {
             Collective::Broadcast | Collective::Reduce { .. } => false,
@@ -43,7 +45,7 @@ impl Collective {
 
 /// The lane of a field: a number below `MAX_LANES`.
 pub fn lane(field: &[u8]) -> Result<u32, FaultKind>
-    ensures parse { ReturnsParse (λ lane. lane) (lane_of field.now) result }
+    ensures parse { ReturnsParse (λ lane. lane) (number_within 0 (MAX_LANES - 1) field.now) result }
     ensures below { IfOk result (λ lane. lane < MAX_LANES) }
 {
     let lane = fields::number_within(field, 0, u64::from(MAX_LANES - 1))?;
@@ -75,7 +77,8 @@ fn read_op(field: &[u8]) -> Result<Op, FaultKind>
 /// Reads the collective of two fields, `kind` and `op`.
 #[tactic(auto, unfolding(crate::specs::JobFields::collective_of))]
 pub fn read_collective(kind: &[u8], op: &[u8]) -> Result<Collective, FaultKind>
-    ensures { ReturnsParse (λ collective. collective) (collective_of kind.now op.now) result }
+    ensures { ReturnsParse (λ collective root. with_root root collective)
+        (collective_of kind.now op.now) result }
 {
     if kind == b"broadcast".as_slice() {
         fields::dash(op)?;

@@ -6,8 +6,9 @@ ghost use Rattle.csv.specs.Records.{fields_of};
 ghost use Rattle.cube_shape.specs.declared.limits.TheConstants.{MAX_DIM};
 ghost use Rattle.jobs_csv.specs.Columns.{header_of};
 ghost use Rattle.jobs_csv.specs.Fault.{IsInputFault};
-ghost use Rattle.jobs_csv.specs.Jobs.{accept_job, job_columns, job_of, parse_jobs};
+ghost use Rattle.jobs_csv.specs.Jobs.{accept_job, job_of, parse_jobs};
 ghost use Rattle.jobs_csv.specs.Lanes.{ReturnsLanes};
+ghost use Rattle.jobs_csv.specs.Inner.Columns.{job_columns};
 ghost use Rattle.jobs_csv.specs.Inner.Parse.{ReturnsParse};
 ghost use Rattle.jobs_csv.specs.Outcome.{ReturnsFile};
 

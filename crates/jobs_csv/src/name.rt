@@ -1,7 +1,8 @@
 // Names of held regions.
 ghost use Rattle.std.specs.Prelude.{◌≡◌, Some, None, true, if◌then◌else◌};
 ghost use Rattle.std.specs.List.{list_all};
-ghost use Rattle.jobs_csv.specs.Name.{is_name, is_name_byte};
+ghost use Rattle.jobs_csv.specs.Name.{is_name};
+ghost use Rattle.jobs_csv.specs.Inner.Name.{is_name_byte};
 
 use std::marker::Model;
 

@@ -3,9 +3,10 @@ ghost use Rattle.std.specs.Prelude.{◌≡◌, [], ◌∷◌, ◌≤◌, All, If
 ghost use Rattle.csv.specs.Records.{fields_of};
 ghost use Rattle.jobs_csv.specs.Columns.{header_of};
 ghost use Rattle.jobs_csv.specs.Fault.{IsInputFault};
+ghost use Rattle.jobs_csv.specs.Inner.Columns.{command_columns};
 ghost use Rattle.jobs_csv.specs.Inner.Parse.{ReturnsParse};
 ghost use Rattle.jobs_csv.specs.Outcome.{ReturnsFile};
-ghost use Rattle.jobs_csv.specs.Place.{Fits, verb_command, command_columns, command_of, parse_commands, name_of, verb_of};
+ghost use Rattle.jobs_csv.specs.Place.{Fits, command_of, parse_commands, name_of};
 
 use crate::columns::{self, ThreeFields};
 use crate::device::Device;
@@ -26,31 +27,10 @@ pub enum Command {
     Free { name: Name },
 }
 
-// The keyword of a command.
-#[derive(Clone, Copy)]
-enum Verb {
-    Take,
-    Free,
-}
-
 // The format of commands, for a machine of this dimension.
 #[derive(Clone, Copy)]
 struct Commands {
     n: u32,
-}
-
-// The keyword of a field.
-#[tactic(auto, unfolding(crate::specs::Place::verb_of, crate::specs::Fields::among))]
-fn read_verb(field: &[u8]) -> Result<Verb, FaultKind>
-    ensures { ReturnsParse (λ verb. verb) (verb_of field.now) result }
-{
-    if field == b"take".as_slice() {
-        Ok(Verb::Take)
-    } else if field == b"free".as_slice() {
-        Ok(Verb::Free)
-    } else {
-        Err(FaultKind::Word)
-    }
 }
 
 // The name of a field.
@@ -61,24 +41,6 @@ fn read_name(field: &[u8]) -> Result<Name, FaultKind>
     Name::new(field).ok_or(FaultKind::Word)
 }
 
-// The command of this keyword, with its last field.
-#[tactic(auto, unfolding(crate::specs::Place::verb_command))]
-fn read_last(n: u32, verb: Verb, name: Name, dim: &[u8]) -> Result<Command, FaultKind>
-    ensures parse { ReturnsParse (λ command. command) (verb_command n verb name dim.now) result }
-    ensures fits { IfOk result (λ command. Fits n command) }
-{
-    match verb {
-        Verb::Take => {
-            let dim = fields::number_within(dim, 0, u64::from(n))? as u32;
-            return Ok(Command::Take { name, dim });
-        }
-        Verb::Free => {
-            fields::dash(dim)?;
-            return Ok(Command::Free { name });
-        }
-    }
-}
-
 // The command of three fields.
 #[tactic(auto, unfolding(crate::specs::Place::command_of))]
 fn read_fields(n: u32, three: &ThreeFields<'_>) -> Result<Command, FaultKind>
@@ -86,9 +48,17 @@ fn read_fields(n: u32, three: &ThreeFields<'_>) -> Result<Command, FaultKind>
         ∷ three.now.second.now ∷ three.now.third.now ∷ [])) result }
     ensures fits { IfOk result (λ command. Fits n command) }
 {
-    let verb = read_verb(three.first)?;
-    let name = read_name(three.second)?;
-    read_last(n, verb, name, three.third)
+    if three.first == b"take".as_slice() {
+        let name = read_name(three.second)?;
+        let dim = fields::number_within(three.third, 0, u64::from(n))? as u32;
+        return Ok(Command::Take { name, dim });
+    }
+    if three.first == b"free".as_slice() {
+        let name = read_name(three.second)?;
+        fields::dash(three.third)?;
+        return Ok(Command::Free { name });
+    }
+    Err(FaultKind::Word)
 }
 
 impl Format for Commands {

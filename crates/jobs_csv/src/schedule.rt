@@ -3,9 +3,10 @@ ghost use Rattle.std.specs.Prelude.{◌≡◌, [], ◌∷◌, All, IfOk, IfErr, 
 ghost use Rattle.csv.specs.Records.{fields_of};
 ghost use Rattle.jobs_csv.specs.Columns.{header_of};
 ghost use Rattle.jobs_csv.specs.Fault.{IsInputFault};
+ghost use Rattle.jobs_csv.specs.Inner.Columns.{schedule_columns};
 ghost use Rattle.jobs_csv.specs.Inner.Parse.{ReturnsParse};
 ghost use Rattle.jobs_csv.specs.Outcome.{ReturnsFile};
-ghost use Rattle.jobs_csv.specs.Schedule.{HasValidCount, keyword_of, keyword_line, parse_schedule, schedule_columns, schedule_line};
+ghost use Rattle.jobs_csv.specs.Schedule.{HasValidCount, keyword_line, parse_schedule, schedule_line};
 
 use crate::columns::{self, ThreeFields};
 use crate::device::Device;
@@ -34,68 +35,37 @@ pub enum Line {
     Retire { station: u64 },
 }
 
-// The keyword of a line.
-#[derive(Clone, Copy)]
-enum Keyword {
-    Take,
-    Release,
-    Step,
-    Run,
-    Retire,
-}
-
 // The format of schedules.
 #[derive(Clone, Copy)]
 struct Schedule;
 
-// The keyword of a field.
-#[tactic(auto, unfolding(crate::specs::Schedule::keyword_of, crate::specs::Fields::among))]
-fn read_keyword(field: &[u8]) -> Result<Keyword, FaultKind>
-    ensures { ReturnsParse (λ keyword. keyword) (keyword_of field.now) result }
-{
-    if field == b"take".as_slice() {
-        Ok(Keyword::Take)
-    } else if field == b"release".as_slice() {
-        Ok(Keyword::Release)
-    } else if field == b"step".as_slice() {
-        Ok(Keyword::Step)
-    } else if field == b"run".as_slice() {
-        Ok(Keyword::Run)
-    } else if field == b"retire".as_slice() {
-        Ok(Keyword::Retire)
-    } else {
-        Err(FaultKind::Word)
-    }
-}
-
-// The line of this keyword of a station, with its last field.
+// The line of a station with this keyword and this last field.
 #[tactic(auto, unfolding(crate::specs::Schedule::keyword_line))]
-fn read_last(station: u64, keyword: Keyword, arg: &[u8]) -> Result<Line, FaultKind>
-    ensures parse { ReturnsParse (λ line. line) (keyword_line station keyword arg.now) result }
+fn read_call(station: u64, keyword: &[u8], arg: &[u8]) -> Result<Line, FaultKind>
+    ensures parse { ReturnsParse (λ line. line) (keyword_line station keyword.now arg.now) result }
     ensures times { IfOk result (λ line. HasValidCount line) }
 {
-    match keyword {
-        Keyword::Take => {
-            let node = fields::any_number(arg)?;
-            return Ok(Line::Take { station, node });
-        }
-        Keyword::Release => {
-            fields::dash(arg)?;
-            return Ok(Line::Release { station });
-        }
-        Keyword::Step => {
-            let times = fields::number_within(arg, 1, MAX_STEPS)?;
-            return Ok(Line::Step { station, times });
-        }
-        Keyword::Run => {
-            fields::dash(arg)?;
-            return Ok(Line::Run { station });
-        }
-        Keyword::Retire => {
-            fields::dash(arg)?;
-            return Ok(Line::Retire { station });
-        }
+    if keyword == b"take".as_slice() {
+        let node = fields::any_number(arg)?;
+        return Ok(Line::Take { station, node });
     }
+    if keyword == b"release".as_slice() {
+        fields::dash(arg)?;
+        return Ok(Line::Release { station });
+    }
+    if keyword == b"step".as_slice() {
+        let times = fields::number_within(arg, 1, MAX_STEPS)?;
+        return Ok(Line::Step { station, times });
+    }
+    if keyword == b"run".as_slice() {
+        fields::dash(arg)?;
+        return Ok(Line::Run { station });
+    }
+    if keyword == b"retire".as_slice() {
+        fields::dash(arg)?;
+        return Ok(Line::Retire { station });
+    }
+    Err(FaultKind::Word)
 }
 
 // The line of three fields.
@@ -106,8 +76,7 @@ fn read_fields(three: &ThreeFields<'_>) -> Result<Line, FaultKind>
     ensures times { IfOk result (λ line. HasValidCount line) }
 {
     let station = fields::any_number(three.first)?;
-    let keyword = read_keyword(three.second)?;
-    read_last(station, keyword, three.third)
+    read_call(station, three.second, three.third)
 }
 
 impl Format for Schedule {

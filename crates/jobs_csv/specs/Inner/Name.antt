@@ -1,7 +1,12 @@
 -- How a name is kept: in front of zeros, 16 bytes in all. The two lemmas stand here for the model of a name.
-use Rattle.std.specs.Prelude.{◌≡◌, ℕ, suc, zero, ◌≤◌, ◌-◌, true, List, [], ◌∷◌, ◌++◌, length, take, drop}
+use Rattle.std.specs.Prelude.{◌≡◌, ℕ, suc, zero, ◌≤◌, ◌-◌, ◌||◌, Bool, true, List, [], ◌∷◌, ◌++◌, length, take, drop}
+use Rattle.std.specs.Char.{is_ascii_digit, is_ascii_lowercase}
 use Rattle.std.proofs.Common.{ap, sym, subst, ◌∙◌, take-append-drop, length-take-le}
 use Rattle.jobs_csv.specs.Name.{is_name}
+
+-- a small letter or a digit
+abbrev pub is_name_byte : ℕ → Bool
+is_name_byte byte = is_ascii_lowercase byte || is_ascii_digit byte
 
 -- n zeros
 unfoldable pub zeros : ℕ → List ℕ

@@ -1,6 +1,6 @@
 use Rattle.std.proofs.Common.{◌≡◌, drop}
 use Rattle.std.specs.List.{list_all}
-use Rattle.jobs_csv.specs.Name.{is_name_byte}
+use Rattle.jobs_csv.specs.Inner.Name.{is_name_byte}
 use Rattle.jobs_csv.proofs.name.are_name_bytes.Given as goal
 
 -- it is decided by the bytes that are left
