@@ -10,7 +10,6 @@ use Rattle.cube_core.specs.declared.phase.Phase.{Phase}
 use Rattle.cube_core.specs.declared.phase.Phase.TheVariants.{Looking, Holding, Leaving, Retired}
 use Rattle.cube_core.specs.declared.act.Act.{Act}
 use Rattle.cube_core.specs.declared.act.Act.TheVariants.{Take, Release, Step}
-use Rattle.cube_core.specs.declared.act.Refused.{Refused}
 use Rattle.cube_core.specs.Phase.{owned, node_held, step_refusal}
 use Rattle.cube_core.specs.InnerPhase.{asked}
 use Rattle.cube_core.specs.Event.{transition}

@@ -37,8 +37,10 @@ is_occupied w = bit_at w 0 == 1
 -- one event of a station at a node: from the word that it finds, the word that it writes, the next
 -- phase and the note. The event shows the word that it wrote
 abbrev pub event_at : ℕ → Kind → ℕ → (ℕ → ℕ) → (ℕ → Phase) → (ℕ → Note) → Transition
-event_at station kind node writes next note = record { node = node; writes = writes; next = next; events = λ w.
-    record { station = station; kind = kind; node = node; word = writes w; note = note w } ∷ [] }
+event_at station kind node writes next note =
+    let made : ℕ → Event = λ w.
+    record { station = station; kind = kind; node = node; word = writes w; note = note w } in
+    record { node = node; writes = writes; next = next; events = λ w. made w ∷ [] }
 
 -- past a on the way up from h: the station holds h where a is the root, else it climbs on
 abbrev pub phase_after_raise : ℕ → ℕ → Phase

@@ -1,16 +1,14 @@
 -- What holds after every schedule.
-use Rattle.std.specs.Prelude.{◌≡◌, ℕ, ◌<◌, ◌↔◌, List, [], ◌∷◌, length, Some, None}
+use Rattle.std.specs.Prelude.{◌≡◌, ℕ, ◌<◌, ◌↔◌, List, length, Some, None}
 use Rattle.cube_shape.specs.declared.region.Region.{Region}
-use Rattle.cube_shape.specs.Node.{OnPath, IsInCube, IsNodeOf}
+use Rattle.cube_shape.specs.Node.{OnPath, IsNodeOf}
 use Rattle.cube_shape.specs.Machine.{IsLawful}
 use Rattle.status_word.specs.Word.{IsSet, IsFree, IsInUse}
-use Rattle.cube_core.specs.declared.phase.Phase.{Phase}
-use Rattle.cube_core.specs.declared.phase.Phase.TheVariants.{Idle, Looking, Holding, Leaving, Retired}
+use Rattle.cube_core.specs.declared.phase.Phase.TheVariants.{Retired}
 use Rattle.cube_core.specs.declared.act.Act.{Act}
-use Rattle.cube_core.specs.declared.act.Act.TheVariants.{Take, Release, Step, Retire}
-use Rattle.cube_core.specs.Phase.{standing, node_held, step_refusal, IsEngagedAt, IsAtRest}
-use Rattle.cube_core.specs.Event.{transition, retirement}
-use Rattle.cube_core.specs.Schedule.{Record, State, phase_of, word_of, refusal, station_of, apply, apply_all, HasOnlySteps}
+use Rattle.cube_core.specs.declared.act.Act.TheVariants.{Take}
+use Rattle.cube_core.specs.Phase.{standing, node_held, IsEngagedAt, IsAtRest}
+use Rattle.cube_core.specs.Schedule.{State, phase_of, word_of, refusal, station_of, apply, apply_all, HasOnlySteps}
 use Rattle.cube_core.specs.Safety.{IsSafe}
 use Rattle.cube_core.specs.Debts.{HasDebts}
 use Rattle.cube_core.specs.Held.{held_of, IsMachineStep}
