@@ -138,13 +138,16 @@ pub struct Post<J: Naming, L: JobLine, F: Floor> {
 }
 
 impl<J: Naming, L: JobLine, F: Floor> Model for Post<J, L, F> {
-    ghost use Rattle.std.specs.Prelude.{◌≡◌, [], None, map, MatchOption};
+    ghost use Rattle.std.specs.Prelude.{◌≡◌, [], Option, None, map, MatchOption};
     ghost use Rattle.std.specs.List.{All};
     ghost use Rattle.dispatcher.specs.Reply.{answered, region_of, IsRight};
+    ghost use Rattle.dispatcher.specs.declared.shop.Stop.{Stop};
+    ghost use Rattle.crew.specs.InnerNaming.{stop_of};
 
-    ghost Value = { Unit {0} };
+    // Why the worker has stopped, or `None` where it has not run.
+    ghost Value = { Option Stop };
 
-    ghost view = { λ p. tt };
+    ghost view = { λ p. stop_of (λ e. e.stop) p.end };
 
     ghost invariant = { λ p. MatchOption p.worker
         (MatchOption p.end ⊥ (λ e. L.is_pass J.shop.line e.pass × F.is_station J.shop.floor e.station
