@@ -5,6 +5,7 @@ use Rattle.std.proofs.lemmas.List.Elements.{All-map, All-same, All-weaker}
 use Rattle.histories.specs.Sums.{times}
 use Rattle.job_queue.specs.declared.record.LaneRecord.{LaneRecord}
 use Rattle.job_queue.specs.Record.{accepted_jobs}
+use Rattle.dispatcher.specs.Shop.{ShopId}
 use Rattle.dispatcher.specs.Reply.{IsRight}
 use Rattle.dispatcher.specs.Stop.{given_back}
 use Rattle.dispatcher.specs.Finished.{FinishedRun}
@@ -66,3 +67,12 @@ returns-clause-run g c =
       fed = subst (λ us. AllZip Own (map line.lane_record lanes) us) (sym c.part-lanes.ensures.unfed) by_lane;
       numbers = λ k below. ap (times k) (map_twice line.lane_record (λ (l : LaneRecord). l.number) lanes) ∙ c.finish.ensures.lane_numbers k (omega (arith, below, length-map c.args.jobs.items (λ js. js.items), c.requires.all_lanes));
     }
+
+pub returns-clause-workers : goal.returns-clause-workers
+returns-clause-workers g c =
+    let ends = c.relieve_posts.new.ends.items in
+    let passes = ap (λ (shop : ShopId). shop.line.sizes.passes) c.requires.shop in
+    omega (arith, sym (length-map c.finish.result.by_worker.items (λ v. v.items)), ap length c.finish.ensures.by_worker, length-map ends (λ e. e.replies.items), c.relieve_posts.ensures.count, c.man_posts-posts.ensures.count, c.requires.all_workers, passes)
+
+pub returns-clause-started : goal.returns-clause-started
+returns-clause-started g c = (rw c.deref.ensures.value at c.were_all_run-all_started.ensures)
