@@ -9,7 +9,7 @@ ghost use Rattle.floors.specs.Floor.{IsWhollyFree};
 ghost use Rattle.dispatcher.specs.Opening.{refusal_of};
 ghost use Rattle.dispatcher.specs.Shop.{room_for};
 ghost use Rattle.dispatcher.specs.Stop.{given_back};
-ghost use Rattle.crew.specs.Run.{unfed_by, IsRun};
+ghost use Rattle.crew.specs.Run.{unfed_by, AreCounts, IsRun};
 
 use crate::gang::Gang;
 use crate::member::{Door, Fed, Naming};
@@ -174,6 +174,9 @@ where
         (map (λ u. unfed_by u.lane (given_back u.back ++ u.left.items)) result.unfed.items) }
     ensures workers { length result.finished.by_worker.items ≡ J.shop.line.sizes.passes }
     ensures started { result.all_started ≡ true → All (λ u. IsSome u.stop) result.unfed.items }
+    ensures counts { AreCounts (map (λ js. js.items) jobs.items) result.finished.accepted.items
+        (map (λ u. unfed_by u.lane (given_back u.back ++ u.left.items)) result.unfed.items) }
+    ensures dim { F.machine_dim result.finished.machine ≡ J.shop.floor.dim }
     ensures free { IsWhollyFree J.shop.floor.dim (F.machine_words result.finished.machine) }
 {
     let Opened {
@@ -251,6 +254,10 @@ where
     ensures workers { IfOk result (λ end. length end.finished.by_worker.items ≡ dispatchers) }
     ensures started { IfOk result (λ end.
         end.all_started ≡ true → All (λ u. IsSome u.stop) end.unfed.items) }
+    ensures counts { IfOk result (λ end. AreCounts (map (λ js. js.items) jobs.items)
+        end.finished.accepted.items
+        (map (λ u. unfed_by u.lane (given_back u.back ++ u.left.items)) end.unfed.items)) }
+    ensures dim { IfOk result (λ end. F.machine_dim end.finished.machine ≡ n) }
     ensures free { IfOk result (λ end.
         IsWhollyFree n (F.machine_words end.finished.machine)) }
     ensures accepted { IfOk result (λ end.
