@@ -1,6 +1,6 @@
 // What a thread has: a lane with its jobs, a worker, or the right to close. The type says what is known
 // of it, so it may lie under a lock, and no thread that was not started takes it along.
-ghost use Rattle.std.specs.Prelude.{◌≡◌, ℕ, ◌++◌, [], List, None, Some, map, MatchOption};
+ghost use Rattle.std.specs.Prelude.{◌≡◌, ◌≢◌, ℕ, ◌++◌, [], List, None, Some, true, false, IsSome, map, MatchOption};
 ghost use Rattle.std.specs.List.{All};
 ghost use Rattle.job_queue.specs.Record.{accepted_jobs};
 ghost use Rattle.job_queue.specs.Line.{IsFor};
@@ -138,19 +138,23 @@ pub struct Post<J: Naming, L: JobLine, F: Floor> {
 }
 
 impl<J: Naming, L: JobLine, F: Floor> Model for Post<J, L, F> {
-    ghost use Rattle.std.specs.Prelude.{◌≡◌, [], None, map, MatchOption};
+    ghost use Rattle.std.specs.Prelude.{◌≡◌, ◌≢◌, [], Option, None, map, MatchOption};
+    ghost use Rattle.std.specs.Option.{option_map};
     ghost use Rattle.std.specs.List.{All};
     ghost use Rattle.dispatcher.specs.Reply.{answered, region_of, IsRight};
+    ghost use Rattle.dispatcher.specs.declared.shop.Stop.{Stop as StopData};
+    ghost use Rattle.dispatcher.specs.declared.shop.Stop.TheVariants.{NotRun};
 
-    ghost Value = { Unit {0} };
+    // Why it has stopped, or `None` where it was not run.
+    ghost Value = { Option StopData };
 
-    ghost view = { λ p. tt };
+    ghost view = { λ p. option_map (λ e. e.stop) p.end };
 
     ghost invariant = { λ p. MatchOption p.worker
         (MatchOption p.end ⊥ (λ e. L.is_pass J.shop.line e.pass × F.is_station J.shop.floor e.station
         × ((L.pass_record e.pass).taken ≡ map answered e.replies.items)
         × (F.grants e.station ≡ map region_of e.replies.items)
-        × All (IsRight J.shop.floor.dim) e.replies.items))
+        × All (IsRight J.shop.floor.dim) e.replies.items × (e.stop ≢ NotRun)))
         (λ w. L.is_pass J.shop.line w.pass × F.is_station J.shop.floor w.station
         × ((L.pass_record w.pass).taken ≡ []) × (F.grants w.station ≡ []) × (p.end ≡ None)) };
 }
@@ -161,6 +165,7 @@ impl<J: Naming, L: JobLine, F: Floor> Post<J, L, F> {
         requires station { F.is_station J.shop.floor worker.station }
         requires fresh { (L.pass_record worker.pass).taken ≡ [] }
         requires no_grants { F.grants worker.station ≡ [] }
+        ensures { result ≡ None }
     {
         Post {
             worker: Some(worker),
@@ -169,7 +174,7 @@ impl<J: Naming, L: JobLine, F: Floor> Post<J, L, F> {
         }
     }
 
-    // Takes and answers jobs, where that was not done before. It tells whether memory has run out.
+    // Takes and answers jobs, where that was not done before. It tells whether memory ran out in it.
     pub fn dispatch<R: Wait, T: Runner>(
         &mut self,
         rt: &R,
@@ -178,6 +183,10 @@ impl<J: Naming, L: JobLine, F: Floor> Post<J, L, F> {
         runner: &T,
     ) -> bool
         requires { shop.now ≡ J.shop }
+        ensures has_run { IsSome self.new }
+        ensures once { IsSome self.old → self.new ≡ self.old }
+        ensures spent { result ≡ true → self.new ≡ Some Stop.OutOfMemory }
+        ensures told { self.old ≡ None → self.new ≡ Some Stop.OutOfMemory → result ≡ true }
     {
         let Some(worker) = self.worker.take() else {
             return false;
@@ -197,6 +206,8 @@ impl<J: Naming, L: JobLine, F: Floor> Post<J, L, F> {
         ensures replies { (L.pass_record result.pass).taken ≡ map answered result.replies.items }
         ensures grants { F.grants result.station ≡ map region_of result.replies.items }
         ensures right { All (IsRight J.shop.floor.dim) result.replies.items }
+        ensures stop { MatchOption self (result.stop ≡ Stop.NotRun) (λ stop. result.stop ≡ stop) }
+        ensures has_run { IsSome self → result.stop ≢ Stop.NotRun }
     {
         let Post { worker, end, of: _ } = self;
         match (worker, end) {
@@ -216,12 +227,13 @@ pub struct Door<J: Naming, L: JobLine, F: Floor> {
 }
 
 impl<J: Naming, L: JobLine, F: Floor> Model for Door<J, L, F> {
-    ghost use Rattle.std.specs.Prelude.{◌≡◌, None, MatchOption};
+    ghost use Rattle.std.specs.Prelude.{◌≡◌, Bool, is_some, None, MatchOption};
     ghost use Rattle.dispatcher.specs.Shop.{room_for};
 
-    ghost Value = { Unit {0} };
+    // Whether the shop was closed.
+    ghost Value = { Bool };
 
-    ghost view = { λ d. tt };
+    ghost view = { λ d. is_some d.note };
 
     ghost invariant = { λ d. MatchOption d.closer
         (MatchOption d.note ⊥ (λ n. L.is_note J.shop.line n.line × (n.room ≡ room_for J.shop)))
@@ -232,6 +244,7 @@ impl<J: Naming, L: JobLine, F: Floor> Door<J, L, F> {
     pub fn new(closer: Closer<L, F>) -> Door<J, L, F>
         requires closer { L.is_closer J.shop.line closer.line }
         requires room { closer.room ≡ room_for J.shop }
+        ensures { result ≡ false }
     {
         Door {
             closer: Some(closer),
@@ -243,6 +256,7 @@ impl<J: Naming, L: JobLine, F: Floor> Door<J, L, F> {
     // Closes the shop, where that was not done before.
     pub fn close<R: Wait>(&mut self, rt: &R, shop: &Shop<L, F>)
         requires { shop.now ≡ J.shop }
+        ensures { self.new ≡ true }
     {
         if let Some(closer) = self.closer.take() {
             match self.note.replace(shop.close(rt, closer)) {

@@ -1,5 +1,5 @@
 //! A whole run of a shop on threads.
-ghost use Rattle.std.specs.Prelude.{◌≡◌, ◌≢◌, ℕ, ◌^◌, ◌<◌, ◌≤◌, ◌++◌, [], List, None, Some, IfOk, IfErr, map, length, slice_index_or};
+ghost use Rattle.std.specs.Prelude.{◌≡◌, ◌≢◌, ℕ, ◌^◌, ◌<◌, ◌≤◌, ◌++◌, [], List, true, None, Some, IsSome, IfOk, IfErr, map, length, slice_index_or};
 ghost use Rattle.std.specs.List.{All};
 ghost use Rattle.std.specs.Vec.{vec_capacity};
 ghost use Rattle.job_types.specs.Job.{JobData};
@@ -9,7 +9,7 @@ ghost use Rattle.floors.specs.Floor.{IsWhollyFree};
 ghost use Rattle.dispatcher.specs.Opening.{refusal_of};
 ghost use Rattle.dispatcher.specs.Shop.{room_for};
 ghost use Rattle.dispatcher.specs.Stop.{given_back};
-ghost use Rattle.crew.specs.Run.{unfed_by, IsRun};
+ghost use Rattle.crew.specs.Run.{unfed_by, AreCounts, IsRun};
 
 use crate::gang::Gang;
 use crate::member::{Door, Fed, Naming};
@@ -121,6 +121,13 @@ fn part<L: JobLine>(
     (lanes, unfed)
 }
 
+// Whether all were started, and so the feed of each lane was run.
+fn were_all_run(started: bool, unfed: &[Unfed]) -> bool
+    ensures { result ≡ true → All (λ u. IsSome u.stop) unfed.now }
+{
+    started && unfed.iter().all(|one| one.stop.is_some())
+}
+
 // The same as `run`, once the shop is open and the run has a name.
 fn run_named<
     J: Naming + Send + Sync,
@@ -165,6 +172,11 @@ where
     ensures run { IsRun J.shop.floor.dim (map (λ js. js.items) jobs.items)
         (map (λ replies. replies.items) result.finished.by_worker.items) result.finished.rest.items
         (map (λ u. unfed_by u.lane (given_back u.back ++ u.left.items)) result.unfed.items) }
+    ensures workers { length result.finished.by_worker.items ≡ J.shop.line.sizes.passes }
+    ensures started { result.all_started ≡ true → All (λ u. IsSome u.stop) result.unfed.items }
+    ensures counts { AreCounts (map (λ js. js.items) jobs.items) result.finished.accepted.items
+        (map (λ u. unfed_by u.lane (given_back u.back ++ u.left.items)) result.unfed.items) }
+    ensures dim { F.machine_dim result.finished.machine ≡ J.shop.floor.dim }
     ensures free { IsWhollyFree J.shop.floor.dim (F.machine_words result.finished.machine) }
 {
     let Opened {
@@ -189,7 +201,7 @@ where
         feeders,
         door: Mutex::new(Door::new(closer)),
     };
-    let all_started = all_have_slots && run_threads(rt, &gang);
+    let started = all_have_slots && run_threads(rt, &gang);
     let Gang {
         shop: _,
         runner: _,
@@ -202,6 +214,7 @@ where
     relieve_feeders(feeders, &mut fed);
     let note = door.into_inner().into_note(rt, &shop);
     let (lanes, unfed) = part(fed, lanes, unfed);
+    let all_started = were_all_run(started, &unfed);
     RunEnd {
         finished: shop.finish(rt, runner, lanes, ends, note),
         unfed,
@@ -238,12 +251,21 @@ where
     ensures run { IfOk result (λ end. IsRun n (map (λ js. js.items) jobs.items)
         (map (λ replies. replies.items) end.finished.by_worker.items) end.finished.rest.items
         (map (λ u. unfed_by u.lane (given_back u.back ++ u.left.items)) end.unfed.items)) }
+    ensures workers { IfOk result (λ end. length end.finished.by_worker.items ≡ dispatchers) }
+    ensures started { IfOk result (λ end.
+        end.all_started ≡ true → All (λ u. IsSome u.stop) end.unfed.items) }
+    ensures counts { IfOk result (λ end. AreCounts (map (λ js. js.items) jobs.items)
+        end.finished.accepted.items
+        (map (λ u. unfed_by u.lane (given_back u.back ++ u.left.items)) end.unfed.items)) }
+    ensures dim { IfOk result (λ end. F.machine_dim end.finished.machine ≡ n) }
     ensures free { IfOk result (λ end.
         IsWhollyFree n (F.machine_words end.finished.machine)) }
     ensures accepted { IfOk result (λ end.
         refusal_of n (length jobs.items) dispatchers capacity ≡ None) }
     ensures refused { IfErr result (λ r. r.0 ≢ ShopRefused.OutOfMemory →
         refusal_of n (length jobs.items) dispatchers capacity ≡ Some r.0) }
+    ensures memory_last { IfErr result (λ r. r.0 ≡ ShopRefused.OutOfMemory →
+        refusal_of n (length jobs.items) dispatchers capacity ≡ None) }
     ensures gives_back { IfErr result (λ r. r.1.items ≡ jobs.items) }
 {
     let lanes = jobs.len() as u32;

@@ -1,6 +1,7 @@
 //! What a worker does.
-ghost use Rattle.std.specs.Prelude.{◌≡◌, ◌++◌, [], map};
+ghost use Rattle.std.specs.Prelude.{◌≡◌, ◌≤◌, ◌++◌, [], map, length};
 ghost use Rattle.std.specs.List.{All};
+ghost use Rattle.std.specs.Vec.{vec_capacity};
 ghost use Rattle.dispatcher.specs.Reply.{answered, region_of, IsRight};
 ghost use Rattle.dispatcher.specs.Stop.{EndsWithSeal};
 
@@ -36,6 +37,8 @@ pub fn dispatch<R: Wait, L: JobLine, F: Floor, T: Runner>(
     ensures right { All (IsRight shop.now.floor.dim) result.replies.items }
     ensures ended { result.stop ≡ Stop.Ended →
         EndsWithSeal (L.pass_record result.pass).readings }
+    ensures no_room { result.stop ≡ Stop.OutOfMemory →
+        vec_capacity result.replies ≤ length result.replies.items }
     ensures stop { result.stop ≡ Stop.NotRun → ⊥ }
 {
     let Worker {

@@ -2,6 +2,7 @@
 // spent in the floor's end.
 ghost use Rattle.std.specs.Prelude.{◌≡◌, ℕ, None, Some};
 ghost use Rattle.alloc_bits.specs.Allocation.{held_in};
+ghost use Rattle.floors.specs.Floor.{IsWhollyFree};
 ghost use Rattle.floors.specs.Inner.Locked.Step.{IsStationSeat};
 
 use super::bits_lock::Seat;
@@ -30,15 +31,18 @@ pub struct FreeMachine {
     pub(crate) bits: AllocBits,
     pub(crate) words: Vec<u64>,
     ghost free: { (s : ℕ) → held_in bits s ≡ None },
+    ghost wholly: { IsWhollyFree bits.dim words.items },
 }
 
 impl FreeMachine {
-    ghost use Rattle.floors.specs.Inner.Locked.Handle.{machine_dim};
+    ghost use Rattle.floors.specs.Inner.Locked.Handle.{machine_dim, machine_words};
 
-    /// The allocation bits at the end: no station holds a region.
+    /// The allocation bits at the end: no station holds a region, and the words of the machine are
+    /// those of a wholly free machine of their dimension.
     pub fn bits(&self) -> &AllocBits
         ensures dim { result.now.dim ≡ machine_dim self.now }
         ensures free { (s : ℕ) → held_in result.now s ≡ None }
+        ensures words { IsWhollyFree result.now.dim (machine_words self.now) }
     {
         &self.bits
     }

@@ -21,4 +21,5 @@ invariant_of-self-2 g c =
       c.dispatch-end.ensures.replies ∙ ap (λ qs. qs ++ map answered end.replies.items) own.2,
       c.dispatch-end.ensures.granted ∙ ap (λ rs. rs ++ map region_of end.replies.items) own.3,
       right,
+      c.dispatch-end.ensures.stop,
     )
