@@ -75,14 +75,13 @@ decode none (lane ∷ seq ∷ machine ∷ own ∷ kind ∷ op ∷ root ∷ items
 decode none short = none
 
 decode_back : (none q : QueuedJob) → decode none (code q) ≡ q
-unfolding decode code
+unfolding decode code kind_code kind_of
 decode_back none q = of q.job.kind
   where
     made : Kind → QueuedJob
     made kind = queued (job_id q.id.lane q.id.seq) (record { machine = q.job.machine; lane = q.job.lane; kind = kind; items = q.job.items })
 
     of : (kind : Kind) → decode none (q.id.lane ∷ q.id.seq ∷ q.job.machine ∷ q.job.lane ∷ kind_code kind q.job.items) ≡ made kind
-    unfolding decode kind_code kind_of made
     of (Broadcast root) = refl
     of (Reduce op root) = ap (λ (o : Op). made (Reduce o root)) (op_back op)
     of (AllReduce op) = ap (λ (o : Op). made (AllReduce o)) (op_back op)
