@@ -186,8 +186,17 @@ module _ (weight : QueuedJob → ℕ) where
       let none_past : (k : ℕ) → length jobs ≤ k → lane_weight jobs k ≡ 0 = λ k past. ap (λ (js : List JobData). total weight (with_ids_from k 0 js)) (get_or_past jobs k [] past) in
       let at_zero : below (λ k. total weight (with_ids_from (0 + k) 0 (get_or jobs k []))) (length jobs) ≡ below (lane_weight jobs) (length jobs) =
       below-same _ _ (length jobs) (λ k within. ap (λ (i : ℕ). total weight (with_ids_from i 0 (get_or jobs k []))) (omega arith)) in
-      omega (arith, jobs_weigh 0 jobs, at_zero, once_each (lane_weight jobs) (length jobs) none_past (map (λ l. l.number) lanes) numbers,
-      lanes_weigh jobs lanes run.seqs fed, run.balance weight, replies_weigh by_worker, ap (total weight) (map-append answered flat rest), total-append weight (map answered flat) (map answered rest))
+      omega (
+        arith,
+        jobs_weigh 0 jobs,
+        at_zero,
+        once_each (lane_weight jobs) (length jobs) none_past (map (λ l. l.number) lanes) numbers,
+        lanes_weigh jobs lanes run.seqs fed,
+        run.balance weight,
+        replies_weigh by_worker,
+        ap (total weight) (map-append answered flat rest),
+        total-append weight (map answered flat) (map answered rest),
+      )
 
 -- ---- the replies
 
