@@ -1,0 +1,3 @@
+mod PermutationLemmas
+mod AnswerLemmas
+mod UnfedLemmas
