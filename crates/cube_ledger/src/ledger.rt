@@ -1,9 +1,9 @@
 //! The totals of a finished shop.
-ghost use Rattle.std.specs.Prelude.{◌≡◌, ℕ, ◌+◌, ◌<◌, ◌≤◌, ◌++◌, [], ◌∷◌, IfOk, OnOk, map};
+ghost use Rattle.std.specs.Prelude.{◌≡◌, ℕ, ◌+◌, ◌<◌, ◌≤◌, ◌++◌, ◌^◌, [], ◌∷◌, IfOk, OnOk, cond, map};
 ghost use Rattle.std.specs.List.{All};
 ghost use Rattle.histories.specs.Sums.{below};
 ghost use Rattle.job_types.specs.Reply.{ReplyData};
-ghost use Rattle.cube_ledger.specs.Ledger.{HasAllSlips, is_any, is_of_dim, is_of_lane, slip_of, totals_of};
+ghost use Rattle.cube_ledger.specs.Ledger.{HasAllSlips, is_any, is_of_dim, is_of_lane, processors_of, slip_of, totals_of};
 ghost use Rattle.cube_ledger.specs.Inner.Group.{HasSmallDim, is_in};
 
 use crate::slip::Slip;
@@ -64,7 +64,37 @@ impl Group {
     }
 }
 
+// The processors of a region.
+fn processors(slip: &Slip) -> u128
+    requires { HasSmallDim slip.now }
+    ensures value { result ≡ processors_of slip.now }
+    ensures small { result ≤ 2 ^ MAX_DIM }
+{
+    1 << slip.region.dim
+}
+
+// The totals with one slip more, if it counts.
+fn add_if(totals: Totals, slip: &Slip, counts: bool) -> Totals
+    requires jobs { totals.jobs + 1 < 2 ^ 64 }
+    requires processors { totals.processors + 2 ^ MAX_DIM < 2 ^ 128 }
+    requires dim { HasSmallDim slip.now }
+    ensures jobs { result.jobs ≡ totals.jobs + cond counts 1 0 }
+    ensures processors { result.processors
+        ≡ totals.processors + cond counts (processors_of slip.now) 0 }
+    ensures few { result.jobs ≤ totals.jobs + 1 }
+    ensures small { result.processors ≤ totals.processors + 2 ^ MAX_DIM }
+{
+    if !counts {
+        return totals;
+    }
+    Totals {
+        jobs: totals.jobs + 1,
+        processors: totals.processors + processors(slip),
+    }
+}
+
 // The totals of the slips of a group.
+#[tactic(auto, using(crate::proofs::TotalLemmas::total_more))]
 fn sum(slips: &[Slip], group: Group) -> Totals
     requires { All HasSmallDim slips.now }
     ensures { result ≡ totals_of (is_in group) slips.now }
@@ -74,10 +104,7 @@ fn sum(slips: &[Slip], group: Group) -> Totals
         processors: 0,
     };
     for slip in slips {
-        if group.has(slip) {
-            totals.jobs += 1;
-            totals.processors += 1 << slip.region.dim;
-        }
+        totals = add_if(totals, slip, group.has(slip));
     }
     totals
 }
