@@ -107,11 +107,11 @@ largest_is n free (Some k) some above is = by_order (cases_order n k)
 
 pub empty_machine : (n : ℕ) (words : List ℕ) (occupancy : Occupancy) → ((k : ℕ) → k ≤ n → slice_index occupancy.free k ≡ free_regions words (n - k)) → ((k : ℕ) → n < k → slice_index occupancy.free k ≡ 0) → occupancy.held ≡ held_processors n words → IsLargestFree occupancy.free occupancy.largest → IsWhollyFree n words → IsEmptyMachine n occupancy
 empty_machine n words occupancy free no_higher held largest wholly =
-  let some : 1 ≤ 2 ^ (n - n) = one-le-pow (n - n) 2 (omega arith) in record {
-  free = all;
-  held = held ∙ no_processors words wholly.nodes n (n + 1);
-  largest = largest_is n occupancy.free occupancy.largest (omega (arith, all n (omega arith), some)) no_higher largest;
-}
+    let some : 1 ≤ 2 ^ (n - n) = one-le-pow (n - n) 2 (omega arith) in record {
+      free = all;
+      held = held ∙ no_processors words wholly.nodes n (n + 1);
+      largest = largest_is n occupancy.free occupancy.largest (omega (arith, all n (omega arith), some)) no_higher largest;
+    }
   where
     all : (k : ℕ) → k ≤ n → slice_index occupancy.free k ≡ 2 ^ (n - k)
     all k le = free k le ∙ all_free words wholly.nodes (n - k)

@@ -20,10 +20,12 @@ module _ {A : Type 0} (number amount : A → ℕ) (n : ℕ) where
 
   pub sums_by_number : (xs : List A) → All (λ x. number x < n) xs → below (λ k. total (λ x. cond (number x == k) (amount x) 0) xs) n ≡ total amount xs
   sums_by_number [] within = below-zero n
-  sums_by_number (x ∷ xs) within = omega (arith,
-      below-plus (λ k. cond (number x == k) (amount x) 0) (λ k. total (λ x. cond (number x == k) (amount x) 0) xs) n,
-      of_one x (within 0 x (omega arith)),
-      sums_by_number xs (λ k d lt. within (suc k) d (omega (arith, lt))))
+  sums_by_number (x ∷ xs) within = omega (
+    arith,
+    below-plus (λ k. cond (number x == k) (amount x) 0) (λ k. total (λ x. cond (number x == k) (amount x) 0) xs) n,
+    of_one x (within 0 x (omega arith)),
+    sums_by_number xs (λ k d lt. within (suc k) d (omega (arith, lt))),
+  )
 
 -- ---- the slips of all replies
 
@@ -32,17 +34,21 @@ slips-none weight = refl
 
 -- those of one worker more
 pub slips_more : {X : Type 0} (items : X → List ReplyData) (workers : List X) (i : ℕ) (d : X) (old new : List Slip) → i < length workers → HasAllSlips (map items (take i workers)) [] old → new ≡ old ++ map slip_of (items (get_or workers i d)) → HasAllSlips (map items (take (i + 1) workers)) [] new
-slips_more items workers i d old new within had added weight = omega (arith,
-    had weight,
-    ap (total weight) added,
-    total-append weight old (map slip_of (items (get_or workers i d))),
-    total-map weight slip_of (items (get_or workers i d)),
-    ap (total (total (λ r. weight (slip_of r)))) (map_more items workers i d within),
-    total-push (total (λ r. weight (slip_of r))) (map items (take i workers)) (items (get_or workers i d)))
+slips_more items workers i d old new within had added weight = omega (
+  arith,
+  had weight,
+  ap (total weight) added,
+  total-append weight old (map slip_of (items (get_or workers i d))),
+  total-map weight slip_of (items (get_or workers i d)),
+  ap (total (total (λ r. weight (slip_of r)))) (map_more items workers i d within),
+  total-push (total (λ r. weight (slip_of r))) (map items (take i workers)) (items (get_or workers i d)),
+)
 
 -- those of the rest
 pub slips_whole : (by_worker : List (List ReplyData)) (rest : List ReplyData) (slips : List Slip) → HasAllSlips by_worker [] slips → HasAllSlips by_worker rest (slips ++ map slip_of rest)
-slips_whole by_worker rest slips had weight = omega (arith,
-    had weight,
-    total-append weight slips (map slip_of rest),
-    total-map weight slip_of rest)
+slips_whole by_worker rest slips had weight = omega (
+  arith,
+  had weight,
+  total-append weight slips (map slip_of rest),
+  total-map weight slip_of rest,
+)

@@ -10,7 +10,7 @@ returns-then-is_occupied c =
     let left = c.args.levels - c.loop.counter in
     let here : is_occupied_word words (c.loop.above / 2) ≡ true = sym c.is_occupied.ensures ∙ c.if-is_occupied.true in
     sym (sym c.loop.invariant.left ∙ (above-step words c.loop.above left (omega arith)
-        ∙ ap (λ b. b || has_occupied_above words (c.loop.above / 2) (left - 1)) here))
+    ∙ ap (λ b. b || has_occupied_above words (c.loop.above / 2) (left - 1)) here))
 
 pub loop-preserved : goal.loop-preserved
 loop-preserved c =
@@ -19,7 +19,7 @@ loop-preserved c =
     let here : is_occupied_word words (c.loop.above / 2) ≡ false = sym c.is_occupied.ensures ∙ c.if-is_occupied.false in
     let fewer : c.args.levels - (c.loop.counter + 1) ≡ left - 1 = omega arith in
     let step : has_occupied_above words c.loop.above left ≡ has_occupied_above words (c.loop.above / 2) (left - 1) = above-step words c.loop.above left (omega arith)
-        ∙ ap (λ b. b || has_occupied_above words (c.loop.above / 2) (left - 1)) here in
+    ∙ ap (λ b. b || has_occupied_above words (c.loop.above / 2) (left - 1)) here in
     record {
       left = ap (has_occupied_above words (c.loop.above / 2)) fewer ∙ (sym step ∙ c.loop.invariant.left);
       in_words = omega (arith, div-le_self c.loop.above 2, c.loop.invariant.in_words);
