@@ -13,3 +13,4 @@ pub mod JobLemmas
 pub mod PlaceTextLemmas
 pub mod SentLemmas
 pub mod LaneLemmas
+pub mod ReportLemmas

@@ -6,3 +6,4 @@ pub mod Name
 pub mod Output
 pub mod Parse
 pub mod Rows
+pub mod ReportRows

@@ -10,6 +10,7 @@ pub mod Schedule
 pub mod Text
 pub mod PlaceRows
 pub mod ReplayRows
+pub mod ReportRows
 pub mod JobFields
 pub mod Jobs
 pub mod Replies

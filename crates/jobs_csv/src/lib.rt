@@ -23,6 +23,7 @@ mod place;
 mod place_rows;
 mod replay_rows;
 mod replies;
+mod report_rows;
 mod row;
 mod schedule;
 
@@ -37,6 +38,7 @@ pub use name::Name;
 pub use place::{Command, read_place};
 pub use place_rows::PlaceRow;
 pub use replay_rows::ReplayRow;
+pub use report_rows::ReportRow;
 pub use row::{Row, RowFields};
 pub use schedule::{Line, MAX_STEPS, read_schedule};
 

@@ -1,0 +1,28 @@
+-- The fields of the rows of a report, column by column, for the proof of their writing.
+use Rattle.std.specs.Prelude.{ℕ, List, codes, Option, Some, None}
+use Rattle.jobs_csv.specs.declared.report_rows.ReportRow.{ReportRow}
+use Rattle.jobs_csv.specs.declared.report_rows.ReportRow.TheVariants as row
+
+abbrev pub group_text : ReportRow → List ℕ
+group_text (row.Lane lane jobs processors) = codes "lane"
+group_text (row.Dim dim jobs processors) = codes "dim"
+group_text (row.Free dim regions processors) = codes "free"
+group_text (row.Total jobs processors) = codes "total"
+
+abbrev pub key_in : ReportRow → Option ℕ
+key_in (row.Lane lane jobs processors) = Some lane
+key_in (row.Dim dim jobs processors) = Some dim
+key_in (row.Free dim regions processors) = Some dim
+key_in (row.Total jobs processors) = None
+
+abbrev pub count_in : ReportRow → ℕ
+count_in (row.Lane lane jobs processors) = jobs
+count_in (row.Dim dim jobs processors) = jobs
+count_in (row.Free dim regions processors) = regions
+count_in (row.Total jobs processors) = jobs
+
+abbrev pub processors_in : ReportRow → ℕ
+processors_in (row.Lane lane jobs processors) = processors
+processors_in (row.Dim dim jobs processors) = processors
+processors_in (row.Free dim regions processors) = processors
+processors_in (row.Total jobs processors) = processors
