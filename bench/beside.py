@@ -1,12 +1,22 @@
-"""Runs `cubejobs` beside a plain Rust program of the same job, in turn on the same inputs."""
+"""Runs `cubejobs` beside other programs of the same job, in turn on the same inputs."""
 import os
 import subprocess
 import sys
 import tempfile
+import time
+from typing import NamedTuple
 
 BENCH = os.path.dirname(os.path.realpath(__file__))
 ROOT = os.path.dirname(BENCH)
 TURNS = 7
+
+
+class Cost(NamedTuple):
+    """What a run took: processor time and time on the clock in seconds, and the peak memory in MB."""
+
+    processor: float
+    clock: float
+    memory: float
 
 
 def built(folder, source):
@@ -16,15 +26,40 @@ def built(folder, source):
     return program
 
 
+def proved():
+    """The path of `cubejobs`, which is built first where its sources have changed."""
+    subprocess.run([os.path.join(ROOT, "cubejobs"), "--help"], stdout=subprocess.DEVNULL, check=True)
+    return os.path.join(ROOT, "out", "cubejobs")
+
+
 def measured(command, path, out):
-    """The processor time in seconds and the peak memory in MB of one run."""
+    """The cost of one run, which reads the file at `path` and writes that at `out`."""
     with open(path, "rb") as stdin, open(out, "wb") as stdout:
+        start = time.perf_counter()
         process = subprocess.Popen(command, stdin=stdin, stdout=stdout)
         _, status, usage = os.wait4(process.pid, 0)
+        clock = time.perf_counter() - start
     process.returncode = 0
     if status != 0:
-        sys.exit(f"{command[0]} ended with status {status}")
-    return usage.ru_utime + usage.ru_stime, usage.ru_maxrss / 1024
+        sys.exit(f"{' '.join(command)} ended with status {status}")
+    return Cost(usage.ru_utime + usage.ru_stime, clock, usage.ru_maxrss / 1024)
+
+
+def measured_in_turn(commands, path, folder, turns=TURNS):
+    """The least times and the greatest memory of each command in several turns, by its name. It fails
+    where two commands wrote different bytes."""
+    outputs = {name: os.path.join(folder, f"output {number}") for number, name in enumerate(commands)}
+    best = {}
+    for _ in range(turns):
+        for name, command in commands.items():
+            cost = measured(command, path, outputs[name])
+            old = best.get(name, cost)
+            best[name] = Cost(min(old.processor, cost.processor), min(old.clock, cost.clock), max(old.memory, cost.memory))
+    first = next(iter(outputs.values()))
+    for name, output in outputs.items():
+        if subprocess.run(["cmp", "-s", first, output]).returncode != 0:
+            sys.exit(f"{name} wrote different bytes")
+    return best
 
 
 def compare(arguments, source, plain_arguments, inputs):
@@ -34,23 +69,38 @@ def compare(arguments, source, plain_arguments, inputs):
     An input is a label, and a function that writes the input to a path. It should write line by line,
     since a child's peak memory begins with that of its parent.
     """
-    subprocess.run([os.path.join(ROOT, "cubejobs"), "--help"], stdout=subprocess.DEVNULL, check=True)
+    program = proved()
     with tempfile.TemporaryDirectory() as folder:
-        proved = os.path.join(ROOT, "out", "cubejobs")
-        commands = {"proved": [proved, *arguments], "plain": [built(folder, source), *plain_arguments]}
+        commands = {"proved": [program, *arguments], "plain": [built(folder, source), *plain_arguments]}
         path = os.path.join(folder, "input.csv")
-        outputs = {name: os.path.join(folder, name + ".csv") for name in commands}
         print(f"{'input':40} program   seconds      MB    time  memory")
         for label, write in inputs:
             write(path)
-            best = {name: (float("inf"), 0.0) for name in commands}
-            for _ in range(TURNS):
-                for name, command in commands.items():
-                    seconds, memory = measured(command, path, outputs[name])
-                    best[name] = (min(best[name][0], seconds), max(best[name][1], memory))
-            if subprocess.run(["cmp", "-s", *outputs.values()]).returncode != 0:
-                sys.exit("the two programs wrote different bytes")
-            for name, (seconds, memory) in best.items():
-                time_ratio = seconds / best["plain"][0]
-                memory_ratio = memory / best["plain"][1]
-                print(f"{label:40} {name:8} {seconds:8.3f} {memory:7.1f} {time_ratio:7.2f} {memory_ratio:7.2f}")
+            best = measured_in_turn(commands, path, folder)
+            for name, cost in best.items():
+                time_ratio = cost.processor / best["plain"].processor
+                memory_ratio = cost.memory / best["plain"].memory
+                print(f"{label:40} {name:8} {cost.processor:8.3f} {cost.memory:7.1f} {time_ratio:7.2f} {memory_ratio:7.2f}")
+
+
+def compare_threads(arguments, dispatchers, baseline, inputs):
+    """Prints a line for each input and number of dispatchers: the least processor time, the least time
+    on the clock and the greatest peak memory of several runs, with their ratios to those of `baseline`,
+    a program that knows the same arguments but `--dispatchers`."""
+    program = proved()
+    with tempfile.TemporaryDirectory() as folder:
+        commands = {"baseline": [baseline, *arguments]}
+        for count in dispatchers:
+            commands[f"{count} dispatchers"] = [program, *arguments, "--dispatchers", str(count)]
+        path = os.path.join(folder, "input.csv")
+        print(f"{'input':48} program        processor   clock      MB    processor  clock  memory")
+        for label, write in inputs:
+            write(path)
+            best = measured_in_turn(commands, path, folder)
+            for name, cost in best.items():
+                ratios = [own / base for own, base in zip(cost, best["baseline"])]
+                print(
+                    f"{label:48} {name:14} {cost.processor:9.3f} {cost.clock:7.3f} {cost.memory:7.1f}"
+                    f" {ratios[0]:12.2f} {ratios[1]:6.2f} {ratios[2]:7.2f}",
+                    flush=True,
+                )
