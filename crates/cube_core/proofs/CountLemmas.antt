@@ -1,5 +1,6 @@
 -- The count of events: one for each accepted step, never more than was due, and the node that a take named.
-use Rattle.std.proofs.Common.{◌≡◌, ℕ, suc, ◌+◌, ◌-◌, ◌*◌, ◌<◌, ◌≤◌, inl, inr, List, [], ◌∷◌, ◌++◌, length, Some, None, refl, sym, ◌∙◌, ap, subst, arith}
+use Rattle.std.proofs.Common.{◌≡◌, ℕ, suc, ◌+◌, ◌-◌, ◌*◌, ◌<◌, ◌≤◌, inl, inr, List, [], ◌∷◌, ◌++◌, length, Option, Some, None, refl, sym, ◌∙◌, ap, subst, arith}
+use Rattle.std.proofs.lemmas.Bool.{cases_eq}
 use Rattle.std.proofs.lemmas.List.{get_or-set_same}
 use Rattle.cube_shape.specs.declared.region.Region.{Region}
 use Rattle.cube_shape.specs.Node.{IsNodeOf}
@@ -10,10 +11,11 @@ use Rattle.cube_core.specs.declared.phase.Phase.{Phase}
 use Rattle.cube_core.specs.declared.phase.Phase.TheVariants.{Looking, Holding, Leaving, Retired}
 use Rattle.cube_core.specs.declared.act.Act.{Act}
 use Rattle.cube_core.specs.declared.act.Act.TheVariants.{Take, Release, Step}
+use Rattle.cube_core.specs.declared.act.Refused.{Refused}
 use Rattle.cube_core.specs.Phase.{owned, node_held, step_refusal}
 use Rattle.cube_core.specs.InnerPhase.{asked}
 use Rattle.cube_core.specs.Event.{transition}
-use Rattle.cube_core.specs.Schedule.{Record, State, record_of, phase_of, trail_of, word_of, apply_begin, refusal, station_of, apply_accepted, apply, apply_all, HasOnlySteps}
+use Rattle.cube_core.specs.Schedule.{Record, State, record_of, phase_of, trail_of, word_of, apply_begin, refusal, station_of, apply_accepted, unless_refused, apply, apply_all, HasOnlySteps}
 use Rattle.cube_core.specs.Held.{held_of}
 use Rattle.cube_core.specs.Count.{depth, events_due, IsCounted}
 use Rattle.cube_core.proofs.LevelLemmas.{dim_at-level}
@@ -75,6 +77,21 @@ step_pays w s k none =
     let longer : length (trail_of (apply (Step s) w) s) ≡ suc (length (trail_of w s)) = ap length (one_event w s none).2 in
     omega (arith, less, longer)
 
+-- what a station has made, and what it has still to make at most
+abbrev made_and_due : State → ℕ → ℕ
+made_and_due w s = length (trail_of w s) + events_due w.dim (phase_of w s)
+
+-- nor any step that of any station
+never_rises : (w : State) → Stands w → (s t : ℕ) → made_and_due (apply (Step s) w) t ≤ made_and_due w t
+never_rises w k s t = subst (λ n. length (trail_of (apply (Step s) w) t) + events_due n (phase_of (apply (Step s) w) t) ≤ made_and_due w t) (sym (apply_leads (Step s) w k).dim) (elim (cases_eq t s) [
+  | inl same ↦ subst (λ u. made_by w.dim (record_of (apply (Step s) w) u) ≤ made_by w.dim (record_of w u)) (sym same) (turn (refusal (Step s) w) refl)
+  | inr other ↦ subst (λ r. made_by w.dim r ≤ made_by w.dim (record_of w t)) (sym (others_record (Step s) w t other)) (omega arith)
+])
+  where
+    turn : (r : Option Refused) → refusal (Step s) w ≡ r → made_by w.dim (record_of (unless_refused r (Step s) w) s) ≤ made_by w.dim (record_of w s)
+    turn None none = subst (λ u. made_by w.dim (record_of u s) ≤ made_by w.dim (record_of w s)) (apply-accepted (Step s) w none) (step_pays w s k none)
+    turn (Some why) _ = omega arith
+
 -- so all that a station makes by steps alone is what was due
 steps_bounded : (w : State) (s : ℕ) (later : List Act) → Stands w → HasOnlySteps s later → length (trail_of (apply_all later w) s) ≤ made_by w.dim (record_of w s)
 steps_bounded w s later k steps =
@@ -112,6 +129,7 @@ Stands-counted w k = record {
   levels = node_depth w.dim;
   falls = λ s none. falls w s k none;
   one_event = one_event w;
+  never_rises = λ s t. subst (λ n. length (trail_of (apply (Step s) w) t) + events_due n (phase_of (apply (Step s) w) t) ≤ made_and_due w t) (apply_leads (Step s) w k).dim (never_rises w k s t);
   others = λ act t other. others_record act w t other;
   take_events = λ s v later none steps. begin_bounded (Take s v) s (Looking v) w later k (accepted (Take s v) w none).0 none refl steps;
   release_events = λ s later none steps. subst (λ d. length (trail_of (apply_all later (apply (Release s) w)) s) ≤ length (trail_of w s) + d) (release_due w.dim (phase_of w s) (release_holds w.dim s (phase_of w s) (accepted (Release s) w none).1))

@@ -46,6 +46,9 @@ pub record IsCounted (w : State) : Type 0 where
   pub one_event : (s : ℕ) → refusal (Step s) w ≡ None
       → (event : Event) × (event.station ≡ s)
       × (trail_of (apply (Step s) w) s ≡ event ∷ trail_of w s)
+  -- so no step raises what a station has made and has still to make at most
+  pub never_rises : (s t : ℕ) → length (trail_of (apply (Step s) w) t) + events_due w.dim (phase_of (apply (Step s) w) t)
+      ≤ length (trail_of w t) + events_due w.dim (phase_of w t)
   -- no act changes another station's phase, and so its count, nor its trail
   pub others : (act : Act) (t : ℕ) → t ≢ station_of act → record_of (apply act w) t ≡ record_of w t
   -- at a node that is j levels below the root: from an accepted take on, for as long as all further acts
