@@ -88,7 +88,7 @@ decode_back none q = of q.job.kind
     of (AllReduce op) = ap (λ (o : Op). made (AllReduce o)) (op_back op)
     of (Scan op) = ap (λ (o : Op). made (Scan o)) (op_back op)
 
-same_job : Discrete QueuedJob
+pub same_job : Discrete QueuedJob
 same_job a b = of (List-discrete ℕ_discrete (code a) (code b))
   where
     of : Dec (code a ≡ code b) → Dec (a ≡ b)

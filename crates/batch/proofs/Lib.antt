@@ -1,3 +1,4 @@
 mod PermutationLemmas
 mod AnswerLemmas
 mod UnfedLemmas
+mod OrderLemmas

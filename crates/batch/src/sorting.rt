@@ -1,8 +1,9 @@
 //! The replies of a batch, sorted by id.
-ghost use Rattle.std.specs.Prelude.{◌≡◌, ◌+◌, ◌≤◌, ◌++◌, [], IfOk, IfErr, IfSome, map, length, IsPermutation};
+ghost use Rattle.std.specs.Prelude.{◌≡◌, ℕ, List, ◌+◌, ◌≤◌, ◌++◌, [], IfOk, IfErr, IfSome, map, length, IsPermutation};
 ghost use Rattle.std.specs.Vec.{vec_capacity};
-ghost use Rattle.batch.specs.Answers.{all_replies};
-ghost use Rattle.batch.specs.Order.{AreSorted};
+ghost use Rattle.job_types.specs.Job.{JobData};
+ghost use Rattle.batch.specs.Answers.{all_replies, AnswersAll};
+ghost use Rattle.batch.specs.Order.{AreSorted, AreInOrder};
 
 use dispatcher::Finished;
 use job_types::Reply;
@@ -56,8 +57,8 @@ fn sort(replies: &mut Vec<Reply>)
     replies.sort_unstable_by_key(|reply| reply.id());
 }
 
-/// All replies, sorted by lane and in a lane by number. Where there is no memory for them the replies
-/// and the machine come back as they were.
+/// All replies, sorted by lane and in a lane by number: those of a batch are then the answers to its jobs,
+/// lane by lane. Where there is no memory for them the replies and the machine come back as they were.
 pub fn sorted_replies<M: Drop>(
     alloc: Global,
     finished: Finished<M>,
@@ -66,6 +67,9 @@ pub fn sorted_replies<M: Drop>(
         (all_replies (map (λ rs. rs.items) finished.by_worker.items) finished.rest.items)
         replies.items) }
     ensures sorted { IfOk result (λ replies. AreSorted replies.items) }
+    ensures in_order { IfOk result (λ replies. (n : ℕ) (jobs : List (List JobData)) →
+        AnswersAll n jobs (map (λ rs. rs.items) finished.by_worker.items) finished.rest.items →
+        AreInOrder n jobs replies.items) }
     ensures gives_back { IfErr result (λ r. r.1 ≡ finished) }
 {
     let Some(count) = reply_count(&finished.by_worker, &finished.rest) else {

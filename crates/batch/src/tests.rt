@@ -36,7 +36,8 @@ fn add(
     kind: Kind,
     items: &[u64],
 ) -> Result<(), Fail>
-    requires { All (IsFor 3 lane) jobs.old.items }
+    requires lane { lane < 16 }
+    requires made_for { All (IsFor 3 lane) jobs.old.items }
     ensures { IfOk result (λ done. All (IsFor 3 lane) jobs.new.items) }
 {
     let items = Vec::from_slice(alloc, items)?;
@@ -48,6 +49,7 @@ fn add(
 
 // The jobs of a lane of the long batch: the sums of its number and 0, 1 and so on.
 fn sums(alloc: Global, lane: u32) -> Result<VecDeque<Job>, Fail>
+    requires { lane < 16 }
     ensures { IfOk result (λ js. All (IsFor 3 lane) js.items) }
 {
     let mut jobs = VecDeque::new(alloc);
@@ -66,6 +68,7 @@ fn sums(alloc: Global, lane: u32) -> Result<VecDeque<Job>, Fail>
 
 // The jobs of a lane.
 fn jobs(alloc: Global, batch: Batch, lane: u32) -> Result<VecDeque<Job>, Fail>
+    requires { lane < 16 }
     ensures { IfOk result (λ js. All (IsFor 3 lane) js.items) }
 {
     if matches!(batch, Batch::Long) {

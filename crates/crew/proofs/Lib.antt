@@ -1,3 +1,3 @@
 mod MemberLemmas
-mod SlotLemmas
+pub mod SlotLemmas
 mod RunLemmas
