@@ -214,9 +214,9 @@ fn sizes_are_refused_with_the_jobs_back(rt: HostRuntime) -> Result<(), Fail> {
     let refused = answer_all::<_, LockedLine, LockedFloor, Plain>(
         &rt,
         rt.alloc(),
-        11,
+        DIM,
         1,
-        1,
+        0,
         &Plain,
         jobs,
     );
@@ -224,7 +224,7 @@ fn sizes_are_refused_with_the_jobs_back(rt: HostRuntime) -> Result<(), Fail> {
         matches!(
             refused,
             Err(Stopped::Refused {
-                why: ShopRefused::BadDimension,
+                why: ShopRefused::BadCapacity,
                 ..
             })
         )

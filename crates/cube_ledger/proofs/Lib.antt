@@ -1,2 +1,4 @@
 pub mod TotalLemmas
 pub mod RegionLemmas
+pub mod RunLemmas
+pub mod AncestorLemmas

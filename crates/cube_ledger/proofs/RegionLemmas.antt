@@ -54,7 +54,7 @@ above-step words node (suc levels) some =
 
 -- ---- a machine that is wholly free
 
-half : (levels node : ℕ) → 2 ^ suc levels ≤ node → 2 ^ levels ≤ node / 2
+pub half : (levels node : ℕ) → 2 ^ suc levels ≤ node → 2 ^ levels ≤ node / 2
 half levels node deep = let e : 2 ^ suc levels ≡ 2 * 2 ^ levels = omega (arith, pow-add 2 1 levels) in omega arith
 
 abbrev as_number : Bool → ℕ

@@ -1,9 +1,10 @@
 -- What the words of a machine say of its regions. The nodes that are some levels below the root are
 -- those of the machine's regions of one dimension: 2 ^ levels + m for each m below 2 ^ levels.
-use Rattle.std.specs.Prelude.{◌≡◌, ℕ, zero, suc, ◌+◌, ◌-◌, ◌*◌, ◌/◌, ◌^◌, ◌<◌, ◌≤◌, ◌==◌, Bool, false, not, ◌&&◌, ◌||◌, cond, List, Option, Some, None, slice_index}
+use Rattle.std.specs.Prelude.{◌≡◌, ◌≢◌, ℕ, zero, suc, ◌+◌, ◌-◌, ◌*◌, ◌/◌, ◌^◌, ◌<◌, ◌≤◌, ◌==◌, Bool, false, not, ◌&&◌, ◌||◌, cond, List, Option, Some, None, slice_index}
 use Rattle.std.specs.Int.{bit_at}
+use Rattle.cube_shape.specs.Node.{OnPath}
 use Rattle.histories.specs.Sums.{below}
-use Rattle.status_word.specs.Word.{use_of}
+use Rattle.status_word.specs.Word.{IsOccupied, use_of}
 use Rattle.cube_ledger.specs.declared.regions.Occupancy.{Occupancy}
 
 -- the word of a node is free; it is occupied
@@ -17,6 +18,10 @@ is_occupied_word words node = bit_at (slice_index words node) 0 == 1
 unfoldable pub has_occupied_above : List ℕ → ℕ → ℕ → Bool
 has_occupied_above words node zero = false
 has_occupied_above words node (suc levels) = is_occupied_word words (node / 2) || has_occupied_above words (node / 2) levels
+
+-- one of all nodes above is occupied
+abbrev pub HasOccupiedAncestor : List ℕ → ℕ → Type 0
+HasOccupiedAncestor words node = (a : ℕ) × OnPath a node × (a ≢ node) × IsOccupied (slice_index words a)
 
 -- the node's region is free: its word is free, and no ancestor is occupied
 abbrev pub is_free_node : List ℕ → ℕ → ℕ → Bool

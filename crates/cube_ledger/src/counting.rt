@@ -1,7 +1,7 @@
 //! The count of free regions and of processors that are given out.
-ghost use Rattle.std.specs.Prelude.{◌≡◌, ℕ, ◌+◌, ◌-◌, ◌*◌, ◌^◌, ◌<◌, ◌≤◌, Some, None, length, slice_index};
+ghost use Rattle.std.specs.Prelude.{◌≡◌, ℕ, ◌+◌, ◌-◌, ◌*◌, ◌^◌, ◌<◌, ◌≤◌, ◌↔◌, Some, None, IsTrue, length, slice_index};
 ghost use Rattle.floors.specs.Floor.{IsWhollyFree};
-ghost use Rattle.cube_ledger.specs.Occupancy.{IsEmptyMachine, IsLargestFree, free_regions, has_occupied_above, held_processors, held_regions, is_free_node, is_held_node, is_occupied_word};
+ghost use Rattle.cube_ledger.specs.Occupancy.{HasOccupiedAncestor, IsEmptyMachine, IsLargestFree, free_regions, has_occupied_above, held_processors, held_regions, is_free_node, is_held_node, is_occupied_word};
 
 use crate::regions::{FREE_PLACES, Occupancy};
 use cube_shape::MAX_DIM;
@@ -143,6 +143,10 @@ pub fn occupancy(n: u32, words: &[u64]) -> Occupancy
     ensures held { result.held ≡ held_processors n words.now }
     ensures largest { IsLargestFree result.free result.largest }
     ensures wholly_free { IsWhollyFree n words.now → IsEmptyMachine n result }
+
+    // What `has_occupied_above` means, of a node that is so many levels below the root.
+    ensures above { (node levels : ℕ) → 2 ^ levels ≤ node → node < 2 ^ (levels + 1) →
+        IsTrue (has_occupied_above words.now node levels) ↔ HasOccupiedAncestor words.now node }
 {
     let free = free_by_dim(n, words);
     Occupancy {

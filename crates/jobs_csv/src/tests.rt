@@ -12,6 +12,7 @@ use std::test::Fail;
 
 mod jobs;
 mod place;
+mod report;
 mod rows;
 mod schedule;
 
