@@ -1,5 +1,5 @@
 -- What 'an occupied node above' means: some ancestor is occupied.
-use Rattle.std.proofs.Common.{◌≡◌, ◌≢◌, ℕ, zero, suc, ◌+◌, ◌*◌, ◌/◌, ◌^◌, ◌<◌, ◌≤◌, ◌⊎◌, inl, inr, ◌||◌, Bool, true, false, List, slice_index, eqb, eq-eqb, refl, sym, ap, subst, ◌∙◌, arith}
+use Rattle.std.proofs.Common.{◌≡◌, ℕ, zero, suc, ◌+◌, ◌*◌, ◌/◌, ◌^◌, ◌<◌, ◌≤◌, ◌⊎◌, inl, inr, ◌||◌, Bool, true, false, List, slice_index, eq-eqb, refl, ap, subst, ◌∙◌, arith}
 use mathlib.Core.Logic.{dite}
 use native.Mathlib.Decide.{ℕ_discrete}
 use Rattle.std.proofs.Math.Nat.{one-le-pow}
@@ -45,5 +45,6 @@ ancestor_seen words (suc levels) node deep within (a, on, other, occupied) =
   where
     here : is_occupied_word words a ≡ true
     here = eq-eqb (bit_at (slice_index words a) 0) 1 occupied
+
     lower : node / 2 < 2 ^ (levels + 1)
     lower = let e : 2 ^ (suc levels + 1) ≡ 2 * 2 ^ (levels + 1) = ap (λ k. 2 ^ k) (omega arith) ∙ pow-add 2 1 (levels + 1) in omega (arith, e, within)

@@ -1,5 +1,5 @@
 -- What the slips of a finished shop weigh: as much as the jobs that its lanes accepted.
-use Rattle.std.proofs.Common.{◌≡◌, ℕ, ◌+◌, List, [], ◌∷◌, map, refl, sym, ap, ◌∙◌, arith}
+use Rattle.std.proofs.Common.{◌≡◌, ℕ, List, [], ◌∷◌, refl, arith}
 use Rattle.std.specs.List.{AllByRecursion as Each}
 use Rattle.histories.specs.Sums.{total}
 use Rattle.job_types.specs.Reply.{ReplyData}
@@ -22,8 +22,10 @@ module _ (n : ℕ) (weight : Slip → ℕ) (job_weight : QueuedJob → ℕ) (sam
   of_workers (replies ∷ by_worker) right = omega (arith, of_replies replies right.0, of_workers by_worker right.1)
 
   pub slips_of_run : (lanes : List LaneRecord) (by_worker : List (List ReplyData)) (rest : List ReplyData) (note : ℕ) (slips : List Slip) → FinishedRun n lanes by_worker rest note → HasAllSlips by_worker rest slips → total weight slips ≡ total (λ l. total job_weight (accepted l.entries)) lanes
-  slips_of_run lanes by_worker rest note slips run all = omega (arith,
-      all weight,
-      of_workers by_worker run.right,
-      of_replies rest run.rest_right,
-      run.balance job_weight)
+  slips_of_run lanes by_worker rest note slips run all = omega (
+    arith,
+    all weight,
+    of_workers by_worker run.right,
+    of_replies rest run.rest_right,
+    run.balance job_weight,
+  )

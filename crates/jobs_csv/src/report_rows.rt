@@ -29,7 +29,10 @@ pub enum ReportRow {
         processors: u128,
     },
     /// All jobs, and the sum of the processors of their regions.
-    Total { jobs: u64, processors: u128 },
+    Total {
+        jobs: u64,
+        processors: u128,
+    },
 }
 
 // A number of processors in decimal digits.

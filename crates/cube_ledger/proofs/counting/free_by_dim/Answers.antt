@@ -1,4 +1,4 @@
-use Rattle.std.proofs.Common.{◌≡◌, ◌-◌, ◌<◌, length, rules, arith}
+use Rattle.std.proofs.Common.{◌-◌, rules, arith}
 use Rattle.cube_ledger.specs.Occupancy.{free_regions}
 use Rattle.cube_ledger.proofs.RegionLemmas.{set_counted, set_others}
 use Rattle.cube_ledger.proofs.counting.free_by_dim.Goals as goal

@@ -1,4 +1,4 @@
-use Rattle.std.proofs.Common.{◌≡◌, ◌+◌, ◌-◌, ◌*◌, ◌^◌, ◌≤◌, arith}
+use Rattle.std.proofs.Common.{arith}
 use Rattle.cube_ledger.proofs.RegionLemmas.{held_few, level_fits}
 use Rattle.cube_ledger.proofs.counting.held_of_dim.Goals as goal
 

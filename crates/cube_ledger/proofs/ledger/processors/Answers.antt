@@ -1,4 +1,4 @@
-use Rattle.std.proofs.Common.{◌≡◌, ◌^◌, ◌≤◌, subst, sym, arith}
+use Rattle.std.proofs.Common.{◌^◌, ◌≤◌, subst, sym, arith}
 use Rattle.std.proofs.Math.Nat.{pow-le-pow_right}
 use Rattle.std.proofs.lemmas.Nat.{one_shl}
 use Rattle.cube_ledger.proofs.ledger.processors.Goals as goal

@@ -1,4 +1,4 @@
-use Rattle.std.proofs.Common.{◌≡◌, [], map, take}
+use Rattle.std.proofs.Common.{[], map, take}
 use Rattle.std.specs.List.{All}
 use Rattle.cube_ledger.specs.Ledger.{HasAllSlips}
 use Rattle.cube_ledger.specs.Inner.Group.{HasSmallDim}

@@ -1,4 +1,4 @@
-use Rattle.std.proofs.Common.{◌≡◌, ◌+◌, ◌<◌, ◌≤◌, All, sym, ap, ◌∙◌, subst, rules, arith}
+use Rattle.std.proofs.Common.{◌≡◌, ◌<◌, All, sym, ap, ◌∙◌, rules, arith}
 use Rattle.cube_ledger.specs.Ledger.{is_any, processors_of, totals_of}
 use Rattle.cube_ledger.specs.Inner.Group.{HasSmallDim}
 use Rattle.cube_ledger.proofs.TotalLemmas.{sums_by_number}
