@@ -219,7 +219,7 @@ reply_push replies jobs reply job seq same answers count =
 -- ---- what a run answers
 
 -- where the lanes are those of a good file, and the replies to them were written, all is done
-pub run_answered : (n : ℕ) (read : Option (List ℕ)) (lanes : Vec (Vec JobData Global) Global) (old new : Option (List ℕ)) → IfSome read (λ bytes. ReturnsLanes (parse_jobs n bytes) (Ok lanes)) → (replies : List ReplyData) × (map answered_job replies ≡ lane_by_lane lanes.items) × Appends old new (file_text reply_columns reply_fields replies) → IfSome read (λ bytes. IsAnswerTo (Run n) bytes old new (Ok tt))
+pub run_answered : (n : ℕ) (read : Option (List ℕ)) (lanes : Vec (Vec JobData Global) Global) (old new : Option (List ℕ)) → IfSome read (λ bytes. ReturnsLanes (parse_jobs n bytes) (Ok lanes)) → (replies : List ReplyData) × (map answered_job replies ≡ lane_by_lane lanes.items) × Appends old new (file_text reply_columns reply_fields replies) → IfSome read (λ bytes. IsAnswerTo (Run n 2 16) bytes old new (Ok tt))
 run_answered n None lanes old new parsed (replies, same, out) = tt
 run_answered n (Some bytes) lanes old new (jobs, good, are) (replies, same, out) = record {
   things = jobs;

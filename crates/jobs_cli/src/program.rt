@@ -67,7 +67,7 @@ fn answer<R: Read + Device, W: Write + Device>(
     ensures untouched { IfErr result (λ fault. IsMetInReading fault → writer.new ≡ writer.old) }
 {
     match invocation {
-        Invocation::Run { n } => run::run_on(alloc, n, reader, writer),
+        Invocation::Run { n, .. } => run::run_on(alloc, n, reader, writer),
         Invocation::Place { n } => place::place_on(alloc, n, reader, writer),
         Invocation::Replay { n, stations } => replay::replay_on(alloc, n, stations, reader, writer),
     }

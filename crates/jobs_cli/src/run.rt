@@ -24,7 +24,7 @@ pub fn run_on<R: Read + Device, W: Write + Device>(
 ) -> Result<(), Fault>
     requires { n ≤ MAX_DIM }
     ensures answered { IfSome (R.remaining reader.old) (λ bytes.
-        IsAnswerTo (Run n) bytes (W.contents writer.old) (W.contents writer.new) result) }
+        IsAnswerTo (Run n 2 16) bytes (W.contents writer.old) (W.contents writer.new) result) }
     ensures failed { IfErr result
         (IsCommandFault (R.failures reader.old) (R.failures reader.new)
         (W.failures writer.old) (W.failures writer.new)) }

@@ -360,12 +360,21 @@ fn ask(
     Ok(answer)
 }
 
+// A run on a machine of this dimension, with this many dispatchers and this capacity.
+fn a_run(n: u32, dispatchers: u32, capacity: usize) -> Result<Invocation, ErrorKind> {
+    Ok(Invocation::Run {
+        n,
+        dispatchers,
+        capacity,
+    })
+}
+
 #[test]
 fn reads_command_lines(rt: HostRuntime) -> Result<(), Fail> {
     let run = ["cubejobs", "run", "--dim", "0"];
-    assert!(rt; ask(&rt, run.as_slice())? == Ok(Invocation::Run { n: 0 }));
+    assert!(rt; ask(&rt, run.as_slice())? == a_run(0, 2, 16));
     let run = ["cubejobs", "run", "--dim=10"];
-    assert!(rt; ask(&rt, run.as_slice())? == Ok(Invocation::Run { n: 10 }));
+    assert!(rt; ask(&rt, run.as_slice())? == a_run(10, 2, 16));
     let run = ["cubejobs", "run", "--dim", "11"];
     assert!(rt; ask(&rt, run.as_slice())? == Err(ErrorKind::ValueValidation));
     let run = ["cubejobs", "run"];
