@@ -1,0 +1,147 @@
+//! A whole batch of jobs, answered on threads.
+ghost use Rattle.std.specs.Prelude.{◌≡◌, ◌≢◌, ℕ, ◌^◌, ◌<◌, ◌++◌, [], None, Some, IfOk, IfErr, ◌↔◌, IsTrue, ⊤, true, map, length, slice_index_or};
+ghost use Rattle.std.specs.List.{All};
+ghost use Rattle.job_queue.specs.Line.{IsFor};
+ghost use Rattle.floors.specs.Floor.{IsWhollyFree};
+ghost use Rattle.dispatcher.specs.Opening.{refusal_of};
+ghost use Rattle.dispatcher.specs.Stop.{given_back};
+ghost use Rattle.crew.specs.Run.{unfed_by, IsRun};
+ghost use Rattle.batch.specs.Answers.{AnswersAll};
+ghost use Rattle.batch.specs.Stop.{reason_of, AreAllFed};
+ghost use Rattle.batch.specs.Stopped.{MatchStopped};
+
+use crew::{RunEnd, Unfed, run};
+use dispatcher::{FeedStop, Finished, Runner, ShopRefused};
+use floors::Floor;
+use job_queue::JobLine;
+use job_types::Job;
+use std::alloc::Global;
+use std::collections::VecDeque;
+use std::sync::Wait;
+use std::thread::Threads;
+use thiserror::Error;
+
+/// Why a batch has stopped before all of its jobs were answered.
+#[derive(Clone, Copy, Debug, PartialEq, Eq, Hash, Error)]
+pub enum StopReason {
+    /// Memory or a thread was refused.
+    #[error("out of memory")]
+    OutOfMemory,
+    /// A lane has made as many entries as a lane may.
+    #[error("a lane has made as many entries as it may")]
+    Spent,
+}
+
+/// A batch that was not answered, with all that it was given or has come to.
+#[derive(Drop)]
+pub enum Stopped<M> {
+    /// Nothing was run.
+    Refused {
+        /// The first size that is not within its limits, or `OutOfMemory`.
+        why: ShopRefused,
+        /// The jobs, as they were given.
+        jobs: Vec<VecDeque<Job>>,
+    },
+    /// Some jobs may not have been handed in.
+    Unfinished {
+        /// Whether it was memory or a thread that was refused, or a lane that was spent.
+        why: StopReason,
+        /// What became of the run: the replies, and what each lane did not hand in.
+        end: RunEnd<M>,
+    },
+}
+
+// Whether no lane has a job that was not handed in.
+fn all_fed(unfed: &[Unfed]) -> bool
+    ensures { IsTrue result ↔
+        AreAllFed (map (λ u. unfed_by u.lane (given_back u.back ++ u.left.items)) unfed.now) }
+{
+    unfed
+        .iter()
+        .all(|lane| lane.back.is_none() && lane.left.is_empty())
+}
+
+// Why not all jobs were handed in.
+fn stop_reason(all_started: bool, unfed: &[Unfed]) -> StopReason
+    ensures { result ≡ reason_of all_started (map (λ u. u.stop) unfed.now) }
+{
+    let mut spent = false;
+    for lane in unfed {
+        match lane.stop {
+            Some(FeedStop::Closed { .. }) => return StopReason::OutOfMemory,
+            Some(FeedStop::LaneSpent) => spent = true,
+            Some(FeedStop::Done) | None => {}
+        }
+    }
+    if all_started && spent {
+        StopReason::Spent
+    } else {
+        StopReason::OutOfMemory
+    }
+}
+
+/// Answers all jobs, the lists of the lanes from 0 on: opens a shop with a lane for each list, hands in
+/// all lists at once while all workers answer jobs, each on a thread of its own, and finishes the shop.
+///
+/// Each job then has one right reply, and the machine is wholly free. Where that is not so, nothing is
+/// lost: the error is the first size that is not within its limits, or `OutOfMemory`, with the jobs, or
+/// it is what became of a run in which a thread or memory was refused, or a lane was spent.
+pub fn answer_all<R: Threads + Wait + Sync, L: JobLine + Sync, F: Floor + Sync, T: Runner + Sync>(
+    rt: &R,
+    alloc: Global,
+    n: u32,
+    dispatchers: u32,
+    capacity: usize,
+    runner: &T,
+    jobs: Vec<VecDeque<Job>>,
+) -> Result<Finished<F::Machine>, Stopped<F::Machine>>
+where
+    L::Lane: Send,
+    L::Pass: Send,
+    L::Closer: Send,
+    L::Note: Send,
+    F::Station: Send,
+    F::Machine: Drop,
+    requires lanes { length jobs.items < 2 ^ 32 }
+    requires made_for { (k : ℕ) → k < length jobs.items →
+        All (IsFor n k) (slice_index_or (map (λ js. js.items) jobs.items) k []) }
+    ensures answers { IfOk result (λ finished. AnswersAll n (map (λ js. js.items) jobs.items)
+        (map (λ replies. replies.items) finished.by_worker.items) finished.rest.items) }
+    ensures accepted { IfOk result (λ finished.
+        finished.accepted.items ≡ map (λ js. length js.items) jobs.items) }
+    ensures dim { IfOk result (λ finished. F.machine_dim finished.machine ≡ n) }
+    ensures free { IfOk result (λ finished.
+        IsWhollyFree n (F.machine_words finished.machine)) }
+    ensures sizes { IfOk result (λ finished.
+        refusal_of n (length jobs.items) dispatchers capacity ≡ None) }
+    ensures refused { IfErr result (λ stopped. MatchStopped stopped
+        (λ why back. (why ≢ ShopRefused.OutOfMemory →
+        refusal_of n (length jobs.items) dispatchers capacity ≡ Some why)
+        × (back.items ≡ jobs.items))
+        (λ why end. refusal_of n (length jobs.items) dispatchers capacity ≡ None)) }
+    ensures unfinished { IfErr result (λ stopped. MatchStopped stopped (λ why back. ⊤)
+        (λ why end. IsRun n (map (λ js. js.items) jobs.items)
+        (map (λ replies. replies.items) end.finished.by_worker.items) end.finished.rest.items
+        (map (λ u. unfed_by u.lane (given_back u.back ++ u.left.items)) end.unfed.items)
+        × IsWhollyFree n (F.machine_words end.finished.machine))) }
+    ensures reason { IfErr result (λ stopped. MatchStopped stopped (λ why back. ⊤)
+        (λ why end. why ≡ reason_of end.all_started (map (λ u. u.stop) end.unfed.items))) }
+    ensures not_done { IfErr result (λ stopped. MatchStopped stopped (λ why back. ⊤)
+        (λ why end. end.all_started ≡ true → ¬ AreAllFed
+        (map (λ u. unfed_by u.lane (given_back u.back ++ u.left.items)) end.unfed.items))) }
+{
+    match run::<R, L, F, T>(rt, alloc, n, dispatchers, capacity, runner, jobs) {
+        Ok(end) => {
+            if end.all_started && all_fed(&end.unfed) {
+                let RunEnd { finished, .. } = end;
+                Ok(finished)
+            } else {
+                Err(Stopped::Unfinished {
+                    why: stop_reason(end.all_started, &end.unfed),
+                    end,
+                })
+            }
+        }
+        Err((why, jobs)) => Err(Stopped::Refused { why, jobs }),
+    }
+}
