@@ -1,0 +1,4 @@
+pub mod Ledger
+pub mod Occupancy
+pub mod Inner
+pub use Rattle.floors.specs.Floor.{IsWhollyFree}

@@ -1,0 +1,144 @@
+//! The totals of a finished shop.
+ghost use Rattle.std.specs.Prelude.{◌≡◌, ℕ, ◌+◌, ◌<◌, ◌≤◌, ◌++◌, [], ◌∷◌, IfOk, OnOk, map};
+ghost use Rattle.std.specs.List.{All};
+ghost use Rattle.histories.specs.Sums.{below};
+ghost use Rattle.job_types.specs.Reply.{ReplyData};
+ghost use Rattle.cube_ledger.specs.Ledger.{HasAllSlips, is_any, is_of_dim, is_of_lane, slip_of, totals_of};
+ghost use Rattle.cube_ledger.specs.Inner.Group.{HasSmallDim, is_in};
+
+use crate::slip::Slip;
+use cube_shape::MAX_DIM;
+use dispatcher::Finished;
+use job_types::Reply;
+use std::alloc::{AllocError, Global};
+use std::marker::Model;
+
+/// How many jobs, and how many processors their regions have together.
+#[derive(Clone, Copy, Debug, PartialEq, Eq)]
+pub struct Totals {
+    /// How many jobs.
+    pub jobs: u64,
+    /// The sum of the processors of their regions. A processor counts once for each job.
+    pub processors: u128,
+}
+
+/// The slips of all replies of a finished shop.
+///
+/// A contract sees the list of the slips. A total asks for no memory.
+#[derive(Debug, Drop)]
+pub struct Ledger {
+    slips: Vec<Slip>,
+}
+
+impl Model for Ledger {
+    ghost use Rattle.std.specs.Prelude.{List};
+    ghost use Rattle.std.specs.List.{All};
+    ghost use Rattle.cube_ledger.specs.declared.slip.Slip.{Slip as SlipData};
+    ghost use Rattle.cube_ledger.specs.Inner.Group.{HasSmallDim};
+
+    ghost Value = { List SlipData };
+
+    ghost view = { λ l. l.slips.items };
+
+    ghost invariant = { λ l. All HasSmallDim l.slips.items };
+}
+
+// Which slips a total counts.
+#[derive(Clone, Copy)]
+enum Group {
+    Lane(u32),
+    Dim(u32),
+    Any,
+}
+
+impl Group {
+    // Whether the slip counts.
+    fn has(self, slip: &Slip) -> bool
+        ensures { result ≡ is_in self slip.now }
+    {
+        match self {
+            Group::Lane(lane) => slip.id.lane == lane,
+            Group::Dim(dim) => slip.region.dim == dim,
+            Group::Any => true,
+        }
+    }
+}
+
+// The totals of the slips of a group.
+fn sum(slips: &[Slip], group: Group) -> Totals
+    requires { All HasSmallDim slips.now }
+    ensures { result ≡ totals_of (is_in group) slips.now }
+{
+    let mut totals = Totals {
+        jobs: 0,
+        processors: 0,
+    };
+    for slip in slips {
+        if group.has(slip) {
+            totals.jobs += 1;
+            totals.processors += 1 << slip.region.dim;
+        }
+    }
+    totals
+}
+
+// Adds the slips of the replies.
+fn add_slips(slips: &mut Vec<Slip>, replies: &[Reply]) -> Result<(), AllocError>
+    requires { All HasSmallDim slips.old.items }
+    ensures added { OnOk result (slips.new.items ≡ slips.old.items ++ map slip_of replies.now) }
+    ensures small { All HasSmallDim slips.new.items }
+{
+    for reply in replies {
+        slips.push(Slip::of(reply))?;
+    }
+    Ok(())
+}
+
+impl Ledger {
+    /// The ledger of all replies of a shop: those of its workers and those of the rest.
+    ///
+    /// # Errors
+    ///
+    /// Where there is no memory for the slips.
+    pub fn of<M>(alloc: Global, finished: &Finished<M>) -> Result<Ledger, AllocError>
+        ensures { IfOk result (λ ledger. HasAllSlips
+            (map (λ replies. replies.items) finished.now.by_worker.items)
+            finished.now.rest.items ledger) }
+    {
+        let mut slips = Vec::new(alloc);
+        for replies in &finished.by_worker {
+            add_slips(&mut slips, replies)?;
+        }
+        add_slips(&mut slips, &finished.rest)?;
+        Ok(Ledger { slips })
+    }
+
+    /// The totals of a lane. They are 0 for a lane with no reply, and so for any number that is none.
+    pub fn lane(&self, lane: u32) -> Totals
+        ensures { result ≡ totals_of (is_of_lane lane) self.now }
+    {
+        sum(&self.slips, Group::Lane(lane))
+    }
+
+    /// The totals of the jobs that ran on a region of this dimension. They are 0 where there was none.
+    pub fn dim(&self, dim: u32) -> Totals
+        ensures { result ≡ totals_of (is_of_dim dim) self.now }
+    {
+        sum(&self.slips, Group::Dim(dim))
+    }
+
+    /// The totals of all jobs. Those of the lanes sum to them, and so do those of the dimensions.
+    pub fn total(&self) -> Totals
+        ensures value { result ≡ totals_of is_any self.now }
+        ensures lanes_sum { (lanes : ℕ) → All (λ s. s.id.lane < lanes) self.now →
+            (below (λ l. (totals_of (is_of_lane l) self.now).jobs) lanes ≡ result.jobs)
+            × (below (λ l. (totals_of (is_of_lane l) self.now).processors) lanes
+            ≡ result.processors) }
+        ensures dims_sum {
+            (below (λ k. (totals_of (is_of_dim k) self.now).jobs) (MAX_DIM + 1) ≡ result.jobs)
+            × (below (λ k. (totals_of (is_of_dim k) self.now).processors) (MAX_DIM + 1)
+            ≡ result.processors) }
+    {
+        sum(&self.slips, Group::Any)
+    }
+}

@@ -1,0 +1,1 @@
+//! Totals of a small shop, and the words of three machines.
