@@ -6,14 +6,15 @@
 //! process.
 #![tactic(auto)]
 
-mod answers;
 mod command_line;
 mod invocation;
+mod lanes;
 mod place;
 mod play;
 mod program;
 mod replay;
 mod run;
+mod shop;
 mod stations;
 
 use jobs_csv::{Counted, Fault};
@@ -46,6 +47,7 @@ fn main(rt: HostRuntime) -> ExitCode {
     let mut reader = Counted::new(rt.stdin());
     let mut writer = Counted::new(rt.stdout());
     let ending = program::run(
+        &rt,
         rt.alloc(),
         &words,
         &mut reader,
