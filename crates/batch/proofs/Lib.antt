@@ -1,0 +1,2 @@
+mod PermutationLemmas
+mod AnswerLemmas

@@ -1,5 +1,7 @@
 -- What holds of a batch that was not answered.
-use Rattle.std.specs.Prelude.{Vec, Global, VecDeque}
+use Rattle.std.specs.Prelude.{Vec}
+use Rattle.std.specs.declared.alloc.Global.{Global}
+use Rattle.std.specs.declared.collections.VecDeque.{VecDeque}
 use Rattle.job_types.specs.Job.{JobData}
 use Rattle.dispatcher.specs.declared.opening.ShopRefused.{ShopRefused}
 use Rattle.crew.specs.declared.running.RunEnd.{RunEnd}

@@ -7,7 +7,7 @@ ghost use Rattle.dispatcher.specs.Opening.{refusal_of};
 ghost use Rattle.dispatcher.specs.Stop.{given_back};
 ghost use Rattle.crew.specs.Run.{unfed_by, IsRun};
 ghost use Rattle.batch.specs.Answers.{AnswersAll};
-ghost use Rattle.batch.specs.Stop.{reason_of, AreAllFed};
+ghost use Rattle.batch.specs.Stop.{is_closed, is_spent, reason_of, AreAllFed};
 ghost use Rattle.batch.specs.Stopped.{MatchStopped};
 
 use crew::{RunEnd, Unfed, run};
@@ -51,33 +51,54 @@ pub enum Stopped<M> {
     },
 }
 
-// Whether no lane has a job that was not handed in.
-fn all_fed(unfed: &[Unfed]) -> bool
-    ensures { IsTrue result ↔
-        AreAllFed (map (λ u. unfed_by u.lane (given_back u.back ++ u.left.items)) unfed.now) }
+// Whether the feed found the line closed.
+fn is_closed(stop: Option<FeedStop>) -> bool
+    ensures { result ≡ is_closed stop }
 {
-    unfed
-        .iter()
-        .all(|lane| lane.back.is_none() && lane.left.is_empty())
+    matches!(stop, Some(FeedStop::Closed { .. }))
+}
+
+// Whether the lane of the feed was spent.
+fn is_spent(stop: Option<FeedStop>) -> bool
+    ensures { result ≡ is_spent stop }
+{
+    matches!(stop, Some(FeedStop::LaneSpent))
 }
 
 // Why not all jobs were handed in.
 fn stop_reason(all_started: bool, unfed: &[Unfed]) -> StopReason
     ensures { result ≡ reason_of all_started (map (λ u. u.stop) unfed.now) }
 {
+    let mut closed = false;
     let mut spent = false;
     for lane in unfed {
-        match lane.stop {
-            Some(FeedStop::Closed { .. }) => return StopReason::OutOfMemory,
-            Some(FeedStop::LaneSpent) => spent = true,
-            Some(FeedStop::Done) | None => {}
-        }
+        closed = closed || is_closed(lane.stop);
+        spent = spent || is_spent(lane.stop);
     }
-    if all_started && spent {
+    if all_started && !closed && spent {
         StopReason::Spent
     } else {
         StopReason::OutOfMemory
     }
+}
+
+// Whether all jobs of the lane were handed in.
+fn is_fed(lane: &Unfed) -> bool
+    ensures { IsTrue result ↔ given_back lane.now.back ++ lane.now.left.items ≡ [] }
+{
+    lane.back.is_none() && lane.left.is_empty()
+}
+
+// Whether all jobs of all lanes were handed in.
+fn all_fed(unfed: &[Unfed]) -> bool
+    ensures { IsTrue result ↔ All (λ u. given_back u.back ++ u.left.items ≡ []) unfed.now }
+{
+    for lane in unfed {
+        if !is_fed(lane) {
+            return false;
+        }
+    }
+    true
 }
 
 /// Answers all jobs, the lists of the lanes from 0 on: opens a shop with a lane for each list, hands in

@@ -7,6 +7,7 @@ ghost use Rattle.batch.specs.Order.{AreSorted};
 use dispatcher::Finished;
 use job_types::Reply;
 use std::alloc::{AllocError, Global};
+use std::collections::VecDeque;
 
 // How many replies there are, if that is a number of this machine.
 fn reply_count(by_worker: &[Vec<Reply>], rest: &[Reply]) -> Option<usize>
@@ -26,7 +27,8 @@ fn move_all(replies: Vec<Reply>, all: &mut Vec<Reply>)
     ensures items { all.new.items ≡ all.old.items ++ replies.items }
     ensures capacity { vec_capacity all.new ≡ vec_capacity all.old }
 {
-    for reply in replies {
+    let mut left = VecDeque::from_vec(replies);
+    while let Some(reply) = left.pop_front() {
         all.push_reserved(reply);
     }
 }
@@ -39,7 +41,8 @@ fn gather(by_worker: Vec<Vec<Reply>>, rest: Vec<Reply>, room: Vec<Reply>) -> Vec
     ensures { result.items ≡ all_replies (map (λ rs. rs.items) by_worker.items) rest.items }
 {
     let mut all = room;
-    for replies in by_worker {
+    let mut left = VecDeque::from_vec(by_worker);
+    while let Some(replies) = left.pop_front() {
         move_all(replies, &mut all);
     }
     move_all(rest, &mut all);

@@ -1,11 +1,12 @@
 -- What the members of a run say together.
-use Rattle.std.proofs.Common.{◌≡◌, ℕ, zero, suc, ◌++◌, ◌∷◌, [], List, map, length, length-append, append_assoc, refl, sym, ◌∙◌, arith}
+use Rattle.std.proofs.Common.{◌≡◌, ℕ, zero, suc, ◌+◌, ◌++◌, ◌∷◌, [], List, map, length, get_or, length-append, append_assoc, refl, sym, ap, ◌∙◌, arith}
 use Rattle.std.specs.List.{All, AllZip}
-use Rattle.std.proofs.lemmas.List.Elements.{All-nil, All-head, All-tail, All-push}
+use Rattle.std.proofs.lemmas.List.{length-map}
+use Rattle.std.proofs.lemmas.List.Elements.{All-nil, All-cons, All-head, All-tail, All-push}
 use Rattle.job_types.specs.Job.{JobData}
 use Rattle.job_queue.specs.declared.record.LaneRecord.{LaneRecord}
 use Rattle.job_queue.specs.declared.record.PassRecord.{PassRecord}
-use Rattle.job_queue.specs.Record.{fresh_lane, fresh_lanes, fresh_pass, fresh_passes, accepted_jobs}
+use Rattle.job_queue.specs.Record.{fresh_lane, fresh_lanes, fresh_pass, fresh_passes, accepted, job_of, accepted_jobs}
 use Rattle.crew.specs.Run.{UnfedJobs, unfed_by}
 
 pub lanes_count : (count : ℕ) → length (fresh_lanes count) ≡ count
@@ -27,3 +28,21 @@ all_fed {A} lane_of record_of back left jobs (x ∷ xs) all =
 pub none_taken : (count : ℕ) → All (λ (r : PassRecord). r.taken ≡ []) (fresh_passes count)
 none_taken zero = All-nil (λ (r : PassRecord). r.taken ≡ [])
 none_taken (suc count) = All-push (λ (r : PassRecord). r.taken ≡ []) (fresh_passes count) (fresh_pass count) (none_taken count) refl
+
+-- as many jobs as were accepted and were not handed in, for each lane
+pub all_counted : {A N : Type 0} (lane_of : A → N) (record_of : N → LaneRecord) (back left : A → List JobData) (jobs : ℕ → List JobData) (counts : List ℕ) (xs : List A)
+    → All (λ x. accepted_jobs (record_of (lane_of x)) ++ back x ++ left x ≡ jobs (record_of (lane_of x)).number) xs
+    → All (λ l. get_or counts (record_of l).number 0 ≡ length (accepted (record_of l).entries)) (map lane_of xs)
+    → All (λ (u : UnfedJobs). get_or counts u.lane 0 + length u.jobs ≡ length (jobs u.lane)) (map (λ x. unfed_by (record_of (lane_of x)).number (back x ++ left x)) xs)
+all_counted lane_of record_of back left jobs counts [] fed counted = All-nil (λ (u : UnfedJobs). get_or counts u.lane 0 + length u.jobs ≡ length (jobs u.lane))
+all_counted {A} {N} lane_of record_of back left jobs counts (x ∷ xs) fed counted =
+    let Own : A → Type 0 = λ y. accepted_jobs (record_of (lane_of y)) ++ back y ++ left y ≡ jobs (record_of (lane_of y)).number in
+    let Counted : N → Type 0 = λ l. get_or counts (record_of l).number 0 ≡ length (accepted (record_of l).entries) in
+    let own : LaneRecord = record_of (lane_of x) in
+    let size : length (accepted_jobs own) ≡ length (accepted own.entries) = length-map (accepted own.entries) job_of in
+    let whole : length (accepted_jobs own ++ back x ++ left x) ≡ length (jobs own.number) = ap length (All-head Own x xs fed) in
+    let count : get_or counts own.number 0 ≡ length (accepted own.entries) = All-head Counted (lane_of x) (map lane_of xs) counted in
+    let sum : get_or counts own.number 0 + length (back x ++ left x) ≡ length (jobs own.number) =
+    omega (arith, size, whole, count, length-append (accepted_jobs own ++ back x) (left x), length-append (accepted_jobs own) (back x), length-append (back x) (left x)) in
+    All-cons (λ (u : UnfedJobs). get_or counts u.lane 0 + length u.jobs ≡ length (jobs u.lane)) (unfed_by own.number (back x ++ left x)) _ sum
+    (all_counted lane_of record_of back left jobs counts xs (All-tail Own x xs fed) (All-tail Counted (lane_of x) (map lane_of xs) counted))

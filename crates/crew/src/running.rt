@@ -9,7 +9,7 @@ ghost use Rattle.floors.specs.Floor.{IsWhollyFree};
 ghost use Rattle.dispatcher.specs.Opening.{refusal_of};
 ghost use Rattle.dispatcher.specs.Shop.{room_for};
 ghost use Rattle.dispatcher.specs.Stop.{given_back};
-ghost use Rattle.crew.specs.Run.{unfed_by, IsRun};
+ghost use Rattle.crew.specs.Run.{unfed_by, AreCounts, IsRun};
 
 use crate::gang::Gang;
 use crate::member::{Door, Fed, Naming};
@@ -165,6 +165,9 @@ where
     ensures run { IsRun J.shop.floor.dim (map (λ js. js.items) jobs.items)
         (map (λ replies. replies.items) result.finished.by_worker.items) result.finished.rest.items
         (map (λ u. unfed_by u.lane (given_back u.back ++ u.left.items)) result.unfed.items) }
+    ensures counts { AreCounts (map (λ js. js.items) jobs.items) result.finished.accepted.items
+        (map (λ u. unfed_by u.lane (given_back u.back ++ u.left.items)) result.unfed.items) }
+    ensures dim { F.machine_dim result.finished.machine ≡ J.shop.floor.dim }
     ensures free { IsWhollyFree J.shop.floor.dim (F.machine_words result.finished.machine) }
 {
     let Opened {
@@ -238,12 +241,18 @@ where
     ensures run { IfOk result (λ end. IsRun n (map (λ js. js.items) jobs.items)
         (map (λ replies. replies.items) end.finished.by_worker.items) end.finished.rest.items
         (map (λ u. unfed_by u.lane (given_back u.back ++ u.left.items)) end.unfed.items)) }
+    ensures counts { IfOk result (λ end. AreCounts (map (λ js. js.items) jobs.items)
+        end.finished.accepted.items
+        (map (λ u. unfed_by u.lane (given_back u.back ++ u.left.items)) end.unfed.items)) }
+    ensures dim { IfOk result (λ end. F.machine_dim end.finished.machine ≡ n) }
     ensures free { IfOk result (λ end.
         IsWhollyFree n (F.machine_words end.finished.machine)) }
     ensures accepted { IfOk result (λ end.
         refusal_of n (length jobs.items) dispatchers capacity ≡ None) }
     ensures refused { IfErr result (λ r. r.0 ≢ ShopRefused.OutOfMemory →
         refusal_of n (length jobs.items) dispatchers capacity ≡ Some r.0) }
+    ensures memory_last { IfErr result (λ r. r.0 ≡ ShopRefused.OutOfMemory →
+        refusal_of n (length jobs.items) dispatchers capacity ≡ None) }
     ensures gives_back { IfErr result (λ r. r.1.items ≡ jobs.items) }
 {
     let lanes = jobs.len() as u32;
