@@ -1,3 +1,4 @@
+pub mod LaneLemmas
 pub mod OrderLemmas
 pub mod TraceLemmas
 pub mod StationLemmas

@@ -11,20 +11,7 @@ use Rattle.jobs_csv.specs.Lanes.{in_lane}
 use Rattle.batch.specs.Answers.{jobs_with_ids, lanes_with_ids, with_ids_from}
 use Rattle.jobs_cli.specs.JobIds.{lane_count, with_id_after, with_ids, with_ids_after}
 use Rattle.jobs_cli.specs.Inner.Lanes.{AreOpenLanes}
-
--- ---- one job more in front
-
--- it is in its own lane
-lane_front : (lane : ℕ) (job : JobData) (jobs : List JobData) → job.lane ≡ lane → in_lane lane (job ∷ jobs) ≡ job ∷ in_lane lane jobs
-lane_front lane job jobs same =
-    let here : (job.lane == lane) ≡ true = grind (arith, nat_tests) in
-    ap (λ (b : Bool). if b then job ∷ in_lane lane jobs else in_lane lane jobs) here
-
--- and in no other
-other_front : (lane : ℕ) (job : JobData) (jobs : List JobData) → lane ≢ job.lane → in_lane lane (job ∷ jobs) ≡ in_lane lane jobs
-other_front lane job jobs other =
-    let apart : (job.lane == lane) ≡ false = grind (arith, nat_tests) in
-    ap (λ (b : Bool). if b then job ∷ in_lane lane jobs else in_lane lane jobs) apart
+use Rattle.jobs_cli.proofs.LaneLemmas.{lane_front, other_front}
 
 -- ---- the lists of lanes, joined
 

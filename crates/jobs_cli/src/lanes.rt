@@ -1,5 +1,6 @@
 // The lanes that a run opens.
-ghost use Rattle.std.specs.Prelude.{◌≡◌, ◌≢◌, ◌⊎◌, ℕ, ◌-◌, ◌<◌, ◌≤◌, [], IfOk, List, length, map, slice_index, slice_index_or, take};
+ghost use Rattle.std.specs.Prelude.{◌≡◌, ◌≢◌, ◌⊎◌, ℕ, ◌-◌, ◌<◌, ◌≤◌, [], IfOk, List, Vec, length, map, slice_index_or};
+ghost use Rattle.std.specs.Global.{Global};
 ghost use Rattle.job_types.specs.Job.{JobData};
 ghost use Rattle.jobs_csv.specs.Lanes.{AreLanes};
 ghost use Rattle.jobs_cli.specs.Inner.Lanes.{AreOpenLanes};
@@ -12,9 +13,10 @@ use std::collections::VecDeque;
 fn open_count(lanes: &[Vec<Job>]) -> usize
     requires { 0 < length lanes.now }
     ensures range { (1 ≤ result) × (result ≤ length lanes.now) }
-    ensures past { (lane : ℕ) → result ≤ lane → lane < length lanes.now →
-        (slice_index lanes.now lane).items ≡ [] }
-    ensures last { (result ≡ 1) ⊎ ((slice_index lanes.now (result - 1)).items ≢ []) }
+    ensures past { (lane : ℕ) (none : Vec JobData Global) → result ≤ lane →
+        lane < length lanes.now → (slice_index_or lanes.now lane none).items ≡ [] }
+    ensures last { (result ≡ 1) ⊎ ((none : Vec JobData Global) →
+        (slice_index_or lanes.now (result - 1) none).items ≢ []) }
 {
     let mut count = 1;
     for lane in 1..lanes.len() {
