@@ -2,8 +2,9 @@
 use Rattle.std.proofs.Common.{◌≡◌, ◌≢◌, ℕ, zero, suc, ◌+◌, ◌<◌, ◌≤◌, cond, eqb, eq-eqb, ne_eqb, ⊎_elim, List, [], ◌∷◌, ◌++◌, map, length, get_or, refl, sym, ap, subst, ◌∙◌, arith}
 use Rattle.std.specs.List.{All, AllByRecursion, AllZip, flat_map}
 use Rattle.std.proofs.lemmas.Bool.{cases_lt}
-use Rattle.std.proofs.lemmas.List.{append-nil, map-append, get_or_past}
+use Rattle.std.proofs.lemmas.List.{append-nil, map-append, length-map, get_or_past}
 use Rattle.std.proofs.lemmas.List.Elements.{All-head, All-tail, All-from_recursion}
+use Rattle.std.proofs.lemmas.Grind.{same_number_lists}
 use mathlib.Core.HLevel.{Discrete}
 use mathlib.Core.List.{List-discrete}
 use mathlib.Core.Logic.{dite}
@@ -22,7 +23,7 @@ use Rattle.job_queue.specs.declared.record.LaneRecord.{LaneRecord}
 use Rattle.job_queue.specs.Record.{job_id, queued, accepted, job_of, accepted_jobs, AreSeqs}
 use Rattle.dispatcher.specs.Reply.{answered, IsRight}
 use Rattle.dispatcher.specs.Finished.{weight_of, FinishedRun}
-use Rattle.crew.specs.Run.{UnfedJobs, IsRun}
+use Rattle.crew.specs.Run.{UnfedJobs, AreCounts, IsRun}
 use Rattle.batch.specs.Answers.{with_ids_from, lanes_with_ids, jobs_with_ids, all_replies, AnswersAll}
 use Rattle.batch.specs.Stop.{AreAllFed}
 use Rattle.batch.proofs.PermutationLemmas.{balanced}
@@ -185,8 +186,17 @@ module _ (weight : QueuedJob → ℕ) where
       let none_past : (k : ℕ) → length jobs ≤ k → lane_weight jobs k ≡ 0 = λ k past. ap (λ (js : List JobData). total weight (with_ids_from k 0 js)) (get_or_past jobs k [] past) in
       let at_zero : below (λ k. total weight (with_ids_from (0 + k) 0 (get_or jobs k []))) (length jobs) ≡ below (lane_weight jobs) (length jobs) =
       below-same _ _ (length jobs) (λ k within. ap (λ (i : ℕ). total weight (with_ids_from i 0 (get_or jobs k []))) (omega arith)) in
-      omega (arith, jobs_weigh 0 jobs, at_zero, once_each (lane_weight jobs) (length jobs) none_past (map (λ l. l.number) lanes) numbers,
-      lanes_weigh jobs lanes run.seqs fed, run.balance weight, replies_weigh by_worker, ap (total weight) (map-append answered flat rest), total-append weight (map answered flat) (map answered rest))
+      omega (
+        arith,
+        jobs_weigh 0 jobs,
+        at_zero,
+        once_each (lane_weight jobs) (length jobs) none_past (map (λ l. l.number) lanes) numbers,
+        lanes_weigh jobs lanes run.seqs fed,
+        run.balance weight,
+        replies_weigh by_worker,
+        ap (total weight) (map-append answered flat rest),
+        total-append weight (map answered flat) (map answered rest),
+      )
 
 -- ---- the replies
 
@@ -207,3 +217,32 @@ answers_all n jobs by_worker rest unfed run empty =
       answers = balanced same_job (jobs_with_ids jobs) (map answered (all_replies by_worker rest)) (λ weight. all_weigh weight n jobs run.lanes by_worker rest run.note run.finished fed run.numbers);
       right = All-from_recursion (IsRight n) (all_replies by_worker rest) (each_append (IsRight n) flat rest (each_flat (IsRight n) by_worker run.finished.right) run.finished.rest_right);
     }
+
+-- ---- how many jobs the lanes have accepted
+
+-- the counts of the lanes are those of their lists, where all jobs were handed in
+pub counts_all : (n : ℕ) (jobs : List (List JobData)) (by_worker : List (List ReplyData)) (rest : List ReplyData) (counts : List ℕ) (unfed : List UnfedJobs) → IsRun n jobs by_worker rest unfed → AreCounts jobs counts unfed → AreAllFed unfed → counts ≡ map length jobs
+counts_all n jobs by_worker rest counts unfed run sums empty =
+    same_number_lists counts (map length jobs) (sums.lanes ∙ sym (length-map jobs length))
+    (λ k within. of_lane k run.lanes unfed run.fed sums.sums empty (run.numbers k (omega (arith, within, sums.lanes))) ∙ sym (map_at jobs k))
+  where
+    map_at : (lists : List (List JobData)) (k : ℕ) → get_or (map length lists) k 0 ≡ length (get_or lists k [])
+    map_at [] k = refl
+    map_at (list ∷ lists) zero = refl
+    map_at (list ∷ lists) (suc k) = map_at lists k
+
+    Sum : UnfedJobs → Type 0
+    Sum u = get_or counts u.lane 0 + length u.jobs ≡ length (get_or jobs u.lane [])
+
+    None : UnfedJobs → Type 0
+    None u = u.jobs ≡ []
+
+    of_lane : (k : ℕ) (lanes : List LaneRecord) (us : List UnfedJobs) → AllZip (λ (l : LaneRecord) (u : UnfedJobs). (u.lane ≡ l.number) × (accepted_jobs l ++ u.jobs ≡ get_or jobs l.number [])) lanes us → All Sum us → All None us → times k (map (λ l. l.number) lanes) ≡ 1
+        → get_or counts k 0 ≡ length (get_or jobs k [])
+    of_lane k [] us zip sum none once = absurd (omega (arith, once))
+    of_lane k (l ∷ lanes) [] zip sum none once = absurd zip
+    of_lane k (l ∷ lanes) (u ∷ us) zip sum none once = dite (ℕ_discrete l.number k)
+        (λ same.
+        let own : get_or counts u.lane 0 ≡ length (get_or jobs u.lane []) = omega (arith, All-head Sum u us sum, ap length (All-head None u us none)) in
+        subst (λ (i : ℕ). get_or counts i 0 ≡ length (get_or jobs i [])) (zip.0.0 ∙ same) own)
+        (λ other. of_lane k lanes us zip.1 (All-tail Sum u us sum) (All-tail None u us none) (omega (arith, once, is_at-other k l.number other)))

@@ -1,2 +1,3 @@
 mod PermutationLemmas
 mod AnswerLemmas
+mod UnfedLemmas

@@ -1,5 +1,5 @@
 //! A whole batch of jobs, answered on threads.
-ghost use Rattle.std.specs.Prelude.{◌≡◌, ◌≢◌, ℕ, ◌^◌, ◌<◌, ◌++◌, [], None, Some, IfOk, IfErr, ◌↔◌, IsTrue, ⊤, true, map, length, slice_index_or};
+ghost use Rattle.std.specs.Prelude.{◌≡◌, ◌≢◌, ℕ, ◌^◌, ◌<◌, ◌++◌, [], None, Some, IfOk, IfErr, ◌↔◌, IsTrue, ⊤, true, not, ◌&&◌, if◌then◌else◌, map, length, slice_index_or};
 ghost use Rattle.std.specs.List.{All};
 ghost use Rattle.job_queue.specs.Line.{IsFor};
 ghost use Rattle.floors.specs.Floor.{IsWhollyFree};
@@ -65,6 +65,18 @@ fn is_spent(stop: Option<FeedStop>) -> bool
     matches!(stop, Some(FeedStop::LaneSpent))
 }
 
+// The reason, from whether each thread was started, a feed found the line closed, and a lane was spent.
+fn reason_from(all_started: bool, closed: bool, spent: bool) -> StopReason
+    ensures { result ≡ (if all_started && not closed && spent
+        then StopReason.Spent else StopReason.OutOfMemory) }
+{
+    if all_started && !closed && spent {
+        StopReason::Spent
+    } else {
+        StopReason::OutOfMemory
+    }
+}
+
 // Why not all jobs were handed in.
 fn stop_reason(all_started: bool, unfed: &[Unfed]) -> StopReason
     ensures { result ≡ reason_of all_started (map (λ u. u.stop) unfed.now) }
@@ -75,11 +87,7 @@ fn stop_reason(all_started: bool, unfed: &[Unfed]) -> StopReason
         closed = closed || is_closed(lane.stop);
         spent = spent || is_spent(lane.stop);
     }
-    if all_started && !closed && spent {
-        StopReason::Spent
-    } else {
-        StopReason::OutOfMemory
-    }
+    reason_from(all_started, closed, spent)
 }
 
 // Whether all jobs of the lane were handed in.
@@ -138,6 +146,8 @@ where
     ensures refused { IfErr result (λ stopped. MatchStopped stopped
         (λ why back. (why ≢ ShopRefused.OutOfMemory →
         refusal_of n (length jobs.items) dispatchers capacity ≡ Some why)
+        × (why ≡ ShopRefused.OutOfMemory →
+        refusal_of n (length jobs.items) dispatchers capacity ≡ None)
         × (back.items ≡ jobs.items))
         (λ why end. refusal_of n (length jobs.items) dispatchers capacity ≡ None)) }
     ensures unfinished { IfErr result (λ stopped. MatchStopped stopped (λ why back. ⊤)
