@@ -72,9 +72,10 @@ unfolding with_ids_after lane_with_ids
 all_there lanes before [] below = subst (IsPermutation []) (sym (concat_lanes_none (lane_with_ids before []) 0 lanes (λ lane. refl))) (IsPermutation-refl [])
 all_there lanes before (job ∷ jobs) below =
     let front = before ++ job ∷ [] in
+    let first : job.lane < lanes = below 0 job (omega arith) in
     IsPermutation-trans _ _ _
     (IsPermutation-cons (with_id_after before job) _ _ (all_there lanes front jobs (λ k d lt. below (suc k) d (omega (arith, lt)))))
-    (one_in_front (lane_with_ids front jobs) (lane_with_ids before (job ∷ jobs)) (with_id_after before job) job.lane 0 lanes (omega arith) (below 0 job (omega arith)) (with_ids_here before jobs job) (λ lane other. with_ids_else before jobs job lane other))
+    (one_in_front (lane_with_ids front jobs) (lane_with_ids before (job ∷ jobs)) (with_id_after before job) job.lane 0 lanes (omega arith) (omega (arith, first)) (with_ids_here before jobs job) (λ lane other. with_ids_else before jobs job lane other))
 
 -- ---- the lists of the open lanes
 

@@ -10,7 +10,12 @@ pub enum Invocation {
         capacity: usize,
     },
     /// Answer a file of commands over names.
-    Place { n: u32 },
+    Place {
+        n: u32,
+    },
     /// Play a schedule of the stations below `stations`.
-    Replay { n: u32, stations: u32 },
+    Replay {
+        n: u32,
+        stations: u32,
+    },
 }

@@ -1,9 +1,10 @@
 //! Jobs, regions and schedules of a hypercube machine: `cubejobs run --dim N`,
 //! `cubejobs place --dim N` and `cubejobs replay --dim N --stations S`.
 //!
-//! The input comes as CSV from standard input, and its answer goes as CSV to standard output. The
-//! whole program is `program::run`, over any words, reader and writers; this file ties them to the
-//! process.
+//! The input comes as CSV from standard input, and its answer goes as CSV to standard output. Jobs are
+//! answered on threads, by the dispatchers and over the line that `--dispatchers` and `--capacity` ask
+//! for. The whole program is `program::run`, over any words, reader and writers; this file ties them
+//! to the process.
 #![tactic(auto)]
 
 mod command_line;

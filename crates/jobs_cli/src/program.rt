@@ -75,16 +75,7 @@ fn answer<H: Threads + Wait + Sync, R: Read + Device, W: Write + Device>(
             n,
             dispatchers,
             capacity,
-        } => run::run_on(
-            rt,
-            alloc,
-            n,
-            dispatchers,
-            capacity,
-            &Plain,
-            reader,
-            writer,
-        ),
+        } => run::run_on(rt, alloc, n, dispatchers, capacity, &Plain, reader, writer),
         Invocation::Place { n } => place::place_on(alloc, n, reader, writer),
         Invocation::Replay { n, stations } => replay::replay_on(alloc, n, stations, reader, writer),
     }

@@ -7,6 +7,6 @@ use Rattle.jobs_cli.proofs.lanes.open_count.Given as goal
 abbrev pub invariant-loop-lane : goal.invariant-loop-lane
 invariant-loop-lane l = record {
   range : (1 ≤ l.count) × (l.count ≤ l.lane);
-  past : (lane : ℕ) (none : Vec JobData Global) → l.count ≤ lane → lane < l.lane → (slice_index_or l.lanes.now lane none).items ≡ [];
-  last : (l.count ≡ 1) ⊎ ((none : Vec JobData Global) → (slice_index_or l.lanes.now (l.count - 1) none).items ≢ []);
+  past : (lane : ℕ) (none : Vec JobData Global) → l.count ≤ lane → lane < l.lane → (slice_index_or l.lanes lane none).items ≡ [];
+  last : (l.count ≡ 1) ⊎ ((none : Vec JobData Global) → (slice_index_or l.lanes (l.count - 1) none).items ≢ []);
 }
