@@ -1,4 +1,6 @@
+pub mod LaneLemmas
 pub mod OrderLemmas
+pub mod RunLemmas
 pub mod TraceLemmas
 pub mod StationLemmas
 pub mod ReplayLemmas

@@ -12,10 +12,10 @@ use Rattle.jobs_cli.specs.Inner.Ending.{EndsAfter, EndsOn, IsShown}
 use Rattle.jobs_cli.specs.Program.{EndsBy}
 
 -- a request that the words ask for, carried out
-pub carried_out : (words : List Text) (invocation : Invocation) (bytes old new : Option (List ℕ)) (may_fail : Fault → Type 0) (ending : Ending) → AsksFor words invocation → EndsAfter invocation bytes old new may_fail ending → EndsBy words bytes old new may_fail ending
+pub carried_out : (words : List Text) (invocation : Invocation) (bytes old new : Option (List ℕ)) (may_fail : Invocation → Fault → Type 0) (ending : Ending) → AsksFor words invocation → EndsAfter invocation bytes old new (may_fail invocation) ending → EndsBy words bytes old new may_fail ending
 carried_out words invocation bytes old new may_fail Done asks is = inl (invocation, asks, is)
 carried_out words invocation bytes old new may_fail Rejected asks is = absurd is
-carried_out words invocation bytes old new may_fail (Failed fault is_reported) asks is = inl ((invocation, asks, is.0), is.1)
+carried_out words invocation bytes old new may_fail (Failed fault is_reported) asks is = inl (invocation, asks, is.0, is.1)
 
 no_help : (kind : ErrorKind) → kind ≡ OutOfMemory → kind ≡ DisplayHelp → ⊥
 no_help kind memory help = cc
@@ -31,7 +31,7 @@ shown words kind (inr among) (inl help) = inl (subst (λ k. IsAmong k (fault_of 
 shown words kind (inr among) (inr version) = inr (subst (λ k. IsAmong k (fault_of program_app words)) version among)
 
 -- words that have an error, explained
-pub explained : (words : List Text) (kind : ErrorKind) (bytes old new : Option (List ℕ)) (may_fail : Fault → Type 0) (ending : Ending) → (kind ≡ OutOfMemory) ⊎ IsAmong kind (fault_of program_app words) → EndsOn kind ending → EndsBy words bytes old new may_fail ending
+pub explained : (words : List Text) (kind : ErrorKind) (bytes old new : Option (List ℕ)) (may_fail : Invocation → Fault → Type 0) (ending : Ending) → (kind ≡ OutOfMemory) ⊎ IsAmong kind (fault_of program_app words) → EndsOn kind ending → EndsBy words bytes old new may_fail ending
 explained words kind bytes old new may_fail Done has is = inr (shown words kind has is)
 explained words kind bytes old new may_fail Rejected (inl memory) is = absurd (is.2 memory)
 explained words kind bytes old new may_fail Rejected (inr among) is = (kind, among, is.0, is.1)

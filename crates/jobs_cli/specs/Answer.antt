@@ -24,6 +24,15 @@ abbrev pub IsCommandFault : ℕ → ℕ → ℕ → ℕ → Fault → Type 0
 IsCommandFault read_before read_after write_before write_after fault =
     IsInputFault read_before read_after fault ⊎ (fault ≡ attribute what.Write write_before write_after)
 
+-- memory or a thread was refused while the jobs were answered, or a lane had no number left
+abbrev pub IsShopFault : Fault → Type 0
+IsShopFault fault = (fault ≡ record { row = 0; what = what.OutOfMemory }) ⊎ (fault ≡ record { row = 0; what = what.Spent })
+
+-- a command that answers jobs on threads: as above, or the shop could not be ended
+abbrev pub IsRunFault : ℕ → ℕ → ℕ → ℕ → Fault → Type 0
+IsRunFault read_before read_after write_before write_after fault =
+    IsCommandFault read_before read_after write_before write_after fault ⊎ IsShopFault fault
+
 -- the fault is met before the first row is made
-abbrev pub IsMetInReading : Fault → Type 0
-IsMetInReading fault = (is_refusal fault.what ≡ true) ⊎ (fault.what ≡ what.Read)
+abbrev pub IsMetBeforeWriting : Fault → Type 0
+IsMetBeforeWriting fault = (is_refusal fault.what ≡ true) ⊎ (fault.what ≡ what.Read) ⊎ (fault.what ≡ what.Spent)

@@ -6,12 +6,17 @@ use Rattle.clap.specs.declared.builder.value_parser.ValueParser.TheVariants.{Sig
 use Rattle.clap.specs.declared.error.kind.ErrorKind.{ErrorKind}
 use Rattle.clap.specs.declared.error.kind.ErrorKind.TheVariants.{DisplayHelp, DisplayVersion}
 use Rattle.cube_shape.specs.declared.limits.TheConstants.{MAX_DIM, MAX_STATIONS}
+use Rattle.job_queue.specs.declared.job_line.TheConstants.{MAX_CAPACITY, MAX_PASSES}
 use Rattle.jobs_cli.specs.declared.invocation.Invocation.{Invocation}
 use Rattle.jobs_cli.specs.declared.invocation.Invocation.TheVariants.{Run, Place, Replay}
 
+-- a shop has 1 to MAX_PASSES dispatchers, and its line room for 1 to MAX_CAPACITY jobs
+abbrev pub AreShopSizes : ℕ → ℕ → Type 0
+AreShopSizes dispatchers capacity = (1 ≤ dispatchers) × (dispatchers ≤ MAX_PASSES) × (1 ≤ capacity) × (capacity ≤ MAX_CAPACITY)
+
 -- the dimension is at most MAX_DIM; the number of stations is from 1 to MAX_STATIONS
 abbrev pub IsWithinLimits : Invocation → Type 0
-IsWithinLimits (Run n) = n ≤ MAX_DIM
+IsWithinLimits (Run n dispatchers capacity) = (n ≤ MAX_DIM) × AreShopSizes dispatchers capacity
 IsWithinLimits (Place n) = n ≤ MAX_DIM
 IsWithinLimits (Replay n stations) = (n ≤ MAX_DIM) × (1 ≤ stations) × (stations ≤ MAX_STATIONS)
 
@@ -23,31 +28,44 @@ dim_rule = record (new_rule (codes "dim")) { long = Some (codes "dim"); value_na
 abbrev pub stations_rule : Rule
 stations_rule = record (new_rule (codes "stations")) { long = Some (codes "stations"); value_names = 1; required = true; parser = Some (Signed (pos 1) (pos MAX_STATIONS)) }
 
+-- the option `--dispatchers D`, a number from 1 to MAX_PASSES, which is 2 where it is not given
+abbrev pub dispatchers_rule : Rule
+dispatchers_rule = record (new_rule (codes "dispatchers")) { long = Some (codes "dispatchers"); value_names = 1; defaults = codes "2" ∷ []; parser = Some (Signed (pos 1) (pos MAX_PASSES)) }
+
+-- the option `--capacity C`, a number from 1 to MAX_CAPACITY, which is 16 where it is not given
+abbrev pub capacity_rule : Rule
+capacity_rule = record (new_rule (codes "capacity")) { long = Some (codes "capacity"); value_names = 1; defaults = codes "16" ∷ []; parser = Some (Signed (pos 1) (pos MAX_CAPACITY)) }
+
 -- a command on a machine of some dimension
 abbrev pub command_app : Text → App
 command_app name = with_rule (new_app name) dim_rule
 
--- the program: it has a version, and one of its three commands is required
+-- a command that runs a shop
+abbrev pub shop_app : Text → App
+shop_app name = with_rule (with_rule (command_app name) dispatchers_rule) capacity_rule
+
+-- the program: it has a version, and one of its commands is required
 abbrev pub bare_program : Shape
 bare_program = record (new_app (codes "cubejobs")).top { subcommand_required = true; has_version = true }
 
 abbrev pub program_app : App
 program_app = with_subcommand (with_subcommand (with_subcommand (record { top = bare_program; subs = [] })
-    (command_app (codes "run")).top) (command_app (codes "place")).top) (with_rule (command_app (codes "replay")) stations_rule).top
+    (shop_app (codes "run")).top) (command_app (codes "place")).top) (with_rule (command_app (codes "replay")) stations_rule).top
 
--- the option has this number, in digits
+-- the option has this number, in digits, by the words or by its default
 abbrev pub HasOptionValue : List Row → Text → ℕ → Type 0
 HasOptionValue options name n = (text : Text) × (one_of name options ≡ Some text) × (n ≡ digits_value 10 (without_leading_plus text))
 
 -- the numbers of the request are those of the options
 abbrev pub HasOptionValues : List Row → Invocation → Type 0
-HasOptionValues options (Run n) = HasOptionValue options (codes "dim") n
+HasOptionValues options (Run n dispatchers capacity) =
+    HasOptionValue options (codes "dim") n × HasOptionValue options (codes "dispatchers") dispatchers × HasOptionValue options (codes "capacity") capacity
 HasOptionValues options (Place n) = HasOptionValue options (codes "dim") n
 HasOptionValues options (Replay n stations) = HasOptionValue options (codes "dim") n × HasOptionValue options (codes "stations") stations
 
 -- the command of a request
 abbrev pub command_of : Invocation → Text
-command_of (Run n) = codes "run"
+command_of (Run n dispatchers capacity) = codes "run"
 command_of (Place n) = codes "place"
 command_of (Replay n stations) = codes "replay"
 

@@ -1,5 +1,6 @@
--- What no public contract reaches: how stations, ids, rows and endings are tied to the definitions above.
+-- What no public contract reaches: how stations, lanes, shops, rows and endings are tied to the definitions above.
 pub mod Ending
-pub mod JobIds
+pub mod Lanes
 pub mod Replay
+pub mod Shop
 pub mod Stations

@@ -1,26 +1,22 @@
 -- The ids of jobs: a lane, and a number that counts the jobs of the lane from 0.
 use Rattle.std.specs.Prelude.{ℕ, ◌==◌, List, [], ◌∷◌, ◌++◌, count_by}
 use Rattle.job_types.specs.Job.{JobData}
-use Rattle.job_types.specs.declared.reply.JobId.{JobId}
-
--- a job with its id
-pub record JobWithId : Type 0 where
-  pub id : JobId
-  pub job : JobData
+use Rattle.job_queue.specs.declared.record.QueuedJob.{QueuedJob}
+use Rattle.job_queue.specs.Record.{job_id, queued}
 
 -- how many of the jobs are of a lane
 abbrev pub lane_count : ℕ → List JobData → ℕ
 lane_count lane jobs = count_by (λ job. job.lane == lane) jobs
 
 -- a job with its id, when these came before it
-abbrev pub with_id_after : List JobData → JobData → JobWithId
-with_id_after before job = record { id = record { lane = job.lane; seq = lane_count job.lane before }; job = job }
+abbrev pub with_id_after : List JobData → JobData → QueuedJob
+with_id_after before job = queued (job_id job.lane (lane_count job.lane before)) job
 
 -- the jobs with their ids, when these came before them
-unfoldable pub with_ids_after : List JobData → List JobData → List JobWithId
+unfoldable pub with_ids_after : List JobData → List JobData → List QueuedJob
 with_ids_after before [] = []
 with_ids_after before (job ∷ jobs) = with_id_after before job ∷ with_ids_after (before ++ job ∷ []) jobs
 
 -- the jobs of a file with their ids
-abbrev pub with_ids : List JobData → List JobWithId
+abbrev pub with_ids : List JobData → List QueuedJob
 with_ids jobs = with_ids_after [] jobs

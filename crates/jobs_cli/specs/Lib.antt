@@ -1,4 +1,5 @@
 pub mod JobIds
+pub mod OpenLanes
 pub mod Replies
 pub mod Answer
 pub mod Trace

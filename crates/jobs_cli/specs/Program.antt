@@ -15,7 +15,7 @@ use Rattle.jobs_cli.specs.declared.invocation.Invocation.{Invocation}
 use Rattle.jobs_cli.specs.declared.invocation.Invocation.TheVariants as invocation
 use Rattle.jobs_cli.specs.declared.program.Ending.{Ending}
 use Rattle.jobs_cli.specs.declared.program.Ending.TheVariants.{Done, Rejected, Failed}
-use Rattle.jobs_cli.specs.Answer.{IsAnswer}
+use Rattle.jobs_cli.specs.Answer.{IsAnswer, IsCommandFault, IsRunFault}
 use Rattle.jobs_cli.specs.CommandLine.{AsksFor, AsksForHelp, IsBadCommandLine}
 use Rattle.jobs_cli.specs.Place.{ArePlaced}
 use Rattle.jobs_cli.specs.Replay.{AreReplayed}
@@ -23,22 +23,31 @@ use Rattle.jobs_cli.specs.Replies.{AreReplies}
 
 -- the request is answered: jobs by their replies, commands by the first fit, a schedule by its events
 abbrev pub IsAnswerTo : Invocation → List ℕ → Option (List ℕ) → Option (List ℕ) → Result (Unit {0}) Fault → Type 0
-IsAnswerTo (invocation.Run n) bytes old new result = IsAnswer (parse_jobs n bytes) AreReplies (file_text reply_columns reply_fields) old new result
+IsAnswerTo (invocation.Run n dispatchers capacity) bytes old new result = IsAnswer (parse_jobs n bytes) AreReplies (file_text reply_columns reply_fields) old new result
 IsAnswerTo (invocation.Place n) bytes old new result = IsAnswer (parse_commands n bytes) (ArePlaced n) (file_text place_columns place_fields) old new result
 IsAnswerTo (invocation.Replay n stations) bytes old new result = IsAnswer (parse_schedule bytes) (AreReplayed n stations) (file_text replay_columns replay_fields) old new result
+
+-- the faults that a request may have, by the counts of failed calls of the reader and of the writer
+abbrev pub IsFaultOf : ℕ → ℕ → ℕ → ℕ → Invocation → Fault → Type 0
+IsFaultOf read_before read_after write_before write_after (invocation.Run n dispatchers capacity) fault = IsRunFault read_before read_after write_before write_after fault
+IsFaultOf read_before read_after write_before write_after invocation fault = IsCommandFault read_before read_after write_before write_after fault
 
 -- the words ask for a command, and this is its result on the bytes that it reads, where they are known
 abbrev pub IsResultOf : List Text → Option (List ℕ) → Option (List ℕ) → Option (List ℕ) → Result (Unit {0}) Fault → Type 0
 IsResultOf words bytes old new result = (invocation : Invocation) × AsksFor words invocation × IfSome bytes (λ b. IsAnswerTo invocation b old new result)
 
+-- the words ask for a command, and it failed for one of the reasons that it may have
+abbrev pub IsFailureOf : List Text → Option (List ℕ) → Option (List ℕ) → Option (List ℕ) → (Invocation → Fault → Type 0) → Fault → Type 0
+IsFailureOf words bytes old new may_fail fault = (invocation : Invocation) × AsksFor words invocation × IfSome bytes (λ b. IsAnswerTo invocation b old new (Err fault)) × may_fail invocation fault
+
 -- how a call of the program on these words ends: the command that they ask for is done, or help was
 -- asked for; the command line is bad; or the command failed, or memory was refused, or the help could
 -- not be written
-abbrev pub EndsBy : List Text → Option (List ℕ) → Option (List ℕ) → Option (List ℕ) → (Fault → Type 0) → Ending → Type 0
+abbrev pub EndsBy : List Text → Option (List ℕ) → Option (List ℕ) → Option (List ℕ) → (Invocation → Fault → Type 0) → Ending → Type 0
 EndsBy words bytes old new may_fail Done = IsResultOf words bytes old new (Ok tt) ⊎ AsksForHelp words
 EndsBy words bytes old new may_fail Rejected = IsBadCommandLine words
 EndsBy words bytes old new may_fail (Failed fault is_reported) =
-    (IsResultOf words bytes old new (Err fault) × may_fail fault)
+    IsFailureOf words bytes old new may_fail fault
     ⊎ (is_refusal fault.what ≡ false) × ((fault.what ≡ what.OutOfMemory) ⊎ AsksForHelp words)
 
 -- the exit status

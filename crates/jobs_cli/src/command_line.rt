@@ -2,11 +2,12 @@
 ghost use Rattle.std.specs.Prelude.{◌≡◌, ◌≤◌, false, IfOk, IfSome, List, Some, codes, map, string_bytes};
 ghost use Rattle.clap.specs.Words.{FailsBy, Row, app_of, fault_of, found_of, rows_of, rule_of, subcommand_rows_of, with_rule};
 ghost use Rattle.clap.specs.declared.builder.command.Command.TheViews.{out-Command};
-ghost use Rattle.jobs_cli.specs.CommandLine.{AsksFor, HasOptionValue, HasOptionValues, IsWithinLimits, command_app, command_of, dim_rule, program_app, stations_rule};
+ghost use Rattle.jobs_cli.specs.CommandLine.{AsksFor, HasOptionValue, HasOptionValues, IsWithinLimits, capacity_rule, command_app, command_of, dim_rule, dispatchers_rule, program_app, shop_app, stations_rule};
 
 use crate::invocation::Invocation;
 use clap::{Arg, ArgMatches, Command, Error, value_parser};
 use cube_shape::{Dim, MAX_DIM, MAX_STATIONS};
+use job_queue::{MAX_CAPACITY, MAX_PASSES};
 use jobs_csv::MAX_RECORDS;
 use std::alloc::{AllocError, Global};
 
@@ -93,6 +94,8 @@ with status 3.";
 #[derive(Drop)]
 struct Limits {
     dim: String,
+    dispatchers: String,
+    capacity: String,
     stations: String,
     after_help: String,
 }
@@ -103,6 +106,12 @@ impl Limits {
         Ok(Limits {
             dim: format!(in alloc;
                 "The dimension of the machine, which has 2^N processors: 0 to {MAX_DIM}"
+            )?,
+            dispatchers: format!(in alloc;
+                "The number of dispatchers, which answer jobs at once: 1 to {MAX_PASSES}"
+            )?,
+            capacity: format!(in alloc;
+                "The number of jobs that may wait in line for a dispatcher: 1 to {MAX_CAPACITY}"
             )?,
             stations: format!(in alloc;
                 "The number of stations, which are numbered from 0: 1 to {MAX_STATIONS}"
@@ -123,6 +132,32 @@ fn dim_option<'a>(alloc: Global, limits: &'a Limits) -> Arg<'a>
         .help(&limits.dim)
         .required(true)
         .value_parser(value_parser!(u32).range(0..=i64::from(MAX_DIM)))
+}
+
+// The option for the number of dispatchers.
+fn dispatchers_option<'a>(alloc: Global, limits: &'a Limits) -> Arg<'a>
+    ensures rule { rule_of result ≡ dispatchers_rule }
+    ensures local { result.global ≡ false }
+{
+    Arg::new(alloc, "dispatchers")
+        .long("dispatchers")
+        .value_name("D")
+        .help(&limits.dispatchers)
+        .default_value("2")
+        .value_parser(value_parser!(u32).range(1..=i64::from(MAX_PASSES)))
+}
+
+// The option for the capacity of the line of jobs.
+fn capacity_option<'a>(alloc: Global, limits: &'a Limits) -> Arg<'a>
+    ensures rule { rule_of result ≡ capacity_rule }
+    ensures local { result.global ≡ false }
+{
+    Arg::new(alloc, "capacity")
+        .long("capacity")
+        .value_name("C")
+        .help(&limits.capacity)
+        .default_value("16")
+        .value_parser(value_parser!(u32).range(1..=MAX_CAPACITY as i64))
 }
 
 // The option for the number of stations.
@@ -156,6 +191,22 @@ fn command<'a>(
         .arg(dim_option(alloc, limits))
 }
 
+// A command that runs a shop, which has dispatchers and a line too.
+fn shop_command<'a>(
+    alloc: Global,
+    name: &'a str,
+    about: &'a str,
+    long_about: &'a str,
+    limits: &'a Limits,
+) -> Result<Command<'a>, AllocError>
+    ensures app { IfOk result (λ command. app_of command ≡ shop_app name.entry.now) }
+    ensures local { IfOk result (λ command. (out-Command command).has_globals ≡ false) }
+{
+    let shop = command(alloc, name, about, long_about, limits)?;
+    shop.arg(dispatchers_option(alloc, limits))?
+        .arg(capacity_option(alloc, limits))
+}
+
 // The command `replay`, which has stations too.
 fn replay_command<'a>(alloc: Global, limits: &'a Limits) -> Result<Command<'a>, AllocError>
     ensures app { IfOk result (λ command.
@@ -170,7 +221,7 @@ fn replay_command<'a>(alloc: Global, limits: &'a Limits) -> Result<Command<'a>, 
 fn program<'a>(alloc: Global, limits: &'a Limits) -> Result<Command<'a>, AllocError>
     ensures { IfOk result (λ command. app_of command ≡ program_app) }
 {
-    let run = command(alloc, "run", ABOUT_RUN, LONG_ABOUT_RUN, limits)?;
+    let run = shop_command(alloc, "run", ABOUT_RUN, LONG_ABOUT_RUN, limits)?;
     let place = command(alloc, "place", ABOUT_PLACE, LONG_ABOUT_PLACE, limits)?;
     let replay = replay_command(alloc, limits)?;
     Command::new(alloc, "cubejobs")
@@ -190,6 +241,35 @@ fn dim_in(matches: &ArgMatches<'_>) -> Option<u32>
 {
     let n = matches.get_one::<u32>("dim")?;
     if Dim(n).fits(MAX_DIM) { Some(n) } else { None }
+}
+
+// The number of dispatchers that a command was given, or the default.
+fn dispatchers_in(matches: &ArgMatches<'_>) -> Option<u32>
+    ensures limits { IfSome result (λ dispatchers.
+        (1 ≤ dispatchers) × (dispatchers ≤ MAX_PASSES)) }
+    ensures value { IfSome result (λ dispatchers.
+        HasOptionValue (rows_of (found_of matches.now)) (codes "dispatchers") dispatchers) }
+{
+    let dispatchers = matches.get_one::<u32>("dispatchers")?;
+    if dispatchers >= 1 && dispatchers <= MAX_PASSES {
+        Some(dispatchers)
+    } else {
+        None
+    }
+}
+
+// The capacity that a command was given, or the default.
+fn capacity_in(matches: &ArgMatches<'_>) -> Option<usize>
+    ensures limits { IfSome result (λ capacity. (1 ≤ capacity) × (capacity ≤ MAX_CAPACITY)) }
+    ensures value { IfSome result (λ capacity.
+        HasOptionValue (rows_of (found_of matches.now)) (codes "capacity") capacity) }
+{
+    let capacity = matches.get_one::<usize>("capacity")?;
+    if capacity >= 1 && capacity <= MAX_CAPACITY {
+        Some(capacity)
+    } else {
+        None
+    }
 }
 
 // The number of stations that a command was given.
@@ -215,7 +295,13 @@ fn invocation_in(matches: &ArgMatches<'_>) -> Option<Invocation>
 {
     if let Some(run) = matches.subcommand_matches("run") {
         let n = dim_in(run)?;
-        return Some(Invocation::Run { n });
+        let dispatchers = dispatchers_in(run)?;
+        let capacity = capacity_in(run)?;
+        return Some(Invocation::Run {
+            n,
+            dispatchers,
+            capacity,
+        });
     }
     if let Some(place) = matches.subcommand_matches("place") {
         let n = dim_in(place)?;
@@ -242,7 +328,7 @@ pub fn parse_args(alloc: Global, words: &[String]) -> Result<Invocation, Error>
         Ok(matches) => matches,
         Err(error) => return Err(error),
     };
-    // A good command line names one of the three commands with all its options.
+    // A good command line names one of the commands with all its options.
     let Some(invocation) = invocation_in(&matches) else {
         return Err(Error::from(AllocError));
     };

@@ -1,19 +1,21 @@
 //! Jobs, regions and schedules of a hypercube machine: `cubejobs run --dim N`,
 //! `cubejobs place --dim N` and `cubejobs replay --dim N --stations S`.
 //!
-//! The input comes as CSV from standard input, and its answer goes as CSV to standard output. The
-//! whole program is `program::run`, over any words, reader and writers; this file ties them to the
-//! process.
+//! The input comes as CSV from standard input, and its answer goes as CSV to standard output. Jobs are
+//! answered on threads, by the dispatchers and over the line that `--dispatchers` and `--capacity` ask
+//! for. The whole program is `program::run`, over any words, reader and writers; this file ties them
+//! to the process.
 #![tactic(auto)]
 
-mod answers;
 mod command_line;
 mod invocation;
+mod lanes;
 mod place;
 mod play;
 mod program;
 mod replay;
 mod run;
+mod shop;
 mod stations;
 
 use jobs_csv::{Counted, Fault};
@@ -46,6 +48,7 @@ fn main(rt: HostRuntime) -> ExitCode {
     let mut reader = Counted::new(rt.stdin());
     let mut writer = Counted::new(rt.stdout());
     let ending = program::run(
+        &rt,
         rt.alloc(),
         &words,
         &mut reader,

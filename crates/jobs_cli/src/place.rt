@@ -5,7 +5,7 @@ ghost use Rattle.jobs_csv.specs.PlaceRows.{place_columns, place_fields};
 ghost use Rattle.jobs_csv.specs.Text.{file_text};
 ghost use Rattle.jobs_csv.specs.declared.place_rows.PlaceRow.{PlaceRow as Row};
 ghost use Rattle.std.specs.Io.KnownBytes.{Appends};
-ghost use Rattle.jobs_cli.specs.Answer.{IsCommandFault, IsMetInReading};
+ghost use Rattle.jobs_cli.specs.Answer.{IsCommandFault, IsMetBeforeWriting};
 ghost use Rattle.jobs_cli.specs.Place.{ArePlaced};
 ghost use Rattle.jobs_cli.specs.Program.{IsAnswerTo};
 ghost use Rattle.jobs_cli.specs.declared.invocation.Invocation.TheVariants.{Place};
@@ -60,7 +60,7 @@ pub fn place_on<R: Read + Device, W: Write + Device>(
     ensures failed { IfErr result
         (IsCommandFault (R.failures reader.old) (R.failures reader.new)
         (W.failures writer.old) (W.failures writer.new)) }
-    ensures untouched { IfErr result (λ fault. IsMetInReading fault → writer.new ≡ writer.old) }
+    ensures untouched { IfErr result (λ fault. IsMetBeforeWriting fault → writer.new ≡ writer.old) }
 {
     let commands = jobs_csv::read_place(alloc, n, reader)?;
     let failures_before = writer.failures();

@@ -5,17 +5,20 @@ ghost use Rattle.clap.specs.Words.{FailsBy, fault_of, kind_of};
 ghost use Rattle.clap.specs.declared.error.kind.ErrorKind.TheVariants.{DisplayHelp, DisplayVersion, OutOfMemory};
 ghost use Rattle.jobs_csv.specs.Fault.{attribute, fault_text};
 ghost use Rattle.jobs_csv.specs.declared.fault.Fault.{Fault as TheFault};
-ghost use Rattle.jobs_cli.specs.Answer.{IsCommandFault, IsMetInReading};
+ghost use Rattle.jobs_cli.specs.Answer.{IsMetBeforeWriting};
 ghost use Rattle.jobs_cli.specs.CommandLine.{IsWithinLimits, program_app};
 ghost use Rattle.jobs_cli.specs.Inner.Ending.{EndsAfter, EndsOn};
-ghost use Rattle.jobs_cli.specs.Program.{EndsBy, IsAnswerTo, exit_status};
+ghost use Rattle.jobs_cli.specs.Program.{EndsBy, IsAnswerTo, IsFaultOf, exit_status};
 
 use crate::invocation::Invocation;
 use crate::{command_line, place, replay, run};
 use clap::error::ErrorKind;
+use dispatcher::Plain;
 use jobs_csv::{Device, Fault, FaultKind};
 use std::alloc::Global;
 use std::io::{Read, Write};
+use std::sync::Wait;
+use std::thread::Threads;
 
 /// How a call of the program ends.
 #[derive(Clone, Copy, Debug, PartialEq, Eq)]
@@ -52,7 +55,8 @@ fn report<E: Write>(fault: Fault, errors: &mut E) -> Ending
 }
 
 // Does what the request asks for.
-fn answer<R: Read + Device, W: Write + Device>(
+fn answer<H: Threads + Wait + Sync, R: Read + Device, W: Write + Device>(
+    rt: &H,
     alloc: Global,
     invocation: Invocation,
     reader: &mut R,
@@ -62,19 +66,24 @@ fn answer<R: Read + Device, W: Write + Device>(
     ensures answered { IfSome (R.remaining reader.old) (λ bytes.
         IsAnswerTo invocation bytes (W.contents writer.old) (W.contents writer.new) result) }
     ensures failed { IfErr result
-        (IsCommandFault (R.failures reader.old) (R.failures reader.new)
-        (W.failures writer.old) (W.failures writer.new)) }
-    ensures untouched { IfErr result (λ fault. IsMetInReading fault → writer.new ≡ writer.old) }
+        (IsFaultOf (R.failures reader.old) (R.failures reader.new)
+        (W.failures writer.old) (W.failures writer.new) invocation) }
+    ensures untouched { IfErr result (λ fault. IsMetBeforeWriting fault → writer.new ≡ writer.old) }
 {
     match invocation {
-        Invocation::Run { n } => run::run_on(alloc, n, reader, writer),
+        Invocation::Run {
+            n,
+            dispatchers,
+            capacity,
+        } => run::run_on(rt, alloc, n, dispatchers, capacity, &Plain, reader, writer),
         Invocation::Place { n } => place::place_on(alloc, n, reader, writer),
         Invocation::Replay { n, stations } => replay::replay_on(alloc, n, stations, reader, writer),
     }
 }
 
 // Does what the request asks for, and reports its fault in one line.
-fn carry_out<R: Read + Device, W: Write + Device, E: Write>(
+fn carry_out<H: Threads + Wait + Sync, R: Read + Device, W: Write + Device, E: Write>(
+    rt: &H,
     alloc: Global,
     invocation: Invocation,
     reader: &mut R,
@@ -84,13 +93,13 @@ fn carry_out<R: Read + Device, W: Write + Device, E: Write>(
     requires { IsWithinLimits invocation }
     ensures ends { EndsAfter invocation (R.remaining reader.old)
         (W.contents writer.old) (W.contents writer.new)
-        (IsCommandFault (R.failures reader.old) (R.failures reader.new)
-        (W.failures writer.old) (W.failures writer.new)) result }
+        (IsFaultOf (R.failures reader.old) (R.failures reader.new)
+        (W.failures writer.old) (W.failures writer.new) invocation) result }
     ensures line { (fault : TheFault) → result ≡ Ending.Failed fault true
         → Appends (E.contents errors.old) (E.contents errors.new) (fault_text fault ++ 10 ∷ []) }
     ensures quiet { result ≡ Ending.Done → errors.new ≡ errors.old }
 {
-    match answer(alloc, invocation, reader, writer) {
+    match answer(rt, alloc, invocation, reader, writer) {
         Ok(()) => Ending::Done,
         Err(fault) => report(fault, errors),
     }
@@ -138,8 +147,10 @@ fn explain<W: Write + Device, E: Write>(
 
 /// Does what the words of a command line ask for, of which the first is the program's name.
 ///
-/// The line of a fault and what is wrong with a command line go to `errors`.
-pub fn run<R: Read + Device, W: Write + Device, E: Write>(
+/// The line of a fault and what is wrong with a command line go to `errors`. Jobs are answered on
+/// threads of the runtime.
+pub fn run<H: Threads + Wait + Sync, R: Read + Device, W: Write + Device, E: Write>(
+    rt: &H,
     alloc: Global,
     words: &[String],
     reader: &mut R,
@@ -148,7 +159,7 @@ pub fn run<R: Read + Device, W: Write + Device, E: Write>(
 ) -> Ending
     ensures ends { EndsBy (map string_bytes words.now) (R.remaining reader.old)
         (W.contents writer.old) (W.contents writer.new)
-        (IsCommandFault (R.failures reader.old) (R.failures reader.new)
+        (IsFaultOf (R.failures reader.old) (R.failures reader.new)
         (W.failures writer.old) (W.failures writer.new)) result }
     ensures line { (fault : TheFault) → result ≡ Ending.Failed fault true
         → Appends (E.contents errors.old) (E.contents errors.new) (fault_text fault ++ 10 ∷ []) }
@@ -157,7 +168,7 @@ pub fn run<R: Read + Device, W: Write + Device, E: Write>(
         → (reader.new ≡ reader.old) × (writer.new ≡ writer.old) }
 {
     let error = match command_line::parse_args(alloc, words) {
-        Ok(invocation) => return carry_out(alloc, invocation, reader, writer, errors),
+        Ok(invocation) => return carry_out(rt, alloc, invocation, reader, writer, errors),
         Err(error) => error,
     };
     explain(&error, writer, errors)

@@ -5,7 +5,7 @@ ghost use Rattle.std.specs.List.{flat_map};
 ghost use Rattle.jobs_csv.specs.ReplayRows.{replay_columns, replay_fields};
 ghost use Rattle.jobs_csv.specs.Text.{file_text, line_of};
 ghost use Rattle.jobs_csv.specs.declared.replay_rows.ReplayRow.{ReplayRow as Row};
-ghost use Rattle.jobs_cli.specs.Answer.{IsCommandFault, IsMetInReading};
+ghost use Rattle.jobs_cli.specs.Answer.{IsCommandFault, IsMetBeforeWriting};
 ghost use Rattle.jobs_cli.specs.Program.{IsAnswerTo};
 ghost use Rattle.jobs_cli.specs.Replay.{AreReplayed};
 ghost use Rattle.jobs_cli.specs.declared.invocation.Invocation.TheVariants.{Replay};
@@ -75,7 +75,7 @@ pub fn replay_on<R: Read + Device, W: Write + Device>(
     ensures failed { IfErr result
         (IsCommandFault (R.failures reader.old) (R.failures reader.new)
         (W.failures writer.old) (W.failures writer.new)) }
-    ensures untouched { IfErr result (λ fault. IsMetInReading fault → writer.new ≡ writer.old) }
+    ensures untouched { IfErr result (λ fault. IsMetBeforeWriting fault → writer.new ≡ writer.old) }
 {
     let schedule = jobs_csv::read_schedule(alloc, reader)?;
     let failures_before = writer.failures();

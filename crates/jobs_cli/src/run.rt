@@ -1,43 +1,70 @@
 // The command `run`: the jobs of a file, answered.
 ghost use Rattle.std.specs.Prelude.{◌≡◌, ◌≤◌, IfErr, IfSome};
-ghost use Rattle.jobs_cli.specs.Answer.{IsCommandFault, IsMetInReading};
+ghost use Rattle.jobs_cli.specs.Answer.{IsMetBeforeWriting, IsRunFault};
+ghost use Rattle.jobs_cli.specs.CommandLine.{AreShopSizes};
 ghost use Rattle.jobs_cli.specs.Program.{IsAnswerTo};
 ghost use Rattle.jobs_cli.specs.declared.invocation.Invocation.TheVariants.{Run};
 
-use crate::answers;
+use crate::shop::answer_file;
+use batch::sorted_replies;
 use cube_shape::MAX_DIM;
-use jobs_csv::{Device, Fault, FaultKind, WriteStopped};
+use dispatcher::Runner;
+use floors::LockedFloor;
+use job_queue::LockedLine;
+use jobs_csv::{Device, Fault};
 use std::alloc::Global;
 use std::io::{Read, Write};
+use std::sync::Wait;
+use std::thread::Threads;
 
-/// Reads a file of jobs for a machine of dimension `n`, answers them, and writes their replies.
+/// Reads a file of jobs for a machine of dimension `n`, answers them on threads, and writes their
+/// replies.
 ///
-/// All jobs are read before the first of them is answered. A fault of the input is the
-/// first one in it, and then nothing is written. `Read` and `Write` come only where that device's
-/// count of failed calls rose in this call, or stood at `u64::MAX`; any other failure is
-/// `OutOfMemory`. After `Write` or `OutOfMemory` the first replies may be out.
-pub fn run_on<R: Read + Device, W: Write + Device>(
+/// All jobs are read before the first of them is answered, and all are answered before the first
+/// reply is written. A feeder for each open lane hands in its jobs by a line of this capacity, and
+/// this many dispatchers answer them by the runner.
+///
+/// A fault of the input is the first one in it. `Read` and `Write` come only where that device's count
+/// of failed calls rose in this call, or stood at `u64::MAX`; `Spent` where a lane has no number left;
+/// any other failure is `OutOfMemory`, also where a thread could not be started. Nothing is written
+/// before all jobs are answered; after `Write` the first replies may be out, and after `OutOfMemory`
+/// too, where writing asked for memory.
+pub fn run_on<H, T, R, W>(
+    rt: &H,
     alloc: Global,
     n: u32,
+    dispatchers: u32,
+    capacity: usize,
+    runner: &T,
     reader: &mut R,
     writer: &mut W,
 ) -> Result<(), Fault>
-    requires { n ≤ MAX_DIM }
+where
+    H: Threads + Wait + Sync,
+    T: Runner + Sync,
+    R: Read + Device,
+    W: Write + Device,
+    requires limit { n ≤ MAX_DIM }
+    requires sizes { AreShopSizes dispatchers capacity }
     ensures answered { IfSome (R.remaining reader.old) (λ bytes.
-        IsAnswerTo (Run n) bytes (W.contents writer.old) (W.contents writer.new) result) }
-    ensures failed { IfErr result
-        (IsCommandFault (R.failures reader.old) (R.failures reader.new)
+        IsAnswerTo (Run n dispatchers capacity) bytes
+        (W.contents writer.old) (W.contents writer.new) result) }
+    ensures failed { IfErr result (IsRunFault (R.failures reader.old) (R.failures reader.new)
         (W.failures writer.old) (W.failures writer.new)) }
-    ensures untouched { IfErr result (λ fault. IsMetInReading fault → writer.new ≡ writer.old) }
+    ensures untouched { IfErr result (λ fault.
+        IsMetBeforeWriting fault → writer.new ≡ writer.old) }
 {
-    let lanes = jobs_csv::read_lanes(alloc, n, reader)?;
-    let failures_before = writer.failures();
-    match answers::answer_all(alloc, n, lanes, writer) {
-        Ok(()) => Ok(()),
-        Err(WriteStopped) => Err(Fault::attribute(
-            FaultKind::Write,
-            failures_before,
-            writer.failures(),
-        )),
-    }
+    let finished = answer_file::<H, LockedLine, LockedFloor, T, R>(
+        rt,
+        alloc,
+        n,
+        dispatchers,
+        capacity,
+        runner,
+        reader,
+    )?;
+    let Ok(replies) = sorted_replies(alloc, finished) else {
+        return Err(Fault::no_memory());
+    };
+    jobs_csv::write_rows(alloc, replies, writer)
 }

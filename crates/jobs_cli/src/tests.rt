@@ -5,13 +5,17 @@ use crate::program;
 use crate::run::run_on;
 use clap::error::ErrorKind;
 use cube_shape::{MAX_DIM, MAX_STATIONS};
+use dispatcher::Plain;
+use job_queue::{MAX_CAPACITY, MAX_PASSES};
 use job_types::JobRefused;
 use jobs_csv::{Counted, Device, Fault, FaultKind, MAX_RECORDS};
 use std::alloc::Global;
 use std::io;
 use std::io::{Read, Write};
 use std::process::Abort;
+use std::sync::Wait;
 use std::test::Fail;
+use std::thread::Threads;
 
 mod place;
 mod replay;
@@ -27,15 +31,41 @@ struct Ran {
     answer: Result<(), Fault>,
 }
 
-// A run on these bytes.
-fn run_bytes(rt: &(impl AllocGlobal + Abort), n: u32, input: &[u8]) -> Result<Ran, Fail> {
+// A run on these bytes, by this many dispatchers over a line of this capacity.
+fn run_with(
+    rt: &(impl AllocGlobal + Abort + Threads + Wait + Sync),
+    n: u32,
+    dispatchers: u32,
+    capacity: usize,
+    input: &[u8],
+) -> Result<Ran, Fail> {
     assert!(rt; n <= MAX_DIM);
+    assert!(rt; 1 <= dispatchers && dispatchers <= MAX_PASSES);
+    assert!(rt; 1 <= capacity && capacity <= MAX_CAPACITY);
     let mut reader = Counted::new(input);
     let mut writer = Counted::new(Vec::new(rt.alloc()));
-    let answer = run_on(rt.alloc(), n, &mut reader, &mut writer);
+    let answer = run_on(
+        rt,
+        rt.alloc(),
+        n,
+        dispatchers,
+        capacity,
+        &Plain,
+        &mut reader,
+        &mut writer,
+    );
     assert!(rt; reader.failures() == 0 && writer.failures() == 0);
     let text = Vec::from_slice(rt.alloc(), writer.get_ref())?;
     Ok(Ran { text, answer })
+}
+
+// A run on these bytes, by two dispatchers.
+fn run_bytes(
+    rt: &(impl AllocGlobal + Abort + Threads + Wait + Sync),
+    n: u32,
+    input: &[u8],
+) -> Result<Ran, Fail> {
+    run_with(rt, n, 2, 16, input)
 }
 
 // Two texts joined.
@@ -47,7 +77,7 @@ fn joined(alloc: Global, a: &[u8], b: &[u8]) -> Result<Vec<u8>, Fail> {
 
 // Under the headers, these records give these replies.
 fn expect_replies(
-    rt: &(impl AllocGlobal + Abort),
+    rt: &(impl AllocGlobal + Abort + Threads + Wait + Sync),
     n: u32,
     records: &str,
     replies: &str,
@@ -62,7 +92,7 @@ fn expect_replies(
 
 // A file is refused, and nothing is written.
 fn expect_refusal(
-    rt: &(impl AllocGlobal + Abort),
+    rt: &(impl AllocGlobal + Abort + Threads + Wait + Sync),
     n: u32,
     input: &[u8],
     row: u64,
@@ -141,6 +171,31 @@ fn counts_each_lane(rt: HostRuntime) -> Result<(), Fail> {
         "2,0,allreduce,0,2,0,0\n2,1,allreduce,1,8 8,1,2\n\
          10,0,allreduce,0,1,0,0\n10,1,allreduce,0,3,0,0\n10,2,allreduce,0,5,0,0\n",
     )
+}
+
+// Whatever the dispatchers and the capacity, the bytes are the same: 16 lanes with five jobs each.
+#[test]
+fn threads_change_no_byte(rt: HostRuntime) -> Result<(), Fail> {
+    let mut input = Vec::from_slice(rt.alloc(), JOBS)?;
+    let mut wanted = Vec::from_slice(rt.alloc(), REPLIES)?;
+    for seq in 0..5 {
+        for lane in 0..16 {
+            let job = format!(in rt.alloc(); "{},allreduce,add,0,{seq} {lane}\n", 15 - lane)?;
+            input.extend_from_slice(job.as_bytes())?;
+        }
+    }
+    for lane in 0..16 {
+        for seq in 0..5 {
+            let sum = seq + (15 - lane);
+            let reply = format!(in rt.alloc(); "{lane},{seq},allreduce,1,{sum} {sum},1,2\n")?;
+            wanted.extend_from_slice(reply.as_bytes())?;
+        }
+    }
+    for (dispatchers, capacity) in [(1, 1), (2, 16), (4, 1024), (16, 1)] {
+        let ran = run_with(&rt, 3, dispatchers, capacity, &input)?;
+        assert!(rt; ran.answer == Ok(()) && ran.text == wanted);
+    }
+    Ok(())
 }
 
 // One file for each fault that an input can have.
@@ -257,7 +312,7 @@ fn reports_a_failed_read(rt: HostRuntime) -> Result<(), Fail> {
         };
         let mut reader = Counted::new(device);
         let mut writer = Counted::new(Vec::new(rt.alloc()));
-        let answer = run_on(rt.alloc(), 3, &mut reader, &mut writer);
+        let answer = run_on(&rt, rt.alloc(), 3, 2, 16, &Plain, &mut reader, &mut writer);
         if reader.failures() == 0 {
             assert!(rt; answer == Ok(()) && calls > 5);
             return Ok(());
@@ -272,7 +327,7 @@ fn reports_a_failed_read(rt: HostRuntime) -> Result<(), Fail> {
 // A run whose writer fails at this call, with an error or by taking nothing. Returns whether the
 // writer failed.
 fn fails_to_write(
-    rt: &(impl AllocGlobal + Abort),
+    rt: &(impl AllocGlobal + Abort + Threads + Wait + Sync),
     calls: u64,
     gives_zero: bool,
 ) -> Result<bool, Fail> {
@@ -287,7 +342,7 @@ fn fails_to_write(
         gives_zero,
     };
     let mut writer = Counted::new(device);
-    let answer = run_on(rt.alloc(), 3, &mut reader, &mut writer);
+    let answer = run_on(rt, rt.alloc(), 3, 2, 16, &Plain, &mut reader, &mut writer);
     if writer.failures() == 0 {
         assert!(rt; answer == Ok(()));
         return Ok(false);
@@ -335,7 +390,7 @@ fn writes_long_files(rt: HostRuntime) -> Result<(), Fail> {
         gives_zero: false,
     };
     let mut writer = Counted::new(device);
-    let answer = run_on(rt.alloc(), 0, &mut reader, &mut writer);
+    let answer = run_on(&rt, rt.alloc(), 0, 2, 16, &Plain, &mut reader, &mut writer);
     let what = FaultKind::Write;
     assert!(rt; answer == Err(Fault { row: 0, what }));
     let written = &writer.get_ref().device;
@@ -360,12 +415,54 @@ fn ask(
     Ok(answer)
 }
 
+// A run on a machine of this dimension, with this many dispatchers and this capacity.
+fn a_run(n: u32, dispatchers: u32, capacity: usize) -> Result<Invocation, ErrorKind> {
+    Ok(Invocation::Run {
+        n,
+        dispatchers,
+        capacity,
+    })
+}
+
 #[test]
 fn reads_command_lines(rt: HostRuntime) -> Result<(), Fail> {
     let run = ["cubejobs", "run", "--dim", "0"];
-    assert!(rt; ask(&rt, run.as_slice())? == Ok(Invocation::Run { n: 0 }));
+    assert!(rt; ask(&rt, run.as_slice())? == a_run(0, 2, 16));
     let run = ["cubejobs", "run", "--dim=10"];
-    assert!(rt; ask(&rt, run.as_slice())? == Ok(Invocation::Run { n: 10 }));
+    assert!(rt; ask(&rt, run.as_slice())? == a_run(10, 2, 16));
+    let run = [
+        "cubejobs",
+        "run",
+        "--dim",
+        "3",
+        "--dispatchers",
+        "1",
+        "--capacity=1",
+    ];
+    assert!(rt; ask(&rt, run.as_slice())? == a_run(3, 1, 1));
+    let run = [
+        "cubejobs",
+        "run",
+        "--capacity",
+        "1024",
+        "--dispatchers",
+        "16",
+        "--dim",
+        "3",
+    ];
+    assert!(rt; ask(&rt, run.as_slice())? == a_run(3, 16, 1024));
+    for bad in [
+        "--dispatchers=0",
+        "--dispatchers=17",
+        "--capacity=0",
+        "--capacity=1025",
+        "--capacity=x",
+    ] {
+        let run = ["cubejobs", "run", "--dim", "3", bad];
+        assert!(rt; ask(&rt, run.as_slice())? == Err(ErrorKind::ValueValidation));
+    }
+    let place = ["cubejobs", "place", "--dim", "3", "--dispatchers", "2"];
+    assert!(rt; ask(&rt, place.as_slice())? == Err(ErrorKind::UnknownArgument));
     let run = ["cubejobs", "run", "--dim", "11"];
     assert!(rt; ask(&rt, run.as_slice())? == Err(ErrorKind::ValueValidation));
     let run = ["cubejobs", "run"];
@@ -444,7 +541,7 @@ fn help_names_the_limits(rt: HostRuntime) -> Result<(), Fail> {
 
 // A call of the program with these words and this input has this status and writes these texts.
 fn expect_call(
-    rt: &(impl AllocGlobal + Abort),
+    rt: &(impl AllocGlobal + Abort + Threads + Wait + Sync),
     words: &[&str],
     input: &[u8],
     status: u8,
@@ -458,7 +555,7 @@ fn expect_call(
     let mut reader = Counted::new(input);
     let mut writer = Counted::new(Vec::new(rt.alloc()));
     let mut errors = Vec::new(rt.alloc());
-    let ending = program::run(rt.alloc(), &all, &mut reader, &mut writer, &mut errors);
+    let ending = program::run(rt, rt.alloc(), &all, &mut reader, &mut writer, &mut errors);
     assert!(rt; ending.status() == status, "{line}");
     assert!(rt; writer.get_ref().as_slice() == output.as_bytes(), "{line}");
     assert!(rt; errors.as_slice() == line.as_bytes(), "{line}");

@@ -1,14 +1,10 @@
 -- Lanes of jobs.
-use Rattle.std.proofs.Common.{◌≡◌, ℕ, ◌+◌, ◌==◌, List, [], ◌∷◌, ◌++◌, All, length, Vec, Global, refl, sym, subst, arith}
+use Rattle.std.proofs.Common.{◌≡◌, ℕ, ◌+◌, ◌==◌, List, [], ◌∷◌, ◌++◌, All, length, Vec, Global, refl, arith}
 use Rattle.std.proofs.lemmas.List.{length_push}
-use Rattle.std.proofs.lemmas.List.Elements.{All-filter, All-push}
+use Rattle.std.proofs.lemmas.List.Elements.{All-push}
 use Rattle.job_types.specs.Job.{JobData}
 use Rattle.job_types.specs.declared.request.TheConstants.{MAX_LANES}
 use Rattle.jobs_csv.specs.Lanes.{AreLanes}
-
--- what holds of all jobs holds of those of each lane
-pub all_in_lanes : (P : JobData → Type 0) (lanes : List (Vec JobData Global)) (jobs : List JobData) → AreLanes lanes jobs → All P jobs → All (λ lane. All P lane.items) lanes
-all_in_lanes P lanes jobs k all = λ lane none lt. subst (All P) (sym (k.each lane none (omega (arith, lt, k.count)))) (All-filter (λ (job : JobData). job.lane == lane) P jobs all)
 
 -- `count` lists with no job
 pub record AreEmpty (lanes : List (Vec JobData Global)) (count : ℕ) : Type 0 where

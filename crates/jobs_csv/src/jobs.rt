@@ -1,13 +1,14 @@
 // Reading a file of jobs.
-ghost use Rattle.std.specs.Prelude.{◌≡◌, ◌≢◌, ◌<◌, ◌≤◌, [], ◌∷◌, length, All, IfOk, IfErr, IfSome, IfNone};
+ghost use Rattle.std.specs.Prelude.{◌≡◌, ◌≢◌, ◌<◌, ◌≤◌, [], ◌∷◌, List, length, All, IfOk, IfErr, IfSome, IfNone};
 ghost use Rattle.std.specs.Cmp.Lexicographic.{pointwise};
 ghost use Rattle.std.specs.Str.{bytes_eq};
 ghost use Rattle.csv.specs.Records.{fields_of};
+ghost use Rattle.job_types.specs.Job.{JobData};
 ghost use Rattle.cube_shape.specs.declared.limits.TheConstants.{MAX_DIM};
 ghost use Rattle.jobs_csv.specs.Columns.{header_of};
 ghost use Rattle.jobs_csv.specs.Fault.{IsInputFault};
 ghost use Rattle.jobs_csv.specs.Jobs.{accept_job, job_of, parse_jobs};
-ghost use Rattle.jobs_csv.specs.Lanes.{ReturnsLanes};
+ghost use Rattle.jobs_csv.specs.Lanes.{AreLanes, ReturnsLanes};
 ghost use Rattle.jobs_csv.specs.Inner.Columns.{job_columns};
 ghost use Rattle.jobs_csv.specs.Inner.Parse.{ReturnsParse};
 ghost use Rattle.jobs_csv.specs.Outcome.{ReturnsFile};
@@ -182,8 +183,8 @@ pub fn read_lanes<R: Read + Device>(
     requires { n ≤ MAX_DIM }
     ensures parse { IfSome (R.remaining reader.old) (λ bytes.
         ReturnsLanes (parse_jobs n bytes) result) }
-    ensures machine { IfOk result (λ lanes.
-        All (λ lane. All (λ job. job.machine ≡ n) lane.items) lanes.items) }
+    ensures lanes { IfOk result (λ lanes. (jobs : List JobData) × AreLanes lanes.items jobs
+        × All (λ job. job.machine ≡ n) jobs) }
     ensures failed { IfErr result (IsInputFault (R.failures reader.old) (R.failures reader.new)) }
 {
     let failures = reader.failures();

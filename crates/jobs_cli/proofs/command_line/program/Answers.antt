@@ -1,13 +1,13 @@
 use Rattle.std.proofs.Common.{◌≡◌, [], codes, ap, ap₂, ◌∙◌, rules}
 use Rattle.std.proofs.lemmas.Result.{IfOk-weaker}
 use Rattle.clap.specs.Words.{App, app_of, with_rule, with_subcommand}
-use Rattle.jobs_cli.specs.CommandLine.{bare_program, command_app, stations_rule}
+use Rattle.jobs_cli.specs.CommandLine.{bare_program, command_app, shop_app, stations_rule}
 use Rattle.jobs_cli.proofs.command_line.program.Goals as goal
 
 pub returns : goal.returns
 returns c =
     let top_is : app_of c.subcommand_required.result ≡ record { top = bare_program; subs = [] } = search rules in
-    let run_is : app_of c.in_ok-run.run' ≡ command_app (codes "run") = search rules in
+    let run_is : app_of c.in_ok-run.run' ≡ shop_app (codes "run") = search rules in
     let place_is : app_of c.in_ok-place.place ≡ command_app (codes "place") = search rules in
     let replay_is : app_of c.in_ok-replay.replay ≡ with_rule (command_app (codes "replay")) stations_rule = search rules in
     let with_run = c.in_ok-subcommand.ensures.shape c.in_ok-run.ensures.local ∙ ap₂ with_subcommand top_is (ap (λ (a : App). a.top) run_is) in
