@@ -1,5 +1,5 @@
 -- Where all jobs were handed in, the replies answer them, each once.
-use Rattle.std.proofs.Common.{◌≡◌, ◌≢◌, ℕ, zero, suc, ◌+◌, ◌<◌, ◌≤◌, cond, eqb, eq-eqb, ne_eqb, ⊎_elim, List, [], ◌∷◌, ◌++◌, map, length, get_or, refl, sym, ap, subst, ◌∙◌, arith}
+use Rattle.std.proofs.Common.{◌≡◌, ℕ, zero, suc, ◌+◌, ◌<◌, ◌≤◌, cond, eqb, eq-eqb, ne_eqb, ⊎_elim, List, [], ◌∷◌, ◌++◌, map, length, get_or, refl, sym, ap, subst, ◌∙◌, arith}
 use Rattle.std.specs.List.{All, AllByRecursion, AllZip, flat_map}
 use Rattle.std.proofs.lemmas.Bool.{cases_lt}
 use Rattle.std.proofs.lemmas.List.{append-nil, map-append, length-map, get_or_past}
@@ -10,7 +10,7 @@ use mathlib.Core.List.{List-discrete}
 use mathlib.Core.Logic.{dite}
 use native.Mathlib.Decide.{ℕ_discrete}
 use Rattle.histories.specs.Sums.{total, below, is_at, times}
-use Rattle.histories.proofs.SumLemmas.{total-append, total-map, total-same, below-same, below-zero, below-one_term, below-total, is_at-same, is_at-other}
+use Rattle.histories.proofs.SumLemmas.{total-append, total-same, below-same, below-zero, below-one_term, below-total, is_at-same, is_at-other}
 use Rattle.job_types.specs.Job.{JobData}
 use Rattle.job_types.specs.Reply.{ReplyData}
 use Rattle.job_types.specs.declared.reply.JobId.{JobId}

@@ -1,5 +1,5 @@
 -- What was not handed in, of one lane and of all.
-use Rattle.std.proofs.Common.{◌≡◌, ℕ, Bool, true, false, not, ◌&&◌, ◌||◌, List, [], ◌∷◌, ◌++◌, map, Option, if◌then◌else◌, refl, sym, ap, ◌∙◌}
+use Rattle.std.proofs.Common.{◌≡◌, ℕ, Bool, not, ◌&&◌, ◌||◌, List, [], ◌∷◌, map, Option, if◌then◌else◌, refl, sym, ap, ◌∙◌}
 use Rattle.std.specs.List.{All, list_any}
 use Rattle.std.proofs.lemmas.List.Elements.{All-map}
 use Rattle.job_types.specs.Job.{JobData}
@@ -7,7 +7,6 @@ use Rattle.dispatcher.specs.declared.feeding.FeedStop.{FeedStop}
 use Rattle.dispatcher.proofs.OpenLemmas.{of_parts}
 use Rattle.crew.specs.Run.{UnfedJobs, unfed_by}
 use Rattle.batch.specs.Stop.{is_closed, is_spent, reason_of, AreAllFed}
-use Rattle.batch.specs.declared.answering.StopReason.{StopReason}
 use Rattle.batch.specs.declared.answering.StopReason.TheVariants.{OutOfMemory, Spent}
 
 -- a test of the part of each

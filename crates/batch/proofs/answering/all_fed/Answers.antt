@@ -1,4 +1,4 @@
-use Rattle.std.proofs.Common.{rules, ◌≡◌, ◌++◌, [], take, subst, sym, ap}
+use Rattle.std.proofs.Common.{rules, ◌≡◌, ◌++◌, [], subst}
 use Rattle.std.specs.List.{All}
 use Rattle.std.proofs.lemmas.List.{take_all}
 use Rattle.std.proofs.lemmas.List.Elements.{All-more}

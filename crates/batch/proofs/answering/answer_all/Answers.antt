@@ -1,4 +1,4 @@
-use Rattle.std.proofs.Common.{◌≡◌, ◌++◌, map, length, ◌∙◌, ap, sym}
+use Rattle.std.proofs.Common.{◌++◌, length, ◌∙◌, sym}
 use Rattle.std.proofs.lemmas.Bool.{true≢false}
 use Rattle.dispatcher.specs.Stop.{given_back}
 use Rattle.dispatcher.proofs.OpenLemmas.{map_twice}

@@ -1,4 +1,4 @@
-use Rattle.std.proofs.Common.{◌≡◌, ◌+◌, length, map, take}
+use Rattle.std.proofs.Common.{◌≡◌, length, map, take}
 use Rattle.batch.specs.Answers.{all_replies}
 use Rattle.batch.proofs.sorting.reply_count.Given as goal
 

@@ -1,4 +1,4 @@
-use Rattle.std.proofs.Common.{map, sym, subst}
+use Rattle.std.proofs.Common.{map, subst}
 use Rattle.std.specs.List.Sorted.{IsPermutation}
 use Rattle.batch.proofs.OrderLemmas.{sorted_answers}
 use Rattle.batch.proofs.sorting.sorted_replies.Goals as goal
