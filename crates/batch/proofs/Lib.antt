@@ -1,4 +1,4 @@
-mod PermutationLemmas
+pub mod PermutationLemmas
 mod AnswerLemmas
 mod UnfedLemmas
 mod OrderLemmas
