@@ -32,6 +32,9 @@ The output is CSV with the header lane,seq,kind,dim,result,rounds,messages, and 
 job, by lane and in a lane in the order of the file. Its result has a number, or - for nothing, for \
 each rank.
 
+The jobs are answered on threads: a feeder for each lane hands in its jobs by one line, and the \
+dispatchers answer them. The output is the same whatever their number and the line's capacity.
+
 Example: cubejobs run --dim 3 < jobs.csv";
 
 const ABOUT_PLACE: &str = "Takes and frees subcubes under names";
@@ -75,7 +78,8 @@ const FAULTS: &str = "Faults:
   Number       a field is not the number that it should be
   Word         a field is none of the keywords, or no name
   Read, Write  the input or the output failed
-  OutOfMemory  a request for memory was refused
+  OutOfMemory  a request for memory or for a thread was refused
+  Spent        a lane has no number left for a job
   TooMany      there are more records after the header than ";
 
 // The rest of it.
@@ -85,7 +89,7 @@ Exit status:
   0  done
   1  the input is refused, and nothing is written; standard error names the record and the fault
   2  bad command line
-  3  the input or output failed, or there was no memory
+  3  the input or output failed, there was no memory, or a lane has no number left
 
 Where the reader of standard output closes it early, standard error says `failed: record 0: Write`,
 with status 3.";

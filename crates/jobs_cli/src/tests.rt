@@ -180,14 +180,13 @@ fn threads_change_no_byte(rt: HostRuntime) -> Result<(), Fail> {
     let mut wanted = Vec::from_slice(rt.alloc(), REPLIES)?;
     for seq in 0..5 {
         for lane in 0..16 {
-            let job = format!(in rt.alloc(); "{},allreduce,add,0,{seq} {lane}\n", 15 - lane)?;
+            let job = format!(in rt.alloc(); "{lane},allreduce,max,0,{seq} 0\n")?;
             input.extend_from_slice(job.as_bytes())?;
         }
     }
     for lane in 0..16 {
         for seq in 0..5 {
-            let sum = seq + (15 - lane);
-            let reply = format!(in rt.alloc(); "{lane},{seq},allreduce,1,{sum} {sum},1,2\n")?;
+            let reply = format!(in rt.alloc(); "{lane},{seq},allreduce,1,{seq} {seq},1,2\n")?;
             wanted.extend_from_slice(reply.as_bytes())?;
         }
     }
