@@ -12,6 +12,6 @@ returns g c jobs permuted right =
     (length c.args.finished.now.accepted.items)
     c.push_lanes.new.rows.items c.push_dims.new.rows.items c.push_free.new.rows.items c.push_total.new.rows.items
     (c.in_ok-push_lanes.ensures
-        ∙ ap (λ (k : ℕ). c.new-rows.result.items ++ map (lane_row_in c.in_ok-ledger.ledger) (range_with_len 0 k)) lanes
-        ∙ ap (λ (front : List ReportRow). front ++ map (lane_row_in c.in_ok-ledger.ledger) (range_with_len 0 (length c.args.finished.now.accepted.items))) c.new-rows.ensures.items)
+    ∙ ap (λ (k : ℕ). c.new-rows.result.items ++ map (lane_row_in c.in_ok-ledger.ledger) (range_with_len 0 k)) lanes
+    ∙ ap (λ (front : List ReportRow). front ++ map (lane_row_in c.in_ok-ledger.ledger) (range_with_len 0 (length c.args.finished.now.accepted.items))) c.new-rows.ensures.items)
     c.in_ok-push_dims.ensures c.in_ok-push_free.ensures c.in_ok-push_total.ensures
