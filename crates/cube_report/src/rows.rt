@@ -18,11 +18,7 @@ use jobs_csv::ReportRow;
 use std::alloc::{AllocError, Global};
 
 // Adds a row for each of the first lanes.
-fn push_lanes(
-    ledger: &Ledger,
-    lanes: u32,
-    rows: &mut Vec<ReportRow>,
-) -> Result<(), AllocError>
+fn push_lanes(ledger: &Ledger, lanes: u32, rows: &mut Vec<ReportRow>) -> Result<(), AllocError>
     ensures { OnOk result (rows.new.items
         ≡ rows.old.items ++ map (lane_row_in ledger.now) (range_with_len 0 lanes)) }
 {

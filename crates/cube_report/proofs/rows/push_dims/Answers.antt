@@ -1,0 +1,12 @@
+use Rattle.std.proofs.Common.{ap, ◌∙◌, ◌++◌, [], ◌∷◌}
+use Rattle.jobs_csv.specs.declared.report_rows.ReportRow.TheVariants as row
+use Rattle.cube_ledger.specs.declared.ledger.Totals.{Totals}
+use Rattle.cube_report.specs.InnerRows.{dim_row_in}
+use Rattle.cube_report.proofs.RowLemmas.{row_more}
+use Rattle.cube_report.proofs.rows.push_dims.Goals as goal
+
+pub loop-dim-preserved : goal.loop-dim-preserved
+loop-dim-preserved c =
+    c.in_ok-push.ensures.items
+    ∙ ap (λ (t : Totals). c.loop-dim.rows.items ++ row.Dim c.loop-dim.dim t.jobs t.processors ∷ []) c.dim-jobs.ensures
+    ∙ row_more (dim_row_in c.args.ledger.now) c.args.rows.now.items c.loop-dim.rows.items c.loop-dim.dim c.loop-dim.invariant
