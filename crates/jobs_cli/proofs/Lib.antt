@@ -1,7 +1,6 @@
 pub mod LaneLemmas
 pub mod OrderLemmas
 pub mod RunLemmas
-pub mod ReportLemmas
 pub mod TraceLemmas
 pub mod StationLemmas
 pub mod ReplayLemmas

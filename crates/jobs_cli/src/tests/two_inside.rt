@@ -12,8 +12,7 @@ use std::thread::yield_now;
 // How often a runner looks for another job before it goes on alone.
 const TURNS: u32 = 1_000_000;
 
-const TWO_JOBS: &[u8] =
-    b"lane,kind,op,root,items\n0,allreduce,add,0,1 2\n0,allreduce,add,0,3 4\n";
+const TWO_JOBS: &[u8] = b"lane,kind,op,root,items\n0,allreduce,add,0,1 2\n0,allreduce,add,0,3 4\n";
 
 const TWO_REPLIES: &str = "lane,seq,kind,dim,result,rounds,messages\n\
     0,0,allreduce,1,3 3,1,2\n0,1,allreduce,1,7 7,1,2\n";
