@@ -8,7 +8,7 @@ use Rattle.clap.specs.declared.error.kind.ErrorKind.TheVariants.{DisplayHelp, Di
 use Rattle.cube_shape.specs.declared.limits.TheConstants.{MAX_DIM, MAX_STATIONS}
 use Rattle.job_queue.specs.declared.job_line.TheConstants.{MAX_CAPACITY, MAX_PASSES}
 use Rattle.jobs_cli.specs.declared.invocation.Invocation.{Invocation}
-use Rattle.jobs_cli.specs.declared.invocation.Invocation.TheVariants.{Run, Place, Replay}
+use Rattle.jobs_cli.specs.declared.invocation.Invocation.TheVariants.{Run, Report, Place, Replay}
 
 -- a shop has 1 to MAX_PASSES dispatchers, and its line room for 1 to MAX_CAPACITY jobs
 abbrev pub AreShopSizes : ℕ → ℕ → Type 0
@@ -17,6 +17,7 @@ AreShopSizes dispatchers capacity = (1 ≤ dispatchers) × (dispatchers ≤ MAX_
 -- the dimension is at most MAX_DIM; the number of stations is from 1 to MAX_STATIONS
 abbrev pub IsWithinLimits : Invocation → Type 0
 IsWithinLimits (Run n dispatchers capacity) = (n ≤ MAX_DIM) × AreShopSizes dispatchers capacity
+IsWithinLimits (Report n dispatchers capacity) = (n ≤ MAX_DIM) × AreShopSizes dispatchers capacity
 IsWithinLimits (Place n) = n ≤ MAX_DIM
 IsWithinLimits (Replay n stations) = (n ≤ MAX_DIM) × (1 ≤ stations) × (stations ≤ MAX_STATIONS)
 
@@ -49,8 +50,8 @@ abbrev pub bare_program : Shape
 bare_program = record (new_app (codes "cubejobs")).top { subcommand_required = true; has_version = true }
 
 abbrev pub program_app : App
-program_app = with_subcommand (with_subcommand (with_subcommand (record { top = bare_program; subs = [] })
-    (shop_app (codes "run")).top) (command_app (codes "place")).top) (with_rule (command_app (codes "replay")) stations_rule).top
+program_app = with_subcommand (with_subcommand (with_subcommand (with_subcommand (record { top = bare_program; subs = [] })
+    (shop_app (codes "run")).top) (shop_app (codes "report")).top) (command_app (codes "place")).top) (with_rule (command_app (codes "replay")) stations_rule).top
 
 -- the option has this number, in digits, by the words or by its default
 abbrev pub HasOptionValue : List Row → Text → ℕ → Type 0
@@ -60,12 +61,15 @@ HasOptionValue options name n = (text : Text) × (one_of name options ≡ Some t
 abbrev pub HasOptionValues : List Row → Invocation → Type 0
 HasOptionValues options (Run n dispatchers capacity) =
     HasOptionValue options (codes "dim") n × HasOptionValue options (codes "dispatchers") dispatchers × HasOptionValue options (codes "capacity") capacity
+HasOptionValues options (Report n dispatchers capacity) =
+    HasOptionValue options (codes "dim") n × HasOptionValue options (codes "dispatchers") dispatchers × HasOptionValue options (codes "capacity") capacity
 HasOptionValues options (Place n) = HasOptionValue options (codes "dim") n
 HasOptionValues options (Replay n stations) = HasOptionValue options (codes "dim") n × HasOptionValue options (codes "stations") stations
 
 -- the command of a request
 abbrev pub command_of : Invocation → Text
 command_of (Run n dispatchers capacity) = codes "run"
+command_of (Report n dispatchers capacity) = codes "report"
 command_of (Place n) = codes "place"
 command_of (Replay n stations) = codes "replay"
 

@@ -8,6 +8,7 @@ use Rattle.jobs_csv.specs.Jobs.{parse_jobs}
 use Rattle.jobs_csv.specs.Place.{parse_commands}
 use Rattle.jobs_csv.specs.PlaceRows.{place_columns, place_fields}
 use Rattle.jobs_csv.specs.ReplayRows.{replay_columns, replay_fields}
+use Rattle.jobs_csv.specs.ReportRows.{report_columns, report_fields}
 use Rattle.jobs_csv.specs.Replies.{reply_columns, reply_fields}
 use Rattle.jobs_csv.specs.Schedule.{parse_schedule}
 use Rattle.jobs_csv.specs.Text.{file_text}
@@ -20,16 +21,19 @@ use Rattle.jobs_cli.specs.CommandLine.{AsksFor, AsksForHelp, IsBadCommandLine}
 use Rattle.jobs_cli.specs.Place.{ArePlaced}
 use Rattle.jobs_cli.specs.Replay.{AreReplayed}
 use Rattle.jobs_cli.specs.Replies.{AreReplies}
+use Rattle.jobs_cli.specs.Report.{AreReportRows}
 
--- the request is answered: jobs by their replies, commands by the first fit, a schedule by its events
+-- the request is answered: jobs by their replies or by totals of them, commands by the first fit, a schedule by its events
 abbrev pub IsAnswerTo : Invocation → List ℕ → Option (List ℕ) → Option (List ℕ) → Result (Unit {0}) Fault → Type 0
 IsAnswerTo (invocation.Run n dispatchers capacity) bytes old new result = IsAnswer (parse_jobs n bytes) AreReplies (file_text reply_columns reply_fields) old new result
+IsAnswerTo (invocation.Report n dispatchers capacity) bytes old new result = IsAnswer (parse_jobs n bytes) (AreReportRows n) (file_text report_columns report_fields) old new result
 IsAnswerTo (invocation.Place n) bytes old new result = IsAnswer (parse_commands n bytes) (ArePlaced n) (file_text place_columns place_fields) old new result
 IsAnswerTo (invocation.Replay n stations) bytes old new result = IsAnswer (parse_schedule bytes) (AreReplayed n stations) (file_text replay_columns replay_fields) old new result
 
 -- the faults that a request may have, by the counts of failed calls of the reader and of the writer
 abbrev pub IsFaultOf : ℕ → ℕ → ℕ → ℕ → Invocation → Fault → Type 0
 IsFaultOf read_before read_after write_before write_after (invocation.Run n dispatchers capacity) fault = IsRunFault read_before read_after write_before write_after fault
+IsFaultOf read_before read_after write_before write_after (invocation.Report n dispatchers capacity) fault = IsRunFault read_before read_after write_before write_after fault
 IsFaultOf read_before read_after write_before write_after invocation fault = IsCommandFault read_before read_after write_before write_after fault
 
 -- the words ask for a command, and this is its result on the bytes that it reads, where they are known

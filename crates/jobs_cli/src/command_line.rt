@@ -37,6 +37,25 @@ dispatchers answer them. The output is the same whatever their number and the li
 
 Example: cubejobs run --dim 3 < jobs.csv";
 
+const ABOUT_REPORT: &str = "Answers a file of jobs, and writes totals of them";
+
+const LONG_ABOUT_REPORT: &str = "Reads a file of jobs from standard input, answers each job on a \
+subcube of the machine, and writes totals of the jobs and of the free subcubes to standard output.
+
+The input is a file of jobs as `cubejobs run` reads it, CSV with the header \
+lane,kind,op,root,items, and is refused for the same faults; `cubejobs run --help` describes it. \
+The jobs are answered on threads as there, and the output is the same whatever the number of \
+dispatchers and the line's capacity.
+
+The output is CSV with the header group,key,count,processors. There is a line lane for each lane \
+from 0 to the largest one of a job, with the number of its jobs and the sum of the processors that \
+each of them asks for; a line dim for each dimension from 0 to N, with the same of the jobs of that \
+dimension; a line free for each dimension from 0 to N, with the number of aligned subcubes of it \
+that are free once all jobs are answered, and the processors that these have together; and a line \
+total with the key -, of all jobs.
+
+Example: cubejobs report --dim 3 < jobs.csv";
+
 const ABOUT_PLACE: &str = "Takes and frees subcubes under names";
 
 const LONG_ABOUT_PLACE: &str =
@@ -226,6 +245,7 @@ fn program<'a>(alloc: Global, limits: &'a Limits) -> Result<Command<'a>, AllocEr
     ensures { IfOk result (λ command. app_of command ≡ program_app) }
 {
     let run = shop_command(alloc, "run", ABOUT_RUN, LONG_ABOUT_RUN, limits)?;
+    let report = shop_command(alloc, "report", ABOUT_REPORT, LONG_ABOUT_REPORT, limits)?;
     let place = command(alloc, "place", ABOUT_PLACE, LONG_ABOUT_PLACE, limits)?;
     let replay = replay_command(alloc, limits)?;
     Command::new(alloc, "cubejobs")
@@ -233,6 +253,7 @@ fn program<'a>(alloc: Global, limits: &'a Limits) -> Result<Command<'a>, AllocEr
         .version(VERSION)
         .subcommand_required(true)
         .subcommand(run)?
+        .subcommand(report)?
         .subcommand(place)?
         .subcommand(replay)
 }
@@ -302,6 +323,16 @@ fn invocation_in(matches: &ArgMatches<'_>) -> Option<Invocation>
         let dispatchers = dispatchers_in(run)?;
         let capacity = capacity_in(run)?;
         return Some(Invocation::Run {
+            n,
+            dispatchers,
+            capacity,
+        });
+    }
+    if let Some(report) = matches.subcommand_matches("report") {
+        let n = dim_in(report)?;
+        let dispatchers = dispatchers_in(report)?;
+        let capacity = capacity_in(report)?;
+        return Some(Invocation::Report {
             n,
             dispatchers,
             capacity,

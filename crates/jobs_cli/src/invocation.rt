@@ -9,6 +9,12 @@ pub enum Invocation {
         dispatchers: u32,
         capacity: usize,
     },
+    /// Answer a file of jobs as `Run` does, and report totals.
+    Report {
+        n: u32,
+        dispatchers: u32,
+        capacity: usize,
+    },
     /// Answer a file of commands over names.
     Place {
         n: u32,

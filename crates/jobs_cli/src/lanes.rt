@@ -40,7 +40,10 @@ fn to_queues(alloc: Global, lanes: Vec<Vec<Job>>) -> Result<Vec<VecDeque<Job>>, 
 }
 
 // The jobs of the open lanes.
-pub fn open_lanes(alloc: Global, mut lanes: Vec<Vec<Job>>) -> Result<Vec<VecDeque<Job>>, AllocError>
+pub(crate) fn open_lanes(
+    alloc: Global,
+    mut lanes: Vec<Vec<Job>>,
+) -> Result<Vec<VecDeque<Job>>, AllocError>
     requires { 0 < length lanes.items }
     ensures { (jobs : List JobData) → AreLanes lanes.items jobs →
         IfOk result (λ lists. AreOpenLanes (map (λ list. list.items) lists.items) jobs) }

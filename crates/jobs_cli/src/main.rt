@@ -1,5 +1,5 @@
 //! Jobs, regions and schedules of a hypercube machine: `cubejobs run --dim N`,
-//! `cubejobs place --dim N` and `cubejobs replay --dim N --stations S`.
+//! `cubejobs report --dim N`, `cubejobs place --dim N` and `cubejobs replay --dim N --stations S`.
 //!
 //! The input comes as CSV from standard input, and its answer goes as CSV to standard output. Jobs are
 //! answered on threads, by the dispatchers and over the line that `--dispatchers` and `--capacity` ask
@@ -14,6 +14,7 @@ mod place;
 mod play;
 mod program;
 mod replay;
+mod report;
 mod run;
 mod shop;
 mod stations;

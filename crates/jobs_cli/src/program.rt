@@ -11,7 +11,7 @@ ghost use Rattle.jobs_cli.specs.Inner.Ending.{EndsAfter, EndsOn};
 ghost use Rattle.jobs_cli.specs.Program.{EndsBy, IsAnswerTo, IsFaultOf, exit_status};
 
 use crate::invocation::Invocation;
-use crate::{command_line, place, replay, run};
+use crate::{command_line, place, replay, report, run};
 use clap::error::ErrorKind;
 use dispatcher::Plain;
 use jobs_csv::{Device, Fault, FaultKind};
@@ -45,7 +45,7 @@ impl Ending {
 }
 
 // Reports a fault in one line.
-fn report<E: Write>(fault: Fault, errors: &mut E) -> Ending
+fn report_fault<E: Write>(fault: Fault, errors: &mut E) -> Ending
     ensures failed { (is_reported : Bool) × (result ≡ Ending.Failed fault is_reported) }
     ensures line { result ≡ Ending.Failed fault true
         → Appends (E.contents errors.old) (E.contents errors.new) (fault_text fault ++ 10 ∷ []) }
@@ -76,6 +76,11 @@ fn answer<H: Threads + Wait + Sync, R: Read + Device, W: Write + Device>(
             dispatchers,
             capacity,
         } => run::run_on(rt, alloc, n, dispatchers, capacity, &Plain, reader, writer),
+        Invocation::Report {
+            n,
+            dispatchers,
+            capacity,
+        } => report::report_on(rt, alloc, n, dispatchers, capacity, &Plain, reader, writer),
         Invocation::Place { n } => place::place_on(alloc, n, reader, writer),
         Invocation::Replay { n, stations } => replay::replay_on(alloc, n, stations, reader, writer),
     }
@@ -101,7 +106,7 @@ fn carry_out<H: Threads + Wait + Sync, R: Read + Device, W: Write + Device, E: W
 {
     match answer(rt, alloc, invocation, reader, writer) {
         Ok(()) => Ending::Done,
-        Err(fault) => report(fault, errors),
+        Err(fault) => report_fault(fault, errors),
     }
 }
 
@@ -117,7 +122,7 @@ fn show<W: Write + Device, E: Write>(error: &clap::Error, writer: &mut W, errors
     if write!(writer, "{error}").is_ok() && writer.flush().is_ok() {
         return Ending::Done;
     }
-    report(
+    report_fault(
         Fault::attribute(FaultKind::Write, failures_before, writer.failures()),
         errors,
     )
@@ -136,7 +141,7 @@ fn explain<W: Write + Device, E: Write>(
     ensures rejected { result ≡ Ending.Rejected → writer.new ≡ writer.old }
 {
     match error.kind() {
-        ErrorKind::OutOfMemory => return report(Fault::no_memory(), errors),
+        ErrorKind::OutOfMemory => return report_fault(Fault::no_memory(), errors),
         ErrorKind::DisplayHelp | ErrorKind::DisplayVersion => return show(error, writer, errors),
         _ => {
             let _written = write!(errors, "{error}");

@@ -1,6 +1,7 @@
 // A shop for the jobs of a file.
-ghost use Rattle.std.specs.Prelude.{◌≡◌, ◌⊎◌, ◌≤◌, IfErr, IfOk, IfSome};
+ghost use Rattle.std.specs.Prelude.{◌≡◌, ◌⊎◌, ◌≤◌, IfErr, IfOk, IfSome, length};
 ghost use Rattle.floors.specs.Floor.{IsWhollyFree};
+ghost use Rattle.job_types.specs.declared.request.TheConstants.{MAX_LANES};
 ghost use Rattle.jobs_csv.specs.Fault.{IsInputFault};
 ghost use Rattle.jobs_csv.specs.Jobs.{parse_jobs};
 ghost use Rattle.jobs_csv.specs.Outcome.{ReturnsRows};
@@ -36,7 +37,7 @@ fn fault_of<M: Drop>(stopped: Stopped<M>) -> Fault
 // Reads a file of jobs for a machine of dimension `n`, and answers all of them by this many
 // dispatchers over a line of this capacity, each on a thread of its own, with a feeder for each open
 // lane.
-pub fn answer_file<H, L, F, T, R>(
+pub(crate) fn answer_file<H, L, F, T, R>(
     rt: &H,
     alloc: Global,
     n: u32,
@@ -60,6 +61,7 @@ where
     requires { n ≤ MAX_DIM }
     ensures answered { IfSome (R.remaining reader.old) (λ bytes. ReturnsRows
         (λ finished jobs. AnswersFile n jobs finished) (parse_jobs n bytes) result) }
+    ensures lanes { IfOk result (λ finished. length finished.accepted.items ≤ MAX_LANES) }
     ensures dim { IfOk result (λ finished. F.machine_dim finished.machine ≡ n) }
     ensures free { IfOk result (λ finished.
         IsWhollyFree n (F.machine_words finished.machine)) }

@@ -19,6 +19,8 @@ use std::thread::Threads;
 
 mod place;
 mod replay;
+mod report;
+mod two_inside;
 
 const JOBS: &[u8] = b"lane,kind,op,root,items\n";
 
@@ -507,7 +509,7 @@ fn reads_commands_of_regions(rt: HostRuntime) -> Result<(), Fail> {
     assert!(rt; ask(&rt, replay.as_slice())? == Err(ErrorKind::ValueValidation));
     let replay = ["cubejobs", "replay", "--dim", "2"];
     assert!(rt; ask(&rt, replay.as_slice())? == Err(ErrorKind::MissingRequiredArgument));
-    for name in ["run", "place", "replay"] {
+    for name in ["run", "report", "place", "replay"] {
         let help = ["cubejobs", name, "--help"];
         assert!(rt; ask(&rt, help.as_slice())? == Err(ErrorKind::DisplayHelp));
     }

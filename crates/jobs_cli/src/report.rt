@@ -1,0 +1,70 @@
+// The command `report`: totals of the jobs of a file, once they are answered.
+ghost use Rattle.std.specs.Prelude.{◌≡◌, ◌≤◌, IfErr, IfSome};
+ghost use Rattle.jobs_cli.specs.Answer.{IsMetBeforeWriting, IsRunFault};
+ghost use Rattle.jobs_cli.specs.CommandLine.{AreShopSizes};
+ghost use Rattle.jobs_cli.specs.Program.{IsAnswerTo};
+ghost use Rattle.jobs_cli.specs.declared.invocation.Invocation.TheVariants.{Report};
+
+use crate::shop::answer_file;
+use cube_report::report_rows;
+use cube_shape::MAX_DIM;
+use dispatcher::Runner;
+use floors::LockedFloor;
+use job_queue::LockedLine;
+use jobs_csv::{Device, Fault};
+use std::alloc::Global;
+use std::io::{Read, Write};
+use std::sync::Wait;
+use std::thread::Threads;
+
+/// Reads a file of jobs for a machine of dimension `n`, answers them on threads as `run_on` does, and
+/// writes totals: of the jobs of each open lane, of those of each dimension, of the free regions of
+/// each dimension, and of all jobs.
+///
+/// The open lanes are 0 to the largest one of a job, or lane 0 alone. The machine is wholly free once
+/// all jobs are answered.
+///
+/// A fault of the input is the first one in it. `Read` and `Write` come only where that device's count
+/// of failed calls rose in this call, or stood at `u64::MAX`; `Spent` where a lane has no number left;
+/// any other failure is `OutOfMemory`, also where a thread could not be started. Nothing is written
+/// before all jobs are answered; after `Write` the first rows may be out, and after `OutOfMemory`
+/// too, where writing asked for memory.
+pub fn report_on<H, T, R, W>(
+    rt: &H,
+    alloc: Global,
+    n: u32,
+    dispatchers: u32,
+    capacity: usize,
+    runner: &T,
+    reader: &mut R,
+    writer: &mut W,
+) -> Result<(), Fault>
+where
+    H: Threads + Wait + Sync,
+    T: Runner + Sync,
+    R: Read + Device,
+    W: Write + Device,
+    requires limit { n ≤ MAX_DIM }
+    requires sizes { AreShopSizes dispatchers capacity }
+    ensures answered { IfSome (R.remaining reader.old) (λ bytes.
+        IsAnswerTo (Report n dispatchers capacity) bytes
+        (W.contents writer.old) (W.contents writer.new) result) }
+    ensures failed { IfErr result (IsRunFault (R.failures reader.old) (R.failures reader.new)
+        (W.failures writer.old) (W.failures writer.new)) }
+    ensures untouched { IfErr result (λ fault.
+        IsMetBeforeWriting fault → writer.new ≡ writer.old) }
+{
+    let finished = answer_file::<H, LockedLine, LockedFloor, T, R>(
+        rt,
+        alloc,
+        n,
+        dispatchers,
+        capacity,
+        runner,
+        reader,
+    )?;
+    let Ok(rows) = report_rows::<LockedFloor>(alloc, n, &finished) else {
+        return Err(Fault::no_memory());
+    };
+    jobs_csv::write_rows(alloc, rows, writer)
+}
