@@ -1,5 +1,5 @@
 -- The parse of the program's words.
-use Rattle.std.proofs.Common.{◌≡◌, ℕ, Some, true, List, refl, sym, ◌∙◌}
+use Rattle.std.proofs.Common.{◌≡◌, ℕ, Some, true, refl, sym, ◌∙◌}
 use Rattle.std.specs.Str.Parse.{digits_value, without_leading_plus}
 use Rattle.clap.specs.Words.{Text, is_simple, is_simple_and_free, one_text, rows_of}
 use Rattle.clap.specs.declared.parser.matches.Found.{Found}

@@ -1,5 +1,5 @@
 -- The lanes that a run opens.
-use Rattle.std.specs.Prelude.{◌≡◌, ℕ, ◌<◌, List, [], length, slice_index_or, All}
+use Rattle.std.specs.Prelude.{◌≡◌, ℕ, ◌<◌, List, [], length, slice_index_or}
 use Rattle.job_types.specs.Job.{JobData}
 use Rattle.jobs_csv.specs.Lanes.{in_lane}
 use Rattle.jobs_cli.specs.OpenLanes.{IsLaneCount}

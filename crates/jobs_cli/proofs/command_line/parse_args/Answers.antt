@@ -1,4 +1,4 @@
-use Rattle.std.proofs.Common.{◌≡◌, List, [], Some, ap, sym, subst, ◌∙◌, map, string_bytes}
+use Rattle.std.proofs.Common.{◌≡◌, List, [], ap, sym, subst, ◌∙◌, map, string_bytes}
 use Rattle.clap.specs.Words.{App, HasKind, Text, app_of, fault_of, is_simple, is_simple_and_free, subcommand_of, subcommand_rows_of}
 use Rattle.jobs_cli.specs.CommandLine.{program_app}
 use Rattle.jobs_cli.proofs.CommandLineLemmas.{program_is_free, program_is_simple}

@@ -1,4 +1,4 @@
-use Rattle.std.proofs.Common.{◌≡◌, List, Vec, Global, map, take, sym, ap, subst, ◌∙◌, rules}
+use Rattle.std.proofs.Common.{List, Vec, Global, map, take, sym, ap, subst, ◌∙◌, rules}
 use Rattle.std.proofs.lemmas.Result.{IfOk-weaker}
 use Rattle.job_types.specs.Job.{JobData}
 use Rattle.jobs_cli.specs.Inner.Lanes.{AreOpenLanes}
