@@ -161,7 +161,8 @@ impl Ledger {
             (below (λ l. (totals_of (is_of_lane l) self.now).jobs) lanes ≡ result.jobs)
             × (below (λ l. (totals_of (is_of_lane l) self.now).processors) lanes
             ≡ result.processors) }
-        ensures dims_sum { (below (λ k. (totals_of (is_of_dim k) self.now).jobs) (MAX_DIM + 1) ≡ result.jobs)
+        ensures dims_sum { (below (λ k. (totals_of (is_of_dim k) self.now).jobs) (MAX_DIM + 1)
+            ≡ result.jobs)
             × (below (λ k. (totals_of (is_of_dim k) self.now).processors) (MAX_DIM + 1)
             ≡ result.processors) }
     {
