@@ -22,8 +22,8 @@ reason_is stop_of us all_started closed spent is_c is_s =
     ∙ ap (λ (b : Bool). if all_started && not (list_any is_closed (map stop_of us)) && b then Spent else OutOfMemory) (is_s ∙ sym (any_part is_spent stop_of us))
 
 -- what is left of one lane is nothing for each, as of its job that came back and of those after it
-pub all_fed : {A : Type 0} (lane_of : A → ℕ) (left_of : A → List JobData) (us : List A) → All (λ u. left_of u ≡ []) us → AreAllFed (map (λ u. unfed_by (lane_of u) (left_of u)) us)
-all_fed lane_of left_of us all = All-map (λ (u : UnfedJobs). u.jobs ≡ []) (λ u. unfed_by (lane_of u) (left_of u)) us all
+pub all_fed : {A : Type 0} (lane_of : A → ℕ) (left_of : A → List JobData) (stop_of : A → Option FeedStop) (us : List A) → All (λ u. left_of u ≡ []) us → AreAllFed (map (λ u. unfed_by (lane_of u) (left_of u) (stop_of u)) us)
+all_fed lane_of left_of stop_of us all = All-map (λ (u : UnfedJobs). u.jobs ≡ []) (λ u. unfed_by (lane_of u) (left_of u) (stop_of u)) us all
 
-pub each_fed : {A : Type 0} (lane_of : A → ℕ) (left_of : A → List JobData) (us : List A) → AreAllFed (map (λ u. unfed_by (lane_of u) (left_of u)) us) → All (λ u. left_of u ≡ []) us
-each_fed lane_of left_of us all = of_parts (λ (u : UnfedJobs). u.jobs ≡ []) (λ u. unfed_by (lane_of u) (left_of u)) us all
+pub each_fed : {A : Type 0} (lane_of : A → ℕ) (left_of : A → List JobData) (stop_of : A → Option FeedStop) (us : List A) → AreAllFed (map (λ u. unfed_by (lane_of u) (left_of u) (stop_of u)) us) → All (λ u. left_of u ≡ []) us
+each_fed lane_of left_of stop_of us all = of_parts (λ (u : UnfedJobs). u.jobs ≡ []) (λ u. unfed_by (lane_of u) (left_of u) (stop_of u)) us all

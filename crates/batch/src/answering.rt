@@ -153,13 +153,13 @@ where
     ensures unfinished { IfErr result (λ stopped. MatchStopped stopped (λ why back. ⊤)
         (λ why end. IsRun n (map (λ js. js.items) jobs.items)
         (map (λ replies. replies.items) end.finished.by_worker.items) end.finished.rest.items
-        (map (λ u. unfed_by u.lane (given_back u.back ++ u.left.items)) end.unfed.items)
+        (map (λ u. unfed_by u.lane (given_back u.back ++ u.left.items) u.stop) end.unfed.items)
         × IsWhollyFree n (F.machine_words end.finished.machine))) }
     ensures reason { IfErr result (λ stopped. MatchStopped stopped (λ why back. ⊤)
         (λ why end. why ≡ reason_of end.all_started (map (λ u. u.stop) end.unfed.items))) }
     ensures not_done { IfErr result (λ stopped. MatchStopped stopped (λ why back. ⊤)
         (λ why end. end.all_started ≡ true → ¬ AreAllFed
-        (map (λ u. unfed_by u.lane (given_back u.back ++ u.left.items)) end.unfed.items))) }
+        (map (λ u. unfed_by u.lane (given_back u.back ++ u.left.items) u.stop) end.unfed.items))) }
 {
     match run::<R, L, F, T>(rt, alloc, n, dispatchers, capacity, runner, jobs) {
         Ok(end) => {

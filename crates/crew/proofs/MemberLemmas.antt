@@ -1,12 +1,17 @@
 -- What a feeder keeps.
-use Rattle.std.proofs.Common.{◌≡◌, ◌++◌, ◌∷◌, [], List, Option, Some, None, false, refl, ap, sym, subst, ◌∙◌}
+use Rattle.std.proofs.Common.{◌≡◌, ℕ, ◌≤◌, length, ◌++◌, ◌∷◌, [], List, Option, Some, None, false, refl, ap, sym, subst, ◌∙◌}
 use Rattle.std.specs.List.{All}
 use Rattle.std.specs.Option.{is_some, MatchOption}
 use Rattle.std.proofs.lemmas.Bool.{true≢false}
 use Rattle.std.proofs.lemmas.List.{append-nil}
 use Rattle.std.proofs.lemmas.List.Elements.{All-tail}
 use Rattle.job_types.specs.Job.{JobData}
-use Rattle.dispatcher.specs.Stop.{given_back}
+use Rattle.job_queue.specs.declared.job_line.TheConstants.{MAX_ENTRIES}
+use Rattle.job_queue.specs.declared.record.LaneRecord.{LaneRecord}
+use Rattle.dispatcher.specs.declared.feeding.FeedStop.{FeedStop}
+use Rattle.dispatcher.specs.declared.feeding.FeedStop.TheVariants.{Done, Closed, LaneSpent}
+use Rattle.dispatcher.specs.Stop.{given_back, EndsWith}
+use Rattle.crew.specs.Run.{IsStopOf}
 
 pub all_after : {A : Type 0} (P : A → Type 0) (xs ys : List A) → All P (xs ++ ys) → All P ys
 all_after P [] ys all = all
@@ -21,6 +26,12 @@ none_back (Some job) none = absurd (true≢false none)
 pub still : (accepted before : List JobData) (back_before back : Option JobData) (given left : List JobData) (all : List JobData) → given_back back_before ≡ [] → accepted ++ given_back back ++ left ≡ before ++ given
     → before ++ given_back back_before ++ given ≡ all → accepted ++ given_back back ++ left ≡ all
 still accepted before back_before back given left all none fed start = fed ∙ (sym (ap (λ (js : List JobData). js ++ given) (append-nil before)) ∙ (ap (λ (js : List JobData). before ++ js ++ given) (sym none) ∙ start))
+
+-- why a feed stopped, from what it says of each answer
+pub stop_of : (lane : LaneRecord) (left : List JobData) (stop : FeedStop) → (stop ≡ Done → left ≡ []) → ((seen : ℕ) → stop ≡ Closed seen → EndsWith lane.seen seen) → (stop ≡ LaneSpent → MAX_ENTRIES ≤ length lane.entries) → IsStopOf lane left (Some stop)
+stop_of lane left Done done closed spent = done refl
+stop_of lane left (Closed seen) done closed spent = closed seen refl
+stop_of lane left LaneSpent done closed spent = spent refl
 
 -- a worker that has ended is one that ended so
 pub ended : {W E : Type 0} (worker : Option W) (end : Option E) (e : E) (IsEnd : E → Type 0) (IsWorker : W → Type 0) → worker ≡ None → end ≡ Some e → IsEnd e → MatchOption worker (MatchOption end ⊥ IsEnd) IsWorker

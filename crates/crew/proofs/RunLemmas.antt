@@ -1,5 +1,5 @@
 -- What the members of a run say together.
-use Rattle.std.proofs.Common.{◌≡◌, ℕ, zero, suc, ◌+◌, ◌++◌, ◌∷◌, [], List, map, length, get_or, length-append, append_assoc, refl, sym, ap, ◌∙◌, arith}
+use Rattle.std.proofs.Common.{◌≡◌, ℕ, zero, suc, ◌+◌, ◌++◌, ◌∷◌, [], List, Option, map, length, get_or, length-append, append_assoc, refl, sym, ap, ◌∙◌, arith}
 use Rattle.std.specs.List.{All, AllZip}
 use Rattle.std.proofs.lemmas.List.{length-map}
 use Rattle.std.proofs.lemmas.List.Elements.{All-nil, All-cons, All-head, All-tail, All-push}
@@ -7,22 +7,32 @@ use Rattle.job_types.specs.Job.{JobData}
 use Rattle.job_queue.specs.declared.record.LaneRecord.{LaneRecord}
 use Rattle.job_queue.specs.declared.record.PassRecord.{PassRecord}
 use Rattle.job_queue.specs.Record.{fresh_lane, fresh_lanes, fresh_pass, fresh_passes, accepted, job_of, accepted_jobs}
-use Rattle.crew.specs.Run.{UnfedJobs, unfed_by}
+use Rattle.dispatcher.specs.declared.feeding.FeedStop.{FeedStop}
+use Rattle.crew.specs.Run.{UnfedJobs, unfed_by, IsStopOf}
 
 pub lanes_count : (count : ℕ) → length (fresh_lanes count) ≡ count
 lanes_count zero = refl
 lanes_count (suc count) = length-append (fresh_lanes count) (fresh_lane count ∷ []) ∙ omega (arith, lanes_count count)
 
 -- each lane's accepted jobs with what it did not hand in, side by side
-pub all_fed : {A N : Type 0} (lane_of : A → N) (record_of : N → LaneRecord) (back left : A → List JobData) (jobs : ℕ → List JobData) (xs : List A)
+pub all_fed : {A N : Type 0} (lane_of : A → N) (record_of : N → LaneRecord) (back left : A → List JobData) (stop : A → Option FeedStop) (jobs : ℕ → List JobData) (xs : List A)
     → All (λ x. accepted_jobs (record_of (lane_of x)) ++ back x ++ left x ≡ jobs (record_of (lane_of x)).number) xs
-    → AllZip (λ (l : LaneRecord) (u : UnfedJobs). (u.lane ≡ l.number) × (accepted_jobs l ++ u.jobs ≡ jobs l.number)) (map record_of (map lane_of xs)) (map (λ x. unfed_by (record_of (lane_of x)).number (back x ++ left x)) xs)
-all_fed lane_of record_of back left jobs [] all = tt
-all_fed {A} lane_of record_of back left jobs (x ∷ xs) all =
+    → AllZip (λ (l : LaneRecord) (u : UnfedJobs). (u.lane ≡ l.number) × (accepted_jobs l ++ u.jobs ≡ jobs l.number)) (map record_of (map lane_of xs)) (map (λ x. unfed_by (record_of (lane_of x)).number (back x ++ left x) (stop x)) xs)
+all_fed lane_of record_of back left stop jobs [] all = tt
+all_fed {A} lane_of record_of back left stop jobs (x ∷ xs) all =
     let Own : A → Type 0 = λ y. accepted_jobs (record_of (lane_of y)) ++ back y ++ left y ≡ jobs (record_of (lane_of y)).number in (
       (refl, sym (append_assoc (accepted_jobs (record_of (lane_of x))) (back x) (left x)) ∙ All-head Own x xs all),
-      all_fed lane_of record_of back left jobs xs (All-tail Own x xs all),
+      all_fed lane_of record_of back left stop jobs xs (All-tail Own x xs all),
     )
+
+-- each lane and why its feed stopped, side by side
+pub all_stopped : {A N : Type 0} (lane_of : A → N) (record_of : N → LaneRecord) (left : A → List JobData) (stop : A → Option FeedStop) (xs : List A)
+    → All (λ x. IsStopOf (record_of (lane_of x)) (left x) (stop x)) xs
+    → AllZip (λ (l : LaneRecord) (u : UnfedJobs). IsStopOf l u.jobs u.stop) (map record_of (map lane_of xs)) (map (λ x. unfed_by (record_of (lane_of x)).number (left x) (stop x)) xs)
+all_stopped lane_of record_of left stop [] all = tt
+all_stopped {A} lane_of record_of left stop (x ∷ xs) all =
+    let Own : A → Type 0 = λ y. IsStopOf (record_of (lane_of y)) (left y) (stop y) in
+    (All-head Own x xs all, all_stopped lane_of record_of left stop xs (All-tail Own x xs all))
 
 -- fresh passes have taken nothing
 pub none_taken : (count : ℕ) → All (λ (r : PassRecord). r.taken ≡ []) (fresh_passes count)
@@ -30,12 +40,12 @@ none_taken zero = All-nil (λ (r : PassRecord). r.taken ≡ [])
 none_taken (suc count) = All-push (λ (r : PassRecord). r.taken ≡ []) (fresh_passes count) (fresh_pass count) (none_taken count) refl
 
 -- as many jobs as were accepted and were not handed in, for each lane
-pub all_counted : {A N : Type 0} (lane_of : A → N) (record_of : N → LaneRecord) (back left : A → List JobData) (jobs : ℕ → List JobData) (counts : List ℕ) (xs : List A)
+pub all_counted : {A N : Type 0} (lane_of : A → N) (record_of : N → LaneRecord) (back left : A → List JobData) (stop : A → Option FeedStop) (jobs : ℕ → List JobData) (counts : List ℕ) (xs : List A)
     → All (λ x. accepted_jobs (record_of (lane_of x)) ++ back x ++ left x ≡ jobs (record_of (lane_of x)).number) xs
     → All (λ l. get_or counts (record_of l).number 0 ≡ length (accepted (record_of l).entries)) (map lane_of xs)
-    → All (λ (u : UnfedJobs). get_or counts u.lane 0 + length u.jobs ≡ length (jobs u.lane)) (map (λ x. unfed_by (record_of (lane_of x)).number (back x ++ left x)) xs)
-all_counted lane_of record_of back left jobs counts [] fed counted = All-nil (λ (u : UnfedJobs). get_or counts u.lane 0 + length u.jobs ≡ length (jobs u.lane))
-all_counted {A} {N} lane_of record_of back left jobs counts (x ∷ xs) fed counted =
+    → All (λ (u : UnfedJobs). get_or counts u.lane 0 + length u.jobs ≡ length (jobs u.lane)) (map (λ x. unfed_by (record_of (lane_of x)).number (back x ++ left x) (stop x)) xs)
+all_counted lane_of record_of back left stop jobs counts [] fed counted = All-nil (λ (u : UnfedJobs). get_or counts u.lane 0 + length u.jobs ≡ length (jobs u.lane))
+all_counted {A} {N} lane_of record_of back left stop jobs counts (x ∷ xs) fed counted =
     let Own : A → Type 0 = λ y. accepted_jobs (record_of (lane_of y)) ++ back y ++ left y ≡ jobs (record_of (lane_of y)).number in
     let Counted : N → Type 0 = λ l. get_or counts (record_of l).number 0 ≡ length (accepted (record_of l).entries) in
     let own : LaneRecord = record_of (lane_of x) in
@@ -44,5 +54,5 @@ all_counted {A} {N} lane_of record_of back left jobs counts (x ∷ xs) fed count
     let count : get_or counts own.number 0 ≡ length (accepted own.entries) = All-head Counted (lane_of x) (map lane_of xs) counted in
     let sum : get_or counts own.number 0 + length (back x ++ left x) ≡ length (jobs own.number) =
     omega (arith, size, whole, count, length-append (accepted_jobs own ++ back x) (left x), length-append (accepted_jobs own) (back x), length-append (back x) (left x)) in
-    All-cons (λ (u : UnfedJobs). get_or counts u.lane 0 + length u.jobs ≡ length (jobs u.lane)) (unfed_by own.number (back x ++ left x)) _ sum
-    (all_counted lane_of record_of back left jobs counts xs (All-tail Own x xs fed) (All-tail Counted (lane_of x) (map lane_of xs) counted))
+    All-cons (λ (u : UnfedJobs). get_or counts u.lane 0 + length u.jobs ≡ length (jobs u.lane)) (unfed_by own.number (back x ++ left x) (stop x)) _ sum
+    (all_counted lane_of record_of back left stop jobs counts xs (All-tail Own x xs fed) (All-tail Counted (lane_of x) (map lane_of xs) counted))

@@ -1,20 +1,34 @@
 -- What became of the jobs that were handed to a run.
-use Rattle.std.specs.Prelude.{◌≡◌, ℕ, ◌+◌, ◌<◌, ◌++◌, [], List, map, length, slice_index, slice_index_or}
+use Rattle.std.specs.Prelude.{◌≡◌, ℕ, ◌+◌, ◌<◌, ◌≤◌, ◌++◌, [], List, Option, Some, None, map, length, slice_index, slice_index_or}
 use Rattle.std.specs.List.{All, AllZip}
 use Rattle.histories.specs.Sums.{times}
 use Rattle.job_types.specs.Job.{JobData}
 use Rattle.job_types.specs.Reply.{ReplyData}
+use Rattle.job_queue.specs.declared.job_line.TheConstants.{MAX_ENTRIES}
 use Rattle.job_queue.specs.declared.record.LaneRecord.{LaneRecord}
 use Rattle.job_queue.specs.Record.{accepted_jobs}
+use Rattle.dispatcher.specs.declared.feeding.FeedStop.{FeedStop}
+use Rattle.dispatcher.specs.declared.feeding.FeedStop.TheVariants.{Done, Closed, LaneSpent}
 use Rattle.dispatcher.specs.Finished.{FinishedRun}
+use Rattle.dispatcher.specs.Stop.{EndsWith}
 
--- the jobs that a lane did not hand in
+-- the jobs that a lane did not hand in, and why its feed stopped, or None where it was never run
 pub record UnfedJobs : Type 0 where
   pub lane : ℕ
   pub jobs : List JobData
+  pub stop : Option FeedStop
 
-abbrev pub unfed_by : ℕ → List JobData → UnfedJobs
-unfed_by lane jobs = record { lane = lane; jobs = jobs }
+abbrev pub unfed_by : ℕ → List JobData → Option FeedStop → UnfedJobs
+unfed_by lane jobs stop = record { lane = lane; jobs = jobs; stop = stop }
+
+-- Why the feed of a lane stopped is as its record and what it did not hand in say: a lane whose feed was
+-- never run has made no entry; one that is done has nothing left; one that was refused has found the
+-- closed mark last, or has made as many entries as a lane may.
+abbrev pub IsStopOf : LaneRecord → List JobData → Option FeedStop → Type 0
+IsStopOf lane jobs None = lane.entries ≡ []
+IsStopOf lane jobs (Some Done) = jobs ≡ []
+IsStopOf lane jobs (Some (Closed seen)) = EndsWith lane.seen seen
+IsStopOf lane jobs (Some LaneSpent) = MAX_ENTRIES ≤ length lane.entries
 
 -- The jobs of each lane, the replies of each worker and of the rest, and what the lanes did not hand in.
 -- With the records of the lanes and the number of the close note:
@@ -25,6 +39,8 @@ pub record IsRun (n : ℕ) (jobs : List (List JobData)) (by_worker : List (List 
   pub finished : FinishedRun n lanes by_worker rest note
   -- what a lane accepted, followed by what it did not hand in, are its jobs
   pub fed : AllZip (λ l u. (u.lane ≡ l.number) × (accepted_jobs l ++ u.jobs ≡ slice_index_or jobs l.number [])) lanes unfed
+  -- each feed stopped as it says
+  pub stops : AllZip (λ l u. IsStopOf l u.jobs u.stop) lanes unfed
   -- the lanes are the numbers below the count, each once
   pub numbers : (k : ℕ) → k < length jobs → times k (map (λ l. l.number) lanes) ≡ 1
 

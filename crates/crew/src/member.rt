@@ -7,6 +7,7 @@ ghost use Rattle.job_queue.specs.Line.{IsFor};
 ghost use Rattle.dispatcher.specs.Reply.{answered, region_of, IsRight};
 ghost use Rattle.dispatcher.specs.Shop.{room_for};
 ghost use Rattle.dispatcher.specs.Stop.{given_back};
+ghost use Rattle.crew.specs.Run.{IsStopOf};
 
 use dispatcher::{
     CloseNote, Closer, FeedEnd, FeedStop, Runner, Shop, Stop, Worker, WorkerEnd, dispatch, feed,
@@ -55,6 +56,7 @@ impl<J: Naming, L: JobLine> Model for Feeder<J, L> {
     ghost use Rattle.job_queue.specs.Record.{accepted_jobs};
     ghost use Rattle.job_queue.specs.Line.{IsFor};
     ghost use Rattle.dispatcher.specs.Stop.{given_back};
+    ghost use Rattle.crew.specs.Run.{IsStopOf};
 
     ghost Value = { Unit {0} };
 
@@ -63,7 +65,8 @@ impl<J: Naming, L: JobLine> Model for Feeder<J, L> {
     ghost invariant = { λ f. L.is_lane J.shop.line f.lane
         × All (IsFor J.shop.line.sizes.machine (L.lane_record f.lane).number) f.left.items
         × (accepted_jobs (L.lane_record f.lane) ++ given_back f.back ++ f.left.items
-        ≡ J.jobs (L.lane_record f.lane).number) };
+        ≡ J.jobs (L.lane_record f.lane).number)
+        × IsStopOf (L.lane_record f.lane) (given_back f.back ++ f.left.items) f.stop };
 }
 
 /// What became of a feeder.
@@ -85,6 +88,7 @@ impl<J: Naming, L: JobLine> Feeder<J, L> {
             jobs.items }
         requires jobs { accepted_jobs (L.lane_record lane) ++ jobs.items
             ≡ J.jobs (L.lane_record lane).number }
+        requires no_entries { (L.lane_record lane).entries ≡ [] }
     {
         Feeder {
             lane,
@@ -113,6 +117,8 @@ impl<J: Naming, L: JobLine> Feeder<J, L> {
         ensures lane { L.is_lane J.shop.line result.lane }
         ensures jobs { accepted_jobs (L.lane_record result.lane) ++ given_back result.back
             ++ result.left.items ≡ J.jobs (L.lane_record result.lane).number }
+        ensures stop { IsStopOf (L.lane_record result.lane)
+            (given_back result.back ++ result.left.items) result.stop }
     {
         let Feeder {
             lane,

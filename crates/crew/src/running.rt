@@ -97,9 +97,9 @@ fn part<L: JobLine>(
     requires lane_room { length fed.items ≤ vec_capacity lanes }
     requires room { length fed.items ≤ vec_capacity unfed }
     ensures lanes { result.0.items ≡ map (λ f. f.lane) fed.items }
-    ensures unfed { map (λ u. unfed_by u.lane (given_back u.back ++ u.left.items)) result.1.items
-        ≡ map (λ f. unfed_by (L.lane_record f.lane).number (given_back f.back ++ f.left.items))
-        fed.items }
+    ensures unfed { map (λ u. unfed_by u.lane (given_back u.back ++ u.left.items) u.stop)
+        result.1.items ≡ map (λ f. unfed_by (L.lane_record f.lane).number
+        (given_back f.back ++ f.left.items) f.stop) fed.items }
 {
     let mut fed = VecDeque::from_vec(fed);
     while let Some(one) = fed.pop_front() {
@@ -171,11 +171,11 @@ where
         × (length opened.lanes.items ≤ vec_capacity room.unfed) }
     ensures run { IsRun J.shop.floor.dim (map (λ js. js.items) jobs.items)
         (map (λ replies. replies.items) result.finished.by_worker.items) result.finished.rest.items
-        (map (λ u. unfed_by u.lane (given_back u.back ++ u.left.items)) result.unfed.items) }
+        (map (λ u. unfed_by u.lane (given_back u.back ++ u.left.items) u.stop) result.unfed.items) }
     ensures workers { length result.finished.by_worker.items ≡ J.shop.line.sizes.passes }
     ensures started { result.all_started ≡ true → All (λ u. IsSome u.stop) result.unfed.items }
     ensures counts { AreCounts (map (λ js. js.items) jobs.items) result.finished.accepted.items
-        (map (λ u. unfed_by u.lane (given_back u.back ++ u.left.items)) result.unfed.items) }
+        (map (λ u. unfed_by u.lane (given_back u.back ++ u.left.items) u.stop) result.unfed.items) }
     ensures dim { F.machine_dim result.finished.machine ≡ J.shop.floor.dim }
     ensures free { IsWhollyFree J.shop.floor.dim (F.machine_words result.finished.machine) }
 {
@@ -250,13 +250,13 @@ where
         All (IsFor n k) (slice_index_or (map (λ js. js.items) jobs.items) k []) }
     ensures run { IfOk result (λ end. IsRun n (map (λ js. js.items) jobs.items)
         (map (λ replies. replies.items) end.finished.by_worker.items) end.finished.rest.items
-        (map (λ u. unfed_by u.lane (given_back u.back ++ u.left.items)) end.unfed.items)) }
+        (map (λ u. unfed_by u.lane (given_back u.back ++ u.left.items) u.stop) end.unfed.items)) }
     ensures workers { IfOk result (λ end. length end.finished.by_worker.items ≡ dispatchers) }
     ensures started { IfOk result (λ end.
         end.all_started ≡ true → All (λ u. IsSome u.stop) end.unfed.items) }
     ensures counts { IfOk result (λ end. AreCounts (map (λ js. js.items) jobs.items)
         end.finished.accepted.items
-        (map (λ u. unfed_by u.lane (given_back u.back ++ u.left.items)) end.unfed.items)) }
+        (map (λ u. unfed_by u.lane (given_back u.back ++ u.left.items) u.stop) end.unfed.items)) }
     ensures dim { IfOk result (λ end. F.machine_dim end.finished.machine ≡ n) }
     ensures free { IfOk result (λ end.
         IsWhollyFree n (F.machine_words end.finished.machine)) }

@@ -5,10 +5,10 @@ ghost use Rattle.std.specs.Vec.{vec_capacity};
 ghost use Rattle.dispatcher.specs.Reply.{answered, region_of, IsRight};
 ghost use Rattle.dispatcher.specs.Stop.{EndsWithSeal};
 
+use crate::pause::Pause;
 use crate::runner::Runner;
 use crate::serving::serve;
 use crate::shop::{Shop, Stop, Worker, WorkerEnd};
-use crossbeam_utils::Backoff;
 use floors::Floor;
 use job_queue::{JobLine, Taken};
 use std::alloc::Global;
@@ -46,7 +46,7 @@ pub fn dispatch<R: Wait, L: JobLine, F: Floor, T: Runner>(
         mut station,
     } = worker;
     let mut replies = Vec::new(alloc);
-    let backoff = Backoff::new();
+    let mut pause = Pause::new();
     for _ in rt.forever() {
         let Ok(()) = replies.reserve(1) else {
             return WorkerEnd {
@@ -61,9 +61,9 @@ pub fn dispatch<R: Wait, L: JobLine, F: Floor, T: Runner>(
                 let (back, reply) = serve(rt, &shop.floor, runner, station, id, job);
                 station = back;
                 replies.push_reserved(reply);
-                backoff.reset();
+                pause.reset();
             }
-            Taken::EmptyNow => backoff.snooze(),
+            Taken::EmptyNow => pause.wait(rt),
             Taken::Ended => {
                 return WorkerEnd {
                     pass,

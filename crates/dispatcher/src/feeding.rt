@@ -6,8 +6,8 @@ ghost use Rattle.job_queue.specs.Record.{accepted_jobs, IsSettled};
 ghost use Rattle.job_queue.specs.Line.{IsFor};
 ghost use Rattle.dispatcher.specs.Stop.{given_back, EndsWith};
 
+use crate::pause::Pause;
 use crate::shop::Shop;
-use crossbeam_utils::Backoff;
 use floors::Floor;
 use job_queue::{JobLine, MAX_ENTRIES, Refused};
 use job_types::Job;
@@ -66,7 +66,7 @@ pub fn feed<R: Wait, L: JobLine, F: Floor>(
         MAX_ENTRIES ≤ length (L.lane_record lane.new).entries }
 {
     let mut left = jobs;
-    let backoff = Backoff::new();
+    let mut pause = Pause::new();
     for _ in rt.forever() {
         let Some(job) = left.pop_front() else {
             return FeedEnd {
@@ -76,13 +76,13 @@ pub fn feed<R: Wait, L: JobLine, F: Floor>(
             };
         };
         let Err((job, refused)) = shop.line.submit(rt, lane, job) else {
-            backoff.reset();
+            pause.reset();
             continue;
         };
         let stop = match refused {
             Refused::Full => {
                 left.push_front_reserved(job);
-                backoff.snooze();
+                pause.wait(rt);
                 continue;
             }
             Refused::Closed { seen } => FeedStop::Closed { seen },

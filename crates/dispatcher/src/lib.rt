@@ -10,6 +10,7 @@ mod dispatching;
 mod feeding;
 mod finishing;
 mod opening;
+mod pause;
 mod room;
 mod runner;
 mod serving;

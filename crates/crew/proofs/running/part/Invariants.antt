@@ -7,8 +7,8 @@ use Rattle.crew.proofs.running.part.Given as goal
 abbrev pub invariant-loop-one : goal.invariant-loop-one
 invariant-loop-one g l = let line = g.L.JobLine in
     (l.lanes.items ++ map (λ f. f.lane) l.fed.items ≡ map (λ f. f.lane) l.fn.fed.items)
-    × (map (λ u. unfed_by u.lane (given_back u.back ++ u.left.items)) l.unfed.items ++ map (λ f. unfed_by (line.lane_record f.lane).number (given_back f.back ++ f.left.items)) l.fed.items
-    ≡ map (λ f. unfed_by (line.lane_record f.lane).number (given_back f.back ++ f.left.items)) l.fn.fed.items)
+    × (map (λ u. unfed_by u.lane (given_back u.back ++ u.left.items) u.stop) l.unfed.items ++ map (λ f. unfed_by (line.lane_record f.lane).number (given_back f.back ++ f.left.items) f.stop) l.fed.items
+    ≡ map (λ f. unfed_by (line.lane_record f.lane).number (given_back f.back ++ f.left.items) f.stop) l.fn.fed.items)
     × (vec_len l.lanes + length l.fed.items ≤ vec_capacity l.lanes)
     × (vec_len l.unfed + length l.fed.items ≤ vec_capacity l.unfed)
 

@@ -11,8 +11,8 @@ use Rattle.dispatcher.specs.Stop.{given_back}
 use Rattle.dispatcher.specs.Finished.{FinishedRun}
 use Rattle.dispatcher.proofs.WorkLemmas.{at_line, at_floor}
 use Rattle.dispatcher.proofs.OpenLemmas.{map_twice}
-use Rattle.crew.specs.Run.{UnfedJobs, unfed_by}
-use Rattle.crew.proofs.RunLemmas.{lanes_count, all_fed, all_counted}
+use Rattle.crew.specs.Run.{UnfedJobs, unfed_by, IsStopOf}
+use Rattle.crew.proofs.RunLemmas.{lanes_count, all_fed, all_stopped, all_counted}
 use Rattle.crew.proofs.running.run_named.Goals as goal
 
 pub man_posts-posts-requires-clause-passes : goal.man_posts-posts-requires-clause-passes
@@ -56,15 +56,18 @@ returns-clause-run g c =
     let lanes = c.part-lanes.result.0.items in
     let jobs = map (λ js. js.items) c.args.jobs.items in
     let Own : LaneRecord → UnfedJobs → Type 0 = λ l u. (u.lane ≡ l.number) × (accepted_jobs l ++ u.jobs ≡ get_or jobs l.number []) in
-    let together = all_fed (λ f. f.lane) line.lane_record (λ f. given_back f.back) (λ f. f.left.items) (λ k. get_or jobs k []) fed
+    let together = all_fed (λ f. f.lane) line.lane_record (λ f. given_back f.back) (λ f. f.left.items) (λ f. f.stop) (λ k. get_or jobs k []) fed
     (All-weaker (λ f. accepted_jobs (line.lane_record f.lane) ++ given_back f.back ++ f.left.items ≡ g.J.Naming.jobs (line.lane_record f.lane).number) (λ f. accepted_jobs (line.lane_record f.lane) ++ given_back f.back ++ f.left.items ≡ get_or jobs (line.lane_record f.lane).number [])
     (λ f own. own ∙ sym (c.requires.jobs (line.lane_record f.lane).number)) fed c.relieve_feeders.ensures.jobs) in
-    let by_lane = subst (λ ls. AllZip Own (map line.lane_record ls) (map (λ f. unfed_by (line.lane_record f.lane).number (given_back f.back ++ f.left.items)) fed)) (sym c.part-lanes.ensures.lanes) together in
+    let by_lane = subst (λ ls. AllZip Own (map line.lane_record ls) (map (λ f. unfed_by (line.lane_record f.lane).number (given_back f.back ++ f.left.items) f.stop) fed)) (sym c.part-lanes.ensures.lanes) together in
     record {
       lanes = map line.lane_record lanes;
       note = line.note_number c.into_note-note.result.line;
       finished = at_floor (λ i. FinishedRun i.dim (map line.lane_record lanes) (map (λ v. v.items) c.finish.result.by_worker.items) c.finish.result.rest.items (line.note_number c.into_note-note.result.line)) _ _ c.requires.shop c.finish.ensures.finished;
       fed = subst (λ us. AllZip Own (map line.lane_record lanes) us) (sym c.part-lanes.ensures.unfed) by_lane;
+      stops = subst (λ us. AllZip (λ (l : LaneRecord) (u : UnfedJobs). IsStopOf l u.jobs u.stop) (map line.lane_record lanes) us) (sym c.part-lanes.ensures.unfed)
+      (subst (λ ls. AllZip (λ (l : LaneRecord) (u : UnfedJobs). IsStopOf l u.jobs u.stop) (map line.lane_record ls) (map (λ f. unfed_by (line.lane_record f.lane).number (given_back f.back ++ f.left.items) f.stop) fed)) (sym c.part-lanes.ensures.lanes)
+      (all_stopped (λ f. f.lane) line.lane_record (λ f. given_back f.back ++ f.left.items) (λ f. f.stop) fed c.relieve_feeders.ensures.stops));
       numbers = λ k below. ap (times k) (map_twice line.lane_record (λ (l : LaneRecord). l.number) lanes) ∙ c.finish.ensures.lane_numbers k (omega (arith, below, length-map c.args.jobs.items (λ js. js.items), c.requires.all_lanes));
     }
 
@@ -89,5 +92,5 @@ returns-clause-counts g c =
     let counted = subst (All (λ l. get_or counts (line.lane_record l).number 0 ≡ length (accepted (line.lane_record l).entries))) c.part-lanes.ensures.lanes c.finish.ensures.accepted in
     record {
       lanes = c.finish.ensures.lane_count ∙ (c.requires.all_lanes ∙ sym (length-map c.args.jobs.items (λ js. js.items)));
-      sums = subst (All Sums) (sym c.part-lanes.ensures.unfed) (all_counted (λ f. f.lane) line.lane_record (λ f. given_back f.back) (λ f. f.left.items) (λ k. get_or jobs k []) counts fed own counted);
+      sums = subst (All Sums) (sym c.part-lanes.ensures.unfed) (all_counted (λ f. f.lane) line.lane_record (λ f. given_back f.back) (λ f. f.left.items) (λ f. f.stop) (λ k. get_or jobs k []) counts fed own counted);
     }

@@ -5,6 +5,7 @@ use Rattle.job_queue.specs.declared.record.LaneRecord.{LaneRecord}
 use Rattle.job_queue.specs.Record.{accepted_jobs}
 use Rattle.job_queue.specs.Line.{IsFor}
 use Rattle.dispatcher.specs.Stop.{given_back}
+use Rattle.crew.specs.Run.{IsStopOf}
 use Rattle.crew.proofs.SlotLemmas.{all_front, all_pushed, longer, fresh_pop, last_named, rest_named}
 use Rattle.crew.proofs.slots.man_feeders.Goals as goal
 
@@ -20,7 +21,7 @@ new-requires-clause-made_for g c =
     let own = (fresh_pop line.lane_record c.loop-lane.lanes.items c.pop.new.self.items c.in-Some.lane (length jobs) (length rest) inv.1 c.in-Some.ensures.items (omega (arith, one_less))).1 in
     let named = last_named (λ js. js.items) g.J.Naming.jobs jobs rest list c.in-Some-pop.ensures.items inv.2 in
     subst (λ (r : LaneRecord). All (IsFor machine r.number) list.items) (sym own)
-    (All-same (IsFor machine (length rest)) list.items _ named (c.requires.made_for (length rest) (omega (arith, one_less, inv.5))))
+    (All-same (IsFor machine (length rest)) list.items _ named (c.requires.made_for (length rest) (omega (arith, one_less, inv.6))))
 
 pub new-requires-clause-jobs : goal.new-requires-clause-jobs
 new-requires-clause-jobs g c =
@@ -33,6 +34,16 @@ new-requires-clause-jobs g c =
     let own = (fresh_pop line.lane_record c.loop-lane.lanes.items c.pop.new.self.items c.in-Some.lane (length jobs) (length rest) inv.1 c.in-Some.ensures.items (omega (arith, one_less))).1 in
     ap (λ (r : LaneRecord). accepted_jobs r ++ list.items) own
     ∙ (last_named (λ js. js.items) g.J.Naming.jobs jobs rest list c.in-Some-pop.ensures.items inv.2 ∙ sym (ap (λ (r : LaneRecord). g.J.Naming.jobs r.number) own))
+
+pub new-requires-clause-no_entries : goal.new-requires-clause-no_entries
+new-requires-clause-no_entries g c =
+    let line = g.L.JobLine in
+    let inv = c.loop-lane.invariant in
+    let jobs = c.loop-lane.jobs.items in
+    let rest = c.pop-in-Some.new.self.items in
+    let one_less = longer rest jobs c.in-Some-pop.list c.in-Some-pop.ensures.items in
+    let own = (fresh_pop line.lane_record c.loop-lane.lanes.items c.pop.new.self.items c.in-Some.lane (length jobs) (length rest) inv.1 c.in-Some.ensures.items (omega (arith, one_less))).1 in
+    ap (λ (r : LaneRecord). r.entries) own
 
 pub loop-lane-preserved-in-Err : goal.loop-lane-preserved-in-Err
 loop-lane-preserved-in-Err g c =
@@ -54,10 +65,11 @@ loop-lane-preserved-in-Err g c =
       rest_named (λ js. js.items) g.J.Naming.jobs jobs rest list c.in-Some-pop.ensures.items inv.2,
       all_pushed (λ f. line.is_lane shop.line f.lane) old new fed pushed inv.3 c.into_parts.ensures.lane,
       all_pushed (λ f. accepted_jobs (line.lane_record f.lane) ++ given_back f.back ++ f.left.items ≡ g.J.Naming.jobs (line.lane_record f.lane).number) old new fed pushed inv.4 c.into_parts.ensures.jobs,
-      omega (arith, one_less, inv.5),
-      omega (arith, inv.6, c.in-Err.ensures.len, longer old new fed pushed, longer left lanes c.in-Some.lane c.in-Some.ensures.items),
-      omega (arith, inv.7, c.push_reserved.ensures.capacity),
-      omega (arith, inv.8, c.in-Some.ensures.capacity),
+      all_pushed (λ f. IsStopOf (line.lane_record f.lane) (given_back f.back ++ f.left.items) f.stop) old new fed pushed inv.5 c.into_parts.ensures.stop,
+      omega (arith, one_less, inv.6),
+      omega (arith, inv.7, c.in-Err.ensures.len, longer old new fed pushed, longer left lanes c.in-Some.lane c.in-Some.ensures.items),
+      omega (arith, inv.8, c.push_reserved.ensures.capacity),
+      omega (arith, inv.9, c.in-Some.ensures.capacity),
     )
 
 pub loop-lane-preserved : goal.loop-lane-preserved
@@ -76,8 +88,9 @@ loop-lane-preserved g c =
       rest_named (λ js. js.items) g.J.Naming.jobs jobs rest list c.in-Some-pop.ensures.items inv.2,
       inv.3,
       inv.4,
-      omega (arith, one_less, inv.5),
-      omega (arith, inv.6, c.in_default-push.ensures.len, longer left lanes c.in-Some.lane c.in-Some.ensures.items),
-      inv.7,
-      omega (arith, inv.8, c.in-Some.ensures.capacity),
+      inv.5,
+      omega (arith, one_less, inv.6),
+      omega (arith, inv.7, c.in_default-push.ensures.len, longer left lanes c.in-Some.lane c.in-Some.ensures.items),
+      inv.8,
+      omega (arith, inv.9, c.in-Some.ensures.capacity),
     )

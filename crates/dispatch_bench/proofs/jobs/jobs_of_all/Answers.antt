@@ -1,7 +1,7 @@
 use Rattle.std.proofs.Common.{◌+◌, ℕ, sym, subst, ap, ◌∙◌}
 use Rattle.std.specs.List.{All}
 use Rattle.job_queue.specs.Line.{IsFor}
-use Rattle.dispatch_bench.proofs.ListLemmas.{longer, all_listed}
+use Rattle.crew.proofs.SlotLemmas.{longer, all_listed}
 use Rattle.dispatch_bench.proofs.jobs.jobs_of_all.Goals as goal
 
 pub loop-lane-preserved : goal.loop-lane-preserved

@@ -4,7 +4,7 @@ use Rattle.job_queue.specs.Record.{accepted_jobs}
 use Rattle.job_queue.specs.Line.{IsFor}
 use Rattle.dispatcher.specs.Shop.{ShopId}
 use Rattle.dispatcher.specs.Stop.{given_back}
-use Rattle.crew.proofs.MemberLemmas.{all_after, none_back, still}
+use Rattle.crew.proofs.MemberLemmas.{all_after, none_back, still, stop_of}
 use Rattle.crew.proofs.member.Feeder.feed.Goals as goal
 
 pub invariant_of-self : goal.invariant_of-self
@@ -20,4 +20,5 @@ invariant_of-self g c =
       all_after (IsFor g.J.Naming.shop.line.sizes.machine record_after.number) (given_back feed.result.back) left all,
       still _ _ c.self.inside.back feed.result.back c.self.inside.left.items left _ none
           (feed.ensures.fed ∙ ap (λ q. accepted_jobs (line.lane_record c.self.inside.lane) ++ q.items) c.replace-jobs.ensures.value) inv.2 ∙ ap g.J.Naming.jobs (sym feed.ensures.number),
+      stop_of record_after (given_back feed.result.back ++ left) feed.result.stop feed.ensures.done feed.ensures.closed feed.ensures.spent,
     )
