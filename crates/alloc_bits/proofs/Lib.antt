@@ -1,3 +1,2 @@
 mod SlotLemmas
-mod BitLemmas
-mod RepresentsLemmas
+mod HoldingsLemmas

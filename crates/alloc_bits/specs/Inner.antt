@@ -1,12 +1,12 @@
 -- No public contract cites these: how the bits and the stations' slots represent an allocation.
-use Rattle.std.specs.Prelude.{◌≡◌, ℕ, suc, ◌-◌, ◌^◌, ◌<◌, ◌≤◌, Bool, true, false, List, [], ◌∷◌, length, slice_index_or, Option, Some, None, refl}
+use Rattle.std.specs.Prelude.{◌≡◌, ℕ, suc, Bool, List, [], ◌∷◌, length, slice_index_or, Option, Some, None, refl}
 use Rattle.std.specs.Coded.{Coded, code_by, coded×, coded_ℕ}
 use Rattle.std.specs.Ordering.{nat_cmp}
 use Rattle.std.specs.FinMap.{FinMap, code, from_entries}
-use Rattle.cube_shape.specs.declared.limits.TheConstants.{MAX_DIM, MAX_STATIONS}
+use Rattle.cube_shape.specs.declared.limits.TheConstants.{MAX_STATIONS}
 use Rattle.cube_shape.specs.declared.region.Region.{Region}
-use Rattle.cube_shape.specs.Region.{Covers, block}
-use Rattle.cube_shape.specs.Machine.{Holdings, IsLawful}
+use Rattle.cube_shape.specs.Machine.{Holdings}
+use Rattle.region_bits.specs.Represents.{Represents}
 use Rattle.alloc_bits.specs.Allocation.{Allocation}
 
 -- what the slot of a station holds; there is nothing past the slots
@@ -23,29 +23,10 @@ pairs_from station (Some region ∷ slots) = (station, region) ∷ pairs_from (s
 unfoldable pub pairs_of : List (Option Region) → FinMap nat_cmp Region
 pairs_of slots = from_entries (pairs_from 0 slots)
 
--- whether the bit of a processor is set
-abbrev pub bit_of : List Bool → ℕ → Bool
-bit_of bits p = slice_index_or bits p false
-
--- no bit of the region is set
-abbrev pub IsClear : List Bool → Region → Type 0
-IsClear bits r = (p : ℕ) → Covers r p → bit_of bits p ≡ false
-
--- the least m such that the region (m, k) is clear
-pub record IsFirstClear (n k : ℕ) (bits : List Bool) (m : ℕ) : Type 0 where
-  pub in_cube : m < 2 ^ (n - k)
-  pub clear : IsClear bits (block k m)
-  pub least : (i : ℕ) → i < m → IsClear bits (block k i) → ⊥
-
--- there is a bit for each processor, and those of the held regions are set
-pub record Represents (n : ℕ) (slots : List (Option Region)) (bits : List Bool) : Type 0 where
-  pub dim_in_limits : n ≤ MAX_DIM
-  pub bit_count : length bits ≡ 2 ^ n
+-- there is a slot for each station, and the bits represent what the slots hold
+pub record IsConsistent (n : ℕ) (slots : List (Option Region)) (bits : List Bool) : Type 0 where
   pub slot_count : length slots ≡ MAX_STATIONS
-  pub lawful : IsLawful n (slot_of slots)
-  pub set : (s p : ℕ) (a : Region) → slot_of slots s ≡ Some a → Covers a p → bit_of bits p ≡ true
-  pub clear : (p : ℕ) → ((s : ℕ) (a : Region) → slot_of slots s ≡ Some a → Covers a p → ⊥)
-      → bit_of bits p ≡ false
+  pub represents : Represents n (slot_of slots) bits
 
 -- a region is stored as its two numbers, and an allocation as its two parts
 abbrev pub region_code : Coded Region

@@ -5,8 +5,9 @@ ghost use Rattle.cube_shape.specs.Region.{Covers, block};
 ghost use Rattle.cube_shape.specs.Machine.{Gives, HasNoFit, IsFirstFit, IsLawful, TakesBack};
 ghost use Rattle.alloc_bits.specs.Allocation.{held_in};
 
-use crate::{bits, slots};
+use crate::slots;
 use cube_shape::{MAX_DIM, MAX_STATIONS, Region};
+use region_bits::{clear_region, first_fit, set_region};
 use std::alloc::{AllocError, Global};
 use std::marker::Model;
 use thiserror::Error;
@@ -34,7 +35,7 @@ pub struct AllocBits {
 
 impl Model for AllocBits {
     ghost use Rattle.alloc_bits.specs.Allocation.{Allocation};
-    ghost use Rattle.alloc_bits.specs.Inner.{Represents, allocation_code, pairs_of};
+    ghost use Rattle.alloc_bits.specs.Inner.{IsConsistent, allocation_code, pairs_of};
 
     ghost Value = { Allocation };
 
@@ -42,7 +43,7 @@ impl Model for AllocBits {
 
     ghost view = { λ a. record { dim = a.dim; pairs = pairs_of a.slots.items } };
 
-    ghost invariant = { λ a. Represents a.dim a.slots.items a.bits.items };
+    ghost invariant = { λ a. IsConsistent a.dim a.slots.items a.bits.items };
 }
 
 impl AllocBits {
@@ -116,10 +117,10 @@ impl AllocBits {
         ensures unchanged { OnErr result (self.new ≡ self.old) }
         ensures dim_stays { self.new.dim ≡ self.old.dim }
     {
-        let Some(region) = bits::first_clear(&self.bits, self.dim, k) else {
+        let Some(region) = first_fit(&self.bits, self.dim, k) else {
             return Err(NoSubcube);
         };
-        bits::write(&mut self.bits, self.dim, region, true);
+        set_region(&mut self.bits, self.dim, region);
         slots::set_slot(&mut self.slots, station, Some(region));
         Ok(region)
     }
@@ -137,7 +138,7 @@ impl AllocBits {
         let Some(region) = slots::region_of(&self.slots, station) else {
             return Err(NothingHeld);
         };
-        bits::write(&mut self.bits, self.dim, region, false);
+        clear_region(&mut self.bits, self.dim, region);
         slots::set_slot(&mut self.slots, station, None);
         Ok(region)
     }

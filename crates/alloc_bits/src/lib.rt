@@ -8,7 +8,6 @@
 #![tactic(auto)]
 
 mod alloc_bits;
-mod bits;
 mod slots;
 
 pub use alloc_bits::{AllocBits, NoSubcube, NothingHeld};

@@ -1,7 +1,7 @@
 use Rattle.std.proofs.Common.{◌≡◌, ℕ, Some, IfSome, IfNone}
 use Rattle.cube_shape.specs.declared.region.Region.{Region}
 use Rattle.cube_shape.specs.Region.{Covers}
-use Rattle.alloc_bits.proofs.RepresentsLemmas.{of_slots}
+use Rattle.alloc_bits.proofs.HoldingsLemmas.{of_slots}
 use Rattle.alloc_bits.proofs.alloc_bits.AllocBits.holder.Goals as goal
 
 pub returns-clause-held : goal.returns-clause-held

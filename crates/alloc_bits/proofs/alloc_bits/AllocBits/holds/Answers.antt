@@ -2,7 +2,7 @@ use Rattle.std.proofs.Common.{◌≡◌, ◌∙◌, ap, rules}
 use Rattle.alloc_bits.specs.Allocation.{held_in}
 use Rattle.alloc_bits.specs.Inner.{slot_of}
 use Rattle.cube_shape.specs.Machine.{IsLawful}
-use Rattle.alloc_bits.proofs.RepresentsLemmas.{of_slots}
+use Rattle.alloc_bits.proofs.HoldingsLemmas.{of_slots}
 use Rattle.alloc_bits.proofs.alloc_bits.AllocBits.holds.Goals as goal
 
 pub returns-clause-held : goal.returns-clause-held
@@ -14,4 +14,4 @@ returns-clause-held c =
 
 pub returns-clause-lawful : goal.returns-clause-lawful
 returns-clause-lawful c =
-    of_slots (λ n held. IsLawful n held) c.self.inside.dim c.self.inside.slots.items c.args.self.now c.self.view_is c.self.invariant.lawful
+    of_slots (λ n held. IsLawful n held) c.self.inside.dim c.self.inside.slots.items c.args.self.now c.self.view_is c.self.invariant.represents.lawful

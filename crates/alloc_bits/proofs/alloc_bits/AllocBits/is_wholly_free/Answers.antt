@@ -1,5 +1,5 @@
 use Rattle.std.proofs.Common.{◌≡◌, ℕ, ◌↔◌, IsTrue, None}
-use Rattle.alloc_bits.proofs.RepresentsLemmas.{of_slots}
+use Rattle.alloc_bits.proofs.HoldingsLemmas.{of_slots}
 use Rattle.alloc_bits.proofs.alloc_bits.AllocBits.is_wholly_free.Goals as goal
 
 pub returns : goal.returns

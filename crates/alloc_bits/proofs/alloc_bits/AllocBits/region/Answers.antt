@@ -1,6 +1,6 @@
 use Rattle.std.proofs.Common.{◌≡◌, ◌∙◌, ap}
 use Rattle.alloc_bits.specs.Inner.{slot_of}
-use Rattle.alloc_bits.proofs.RepresentsLemmas.{of_slots}
+use Rattle.alloc_bits.proofs.HoldingsLemmas.{of_slots}
 use Rattle.alloc_bits.proofs.alloc_bits.AllocBits.region.Goals as goal
 
 pub returns : goal.returns

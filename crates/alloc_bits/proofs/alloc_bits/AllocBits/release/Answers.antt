@@ -2,7 +2,7 @@ use Rattle.std.proofs.Common.{◌≡◌, sym, ◌∙◌, ap, subst, None, ◌++�
 use Rattle.std.specs.FinMap.{get}
 use Rattle.cube_shape.specs.Machine.{TakesBack}
 use Rattle.alloc_bits.specs.Inner.{slot_of, pairs_of}
-use Rattle.alloc_bits.proofs.RepresentsLemmas.{of_slots, Represents-taken_back, Represents-written, holdings_written}
+use Rattle.alloc_bits.proofs.HoldingsLemmas.{of_slots, IsConsistent-written, holdings_written}
 use Rattle.alloc_bits.proofs.alloc_bits.AllocBits.release.Goals as goal
 
 pub returns-in_default-clause-refused : goal.returns-in_default-clause-refused
@@ -17,11 +17,10 @@ invariant_of-self c =
     let others = rw c.deref_mut-2.ensures.value at c.set_slot.ensures.others in
     let back : TakesBack c.args.station (slot_of c.self.inside.slots.items) (slot_of c.set_slot.new.slots) c.in-Some.region =
     record { held = was; idle = c.set_slot.ensures.own; others = others } in
-    let same_bits = rw c.deref_mut.ensures.value at c.write.ensures.len in
-    let outside = rw c.deref_mut.ensures.value at c.write.ensures.outside in
-    Represents-written c.self.inside.dim _ _ c.self.inside.slots.items c.set_slot.new.slots c.self.inside.bits.items c.write.new.bits c.self.inside.slots.ok.0 same_slots c.self.inside.bits.ok.0 same_bits
-    (Represents-taken_back c.self.inside.dim c.args.station c.self.inside.slots.items c.set_slot.new.slots c.self.inside.bits.items c.write.new.bits c.in-Some.region
-    same_slots same_bits outside c.self.invariant back c.write.ensures.inside)
+    let same_bits = rw c.deref_mut.ensures.value at c.clear_region.ensures.len in
+    let keeps = rw c.deref_mut.ensures.value at c.clear_region.ensures.taken_back in
+    IsConsistent-written c.self.inside.dim _ _ c.self.inside.slots.items c.set_slot.new.slots c.self.inside.bits.items c.clear_region.new.bits c.self.inside.slots.ok.0 same_slots c.self.inside.bits.ok.0 same_bits
+    c.self.invariant (keeps c.args.station (slot_of c.self.inside.slots.items) (slot_of c.set_slot.new.slots) c.self.invariant.represents back)
 
 pub returns-clause-released : goal.returns-clause-released
 returns-clause-released c =

@@ -2,7 +2,8 @@
 
 ghost use Rattle.std.specs.Prelude.{◌≡◌, ℕ, ◌+◌, ◌-◌, ◌^◌, ◌<◌, ◌≤◌, ◌↔◌, length, false, IsTrue, IfSome, IfNone};
 ghost use Rattle.cube_shape.specs.Region.{Covers, IsAligned, block};
-ghost use Rattle.alloc_bits.specs.Inner.{IsClear, IsFirstClear, bit_of};
+ghost use Rattle.region_bits.specs.Represents.{bit_of};
+ghost use Rattle.region_bits.specs.Inner.{IsClear, IsFirstClear};
 
 use cube_shape::{MAX_DIM, Region};
 
@@ -10,7 +11,7 @@ use cube_shape::{MAX_DIM, Region};
 pub fn first_clear(bits: &[bool], n: u32, k: u32) -> Option<Region>
     requires machine { n ≤ MAX_DIM }
     requires dim { k ≤ n }
-    requires bits { length bits.now ≡ 2 ^ n }
+    requires bits { 2 ^ n ≤ length bits.now }
     ensures found { IfSome result (λ r. (m : ℕ) × (r ≡ block k m) × IsFirstClear n k bits.now m) }
     ensures none { IfNone result ((m : ℕ) → m < 2 ^ (n - k) → IsClear bits.now (block k m) → ⊥) }
 {
@@ -26,7 +27,7 @@ pub fn first_clear(bits: &[bool], n: u32, k: u32) -> Option<Region>
 /// Whether no bit of a region is set.
 fn is_clear(bits: &[bool], n: u32, region: Region) -> bool
     requires machine { n ≤ MAX_DIM }
-    requires bits { length bits.now ≡ 2 ^ n }
+    requires bits { 2 ^ n ≤ length bits.now }
     requires region { IsAligned n region }
     ensures { IsTrue result ↔ IsClear bits.now region }
 {
@@ -41,10 +42,19 @@ fn none_set(bits: &[bool]) -> bool
     bits.iter().all(|taken| !*taken)
 }
 
+/// Clears all bits.
+#[tactic(auto, using(std::proofs::lemmas::List::get_or_past))]
+pub fn clear_all(bits: &mut [bool])
+    ensures len { length bits.new ≡ length bits.old }
+    ensures clear { (p : ℕ) → bit_of bits.new p ≡ false }
+{
+    bits.fill(false);
+}
+
 /// Sets or clears all bits of a region.
 pub fn write(bits: &mut [bool], n: u32, region: Region, taken: bool)
     requires machine { n ≤ MAX_DIM }
-    requires bits { length bits.old ≡ 2 ^ n }
+    requires bits { 2 ^ n ≤ length bits.old }
     requires region { IsAligned n region }
     ensures len { length bits.new ≡ length bits.old }
     ensures inside { (p : ℕ) → Covers region p → bit_of bits.new p ≡ taken }

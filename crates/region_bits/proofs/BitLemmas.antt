@@ -2,7 +2,8 @@
 use Rattle.std.proofs.Common.{◌≡◌, ℕ, ◌+◌, ◌-◌, ◌^◌, ◌<◌, ◌≤◌, ◌↔◌, Bool, false, List, length, take, drop, sym, ◌∙◌, ap, arith, length-take, length-drop}
 use Rattle.std.proofs.lemmas.List.{get_or-take, get_or-drop}
 use Rattle.cube_shape.specs.declared.region.Region.{Region}
-use Rattle.alloc_bits.specs.Inner.{IsClear, bit_of}
+use Rattle.region_bits.specs.Represents.{bit_of}
+use Rattle.region_bits.specs.Inner.{IsClear}
 
 bit_of-part : (bits : List Bool) (start end i : ℕ) → i < end - start → bit_of (take (end - start) (drop start bits)) i ≡ bit_of bits (start + i)
 bit_of-part bits start end i within = get_or-take (end - start) (drop start bits) i false within ∙ get_or-drop start bits i false

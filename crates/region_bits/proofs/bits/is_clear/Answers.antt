@@ -1,6 +1,6 @@
 use Rattle.std.proofs.Common.{arith}
-use Rattle.alloc_bits.proofs.BitLemmas.{IsClear-part}
-use Rattle.alloc_bits.proofs.bits.is_clear.Goals as goal
+use Rattle.region_bits.proofs.BitLemmas.{IsClear-part}
+use Rattle.region_bits.proofs.bits.is_clear.Goals as goal
 
 pub returns : goal.returns
 returns c =

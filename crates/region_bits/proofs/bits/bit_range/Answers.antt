@@ -2,7 +2,7 @@
 use Rattle.std.proofs.Common.{◌≡◌, ◌*◌, ◌%◌, ◌^◌, arith}
 use Rattle.std.proofs.lemmas.Nat.{one_shl}
 use Rattle.cube_shape.proofs.RegionLemmas.{IsAligned-end}
-use Rattle.alloc_bits.proofs.bits.bit_range.Goals as goal
+use Rattle.region_bits.proofs.bits.bit_range.Goals as goal
 
 pub returns-clause-in_machine : goal.returns-clause-in_machine
 returns-clause-in_machine c =

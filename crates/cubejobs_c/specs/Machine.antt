@@ -1,0 +1,28 @@
+-- What a contract sees of a machine that its caller keeps: which region each station holds.
+use Rattle.std.specs.Prelude.{false, if◌then◌else◌, List, slice_index_or, Option, Some, None}
+use Rattle.cube_shape.specs.declared.region.Region.{Region}
+use Rattle.cube_shape.specs.Machine.{Holdings}
+use Rattle.region_bits.specs.Represents.{Represents}
+use Rattle.cubejobs_c.specs.declared.machine.Answer.{Answer}
+use Rattle.cubejobs_c.specs.declared.machine.Machine.{Machine}
+use Rattle.cubejobs_c.specs.declared.machine.Slot.{Slot}
+
+-- the region of a slot, if it has one
+abbrev pub region_in : Slot → Option Region
+region_in slot = if slot.held then Some (record { base = slot.base; dim = slot.dim }) else None
+
+-- what the slots' stations hold; there is nothing past the slots
+abbrev pub holdings : List Slot → Holdings
+holdings slots station = region_in (slice_index_or slots station (record { base = 0; dim = 0; held = false }))
+
+-- what each station holds
+abbrev pub held_in : Machine → Holdings
+held_in machine = holdings machine.slots
+
+-- the bits represent what the slots hold: what these functions leave behind
+abbrev pub IsSound : Machine → Type 0
+IsSound machine = Represents machine.dim (held_in machine) machine.bits
+
+-- the region that an answer names
+abbrev pub region_of : Answer → Region
+region_of answer = record { base = answer.base; dim = answer.dim }

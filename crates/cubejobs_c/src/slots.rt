@@ -1,0 +1,105 @@
+//! The regions of the stations: a slot for each station, by its number.
+
+ghost use Rattle.std.specs.Prelude.{◌≡◌, ◌≢◌, ℕ, ◌^◌, ◌<◌, ◌≤◌, ◌↔◌, None, Some, length, IsTrue, IfNone, IfSome};
+ghost use Rattle.cube_shape.specs.declared.region.Region.{Region as HeldRegion};
+ghost use Rattle.cube_shape.specs.Region.{Covers};
+ghost use Rattle.cubejobs_c.specs.Machine.{holdings, region_in};
+
+use crate::machine::Slot;
+use cube_shape::{MAX_DIM, Region};
+
+impl Slot {
+    // The slot of a station that holds this region, or nothing.
+    pub fn new(region: Option<Region>) -> Self
+        ensures { region_in result ≡ region }
+    {
+        match region {
+            Some(region) => Slot {
+                base: region.base,
+                dim: region.dim,
+                held: true,
+            },
+            None => Slot {
+                base: 0,
+                dim: 0,
+                held: false,
+            },
+        }
+    }
+
+    // The region, if there is one.
+    pub fn region(self) -> Option<Region>
+        ensures { result ≡ region_in self }
+    {
+        if self.held {
+            Some(Region {
+                base: self.base,
+                dim: self.dim,
+            })
+        } else {
+            None
+        }
+    }
+}
+
+/// The region that a station holds, if it holds one.
+pub fn region_at(slots: &[Slot], station: u32) -> Option<Region>
+    requires { station < length slots.now }
+    ensures { result ≡ holdings slots.now station }
+{
+    slots[station as usize].region()
+}
+
+/// Gives a station a region, or takes its region away.
+pub fn set_slot(slots: &mut [Slot], station: u32, region: Option<Region>)
+    requires { station < length slots.old }
+    ensures len { length slots.new ≡ length slots.old }
+    ensures own { holdings slots.new station ≡ region }
+    ensures others { (s : ℕ) → s ≢ station → holdings slots.new s ≡ holdings slots.old s }
+{
+    slots[station as usize] = Slot::new(region);
+}
+
+/// Takes the regions of all stations away.
+#[tactic(auto, using(std::proofs::lemmas::List::get_or_past))]
+pub fn clear_slots(slots: &mut [Slot])
+    ensures len { length slots.new ≡ length slots.old }
+    ensures free { (s : ℕ) → holdings slots.new s ≡ None }
+{
+    slots.fill(Slot::new(None));
+}
+
+/// Whether no station holds a region.
+#[tactic(auto, using(std::proofs::lemmas::List::get_or_past))]
+pub fn all_empty(slots: &[Slot]) -> bool
+    ensures { IsTrue result ↔ ((s : ℕ) → holdings slots.now s ≡ None) }
+{
+    slots.iter().all(|slot| !slot.held)
+}
+
+/// The station whose region has a processor, the first if there are several.
+pub fn holder_of(slots: &[Slot], processor: u64) -> Option<u32>
+    requires count { length slots.now < 2 ^ 32 }
+    requires limits { (s : ℕ) (a : HeldRegion) → holdings slots.now s ≡ Some a → a.dim ≤ MAX_DIM }
+    ensures held { IfSome result (λ s. (a : HeldRegion) × (holdings slots.now s ≡ Some a)
+        × Covers a processor) }
+    ensures free { IfNone result ((s : ℕ) (a : HeldRegion) → holdings slots.now s ≡ Some a
+        → Covers a processor → ⊥) }
+{
+    for station in 0..slots.len() {
+        if let Some(region) = slots[station].region()
+            && covers(region, processor)
+        {
+            return Some(station as u32);
+        }
+    }
+    None
+}
+
+// Whether a region has a processor.
+fn covers(region: Region, processor: u64) -> bool
+    requires { region.dim ≤ MAX_DIM }
+    ensures { IsTrue result ↔ Covers region processor }
+{
+    region.base <= processor && processor - region.base < 1 << region.dim
+}

@@ -1,0 +1,57 @@
+//! The exported functions on machines of dimension 3 and at the limits.
+
+use crate::codes::{BAD_DIMENSION, BAD_STATION, DONE, NO_SUBCUBE, NOTHING_HELD, STATION_HOLDS};
+use crate::exports::{
+    cubejobs_holder, cubejobs_is_wholly_free, cubejobs_open, cubejobs_release, cubejobs_take,
+};
+use crate::machine::{Answer, Machine, Slot};
+
+// Memory before it is opened.
+fn memory() -> Machine {
+    Machine {
+        dim: 0,
+        bits: [true; 1024],
+        slots: [Slot::new(None); 32],
+    }
+}
+
+// The code of an answer, and the base of the region that was given or taken back.
+fn code_and_base(answer: Answer) -> (u32, u64) {
+    (answer.code, answer.base)
+}
+
+#[test]
+fn gives_the_least_free_region(rt: HostRuntime) {
+    let mut machine = memory();
+    assert_eq!(rt; cubejobs_open(&mut machine, 3), DONE);
+    assert_eq!(rt; code_and_base(cubejobs_take(&mut machine, 0, 1)), (DONE, 0));
+    assert_eq!(rt; code_and_base(cubejobs_take(&mut machine, 1, 0)), (DONE, 2));
+    assert_eq!(rt; code_and_base(cubejobs_take(&mut machine, 2, 1)), (DONE, 4));
+    assert_eq!(rt; code_and_base(cubejobs_release(&mut machine, 1)), (DONE, 2));
+    assert_eq!(rt; code_and_base(cubejobs_take(&mut machine, 3, 1)), (DONE, 2));
+    assert_eq!(rt;
+        code_and_base(cubejobs_take(&mut machine, 4, 2)),
+        (NO_SUBCUBE, 0)
+    );
+    let holder = cubejobs_holder(&machine, 3);
+    assert!(rt; holder.found && holder.station == 3);
+    assert!(rt; !cubejobs_holder(&machine, 6).found);
+    assert!(rt; !cubejobs_is_wholly_free(&machine));
+}
+
+#[test]
+fn answers_bad_arguments_by_a_code(rt: HostRuntime) {
+    let mut machine = memory();
+    assert_eq!(rt; cubejobs_open(&mut machine, 10), DONE);
+    assert_eq!(rt; cubejobs_open(&mut machine, 11), BAD_DIMENSION);
+    assert!(rt; cubejobs_is_wholly_free(&machine));
+    assert_eq!(rt; cubejobs_take(&mut machine, 32, 11).code, BAD_STATION);
+    assert_eq!(rt; cubejobs_take(&mut machine, 31, 11).code, BAD_DIMENSION);
+    assert_eq!(rt; cubejobs_release(&mut machine, 31).code, NOTHING_HELD);
+    assert_eq!(rt; cubejobs_release(&mut machine, 32).code, BAD_STATION);
+    assert_eq!(rt;
+        code_and_base(cubejobs_take(&mut machine, 31, 10)),
+        (DONE, 0)
+    );
+    assert_eq!(rt; cubejobs_take(&mut machine, 31, 0).code, STATION_HOLDS);
+}

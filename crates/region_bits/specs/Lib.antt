@@ -1,0 +1,4 @@
+pub mod Represents
+pub mod Inner
+pub use Rattle.cube_shape.specs.Region.{IsAligned, block}
+pub use Rattle.cube_shape.specs.Machine.{Gives, HasNoFit, Holdings, IsFirstFit, TakesBack}

@@ -1,0 +1,18 @@
+//! First fit over the allocation bits of a hypercube machine, in memory that the caller keeps.
+//!
+//! The buddy strategy of Chen and Shin ("Processor Allocation in an N-Cube Multiprocessor Using
+//! Gray Codes", IEEE Transactions on Computers, 1987) keeps an allocation bit for each processor.
+//! A request for dimension `k` finds the least `m` such that all bits of the aligned region
+//! `(m, k)` are clear, and sets them; a release clears them. These are its three steps over a slice
+//! of bits. Who holds which region is the caller's to keep: a clause speaks of the holdings that
+//! the bits represent.
+#![tactic(auto)]
+
+mod bits;
+mod regions;
+
+pub use cube_shape::{MAX_DIM, Region};
+pub use regions::{clear_all, clear_region, first_fit, set_region};
+
+#[cfg(test)]
+mod tests;
