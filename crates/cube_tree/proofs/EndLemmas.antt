@@ -6,12 +6,16 @@ use Rattle.std.proofs.lemmas.Bool.{cases_eq, cases_lt}
 use Rattle.std.proofs.lemmas.Nat.Bits.{bit_at-lt, bit_at_and, bit_at_ones, bit_at_ones_above, bit_at_not, bit_at-zero}
 use Rattle.std.proofs.lemmas.List.Elements.{All-nil, All-cons, All-head, All-tail, All-append}
 use Rattle.status_word.specs.Word.{IsSet}
-use Rattle.cube_core.specs.declared.phase.Phase.TheVariants.{Retired}
+use Rattle.std.specs.List.{AllByRecursion}
+use Rattle.histories.specs.Sums.{total, is_at}
+use Rattle.histories.proofs.SumLemmas.{everyone}
 use Rattle.tree_steps.specs.declared.view.Entry.{Entry}
 use Rattle.tree_steps.specs.Rule.{times}
 use Rattle.tree_steps.specs.Steps.{Known, KeepsLoad, HasWholeRoll, joined}
 use Rattle.tree_steps.proofs.RuleLemmas.{times-append}
-use Rattle.cube_tree.specs.Ends.{IsMissing, IsWhole}
+use Rattle.tree_steps.specs.Once.{AreOnce}
+use Rattle.cube_tree.specs.Seats.{IsGone}
+use Rattle.cube_tree.specs.Ends.{AreThere, HasNumberBelow, IsMissing, IsWhole}
 use Rattle.cube_tree.specs.Handles.{station_entry}
 use Rattle.cube_tree.specs.declared.handles.Station.{Station}
 use Rattle.cube_tree.proofs.HandleLemmas.{HasRetired}
@@ -48,9 +52,6 @@ whole_roll {found = found} {m = m} load whole = record { roll = found; earlier =
 
 -- ---- all stations have retired
 
-abbrev pub IsGone : Entry → Type 0
-IsGone e = e.phase ≡ Retired
-
 -- whoever is there and has retired has a bit
 pub bit_of : (found s : ℕ) (entries : List Entry) → All (λ e. IsGone e → IsSet found e.station) entries → All IsGone entries → 0 < times s entries → IsSet found s
 bit_of found s [] bits gone some = absurd (omega arith)
@@ -72,16 +73,31 @@ map_append : (l : List Station) (x : Station) → map station_entry (l ++ x ∷ 
 map_append [] x = refl
 map_append (y ∷ l) x = ap (λ es. station_entry y ∷ es) (map_append l x)
 
-pub all_more : {number : ℕ} (s : ℕ) (m own new : Known) (before after : List Station) (x : Station) → HasRetired number own → new ≡ (joined m.0 own.0, m.1) → before ≡ after ++ x ∷ [] → (station_entry x).station ≡ number
-    → 0 < times s m.0.stations + times s (map station_entry before) → 0 < times s new.0.stations + times s (map station_entry after)
-all_more {number = number} s m own new before after x retired is popped same had =
+-- a station that was in the list is with the seat
+pub there_more : {number : ℕ} (s : ℕ) (m own new : Known) (before after : List Station) (x : Station) → HasRetired number own → new ≡ (joined m.0 own.0, m.1) → before ≡ after ++ x ∷ [] → (station_entry x).station ≡ number
+    → times s new.0.stations + times s (map station_entry after) ≡ times s m.0.stations + times s (map station_entry before)
+there_more {number = number} s m own new before after x retired is popped same =
     let first : times s new.0.stations ≡ times s m.0.stations + times s own.0.stations = ap (λ (y : Known). times s y.0.stations) is ∙ times-append s m.0.stations own.0.stations in
     let own_is : times s own.0.stations ≡ cond (eqb number s) 1 0 + 0 = ap (times s) retired.one ∙ ap (λ a. cond (eqb a s) 1 0 + 0) retired.number_is in
     let list : times s (map station_entry before) ≡ times s (map station_entry after) + times s (station_entry x ∷ []) = ap (λ l. times s (map station_entry l)) popped ∙ ap (times s) (map_append after x) ∙ times-append s (map station_entry after) (station_entry x ∷ []) in
     let last : times s (station_entry x ∷ []) ≡ cond (eqb number s) 1 0 + 0 = ap (λ a. cond (eqb a s) 1 0 + 0) same in
-    omega (arith, had, first, own_is, list, last)
+    omega (arith, first, own_is, list, last)
 
 -- no station is left in the list
-pub none_left : (l : List Station) (s n : ℕ) → length l ≡ 0 → 0 < n + times s (map station_entry l) → 0 < n
-none_left [] s n empty some = omega (arith, some)
-none_left (x ∷ l) s n empty some = absurd (omega (arith, empty))
+pub none_left : (l : List Station) (s n most : ℕ) → length l ≡ 0 → n + times s (map station_entry l) ≡ most → n ≡ most
+none_left [] s n most empty sum = omega (arith, sum)
+none_left (x ∷ l) s n most empty sum = absurd (omega (arith, empty))
+
+-- as many stations as there are, none of them twice, are all of them
+as_total : (s : ℕ) (l : List Station) → times s (map station_entry l) ≡ total (λ x. is_at s (station_entry x).station) l
+as_total s [] = refl
+as_total s (x ∷ l) = ap (λ n. cond (eqb (station_entry x).station s) 1 0 + n) (as_total s l)
+
+each_below : (count : ℕ) (l : List Station) → All (HasNumberBelow count) l → AllByRecursion (λ x. (station_entry x).station < count) l
+each_below count [] all = tt
+each_below count (x ∷ l) all = (All-head (HasNumberBelow count) x l all, each_below count l (All-tail (HasNumberBelow count) x l all))
+
+pub everyone_there : (count : ℕ) (l : List Station) (m : Known) → All (HasNumberBelow count) l → length l ≡ count → AreThere l m → AreOnce m.0.stations → (s : ℕ) → s < count → 0 < times s m.0.stations
+everyone_there count l m below long there once s within =
+    let one = everyone (λ (x : Station). (station_entry x).station) count l (each_below count l below) (λ k. omega (arith, as_total k l, there k, once k)) long s within in
+    omega (arith, one, as_total s l, there s)

@@ -1,6 +1,6 @@
 mod HandleLemmas
 mod OpeningLemmas
 mod EndLemmas
-mod TryLemmas
+pub mod TryLemmas
 mod ApartLemmas
 pub mod SharedLemmas

@@ -2,8 +2,9 @@
 ghost use Rattle.std.specs.Prelude.{◌≡◌, ◌≢◌, ℕ, ◌<◌, ◌≤◌, [], ◌∷◌, All, MatchResult, IfOk, IfErr, length};
 ghost use Rattle.tree_steps.specs.Steps.{HasWholeRoll, retire_at};
 ghost use Rattle.tree_steps.specs.Tree.{id_of, size_of, station_count};
-ghost use Rattle.cube_tree.specs.Handles.{cube_dim, cube_size, loads_of, IsSameCube, IsStationOf};
-ghost use Rattle.cube_tree.specs.Ends.{HasAll, IsMissing, IsWhole, IsWhollyFree, machine_dim, machine_loads, machine_words};
+ghost use Rattle.cube_tree.specs.Handles.{cube_dim, cube_size, loads_of, HasTable, IsSameCube, IsStationOf};
+ghost use Rattle.cube_tree.specs.Seats.{IsBare, IsGone};
+ghost use Rattle.cube_tree.specs.Ends.{AreThere, HasAll, HasNumberBelow, IsMissing, IsWhole, IsWhollyFree, machine_dim, machine_loads, machine_words};
 
 use crate::handles::{Cube, FreeMachine, Station, StillOut};
 use cube_shape::MAX_STATIONS;
@@ -66,9 +67,27 @@ impl Cube {
     }
 }
 
+// Retires stations: their seats are joined to this one.
+fn retire_each(tree: &Tree, seat: &mut Seat, mut stations: Vec<Station>)
+    requires seat { seat.old.table_id ≡ id_of tree.now }
+    requires bare { IsBare seat.old.me }
+    requires of_tree { All (HasTable (id_of tree.now)) stations.items }
+    ensures seat { seat.new.table_id ≡ seat.old.table_id }
+    ensures slots { seat.new.me.1 ≡ [] }
+    ensures loads { seat.new.me.0.loads ≡ seat.old.me.0.loads }
+    ensures gone { All IsGone seat.new.me.0.stations }
+    ensures there { AreThere stations.items seat.new.me }
+{
+    while let Some(station) = stations.pop() {
+        let retired = station.into_retired(tree);
+        tree.merge(seat, retired);
+    }
+    stations.destroy_empty();
+}
+
 impl Cube {
     /// Retires all stations, which it is given, and closes the cube.
-    pub fn close_with(self, mut stations: Vec<Station>) -> FreeMachine
+    pub fn close_with(self, stations: Vec<Station>) -> FreeMachine
         requires cube { All (IsStationOf self) stations.items }
         requires all { HasAll (cube_size self).stations stations.items }
         ensures free { IsWhollyFree (cube_dim self) result }
@@ -76,11 +95,24 @@ impl Cube {
             × IsWhole (cube_size self).stations roll }
     {
         let Cube { tree, mut seat } = self;
-        while let Some(station) = stations.pop() {
-            let retired = station.into_retired(&tree);
-            tree.merge(&mut seat, retired);
-        }
-        stations.destroy_empty();
+        retire_each(&tree, &mut seat, stations);
+        tree.load_roll(&mut seat);
+        finish(tree, seat)
+    }
+
+    /// Retires all stations, which it is given, and closes the cube: they are as many as it has, and
+    /// so these are all of them.
+    pub fn close_all(self, stations: Vec<Station>) -> FreeMachine
+        requires cube { All (IsStationOf self) stations.items }
+        requires below { All (HasNumberBelow (cube_size self).stations) stations.items }
+        requires all { length stations.items ≡ (cube_size self).stations }
+        ensures free { IsWhollyFree (cube_dim self) result }
+        ensures roll { (roll : ℕ) × (machine_loads result ≡ roll ∷ loads_of self)
+            × IsWhole (cube_size self).stations roll }
+    {
+        let Cube { tree, mut seat } = self;
+        retire_each(&tree, &mut seat, stations);
+        tree.recount(&mut seat);
         tree.load_roll(&mut seat);
         finish(tree, seat)
     }

@@ -134,7 +134,7 @@ merges k id v other w t ruled me differ them = record {
 -- ---- loads that change no station
 
 -- a load with which a view becomes another of the same stations
-loads_word : (k : Size) (slots id : ℕ) (v : View) (c : List (ℕ × Unit {0})) (word : ℕ) (next : ℕ → View) (then : ℕ → Known → Type 0)
+pub loads_word : (k : Size) (slots id : ℕ) (v : View) (c : List (ℕ × Unit {0})) (word : ℕ) (next : ℕ → View) (then : ℕ → Known → Type 0)
     → ((found s : ℕ) → times s (next found).stations ≡ times s v.stations)
     → ((t : Table (Unit {0}) View) (ruled : IsRuled k t) → get_elem? t.views id ≡ some v → IsView k ruled.acts v → IsView k ruled.acts (next (get_or t.words word 0)) × then (get_or t.words word 0) (next (get_or t.words word 0), c))
     → Allows (IsRuled k) slots id (v, c) word (λ w. w) then

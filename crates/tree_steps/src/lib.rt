@@ -2,6 +2,7 @@
 #![tactic(auto)]
 
 mod events;
+mod once;
 mod rule;
 mod seats;
 mod takes;

@@ -1,0 +1,2 @@
+mod GrantLemmas
+mod HandleLemmas

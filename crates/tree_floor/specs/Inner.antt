@@ -1,0 +1,2 @@
+-- Definitions that only the tree floor's own contracts and proofs use.
+pub mod Handle
