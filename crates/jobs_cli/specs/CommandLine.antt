@@ -1,13 +1,15 @@
 -- What the words of a command line ask for: `clap` reads them by the options of the program.
-use Rattle.std.specs.Prelude.{◌≡◌, ◌≢◌, ◌⊎◌, ℕ, ◌≤◌, List, [], ◌∷◌, Some, codes, pos, true}
+use Rattle.std.specs.Prelude.{◌≡◌, ◌≢◌, ◌⊎◌, ℕ, ◌≤◌, Bool, true, List, [], ◌∷◌, Some, codes, pos, if◌then◌else◌}
 use Rattle.std.specs.Str.Parse.{digits_value, without_leading_plus}
 use Rattle.clap.specs.Words.{App, IsAmong, Row, Rule, Shape, Text, fault_of, new_app, new_rule, one_of, subcommand_of, with_rule, with_subcommand}
+use Rattle.clap.specs.declared.builder.action.ArgAction.TheVariants.{SetTrue}
 use Rattle.clap.specs.declared.builder.value_parser.ValueParser.TheVariants.{Signed}
 use Rattle.clap.specs.declared.error.kind.ErrorKind.{ErrorKind}
 use Rattle.clap.specs.declared.error.kind.ErrorKind.TheVariants.{DisplayHelp, DisplayVersion}
 use Rattle.cube_shape.specs.declared.limits.TheConstants.{MAX_DIM, MAX_STATIONS}
 use Rattle.job_queue.specs.declared.job_line.TheConstants.{MAX_CAPACITY, MAX_PASSES}
 use Rattle.jobs_cli.specs.declared.invocation.Invocation.{Invocation}
+use Rattle.jobs_cli.specs.declared.invocation.ShopOptions.{ShopOptions}
 use Rattle.jobs_cli.specs.declared.invocation.Invocation.TheVariants.{Run, Report, Place, Replay}
 
 -- a shop has 1 to MAX_PASSES dispatchers, and its line room for 1 to MAX_CAPACITY jobs
@@ -16,8 +18,8 @@ AreShopSizes dispatchers capacity = (1 ≤ dispatchers) × (dispatchers ≤ MAX_
 
 -- the dimension is at most MAX_DIM; the number of stations is from 1 to MAX_STATIONS
 abbrev pub IsWithinLimits : Invocation → Type 0
-IsWithinLimits (Run n dispatchers capacity) = (n ≤ MAX_DIM) × AreShopSizes dispatchers capacity
-IsWithinLimits (Report n dispatchers capacity) = (n ≤ MAX_DIM) × AreShopSizes dispatchers capacity
+IsWithinLimits (Run shop) = (shop.n ≤ MAX_DIM) × AreShopSizes shop.dispatchers shop.capacity
+IsWithinLimits (Report shop) = (shop.n ≤ MAX_DIM) × AreShopSizes shop.dispatchers shop.capacity
 IsWithinLimits (Place n) = n ≤ MAX_DIM
 IsWithinLimits (Replay n stations) = (n ≤ MAX_DIM) × (1 ≤ stations) × (stations ≤ MAX_STATIONS)
 
@@ -37,13 +39,17 @@ dispatchers_rule = record (new_rule (codes "dispatchers")) { long = Some (codes 
 abbrev pub capacity_rule : Rule
 capacity_rule = record (new_rule (codes "capacity")) { long = Some (codes "capacity"); value_names = 1; defaults = codes "16" ∷ []; parser = Some (Signed (pos 1) (pos MAX_CAPACITY)) }
 
+-- the flag `--quiet`
+abbrev pub quiet_rule : Rule
+quiet_rule = record (new_rule (codes "quiet")) { long = Some (codes "quiet"); action = Some SetTrue }
+
 -- a command on a machine of some dimension
 abbrev pub command_app : Text → App
 command_app name = with_rule (new_app name) dim_rule
 
 -- a command that runs a shop
 abbrev pub shop_app : Text → App
-shop_app name = with_rule (with_rule (command_app name) dispatchers_rule) capacity_rule
+shop_app name = with_rule (with_rule (with_rule (command_app name) dispatchers_rule) capacity_rule) quiet_rule
 
 -- the program: it has a version, and one of its commands is required
 abbrev pub bare_program : Shape
@@ -57,19 +63,27 @@ program_app = with_subcommand (with_subcommand (with_subcommand (with_subcommand
 abbrev pub HasOptionValue : List Row → Text → ℕ → Type 0
 HasOptionValue options name n = (text : Text) × (one_of name options ≡ Some text) × (n ≡ digits_value 10 (without_leading_plus text))
 
+-- the flag is set, or it is not; where it is not given `clap` finds the text "false"
+abbrev pub HasFlag : List Row → Text → Bool → Type 0
+HasFlag options name is_set = one_of name options ≡ Some (if is_set then codes "true" else codes "false")
+
+-- the numbers and the flag of a command that runs a shop are those of the options
+abbrev pub HasShopOptions : List Row → ShopOptions → Type 0
+HasShopOptions options shop =
+    HasOptionValue options (codes "dim") shop.n × HasOptionValue options (codes "dispatchers") shop.dispatchers
+    × HasOptionValue options (codes "capacity") shop.capacity × HasFlag options (codes "quiet") shop.is_quiet
+
 -- the numbers of the request are those of the options
 abbrev pub HasOptionValues : List Row → Invocation → Type 0
-HasOptionValues options (Run n dispatchers capacity) =
-    HasOptionValue options (codes "dim") n × HasOptionValue options (codes "dispatchers") dispatchers × HasOptionValue options (codes "capacity") capacity
-HasOptionValues options (Report n dispatchers capacity) =
-    HasOptionValue options (codes "dim") n × HasOptionValue options (codes "dispatchers") dispatchers × HasOptionValue options (codes "capacity") capacity
+HasOptionValues options (Run shop) = HasShopOptions options shop
+HasOptionValues options (Report shop) = HasShopOptions options shop
 HasOptionValues options (Place n) = HasOptionValue options (codes "dim") n
 HasOptionValues options (Replay n stations) = HasOptionValue options (codes "dim") n × HasOptionValue options (codes "stations") stations
 
 -- the command of a request
 abbrev pub command_of : Invocation → Text
-command_of (Run n dispatchers capacity) = codes "run"
-command_of (Report n dispatchers capacity) = codes "report"
+command_of (Run shop) = codes "run"
+command_of (Report shop) = codes "report"
 command_of (Place n) = codes "place"
 command_of (Replay n stations) = codes "replay"
 

@@ -2,10 +2,10 @@
 ghost use Rattle.std.specs.Prelude.{◌≡◌, ◌≤◌, false, IfOk, IfSome, List, Some, codes, map, string_bytes};
 ghost use Rattle.clap.specs.Words.{FailsBy, Row, app_of, fault_of, found_of, rows_of, rule_of, subcommand_rows_of, with_rule};
 ghost use Rattle.clap.specs.declared.builder.command.Command.TheViews.{out-Command};
-ghost use Rattle.jobs_cli.specs.CommandLine.{AsksFor, HasOptionValue, HasOptionValues, IsWithinLimits, capacity_rule, command_app, command_of, dim_rule, dispatchers_rule, program_app, shop_app, stations_rule};
+ghost use Rattle.jobs_cli.specs.CommandLine.{AreShopSizes, AsksFor, HasFlag, HasOptionValue, HasOptionValues, HasShopOptions, IsWithinLimits, capacity_rule, command_app, command_of, dim_rule, dispatchers_rule, program_app, quiet_rule, shop_app, stations_rule};
 
-use crate::invocation::Invocation;
-use clap::{Arg, ArgMatches, Command, Error, value_parser};
+use crate::invocation::{Invocation, ShopOptions};
+use clap::{Arg, ArgAction, ArgMatches, Command, Error, value_parser};
 use cube_shape::{Dim, MAX_DIM, MAX_STATIONS};
 use job_queue::{MAX_CAPACITY, MAX_PASSES};
 use jobs_csv::MAX_RECORDS;
@@ -183,6 +183,17 @@ fn capacity_option<'a>(alloc: Global, limits: &'a Limits) -> Arg<'a>
         .value_parser(value_parser!(u32).range(1..=MAX_CAPACITY as i64))
 }
 
+// The flag that turns off the line of progress.
+fn quiet_option<'a>(alloc: Global) -> Arg<'a>
+    ensures rule { rule_of result ≡ quiet_rule }
+    ensures local { result.global ≡ false }
+{
+    Arg::new(alloc, "quiet")
+        .long("quiet")
+        .help("Shows no line of progress")
+        .action(ArgAction::SetTrue)
+}
+
 // The option for the number of stations.
 fn stations_option<'a>(alloc: Global, limits: &'a Limits) -> Arg<'a>
     ensures rule { rule_of result ≡ stations_rule }
@@ -227,7 +238,8 @@ fn shop_command<'a>(
 {
     let shop = command(alloc, name, about, long_about, limits)?;
     shop.arg(dispatchers_option(alloc, limits))?
-        .arg(capacity_option(alloc, limits))
+        .arg(capacity_option(alloc, limits))?
+        .arg(quiet_option(alloc))
 }
 
 // The command `replay`, which has stations too.
@@ -311,6 +323,33 @@ fn stations_in(matches: &ArgMatches<'_>) -> Option<u32>
     }
 }
 
+// Whether the line of progress is turned off.
+fn is_quiet_in(matches: &ArgMatches<'_>) -> Option<bool>
+    ensures { IfSome result (λ is_quiet.
+        HasFlag (rows_of (found_of matches.now)) (codes "quiet") is_quiet) }
+{
+    matches.get_one::<bool>("quiet")
+}
+
+// The options that a command that runs a shop was given, or their defaults.
+fn shop_in(matches: &ArgMatches<'_>) -> Option<ShopOptions>
+    ensures limits { IfSome result (λ shop.
+        (shop.n ≤ MAX_DIM) × AreShopSizes shop.dispatchers shop.capacity) }
+    ensures options { IfSome result (λ shop.
+        HasShopOptions (rows_of (found_of matches.now)) shop) }
+{
+    let n = dim_in(matches)?;
+    let dispatchers = dispatchers_in(matches)?;
+    let capacity = capacity_in(matches)?;
+    let is_quiet = is_quiet_in(matches)?;
+    Some(ShopOptions {
+        n,
+        dispatchers,
+        capacity,
+        is_quiet,
+    })
+}
+
 // The request of a parsed command line.
 fn invocation_in(matches: &ArgMatches<'_>) -> Option<Invocation>
     ensures limits { IfSome result (λ invocation. IsWithinLimits invocation) }
@@ -319,24 +358,12 @@ fn invocation_in(matches: &ArgMatches<'_>) -> Option<Invocation>
         × HasOptionValues options invocation) }
 {
     if let Some(run) = matches.subcommand_matches("run") {
-        let n = dim_in(run)?;
-        let dispatchers = dispatchers_in(run)?;
-        let capacity = capacity_in(run)?;
-        return Some(Invocation::Run {
-            n,
-            dispatchers,
-            capacity,
-        });
+        let shop = shop_in(run)?;
+        return Some(Invocation::Run(shop));
     }
     if let Some(report) = matches.subcommand_matches("report") {
-        let n = dim_in(report)?;
-        let dispatchers = dispatchers_in(report)?;
-        let capacity = capacity_in(report)?;
-        return Some(Invocation::Report {
-            n,
-            dispatchers,
-            capacity,
-        });
+        let shop = shop_in(report)?;
+        return Some(Invocation::Report(shop));
     }
     if let Some(place) = matches.subcommand_matches("place") {
         let n = dim_in(place)?;

@@ -13,6 +13,7 @@ mod lanes;
 mod place;
 mod play;
 mod program;
+mod progress;
 mod replay;
 mod report;
 mod run;
@@ -21,6 +22,7 @@ mod stations;
 
 use jobs_csv::{Counted, Fault};
 use std::io;
+use std::io::IsTerminal;
 use std::process::ExitCode;
 use std::rt::Env;
 
@@ -48,13 +50,20 @@ fn main(rt: HostRuntime) -> ExitCode {
     };
     let mut reader = Counted::new(rt.stdin());
     let mut writer = Counted::new(rt.stdout());
+    let mut errors = rt.stderr();
+    let mut terminal = if errors.is_terminal() {
+        Some(rt.stderr())
+    } else {
+        None
+    };
     let ending = program::run(
         &rt,
         rt.alloc(),
         &words,
         &mut reader,
         &mut writer,
-        &mut rt.stderr(),
+        &mut errors,
+        &mut terminal,
     );
     ExitCode::from(ending.status())
 }

@@ -8,7 +8,7 @@ ghost use Rattle.jobs_csv.specs.declared.fault.Fault.{Fault as TheFault};
 ghost use Rattle.jobs_cli.specs.Answer.{IsMetBeforeWriting};
 ghost use Rattle.jobs_cli.specs.CommandLine.{IsWithinLimits, program_app};
 ghost use Rattle.jobs_cli.specs.Inner.Ending.{EndsAfter, EndsOn};
-ghost use Rattle.jobs_cli.specs.Program.{EndsBy, IsAnswerTo, IsFaultOf, exit_status};
+ghost use Rattle.jobs_cli.specs.Program.{AsksForProgress, EndsBy, IsAnswerTo, IsFaultOf, ShowsProgress, exit_status};
 
 use crate::invocation::Invocation;
 use crate::{command_line, place, replay, report, run};
@@ -55,13 +55,19 @@ fn report_fault<E: Write>(fault: Fault, errors: &mut E) -> Ending
 }
 
 // Does what the request asks for.
-fn answer<H: Threads + Wait + Sync, R: Read + Device, W: Write + Device>(
+fn answer<H, R, W, P>(
     rt: &H,
     alloc: Global,
     invocation: Invocation,
     reader: &mut R,
     writer: &mut W,
+    terminal: &mut Option<P>,
 ) -> Result<(), Fault>
+where
+    H: Threads + Wait + Sync,
+    R: Read + Device,
+    W: Write + Device,
+    P: Write + Send,
     requires { IsWithinLimits invocation }
     ensures answered { IfSome (R.remaining reader.old) (λ bytes.
         IsAnswerTo invocation bytes (W.contents writer.old) (W.contents writer.new) result) }
@@ -69,32 +75,36 @@ fn answer<H: Threads + Wait + Sync, R: Read + Device, W: Write + Device>(
         (IsFaultOf (R.failures reader.old) (R.failures reader.new)
         (W.failures writer.old) (W.failures writer.new) invocation) }
     ensures untouched { IfErr result (λ fault. IsMetBeforeWriting fault → writer.new ≡ writer.old) }
+    ensures shown { (terminal.new ≡ terminal.old) ⊎ ShowsProgress invocation }
 {
     match invocation {
-        Invocation::Run {
-            n,
-            dispatchers,
-            capacity,
-        } => run::run_on(rt, alloc, n, dispatchers, capacity, &Plain, reader, writer),
-        Invocation::Report {
-            n,
-            dispatchers,
-            capacity,
-        } => report::report_on(rt, alloc, n, dispatchers, capacity, &Plain, reader, writer),
+        Invocation::Run(options) => {
+            run::run_with_progress(rt, alloc, options, &Plain, reader, writer, terminal)
+        }
+        Invocation::Report(options) => {
+            report::report_with_progress(rt, alloc, options, &Plain, reader, writer, terminal)
+        }
         Invocation::Place { n } => place::place_on(alloc, n, reader, writer),
         Invocation::Replay { n, stations } => replay::replay_on(alloc, n, stations, reader, writer),
     }
 }
 
 // Does what the request asks for, and reports its fault in one line.
-fn carry_out<H: Threads + Wait + Sync, R: Read + Device, W: Write + Device, E: Write>(
+fn carry_out<H, R, W, E, P>(
     rt: &H,
     alloc: Global,
     invocation: Invocation,
     reader: &mut R,
     writer: &mut W,
     errors: &mut E,
+    terminal: &mut Option<P>,
 ) -> Ending
+where
+    H: Threads + Wait + Sync,
+    R: Read + Device,
+    W: Write + Device,
+    E: Write,
+    P: Write + Send,
     requires { IsWithinLimits invocation }
     ensures ends { EndsAfter invocation (R.remaining reader.old)
         (W.contents writer.old) (W.contents writer.new)
@@ -103,8 +113,9 @@ fn carry_out<H: Threads + Wait + Sync, R: Read + Device, W: Write + Device, E: W
     ensures line { (fault : TheFault) → result ≡ Ending.Failed fault true
         → Appends (E.contents errors.old) (E.contents errors.new) (fault_text fault ++ 10 ∷ []) }
     ensures quiet { result ≡ Ending.Done → errors.new ≡ errors.old }
+    ensures shown { (terminal.new ≡ terminal.old) ⊎ ShowsProgress invocation }
 {
-    match answer(rt, alloc, invocation, reader, writer) {
+    match answer(rt, alloc, invocation, reader, writer, terminal) {
         Ok(()) => Ending::Done,
         Err(fault) => report_fault(fault, errors),
     }
@@ -153,15 +164,23 @@ fn explain<W: Write + Device, E: Write>(
 /// Does what the words of a command line ask for, of which the first is the program's name.
 ///
 /// The line of a fault and what is wrong with a command line go to `errors`. Jobs are answered on
-/// threads of the runtime.
-pub fn run<H: Threads + Wait + Sync, R: Read + Device, W: Write + Device, E: Write>(
+/// threads of the runtime. The terminal, where there is one, shows how far a long run is while it
+/// works, unless the words ask for none of that.
+pub fn run<H, R, W, E, P>(
     rt: &H,
     alloc: Global,
     words: &[String],
     reader: &mut R,
     writer: &mut W,
     errors: &mut E,
+    terminal: &mut Option<P>,
 ) -> Ending
+where
+    H: Threads + Wait + Sync,
+    R: Read + Device,
+    W: Write + Device,
+    E: Write,
+    P: Write + Send,
     ensures ends { EndsBy (map string_bytes words.now) (R.remaining reader.old)
         (W.contents writer.old) (W.contents writer.new)
         (IsFaultOf (R.failures reader.old) (R.failures reader.new)
@@ -171,9 +190,12 @@ pub fn run<H: Threads + Wait + Sync, R: Read + Device, W: Write + Device, E: Wri
     ensures quiet { result ≡ Ending.Done → errors.new ≡ errors.old }
     ensures rejected { result ≡ Ending.Rejected
         → (reader.new ≡ reader.old) × (writer.new ≡ writer.old) }
+    ensures shown { (terminal.new ≡ terminal.old) ⊎ AsksForProgress (map string_bytes words.now) }
 {
     let error = match command_line::parse_args(alloc, words) {
-        Ok(invocation) => return carry_out(rt, alloc, invocation, reader, writer, errors),
+        Ok(invocation) => {
+            return carry_out(rt, alloc, invocation, reader, writer, errors, terminal);
+        }
         Err(error) => error,
     };
     explain(&error, writer, errors)

@@ -1,10 +1,10 @@
 // The command `report`: totals of the jobs of a file, once they are answered.
-ghost use Rattle.std.specs.Prelude.{◌≡◌, ◌≤◌, IfErr, IfSome};
+ghost use Rattle.std.specs.Prelude.{◌≡◌, ◌⊎◌, ◌≤◌, false, IfErr, IfSome};
 ghost use Rattle.jobs_cli.specs.Answer.{IsMetBeforeWriting, IsRunFault};
 ghost use Rattle.jobs_cli.specs.CommandLine.{AreShopSizes};
-ghost use Rattle.jobs_cli.specs.Program.{IsAnswerTo};
-ghost use Rattle.jobs_cli.specs.declared.invocation.Invocation.TheVariants.{Report};
+ghost use Rattle.jobs_cli.specs.Program.{IsReportAnswer};
 
+use crate::invocation::ShopOptions;
 use crate::shop::answer_file;
 use cube_report::report_rows;
 use cube_shape::MAX_DIM;
@@ -13,7 +13,7 @@ use floors::LockedFloor;
 use job_queue::LockedLine;
 use jobs_csv::{Device, Fault};
 use std::alloc::Global;
-use std::io::{Read, Write};
+use std::io::{Read, Sink, Write};
 use std::sync::Wait;
 use std::thread::Threads;
 
@@ -47,23 +47,54 @@ where
     requires limit { n ≤ MAX_DIM }
     requires sizes { AreShopSizes dispatchers capacity }
     ensures answered { IfSome (R.remaining reader.old) (λ bytes.
-        IsAnswerTo (Report n dispatchers capacity) bytes
-        (W.contents writer.old) (W.contents writer.new) result) }
+        IsReportAnswer n bytes (W.contents writer.old) (W.contents writer.new) result) }
     ensures failed { IfErr result (IsRunFault (R.failures reader.old) (R.failures reader.new)
         (W.failures writer.old) (W.failures writer.new)) }
     ensures untouched { IfErr result (λ fault.
         IsMetBeforeWriting fault → writer.new ≡ writer.old) }
 {
-    let finished = answer_file::<H, LockedLine, LockedFloor, T, R>(
-        rt,
-        alloc,
+    let options = ShopOptions {
         n,
         dispatchers,
         capacity,
-        runner,
-        reader,
+        is_quiet: true,
+    };
+    let mut terminal: Option<Sink> = None;
+    report_with_progress(rt, alloc, options, runner, reader, writer, &mut terminal)
+}
+
+/// Does as `report_on` does with these options, and shows on the terminal, where there is one, how many
+/// records are read and how many replies are done, unless the options are quiet. The line that shows
+/// it is wiped before the first row is written.
+pub fn report_with_progress<H, T, R, W, P>(
+    rt: &H,
+    alloc: Global,
+    options: ShopOptions,
+    runner: &T,
+    reader: &mut R,
+    writer: &mut W,
+    terminal: &mut Option<P>,
+) -> Result<(), Fault>
+where
+    H: Threads + Wait + Sync,
+    T: Runner + Sync,
+    R: Read + Device,
+    W: Write + Device,
+    P: Write + Send,
+    requires limit { options.n ≤ MAX_DIM }
+    requires sizes { AreShopSizes options.dispatchers options.capacity }
+    ensures answered { IfSome (R.remaining reader.old) (λ bytes.
+        IsReportAnswer options.n bytes (W.contents writer.old) (W.contents writer.new) result) }
+    ensures failed { IfErr result (IsRunFault (R.failures reader.old) (R.failures reader.new)
+        (W.failures writer.old) (W.failures writer.new)) }
+    ensures untouched { IfErr result (λ fault.
+        IsMetBeforeWriting fault → writer.new ≡ writer.old) }
+    ensures shown { (terminal.new ≡ terminal.old) ⊎ (options.is_quiet ≡ false) }
+{
+    let finished = answer_file::<H, LockedLine, LockedFloor, T, R, P>(
+        rt, alloc, options, runner, reader, terminal,
     )?;
-    let Ok(rows) = report_rows::<LockedFloor>(alloc, n, &finished) else {
+    let Ok(rows) = report_rows::<LockedFloor>(alloc, options.n, &finished) else {
         return Err(Fault::no_memory());
     };
     jobs_csv::write_rows(alloc, rows, writer)

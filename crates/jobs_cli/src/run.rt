@@ -1,10 +1,10 @@
 // The command `run`: the jobs of a file, answered.
-ghost use Rattle.std.specs.Prelude.{◌≡◌, ◌≤◌, IfErr, IfSome};
+ghost use Rattle.std.specs.Prelude.{◌≡◌, ◌⊎◌, ◌≤◌, false, IfErr, IfSome};
 ghost use Rattle.jobs_cli.specs.Answer.{IsMetBeforeWriting, IsRunFault};
 ghost use Rattle.jobs_cli.specs.CommandLine.{AreShopSizes};
-ghost use Rattle.jobs_cli.specs.Program.{IsAnswerTo};
-ghost use Rattle.jobs_cli.specs.declared.invocation.Invocation.TheVariants.{Run};
+ghost use Rattle.jobs_cli.specs.Program.{IsRunAnswer};
 
+use crate::invocation::ShopOptions;
 use crate::shop::answer_file;
 use batch::sorted_replies;
 use cube_shape::MAX_DIM;
@@ -13,7 +13,7 @@ use floors::LockedFloor;
 use job_queue::LockedLine;
 use jobs_csv::{Device, Fault};
 use std::alloc::Global;
-use std::io::{Read, Write};
+use std::io::{Read, Sink, Write};
 use std::sync::Wait;
 use std::thread::Threads;
 
@@ -47,21 +47,52 @@ where
     requires limit { n ≤ MAX_DIM }
     requires sizes { AreShopSizes dispatchers capacity }
     ensures answered { IfSome (R.remaining reader.old) (λ bytes.
-        IsAnswerTo (Run n dispatchers capacity) bytes
-        (W.contents writer.old) (W.contents writer.new) result) }
+        IsRunAnswer n bytes (W.contents writer.old) (W.contents writer.new) result) }
     ensures failed { IfErr result (IsRunFault (R.failures reader.old) (R.failures reader.new)
         (W.failures writer.old) (W.failures writer.new)) }
     ensures untouched { IfErr result (λ fault.
         IsMetBeforeWriting fault → writer.new ≡ writer.old) }
 {
-    let finished = answer_file::<H, LockedLine, LockedFloor, T, R>(
-        rt,
-        alloc,
+    let options = ShopOptions {
         n,
         dispatchers,
         capacity,
-        runner,
-        reader,
+        is_quiet: true,
+    };
+    let mut terminal: Option<Sink> = None;
+    run_with_progress(rt, alloc, options, runner, reader, writer, &mut terminal)
+}
+
+/// Does as `run_on` does with these options, and shows on the terminal, where there is one, how many
+/// records are read and how many replies are done, unless the options are quiet. The line that shows
+/// it is wiped before the first row is written.
+pub fn run_with_progress<H, T, R, W, P>(
+    rt: &H,
+    alloc: Global,
+    options: ShopOptions,
+    runner: &T,
+    reader: &mut R,
+    writer: &mut W,
+    terminal: &mut Option<P>,
+) -> Result<(), Fault>
+where
+    H: Threads + Wait + Sync,
+    T: Runner + Sync,
+    R: Read + Device,
+    W: Write + Device,
+    P: Write + Send,
+    requires limit { options.n ≤ MAX_DIM }
+    requires sizes { AreShopSizes options.dispatchers options.capacity }
+    ensures answered { IfSome (R.remaining reader.old) (λ bytes.
+        IsRunAnswer options.n bytes (W.contents writer.old) (W.contents writer.new) result) }
+    ensures failed { IfErr result (IsRunFault (R.failures reader.old) (R.failures reader.new)
+        (W.failures writer.old) (W.failures writer.new)) }
+    ensures untouched { IfErr result (λ fault.
+        IsMetBeforeWriting fault → writer.new ≡ writer.old) }
+    ensures shown { (terminal.new ≡ terminal.old) ⊎ (options.is_quiet ≡ false) }
+{
+    let finished = answer_file::<H, LockedLine, LockedFloor, T, R, P>(
+        rt, alloc, options, runner, reader, terminal,
     )?;
     let Ok(replies) = sorted_replies(alloc, finished) else {
         return Err(Fault::no_memory());

@@ -1,5 +1,5 @@
 // A shop for the jobs of a file.
-ghost use Rattle.std.specs.Prelude.{◌≡◌, ◌⊎◌, ◌≤◌, IfErr, IfOk, IfSome, length};
+ghost use Rattle.std.specs.Prelude.{◌≡◌, ◌⊎◌, ◌≤◌, false, IfErr, IfOk, IfSome, length};
 ghost use Rattle.floors.specs.Floor.{IsWhollyFree};
 ghost use Rattle.job_types.specs.declared.request.TheConstants.{MAX_LANES};
 ghost use Rattle.jobs_csv.specs.Fault.{IsInputFault};
@@ -8,7 +8,9 @@ ghost use Rattle.jobs_csv.specs.Outcome.{ReturnsRows};
 ghost use Rattle.jobs_cli.specs.Answer.{IsShopFault};
 ghost use Rattle.jobs_cli.specs.Inner.Shop.{AnswersFile, kind_of_stop};
 
+use crate::invocation::ShopOptions;
 use crate::lanes::open_lanes;
+use crate::progress::{Progress, RecordProgress, ReplyProgress};
 use batch::{StopReason, Stopped, answer_all};
 use cube_shape::MAX_DIM;
 use dispatcher::{Finished, Runner};
@@ -16,7 +18,7 @@ use floors::Floor;
 use job_queue::JobLine;
 use jobs_csv::{Device, Fault, FaultKind};
 use std::alloc::Global;
-use std::io::Read;
+use std::io::{Read, Sink, Write};
 use std::sync::Wait;
 use std::thread::Threads;
 
@@ -34,17 +36,15 @@ fn fault_of<M: Drop>(stopped: Stopped<M>) -> Fault
     Fault { row: 0, what }
 }
 
-// Reads a file of jobs for a machine of dimension `n`, and answers all of them by this many
-// dispatchers over a line of this capacity, each on a thread of its own, with a feeder for each open
-// lane.
-pub(crate) fn answer_file<H, L, F, T, R>(
+// Reads a file of jobs, and answers all of them by the dispatchers and over the line of the options,
+// each on a thread of its own, with a feeder for each open lane. The records and the replies are shown as progress.
+fn answer_file_with<'a, H, L, F, T, R, W>(
     rt: &H,
     alloc: Global,
-    n: u32,
-    dispatchers: u32,
-    capacity: usize,
-    runner: &T,
+    options: ShopOptions,
+    runner: &'a T,
     reader: &mut R,
+    progress: &'a Progress<W>,
 ) -> Result<Finished<F::Machine>, Fault>
 where
     H: Threads + Wait + Sync,
@@ -58,23 +58,91 @@ where
     F::Machine: Drop,
     T: Runner + Sync,
     R: Read + Device,
-    requires { n ≤ MAX_DIM }
+    W: Write + Drop + Send,
+    requires { options.n ≤ MAX_DIM }
     ensures answered { IfSome (R.remaining reader.old) (λ bytes. ReturnsRows
-        (λ finished jobs. AnswersFile n jobs finished) (parse_jobs n bytes) result) }
+        (λ finished jobs. AnswersFile options.n jobs finished)
+        (parse_jobs options.n bytes) result) }
     ensures lanes { IfOk result (λ finished. length finished.accepted.items ≤ MAX_LANES) }
-    ensures dim { IfOk result (λ finished. F.machine_dim finished.machine ≡ n) }
+    ensures dim { IfOk result (λ finished. F.machine_dim finished.machine ≡ options.n) }
     ensures free { IfOk result (λ finished.
-        IsWhollyFree n (F.machine_words finished.machine)) }
+        IsWhollyFree options.n (F.machine_words finished.machine)) }
     ensures failed { IfErr result (λ fault.
         IsInputFault (R.failures reader.old) (R.failures reader.new) fault
         ⊎ IsShopFault fault) }
 {
-    let lanes = jobs_csv::read_lanes(alloc, n, reader)?;
+    let ShopOptions {
+        n,
+        dispatchers,
+        capacity,
+        ..
+    } = options;
+    let records = RecordProgress { seen: 0, progress };
+    let (lanes, _records) = jobs_csv::read_lanes_with(alloc, n, records, reader)?;
     let Ok(lists) = open_lanes(alloc, lanes) else {
         return Err(Fault::no_memory());
     };
-    match answer_all::<H, L, F, T>(rt, alloc, n, dispatchers, capacity, runner, lists) {
+    let runner = ReplyProgress { runner, progress };
+    match answer_all::<H, L, F, ReplyProgress<'a, T, W>>(
+        rt,
+        alloc,
+        n,
+        dispatchers,
+        capacity,
+        &runner,
+        lists,
+    ) {
         Ok(finished) => Ok(finished),
         Err(stopped) => Err(fault_of(stopped)),
     }
+}
+
+// Answers the jobs of a file as `answer_file_with` does, and shows on the terminal how far it is,
+// where there is one and the options are not quiet.
+pub(crate) fn answer_file<H, L, F, T, R, P>(
+    rt: &H,
+    alloc: Global,
+    options: ShopOptions,
+    runner: &T,
+    reader: &mut R,
+    terminal: &mut Option<P>,
+) -> Result<Finished<F::Machine>, Fault>
+where
+    H: Threads + Wait + Sync,
+    L: JobLine + Sync,
+    L::Lane: Send,
+    L::Pass: Send,
+    L::Closer: Send,
+    L::Note: Send,
+    F: Floor + Sync,
+    F::Station: Send,
+    F::Machine: Drop,
+    T: Runner + Sync,
+    R: Read + Device,
+    P: Write + Send,
+    requires { options.n ≤ MAX_DIM }
+    ensures answered { IfSome (R.remaining reader.old) (λ bytes. ReturnsRows
+        (λ finished jobs. AnswersFile options.n jobs finished)
+        (parse_jobs options.n bytes) result) }
+    ensures lanes { IfOk result (λ finished. length finished.accepted.items ≤ MAX_LANES) }
+    ensures dim { IfOk result (λ finished. F.machine_dim finished.machine ≡ options.n) }
+    ensures free { IfOk result (λ finished.
+        IsWhollyFree options.n (F.machine_words finished.machine)) }
+    ensures failed { IfErr result (λ fault.
+        IsInputFault (R.failures reader.old) (R.failures reader.new) fault
+        ⊎ IsShopFault fault) }
+    ensures shown { (terminal.new ≡ terminal.old) ⊎ (options.is_quiet ≡ false) }
+{
+    if options.is_quiet {
+        let progress: Progress<Sink> = Progress::new(None);
+        return answer_file_with::<H, L, F, T, R, Sink>(
+            rt, alloc, options, runner, reader, &progress,
+        );
+    }
+    let progress = Progress::new(terminal.as_mut());
+    let finished = answer_file_with::<H, L, F, T, R, &mut P>(
+        rt, alloc, options, runner, reader, &progress,
+    );
+    progress.end();
+    finished
 }

@@ -1,6 +1,6 @@
 // Whole runs: the bytes that go in, and the bytes that come out.
 use crate::command_line::parse_args;
-use crate::invocation::Invocation;
+use crate::invocation::{Invocation, ShopOptions};
 use crate::program;
 use crate::run::run_on;
 use clap::error::ErrorKind;
@@ -11,13 +11,14 @@ use job_types::JobRefused;
 use jobs_csv::{Counted, Device, Fault, FaultKind, MAX_RECORDS};
 use std::alloc::Global;
 use std::io;
-use std::io::{Read, Write};
+use std::io::{Read, Sink, Write};
 use std::process::Abort;
 use std::sync::Wait;
 use std::test::Fail;
 use std::thread::Threads;
 
 mod place;
+mod progress;
 mod replay;
 mod report;
 mod two_inside;
@@ -418,11 +419,12 @@ fn ask(
 
 // A run on a machine of this dimension, with this many dispatchers and this capacity.
 fn a_run(n: u32, dispatchers: u32, capacity: usize) -> Result<Invocation, ErrorKind> {
-    Ok(Invocation::Run {
+    Ok(Invocation::Run(ShopOptions {
         n,
         dispatchers,
         capacity,
-    })
+        is_quiet: false,
+    }))
 }
 
 #[test]
@@ -452,6 +454,14 @@ fn reads_command_lines(rt: HostRuntime) -> Result<(), Fail> {
         "3",
     ];
     assert!(rt; ask(&rt, run.as_slice())? == a_run(3, 16, 1024));
+    let report = ["cubejobs", "report", "--quiet", "--dim", "3"];
+    let wanted = Invocation::Report(ShopOptions {
+        n: 3,
+        dispatchers: 2,
+        capacity: 16,
+        is_quiet: true,
+    });
+    assert!(rt; ask(&rt, report.as_slice())? == Ok(wanted));
     for bad in [
         "--dispatchers=0",
         "--dispatchers=17",
@@ -463,6 +473,8 @@ fn reads_command_lines(rt: HostRuntime) -> Result<(), Fail> {
         assert!(rt; ask(&rt, run.as_slice())? == Err(ErrorKind::ValueValidation));
     }
     let place = ["cubejobs", "place", "--dim", "3", "--dispatchers", "2"];
+    assert!(rt; ask(&rt, place.as_slice())? == Err(ErrorKind::UnknownArgument));
+    let place = ["cubejobs", "place", "--dim", "3", "--quiet"];
     assert!(rt; ask(&rt, place.as_slice())? == Err(ErrorKind::UnknownArgument));
     let run = ["cubejobs", "run", "--dim", "11"];
     assert!(rt; ask(&rt, run.as_slice())? == Err(ErrorKind::ValueValidation));
@@ -556,7 +568,16 @@ fn expect_call(
     let mut reader = Counted::new(input);
     let mut writer = Counted::new(Vec::new(rt.alloc()));
     let mut errors = Vec::new(rt.alloc());
-    let ending = program::run(rt, rt.alloc(), &all, &mut reader, &mut writer, &mut errors);
+    let mut terminal: Option<Sink> = None;
+    let ending = program::run(
+        rt,
+        rt.alloc(),
+        &all,
+        &mut reader,
+        &mut writer,
+        &mut errors,
+        &mut terminal,
+    );
     assert!(rt; ending.status() == status, "{line}");
     assert!(rt; writer.get_ref().as_slice() == output.as_bytes(), "{line}");
     assert!(rt; errors.as_slice() == line.as_bytes(), "{line}");

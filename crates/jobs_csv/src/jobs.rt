@@ -1,5 +1,5 @@
 // Reading a file of jobs.
-ghost use Rattle.std.specs.Prelude.{◌≡◌, ◌≢◌, ◌<◌, ◌≤◌, [], ◌∷◌, List, length, All, IfOk, IfErr, IfSome, IfNone};
+ghost use Rattle.std.specs.Prelude.{◌≡◌, ◌≢◌, ◌<◌, ◌≤◌, ◌-◌, ◌^◌, [], ◌∷◌, List, length, min, All, IfOk, IfErr, IfSome, IfNone};
 ghost use Rattle.std.specs.Cmp.Lexicographic.{pointwise};
 ghost use Rattle.std.specs.Str.{bytes_eq};
 ghost use Rattle.csv.specs.Records.{fields_of};
@@ -11,12 +11,13 @@ ghost use Rattle.jobs_csv.specs.Jobs.{accept_job, job_of, parse_jobs};
 ghost use Rattle.jobs_csv.specs.Lanes.{AreLanes, ReturnsLanes};
 ghost use Rattle.jobs_csv.specs.Inner.Columns.{job_columns};
 ghost use Rattle.jobs_csv.specs.Inner.Parse.{ReturnsParse};
-ghost use Rattle.jobs_csv.specs.Outcome.{ReturnsFile};
+ghost use Rattle.jobs_csv.specs.Outcome.{ReturnsFile, ReturnsRows};
 
 use crate::device::Device;
 use crate::fault::{Fault, FaultKind};
 use crate::format::{self, Format};
 use crate::lanes::Lanes;
+use crate::observer::{Observed, Observer, RecordCount};
 use crate::{columns, fields, job_fields};
 use csv::ByteRecord;
 use cube_shape::MAX_DIM;
@@ -187,10 +188,35 @@ pub fn read_lanes<R: Read + Device>(
         × All (λ job. job.machine ≡ n) jobs) }
     ensures failed { IfErr result (IsInputFault (R.failures reader.old) (R.failures reader.new)) }
 {
+    let (lanes, _count) = read_lanes_with(alloc, n, RecordCount::new(), reader)?;
+    Ok(lanes)
+}
+
+/// Reads the jobs of a whole file, as `read_lanes` does, while an observer that has seen none sees
+/// each record that becomes a job. Returns the observer beside the lanes.
+pub fn read_lanes_with<O: Observer, R: Read + Device>(
+    alloc: Global,
+    n: u32,
+    observer: O,
+    reader: &mut R,
+) -> Result<(Vec<Vec<Job>>, O), Fault>
+    requires limit { n ≤ MAX_DIM }
+    requires fresh { O.seen observer ≡ 0 }
+    ensures parse { IfSome (R.remaining reader.old) (λ bytes.
+        ReturnsRows (λ read jobs. AreLanes read.0.items jobs) (parse_jobs n bytes) result) }
+    ensures lanes { IfOk result (λ read. (jobs : List JobData) × AreLanes read.0.items jobs
+        × All (λ job. job.machine ≡ n) jobs
+        × (O.seen read.1 ≡ min (length jobs) (2 ^ 64 - 1))) }
+    ensures failed { IfErr result (IsInputFault (R.failures reader.old) (R.failures reader.new)) }
+{
     let failures = reader.failures();
     let Ok(lanes) = Lanes::new(alloc) else {
         return Err(Fault::attribute(FaultKind::Read, failures, failures));
     };
-    let lanes = format::read_file(alloc, &Jobs { n }, lanes, reader)?;
-    Ok(lanes.jobs)
+    let rows = Observed {
+        rows: lanes,
+        observer,
+    };
+    let Observed { rows, observer } = format::read_file(alloc, &Jobs { n }, rows, reader)?;
+    Ok((rows.jobs, observer))
 }

@@ -1,6 +1,6 @@
 // Whole reports: the jobs that go in, and the totals that come out.
 use super::{FailsAt, GOOD, JOBS, Ran, ask, expect_call, joined};
-use crate::invocation::Invocation;
+use crate::invocation::{Invocation, ShopOptions};
 use crate::report::report_on;
 use clap::error::ErrorKind;
 use cube_shape::MAX_DIM;
@@ -121,11 +121,12 @@ fn reports_a_failed_device(rt: HostRuntime) -> Result<(), Fail> {
 
 // A report on a machine of this dimension, with this many dispatchers and this capacity.
 fn a_report(n: u32, dispatchers: u32, capacity: usize) -> Result<Invocation, ErrorKind> {
-    Ok(Invocation::Report {
+    Ok(Invocation::Report(ShopOptions {
         n,
         dispatchers,
         capacity,
-    })
+        is_quiet: false,
+    }))
 }
 
 #[test]

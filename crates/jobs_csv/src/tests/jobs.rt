@@ -2,8 +2,9 @@
 use super::{FailsAt, joined};
 use crate::device::{Counted, Device};
 use crate::fault::{Fault, FaultKind};
-use crate::jobs::{read_jobs, read_lanes};
+use crate::jobs::{read_jobs, read_lanes, read_lanes_with};
 use crate::line_buffer::write_rows;
+use crate::observer::RecordCount;
 use cube_shape::{MAX_DIM, Region};
 use job_types::{Job, JobId, JobRefused, Kind, Op, Reply};
 use std::process::Abort;
@@ -114,6 +115,11 @@ fn reads_lanes(rt: HostRuntime) -> Result<(), Fail> {
                 }
             }
         }
+        Err(fault) => assert!(rt; false, "{fault}"),
+    }
+    let mut reader = Counted::new(input.as_slice());
+    match read_lanes_with(rt.alloc(), 3, RecordCount::new(), &mut reader) {
+        Ok((lanes, count)) => assert!(rt; lanes.len() == 16 && count.seen == 5),
         Err(fault) => assert!(rt; false, "{fault}"),
     }
     let mut reader = Counted::new(b"lane,kind\n".as_slice());

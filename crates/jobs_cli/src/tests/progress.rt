@@ -1,0 +1,64 @@
+// The line of progress: what a terminal gets, and that the output is the same.
+use super::{FailsAt, long_file};
+use crate::invocation::ShopOptions;
+use crate::run::run_with_progress;
+use dispatcher::Plain;
+use jobs_csv::Counted;
+use std::io::Write;
+use std::process::Abort;
+use std::sync::Wait;
+use std::test::Fail;
+use std::thread::Threads;
+
+// More than two steps of records and of replies.
+const JOBS: u64 = 2_500;
+
+// One dispatcher, so that the replies are counted in turn.
+const OPTIONS: ShopOptions = ShopOptions {
+    n: 0,
+    dispatchers: 1,
+    capacity: 16,
+    is_quiet: false,
+};
+
+const SHOWN: &str = "\r1000 records read\r2000 records read\
+    \r1000 of 2500 replies done\r2000 of 2500 replies done\
+    \r                               \r";
+
+// A run that shows its progress on this terminal, which is given back. It writes the replies.
+fn run_on_terminal<P: Write + Send + Drop>(
+    rt: &(impl AllocGlobal + Abort + Threads + Wait + Sync),
+    options: ShopOptions,
+    terminal: P,
+) -> Result<Option<P>, Fail> {
+    let (input, wanted) = long_file(rt.alloc(), JOBS)?;
+    let mut reader = Counted::new(input.as_slice());
+    let mut writer = Counted::new(Vec::new(rt.alloc()));
+    let mut terminal = Some(terminal);
+    let answer = run_with_progress(
+        rt,
+        rt.alloc(),
+        options,
+        &Plain,
+        &mut reader,
+        &mut writer,
+        &mut terminal,
+    );
+    assert!(rt; answer == Ok(()) && writer.get_ref() == &wanted);
+    Ok(terminal)
+}
+
+#[test]
+fn shows_progress(rt: HostRuntime) -> Result<(), Fail> {
+    let shown = run_on_terminal(&rt, OPTIONS, Vec::new(rt.alloc()))?;
+    assert!(rt; shown.is_some_and(|text| text.as_slice() == SHOWN.as_bytes()));
+    let quiet = ShopOptions {
+        is_quiet: true,
+        ..OPTIONS
+    };
+    let shown = run_on_terminal(&rt, quiet, Vec::new(rt.alloc()))?;
+    assert!(rt; shown.is_some_and(|text| text.is_empty()));
+    let failing = FailsAt::new(Vec::new(rt.alloc()), 1);
+    run_on_terminal(&rt, OPTIONS, failing)?;
+    Ok(())
+}
