@@ -9,13 +9,13 @@ use crate::shop::answer_file;
 use cube_report::report_rows;
 use cube_shape::MAX_DIM;
 use dispatcher::Runner;
-use floors::LockedFloor;
 use job_queue::LockedLine;
 use jobs_csv::{Device, Fault};
 use std::alloc::Global;
 use std::io::{Read, Write};
 use std::sync::Wait;
 use std::thread::Threads;
+use tree_floor::TreeFloor;
 
 /// Reads a file of jobs for a machine of dimension `n`, answers them on threads as `run_on` does, and
 /// writes totals: of the jobs of each open lane, of those of each dimension, of the free regions of
@@ -54,7 +54,7 @@ where
     ensures untouched { IfErr result (λ fault.
         IsMetBeforeWriting fault → writer.new ≡ writer.old) }
 {
-    let finished = answer_file::<H, LockedLine, LockedFloor, T, R>(
+    let finished = answer_file::<H, LockedLine, TreeFloor, T, R>(
         rt,
         alloc,
         n,
@@ -63,7 +63,7 @@ where
         runner,
         reader,
     )?;
-    let Ok(rows) = report_rows::<LockedFloor>(alloc, n, &finished) else {
+    let Ok(rows) = report_rows::<TreeFloor>(alloc, n, &finished) else {
         return Err(Fault::no_memory());
     };
     jobs_csv::write_rows(alloc, rows, writer)
