@@ -9,13 +9,13 @@ use crate::shop::answer_file;
 use cube_report::report_rows;
 use cube_shape::MAX_DIM;
 use dispatcher::Runner;
-use floors::LockedFloor;
 use job_queue::LockedLine;
 use jobs_csv::{Device, Fault};
 use std::alloc::Global;
 use std::io::{Read, Sink, Write};
 use std::sync::Wait;
 use std::thread::Threads;
+use tree_floor::TreeFloor;
 
 /// Reads a file of jobs for a machine of dimension `n`, answers them on threads as `run_on` does, and
 /// writes totals: of the jobs of each open lane, of those of each dimension, of the free regions of
@@ -91,10 +91,10 @@ where
         IsMetBeforeWriting fault → writer.new ≡ writer.old) }
     ensures shown { (terminal.new ≡ terminal.old) ⊎ (options.is_quiet ≡ false) }
 {
-    let finished = answer_file::<H, LockedLine, LockedFloor, T, R, P>(
+    let finished = answer_file::<H, LockedLine, TreeFloor, T, R, P>(
         rt, alloc, options, runner, reader, terminal,
     )?;
-    let Ok(rows) = report_rows::<LockedFloor>(alloc, options.n, &finished) else {
+    let Ok(rows) = report_rows::<TreeFloor>(alloc, options.n, &finished) else {
         return Err(Fault::no_memory());
     };
     jobs_csv::write_rows(alloc, rows, writer)

@@ -9,13 +9,13 @@ use crate::shop::answer_file;
 use batch::sorted_replies;
 use cube_shape::MAX_DIM;
 use dispatcher::Runner;
-use floors::LockedFloor;
 use job_queue::LockedLine;
 use jobs_csv::{Device, Fault};
 use std::alloc::Global;
 use std::io::{Read, Sink, Write};
 use std::sync::Wait;
 use std::thread::Threads;
+use tree_floor::TreeFloor;
 
 /// Reads a file of jobs for a machine of dimension `n`, answers them on threads, and writes their
 /// replies.
@@ -91,7 +91,7 @@ where
         IsMetBeforeWriting fault → writer.new ≡ writer.old) }
     ensures shown { (terminal.new ≡ terminal.old) ⊎ (options.is_quiet ≡ false) }
 {
-    let finished = answer_file::<H, LockedLine, LockedFloor, T, R, P>(
+    let finished = answer_file::<H, LockedLine, TreeFloor, T, R, P>(
         rt, alloc, options, runner, reader, terminal,
     )?;
     let Ok(replies) = sorted_replies(alloc, finished) else {

@@ -1,2 +1,3 @@
 mod GrantLemmas
 mod HandleLemmas
+pub mod SharedLemmas

@@ -1,5 +1,10 @@
+use denote.Param.Send.{sendable}
+use Rattle.tree_floor.proofs.SharedLemmas.{tree_floor_sync}
 use Rattle.jobs_cli.proofs.RunLemmas.{run_answered}
 use Rattle.jobs_cli.proofs.run.run_with_progress.Goals as goal
+
+pub answer_file-requires-sync-F : goal.answer_file-requires-sync-F
+answer_file-requires-sync-F g c κs within = search (sendable, tree_floor_sync) depth 20
 
 pub returns-clause-answered : goal.returns-clause-answered
 returns-clause-answered g c =
