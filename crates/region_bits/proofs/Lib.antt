@@ -1,2 +1,3 @@
 mod BitLemmas
+mod ScanLemmas
 pub mod RepresentsLemmas

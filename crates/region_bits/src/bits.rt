@@ -15,8 +15,8 @@ pub fn first_clear(bits: &[bool], n: u32, k: u32) -> Option<Region>
     ensures found { IfSome result (λ r. (m : ℕ) × (r ≡ block k m) × IsFirstClear n k bits.now m) }
     ensures none { IfNone result ((m : ℕ) → m < 2 ^ (n - k) → IsClear bits.now (block k m) → ⊥) }
 {
-    for m in 0..1 << (n - k) {
-        let region = nth_region(n, k, m);
+    for base in (0..1u64 << n).step_by(1 << k) {
+        let region = Region { base, dim: k };
         if is_clear(bits, n, region) {
             return Some(region);
         }
@@ -62,19 +62,6 @@ pub fn write(bits: &mut [bool], n: u32, region: Region, taken: bool)
 {
     let (start, end) = bit_range(n, region);
     bits[start..end].fill(taken);
-}
-
-// The `m`-th aligned region of dimension `k`.
-fn nth_region(n: u32, k: u32, m: u64) -> Region
-    requires machine { n ≤ MAX_DIM }
-    requires dim { k ≤ n }
-    requires number { m < 2 ^ (n - k) }
-    ensures { result ≡ block k m }
-{
-    Region {
-        base: m << k,
-        dim: k,
-    }
 }
 
 // The first processor of a region, and the one after its last.

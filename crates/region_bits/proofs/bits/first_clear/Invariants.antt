@@ -1,8 +1,11 @@
--- No region before the m-th is clear.
-use Rattle.std.proofs.Common.{ℕ, ◌<◌}
+-- The base is that of a region, and no region before it is clear.
+use Rattle.std.proofs.Common.{◌≡◌, ℕ, ◌*◌, ◌%◌, ◌^◌, ◌<◌}
 use Rattle.cube_shape.specs.Region.{block}
 use Rattle.region_bits.specs.Inner.{IsClear}
 use Rattle.region_bits.proofs.bits.first_clear.Given as goal
 
-abbrev pub invariant-loop-m : goal.invariant-loop-m
-invariant-loop-m l = (i : ℕ) → i < l.m → IsClear l.bits (block l.k i) → ⊥
+abbrev pub invariant-loop-base : goal.invariant-loop-base
+invariant-loop-base l = record {
+  begins : l.base % 2 ^ l.k ≡ 0;
+  before : (i : ℕ) → i * 2 ^ l.k < l.base → IsClear l.bits (block l.k i) → ⊥;
+}

@@ -1,0 +1,161 @@
+// Calls the library for C beside a plain model: on machines of dimension 0 to 10, random takes, releases
+// and questions, with bad arguments among them. It is C and C++ alike. It exits with 0, or says on standard
+// error which call answered otherwise than the model.
+#include <stdio.h>
+#include <stdlib.h>
+#include <string.h>
+
+#include "cubejobs.h"
+
+enum { CALLS = 100000, NOBODY = -1 };
+
+// Bytes on both sides of the machine, which no call may touch.
+struct guarded {
+    unsigned char before[64];
+    struct cubejobs_machine machine;
+    unsigned char after[64];
+};
+
+// Who holds each processor, and what each station holds.
+struct model {
+    unsigned dim;
+    int holder[1 << CUBEJOBS_MAX_DIM];
+    bool holds[CUBEJOBS_MAX_STATIONS];
+    struct cubejobs_answer held[CUBEJOBS_MAX_STATIONS];
+};
+
+static struct guarded memory;
+static struct model plain;
+static uint64_t seed = 88172645463325252u;
+
+static unsigned random_below(unsigned bound) {
+    seed ^= seed << 13;
+    seed ^= seed >> 7;
+    seed ^= seed << 17;
+    return (unsigned)(seed % bound);
+}
+
+static void expect(bool holds, const char *what) {
+    if (!holds) {
+        fprintf(stderr, "ffi: dimension %u: %s\n", plain.dim, what);
+        exit(1);
+    }
+}
+
+static struct cubejobs_answer answer(uint32_t code, uint32_t dim, uint64_t base) {
+    struct cubejobs_answer made = {code, dim, base};
+    return made;
+}
+
+static bool same(struct cubejobs_answer a, struct cubejobs_answer b) {
+    return a.code == b.code && a.dim == b.dim && a.base == b.base;
+}
+
+// The first processors of a region of `size` processors from `base` on, all held by this station.
+static void set_holder(unsigned base, unsigned size, int station) {
+    for (unsigned p = base; p < base + size; p++) plain.holder[p] = station;
+}
+
+static bool is_free(unsigned base, unsigned size) {
+    for (unsigned p = base; p < base + size; p++)
+        if (plain.holder[p] != NOBODY) return false;
+    return true;
+}
+
+static struct cubejobs_answer model_take(unsigned station, unsigned k) {
+    if (station >= CUBEJOBS_MAX_STATIONS) return answer(CUBEJOBS_BAD_STATION, 0, 0);
+    if (k > plain.dim) return answer(CUBEJOBS_BAD_DIMENSION, 0, 0);
+    if (plain.holds[station]) return answer(CUBEJOBS_STATION_HOLDS, 0, 0);
+    for (unsigned base = 0; base < 1u << plain.dim; base += 1u << k) {
+        if (!is_free(base, 1u << k)) continue;
+        set_holder(base, 1u << k, (int)station);
+        plain.holds[station] = true;
+        plain.held[station] = answer(CUBEJOBS_DONE, k, base);
+        return plain.held[station];
+    }
+    return answer(CUBEJOBS_NO_SUBCUBE, 0, 0);
+}
+
+static struct cubejobs_answer model_release(unsigned station) {
+    if (station >= CUBEJOBS_MAX_STATIONS) return answer(CUBEJOBS_BAD_STATION, 0, 0);
+    if (!plain.holds[station]) return answer(CUBEJOBS_NOTHING_HELD, 0, 0);
+    struct cubejobs_answer held = plain.held[station];
+    set_holder((unsigned)held.base, 1u << held.dim, NOBODY);
+    plain.holds[station] = false;
+    return held;
+}
+
+static bool model_is_wholly_free(void) { return is_free(0, 1u << plain.dim); }
+
+static void expect_holder(uint64_t processor) {
+    struct cubejobs_holder found = cubejobs_holder(&memory.machine, processor);
+    int wanted = processor < 1u << plain.dim ? plain.holder[processor] : NOBODY;
+    expect(found.found == (wanted != NOBODY), "holder: found");
+    expect(found.station == (wanted == NOBODY ? 0 : (uint32_t)wanted), "holder: station");
+}
+
+// One random call, and the same of the model. One in some forty arguments is bad.
+static void call_once(void) {
+    static struct cubejobs_machine before;
+    unsigned station = random_below(CUBEJOBS_MAX_STATIONS + 1);
+    unsigned k = random_below(3) == 0 ? random_below(plain.dim + 2) : random_below(plain.dim / 2 + 1);
+    struct cubejobs_answer got;
+    before = memory.machine;
+    switch (random_below(8)) {
+    case 0:
+        expect_holder(random_below((1u << plain.dim) + 2));
+        return;
+    case 1:
+        expect(cubejobs_is_wholly_free(&memory.machine) == model_is_wholly_free(), "wholly free");
+        return;
+    case 2:
+    case 3:
+    case 4:
+        got = cubejobs_release(&memory.machine, station);
+        expect(same(got, model_release(station)), "release");
+        break;
+    default:
+        got = cubejobs_take(&memory.machine, station, k);
+        expect(same(got, model_take(station, k)), "take");
+    }
+    if (got.code != CUBEJOBS_DONE)
+        expect(memcmp(&before, &memory.machine, sizeof before) == 0, "a refusal changed the machine");
+}
+
+static void expect_bad_arguments(void) {
+    const uint32_t worst = UINT32_MAX;
+    struct cubejobs_machine *machine = &memory.machine;
+    expect(cubejobs_open(machine, CUBEJOBS_MAX_DIM + 1) == CUBEJOBS_BAD_DIMENSION, "open 11");
+    expect(cubejobs_open(machine, worst) == CUBEJOBS_BAD_DIMENSION, "open 2^32 - 1");
+    expect(cubejobs_take(machine, worst, worst).code == CUBEJOBS_BAD_STATION, "worst take");
+    expect(cubejobs_take(machine, 0, worst).code == CUBEJOBS_BAD_DIMENSION, "worst dimension");
+    expect(cubejobs_take(machine, 0, plain.dim + 1).code == CUBEJOBS_BAD_DIMENSION, "dimension");
+    expect(cubejobs_release(machine, worst).code == CUBEJOBS_BAD_STATION, "worst release");
+    expect(!cubejobs_holder(machine, UINT64_MAX).found, "worst processor");
+    expect(!cubejobs_holder(machine, (uint64_t)1 << plain.dim).found, "processor");
+}
+
+static void open_both(unsigned dim) {
+    plain.dim = dim;
+    set_holder(0, 1u << CUBEJOBS_MAX_DIM, NOBODY);
+    memset(plain.holds, 0, sizeof plain.holds);
+    expect(cubejobs_open(&memory.machine, dim) == CUBEJOBS_DONE, "open");
+    expect(cubejobs_is_wholly_free(&memory.machine), "wholly free once opened");
+}
+
+static void expect_guards(void) {
+    for (unsigned i = 0; i < sizeof memory.before; i++)
+        expect(memory.before[i] == 0 && memory.after[i] == 0, "a byte outside the machine changed");
+}
+
+int main(void) {
+    for (unsigned dim = 0; dim <= CUBEJOBS_MAX_DIM; dim++) {
+        open_both(dim);
+        for (int call = 0; call < CALLS; call++) call_once();
+        for (unsigned p = 0; p < 1u << dim; p++) expect_holder(p);
+        expect_bad_arguments();
+        expect_guards();
+    }
+    printf("ffi: %d calls on each of %d machines\n", CALLS, CUBEJOBS_MAX_DIM + 1);
+    return 0;
+}

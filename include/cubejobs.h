@@ -1,0 +1,97 @@
+/* The exact allocator of aligned subcubes, for C and C++.
+ *
+ * A machine has the 2^dim processors 0 to 2^dim - 1. A station takes a region of dimension k: the 2^k
+ * processors from m * 2^k on, for the least m such that the region is apart from every region that is
+ * held. Each station holds one region at most, and it alone gives it back.
+ *
+ * The library takes no memory. A machine is one struct of about 1.5 KB, which the caller keeps wherever it
+ * likes; there is nothing to close. Link libcubejobs_c.a, which `rt lib` makes in crates/cubejobs_c/out.
+ *
+ * It is proved that the functions do what is said here. Nothing checks what the caller owes them:
+ *
+ *   - Each pointer is to a whole struct cubejobs_machine, and not null.
+ *   - The machine's bytes are zero before it is first opened: it is static, or is set by `= {0}`, by calloc
+ *     or by memset. From then on these functions alone write to it. (So each bool is 0 or 1. A copy of a
+ *     whole machine is a machine.)
+ *   - cubejobs_open has answered CUBEJOBS_DONE for it before any other call.
+ *   - The calls for one machine come one at a time. Calls for two machines may run at the same time.
+ *
+ * All else is tested by the call and answered by a code: dimensions, stations, processors, and who holds
+ * what. A call that is refused changes nothing.
+ */
+#ifndef CUBEJOBS_H
+#define CUBEJOBS_H
+
+#include <stdbool.h>
+#include <stdint.h>
+
+#ifdef __cplusplus
+extern "C" {
+#endif
+
+/* The largest dimension of a machine, and how many stations it has: their numbers are 0 to 31. */
+#define CUBEJOBS_MAX_DIM 10
+#define CUBEJOBS_MAX_STATIONS 32
+
+/* What an answer's code says. */
+enum cubejobs_code {
+    CUBEJOBS_DONE = 0,          /* the call was done */
+    CUBEJOBS_NO_SUBCUBE = 1,    /* no region of this dimension is apart from every held region */
+    CUBEJOBS_BAD_DIMENSION = 2, /* larger than the machine's dimension, or than that of any machine */
+    CUBEJOBS_BAD_STATION = 3,   /* not below CUBEJOBS_MAX_STATIONS */
+    CUBEJOBS_STATION_HOLDS = 4, /* the station holds a region already */
+    CUBEJOBS_NOTHING_HELD = 5   /* the station holds no region */
+};
+
+/* What one station holds. Only the library writes to it. */
+struct cubejobs_slot {
+    uint64_t base;
+    uint32_t dim;
+    bool held;
+};
+
+/* A machine. Only the library writes to it. */
+struct cubejobs_machine {
+    uint32_t dim;
+    bool bits[1 << CUBEJOBS_MAX_DIM];
+    struct cubejobs_slot slots[CUBEJOBS_MAX_STATIONS];
+};
+
+/* The answer of a take or a release: where the code is CUBEJOBS_DONE, the region is the 2^dim processors
+ * from base on. Otherwise base and dim are 0. */
+struct cubejobs_answer {
+    uint32_t code;
+    uint32_t dim;
+    uint64_t base;
+};
+
+/* Who holds a processor: the station, if one was found, and otherwise 0. */
+struct cubejobs_holder {
+    uint32_t station;
+    bool found;
+};
+
+/* Makes the machine one of dimension `dim` whose stations hold nothing, whatever it was before. Answers
+ * CUBEJOBS_DONE, or CUBEJOBS_BAD_DIMENSION where `dim` is past CUBEJOBS_MAX_DIM. */
+uint32_t cubejobs_open(struct cubejobs_machine *machine, uint32_t dim);
+
+/* Gives a station that holds nothing the first fit of dimension `k`. The code is CUBEJOBS_DONE, or the
+ * first of these that is so: CUBEJOBS_BAD_STATION, CUBEJOBS_BAD_DIMENSION, CUBEJOBS_STATION_HOLDS,
+ * CUBEJOBS_NO_SUBCUBE. */
+struct cubejobs_answer cubejobs_take(struct cubejobs_machine *machine, uint32_t station, uint32_t k);
+
+/* Takes a station's region away from it. The code is CUBEJOBS_DONE, with that region, or
+ * CUBEJOBS_BAD_STATION or CUBEJOBS_NOTHING_HELD. */
+struct cubejobs_answer cubejobs_release(struct cubejobs_machine *machine, uint32_t station);
+
+/* The station whose region has a processor. A number past the processors is in no region. */
+struct cubejobs_holder cubejobs_holder(const struct cubejobs_machine *machine, uint64_t processor);
+
+/* Whether no station holds a region. */
+bool cubejobs_is_wholly_free(const struct cubejobs_machine *machine);
+
+#ifdef __cplusplus
+}
+#endif
+
+#endif

@@ -1,0 +1,92 @@
+//! The functions of the library, as `include/cubejobs.h` declares them. This is the only unsafe code.
+//!
+//! A [`Machine`] is made by [`open`] alone, its fields are private to this module, and here only the library
+//! writes to them: so each call gets what the library's proof asks of the memory.
+
+pub const MAX_DIM: usize = 10;
+pub const MAX_STATIONS: usize = 32;
+
+pub const DONE: u32 = 0;
+pub const NO_SUBCUBE: u32 = 1;
+pub const BAD_DIMENSION: u32 = 2;
+pub const BAD_STATION: u32 = 3;
+pub const STATION_HOLDS: u32 = 4;
+pub const NOTHING_HELD: u32 = 5;
+
+#[repr(C)]
+#[derive(Clone, Copy)]
+struct Slot {
+    base: u64,
+    dim: u32,
+    held: bool,
+}
+
+#[repr(C)]
+#[derive(Clone)]
+pub struct Machine {
+    dim: u32,
+    bits: [bool; 1 << MAX_DIM],
+    slots: [Slot; MAX_STATIONS],
+}
+
+#[repr(C)]
+#[derive(Clone, Copy)]
+pub struct Answer {
+    pub code: u32,
+    pub dim: u32,
+    pub base: u64,
+}
+
+#[repr(C)]
+#[derive(Clone, Copy)]
+pub struct Holder {
+    pub station: u32,
+    pub found: bool,
+}
+
+#[link(name = "cubejobs_c", kind = "static")]
+unsafe extern "C" {
+    fn cubejobs_open(machine: &mut Machine, dim: u32) -> u32;
+    fn cubejobs_take(machine: &mut Machine, station: u32, k: u32) -> Answer;
+    fn cubejobs_release(machine: &mut Machine, station: u32) -> Answer;
+    fn cubejobs_holder(machine: &Machine, processor: u64) -> Holder;
+    fn cubejobs_is_wholly_free(machine: &Machine) -> bool;
+}
+
+/// A machine of this dimension whose stations hold nothing, or nothing where it is past `MAX_DIM`.
+pub fn open(dim: u32) -> Option<Machine> {
+    let mut machine = Machine {
+        dim: 0,
+        bits: [false; 1 << MAX_DIM],
+        slots: [Slot { base: 0, dim: 0, held: false }; MAX_STATIONS],
+    };
+    // SAFETY: the reference is to a whole machine of valid fields, and lasts for the call.
+    let code = unsafe { cubejobs_open(&mut machine, dim) };
+    (code == DONE).then_some(machine)
+}
+
+impl Machine {
+    pub fn dim(&self) -> u32 {
+        self.dim
+    }
+
+    pub fn take(&mut self, station: u32, k: u32) -> Answer {
+        // SAFETY: the machine was opened, and only the library has written to it since.
+        unsafe { cubejobs_take(self, station, k) }
+    }
+
+    pub fn release(&mut self, station: u32) -> Answer {
+        // SAFETY: as for a take.
+        unsafe { cubejobs_release(self, station) }
+    }
+
+    pub fn holder(&self, processor: u64) -> Holder {
+        // SAFETY: as for a take. The call only reads.
+        unsafe { cubejobs_holder(self, processor) }
+    }
+
+    pub fn is_wholly_free(&self) -> bool {
+        // SAFETY: as for a take. The call only reads.
+        unsafe { cubejobs_is_wholly_free(self) }
+    }
+}

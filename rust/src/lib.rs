@@ -1,0 +1,174 @@
+//! Exact first fit over the aligned subcubes of a hypercube machine: safe Rust over the proved library
+//! `cubejobs_c`. It takes no memory and has no dependencies.
+//!
+//! A machine of dimension `n` has the processors `0` to `2^n - 1`. A station takes a region of dimension
+//! `k`: the `2^k` processors from `m * 2^k` on, for the least `m` such that the region is apart from every
+//! region that is held. Each station holds one region at most, and it alone gives it back.
+//!
+//! ```
+//! use cubejobs::{Machine, Region, TakeError};
+//!
+//! let mut machine = Machine::new(3)?;
+//! assert_eq!(machine.take(0, 1)?, Region { base: 0, dim: 1 });
+//! assert_eq!(machine.take(1, 2)?, Region { base: 4, dim: 2 });
+//! assert_eq!(machine.take(2, 2), Err(TakeError::NoSubcube));
+//! assert_eq!(machine.holder(5), Some(1));
+//! machine.release(0)?;
+//! machine.release(1)?;
+//! assert!(machine.is_wholly_free());
+//! # Ok::<(), Box<dyn std::error::Error>>(())
+//! ```
+//!
+//! What the library's proof asks of its callers is kept by these types: a [`Machine`] is opened before it
+//! can be used, its memory is private, and `&mut` lets one call in at a time.
+#![no_std]
+#![warn(missing_docs)]
+
+mod ffi;
+
+use core::error::Error;
+use core::fmt;
+
+/// The largest dimension of a machine: it has at most `2^MAX_DIM` processors.
+pub const MAX_DIM: u32 = ffi::MAX_DIM as u32;
+
+/// How many stations a machine has. Their numbers are `0` to `MAX_STATIONS - 1`.
+pub const MAX_STATIONS: u32 = ffi::MAX_STATIONS as u32;
+
+/// An aligned region: the `2^dim` processors from `base` on.
+#[derive(Clone, Copy, Debug, PartialEq, Eq, Hash)]
+pub struct Region {
+    /// The least of its processors.
+    pub base: u64,
+    /// Its dimension.
+    pub dim: u32,
+}
+
+/// A machine with first fit. It is some 1.5 KB, and a clone of it is another machine.
+#[derive(Clone)]
+pub struct Machine {
+    inner: ffi::Machine,
+}
+
+/// The dimension is past [`MAX_DIM`].
+#[derive(Clone, Copy, Debug, PartialEq, Eq)]
+pub struct BadDimension;
+
+/// Why a take was refused. A refusal changes nothing.
+#[derive(Clone, Copy, Debug, PartialEq, Eq)]
+pub enum TakeError {
+    /// The station is not below [`MAX_STATIONS`].
+    BadStation,
+    /// The dimension is past that of the machine.
+    BadDimension,
+    /// The station holds a region, and a station holds one at most.
+    StationHolds,
+    /// No aligned region of this dimension is apart from every held region.
+    NoSubcube,
+}
+
+/// Why a release was refused. A refusal changes nothing.
+#[derive(Clone, Copy, Debug, PartialEq, Eq)]
+pub enum ReleaseError {
+    /// The station is not below [`MAX_STATIONS`].
+    BadStation,
+    /// The station holds no region.
+    NothingHeld,
+}
+
+impl Machine {
+    /// A machine of dimension `dim` whose stations hold nothing.
+    pub fn new(dim: u32) -> Result<Self, BadDimension> {
+        match ffi::open(dim) {
+            Some(inner) => Ok(Machine { inner }),
+            None => Err(BadDimension),
+        }
+    }
+
+    /// The dimension of the machine.
+    pub fn dim(&self) -> u32 {
+        self.inner.dim()
+    }
+
+    /// Gives a station that holds nothing the first fit of dimension `k`: of all aligned regions of this
+    /// dimension that are apart from every held region, the one with the least base.
+    ///
+    /// The error is the first of these that is so: `BadStation`, `BadDimension`, `StationHolds`,
+    /// `NoSubcube`.
+    pub fn take(&mut self, station: u32, k: u32) -> Result<Region, TakeError> {
+        let answer = self.inner.take(station, k);
+        match answer.code {
+            ffi::DONE => Ok(answer.region()),
+            ffi::NO_SUBCUBE => Err(TakeError::NoSubcube),
+            ffi::BAD_DIMENSION => Err(TakeError::BadDimension),
+            ffi::BAD_STATION => Err(TakeError::BadStation),
+            ffi::STATION_HOLDS => Err(TakeError::StationHolds),
+            code => unreachable!("a take has no code {code}"),
+        }
+    }
+
+    /// Takes the region of a station away from it.
+    pub fn release(&mut self, station: u32) -> Result<Region, ReleaseError> {
+        let answer = self.inner.release(station);
+        match answer.code {
+            ffi::DONE => Ok(answer.region()),
+            ffi::BAD_STATION => Err(ReleaseError::BadStation),
+            ffi::NOTHING_HELD => Err(ReleaseError::NothingHeld),
+            code => unreachable!("a release has no code {code}"),
+        }
+    }
+
+    /// The station whose region has a processor, if there is one. A number past the processors of the
+    /// machine is in no region.
+    pub fn holder(&self, processor: u64) -> Option<u32> {
+        let holder = self.inner.holder(processor);
+        holder.found.then_some(holder.station)
+    }
+
+    /// Whether no station holds a region.
+    pub fn is_wholly_free(&self) -> bool {
+        self.inner.is_wholly_free()
+    }
+}
+
+impl ffi::Answer {
+    fn region(self) -> Region {
+        Region { base: self.base, dim: self.dim }
+    }
+}
+
+impl fmt::Debug for Machine {
+    fn fmt(&self, f: &mut fmt::Formatter<'_>) -> fmt::Result {
+        f.debug_struct("Machine").field("dim", &self.dim()).finish_non_exhaustive()
+    }
+}
+
+impl fmt::Display for BadDimension {
+    fn fmt(&self, f: &mut fmt::Formatter<'_>) -> fmt::Result {
+        write!(f, "the dimension is past {MAX_DIM}")
+    }
+}
+
+impl fmt::Display for TakeError {
+    fn fmt(&self, f: &mut fmt::Formatter<'_>) -> fmt::Result {
+        f.write_str(match self {
+            TakeError::BadStation => "there is no such station",
+            TakeError::BadDimension => "the dimension is past that of the machine",
+            TakeError::StationHolds => "the station holds a region",
+            TakeError::NoSubcube => "no free subcube of this dimension",
+        })
+    }
+}
+
+impl fmt::Display for ReleaseError {
+    fn fmt(&self, f: &mut fmt::Formatter<'_>) -> fmt::Result {
+        f.write_str(match self {
+            ReleaseError::BadStation => "there is no such station",
+            ReleaseError::NothingHeld => "the station holds nothing",
+        })
+    }
+}
+
+impl Error for BadDimension {}
+impl Error for TakeError {}
+impl Error for ReleaseError {}
