@@ -1,0 +1,4 @@
+pub mod HistoryLemmas
+pub mod StepLemmas
+pub mod DealLemmas
+pub mod EndLemmas

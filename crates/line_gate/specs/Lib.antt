@@ -1,0 +1,4 @@
+pub mod Record
+pub mod Gate
+pub mod Run
+pub mod Inner

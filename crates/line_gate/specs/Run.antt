@@ -1,0 +1,19 @@
+-- What the records of all lanes and passes of a gate say together, once it has come to its end.
+use Rattle.std.specs.Prelude.{◌≡◌, ℕ, ◌<◌, ◌≤◌, List, length}
+use Rattle.std.specs.List.{AllByRecursion as Each}
+use Rattle.histories.specs.Sums.{total, below, is_at}
+use Rattle.line_gate.specs.declared.record.LaneEntries.{LaneEntries}
+use Rattle.line_gate.specs.declared.record.PassReadings.{PassReadings}
+use Rattle.line_gate.specs.Record.{Seals}
+
+-- All lanes, all of whose entries are settled, all passes and the number of the close note.
+pub record WholeGate (lanes : List LaneEntries) (passes : List PassReadings) (note : ℕ) : Type 0 where
+  -- each lane is there once
+  pub numbers : (k : ℕ) → k < length lanes → total (λ l. is_at k l.number) lanes ≡ 1
+  -- the entries of all lanes are the numbers below the note's, each once
+  pub entries : (weight : ℕ → ℕ) → total (λ l. total (λ e. weight e.number) l.entries) lanes ≡ below weight note
+  pub entered_before : Each (λ l. Each (λ e. e.number < note) l.entries) lanes
+  -- a count that was seen beside the closed mark is at least the note's
+  pub seen : Each (λ l. Each (λ n. note ≤ n) l.seen) lanes
+  -- where a pass read that the gate is sealed, all entries were settled
+  pub sealed : Each (λ p. Each (λ r. Seals r → r.settled ≡ note) p.readings) passes

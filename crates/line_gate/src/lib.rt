@@ -1,0 +1,22 @@
+//! The gate of a line of jobs: two words, by which lanes enter and by which passes learn that the
+//! line has come to its end.
+//!
+//! A lane enters by one step on the first word, which counts entries and has the closed mark, and
+//! settles its entry by one step on the second. The closer sets the mark. A pass that reads as many
+//! entries settled as counted, beside the closed mark, knows that all entries are settled. Each
+//! call is one atomic step, and waits for nobody.
+#![tactic(auto)]
+
+mod gate;
+mod handle;
+mod record;
+mod rule;
+mod steps;
+#[cfg(test)]
+mod tests;
+mod view;
+
+pub use gate::{Counts, Gate, MAX_ENTRIES, Witness};
+pub use handle::{GateCloser, GateEnd, GateLane, GateMembers, GateNote, GatePass};
+pub use record::{LaneEntries, PassReadings, Reading, SettledEntry};
+pub use steps::Counted;

@@ -1,0 +1,94 @@
+// The rule of a gate's table, and the names of its steps.
+ghost use Rattle.std.specs.Prelude.{true, false};
+ghost use Rattle.line_gate.specs.Inner.View.{first_view, without_lane, lane_alone, without_pass, pass_alone, joined, spent_view};
+ghost use Rattle.line_gate.specs.Inner.Rule.{Keeps};
+ghost use Rattle.line_gate.specs.Inner.Step.{looks_at, enters_at, undoes_at, settles_at, closes_at, reads_settled_at, reads_gate_at};
+
+use crate::gate::Counts;
+use crate::view::View;
+use atomic_table::{Join, Play, Split, TableRule};
+
+pub struct GateRule;
+
+impl TableRule<(), View, Counts> for GateRule {
+    ghost holds = { Keeps };
+
+    ghost first = { first_view };
+}
+
+pub struct Look;
+
+impl Play<(), View> for Look {
+    ghost then = { looks_at };
+}
+
+pub struct Enter;
+
+impl Play<(), View> for Enter {
+    ghost then = { enters_at };
+}
+
+pub struct Undo;
+
+impl Play<(), View> for Undo {
+    ghost then = { undoes_at };
+}
+
+// The entry is settled, and its job was accepted.
+pub struct SettleAccepted;
+
+impl Play<(), View> for SettleAccepted {
+    ghost then = { settles_at true };
+}
+
+// The entry is settled, and the line was full.
+pub struct SettleFull;
+
+impl Play<(), View> for SettleFull {
+    ghost then = { settles_at false };
+}
+
+pub struct Close;
+
+impl Play<(), View> for Close {
+    ghost then = { closes_at };
+}
+
+pub struct ReadSettled;
+
+impl Play<(), View> for ReadSettled {
+    ghost then = { reads_settled_at };
+}
+
+pub struct ReadGate;
+
+impl Play<(), View> for ReadGate {
+    ghost then = { reads_gate_at };
+}
+
+// One lane's record is dealt out.
+pub struct DealLane;
+
+impl Split<View> for DealLane {
+    ghost left = { without_lane };
+
+    ghost right = { lane_alone };
+}
+
+// One pass's record is dealt out.
+pub struct DealPass;
+
+impl Split<View> for DealPass {
+    ghost left = { without_pass };
+
+    ghost right = { pass_alone };
+}
+
+// The records of two seats come together.
+pub struct Gather;
+
+impl Join<View> for Gather {
+    ghost both = { joined };
+
+    ghost spent = { spent_view };
+}

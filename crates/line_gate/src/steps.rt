@@ -1,0 +1,136 @@
+// The steps at a gate, each one atomic step.
+ghost use Rattle.std.specs.Prelude.{◌≡◌, ◌<◌, Some, true, false, length, MatchOption, MatchResult};
+ghost use Rattle.line_gate.specs.declared.gate.TheConstants.{MAX_ENTRIES};
+ghost use Rattle.line_gate.specs.Record.{IsSettled, after_look, after_enter, after_late_enter, after_undo, after_settle, after_read_settled, after_read_gate};
+
+use crate::gate::{CLOSED, GATE, Gate, SETTLED, Witness};
+use crate::handle::{GateCloser, GateLane, GateNote, GatePass};
+use crate::rule::{Close, Enter, Look, ReadGate, ReadSettled, SettleAccepted, SettleFull, Undo};
+
+/// What a pass reads in the first word of a gate.
+#[derive(Clone, Copy, Debug, PartialEq, Eq)]
+pub struct Counted {
+    /// The count of entries.
+    pub entries: u64,
+    /// Whether the closed mark stands beside it.
+    pub closed: bool,
+}
+
+impl<F: Witness, E: Witness> Gate<F, E> {
+    /// Looks at the gate: the count of entries, where the closed mark stands beside it.
+    pub fn look(&self, lane: &mut GateLane) -> Option<u64>
+        requires { lane.old.gate ≡ self.now.table }
+        ensures gate { lane.new.gate ≡ self.now.table }
+        ensures known { MatchOption result (lane.new.known ≡ lane.old.known)
+            (λ count. lane.new.known ≡ after_look count lane.old.known) }
+    {
+        let found = self.table.shared.load::<Look>(&mut lane.seat, GATE);
+        if found < CLOSED {
+            None
+        } else {
+            Some(found - CLOSED)
+        }
+    }
+
+    /// Enters: the number of the entry, which is then pending. After the close it is the count that was
+    /// found, and the entry is late.
+    pub fn enter(&self, lane: &mut GateLane) -> Result<u64, u64>
+        requires gate { lane.old.gate ≡ self.now.table }
+        requires settled { IsSettled lane.old.known }
+        requires unspent { length lane.old.known.entries < MAX_ENTRIES }
+        ensures gate { lane.new.gate ≡ self.now.table }
+        ensures known { MatchResult result
+            (λ number. lane.new.known ≡ after_enter number lane.old.known)
+            (λ count. lane.new.known ≡ after_late_enter count lane.old.known) }
+    {
+        let found = self
+            .table
+            .shared
+            .fetch_add::<Enter>(&mut lane.seat, GATE, 1);
+        if found < CLOSED {
+            Ok(found)
+        } else {
+            Err(found - CLOSED)
+        }
+    }
+
+    /// Takes a late entry back.
+    pub fn undo(&self, lane: &mut GateLane)
+        requires gate { lane.old.gate ≡ self.now.table }
+        requires late { lane.old.known.late ≡ true }
+        ensures gate { lane.new.gate ≡ self.now.table }
+        ensures known { lane.new.known ≡ after_undo lane.old.known }
+    {
+        self.table.shared.fetch_sub::<Undo>(&mut lane.seat, GATE, 1);
+    }
+
+    /// Settles the pending entry, whose job the line has accepted.
+    pub fn settle_accepted(&self, lane: &mut GateLane, _number: u64)
+        requires gate { lane.old.gate ≡ self.now.table }
+        requires pending { lane.old.known.pending ≡ Some _number }
+        ensures gate { lane.new.gate ≡ self.now.table }
+        ensures known { lane.new.known ≡ after_settle _number true lane.old.known }
+    {
+        self.table
+            .shared
+            .fetch_add::<SettleAccepted>(&mut lane.seat, SETTLED, 1);
+    }
+
+    /// Settles the pending entry, whose job found the line full.
+    pub fn settle_full(&self, lane: &mut GateLane, _number: u64, full: F)
+        requires gate { lane.old.gate ≡ self.now.table }
+        requires pending { lane.old.known.pending ≡ Some _number }
+        ensures gate { lane.new.gate ≡ self.now.table }
+        ensures known { lane.new.known ≡ after_settle _number false lane.old.known }
+    {
+        full.spend();
+        self.table
+            .shared
+            .fetch_add::<SettleFull>(&mut lane.seat, SETTLED, 1);
+    }
+
+    /// Closes the gate. The note has the count of entries before the close.
+    pub fn close(&self, closer: GateCloser) -> GateNote
+        requires { closer.gate ≡ self.now.table }
+        ensures { result.gate ≡ self.now.table }
+    {
+        let GateCloser { mut seat } = closer;
+        let number = self.table.shared.fetch_or::<Close>(&mut seat, GATE, CLOSED);
+        GateNote { seat, number }
+    }
+
+    /// Reads how many entries are settled.
+    pub fn read_settled(&self, pass: &mut GatePass) -> u64
+        requires { pass.old.gate ≡ self.now.table }
+        ensures gate { pass.new.gate ≡ self.now.table }
+        ensures known { pass.new.known ≡ after_read_settled result pass.old.known }
+    {
+        self.table
+            .shared
+            .load::<ReadSettled>(&mut pass.seat, SETTLED)
+    }
+
+    /// Reads the count of entries and the closed mark, for a pass that found the line empty and has read
+    /// how many entries are settled.
+    pub fn read_gate(&self, pass: &mut GatePass, _settled: u64, empty: E) -> Counted
+        requires gate { pass.old.gate ≡ self.now.table }
+        requires half { pass.old.known.settled ≡ Some _settled }
+        ensures gate { pass.new.gate ≡ self.now.table }
+        ensures known { pass.new.known
+            ≡ after_read_gate _settled result.entries result.closed pass.old.known }
+    {
+        empty.spend();
+        let found = self.table.shared.load::<ReadGate>(&mut pass.seat, GATE);
+        if found < CLOSED {
+            Counted {
+                entries: found,
+                closed: false,
+            }
+        } else {
+            Counted {
+                entries: found - CLOSED,
+                closed: true,
+            }
+        }
+    }
+}

@@ -1,0 +1,136 @@
+-- What is left comes out at the end, one piece after the other.
+use Rattle.std.proofs.Common.{◌≡◌, ℕ, ◌+◌, ◌-◌, ◌<◌, ◌≤◌, List, [], ◌∷◌, ◌++◌, length, length-append, sym, refl, ap, ◌∙◌, subst, arith}
+use Rattle.std.proofs.lemmas.List.{append-nil}
+use Rattle.std.specs.List.{AllByRecursion}
+use Rattle.crossbeam_queue.specs.Fifo.{Held}
+use Rattle.histories.specs.Sums.{total, is_at}
+use Rattle.histories.proofs.SumLemmas.{total-append}
+use Rattle.histories.proofs.ViewLemmas.{all_append, all_weaker}
+use Rattle.line_ring.specs.declared.ring.TheConstants.{MAX_LANES, MAX_PASSES}
+use Rattle.line_ring.specs.declared.record.LaneRecord.{LaneRecord}
+use Rattle.line_ring.specs.declared.record.PassRecord.{PassRecord}
+use Rattle.line_ring.specs.declared.record.RestRecord.{RestRecord}
+use Rattle.line_ring.specs.declared.rule.View.{View}
+use Rattle.line_ring.specs.Record.{AreSeqs, Rises}
+use Rattle.line_ring.specs.Run.{RingRun}
+use Rattle.line_ring.specs.Inner.View.{view, rest_record, lanes_in, passes_in, lanes_from, passes_from}
+use Rattle.line_ring.specs.Inner.Step.{drained_in, after_drain, IsEndView, IsWhole, RunsTo, Drains}
+use Rattle.line_ring.proofs.ListLemmas.{count_pieces, rises-front, rises-both}
+use Rattle.line_ring.proofs.DealLemmas.{fresh_lanes_weigh, fresh_passes_weigh, lanes_count, passes_count, lanes_once}
+
+all_and : {A : Type 0} (P Q : A → Type 0) (xs : List A) → AllByRecursion P xs → AllByRecursion Q xs → AllByRecursion (λ x. P x × Q x) xs
+all_and P Q [] left right = tt
+all_and P Q (x ∷ xs) left right = ((left.0, right.0), all_and P Q xs left.1 right.1)
+
+all_back : {A : Type 0} (P : A → Type 0) (xs ys : List A) → AllByRecursion P (xs ++ ys) → AllByRecursion P ys
+all_back P [] ys all = all
+all_back P (x ∷ xs) ys all = all_back P xs ys all.1
+
+nothing : {A : Type 0} (xs : List A) → length xs ≡ 0 → xs ≡ []
+nothing [] none = refl
+nothing (x ∷ xs) none = absurd (omega arith)
+
+module _ {T : Type 0} where
+  -- the view of the end, once these pieces have come out
+  abbrev pub with_rest : View T → List T → View T
+  with_rest v out = view v.machine v.spare_lanes v.lanes v.spare_passes v.passes (rest_record out ∷ [])
+
+  pub begins_with : (lanes passes : ℕ) (v : View T) → IsEndView lanes passes v → v ≡ with_rest v []
+  begins_with lanes passes v is = ap (λ (rs : List (RestRecord T)). view v.machine v.spare_lanes v.lanes v.spare_passes v.passes rs) is.rests
+
+  -- as many lanes and passes have come back as were dealt, so the view has all
+  pub all_are_here : (lanes passes : ℕ) (v : View T) (out : List T) → IsEndView lanes passes v → length v.lanes ≡ lanes → length v.passes ≡ passes → IsWhole (with_rest v out)
+  all_are_here lanes passes v out is lanes_back passes_back = record {
+    lanes = omega (arith, length-append v.spare_lanes v.lanes, ap length is.spare_lanes, lanes_count T lanes (MAX_LANES - lanes), is.few_lanes, lanes_back);
+    passes = omega (arith, length-append v.spare_passes v.passes, ap length is.spare_passes, passes_count T passes (MAX_PASSES - passes), is.few_passes, passes_back);
+    rests = refl;
+  }
+
+  -- how many pieces the lanes put in, and how many the passes took
+  abbrev put_in : View T → ℕ
+  put_in v = total (λ l. total (λ (x : T). 1) l.accepted) (lanes_in v)
+
+  abbrev taken_out : View T → ℕ
+  taken_out v = total (λ p. total (λ (x : T). 1) p.taken) (passes_in v)
+
+module _ {T : Type 0} (lane_of seq_of : T → ℕ) (is_for : ℕ → T → Type 0) where
+  -- The view was v₀, and is v now that these pieces have come out.
+  pub record Drained (capacity : ℕ) (v₀ v : View T) (out : List T) : Type 0 where
+    pub is : v ≡ with_rest v₀ out
+    pub fits : length out ≤ capacity
+    pub held : put_in v₀ ≤ taken_out v₀ + capacity
+    pub rises : AllByRecursion (λ p. Rises lane_of seq_of (p.taken ++ out)) (passes_in v₀)
+    pub made_for : AllByRecursion (is_for v₀.machine) out
+
+  begins_here : (capacity count : ℕ) (v : View T) → v ≡ with_rest v [] → count ≤ capacity → Held count (RunsTo lane_of seq_of v) → Drained capacity v v []
+  begins_here capacity count v fresh few held =
+      let items = held.0 in
+      let run = held.2 in
+      let none_out : drained_in v.rests ≡ [] = ap (λ (u : View T). drained_in u.rests) fresh in
+      record {
+        is = fresh;
+        fits = omega arith;
+        held = omega (arith, run.balance (λ _. 1), ap (total (λ (x : T). 1)) none_out, count_pieces items, held.1);
+        rises = all_weaker (λ p. Rises lane_of seq_of (p.taken ++ items)) (λ p. Rises lane_of seq_of (p.taken ++ [])) (λ p rises. subst (Rises lane_of seq_of) (sym (append-nil p.taken)) (rises-front lane_of seq_of p.taken items rises)) (passes_in v) run.rises;
+        made_for = tt;
+      }
+
+  pub begins : (capacity count : ℕ) (v₀ v : View T) (out : List T) → v₀ ≡ with_rest v₀ [] → v ≡ v₀ → out ≡ [] → count ≤ capacity → Held count (RunsTo lane_of seq_of v₀) → Drained capacity v₀ v out
+  begins capacity count v₀ v out fresh same none few held =
+      subst (λ (xs : List T). Drained capacity v₀ v xs) (sym none) (subst (λ (u : View T). Drained capacity v₀ u []) (sym same) (begins_here capacity count v₀ fresh few held))
+
+  -- what was at the front when this piece came out
+  drained_run : (capacity : ℕ) (v₀ v w : View T) (out : List T) (x : T) → Drained capacity v₀ v out → Drains lane_of seq_of is_for v x w → (items : List T) × RunsTo lane_of seq_of (with_rest v₀ out) (x ∷ items)
+  drained_run capacity v₀ v w out x drained step = (step.2.0, subst (λ (u : View T). RunsTo lane_of seq_of u (x ∷ step.2.0)) drained.is step.2.1)
+
+  pub has_room : (capacity : ℕ) (v₀ v w : View T) (out : List T) (x : T) → Drained capacity v₀ v out → Drains lane_of seq_of is_for v x w → length out < capacity
+  has_room capacity v₀ v w out x drained step =
+      let run = drained_run capacity v₀ v w out x drained step in
+      omega (arith, run.1.balance (λ _. 1), count_pieces out, drained.held)
+
+  drains_here : (capacity : ℕ) (v₀ v w : View T) (out : List T) (x : T) → Drained capacity v₀ v out → Drains lane_of seq_of is_for v x w → Drained capacity v₀ w (out ++ x ∷ [])
+  drains_here capacity v₀ v w out x drained step =
+      let items = (drained_run capacity v₀ v w out x drained step).0 in
+      let run = (drained_run capacity v₀ v w out x drained step).1 in
+      record {
+        is = step.0 ∙ ap (λ (u : View T). after_drain u x) drained.is;
+        fits = omega (arith, length-append out (x ∷ []), has_room capacity v₀ v w out x drained step);
+        held = drained.held;
+        rises = all_weaker (λ p. Rises lane_of seq_of (p.taken ++ out) × Rises lane_of seq_of (p.taken ++ x ∷ items)) (λ p. Rises lane_of seq_of (p.taken ++ (out ++ x ∷ [])))
+            (λ p both. rises-both lane_of seq_of p.taken out x items both.0 both.1 run.rest_rises) (passes_in v₀)
+            (all_and (λ p. Rises lane_of seq_of (p.taken ++ out)) (λ p. Rises lane_of seq_of (p.taken ++ x ∷ items)) (passes_in v₀) drained.rises run.rises);
+        made_for = all_append (is_for v₀.machine) out (x ∷ []) drained.made_for (subst (λ (u : View T). is_for u.machine x) drained.is step.1, tt);
+      }
+
+  pub drains_on : (capacity : ℕ) (v₀ v w : View T) (out new : List T) (x : T) → new ≡ out ++ x ∷ [] → Drained capacity v₀ v out → Drains lane_of seq_of is_for v x w → Drained capacity v₀ w new
+  drains_on capacity v₀ v w out new x more drained step = subst (λ (xs : List T). Drained capacity v₀ w xs) (sym more) (drains_here capacity v₀ v w out x drained step)
+
+  -- ---- nothing is left
+
+  last_run : (capacity : ℕ) (v₀ v : View T) (out : List T) → Drained capacity v₀ v out → Held 0 (RunsTo lane_of seq_of v) → RunsTo lane_of seq_of (with_rest v₀ out) []
+  last_run capacity v₀ v out drained held =
+      subst (λ (xs : List T). RunsTo lane_of seq_of (with_rest v₀ out) xs) (nothing held.0 held.1) (subst (λ (u : View T). RunsTo lane_of seq_of u held.0) drained.is held.2)
+
+  module _ (capacity lanes passes : ℕ) (v₀ v : View T) (out : List T) (end : IsEndView lanes passes v₀) (drained : Drained capacity v₀ v out) (held : Held 0 (RunsTo lane_of seq_of v)) where
+    run : RunsTo lane_of seq_of (with_rest v₀ out) []
+    run = last_run capacity v₀ v out drained held
+
+    -- the lanes and passes that were not dealt have done nothing
+    lanes_weigh : (f : LaneRecord T → ℕ) → ((number : ℕ) → f (record { number = number; accepted = [] }) ≡ 0) → total f (lanes_in v₀) ≡ total f v₀.lanes
+    lanes_weigh f none = omega (arith, total-append f v₀.spare_lanes v₀.lanes, ap (total f) end.spare_lanes, fresh_lanes_weigh f none lanes (MAX_LANES - lanes))
+
+    passes_weigh : (f : PassRecord T → ℕ) → ((number : ℕ) → f (record { number = number; taken = [] }) ≡ 0) → total f (passes_in v₀) ≡ total f v₀.passes
+    passes_weigh f none = omega (arith, total-append f v₀.spare_passes v₀.passes, ap (total f) end.spare_passes, fresh_passes_weigh f none passes (MAX_PASSES - passes))
+
+    pub ring_run : RingRun lane_of seq_of v₀.lanes v₀.passes out
+    ring_run = record {
+      balance = λ weight. omega (arith, run.balance weight, lanes_weigh (λ l. total weight l.accepted) (λ _. refl), passes_weigh (λ p. total weight p.taken) (λ _. refl));
+      seqs = all_back (λ l. AreSeqs lane_of seq_of l.number 0 l.accepted) v₀.spare_lanes v₀.lanes run.seqs;
+      rises = all_back (λ p. Rises lane_of seq_of (p.taken ++ out)) v₀.spare_passes v₀.passes drained.rises;
+      rest_rises = subst (Rises lane_of seq_of) (append-nil out) run.rest_rises;
+    }
+
+    pub lanes_there : (k : ℕ) → k < lanes → total (λ l. is_at k l.number) v₀.lanes ≡ 1
+    lanes_there k within =
+        let number = λ (l : LaneRecord T). is_at k l.number in
+        omega (arith, run.numbers k (omega (arith, within, end.few_lanes)), total-append number v₀.spare_lanes v₀.lanes, ap (total number) end.spare_lanes, (lanes_once T k lanes (MAX_LANES - lanes)).1 within)

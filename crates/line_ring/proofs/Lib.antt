@@ -1,0 +1,6 @@
+pub mod ListLemmas
+pub mod HistoryLemmas
+pub mod KeepLemmas
+pub mod EndLemmas
+pub mod DealLemmas
+pub mod DrainLemmas

@@ -1,0 +1,4 @@
+pub mod Record
+pub mod History
+pub mod Run
+pub mod Inner

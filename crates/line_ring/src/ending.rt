@@ -1,0 +1,44 @@
+// The end of a ring.
+ghost use Rattle.std.specs.Prelude.{◌≡◌, ℕ, ◌<◌, ◌≤◌, length};
+ghost use Rattle.std.specs.List.{All};
+ghost use Rattle.histories.specs.Sums.{total, is_at};
+ghost use Rattle.line_ring.specs.Run.{RingRun};
+ghost use Rattle.line_ring.specs.Inner.Handle.{ring_id, is_end, dealt_lanes, dealt_passes, back_lanes, back_passes};
+
+use crate::handle::RingEnd;
+use crate::piece::Piece;
+use crate::ring::Ring;
+use crate::rule::Drain;
+use std::collections::VecDeque;
+use std::sync::Wait;
+
+impl<T: Piece> Ring<T> {
+    /// Ends the ring, once as many lanes and passes have come back as were dealt, so that these are
+    /// all of them. It answers what no pass took, front first.
+    pub fn into_rest<R: Wait>(self, rt: &R, end: RingEnd<T>) -> VecDeque<T>
+        requires end { is_end (ring_id self) end }
+        requires lanes { length (back_lanes end) ≡ dealt_lanes end }
+        requires passes { length (back_passes end) ≡ dealt_passes end }
+        ensures run { RingRun T.lane T.seq (back_lanes end) (back_passes end) result.items }
+        ensures numbers { (k : ℕ) → k < dealt_lanes end →
+            total (λ l. is_at k l.number) (back_lanes end) ≡ 1 }
+        ensures fits { length result.items ≤ (ring_id self).capacity }
+        ensures machine { All (T.is_for (ring_id self).machine) result.items }
+    {
+        let Ring {
+            queue,
+            machine: _,
+            room: mut rest,
+        } = self;
+        let RingEnd {
+            mut seat,
+            lanes: _,
+            passes: _,
+        } = end;
+        queue.len_as::<Drain, R>(rt, &mut seat);
+        while let Some(piece) = queue.pop_as::<Drain, R>(rt, &mut seat) {
+            rest.push_back_reserved(piece);
+        }
+        rest
+    }
+}

@@ -1,0 +1,19 @@
+//! The ring of a line: pieces of work wait in it, first in and first out, with no lock.
+//!
+//! Pieces come in by lanes and are taken by passes. Each lane and each pass has a record of what it
+//! has put in or taken, which only its own calls change. Once all of them have come back, the ring
+//! ends, and the records say where each piece went: it was taken once, or is in the rest.
+#![tactic(auto)]
+
+mod dealing;
+mod ending;
+mod handle;
+mod piece;
+mod record;
+mod ring;
+mod rule;
+
+pub use handle::{RingEnd, RingLane, RingPass, SawEmpty, SawFull};
+pub use piece::Piece;
+pub use record::{LaneRecord, PassRecord, RestRecord};
+pub use ring::{MAX_LANES, MAX_PASSES, Ring};

@@ -1,0 +1,125 @@
+// The ring.
+ghost use Rattle.std.specs.Prelude.{◌≡◌, ◌+◌, ◌<◌, ◌≤◌, ◌^◌, [], ◌∷◌, ◌++◌, IfOk, IfErr, length};
+ghost use Rattle.std.specs.VecDeque.{deque_capacity};
+ghost use Rattle.crossbeam_queue.specs.Passes.{ruled_capacity};
+ghost use Rattle.line_ring.specs.History.{HeldBesideLane, HeldBesidePass};
+
+use crate::handle::{RingEnd, RingLane, RingPass, SawEmpty, SawFull};
+use crate::piece::Piece;
+use crate::rule::{NextMachine, Put, RingRule, Take, View};
+use crossbeam_queue::RuledArrayQueue;
+use std::alloc::{AllocError, Global};
+use std::collections::VecDeque;
+use std::sync::Wait;
+
+/// How many lanes a ring has at most.
+pub const MAX_LANES: u32 = 16;
+
+/// How many passes a ring has at most.
+pub const MAX_PASSES: u32 = 16;
+
+/// A ring of pieces of work, which threads share by `&`.
+pub struct Ring<T: Piece> {
+    pub(crate) queue: RuledArrayQueue<T, View<T>, RingRule<T>>,
+    pub(crate) machine: u32,
+    pub(crate) room: VecDeque<T>,
+    ghost empty: { room.items ≡ [] },
+    ghost reserved: { ruled_capacity queue ≤ deque_capacity room },
+}
+
+impl<T: Piece> Ring<T> {
+    ghost use Rattle.line_ring.specs.Inner.Handle.{ring_id, is_lane, is_pass, is_end, lane_record, pass_record, dealt_lanes, dealt_passes, back_lanes, back_passes};
+
+    /// Opens a ring for pieces that are for the machine of dimension `machine`, of which it holds
+    /// `capacity` at most. No other call takes memory.
+    pub fn open(
+        alloc: Global,
+        machine: u32,
+        capacity: usize,
+    ) -> Result<(Ring<T>, RingEnd<T>), AllocError>
+        requires { 0 < capacity }
+        ensures machine { IfOk result (λ made. (ring_id made.0).machine ≡ machine) }
+        ensures capacity { IfOk result (λ made. (ring_id made.0).capacity ≡ capacity) }
+        ensures end { IfOk result (λ made. is_end (ring_id made.0) made.1) }
+        ensures none_dealt { IfOk result (λ made.
+            (dealt_lanes made.1 ≡ 0) × (dealt_passes made.1 ≡ 0)) }
+        ensures none_back { IfOk result (λ made.
+            (back_lanes made.1 ≡ []) × (back_passes made.1 ≡ [])) }
+    {
+        let room = VecDeque::with_capacity(alloc, capacity)?;
+        let (queue, mut seat) =
+            RuledArrayQueue::<T, View<T>, RingRule<T>>::ruled(alloc, capacity)?;
+        for _ in 0..machine {
+            queue.another::<NextMachine>(&mut seat);
+        }
+        let end = RingEnd {
+            seat,
+            lanes: 0,
+            passes: 0,
+        };
+        let ring = Ring {
+            queue,
+            machine,
+            room,
+        };
+        Ok((ring, end))
+    }
+
+    /// Puts a piece in at the back, unless the ring is full. The piece is the lane's next one.
+    pub fn push<R: Wait>(
+        &self,
+        rt: &R,
+        lane: &mut RingLane<T>,
+        piece: T,
+    ) -> Result<(), (T, SawFull)>
+        requires lane { is_lane (ring_id self.now) lane.old }
+        requires machine { T.is_for (ring_id self.now).machine piece }
+        requires from_lane { T.lane piece ≡ (lane_record lane.old).number }
+        requires seq { T.seq piece ≡ length (lane_record lane.old).accepted }
+        requires count { length (lane_record lane.old).accepted + 1 < 2 ^ 64 }
+        ensures lane { is_lane (ring_id self.now) lane.new }
+        ensures number { (lane_record lane.new).number ≡ (lane_record lane.old).number }
+        ensures accepted { IfOk result (λ _. (lane_record lane.new).accepted
+            ≡ (lane_record lane.old).accepted ++ piece ∷ []) }
+        ensures gives_back { IfErr result (λ refused. refused.0 ≡ piece) }
+        ensures unchanged { IfErr result (λ _. lane_record lane.new ≡ lane_record lane.old) }
+        ensures full { IfErr result (λ _. HeldBesideLane T.lane T.seq (lane_record lane.old)
+            (ring_id self.now).capacity) }
+    {
+        match self.queue.push_as::<Put, R>(rt, &mut lane.seat, piece) {
+            Ok(()) => {
+                lane.accepted += 1;
+                Ok(())
+            }
+            Err(piece) => Err((piece, SawFull(()))),
+        }
+    }
+
+    /// Takes the piece at the front, if there is one.
+    pub fn pop<R: Wait>(&self, rt: &R, pass: &mut RingPass<T>) -> Result<T, SawEmpty>
+        requires { is_pass (ring_id self.now) pass.old }
+        ensures pass { is_pass (ring_id self.now) pass.new }
+        ensures number { (pass_record pass.new).number ≡ (pass_record pass.old).number }
+        ensures taken { IfOk result (λ piece. (pass_record pass.new).taken
+            ≡ (pass_record pass.old).taken ++ piece ∷ []) }
+        ensures machine { IfOk result (λ piece. T.is_for (ring_id self.now).machine piece) }
+        ensures unchanged { IfErr result (λ _. pass_record pass.new ≡ pass_record pass.old) }
+        ensures empty { IfErr result (λ _. HeldBesidePass T.lane T.seq (pass_record pass.old) 0) }
+    {
+        match self.queue.pop_as::<Take, R>(rt, &mut pass.seat) {
+            Some(piece) => Ok(piece),
+            None => Err(SawEmpty(())),
+        }
+    }
+
+    /// How many pieces the ring holds at one moment of the call.
+    pub fn len<R: Wait>(&self, rt: &R, pass: &mut RingPass<T>) -> usize
+        requires { is_pass (ring_id self.now) pass.old }
+        ensures pass { is_pass (ring_id self.now) pass.new }
+        ensures unchanged { pass_record pass.new ≡ pass_record pass.old }
+        ensures few { result ≤ (ring_id self.now).capacity }
+        ensures held { HeldBesidePass T.lane T.seq (pass_record pass.old) result }
+    {
+        self.queue.len_as::<Take, R>(rt, &mut pass.seat)
+    }
+}
