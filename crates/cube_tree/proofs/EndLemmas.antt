@@ -14,8 +14,8 @@ use Rattle.tree_steps.specs.Rule.{times}
 use Rattle.tree_steps.specs.Steps.{Known, KeepsLoad, HasWholeRoll, joined}
 use Rattle.tree_steps.proofs.RuleLemmas.{times-append}
 use Rattle.tree_steps.specs.Once.{AreOnce}
-use Rattle.cube_tree.specs.Seats.{IsGone}
-use Rattle.cube_tree.specs.Ends.{AreThere, HasNumberBelow, IsMissing, IsWhole}
+use Rattle.cube_tree.specs.InnerEnds.{AreThere, IsGone}
+use Rattle.cube_tree.specs.Ends.{HasNumberBelow, IsMissing, IsWhole}
 use Rattle.cube_tree.specs.Handles.{station_entry}
 use Rattle.cube_tree.specs.declared.handles.Station.{Station}
 use Rattle.cube_tree.proofs.HandleLemmas.{HasRetired}

@@ -2,7 +2,6 @@
 use Rattle.std.specs.Prelude.{◌≡◌, ℕ, ◌+◌, ◌^◌, ◌<◌, ◌↔◌, List, map, vec_len, slice_index}
 use Rattle.status_word.specs.Word.{IsSet}
 use Rattle.tree_steps.specs.Rule.{times}
-use Rattle.tree_steps.specs.Steps.{Known}
 use Rattle.cube_tree.specs.declared.handles.Station.{Station}
 use Rattle.cube_tree.specs.declared.handles.FreeMachine.{FreeMachine}
 use Rattle.cube_tree.specs.Handles.{station_entry}
@@ -14,10 +13,6 @@ HasAll count stations = (s : ℕ) → s < count → 0 < times s (map station_ent
 -- the number of the station is below the count
 abbrev pub HasNumberBelow : ℕ → Station → Type 0
 HasNumberBelow count station = (station_entry station).station < count
-
--- each station steps with the seat as often as it is in the list
-abbrev pub AreThere : List Station → Known → Type 0
-AreThere stations m = (s : ℕ) → times s m.0.stations ≡ times s (map station_entry stations)
 
 -- the stations below the count whose bit a load of the roll found clear
 abbrev pub IsMissing : ℕ → ℕ → ℕ → Type 0

@@ -1,4 +1,5 @@
 pub mod Seats
 pub mod Handles
 pub mod Ends
+pub mod InnerEnds
 pub mod Tries

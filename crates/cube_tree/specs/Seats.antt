@@ -1,8 +1,6 @@
 -- What the seat of a handle knows.
 use Rattle.std.specs.Prelude.{◌≡◌, ℕ, [], ◌∷◌}
 use Rattle.cube_core.specs.declared.phase.Phase.{Phase}
-use Rattle.cube_core.specs.declared.phase.Phase.TheVariants.{Retired}
-use Rattle.tree_steps.specs.declared.view.Entry.{Entry}
 use Rattle.tree_steps.specs.Steps.{Known, first_of}
 
 -- one station steps with this seat; it has this number, and this phase
@@ -17,7 +15,3 @@ pub record IsSeatOf (number : ℕ) (phase : Phase) (m : Known) : Type 0 where
 pub record IsBare (m : Known) : Type 0 where
   pub bare : m.0.stations ≡ []
   pub slots : m.1 ≡ []
-
--- the station has retired
-abbrev pub IsGone : Entry → Type 0
-IsGone e = e.phase ≡ Retired

@@ -3,8 +3,9 @@ ghost use Rattle.std.specs.Prelude.{◌≡◌, ◌≢◌, ℕ, ◌<◌, ◌≤�
 ghost use Rattle.tree_steps.specs.Steps.{HasWholeRoll, retire_at};
 ghost use Rattle.tree_steps.specs.Tree.{id_of, size_of, station_count};
 ghost use Rattle.cube_tree.specs.Handles.{cube_dim, cube_size, loads_of, HasTable, IsSameCube, IsStationOf};
-ghost use Rattle.cube_tree.specs.Seats.{IsBare, IsGone};
-ghost use Rattle.cube_tree.specs.Ends.{AreThere, HasAll, HasNumberBelow, IsMissing, IsWhole, IsWhollyFree, machine_dim, machine_loads, machine_words};
+ghost use Rattle.cube_tree.specs.Seats.{IsBare};
+ghost use Rattle.cube_tree.specs.InnerEnds.{AreThere, IsGone};
+ghost use Rattle.cube_tree.specs.Ends.{HasAll, HasNumberBelow, IsMissing, IsWhole, IsWhollyFree, machine_dim, machine_loads, machine_words};
 
 use crate::handles::{Cube, FreeMachine, Station, StillOut};
 use cube_shape::MAX_STATIONS;

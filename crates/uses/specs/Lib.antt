@@ -1,2 +1,3 @@
 pub mod Extent
 pub mod InnerLaws
+pub mod Processors

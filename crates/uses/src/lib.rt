@@ -3,12 +3,14 @@
 //! Each caller is quoted in the `CALLING.md` of the crate that it calls.
 #![tactic(auto)]
 
+mod answering;
 mod count;
 mod extent;
 mod schedule;
 mod subcubes;
 mod two_regions;
 
+pub use answering::answer_and_count;
 pub use count::count_jobs;
 pub use extent::{Extent, share_extent};
 pub use schedule::play;

@@ -2,7 +2,7 @@ use Rattle.std.proofs.Common.{◌≡◌, ℕ, ◌+◌, [], map, vec_len}
 use Rattle.std.specs.Prelude.{All}
 use Rattle.tree_steps.specs.Rule.{times}
 use Rattle.tree_steps.specs.Tree.{id_of}
-use Rattle.cube_tree.specs.Seats.{IsGone}
+use Rattle.cube_tree.specs.InnerEnds.{IsGone}
 use Rattle.cube_tree.specs.Handles.{station_entry, HasTable}
 use Rattle.cube_tree.proofs.ends.retire_each.Given as goal
 

@@ -1,0 +1,8 @@
+-- The processors of the regions of replies, of the workers and of the rest.
+use Rattle.std.specs.Prelude.{ℕ, ◌+◌, List}
+use Rattle.histories.specs.Sums.{total}
+use Rattle.job_types.specs.Reply.{ReplyData}
+use Rattle.cube_ledger.specs.Ledger.{processors_of, slip_of}
+
+abbrev pub processors_in : List (List ReplyData) → List ReplyData → ℕ
+processors_in by_worker rest = total (total (λ r. processors_of (slip_of r))) by_worker + total (λ r. processors_of (slip_of r)) rest

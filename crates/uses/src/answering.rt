@@ -1,0 +1,52 @@
+//! A caller of `batch`, `cube_ledger` and `tree_floor`.
+
+ghost use Rattle.std.specs.Prelude.{◌≡◌, ℕ, ◌^◌, ◌<◌, [], IfSome, map, length, slice_index_or};
+ghost use Rattle.std.specs.List.{All};
+ghost use Rattle.job_queue.specs.Line.{IsFor};
+ghost use Rattle.floors.specs.Floor.{IsWhollyFree};
+ghost use Rattle.cube_tree.specs.Ends.{machine_words};
+ghost use Rattle.batch.specs.Answers.{AnswersAll};
+ghost use Rattle.uses.specs.Processors.{processors_in};
+
+use batch::answer_all;
+use cube_ledger::Ledger;
+use dispatcher::{Finished, Plain};
+use job_queue::LockedLine;
+use job_types::Job;
+use std::alloc::Global;
+use std::collections::VecDeque;
+use std::sync::Wait;
+use std::thread::Threads;
+use tree_floor::{FreeMachine, TreeFloor};
+
+/// Answers the jobs of all lanes on a machine of dimension `n`, by four workers on threads of their
+/// own, and counts the processors that the jobs had together. There is no answer where memory or a
+/// thread was refused.
+pub fn answer_and_count<R: Threads + Wait + Sync>(
+    rt: &R,
+    alloc: Global,
+    n: u32,
+    jobs: Vec<VecDeque<Job>>,
+) -> Option<(Finished<FreeMachine>, u128)>
+    requires lanes { length jobs.items < 2 ^ 32 }
+    requires made_for { (k : ℕ) → k < length jobs.items →
+        All (IsFor n k) (slice_index_or (map (λ js. js.items) jobs.items) k []) }
+    ensures answers { IfSome result (λ answered. AnswersAll n (map (λ js. js.items) jobs.items)
+        (map (λ replies. replies.items) answered.0.by_worker.items) answered.0.rest.items) }
+    ensures free { IfSome result (λ answered.
+        IsWhollyFree n (machine_words answered.0.machine)) }
+    ensures processors { IfSome result (λ answered. answered.1
+        ≡ processors_in (map (λ replies. replies.items) answered.0.by_worker.items)
+        answered.0.rest.items) }
+{
+    let Ok(finished) = answer_all::<R, LockedLine, TreeFloor, Plain>(
+        rt, alloc, n, 4, 16, &Plain, jobs,
+    ) else {
+        return None;
+    };
+    let Ok(ledger) = Ledger::of(alloc, &finished) else {
+        return None;
+    };
+    let processors = ledger.total().processors;
+    Some((finished, processors))
+}
