@@ -10,5 +10,12 @@ mod codes;
 mod exports;
 mod machine;
 mod slots;
+
+pub use codes::{BAD_DIMENSION, BAD_STATION, DONE, NO_SUBCUBE, NOTHING_HELD, STATION_HOLDS};
+pub use exports::{
+    cubejobs_holder, cubejobs_is_wholly_free, cubejobs_open, cubejobs_release, cubejobs_take,
+};
+pub use machine::{Answer, Holder, Machine, Slot};
+
 #[cfg(test)]
 mod tests;

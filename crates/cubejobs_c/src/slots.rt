@@ -10,7 +10,7 @@ use cube_shape::{MAX_DIM, Region};
 
 impl Slot {
     // The slot of a station that holds this region, or nothing.
-    pub fn new(region: Option<Region>) -> Self
+    pub(crate) fn new(region: Option<Region>) -> Self
         ensures { region_in result ≡ region }
     {
         match region {
@@ -28,7 +28,7 @@ impl Slot {
     }
 
     // The region, if there is one.
-    pub fn region(self) -> Option<Region>
+    pub(crate) fn region(self) -> Option<Region>
         ensures { result ≡ region_in self }
     {
         if self.held {

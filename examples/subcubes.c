@@ -1,0 +1,17 @@
+// Two stations of a machine of 8 processors take subcubes. Its output is examples/subcubes.out.
+#include <stdio.h>
+
+#include "cubejobs.h"
+
+static struct cubejobs_machine machine; // of zeros, as it must be before it is opened
+
+int main(void) {
+    cubejobs_open(&machine, 3);
+    struct cubejobs_answer pair = cubejobs_take(&machine, 0, 1);
+    struct cubejobs_answer four = cubejobs_take(&machine, 1, 2);
+    struct cubejobs_answer none = cubejobs_take(&machine, 2, 2);
+    printf("%d %d, then code %d\n", (int)pair.base, (int)four.base, (int)none.code);
+    cubejobs_release(&machine, 0);
+    cubejobs_release(&machine, 1);
+    return cubejobs_is_wholly_free(&machine) ? 0 : 1;
+}
