@@ -67,8 +67,7 @@ impl<T: Piece> Ring<T> {
             (back_lanes made.1 ≡ []) × (back_passes made.1 ≡ [])) }
     {
         let room = VecDeque::with_capacity(alloc, capacity)?;
-        let (queue, mut seat) =
-            RuledArrayQueue::<T, View<T>, RingRule<T>>::ruled(alloc, capacity)?;
+        let (queue, mut seat) = RuledArrayQueue::<T, View<T>, RingRule<T>>::ruled(alloc, capacity)?;
         for _ in 0..machine {
             queue.another::<NextMachine>(&mut seat);
         }
