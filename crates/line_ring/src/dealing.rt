@@ -1,7 +1,7 @@
 // Lanes and passes are dealt out of the end, and come back to it.
 ghost use Rattle.std.specs.Prelude.{◌≡◌, ◌+◌, ◌<◌, [], ◌∷◌, ◌++◌};
 ghost use Rattle.line_ring.specs.Record.{fresh_lane, fresh_pass};
-ghost use Rattle.line_ring.specs.Inner.Handle.{ring_id, is_lane, is_pass, is_end, lane_record, pass_record, dealt_lanes, dealt_passes, back_lanes, back_passes};
+ghost use Rattle.line_ring.specs.Handle.{ring_id, is_lane, is_pass, is_end, lane_record, pass_record, dealt_lanes, dealt_passes, back_lanes, back_passes};
 
 use crate::handle::{RingEnd, RingLane, RingPass};
 use crate::piece::Piece;

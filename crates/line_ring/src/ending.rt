@@ -3,7 +3,7 @@ ghost use Rattle.std.specs.Prelude.{◌≡◌, ℕ, ◌<◌, ◌≤◌, length};
 ghost use Rattle.std.specs.List.{All};
 ghost use Rattle.histories.specs.Sums.{total, is_at};
 ghost use Rattle.line_ring.specs.Run.{RingRun};
-ghost use Rattle.line_ring.specs.Inner.Handle.{ring_id, is_end, dealt_lanes, dealt_passes, back_lanes, back_passes};
+ghost use Rattle.line_ring.specs.Handle.{ring_id, is_end, dealt_lanes, dealt_passes, back_lanes, back_passes};
 
 use crate::handle::RingEnd;
 use crate::piece::Piece;

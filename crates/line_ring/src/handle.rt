@@ -31,14 +31,8 @@ pub struct RingEnd<T> {
     ghost known: { IsEndView lanes passes (view seat) },
 }
 
-/// A push of this call found the ring full. Only `Ring::push` makes it, and it has no `Drop`.
-pub struct SawFull(pub(crate) ());
-
-/// A pop of this call found the ring empty. Only `Ring::pop` makes it, and it has no `Drop`.
-pub struct SawEmpty(pub(crate) ());
-
 impl<T> RingLane<T> {
-    ghost use Rattle.line_ring.specs.Inner.Handle.{lane_record};
+    ghost use Rattle.line_ring.specs.Handle.{lane_record};
 
     /// The lane's number.
     pub fn number(&self) -> u32
@@ -52,19 +46,5 @@ impl<T> RingLane<T> {
         ensures { result ≡ length (lane_record self.now).accepted }
     {
         self.accepted
-    }
-}
-
-impl SawFull {
-    /// Records that the ring was full.
-    pub fn spend(self) {
-        let SawFull(()) = self;
-    }
-}
-
-impl SawEmpty {
-    /// Records that the ring was empty.
-    pub fn spend(self) {
-        let SawEmpty(()) = self;
     }
 }
