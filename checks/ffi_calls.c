@@ -149,6 +149,7 @@ static void expect_guards(void) {
 }
 
 int main(void) {
+    expect(sizeof(struct cubejobs_machine) == 1544, "the struct's size is not the library's");
     for (unsigned dim = 0; dim <= CUBEJOBS_MAX_DIM; dim++) {
         open_both(dim);
         for (int call = 0; call < CALLS; call++) call_once();

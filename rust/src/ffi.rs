@@ -3,6 +3,8 @@
 //! A [`Machine`] is made by [`open`] alone, its fields are private to this module, and here only the library
 //! writes to them: so each call gets what the library's proof asks of the memory.
 
+use core::mem::{align_of, size_of};
+
 pub const MAX_DIM: usize = 10;
 pub const MAX_STATIONS: usize = 32;
 
@@ -43,6 +45,9 @@ pub struct Holder {
     pub station: u32,
     pub found: bool,
 }
+
+// The size that the library has compiled in.
+const _: () = assert!(size_of::<Machine>() == 1544 && align_of::<Machine>() == 8);
 
 #[link(name = "cubejobs_c", kind = "static")]
 unsafe extern "C" {

@@ -13,7 +13,8 @@ region_in slot = if slot.held then Some (record { base = slot.base; dim = slot.d
 
 -- what the slots' stations hold; there is nothing past the slots
 abbrev pub holdings : List Slot → Holdings
-holdings slots station = region_in (slice_index_or slots station (record { base = 0; dim = 0; held = false }))
+holdings slots station =
+    region_in (slice_index_or slots station (record { base = 0; dim = 0; held = false }))
 
 -- what each station holds
 abbrev pub held_in : Machine → Holdings

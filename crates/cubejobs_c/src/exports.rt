@@ -1,6 +1,6 @@
 //! The functions of the library, under the names that C declares.
 
-ghost use Rattle.std.specs.Prelude.{◌≡◌, ◌≢◌, ℕ, ◌<◌, ◌≤◌, ◌↔◌, ◌⊎◌, false, None, Some, IsTrue, IsSome};
+ghost use Rattle.std.specs.Prelude.{◌≡◌, ◌≢◌, ℕ, ◌<◌, ◌≤◌, ◌↔◌, false, None, Some, IsTrue, IsSome};
 ghost use Rattle.cube_shape.specs.declared.region.Region.{Region as HeldRegion};
 ghost use Rattle.cube_shape.specs.Region.{Covers, block};
 ghost use Rattle.cube_shape.specs.Machine.{Gives, HasNoFit, IsFirstFit, TakesBack};
@@ -26,7 +26,8 @@ fn done(region: Region) -> Answer
 
 // The answer of a call that was refused.
 fn refused(code: u32) -> Answer
-    ensures { result.code ≡ code }
+    ensures code { result.code ≡ code }
+    ensures no_region { (result.base ≡ 0) × (result.dim ≡ 0) }
 {
     Answer {
         code,
@@ -78,6 +79,7 @@ pub extern "C" fn cubejobs_take(machine: &mut Machine, station: u32, k: u32) -> 
         × IsFirstFit machine.old.dim k (held_in machine.old) m }
     ensures given { result.code ≡ DONE → Gives machine.old.dim station k
         (held_in machine.old) (held_in machine.new) (region_of result) }
+    ensures no_region { result.code ≢ DONE → (result.base ≡ 0) × (result.dim ≡ 0) }
     ensures unchanged { result.code ≢ DONE → machine.new ≡ machine.old }
     ensures dim_stays { machine.new.dim ≡ machine.old.dim }
 {
@@ -112,6 +114,7 @@ pub extern "C" fn cubejobs_release(machine: &mut Machine, station: u32) -> Answe
     ensures done { IsSome (held_in machine.old station) → result.code ≡ DONE }
     ensures released { result.code ≡ DONE → TakesBack station
         (held_in machine.old) (held_in machine.new) (region_of result) }
+    ensures no_region { result.code ≢ DONE → (result.base ≡ 0) × (result.dim ≡ 0) }
     ensures unchanged { result.code ≢ DONE → machine.new ≡ machine.old }
     ensures dim_stays { machine.new.dim ≡ machine.old.dim }
 {
@@ -136,6 +139,7 @@ pub extern "C" fn cubejobs_holder(machine: &Machine, processor: u64) -> Holder
         × (held_in machine.now result.station ≡ Some a) × Covers a processor }
     ensures free { result.found ≡ false → (s : ℕ) (a : HeldRegion)
         → held_in machine.now s ≡ Some a → Covers a processor → ⊥ }
+    ensures no_station { result.found ≡ false → result.station ≡ 0 }
 {
     match slots::holder_of(&machine.slots, processor) {
         Some(station) => Holder {
