@@ -70,8 +70,7 @@ HasFlag options name is_set = one_of name options ≡ Some (if is_set then codes
 -- the numbers and the flag of a command that runs a shop are those of the options
 abbrev pub HasShopOptions : List Row → ShopOptions → Type 0
 HasShopOptions options shop =
-    HasOptionValue options (codes "dim") shop.n × HasOptionValue options (codes "dispatchers") shop.dispatchers
-    × HasOptionValue options (codes "capacity") shop.capacity × HasFlag options (codes "quiet") shop.is_quiet
+    HasOptionValue options (codes "dim") shop.n × HasOptionValue options (codes "dispatchers") shop.dispatchers × HasOptionValue options (codes "capacity") shop.capacity × HasFlag options (codes "quiet") shop.is_quiet
 
 -- the numbers of the request are those of the options
 abbrev pub HasOptionValues : List Row → Invocation → Type 0

@@ -23,18 +23,10 @@ use Rattle.jobs_cli.specs.Replay.{AreReplayed}
 use Rattle.jobs_cli.specs.Replies.{AreReplies}
 use Rattle.jobs_cli.specs.Report.{AreReportRows}
 
--- a file of jobs is answered by its replies
-abbrev pub IsRunAnswer : ℕ → List ℕ → Option (List ℕ) → Option (List ℕ) → Result (Unit {0}) Fault → Type 0
-IsRunAnswer n bytes old new result = IsAnswer (parse_jobs n bytes) AreReplies (file_text reply_columns reply_fields) old new result
-
--- a file of jobs is answered by totals of them
-abbrev pub IsReportAnswer : ℕ → List ℕ → Option (List ℕ) → Option (List ℕ) → Result (Unit {0}) Fault → Type 0
-IsReportAnswer n bytes old new result = IsAnswer (parse_jobs n bytes) (AreReportRows n) (file_text report_columns report_fields) old new result
-
 -- the request is answered: jobs by their replies or by totals of them, commands by the first fit, a schedule by its events
 abbrev pub IsAnswerTo : Invocation → List ℕ → Option (List ℕ) → Option (List ℕ) → Result (Unit {0}) Fault → Type 0
-IsAnswerTo (invocation.Run shop) bytes old new result = IsRunAnswer shop.n bytes old new result
-IsAnswerTo (invocation.Report shop) bytes old new result = IsReportAnswer shop.n bytes old new result
+IsAnswerTo (invocation.Run shop) bytes old new result = IsAnswer (parse_jobs shop.n bytes) AreReplies (file_text reply_columns reply_fields) old new result
+IsAnswerTo (invocation.Report shop) bytes old new result = IsAnswer (parse_jobs shop.n bytes) (AreReportRows shop.n) (file_text report_columns report_fields) old new result
 IsAnswerTo (invocation.Place n) bytes old new result = IsAnswer (parse_commands n bytes) (ArePlaced n) (file_text place_columns place_fields) old new result
 IsAnswerTo (invocation.Replay n stations) bytes old new result = IsAnswer (parse_schedule bytes) (AreReplayed n stations) (file_text replay_columns replay_fields) old new result
 
@@ -62,12 +54,13 @@ EndsBy words bytes old new may_fail (Failed fault is_reported) =
     IsFailureOf words bytes old new may_fail fault
     ⊎ (is_refusal fault.what ≡ false) × ((fault.what ≡ what.OutOfMemory) ⊎ AsksForHelp words)
 
--- the request is for a line of progress on a terminal
+-- the request may show a line of progress
 abbrev pub ShowsProgress : Invocation → Type 0
 ShowsProgress (invocation.Run shop) = shop.is_quiet ≡ false
 ShowsProgress (invocation.Report shop) = shop.is_quiet ≡ false
 ShowsProgress invocation = ⊥
 
+-- the words ask for a request that may show one
 abbrev pub AsksForProgress : List Text → Type 0
 AsksForProgress words = (invocation : Invocation) × AsksFor words invocation × ShowsProgress invocation
 

@@ -35,6 +35,8 @@ each rank.
 The jobs are answered on threads: a feeder for each lane hands in its jobs by one line, and the \
 dispatchers answer them. The output is the same whatever their number and the line's capacity.
 
+Where standard error is a terminal, a line of it shows how far a long run is, unless --quiet is given.
+
 Example: cubejobs run --dim 3 < jobs.csv";
 
 const ABOUT_REPORT: &str = "Answers a file of jobs, and writes totals of them";
@@ -44,8 +46,8 @@ subcube of the machine, and writes totals of the jobs and of the free subcubes t
 
 The input is a file of jobs as `cubejobs run` reads it, CSV with the header \
 lane,kind,op,root,items, and is refused for the same faults; `cubejobs run --help` describes it. \
-The jobs are answered on threads as there, and the output is the same whatever the number of \
-dispatchers and the line's capacity.
+The jobs are answered on threads as there, with the same line of progress on a terminal, and the \
+output is the same whatever the number of dispatchers and the line's capacity.
 
 The output is CSV with the header group,key,count,processors. There is a line lane for each lane \
 from 0 to the largest one of a job, with the number of its jobs and the sum of the processors that \

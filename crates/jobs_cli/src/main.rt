@@ -3,8 +3,9 @@
 //!
 //! The input comes as CSV from standard input, and its answer goes as CSV to standard output. Jobs are
 //! answered on threads, by the dispatchers and over the line that `--dispatchers` and `--capacity` ask
-//! for. The whole program is `program::run`, over any words, reader and writers; this file ties them
-//! to the process.
+//! for. Where standard error is a terminal, it shows how far a long run is, unless `--quiet` is given.
+//! The whole program is `program::run`, over any words, reader and writers; this file ties them to the
+//! process.
 #![tactic(auto)]
 
 mod command_line;

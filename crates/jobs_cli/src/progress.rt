@@ -1,6 +1,4 @@
 // The line of progress of a long run, on a terminal.
-ghost use Rattle.std.specs.Prelude.{◌≡◌};
-
 use dispatcher::Runner;
 use job_types::{Job, JobId, Region, Reply};
 use jobs_csv::Observer;

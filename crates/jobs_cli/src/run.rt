@@ -1,8 +1,9 @@
 // The command `run`: the jobs of a file, answered.
-ghost use Rattle.std.specs.Prelude.{◌≡◌, ◌⊎◌, ◌≤◌, false, IfErr, IfSome};
+ghost use Rattle.std.specs.Prelude.{◌≡◌, ◌⊎◌, ◌≤◌, true, false, IfErr, IfSome};
 ghost use Rattle.jobs_cli.specs.Answer.{IsMetBeforeWriting, IsRunFault};
 ghost use Rattle.jobs_cli.specs.CommandLine.{AreShopSizes};
-ghost use Rattle.jobs_cli.specs.Program.{IsRunAnswer};
+ghost use Rattle.jobs_cli.specs.Program.{IsAnswerTo};
+ghost use Rattle.jobs_cli.specs.declared.invocation.Invocation.TheVariants.{Run};
 
 use crate::invocation::ShopOptions;
 use crate::shop::answer_file;
@@ -47,7 +48,13 @@ where
     requires limit { n ≤ MAX_DIM }
     requires sizes { AreShopSizes dispatchers capacity }
     ensures answered { IfSome (R.remaining reader.old) (λ bytes.
-        IsRunAnswer n bytes (W.contents writer.old) (W.contents writer.new) result) }
+        IsAnswerTo (Run (record {
+          n = n;
+          dispatchers = dispatchers;
+          capacity = capacity;
+          is_quiet = true;
+        }))
+        bytes (W.contents writer.old) (W.contents writer.new) result) }
     ensures failed { IfErr result (IsRunFault (R.failures reader.old) (R.failures reader.new)
         (W.failures writer.old) (W.failures writer.new)) }
     ensures untouched { IfErr result (λ fault.
@@ -84,7 +91,8 @@ where
     requires limit { options.n ≤ MAX_DIM }
     requires sizes { AreShopSizes options.dispatchers options.capacity }
     ensures answered { IfSome (R.remaining reader.old) (λ bytes.
-        IsRunAnswer options.n bytes (W.contents writer.old) (W.contents writer.new) result) }
+        IsAnswerTo (Run options) bytes
+        (W.contents writer.old) (W.contents writer.new) result) }
     ensures failed { IfErr result (IsRunFault (R.failures reader.old) (R.failures reader.new)
         (W.failures writer.old) (W.failures writer.new)) }
     ensures untouched { IfErr result (λ fault.

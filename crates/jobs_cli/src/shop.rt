@@ -37,7 +37,8 @@ fn fault_of<M: Drop>(stopped: Stopped<M>) -> Fault
 }
 
 // Reads a file of jobs, and answers all of them by the dispatchers and over the line of the options,
-// each on a thread of its own, with a feeder for each open lane. The records and the replies are shown as progress.
+// each on a thread of its own, with a feeder for each open lane. The progress shows how many records
+// are read and how many replies are done.
 fn answer_file_with<'a, H, L, F, T, R, W>(
     rt: &H,
     alloc: Global,
@@ -97,8 +98,8 @@ where
     }
 }
 
-// Answers the jobs of a file as `answer_file_with` does, and shows on the terminal how far it is,
-// where there is one and the options are not quiet.
+// Answers the jobs of a file as `answer_file_with` does. The terminal, where there is one, shows the
+// progress, unless the options are quiet.
 pub(crate) fn answer_file<H, L, F, T, R, P>(
     rt: &H,
     alloc: Global,

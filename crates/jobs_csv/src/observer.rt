@@ -1,5 +1,5 @@
 // What sees the records of a file while they are read.
-ghost use Rattle.std.specs.Prelude.{◌≡◌, ◌+◌, ◌-◌, ◌^◌, ℕ, List, length, min};
+ghost use Rattle.std.specs.Prelude.{◌≡◌, ◌+◌, ◌-◌, ◌^◌, ℕ, min};
 
 use crate::format::RowSink;
 use std::alloc::AllocError;
