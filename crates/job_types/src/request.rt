@@ -1,10 +1,16 @@
 //! What a job asks for, and why a request is refused.
 
 ghost use Rattle.std.specs.Prelude.{◌≡◌, ℕ, ◌^◌, ◌<◌, ◌≤◌, length, None};
+ghost use Rattle.collectives.specs.Shape.{tally_of};
+ghost use Rattle.job_types.specs.Collective.{shape_of};
 ghost use Rattle.job_types.specs.Dim.{IsLeastDim, dim_of};
 ghost use Rattle.job_types.specs.Job.{refusal_of};
+ghost use Rattle.job_types.specs.Inner.Collective.{IsResult};
+ghost use Rattle.job_types.specs.Inner.Workspace.{IsWorkspaceFor, numbers_of};
 
 use crate::kind::Kind;
+use crate::workspace::Workspace;
+use collectives::Tally;
 use cube_shape::MAX_DIM;
 use std::marker::Model;
 use thiserror::Error;
@@ -93,6 +99,23 @@ impl Request {
             dim: items.len().ilog2(),
             items,
         }
+    }
+
+    // Runs the collective in a workspace that holds the items.
+    pub(crate) fn run_in(&self, workspace: &mut Workspace) -> Tally
+        requires { IsWorkspaceFor self.now.kind self.now.items workspace.old }
+        ensures result { IsResult self.now.kind self.now.items (numbers_of workspace.new) }
+        ensures tally { result ≡
+            tally_of (shape_of self.now.kind) (dim_of (length self.now.items)) }
+    {
+        workspace.run(self.kind, self.dim())
+    }
+
+    // The items.
+    pub(crate) fn into_items(self) -> Vec<u64>
+        ensures { result.items ≡ self.items }
+    {
+        self.items
     }
 
     /// The dimension of the machine, at most `MAX_DIM`.
