@@ -8,6 +8,7 @@ const YIELDS: u32 = 6;
 
 // The first sleep and the longest one, in microseconds.
 const FIRST_SLEEP: u64 = 50;
+
 const LONGEST_SLEEP: u64 = 800;
 
 // Pauses that grow until a try has success: a caller yields some times, and then it sleeps.

@@ -33,7 +33,7 @@ pub enum JobRefused {
     /// The root is not one of the places. There is a place for each item.
     #[error("the root is not one of the places")]
     BadRoot,
-    /// The job's workspace was asked for, and the allocator refused it.
+    /// Memory for the job was asked for, and the allocator refused it.
     #[error("out of memory")]
     OutOfMemory,
 }
