@@ -1,46 +1,51 @@
 // What feeders and workers do between two tries.
-use crossbeam_utils::Backoff;
 use std::sync::Wait;
-use std::thread::Parker;
+use std::thread::{Parker, yield_now};
 use std::time::Duration;
 
-// The first sleep after a success and the longest one, in microseconds.
+// How often a caller yields before it sleeps.
+const YIELDS: u32 = 6;
+
+// The first sleep and the longest one, in microseconds.
 const FIRST_SLEEP: u64 = 50;
+
 const LONGEST_SLEEP: u64 = 800;
 
-// Pauses that grow until a try has success: a caller spins, then yields, and then sleeps.
+// Pauses that grow until a try has success: a caller yields some times, and then it sleeps.
 #[derive(Drop)]
 pub struct Pause {
-    backoff: Backoff,
-    // Nobody wakes it, so it sleeps for its time.
-    sleeper: Parker,
+    // How often the caller will yet yield.
+    yields: u32,
     // The next sleep, in microseconds.
     sleep: u64,
+    // Nobody wakes it, so each sleep takes its time.
+    sleeper: Parker,
 }
 
 impl Pause {
     pub fn new() -> Self {
         Pause {
-            backoff: Backoff::new(),
-            sleeper: Parker::new(),
+            yields: YIELDS,
             sleep: FIRST_SLEEP,
+            sleeper: Parker::new(),
         }
     }
 
     // A try had success.
     pub fn reset(&mut self) {
-        self.backoff.reset();
+        self.yields = YIELDS;
         self.sleep = FIRST_SLEEP;
     }
 
     // A try had none.
     pub fn wait<R: Wait>(&mut self, rt: &R) {
-        if self.backoff.is_completed() {
-            self.sleeper
-                .park_timeout(rt, Duration::from_micros(self.sleep));
-            self.sleep = self.sleep.saturating_mul(2).min(LONGEST_SLEEP);
+        if self.yields > 0 {
+            self.yields -= 1;
+            yield_now();
         } else {
-            self.backoff.snooze();
+            let sleep = Duration::from_micros(self.sleep);
+            self.sleeper.park_timeout(rt, sleep);
+            self.sleep = self.sleep.saturating_mul(2).min(LONGEST_SLEEP);
         }
     }
 }

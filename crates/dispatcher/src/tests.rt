@@ -67,6 +67,7 @@ fn three_jobs(alloc: Global) -> Result<VecDeque<Job>, AllocError>
 type Back = (Job, Refused);
 
 // What became of three submits by one lane, with a close before the third, and of the shop.
+#[derive(Drop)]
 struct Script<M> {
     outcomes: [Result<Receipt, Back>; 3],
     close_number: u64,
@@ -117,6 +118,14 @@ fn gives_back(outcome: &Result<Receipt, Back>, why: Refused, numbers: &[u64]) ->
     }
 }
 
+// Whether this is the reply to the lane's first job, of the numbers 1 and 2.
+fn answers_the_first(reply: &Reply) -> bool {
+    reply.id() == (JobId { lane: 0, seq: 0 })
+        && reply.region() == (Region { base: 0, dim: 1 })
+        && reply.at(0) == Some(3)
+        && reply.at(1) == Some(3)
+}
+
 #[test]
 fn close_against_submit(rt: HostRuntime) -> Result<(), Fail> {
     let jobs = (
@@ -125,29 +134,18 @@ fn close_against_submit(rt: HostRuntime) -> Result<(), Fail> {
         job(rt.alloc(), &[5, 6])?,
     );
     let single = Single::<LockedLine, LockedFloor>::open(rt.alloc(), 2, 1)?;
-    let Script {
-        outcomes,
-        close_number,
-        finished,
-    } = play(&rt, rt.alloc(), single, jobs);
-    let Finished {
-        by_worker,
-        rest,
-        accepted,
-        machine,
-    } = finished;
+    let script = play(&rt, rt.alloc(), single, jobs);
     let id = JobId { lane: 0, seq: 0 };
-    assert!(rt; matches!(&outcomes[0], Ok(receipt) if *receipt == Receipt { id, number: 0 }));
-    assert!(rt; gives_back(&outcomes[1], Refused::Full, &[3, 4]));
-    assert_eq!(rt; close_number, 2);
-    assert!(rt; gives_back(&outcomes[2], Refused::Closed { seen: 2 }, &[5, 6]));
-    assert!(rt; by_worker.len() == 1 && by_worker[0].is_empty());
-    assert_eq!(rt; rest.len(), 1);
-    assert_eq!(rt; rest[0].id(), id);
-    assert_eq!(rt; rest[0].region(), Region { base: 0, dim: 1 });
-    assert!(rt; rest[0].at(0) == Some(3) && rest[0].at(1) == Some(3));
-    assert!(rt; accepted.as_slice() == [1].as_slice());
-    assert!(rt; is_wholly_free(&machine, 2, 8));
+    let [first, second, third] = &script.outcomes;
+    assert!(rt; matches!(first, Ok(receipt) if *receipt == Receipt { id, number: 0 }));
+    assert!(rt; gives_back(second, Refused::Full, &[3, 4]));
+    assert_eq!(rt; script.close_number, 2);
+    assert!(rt; gives_back(third, Refused::Closed { seen: 2 }, &[5, 6]));
+    let finished = &script.finished;
+    assert!(rt; finished.by_worker.len() == 1 && finished.by_worker[0].is_empty());
+    assert!(rt; finished.rest.len() == 1 && answers_the_first(&finished.rest[0]));
+    assert!(rt; finished.accepted.as_slice() == [1].as_slice());
+    assert!(rt; is_wholly_free(&finished.machine, 2, 8));
     Ok(())
 }
 
@@ -233,6 +231,15 @@ fn are_three_seqs(first: &[Reply], rest: &[Reply]) -> bool {
         && are_seqs_from(first.len() as u64, rest)
 }
 
+// Whether each of the three jobs has its reply, and the worker had no memory where it left one to the end.
+fn keeps_all<M>(run: &Run<M>) -> bool {
+    let by_worker = &run.finished.by_worker;
+    let rest = &run.finished.rest;
+    by_worker.len() == 1
+        && are_three_seqs(&by_worker[0], rest)
+        && (run.stop == Stop::Ended || run.stop == Stop::OutOfMemory && !rest.is_empty())
+}
+
 // With no memory the jobs are not made or the shop is not opened. Once it is open, a worker that gets
 // none for its replies leaves the jobs to the end.
 #[test]
@@ -243,21 +250,35 @@ fn replies_outlive_any_refused_growth(rt: HostRuntime) {
     let Ok(single) = Single::<LockedLine, LockedFloor>::open(rt.alloc(), 2, 4) else {
         return;
     };
-    let Run { stop, finished, .. } = feed_and_dispatch(
-        &rt,
-        rt.alloc(),
-        single,
-        jobs,
-        VecDeque::new(rt.alloc()),
-    );
-    let Finished {
-        by_worker,
-        rest,
-        ..
-    } = finished;
-    assert_eq!(rt; by_worker.len(), 1);
-    assert!(rt; are_three_seqs(&by_worker[0], &rest));
-    assert!(rt; stop == Stop::Ended || stop == Stop::OutOfMemory && rest.len() > 0);
+    let none = VecDeque::new(rt.alloc());
+    let run = feed_and_dispatch(&rt, rt.alloc(), single, jobs, none);
+    assert!(rt; keeps_all(&run));
+}
+
+// Whether the feed gave back the first of the three jobs, and left the others, at the close.
+fn stops_at_the_close(late: &FeedEnd) -> bool {
+    late.stop == FeedStop::Closed { seen: 3 }
+        && matches!(&late.back, Some(job) if job.items() == [5].as_slice())
+        && late.left.len() == 2
+        && late.left[0].items() == [1, 2].as_slice()
+}
+
+// Whether the replies ran one after the other on the first regions of dimensions 0, 1 and 2.
+fn have_first_regions(replies: &[Reply]) -> bool {
+    if replies.len() != 3 {
+        return false;
+    }
+    for (k, reply) in replies.iter().enumerate() {
+        if reply.region()
+            != (Region {
+                base: 0,
+                dim: k as u32,
+            })
+        {
+            return false;
+        }
+    }
+    true
 }
 
 #[test]
@@ -265,36 +286,15 @@ fn feed_stops_at_the_close(rt: HostRuntime) -> Result<(), Fail> {
     let jobs = three_jobs(rt.alloc())?;
     let late_jobs = three_jobs(rt.alloc())?;
     let single = Single::<LockedLine, LockedFloor>::open(rt.alloc(), 2, 4)?;
-    let Run {
-        fed,
-        late,
-        stop,
-        finished,
-    } = feed_and_dispatch(&rt, rt.alloc(), single, jobs, late_jobs);
+    let run = feed_and_dispatch(&rt, rt.alloc(), single, jobs, late_jobs);
+    let fed = &run.fed;
     assert!(rt; fed.stop == FeedStop::Done && fed.back.is_none() && fed.left.is_empty());
-    assert_eq!(rt; late.stop, FeedStop::Closed { seen: 3 });
-    assert!(rt; matches!(&late.back, Some(job) if job.items() == [5].as_slice()));
-    assert!(rt; late.left.len() == 2 && late.left[0].items() == [1, 2].as_slice());
-    assert_eq!(rt; stop, Stop::Ended);
-    let Finished {
-        by_worker,
-        rest,
-        accepted,
-        machine,
-    } = finished;
-    assert_eq!(rt; by_worker.len(), 1);
-    let replies = &by_worker[0];
-    assert!(rt; rest.is_empty() && replies.len() == 3);
-    for (k, reply) in replies.iter().enumerate() {
-        assert_eq!(rt;
-            reply.region(),
-            Region {
-                base: 0,
-                dim: k as u32
-            }
-        );
-    }
-    assert!(rt; accepted.as_slice() == [3].as_slice());
-    assert!(rt; is_wholly_free(&machine, 2, 8));
+    assert!(rt; stops_at_the_close(&run.late));
+    assert_eq!(rt; run.stop, Stop::Ended);
+    let finished = &run.finished;
+    assert!(rt; finished.by_worker.len() == 1 && finished.rest.is_empty());
+    assert!(rt; have_first_regions(&finished.by_worker[0]));
+    assert!(rt; finished.accepted.as_slice() == [3].as_slice());
+    assert!(rt; is_wholly_free(&finished.machine, 2, 8));
     Ok(())
 }

@@ -8,6 +8,7 @@ ghost use Rattle.job_types.specs.Job.{refusal_of};
 use crate::kind::Kind;
 use crate::reply::{JobId, Reply};
 use crate::request::{JobRefused, MAX_LANES, Request, refusal};
+use crate::work::Work;
 use crate::workspace::Workspace;
 use cube_shape::{MAX_DIM, Region};
 use std::alloc::Global;
@@ -16,8 +17,7 @@ use std::marker::Model;
 /// A job that is not answered yet: a request, and the workspace for its rounds and its result.
 #[derive(Debug, Drop)]
 pub struct Job {
-    request: Request,
-    workspace: Workspace,
+    work: Box<Work>,
 }
 
 impl Model for Job {
@@ -26,9 +26,10 @@ impl Model for Job {
 
     ghost Value = { JobData };
 
-    ghost view = { λ j. j.request };
+    ghost view = { λ j. j.work.value.request };
 
-    ghost invariant = { λ j. IsWorkspaceFor j.request.kind j.request.items j.workspace };
+    ghost invariant = { λ j. IsWorkspaceFor
+        j.work.value.request.kind j.work.value.request.items j.work.value.workspace };
 }
 
 impl Job {
@@ -61,10 +62,14 @@ impl Job {
         let Ok(workspace) = Workspace::new(alloc, kind, &items) else {
             return Err((items, JobRefused::OutOfMemory));
         };
-        Ok(Job {
+        let work = Work {
             request: Request::new(n, lane, kind, items),
             workspace,
-        })
+        };
+        match Box::new(alloc, work) {
+            Ok(work) => Ok(Job { work }),
+            Err(failed) => Err((failed.value.request.into_items(), JobRefused::OutOfMemory)),
+        }
     }
 
     /// The dimension of the machine, at most `MAX_DIM`.
@@ -72,7 +77,7 @@ impl Job {
         ensures value { result ≡ self.now.machine }
         ensures limit { result ≤ MAX_DIM }
     {
-        self.request.machine()
+        self.work.request.machine()
     }
 
     /// The lane that the job was made for, below `MAX_LANES`.
@@ -80,14 +85,14 @@ impl Job {
         ensures value { result ≡ self.now.lane }
         ensures below { result < MAX_LANES }
     {
-        self.request.lane()
+        self.work.request.lane()
     }
 
     /// The collective.
     pub fn kind(&self) -> Kind
         ensures { result ≡ self.now.kind }
     {
-        self.request.kind()
+        self.work.request.kind()
     }
 
     /// The dimension of the smallest region that has a processor for each item. Today the items
@@ -101,14 +106,14 @@ impl Job {
         // What `dim_of` means, of any number of items.
         ensures least { (p : ℕ) → IsLeastDim p (dim_of p) }
     {
-        self.request.dim()
+        self.work.request.dim()
     }
 
     /// The items. The `i`-th one is on the region's `i`-th processor.
     pub fn items(&self) -> &[u64]
         ensures { result.now ≡ self.now.items }
     {
-        self.request.items()
+        self.work.request.items()
     }
 
     /// Runs the job on a region of its machine: the smallest that has a processor for each item. It
@@ -118,12 +123,9 @@ impl Job {
         requires dimension { region.dim ≡ dim_of (length self.items) }
         ensures { result ≡ record { id = id; job = self; region = region } }
     {
-        let Job {
-            request,
-            mut workspace,
-        } = self;
-        let tally = workspace.run(request.kind(), request.dim());
-        Reply::new(id, request, region, tally, workspace)
+        let Job { mut work } = self;
+        let tally = work.run();
+        Reply::new(id, region, tally, work)
     }
 }
 

@@ -13,6 +13,7 @@ mod operation;
 mod rank_buffer;
 mod reply;
 mod request;
+mod work;
 mod workspace;
 
 pub use collectives::{Shape, Tally};

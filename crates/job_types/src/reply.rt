@@ -10,7 +10,7 @@ ghost use Rattle.job_types.specs.Inner.Workspace.{numbers_of};
 
 use crate::kind::Kind;
 use crate::request::Request;
-use crate::workspace::Workspace;
+use crate::work::Work;
 use collectives::Tally;
 use cube_shape::Region;
 use std::marker::Model;
@@ -29,10 +29,9 @@ pub struct JobId {
 #[derive(Debug, Drop)]
 pub struct Reply {
     id: JobId,
-    job: Request,
     region: Region,
     tally: Tally,
-    workspace: Workspace,
+    work: Box<Work>,
 }
 
 impl Model for Reply {
@@ -42,29 +41,23 @@ impl Model for Reply {
 
     ghost Value = { ReplyData };
 
-    ghost view = { λ r. record { id = r.id; job = r.job; region = r.region } };
+    ghost view = { λ r. record { id = r.id; job = r.work.value.request; region = r.region } };
 
-    ghost invariant = { λ r. IsAnswer r.job r.region r.tally (numbers_of r.workspace) };
+    ghost invariant = { λ r. IsAnswer r.work.value.request r.region r.tally
+        (numbers_of r.work.value.workspace) };
 }
 
 impl Reply {
     // The reply with these parts, which fit together.
-    pub(crate) fn new(
-        id: JobId,
-        job: Request,
-        region: Region,
-        tally: Tally,
-        workspace: Workspace,
-    ) -> Self
-        requires { IsAnswer job region tally (numbers_of workspace) }
-        ensures { result ≡ record { id = id; job = job; region = region } }
+    pub(crate) fn new(id: JobId, region: Region, tally: Tally, work: Box<Work>) -> Self
+        requires { IsAnswer work.value.request region tally (numbers_of work.value.workspace) }
+        ensures { result ≡ record { id = id; job = work.value.request; region = region } }
     {
         Reply {
             id,
-            job,
             region,
             tally,
-            workspace,
+            work,
         }
     }
 
@@ -79,7 +72,7 @@ impl Reply {
     pub fn job(&self) -> &Request
         ensures { result.now ≡ self.now.job }
     {
-        &self.job
+        &self.work.request
     }
 
     /// The region that the job ran on: aligned, of its machine, and the smallest with a processor
@@ -105,9 +98,9 @@ impl Reply {
     pub fn at(&self, rank: u64) -> Option<u64>
         ensures { result ≡ result_at self.now.job.kind self.now.job.items rank }
     {
-        match self.job.kind() {
+        match self.work.request.kind() {
             Kind::Reduce { root, .. } if rank != root => None,
-            _ => self.workspace.at(rank),
+            _ => self.work.workspace.at(rank),
         }
     }
 }

@@ -1,10 +1,16 @@
 //! What a job asks for, and why a request is refused.
 
 ghost use Rattle.std.specs.Prelude.{◌≡◌, ℕ, ◌^◌, ◌<◌, ◌≤◌, length, None};
+ghost use Rattle.collectives.specs.Shape.{tally_of};
+ghost use Rattle.job_types.specs.Collective.{shape_of};
 ghost use Rattle.job_types.specs.Dim.{IsLeastDim, dim_of};
 ghost use Rattle.job_types.specs.Job.{refusal_of};
+ghost use Rattle.job_types.specs.Inner.Collective.{IsResult};
+ghost use Rattle.job_types.specs.Inner.Workspace.{IsWorkspaceFor, numbers_of};
 
 use crate::kind::Kind;
+use crate::workspace::Workspace;
+use collectives::Tally;
 use cube_shape::MAX_DIM;
 use std::marker::Model;
 use thiserror::Error;
@@ -27,7 +33,7 @@ pub enum JobRefused {
     /// The root is not one of the places. There is a place for each item.
     #[error("the root is not one of the places")]
     BadRoot,
-    /// The job's workspace was asked for, and the allocator refused it.
+    /// Memory for the job was asked for, and the allocator refused it.
     #[error("out of memory")]
     OutOfMemory,
 }
@@ -93,6 +99,23 @@ impl Request {
             dim: items.len().ilog2(),
             items,
         }
+    }
+
+    // Runs the collective in a workspace that holds the items.
+    pub(crate) fn run_in(&self, workspace: &mut Workspace) -> Tally
+        requires { IsWorkspaceFor self.now.kind self.now.items workspace.old }
+        ensures result { IsResult self.now.kind self.now.items (numbers_of workspace.new) }
+        ensures tally { result ≡
+            tally_of (shape_of self.now.kind) (dim_of (length self.now.items)) }
+    {
+        workspace.run(self.kind, self.dim())
+    }
+
+    // The items.
+    pub(crate) fn into_items(self) -> Vec<u64>
+        ensures { result.items ≡ self.items }
+    {
+        self.items
     }
 
     /// The dimension of the machine, at most `MAX_DIM`.

@@ -66,8 +66,8 @@ returns-clause-run g c =
       finished = at_floor (λ i. FinishedRun i.dim (map line.lane_record lanes) (map (λ v. v.items) c.finish.result.by_worker.items) c.finish.result.rest.items (line.note_number c.into_note-note.result.line)) _ _ c.requires.shop c.finish.ensures.finished;
       fed = subst (λ us. AllZip Own (map line.lane_record lanes) us) (sym c.part-lanes.ensures.unfed) by_lane;
       stops = subst (λ us. AllZip (λ (l : LaneRecord) (u : UnfedJobs). IsStopOf l u.jobs u.stop) (map line.lane_record lanes) us) (sym c.part-lanes.ensures.unfed)
-      (subst (λ ls. AllZip (λ (l : LaneRecord) (u : UnfedJobs). IsStopOf l u.jobs u.stop) (map line.lane_record ls) (map (λ f. unfed_by (line.lane_record f.lane).number (given_back f.back ++ f.left.items) f.stop) fed)) (sym c.part-lanes.ensures.lanes)
-      (all_stopped (λ f. f.lane) line.lane_record (λ f. given_back f.back ++ f.left.items) (λ f. f.stop) fed c.relieve_feeders.ensures.stops));
+          (subst (λ ls. AllZip (λ (l : LaneRecord) (u : UnfedJobs). IsStopOf l u.jobs u.stop) (map line.lane_record ls) (map (λ f. unfed_by (line.lane_record f.lane).number (given_back f.back ++ f.left.items) f.stop) fed)) (sym c.part-lanes.ensures.lanes)
+          (all_stopped (λ f. f.lane) line.lane_record (λ f. given_back f.back ++ f.left.items) (λ f. f.stop) fed c.relieve_feeders.ensures.stops));
       numbers = λ k below. ap (times k) (map_twice line.lane_record (λ (l : LaneRecord). l.number) lanes) ∙ c.finish.ensures.lane_numbers k (omega (arith, below, length-map c.args.jobs.items (λ js. js.items), c.requires.all_lanes));
     }
 
