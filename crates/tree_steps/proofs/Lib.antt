@@ -3,4 +3,5 @@ pub mod EventLemmas
 pub mod WalkLemmas
 pub mod SeatLemmas
 pub mod BoundLemmas
+pub mod AloneLemmas
 mod TreeLemmas

@@ -2,3 +2,4 @@ pub mod Rule
 pub mod Steps
 pub mod Tree
 pub mod Answer
+pub mod Alone
