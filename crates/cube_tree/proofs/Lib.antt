@@ -3,4 +3,6 @@ mod OpeningLemmas
 mod EndLemmas
 mod TryLemmas
 mod ApartLemmas
+mod MovedLemmas
+mod FitLemmas
 pub mod SharedLemmas

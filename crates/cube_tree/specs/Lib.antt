@@ -2,3 +2,6 @@ pub mod Seats
 pub mod Handles
 pub mod Ends
 pub mod Tries
+pub mod Slots
+pub mod InnerSolo
+pub mod Solo
