@@ -1,6 +1,7 @@
 -- Two stations that hold regions, on one seat.
-use Rattle.std.proofs.Common.{◌≡◌, ℕ, ◌+◌, ◌^◌, ◌<◌, [], ◌∷◌, ◌++◌, sym, ◌∙◌, ap, subst, arith}
+use Rattle.std.proofs.Common.{◌≡◌, ℕ, ◌+◌, ◌^◌, ◌<◌, List, [], ◌∷◌, ◌++◌, sym, ◌∙◌, ap, subst, arith}
 use Rattle.std.proofs.lemmas.Nat.{pow_pos}
+use Rattle.std.proofs.lemmas.List.Elements.{All-head}
 use Rattle.atomic_table.specs.Seated.{TableId}
 use Rattle.cube_shape.specs.Region.{AreApart}
 use Rattle.cube_shape.proofs.PathLemmas.{log_unique}
@@ -8,7 +9,8 @@ use Rattle.cube_shape.proofs.RegionLemmas.{AreApart-paths}
 use Rattle.cube_core.specs.declared.phase.Phase.{Phase}
 use Rattle.cube_core.specs.Held.{region_at}
 use Rattle.cube_core.proofs.RunningLemmas.{region_named}
-use Rattle.tree_steps.specs.Steps.{Known, first_of, joined, AreOffPath}
+use Rattle.tree_steps.specs.declared.view.Entry.{Entry}
+use Rattle.tree_steps.specs.Steps.{Known, first_of, joined, AreOffPath, IsOffAll}
 use Rattle.cube_tree.specs.Seats.{IsSeatOf}
 use Rattle.cube_tree.specs.declared.handles.Subcube.{Subcube}
 use Rattle.cube_tree.specs.Handles.{held_region, subcube_entry}
@@ -17,6 +19,9 @@ use Rattle.cube_tree.specs.Handles.{held_region, subcube_entry}
 pub both_there : {s t : ℕ} {p q : Phase} {m o : Known} (new : Known) → IsSeatOf s p m → IsSeatOf t q o → new ≡ (joined m.0 o.0, m.1) → new.0.stations ≡ first_of m ∷ first_of o ∷ []
 both_there {m = m} {o = o} new by_s by_t is =
     ap (λ (x : Known). x.0.stations) is ∙ ap (λ es. es ++ o.0.stations) by_s.one ∙ ap (λ es. first_of m ∷ es) by_t.one
+
+pub two_off : (entries : List Entry) (a b : Entry) → entries ≡ a ∷ b ∷ [] → IsOffAll entries → AreOffPath a b
+two_off entries a b is off = All-head (AreOffPath a) b [] (subst IsOffAll is off)
 
 -- ---- regions
 

@@ -1,6 +1,6 @@
 -- Who is missing in the roll, and that all have retired.
 use Rattle.std.proofs.Common.{◌≡◌, ℕ, ◌+◌, ◌-◌, ◌^◌, ◌<◌, ◌≤◌, inl, inr, min, true, false, cond, eqb, Bool, List, [], ◌∷◌, ◌++◌, map, length, bit_and, refl, sym, ◌∙◌, ap, subst, arith, eqb-true}
-use Rattle.std.specs.Prelude.{All}
+use Rattle.std.specs.Prelude.{All, Any}
 use Rattle.std.specs.Int.{bit_at, bit_not, w64}
 use Rattle.std.proofs.lemmas.Bool.{cases_eq, cases_lt}
 use Rattle.std.proofs.lemmas.Nat.Bits.{bit_at-lt, bit_at_and, bit_at_ones, bit_at_ones_above, bit_at_not, bit_at-zero}
@@ -9,16 +9,22 @@ use Rattle.status_word.specs.Word.{IsSet}
 use Rattle.std.specs.List.{AllByRecursion}
 use Rattle.histories.specs.Sums.{total, is_at}
 use Rattle.histories.proofs.SumLemmas.{everyone}
+use Rattle.cube_core.specs.declared.phase.Phase.TheVariants.{Idle, Retired}
 use Rattle.tree_steps.specs.declared.view.Entry.{Entry}
 use Rattle.tree_steps.specs.Rule.{times}
-use Rattle.tree_steps.specs.Steps.{Known, KeepsLoad, HasWholeRoll, joined}
+use Rattle.tree_steps.specs.Steps.{Known, first_of, KeepsLoad, HasWholeRoll, joined}
+use Rattle.tree_steps.specs.Alone.{AreAllAtRest}
 use Rattle.tree_steps.proofs.RuleLemmas.{times-append}
 use Rattle.tree_steps.specs.Once.{AreOnce}
 use Rattle.cube_tree.specs.InnerEnds.{AreThere, IsGone}
 use Rattle.cube_tree.specs.Ends.{HasNumberBelow, IsMissing, IsWhole}
+use Rattle.tree_steps.proofs.AloneLemmas.{any_of_all, entry_there}
 use Rattle.cube_tree.specs.Handles.{station_entry}
 use Rattle.cube_tree.specs.declared.handles.Station.{Station}
+use Rattle.cube_tree.specs.Seats.{IsSeatOf}
+use Rattle.cube_tree.specs.InnerSolo.{IsGoneBelow}
 use Rattle.cube_tree.proofs.HandleLemmas.{HasRetired}
+use Rattle.cube_tree.proofs.MovedLemmas.{all_both}
 
 -- the bits of all stations, without those of the roll
 pub missing_bits : (n roll all missing : ℕ) → n ≤ 32 → roll < 2 ^ 64 → all ≡ 2 ^ n - 1 → missing ≡ bit_and all (bit_not w64 roll) → IsMissing n roll missing
@@ -69,19 +75,29 @@ pub gone_more : {number : ℕ} (m own new : Known) → HasRetired number own →
 gone_more m own new retired is gone = subst (λ (x : Known). All IsGone x.0.stations) (sym is)
     (All-append IsGone m.0.stations own.0.stations gone (subst (All IsGone) (sym retired.one) (All-cons IsGone retired.entry [] retired.phase_is (All-nil IsGone))))
 
+-- one station more that is idle
+pub idle_more : {number : ℕ} (m own new : Known) → IsSeatOf number Idle own → new ≡ (joined m.0 own.0, m.1) → All (λ e. e.phase ≡ Idle) m.0.stations → All (λ e. e.phase ≡ Idle) new.0.stations
+idle_more m own new seat is idle = subst (λ (x : Known). All (λ e. e.phase ≡ Idle) x.0.stations) (sym is)
+    (All-append (λ e. e.phase ≡ Idle) m.0.stations own.0.stations idle (subst (All (λ e. e.phase ≡ Idle)) (sym seat.one) (All-cons (λ e. e.phase ≡ Idle) (first_of own) [] seat.phase_is (All-nil (λ e. e.phase ≡ Idle)))))
+
 map_append : (l : List Station) (x : Station) → map station_entry (l ++ x ∷ []) ≡ map station_entry l ++ station_entry x ∷ []
 map_append [] x = refl
 map_append (y ∷ l) x = ap (λ es. station_entry y ∷ es) (map_append l x)
 
 -- a station that was in the list is with the seat
-pub there_more : {number : ℕ} (s : ℕ) (m own new : Known) (before after : List Station) (x : Station) → HasRetired number own → new ≡ (joined m.0 own.0, m.1) → before ≡ after ++ x ∷ [] → (station_entry x).station ≡ number
+pub there_more : {number : ℕ} (s : ℕ) (m own new : Known) (before after : List Station) (x : Station) (entry : Entry) → own.0.stations ≡ entry ∷ [] → entry.station ≡ number → new ≡ (joined m.0 own.0, m.1) → before ≡ after ++ x ∷ [] → (station_entry x).station ≡ number
     → times s new.0.stations + times s (map station_entry after) ≡ times s m.0.stations + times s (map station_entry before)
-there_more {number = number} s m own new before after x retired is popped same =
+there_more {number = number} s m own new before after x entry one number_is is popped same =
     let first : times s new.0.stations ≡ times s m.0.stations + times s own.0.stations = ap (λ (y : Known). times s y.0.stations) is ∙ times-append s m.0.stations own.0.stations in
-    let own_is : times s own.0.stations ≡ cond (eqb number s) 1 0 + 0 = ap (times s) retired.one ∙ ap (λ a. cond (eqb a s) 1 0 + 0) retired.number_is in
+    let own_is : times s own.0.stations ≡ cond (eqb number s) 1 0 + 0 = ap (times s) one ∙ ap (λ a. cond (eqb a s) 1 0 + 0) number_is in
     let list : times s (map station_entry before) ≡ times s (map station_entry after) + times s (station_entry x ∷ []) = ap (λ l. times s (map station_entry l)) popped ∙ ap (times s) (map_append after x) ∙ times-append s (map station_entry after) (station_entry x ∷ []) in
     let last : times s (station_entry x ∷ []) ≡ cond (eqb number s) 1 0 + 0 = ap (λ a. cond (eqb a s) 1 0 + 0) same in
     omega (arith, first, own_is, list, last)
+
+pub all_more : {number : ℕ} (s : ℕ) (m own new : Known) (before after : List Station) (x : Station) (entry : Entry) → own.0.stations ≡ entry ∷ [] → entry.station ≡ number → new ≡ (joined m.0 own.0, m.1) → before ≡ after ++ x ∷ [] → (station_entry x).station ≡ number
+    → 0 < times s m.0.stations + times s (map station_entry before) → 0 < times s new.0.stations + times s (map station_entry after)
+all_more s m own new before after x entry one number_is is popped same had =
+    let sums = there_more s m own new before after x entry one number_is is popped same in omega (arith, had, sums)
 
 -- no station is left in the list
 pub none_left : (l : List Station) (s n most : ℕ) → length l ≡ 0 → n + times s (map station_entry l) ≡ most → n ≡ most
@@ -101,3 +117,14 @@ pub everyone_there : (count : ℕ) (l : List Station) (m : Known) → All (HasNu
 everyone_there count l m below long there once s within =
     let one = everyone (λ (x : Station). (station_entry x).station) count l (each_below count l below) (λ k. omega (arith, as_total k l, there k, once k)) long s within in
     omega (arith, one, as_total s l, there s)
+
+-- ---- all stations of one seat have retired, one after another
+
+pub whole_of_gone : (count found : ℕ) (m : Known) → AreAllAtRest count m → All (IsGoneBelow count) m.0.stations → All (λ e. IsGone e → IsSet found e.station) m.0.stations → IsWhole count found
+whole_of_gone count found m all gone bits s below = found_in (any_of_all (λ e. e.station ≡ s) (λ e. IsGoneBelow count e × (IsGone e → IsSet found e.station)) (λ e. IsSet found s) m.0.stations
+    (λ e same (is_gone, bit). subst (IsSet found) same (bit (is_gone.0 (omega (arith, same, below)))))
+    (entry_there s m.0.stations (all.present s below))
+    (all_both (IsGoneBelow count) (λ e. IsGone e → IsSet found e.station) (λ e. IsGoneBelow count e × (IsGone e → IsSet found e.station)) m.0.stations (λ e g b. (g, b)) gone bits))
+  where
+    found_in : Any (λ e. IsSet found s) m.0.stations → IsSet found s
+    found_in (i, e, within, is, set) = set

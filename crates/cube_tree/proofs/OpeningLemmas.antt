@@ -1,9 +1,11 @@
 -- The first seat is cut into one for each station.
-use Rattle.std.proofs.Common.{◌≡◌, ℕ, zero, suc, ◌+◌, ◌-◌, ◌<◌, false, List, [], ◌∷◌, ◌++◌, map, refl, sym, ◌∙◌, ap, subst, arith}
+use Rattle.std.proofs.Common.{◌≡◌, ℕ, zero, suc, ◌+◌, ◌-◌, ◌<◌, ◌≤◌, inl, inr, false, cond, eq-eqb, List, [], ◌∷◌, ◌++◌, map, refl, sym, ◌∙◌, ap, subst, arith}
+use Rattle.std.proofs.lemmas.Bool.{cases_eq}
 use Rattle.cube_core.specs.declared.phase.Phase.TheVariants.{Idle}
-use Rattle.tree_steps.specs.Rule.{first, idle_entry, idle_entries}
+use Rattle.tree_steps.specs.Rule.{first, times, idle_entry, idle_entries}
 use Rattle.tree_steps.specs.Steps.{Known, without_first, only_first}
 use Rattle.cube_tree.specs.Seats.{IsSeatOf, IsBare}
+use Rattle.cube_tree.specs.Ends.{HasAll}
 use Rattle.cube_tree.specs.Handles.{station_entry}
 use Rattle.cube_tree.specs.declared.handles.Station.{Station}
 
@@ -57,3 +59,14 @@ dealt_more l s number dealt is =
 
     next : (b : ℕ) → suc b ≡ b + 1
     next b = omega arith
+
+-- each station is there
+idle_there : (s a count : ℕ) → a ≤ s → s < a + count → 0 < times s (idle_entries a count)
+idle_there s a zero from below = absurd (omega (arith, from, below))
+idle_there s a (suc count) from below = elim (cases_eq a s) [
+  | inl same ↦ let here : times s (idle_entries a (suc count)) ≡ 1 + times s (idle_entries (suc a) count) = ap (λ t. cond t 1 0 + times s (idle_entries (suc a) count)) (eq-eqb a s same) in omega (arith, here)
+  | inr other ↦ let later = idle_there s (suc a) count (omega (arith, from, other)) (omega (arith, below)) in omega (arith, later)
+]
+
+pub dealt_all : (count : ℕ) (l : List Station) → map station_entry l ≡ idle_entries 0 count → HasAll count l
+dealt_all count l is s below = subst (λ es. 0 < times s es) (sym is) (idle_there s 0 count (omega arith) (omega (arith, below)))

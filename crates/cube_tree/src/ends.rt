@@ -120,7 +120,7 @@ impl Cube {
 }
 
 // The end of a tree of which all stations have retired.
-fn finish(tree: Tree, mut seat: Seat) -> FreeMachine
+pub(crate) fn finish(tree: Tree, mut seat: Seat) -> FreeMachine
     requires seat { seat.table_id ≡ id_of tree }
     requires slots { seat.me.1 ≡ [] }
     requires retired { HasWholeRoll (station_count tree) seat.me }

@@ -13,13 +13,17 @@ mod handles;
 mod opening;
 mod refusal;
 mod refused;
+mod solo;
+mod solo_calls;
+mod solo_ends;
 mod takes;
 mod tries;
 
 pub use comparison::apart;
 pub use handles::{Cube, FreeMachine, Station, StillOut, Subcube};
 pub use refusal::Refusal;
-pub use refused::CubeRefused;
+pub use refused::{CubeRefused, SoloRefused};
+pub use solo::Solo;
 pub use tree_steps::Why;
 
 #[cfg(test)]

@@ -3,6 +3,7 @@ ghost use Rattle.std.specs.Prelude.{◌≡◌, ◌<◌, ◌≤◌, ◌⊎◌, �
 ghost use Rattle.tree_steps.specs.Rule.{first_view, idle_entries};
 ghost use Rattle.tree_steps.specs.Tree.{id_of, size_of, station_count};
 ghost use Rattle.cube_tree.specs.Seats.{IsBare};
+ghost use Rattle.cube_tree.specs.Ends.{HasAll};
 ghost use Rattle.cube_tree.specs.Handles.{cube_size, loads_of, station_entry, size_with, IsStationOf, HasTable};
 
 use crate::handles::{Cube, Station};
@@ -23,6 +24,7 @@ impl Cube {
         ensures count { IfOk result (λ made. vec_len made.1 ≡ stations) }
         ensures idle { IfOk result (λ made. map station_entry made.1.items
             ≡ idle_entries 0 stations) }
+        ensures all { IfOk result (λ made. HasAll stations made.1.items) }
         ensures of_cube { IfOk result (λ made. All (IsStationOf made.0) made.1.items) }
     {
         if !Dim(n).fits(MAX_DIM) {
@@ -60,6 +62,7 @@ fn deal(tree: &Tree, seat: &mut Seat, list: &mut Vec<Station>, stations: u32)
     ensures loads { seat.new.me.0.loads ≡ [] }
     ensures len { vec_len list.new ≡ stations }
     ensures idle { map station_entry list.new.items ≡ idle_entries 0 stations }
+    ensures all { HasAll stations list.new.items }
     ensures of_tree { All (HasTable (id_of tree.now)) list.new.items }
 {
     for number in 0..stations {

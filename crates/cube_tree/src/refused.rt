@@ -13,3 +13,14 @@ pub enum CubeRefused {
     #[error("out of memory")]
     OutOfMemory,
 }
+
+/// Why a take of a machine with all its stations in one hand is refused.
+#[derive(Clone, Copy, Debug, PartialEq, Eq, Hash, Error)]
+pub enum SoloRefused {
+    /// No aligned region of the dimension asked is apart from every held region.
+    #[error("no free subcube of this dimension")]
+    NoSubcube,
+    /// Each station holds a region.
+    #[error("each station holds a region")]
+    NoStation,
+}

@@ -9,7 +9,7 @@ use cube_shape::{MAX_DIM, Node, Region, region_of};
 use tree_steps::Why;
 
 // The region of a node.
-fn region_at_node(dim: u32, node: u64) -> Region
+pub(crate) fn region_at_node(dim: u32, node: u64) -> Region
     requires dim { dim ≤ MAX_DIM }
     requires node { IsInCube dim node }
     ensures { result ≡ region_at dim node }

@@ -1,8 +1,10 @@
 //! Takes and releases of stations on one thread, refused openings, and closings.
 ghost use Rattle.std.specs.Prelude.{◌≡◌, ◌+◌, ◌<◌, ◌≤◌, [], All, vec_len, vec_capacity};
 ghost use Rattle.cube_shape.specs.Node.{IsInCube};
+ghost use Rattle.cube_tree.specs.Ends.{HasAll};
 ghost use Rattle.cube_tree.specs.Handles.{cube_dim, cube_size, size_with, IsStationOf, IsSubcubeOf, held_node};
 
+mod alone;
 mod crowd;
 mod together;
 
@@ -19,6 +21,7 @@ fn opened(rt: &impl Abort, alloc: Global, n: u32, stations: u32) -> (Cube, Vec<S
     requires few { stations ≤ MAX_STATIONS }
     ensures size { cube_size result.0 ≡ size_with n stations }
     ensures count { vec_len result.1 ≡ stations }
+    ensures all { HasAll stations result.1.items }
     ensures of_cube { All (IsStationOf result.0) result.1.items }
 {
     Cube::open(alloc, n, stations).expect(rt, "no memory")

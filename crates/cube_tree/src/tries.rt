@@ -1,19 +1,21 @@
 //! Takes of any region of a dimension.
 ghost use Rattle.std.specs.Prelude.{◌≡◌, ◌-◌, ◌^◌, ◌≤◌, IfOk, IfErr};
+ghost use Rattle.tree_steps.specs.Tree.{dim_of};
 ghost use Rattle.cube_tree.specs.Handles.{cube_dim, station_entry, IsStationOf};
 ghost use Rattle.cube_tree.specs.Tries.{TakesOne, IsRefusedAll};
 
 use crate::handles::{Cube, Station, Subcube};
 use crate::refusal::{Refusal, count};
 use cube_shape::{MAX_DIM, Node};
+use tree_steps::Tree;
 
 // The number of regions of dimension `k`.
-fn region_count(cube: &Cube, k: u32) -> u64
-    requires { k ≤ cube_dim cube.now }
-    ensures value { result ≡ 2 ^ (cube_dim cube.now - k) }
+pub(crate) fn region_count(tree: &Tree, k: u32) -> u64
+    requires { k ≤ dim_of tree.now }
+    ensures value { result ≡ 2 ^ (dim_of tree.now - k) }
     ensures limit { result ≤ 2 ^ MAX_DIM }
 {
-    1 << (cube.tree.size().dim - k)
+    1 << (tree.size().dim - k)
 }
 
 impl Station {
@@ -30,7 +32,7 @@ impl Station {
             IsRefusedAll (cube_dim cube.now) (cube_dim cube.now - k)
             (station_entry self) (station_entry refused.0) refused.1) }
     {
-        let nodes = region_count(cube, k);
+        let nodes = region_count(&cube.tree, k);
         let mut station = self;
         let mut refusal = Refusal {
             in_use: 0,

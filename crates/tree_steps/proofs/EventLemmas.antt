@@ -22,14 +22,16 @@ use Rattle.cube_core.specs.declared.phase.Seen.{Seen}
 use Rattle.cube_core.specs.declared.phase.Seen.TheVariants as seen
 use Rattle.cube_core.specs.Phase.{side_of, is_seen_free}
 use Rattle.cube_core.specs.Event.{Transition, transition, retirement, zero_event, busy, is_free, is_occupied, note_after_raise}
-use Rattle.cube_core.specs.Schedule.{step_refusal}
+use Rattle.cube_core.specs.Schedule.{step_refusal, word_of}
 use Rattle.cube_core.proofs.OneEventLemmas.{step_is_event, take_is_event, release_is_event, retire_is_event}
 use Rattle.cube_core.proofs.RunningLemmas.{step_at as event_is, clears}
 use Rattle.tree_steps.specs.declared.view.Entry.{Entry}
 use Rattle.tree_steps.specs.declared.view.Size.{Size}
-use Rattle.tree_steps.specs.Rule.{IsRuled, record_in, others}
+use Rattle.tree_steps.specs.Rule.{IsRuled, record_in, others, world_after}
 use Rattle.tree_steps.specs.Steps.{Known, first_of, entry_after, begin, step_at, retire_at, steps_at, Walks, IsAt, Answered}
-use Rattle.tree_steps.proofs.RuleLemmas.{plays_first}
+use Rattle.tree_steps.specs.Alone.{MeansWord, Learns}
+use Rattle.tree_steps.proofs.RuleLemmas.{plays_first, plays_reading}
+use Rattle.tree_steps.proofs.AloneLemmas.{means_word}
 
 -- ---- a seat with a first station, by its parts
 
@@ -88,12 +90,26 @@ module _ (k : Size) (slots id : ℕ) (m : Known) where
       (λ w. writes w ∙ ap (λ q. (transition (first_of m).station q).writes w) (sym at.phase))
       (λ found. refl))
 
+  -- the same where a seat that has all stations learns what the word means
+  pub steps_learning : (p : Phase) (node : ℕ) (f : ℕ → ℕ) → IsAt m p → step_refusal p ≡ None → (transition (first_of m).station p).node ≡ node → ((w : ℕ) → f w ≡ (transition (first_of m).station p).writes w)
+      → Allows (IsRuled k) slots id m node f (λ found after. Learns node found m after (step_at found m))
+  steps_learning p node f at moves here writes = by_parts (λ x. Allows (IsRuled k) slots id x node f (λ found after. Learns node found x after (step_at found x))) m at.there
+      (plays_reading k slots id (parted m).0 m.1 (first_of m) (others m.0.stations) (Step (first_of m).station ∷ []) (transition (first_of m).station (first_of m).phase) node f (λ found after. Learns node found (parted m) after (step_at found (parted m))) refl
+      (step_is_event k.dim (first_of m).station (record_in (first_of m)) (ap step_refusal at.phase ∙ moves))
+      there
+      (λ w. writes w ∙ ap (λ q. (transition (first_of m).station q).writes w) (sym at.phase))
+      (λ acts found had word. record { seat = refl; word = λ alone positive. subst (λ x. MeansWord node x (first_of m ∷ others m.0.stations)) (ap (word_of (world_after k acts)) (sym there) ∙ word) (means_word k acts (parted m).0 had alone node positive) }))
+    where
+      there : (transition (first_of m).station (first_of m).phase).node ≡ node
+      there = ap (λ q. (transition (first_of m).station q).node) at.phase ∙ here
+
   -- the look with which a take begins
-  pub looks : (node : ℕ) → IsAt m Idle → IsInCube k.dim node → Allows (IsRuled k) slots id m node (λ w. w) (λ found after. after ≡ step_at found (begin (Looking node) m))
-  looks node at in_cube = by_parts (λ x. Allows (IsRuled k) slots id x node (λ w. w) (λ found after. after ≡ step_at found (begin (Looking node) x))) m at.there
-      (plays_first k slots id (parted m).0 m.1 (first_of m) (others m.0.stations) (Step (first_of m).station ∷ Take (first_of m).station node ∷ []) (transition (first_of m).station (Looking node)) node (λ w. w) (λ found after. after ≡ step_at found (begin (Looking node) (parted m))) refl
+  pub looks : (node : ℕ) → IsAt m Idle → IsInCube k.dim node → Allows (IsRuled k) slots id m node (λ w. w) (λ found after. Learns node found m after (step_at found (begin (Looking node) m)))
+  looks node at in_cube = by_parts (λ x. Allows (IsRuled k) slots id x node (λ w. w) (λ found after. Learns node found x after (step_at found (begin (Looking node) x)))) m at.there
+      (plays_reading k slots id (parted m).0 m.1 (first_of m) (others m.0.stations) (Step (first_of m).station ∷ Take (first_of m).station node ∷ []) (transition (first_of m).station (Looking node)) node (λ w. w) (λ found after. Learns node found (parted m) after (step_at found (begin (Looking node) (parted m)))) refl
       (take_is_event k.dim (first_of m).station node (record_in (first_of m)) at.phase in_cube)
-      refl (λ w. refl) (λ found. refl))
+      refl (λ w. refl)
+      (λ acts found had word. record { seat = refl; word = λ alone positive. subst (λ x. MeansWord node x (first_of m ∷ others m.0.stations)) word (means_word k acts (parted m).0 had alone node positive) }))
 
   -- the store with which a release begins
   pub gives_back : (node : ℕ) → IsAt m (Holding node) → Allows (IsRuled k) slots id m node (λ _. 0) (λ _ after. after ≡ step_at 0 (begin (Leaving node) m))

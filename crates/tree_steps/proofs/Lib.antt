@@ -4,4 +4,5 @@ pub mod WalkLemmas
 pub mod SeatLemmas
 pub mod BoundLemmas
 pub mod OnceLemmas
+pub mod AloneLemmas
 mod TreeLemmas

@@ -107,15 +107,16 @@ view_at P (u ∷ rest) (suc i) v at had = view_at P rest i v at (All-tail P u re
 
 -- ---- a step of the first station of a seat
 
--- an event that these acts are, where the word is written as the event writes it
-pub plays_first : (k : Size) (slots id : ℕ) (v : View) (c : List (ℕ × Unit {0})) (e : Entry) (rest : List Entry) (news : List Act) (d : Transition) (node : ℕ) (f : ℕ → ℕ) (then : ℕ → Known → Type 0)
+-- an event that these acts are, where the word is written as the event writes it; what is told may rest
+-- on the world before it
+pub plays_reading : (k : Size) (slots id : ℕ) (v : View) (c : List (ℕ × Unit {0})) (e : Entry) (rest : List Entry) (news : List Act) (d : Transition) (node : ℕ) (f : ℕ → ℕ) (then : ℕ → Known → Type 0)
     → v.stations ≡ e ∷ rest → AreOneEvent k.dim news e.station (record_in e) d → d.node ≡ node → ((w : ℕ) → f w ≡ d.writes w)
-    → ((found : ℕ) → then found (record v { stations = entry_after d found e ∷ rest }, c))
+    → ((acts : List Act) (found : ℕ) → IsView k acts v → word_of (world_after k acts) d.node ≡ found → then found (record v { stations = entry_after d found e ∷ rest }, c))
     → Allows (IsRuled k) slots id (v, c) node f then
-plays_first k slots id v c e rest news d node f then is one at writes told = subst (λ a. Allows (IsRuled k) slots id (v, c) a f then) at allowed
+plays_reading k slots id v c e rest news d node f then is one at writes told = subst (λ a. Allows (IsRuled k) slots id (v, c) a f then) at allowed
   where
     allowed : Allows (IsRuled k) slots id (v, c) d.node f then
-    allowed t ruled wide me limit = (new, keeps, tt, kept, told found)
+    allowed t ruled wide me limit = (new, keeps, tt, kept, told acts found had word)
       where
         acts : List Act
         acts = ruled.acts
@@ -170,3 +171,9 @@ plays_first k slots id v c e rest news d node f then is one at writes told = sub
           views = views_set k news acts e.station (record_in e) d one mine.0 mine.1 t.views id v new me alone_here (ruled.once e.station) new_view ruled.views;
           once = λ s. let sums = times_in-set s id t.views v new me in let same = counts s in let most = ruled.once s in omega arith;
         }
+
+pub plays_first : (k : Size) (slots id : ℕ) (v : View) (c : List (ℕ × Unit {0})) (e : Entry) (rest : List Entry) (news : List Act) (d : Transition) (node : ℕ) (f : ℕ → ℕ) (then : ℕ → Known → Type 0)
+    → v.stations ≡ e ∷ rest → AreOneEvent k.dim news e.station (record_in e) d → d.node ≡ node → ((w : ℕ) → f w ≡ d.writes w)
+    → ((found : ℕ) → then found (record v { stations = entry_after d found e ∷ rest }, c))
+    → Allows (IsRuled k) slots id (v, c) node f then
+plays_first k slots id v c e rest news d node f then is one at writes told = plays_reading k slots id v c e rest news d node f then is one at writes (λ acts found had word. told found)

@@ -1,5 +1,5 @@
 -- The rule at the opening, and how it is kept where seats are cut, joined or only look.
-use Rattle.std.proofs.Common.{◌≡◌, ◌≢◌, ℕ, zero, suc, ◌+◌, ◌^◌, ◌<◌, ◌≤◌, inl, inr, cond, List, [], ◌∷◌, length, get_or, set, replicate, refl, sym, ◌∙◌, ap, subst, arith, eq-eqb, ne_eqb}
+use Rattle.std.proofs.Common.{◌≡◌, ◌≢◌, ℕ, zero, suc, ◌+◌, ◌^◌, ◌<◌, ◌≤◌, inl, inr, cond, Bool, true, false, eqb, eqb-true, List, [], ◌∷◌, ◌++◌, length, get_or, set, replicate, refl, sym, ◌∙◌, ap, subst, arith, eq-eqb, ne_eqb}
 use Rattle.std.specs.Prelude.{All, slice_index}
 use Rattle.std.proofs.lemmas.Bool.{true≢false, cases_eq, cases_lt}
 use Rattle.std.proofs.lemmas.List.{set-get_or, get_or-replicate, get_or-set_same, get_or-set_other, get_or_past}
@@ -14,7 +14,7 @@ use Rattle.cube_shape.specs.Node.{child_towards}
 use Rattle.status_word.specs.Word.{IsSet}
 use Rattle.cube_core.specs.declared.act.Act.{Act}
 use Rattle.cube_core.specs.declared.phase.Phase.TheVariants.{Idle, Holding, Retired}
-use Rattle.cube_core.specs.Phase.{owned, Owns}
+use Rattle.cube_core.specs.Phase.{owned, Owns, IsAtRest}
 use Rattle.cube_core.specs.InnerPhase.{stop}
 use Rattle.cube_core.specs.Safety.{IsSafe}
 use Rattle.cube_core.specs.Schedule.{Record, phase_of, word_of}
@@ -22,8 +22,9 @@ use Rattle.cube_core.proofs.RunningLemmas.{lawful_after, initial_stations, close
 use Rattle.tree_steps.specs.declared.view.Entry.{Entry}
 use Rattle.tree_steps.specs.declared.view.View.{View}
 use Rattle.tree_steps.specs.declared.view.Size.{Size}
-use Rattle.tree_steps.specs.Rule.{others, times, world_after, IsEntryOf, WasRoll, IsView, IsRuled, idle_entry, idle_entries, first_view}
-use Rattle.tree_steps.specs.Steps.{Known, KeepsLoad, AreOffPath, first_alone, without_first, only_first, without_stations, joined, blank}
+use Rattle.tree_steps.specs.Rule.{first, others, times, world_after, IsEntryOf, WasRoll, IsView, IsRuled, idle_entry, idle_entries, first_view}
+use Rattle.tree_steps.specs.Steps.{Known, KeepsLoad, AreOffPath, IsOffAll, first_alone, without_first, only_first, without_stations, joined, blank}
+use Rattle.tree_steps.specs.Alone.{AreAllAtRest, Turns, picked, unpicked, turned_to}
 use Rattle.tree_steps.proofs.RuleLemmas.{times-append, times_here, times_at, times_in-set, times_in-append, view_at}
 
 -- ---- the opening
@@ -133,18 +134,18 @@ merges k id v other w t ruled me differ them = record {
 
 -- ---- loads that change no station
 
--- a load with which a view becomes another of the same stations
-pub loads_word : (k : Size) (slots id : ℕ) (v : View) (c : List (ℕ × Unit {0})) (word : ℕ) (next : ℕ → View) (then : ℕ → Known → Type 0)
-    → ((found s : ℕ) → times s (next found).stations ≡ times s v.stations)
+-- a step that changes no word, with which a view becomes another of the same stations
+keeps_word : (k : Size) (slots id : ℕ) (v : View) (c : List (ℕ × Unit {0})) (word : ℕ) (f : ℕ → ℕ) (next : ℕ → View) (then : ℕ → Known → Type 0)
+    → ((w : ℕ) → f w ≡ w) → ((found s : ℕ) → times s (next found).stations ≡ times s v.stations)
     → ((t : Table (Unit {0}) View) (ruled : IsRuled k t) → get_elem? t.views id ≡ some v → IsView k ruled.acts v → IsView k ruled.acts (next (get_or t.words word 0)) × then (get_or t.words word 0) (next (get_or t.words word 0), c))
-    → Allows (IsRuled k) slots id (v, c) word (λ w. w) then
-loads_word k slots id v c word next then same known t ruled wide me limit = (
+    → Allows (IsRuled k) slots id (v, c) word f then
+keeps_word k slots id v c word f next then keep same known t ruled wide me limit = (
   next (get_or t.words word 0),
   keeps,
   tt,
   record {
     acts = ruled.acts;
-    words = set-get_or t.words word 0 ∙ ruled.words;
+    words = ap (set t.words word) (keep (get_or t.words word 0)) ∙ set-get_or t.words word 0 ∙ ruled.words;
     views = put_view k ruled.acts t.views id (next (get_or t.words word 0)) (told.0) ruled.views;
     once = λ s. let sums = times_in-set s id t.views v (next (get_or t.words word 0)) me in let equal = same (get_or t.words word 0) s in let most = ruled.once s in omega arith;
   },
@@ -153,6 +154,13 @@ loads_word k slots id v c word next then same known t ruled wide me limit = (
   where
     told : IsView k ruled.acts (next (get_or t.words word 0)) × then (get_or t.words word 0) (next (get_or t.words word 0), c)
     told = known t ruled me (view_at (IsView k ruled.acts) t.views id v me ruled.views)
+
+-- a load with which a view becomes another of the same stations
+pub loads_word : (k : Size) (slots id : ℕ) (v : View) (c : List (ℕ × Unit {0})) (word : ℕ) (next : ℕ → View) (then : ℕ → Known → Type 0)
+    → ((found s : ℕ) → times s (next found).stations ≡ times s v.stations)
+    → ((t : Table (Unit {0}) View) (ruled : IsRuled k t) → get_elem? t.views id ≡ some v → IsView k ruled.acts v → IsView k ruled.acts (next (get_or t.words word 0)) × then (get_or t.words word 0) (next (get_or t.words word 0), c))
+    → Allows (IsRuled k) slots id (v, c) word (λ w. w) then
+loads_word k slots id v c word next then same known = keeps_word k slots id v c word (λ w. w) next then (λ w. refl) same known
 
 -- whoever has retired has a bit in the roll
 retired_bits : (k : Size) (acts : List Act) (entries : List Entry) → All (IsEntryOf k acts) entries → All (λ e. e.phase ≡ Retired → IsSet (word_of (world_after k acts) 0) e.station) entries
@@ -208,37 +216,103 @@ not_over k acts s t v w other by_s by_t on = elim (cases_eq v w) [
     above : {x y : ℕ} → x ≡ 0 → y ≡ v → x < y
     above none is = omega (arith, positive)
 
--- and so for the two of one seat
-pub compares : (k : Size) (slots id : ℕ) (m : Known) → Allows (IsRuled k) slots id m 0 (λ w. w) (λ found after. (after ≡ m) × ((a b : Entry) → m.0.stations ≡ a ∷ b ∷ [] → AreOffPath a b))
-compares k slots id m = loads_word k slots id m.0 m.1 0 (λ _. m.0) (λ found after. (after ≡ m) × ((a b : Entry) → m.0.stations ≡ a ∷ b ∷ [] → AreOffPath a b)) (λ found s. refl) known
+-- what a station holds is apart from what each other of its seat holds
+off_each : (k : Size) (acts : List Act) (a : Entry) (rest : List Entry) → IsEntryOf k acts a → times a.station rest ≡ 0 → All (IsEntryOf k acts) rest → All (AreOffPath a) rest
+off_each k acts a [] of_a none all = All-nil (AreOffPath a)
+off_each k acts a (b ∷ rest) of_a none all = All-cons (AreOffPath a) b rest off (off_each k acts a rest of_a (omega (arith, none)) (All-tail (IsEntryOf k acts) b rest all))
   where
-    known : (t : Table (Unit {0}) View) (ruled : IsRuled k t) → get_elem? t.views id ≡ some m.0 → IsView k ruled.acts m.0 → IsView k ruled.acts m.0 × ((m ≡ m) × ((a b : Entry) → m.0.stations ≡ a ∷ b ∷ [] → AreOffPath a b))
-    known t ruled me had = (had, (refl, off))
+    of_b : IsEntryOf k acts b
+    of_b = All-head (IsEntryOf k acts) b rest all
+
+    at_a : {v : ℕ} → a.phase ≡ Holding v → phase_of (world_after k acts) a.station ≡ Holding v
+    at_a holds = ap (λ (r : Record). r.phase) of_a.1 ∙ holds
+
+    at_b : {v : ℕ} → b.phase ≡ Holding v → phase_of (world_after k acts) b.station ≡ Holding v
+    at_b holds = ap (λ (r : Record). r.phase) of_b.1 ∙ holds
+
+    other : a.station ≢ b.station
+    other same = let here : times a.station (b ∷ rest) ≡ 1 + times a.station rest = ap (λ t. cond t 1 0 + times a.station rest) (eq-eqb b.station a.station (sym same)) in omega (arith, here, none)
+
+    off : AreOffPath a b
+    off v w holds_a holds_b on = elim on [
+      | inl over ↦ not_over k acts a.station b.station v w other (at_a holds_a) (at_b holds_b) over
+      | inr under ↦ not_over k acts b.station a.station w v (λ e. other (sym e)) (at_b holds_b) (at_a holds_a) under
+    ]
+
+off_all : (k : Size) (acts : List Act) (entries : List Entry) → ((s : ℕ) → times s entries ≤ 1) → All (IsEntryOf k acts) entries → IsOffAll entries
+off_all k acts [] once all = All-nil (AreOffPath (first []))
+off_all k acts (a ∷ rest) once all = off_each k acts a rest (All-head (IsEntryOf k acts) a rest all) none (All-tail (IsEntryOf k acts) a rest all)
+  where
+    none : times a.station rest ≡ 0
+    none = let here = times_here a rest in let most = once a.station in omega (arith, here, most)
+
+pub compares : (k : Size) (slots id : ℕ) (m : Known) → Allows (IsRuled k) slots id m 0 (λ w. w) (λ found after. (after ≡ m) × IsOffAll m.0.stations)
+compares k slots id m = loads_word k slots id m.0 m.1 0 (λ _. m.0) (λ found after. (after ≡ m) × IsOffAll m.0.stations) (λ found s. refl) known
+  where
+    known : (t : Table (Unit {0}) View) (ruled : IsRuled k t) → get_elem? t.views id ≡ some m.0 → IsView k ruled.acts m.0 → IsView k ruled.acts m.0 × ((m ≡ m) × IsOffAll m.0.stations)
+    known t ruled me had = (had, (refl, off_all k ruled.acts m.0.stations (λ s. let below = times_at s id t.views m.0 me in let most = ruled.once s in omega (arith, below, most)) had.stations))
+
+-- ---- the record of a station comes first
+
+-- both parts of a list by the test of its first entry
+turned_times_by : (t s : ℕ) (e : Entry) (rest : List Entry) (b : Bool) → times t (picked s rest ++ unpicked s rest) ≡ times t rest → times t (cond b (e ∷ []) (picked s rest) ++ cond b rest (e ∷ unpicked s rest)) ≡ times t (e ∷ rest)
+turned_times_by t s e rest true had = refl
+turned_times_by t s e rest false had =
+    let apart = times-append t (picked s rest) (e ∷ unpicked s rest) in let joint = times-append t (picked s rest) (unpicked s rest) in omega (arith, apart, joint, had)
+
+pub turned_times : (t s : ℕ) (entries : List Entry) → times t (picked s entries ++ unpicked s entries) ≡ times t entries
+turned_times t s [] = refl
+turned_times t s (e ∷ rest) = turned_times_by t s e rest (eqb e.station s) (turned_times t s rest)
+
+picked_all : (P : Entry → Type 0) (s : ℕ) (entries : List Entry) → All P entries → All P (picked s entries) × All P (unpicked s entries)
+picked_all P s [] all = (all, all)
+picked_all P s (e ∷ rest) all = by_test (eqb e.station s) (picked_all P s rest (All-tail P e rest all))
+  where
+    by_test : (b : Bool) → All P (picked s rest) × All P (unpicked s rest) → All P (cond b (e ∷ []) (picked s rest)) × All P (cond b rest (e ∷ unpicked s rest))
+    by_test true had = (All-cons P e [] (All-head P e rest all) (All-nil P), All-tail P e rest all)
+    by_test false had = (had.0, All-cons P e (unpicked s rest) (All-head P e rest all) had.1)
+
+pub turned_all : (P : Entry → Type 0) (s : ℕ) (entries : List Entry) → All P entries → All P (picked s entries ++ unpicked s entries)
+turned_all P s entries all = let parts = picked_all P s entries all in All-append P (picked s entries) (unpicked s entries) parts.0 parts.1
+
+pub others_all : (P : Entry → Type 0) (entries : List Entry) → All P entries → All P (others entries)
+others_all = cut_rest
+
+-- where the station is there, its record is the first
+pub picked_is : (s : ℕ) (entries : List Entry) → 0 < times s entries → (e : Entry) × (picked s entries ≡ e ∷ []) × (e.station ≡ s)
+picked_is s [] some_here = absurd (omega (arith, some_here))
+picked_is s (e ∷ rest) some_here = by_test (eqb e.station s) refl some_here (picked_is s rest)
+  where
+    by_test : (b : Bool) → eqb e.station s ≡ b → 0 < cond b 1 0 + times s rest → (0 < times s rest → (x : Entry) × (picked s rest ≡ x ∷ []) × (x.station ≡ s)) → (x : Entry) × (cond b (e ∷ []) (picked s rest) ≡ x ∷ []) × (x.station ≡ s)
+    by_test true is more later = (e, refl, eqb-true e.station s is)
+    by_test false is more later = later (omega (arith, more))
+
+-- a number that is exchanged for itself
+pub same_exchanged : (w s : ℕ) → cond (eqb w s) s w ≡ w
+same_exchanged w s = by_test (eqb w s) refl
+  where
+    by_test : (b : Bool) → eqb w s ≡ b → cond b s w ≡ w
+    by_test true is = sym (eqb-true w s is)
+    by_test false is = refl
+
+pub turns : (k : Size) (slots id s : ℕ) (m : Known) (f : ℕ → ℕ) → ((w : ℕ) → f w ≡ w) → AreAllAtRest k.stations m → Allows (IsRuled k) slots id m 0 f (λ found after. Turns s m after)
+turns k slots id s m f keep all = keeps_word k slots id m.0 m.1 0 f (λ _. (turned_to s m).0) (λ found after. Turns s m after) keep (λ found t. turned_times t s m.0.stations) known
+  where
+    known : (t : Table (Unit {0}) View) (ruled : IsRuled k t) → get_elem? t.views id ≡ some m.0 → IsView k ruled.acts m.0 → IsView k ruled.acts (turned_to s m).0 × Turns s m (turned_to s m)
+    known t ruled me had = (
+      record {
+        stations = turned_all (IsEntryOf k ruled.acts) s m.0.stations had.stations;
+        loads = had.loads;
+        alone = λ _. record {
+          present = λ u below. let some_here = all.present u below in let most = once u in let same = turned_times u s m.0.stations in omega (arith, some_here, most, same);
+          resting = others_all (λ e. IsAtRest e.phase) (picked s m.0.stations ++ unpicked s m.0.stations) (turned_all (λ e. IsAtRest e.phase) s m.0.stations all.resting);
+        };
+      },
+      record { seat = refl; once = once },
+    )
       where
-        off : (a b : Entry) → m.0.stations ≡ a ∷ b ∷ [] → AreOffPath a b
-        off a b two v w holds_a holds_b on = elim on [ inl over ↦ not_over k ruled.acts a.station b.station v w other at_a at_b over | inr under ↦ not_over k ruled.acts b.station a.station w v (λ e. other (sym e)) at_b at_a under ]
-          where
-            entries : All (IsEntryOf k ruled.acts) (a ∷ b ∷ [])
-            entries = subst (All (IsEntryOf k ruled.acts)) two had.stations
-
-            of_a : IsEntryOf k ruled.acts a
-            of_a = All-head (IsEntryOf k ruled.acts) a (b ∷ []) entries
-
-            of_b : IsEntryOf k ruled.acts b
-            of_b = All-head (IsEntryOf k ruled.acts) b [] (All-tail (IsEntryOf k ruled.acts) a (b ∷ []) entries)
-
-            at_a : phase_of (world_after k ruled.acts) a.station ≡ Holding v
-            at_a = ap (λ (r : Record). r.phase) of_a.1 ∙ holds_a
-
-            at_b : phase_of (world_after k ruled.acts) b.station ≡ Holding w
-            at_b = ap (λ (r : Record). r.phase) of_b.1 ∙ holds_b
-
-            other : a.station ≢ b.station
-            other same =
-                let all : times a.station m.0.stations ≡ times a.station (a ∷ b ∷ []) = ap (times a.station) two in
-                let first = times_here a (b ∷ []) in
-                let second : times a.station (b ∷ []) ≡ 1 + times a.station [] = ap (λ t. cond t 1 0 + times a.station []) (eq-eqb b.station a.station (sym same)) in
-                let below = times_at a.station id t.views m.0 me in let most = ruled.once a.station in omega arith
+        once : (u : ℕ) → times u m.0.stations ≤ 1
+        once u = let below = times_at u id t.views m.0 me in let most = ruled.once u in omega (arith, below, most)
 
 -- ---- the end
 

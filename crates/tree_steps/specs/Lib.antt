@@ -3,3 +3,4 @@ pub mod Steps
 pub mod Tree
 pub mod Answer
 pub mod Once
+pub mod Alone

@@ -3,7 +3,7 @@ use Rattle.std.specs.Prelude.{◌≡◌, ℕ, ◌<◌, ◌∷◌, ◌++◌, List
 use Rattle.atomic_table.specs.Table.{Me, Step}
 use Rattle.cube_shape.specs.Node.{OnPath}
 use Rattle.cube_core.specs.declared.phase.Phase.{Phase}
-use Rattle.cube_core.specs.declared.phase.Phase.TheVariants.{Looking, Holding, Leaving, Retired}
+use Rattle.cube_core.specs.declared.phase.Phase.TheVariants.{Holding, Leaving, Retired}
 use Rattle.cube_core.specs.declared.event.Event.{Event}
 use Rattle.cube_core.specs.declared.event.Kind.{Kind}
 use Rattle.cube_core.specs.declared.event.Note.{Note}
@@ -94,10 +94,6 @@ Telling = Step (Unit {0}) → Known → ℕ → Known → Type 0
 abbrev pub makes_next : Telling
 makes_next step before found after = after ≡ step_at found before
 
--- it begins a take of the node whose word is loaded, and looks at it
-abbrev pub makes_look : Telling
-makes_look step before found after = after ≡ step_at found (begin (Looking step.word) before)
-
 -- it begins a release of the node to which 0 is stored, and gives it back
 abbrev pub makes_zero : Telling
 makes_zero step before found after = after ≡ step_at found (begin (Leaving step.word) before)
@@ -118,8 +114,12 @@ keeps_load step before found after = step.word ≡ 0 → KeepsLoad before found 
 abbrev pub AreOffPath : Entry → Entry → Type 0
 AreOffPath a b = (v w : ℕ) → a.phase ≡ Holding v → b.phase ≡ Holding w → OnPath v w ⊎ OnPath w v → ⊥
 
+-- what the first station holds and what each other holds
+abbrev pub IsOffAll : List Entry → Type 0
+IsOffAll entries = All (AreOffPath (first entries)) (others entries)
+
 abbrev pub tells_apart : Telling
-tells_apart step before found after = (after ≡ before) × ((a b : Entry) → before.0.stations ≡ a ∷ b ∷ [] → AreOffPath a b)
+tells_apart step before found after = (after ≡ before) × IsOffAll before.0.stations
 
 -- ---- seats are cut and joined
 

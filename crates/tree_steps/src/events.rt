@@ -5,9 +5,11 @@ ghost use Rattle.cube_shape.specs.Node.{IsInCube, OnPath};
 ghost use Rattle.status_word.specs.Word.{mark_bit, side_bit};
 ghost use Rattle.cube_core.specs.Event.{phase_after_raise, phase_after_zero, seen_at};
 ghost use Rattle.tree_steps.specs.Steps.{IsAt, Walks, Answered, begin, first_of, retire_at};
+ghost use Rattle.tree_steps.specs.Rule.{others};
+ghost use Rattle.tree_steps.specs.Alone.{IsAlone, IsBlocked};
 ghost use Rattle.tree_steps.specs.Tree.{id_of, dim_of};
 
-use crate::rule::{Look, Next, Retire, Zero};
+use crate::rule::{Learn, Look, Next, Retire, Zero};
 use crate::tree::{Seat, Tree};
 use cube_core::{Kind, Note, Phase, Seen};
 use cube_shape::{MAX_STATIONS, Node, Side, child_towards, side};
@@ -62,6 +64,8 @@ impl Tree {
             (λ word. IsAt seat.new.me (Phase.Looked node word)) }
         ensures refused { IfNone result (Answered Kind.Look node Note.InUse (first_of seat.old.me)
             (first_of seat.new.me)) }
+        ensures exact { IsAlone seat.old.me → MatchOption result
+            (IsBlocked node (others seat.old.me.0.stations)) (λ word. word ≡ 0) }
     {
         let word = self.table.shared.load::<Look>(seat, node as usize);
         if Word(word).is_free() {
@@ -82,10 +86,12 @@ impl Tree {
             (IsAt seat.new.me Phase.Idle) }
         ensures refused { OnFalse result (Answered Kind.Claim node Note.Lost (first_of seat.old.me)
             (first_of seat.new.me)) }
+        ensures exact { IsAlone seat.old.me → word ≡ 0
+            → OnFalse result (IsBlocked node (others seat.old.me.0.stations)) }
     {
         self.table
             .shared
-            .compare_exchange::<Next>(seat, node as usize, word, Word::BUSY.0)
+            .compare_exchange::<Learn>(seat, node as usize, word, Word::BUSY.0)
             == word
     }
 
@@ -116,9 +122,11 @@ impl Tree {
             (IsAt seat.new.me (Phase.Backing node at)) }
         ensures refused { OnFalse result (Answered Kind.Raise at Note.Under (first_of seat.old.me)
             (first_of seat.new.me)) }
+        ensures exact { IsAlone seat.old.me
+            → OnFalse result (IsBlocked node (others seat.old.me.0.stations)) }
     {
         let bit = bit_of_side(side(child_towards(Node(at), Node(node))));
-        let found = self.table.shared.fetch_or::<Next>(seat, at as usize, bit);
+        let found = self.table.shared.fetch_or::<Learn>(seat, at as usize, bit);
         !Word(found).is_occupied()
     }
 

@@ -1,6 +1,7 @@
 //! The rule of the table, what its steps tell, and how its seats are cut and joined.
 ghost use Rattle.tree_steps.specs.Rule.{IsRuled, first_view};
-ghost use Rattle.tree_steps.specs.Steps.{makes_next, makes_look, makes_zero, makes_retirement, keeps_load, tells_apart, without_first, only_first, without_stations, joined, blank};
+ghost use Rattle.tree_steps.specs.Steps.{makes_next, makes_zero, makes_retirement, keeps_load, tells_apart, without_first, only_first, without_stations, joined, blank};
+ghost use Rattle.tree_steps.specs.Alone.{makes_look, learns_next, makes_turn};
 
 use crate::view::{Size, View};
 use atomic_table::{Join, Play, Split, TableRule};
@@ -22,7 +23,15 @@ impl Play<(), View> for Next {
     ghost then = { makes_next };
 }
 
-/// The first station, which is idle, begins a take and looks at the node.
+/// The same, and a seat that has all stations learns what the word that was found means.
+pub struct Learn;
+
+impl Play<(), View> for Learn {
+    ghost then = { learns_next };
+}
+
+/// The first station, which is idle, begins a take and looks at the node; a seat that has all stations
+/// learns what the word that was found means.
 pub struct Look;
 
 impl Play<(), View> for Look {
@@ -50,11 +59,18 @@ impl Play<(), View> for LoadRoll {
     ghost then = { keeps_load };
 }
 
-/// A load that tells that what two stations hold is apart.
+/// A load that tells that what the first station holds is apart from what each other holds.
 pub struct Compare;
 
 impl Play<(), View> for Compare {
     ghost then = { tells_apart };
+}
+
+/// The record of a station of a seat that has all stations, all of them at rest, comes first.
+pub struct Turn;
+
+impl Play<(), View> for Turn {
+    ghost then = { makes_turn };
 }
 
 /// The first station gets a seat of its own.

@@ -1,11 +1,12 @@
 //! Seats are made, cut and joined, the roll is loaded, and the tree is closed.
-ghost use Rattle.std.specs.Prelude.{◌≡◌, ℕ, ◌+◌, ◌^◌, ◌<◌, ◌≤◌, [], ◌∷◌, slice_index, vec_len, IfOk};
+ghost use Rattle.std.specs.Prelude.{◌≡◌, ℕ, ◌+◌, ◌^◌, ◌<◌, ◌≤◌, [], length, slice_index, vec_len, IfOk};
 ghost use Rattle.tree_steps.specs.Rule.{first_view};
-ghost use Rattle.tree_steps.specs.Steps.{KeepsLoad, AreOffPath, HasWholeRoll, joined, only_first, without_first, without_stations};
+ghost use Rattle.tree_steps.specs.Steps.{KeepsLoad, IsOffAll, HasWholeRoll, joined, only_first, without_first, without_stations};
+ghost use Rattle.tree_steps.specs.Alone.{AreAllAtRest, Turns};
 ghost use Rattle.tree_steps.specs.Tree.{id_of, dim_of, size_of, station_count};
-ghost use Rattle.tree_steps.specs.declared.view.Entry.{Entry};
+ghost use Rattle.cube_shape.specs.Node.{IsInCube};
 
-use crate::rule::{Compare, CopyLoads, CutFirst, LoadRoll, Merge};
+use crate::rule::{Compare, CopyLoads, CutFirst, LoadRoll, Merge, Turn};
 use crate::tree::{Seat, Tree};
 use crate::view::Size;
 use atomic_table::Table;
@@ -66,15 +67,49 @@ impl Tree {
         self.table.shared.join_seat::<Merge>(seat, other);
     }
 
-    /// A load that changes nothing. If two stations step with this seat and both hold regions, the
-    /// node of neither is on the path to the other's.
+    /// A load that changes nothing. If the first station of this seat and another one both hold
+    /// regions, the node of neither is on the path to the other's.
     pub fn compare(&self, seat: &mut Seat)
         requires { seat.old.table_id ≡ id_of self.now }
         ensures seat { seat.new.table_id ≡ seat.old.table_id }
         ensures same { seat.new.me ≡ seat.old.me }
-        ensures apart { (a b : Entry) → seat.old.me.0.stations ≡ a ∷ b ∷ [] → AreOffPath a b }
+        ensures apart { IsOffAll seat.old.me.0.stations }
     {
         self.table.shared.load::<Compare>(seat, 0);
+    }
+
+    /// The record of a station comes first, in a seat that has all stations, each of them at rest.
+    pub fn turn(&self, seat: &mut Seat, station: u32)
+        requires seat { seat.old.table_id ≡ id_of self.now }
+        requires all { AreAllAtRest (station_count self.now) seat.old.me }
+        ensures seat { seat.new.table_id ≡ seat.old.table_id }
+        ensures turns { Turns station seat.old.me seat.new.me }
+    {
+        // The exchange of a number for itself changes nothing; the number tells which station is meant.
+        let number = station as u64;
+        self.table
+            .shared
+            .compare_exchange::<Turn>(seat, 0, number, number);
+    }
+
+    /// The words as they were last read: word `v` is that of node `v`.
+    pub fn words(&self) -> &[u64]
+        ensures { length result.now ≡ 2 ^ (dim_of self.now + 1) }
+    {
+        &self.room
+    }
+
+    /// Reads the words of a node and of its ancestors.
+    pub fn read_path(&mut self, node: u64)
+        requires { IsInCube (dim_of self.old) node }
+        ensures table { id_of self.new ≡ id_of self.old }
+        ensures size { size_of self.new ≡ size_of self.old }
+    {
+        let mut at = node;
+        while at > 0 {
+            self.room[at as usize] = self.table.shared.peek(at as usize);
+            at /= 2;
+        }
     }
 
     /// A load of the roll, which the seat keeps.

@@ -4,7 +4,7 @@ use Rattle.std.specs.Prelude.{All}
 use Rattle.tree_steps.specs.Tree.{id_of}
 use Rattle.tree_steps.specs.Rule.{idle_entries}
 use Rattle.cube_tree.specs.Handles.{station_entry, HasTable}
-use Rattle.cube_tree.proofs.OpeningLemmas.{idle_seat, cut_rest, cut_seat, bare_seat, dealt_more}
+use Rattle.cube_tree.proofs.OpeningLemmas.{idle_seat, cut_rest, cut_seat, bare_seat, dealt_more, dealt_all}
 use Rattle.cube_tree.proofs.opening.deal.Goals as goal
 
 pub invariant_of-push_reserved : goal.invariant_of-push_reserved
@@ -35,5 +35,6 @@ returns c =
       loads = last.1;
       len = omega (arith, all, c.loop-number.invariant.len);
       idle = c.loop-number.invariant.idle ∙ ap (idle_entries 0) all;
+      all = dealt_all c.args.stations c.loop-number.list.items (c.loop-number.invariant.idle ∙ ap (idle_entries 0) all);
       of_tree = c.loop-number.invariant.of_tree;
     }

@@ -7,7 +7,7 @@ use Rattle.cube_tree.proofs.tries.region_count.Goals as goal
 pub returns-clause-limit : goal.returns-clause-limit
 returns-clause-limit c =
     let dims = ap (λ (size : Size). size.dim) c.size.ensures in
-    let limit = c.args.cube.now.tree.dim_in_limits in
+    let limit = c.args.tree.now.dim_in_limits in
     subst (λ x. x ≤ 1024) (sym (one_shl (c.size.result.dim - c.args.k) 64 (omega (arith, dims, limit)))) (pow_mono (few (c.size.result.dim) c.args.k (omega (arith, dims, limit))))
   where
     few : (d k : ℕ) → d ≤ 10 → d - k ≤ 10

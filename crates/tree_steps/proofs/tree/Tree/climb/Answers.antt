@@ -1,6 +1,7 @@
 use Rattle.std.proofs.Common.{rules, arith}
 use Rattle.tree_steps.proofs.EventLemmas.{walks_on, path_up}
 use Rattle.tree_steps.proofs.WalkLemmas.{answered_before}
+use Rattle.tree_steps.proofs.AloneLemmas.{blocked_before, alone_after}
 use Rattle.tree_steps.proofs.tree.Tree.climb.Goals as goal
 
 pub pass-requires-clause-on_path : goal.pass-requires-clause-on_path
@@ -20,3 +21,6 @@ loop-at-preserved c = record {
   positive = omega (arith, c.loop-at-test.true);
   on_path = path_up c.loop-at.at c.args.node c.loop-at-test.true c.loop-at.invariant.on_path;
 }
+
+pub returns-then-not-pass-clause-exact : goal.returns-then-not-pass-clause-exact
+returns-then-not-pass-clause-exact c = λ alone. blocked_before c.args.node c.loop-at.invariant.walks (c.if-not-pass.ensures.exact (alone_after c.loop-at.invariant.walks alone))

@@ -1,0 +1,20 @@
+//! All stations of a machine in one hand.
+ghost use Rattle.std.specs.Prelude.{◌≡◌, ◌+◌, ◌^◌, ◌↔◌, length, IsTrue, IsSome};
+ghost use Rattle.cube_shape.specs.Machine.{IsLawful};
+ghost use Rattle.tree_steps.specs.Tree.{id_of, dim_of, station_count};
+ghost use Rattle.cube_tree.specs.InnerSolo.{Represents};
+
+use cube_shape::Node;
+use tree_steps::{Seat, Tree};
+
+/// A machine with all its stations in one hand. No other takes or gives back regions of it, so a take
+/// is exact. It cannot be dropped.
+pub struct Solo {
+    pub(crate) tree: Tree,
+    // All stations step with this seat.
+    pub(crate) seat: Seat,
+    // The node that each station holds.
+    pub(crate) nodes: Vec<Option<Node>>,
+    ghost table: { seat.table_id ≡ id_of tree },
+    ghost state: { Represents (dim_of tree) (station_count tree) nodes.items seat.me },
+}

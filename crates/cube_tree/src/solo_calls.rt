@@ -1,0 +1,183 @@
+//! What a machine with all its stations in one hand answers, and its takes and releases.
+ghost use Rattle.std.specs.Prelude.{◌≡◌, ◌≢◌, ℕ, ◌+◌, ◌-◌, ◌^◌, ◌<◌, ◌≤◌, ◌↔◌, length, None, All, IsTrue, IsSome, IfOk, IfSome, IfNone, IsErrOf, OnErr, MatchBool, MatchOption};
+ghost use Rattle.cube_shape.specs.declared.region.Region.{Region as HeldRegion};
+ghost use Rattle.cube_shape.specs.Node.{IsInCube};
+ghost use Rattle.cube_shape.specs.Region.{block};
+ghost use Rattle.cube_shape.specs.Machine.{Gives, HasNoFit, IsFirstFit, IsLawful, TakesBack};
+ghost use Rattle.tree_steps.specs.Rule.{others};
+ghost use Rattle.tree_steps.specs.Steps.{IsAt, IsOffAll, Walks, begin, first_of};
+ghost use Rattle.tree_steps.specs.Alone.{AreAllAtRest, IsAlone, IsBlocked, unpicked};
+ghost use Rattle.tree_steps.specs.Tree.{id_of, dim_of, size_of, station_count};
+ghost use Rattle.cube_tree.specs.Slots.{node_of_station};
+ghost use Rattle.cube_tree.specs.InnerSolo.{AreBlocked, HasPhase, IsFirstIdle, IsMoved, TakesFirst};
+ghost use Rattle.cube_tree.specs.Solo.{solo_size, solo_dim, held_by, AllHold, IsLowestIdle};
+
+use crate::refused::SoloRefused;
+use crate::solo::Solo;
+use crate::takes::region_at_node;
+use crate::tries::region_count;
+use cube_core::Phase;
+use cube_shape::{Node, Region};
+use tree_steps::{Seat, Tree, Why};
+
+impl Solo {
+    /// The dimension of the machine.
+    pub fn dim(&self) -> u32
+        ensures { result ≡ solo_dim self.now }
+    {
+        self.tree.size().dim
+    }
+
+    /// Whether a station holds a region.
+    pub fn holds(&self, station: usize) -> bool
+        ensures held { IsTrue result ↔ IsSome (held_by self.now station) }
+        ensures lawful { IsLawful (solo_dim self.now) (held_by self.now) }
+    {
+        node_at(&self.nodes, station).is_some()
+    }
+
+    /// The region that a station holds, if it holds one.
+    pub fn region(&self, station: usize) -> Option<Region>
+        ensures { result ≡ held_by self.now station }
+    {
+        let node = node_at(&self.nodes, station)?;
+        Some(region_at_node(self.tree.size().dim, node.0))
+    }
+
+    /// The words of the tree as they were last read: word `v` is that of node `v`.
+    pub fn words(&self) -> &[u64]
+        ensures { length result.now ≡ 2 ^ (solo_dim self.now + 1) }
+    {
+        self.tree.words()
+    }
+
+    /// Gives the lowest idle station the first fit: the region `(m, k)` for the least `m` such that it
+    /// is apart from every held region. Answers the station's number.
+    ///
+    /// `NoStation` comes only where each station holds a region, else `NoSubcube` only where there is
+    /// no such `m`. A refusal changes nothing that a station holds.
+    pub fn take(&mut self, k: u32) -> Result<usize, SoloRefused>
+        requires { k ≤ solo_dim self.old }
+        ensures lowest { IfOk result (IsLowestIdle self.old) }
+        ensures given { IfOk result (λ s. (m : ℕ)
+            × IsFirstFit (solo_dim self.old) k (held_by self.old) m
+            × Gives (solo_dim self.old) s k (held_by self.old) (held_by self.new) (block k m)) }
+        ensures no_station { IsErrOf result SoloRefused.NoStation ↔ AllHold self.old }
+        ensures no_subcube { IsErrOf result SoloRefused.NoSubcube ↔ ((AllHold self.old → ⊥)
+            × HasNoFit (solo_dim self.old) k (held_by self.old)) }
+        ensures unchanged { OnErr result ((s : ℕ) → held_by self.new s ≡ held_by self.old s) }
+        ensures size { solo_size self.new ≡ solo_size self.old }
+    {
+        let Some(station) = first_idle(&self.nodes) else {
+            return Err(SoloRefused::NoStation);
+        };
+        let Some(node) = take_first(&mut self.tree, &mut self.seat, station as u32, k) else {
+            return Err(SoloRefused::NoSubcube);
+        };
+        self.nodes[station] = Some(Node(node));
+        Ok(station)
+    }
+
+    /// Takes the region of a station, which holds one, away from it.
+    pub fn release(&mut self, station: usize)
+        requires { IsSome (held_by self.old station) }
+        ensures released { (r : HeldRegion)
+            × TakesBack station (held_by self.old) (held_by self.new) r }
+        ensures size { solo_size self.new ≡ solo_size self.old }
+    {
+        if let Some(node) = self.nodes[station] {
+            give_back(&mut self.tree, &mut self.seat, station as u32, node.0);
+            self.nodes[station] = None;
+        }
+    }
+}
+
+// The node that a station holds.
+fn node_at(nodes: &[Option<Node>], station: usize) -> Option<Node>
+    ensures { result ≡ node_of_station nodes.now station }
+{
+    nodes.get(station).copied().flatten()
+}
+
+// The first station that holds nothing.
+fn first_idle(nodes: &[Option<Node>]) -> Option<usize>
+    ensures found { IfSome result (IsFirstIdle nodes.now) }
+    ensures none { IfNone result ((s : ℕ) → s < length nodes.now
+        → IsSome (node_of_station nodes.now s)) }
+{
+    nodes.iter().position(|node| node.is_none())
+}
+
+// A station, which is idle, takes the first node of the level of dimension `k` that is not blocked.
+fn take_first(tree: &mut Tree, seat: &mut Seat, station: u32, k: u32) -> Option<u64>
+    requires table { seat.old.table_id ≡ id_of tree.old }
+    requires all { AreAllAtRest (station_count tree.old) seat.old.me }
+    requires there { station < station_count tree.old }
+    requires idle { HasPhase station Phase.Idle seat.old.me }
+    requires dim { k ≤ dim_of tree.old }
+    ensures same { (id_of tree.new ≡ id_of tree.old) × (size_of tree.new ≡ size_of tree.old) }
+    ensures table { seat.new.table_id ≡ seat.old.table_id }
+    ensures moved { MatchOption result (IsMoved station Phase.Idle seat.old.me seat.new.me)
+        (λ node. IsMoved station (Phase.Holding node) seat.old.me seat.new.me) }
+    ensures first { IfSome result (λ node.
+        TakesFirst station (dim_of tree.old - k) node seat.old.me seat.new.me) }
+    ensures none { IfNone result (AreBlocked (dim_of tree.old - k) (2 ^ (dim_of tree.old - k))
+        (unpicked station seat.old.me.0.stations)) }
+{
+    tree.turn(seat, station);
+    let nodes = region_count(tree, k);
+    for m in 0..nodes {
+        let node = nodes + m;
+        if take_alone(tree, seat, station, node) {
+            return Some(node);
+        }
+    }
+    None
+}
+
+// One take of a node by the first station of a seat that has all stations, after which the words on
+// its path are read.
+fn take_alone(tree: &mut Tree, seat: &mut Seat, station: u32, node: u64) -> bool
+    requires table { seat.old.table_id ≡ id_of tree.old }
+    requires phase { IsAt seat.old.me Phase.Idle }
+    requires station { (first_of seat.old.me).station ≡ station }
+    requires there { station < station_count tree.old }
+    requires alone { IsAlone seat.old.me }
+    requires node { IsInCube (dim_of tree.old) node }
+    ensures same { (id_of tree.new ≡ id_of tree.old) × (size_of tree.new ≡ size_of tree.old) }
+    ensures table { seat.new.table_id ≡ seat.old.table_id }
+    ensures walks { Walks (begin (Phase.Looking node) seat.old.me) seat.new.me }
+    ensures phase { MatchBool result (IsAt seat.new.me (Phase.Holding node))
+        (IsAt seat.new.me Phase.Idle) }
+    ensures exact { MatchBool result (IsOffAll seat.new.me.0.stations)
+        (IsBlocked node (others seat.old.me.0.stations)) }
+{
+    match tree.take(seat, station, node) {
+        Ok(()) => {
+            tree.compare(seat);
+            tree.read_path(node);
+            true
+        }
+        Err(Why::InUse) => false,
+        Err(_) => {
+            tree.read_path(node);
+            false
+        }
+    }
+}
+
+// A station, which holds a node, gives it back.
+fn give_back(tree: &mut Tree, seat: &mut Seat, station: u32, node: u64)
+    requires table { seat.old.table_id ≡ id_of tree.old }
+    requires all { AreAllAtRest (station_count tree.old) seat.old.me }
+    requires there { station < station_count tree.old }
+    requires holds { HasPhase station (Phase.Holding node) seat.old.me }
+    requires node { IsInCube (dim_of tree.old) node }
+    ensures same { (id_of tree.new ≡ id_of tree.old) × (size_of tree.new ≡ size_of tree.old) }
+    ensures table { seat.new.table_id ≡ seat.old.table_id }
+    ensures moved { IsMoved station Phase.Idle seat.old.me seat.new.me }
+{
+    tree.turn(seat, station);
+    tree.give_back(seat, station, node);
+    tree.read_path(node);
+}

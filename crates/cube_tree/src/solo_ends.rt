@@ -1,0 +1,122 @@
+//! Where a cube and all its stations become one, and how that ends.
+ghost use Rattle.std.specs.Prelude.{◌≡◌, ℕ, ◌<◌, [], None, All, map, vec_len, IfOk, IfErr};
+ghost use Rattle.tree_steps.specs.Rule.{times};
+ghost use Rattle.tree_steps.specs.Alone.{AreAllAtRest};
+ghost use Rattle.tree_steps.specs.Steps.{IsAt};
+ghost use Rattle.tree_steps.specs.Tree.{id_of, station_count};
+ghost use Rattle.cube_tree.specs.Ends.{HasAll, IsWhollyFree};
+ghost use Rattle.cube_tree.specs.Handles.{cube_size, HasTable, IsStationOf};
+ghost use Rattle.cube_tree.specs.Seats.{IsBare};
+ghost use Rattle.cube_tree.specs.InnerSolo.{IsGoneBelow, IsMoved, HasPhase};
+ghost use Rattle.cube_tree.specs.Solo.{solo_size, solo_dim, held_by};
+
+use crate::ends::finish;
+use crate::handles::{Cube, FreeMachine, Station};
+use crate::solo::Solo;
+use cube_core::Phase;
+use std::alloc::{AllocError, Global};
+use tree_steps::{Seat, Tree};
+
+impl Solo {
+    /// The machine of a cube with all its stations, which it is given; none of them holds a region.
+    /// Where there is no memory, the cube and its stations are given back.
+    pub fn new(
+        alloc: Global,
+        cube: Cube,
+        mut stations: Vec<Station>,
+    ) -> Result<Solo, (Cube, Vec<Station>, AllocError)>
+        requires cube { All (IsStationOf cube) stations.items }
+        requires all { HasAll (cube_size cube).stations stations.items }
+        ensures size { IfOk result (λ solo. solo_size solo ≡ cube_size cube) }
+        ensures idle { IfOk result (λ solo. (s : ℕ) → held_by solo s ≡ None) }
+        ensures back { IfErr result (λ refused. (refused.0 ≡ cube) × (refused.1 ≡ stations)) }
+    {
+        let count = cube.tree.size().stations as usize;
+        match vec![in alloc; None; count] {
+            Err(error) => Err((cube, stations, error)),
+            Ok(nodes) => {
+                let Cube { tree, mut seat } = cube;
+                gather(&tree, &mut seat, &mut stations);
+                stations.destroy_empty();
+                Ok(Solo { tree, seat, nodes })
+            }
+        }
+    }
+
+    /// All regions are given back and all stations retire: the machine is wholly free.
+    pub fn close(self) -> FreeMachine
+        ensures { IsWhollyFree (solo_dim self) result }
+    {
+        let mut solo = self;
+        solo.release_all();
+        let Solo {
+            tree,
+            mut seat,
+            nodes: _,
+        } = solo;
+        retire_all(&tree, &mut seat);
+        tree.load_roll(&mut seat);
+        finish(tree, seat)
+    }
+
+    // All regions are given back.
+    fn release_all(&mut self)
+        ensures size { solo_size self.new ≡ solo_size self.old }
+        ensures idle { (s : ℕ) → held_by self.new s ≡ None }
+    {
+        for station in 0..self.nodes.len() {
+            if self.holds(station) {
+                self.release(station);
+            }
+        }
+    }
+}
+
+// The stations of the list step with this seat.
+fn gather(tree: &Tree, seat: &mut Seat, list: &mut Vec<Station>)
+    requires table { seat.old.table_id ≡ id_of tree.now }
+    requires bare { IsBare seat.old.me }
+    requires of_tree { All (HasTable (id_of tree.now)) list.old.items }
+    requires all { HasAll (station_count tree.now) list.old.items }
+    ensures table { seat.new.table_id ≡ seat.old.table_id }
+    ensures slots { seat.new.me.1 ≡ [] }
+    ensures empty { vec_len list.new ≡ 0 }
+    ensures idle { All (λ e. e.phase ≡ Phase.Idle) seat.new.me.0.stations }
+    ensures present { (s : ℕ) → s < station_count tree.now → 0 < times s seat.new.me.0.stations }
+{
+    while let Some(station) = list.pop() {
+        let Station {
+            number: _,
+            seat: own,
+        } = station;
+        tree.merge(seat, own);
+    }
+}
+
+// All stations, which are idle, retire.
+fn retire_all(tree: &Tree, seat: &mut Seat)
+    requires table { seat.old.table_id ≡ id_of tree.now }
+    requires all { AreAllAtRest (station_count tree.now) seat.old.me }
+    requires idle { All (λ e. e.phase ≡ Phase.Idle) seat.old.me.0.stations }
+    ensures table { seat.new.table_id ≡ seat.old.table_id }
+    ensures slots { seat.new.me.1 ≡ seat.old.me.1 }
+    ensures all { AreAllAtRest (station_count tree.now) seat.new.me }
+    ensures gone { All (IsGoneBelow (station_count tree.now)) seat.new.me.0.stations }
+{
+    for station in 0..tree.size().stations {
+        retire_one(tree, seat, station);
+    }
+}
+
+// A station, which is idle, retires.
+fn retire_one(tree: &Tree, seat: &mut Seat, station: u32)
+    requires table { seat.old.table_id ≡ id_of tree.now }
+    requires all { AreAllAtRest (station_count tree.now) seat.old.me }
+    requires there { station < station_count tree.now }
+    requires idle { HasPhase station Phase.Idle seat.old.me }
+    ensures table { seat.new.table_id ≡ seat.old.table_id }
+    ensures moved { IsMoved station Phase.Retired seat.old.me seat.new.me }
+{
+    tree.turn(seat, station);
+    tree.retire(seat, station);
+}

@@ -1,0 +1,64 @@
+-- What a seat that has all stations learns of a word, and how the record of one of them comes first.
+use Rattle.std.specs.Prelude.{◌≡◌, ◌≢◌, ℕ, ◌<◌, ◌≤◌, ◌==◌, if◌then◌else◌, true, ◌⊎◌, List, [], ◌∷◌, ◌++◌, All, Any}
+use Rattle.cube_shape.specs.Node.{OnPath}
+use Rattle.status_word.specs.Word.{IsOccupied, IsFree, IsInUse}
+use Rattle.cube_core.specs.declared.phase.Phase.TheVariants.{Looking, Holding}
+use Rattle.cube_core.specs.Phase.{IsAtRest, IsEngagedAt, IsMarkedAt, Owns}
+use Rattle.tree_steps.specs.declared.view.Entry.{Entry}
+use Rattle.tree_steps.specs.Rule.{others, times}
+use Rattle.tree_steps.specs.Steps.{Known, Telling, begin, step_at}
+
+-- all stations are known to be with this seat, all but the first of them at rest
+abbrev pub IsAlone : Known → Type 0
+IsAlone m = m.0.alone ≡ true
+
+-- one of these stations holds a node that is on the path to v, or v is on the path to that node
+abbrev pub IsBlocked : ℕ → List Entry → Type 0
+IsBlocked v entries = Any (λ e. (h : ℕ) × (e.phase ≡ Holding h) × (OnPath v h ⊎ OnPath h v)) entries
+
+-- what the word found at node v says of the stations, where these are all that there are
+pub record MeansWord (v found : ℕ) (entries : List Entry) : Type 0 where
+  pub in_use : IsInUse found → Any (λ e. IsEngagedAt e.phase v) entries
+  pub occupied : IsOccupied found → Any (λ e. Owns e.phase v) entries
+  pub marked : IsFree found → found ≢ 0 → Any (λ e. IsMarkedAt e.phase v) entries
+  pub resting : All (λ e. IsAtRest e.phase) (others entries)
+
+-- the seat after a step at node v is the one expected, and one that has all stations learns what the
+-- word means
+pub record Learns (v found : ℕ) (before after expected : Known) : Type 0 where
+  pub seat : after ≡ expected
+  pub word : IsAlone before → 0 < v → MeansWord v found before.0.stations
+
+-- the first station begins a take of the node whose word is loaded, and looks at it
+abbrev pub makes_look : Telling
+makes_look step before found after = Learns step.word found before after (step_at found (begin (Looking step.word) before))
+
+-- the first station makes the event of its phase
+abbrev pub learns_next : Telling
+learns_next step before found after = Learns step.word found before after (step_at found before)
+
+-- the record of station s, and the records but for it
+abbrev pub picked : ℕ → List Entry → List Entry
+picked s [] = []
+picked s (e ∷ rest) = if e.station == s then e ∷ [] else picked s rest
+
+abbrev pub unpicked : ℕ → List Entry → List Entry
+unpicked s [] = []
+unpicked s (e ∷ rest) = if e.station == s then rest else e ∷ unpicked s rest
+
+-- the record of station s comes first, and the seat is known to have all stations
+abbrev pub turned_to : ℕ → Known → Known
+turned_to s m = (record { stations = picked s m.0.stations ++ unpicked s m.0.stations; loads = m.0.loads; alone = true }, m.1)
+
+pub record Turns (s : ℕ) (before after : Known) : Type 0 where
+  pub seat : after ≡ turned_to s before
+  pub once : (t : ℕ) → times t before.0.stations ≤ 1
+
+-- the station is the number that is exchanged for itself
+abbrev pub makes_turn : Telling
+makes_turn step before found after = Turns step.first before after
+
+-- each station below the count is with this seat, and all of them are at rest
+pub record AreAllAtRest (count : ℕ) (m : Known) : Type 0 where
+  pub present : (s : ℕ) → s < count → 0 < times s m.0.stations
+  pub resting : All (λ e. IsAtRest e.phase) m.0.stations
