@@ -6,3 +6,6 @@ pub mod HistoryLemmas
 pub mod DealLemmas
 pub mod EndLemmas
 pub mod HandleLemmas
+pub mod JoinLemmas
+pub mod DealtLemmas
+pub mod EndJoinLemmas

@@ -1,2 +1,3 @@
 -- Definitions that only private contracts and proofs use.
 pub mod Locked
+pub mod Ruled

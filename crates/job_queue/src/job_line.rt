@@ -130,6 +130,7 @@ pub trait JobLine {
     ) -> Result<Opened<Self, Self::Lane, Self::Pass, Self::Closer>, AllocError>
         requires lanes { sizes.lanes ≤ MAX_LANES }
         requires passes { sizes.passes ≤ MAX_PASSES }
+        requires room { 0 < sizes.capacity }
         requires capacity { sizes.capacity ≤ MAX_CAPACITY }
         ensures sizes { IfOk result (λ made. (id made.line).sizes ≡ sizes) }
         ensures lanes { IfOk result (λ made. All (is_lane (id made.line)) made.lanes.items) }

@@ -9,9 +9,11 @@
 mod job_line;
 mod locked;
 mod record;
+mod ruled;
 
 pub use job_line::{
     JobLine, MAX_CAPACITY, MAX_ENTRIES, MAX_PASSES, Opened, Receipt, Refused, Rest, Sizes, Taken,
 };
 pub use locked::{CloseNote, Closer, Lane, LockedLine, Pass};
 pub use record::{Entry, LaneRecord, PassRecord, QueuedJob, Reading};
+pub use ruled::{RuledCloser, RuledLane, RuledLine, RuledNote, RuledPass};

@@ -119,6 +119,7 @@ impl JobLine for LockedLine {
     ) -> Result<Opened<LockedLine, Lane, Pass, Closer>, AllocError>
         requires lanes { sizes.lanes ≤ MAX_LANES }
         requires passes { sizes.passes ≤ MAX_PASSES }
+        requires room { 0 < sizes.capacity }
         requires capacity { sizes.capacity ≤ MAX_CAPACITY }
         ensures sizes { IfOk result (λ made. (line_id made.line.lock).sizes ≡ sizes) }
         ensures lanes { IfOk result (λ made.
