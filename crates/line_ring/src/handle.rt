@@ -22,7 +22,7 @@ pub struct RingPass<T> {
     ghost known: { IsPassView (view seat) },
 }
 
-/// The right to end a ring. There is one. Lanes and passes are dealt out of it, and come back to it.
+/// The right to end a ring. There is one. Lanes and passes are dealt out of it and come back to it.
 pub struct RingEnd<T> {
     pub(crate) seat: Pass<T, View<T>>,
     pub(crate) lanes: u32,
