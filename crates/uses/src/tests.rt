@@ -4,6 +4,8 @@ ghost use Rattle.std.specs.Prelude.{All};
 ghost use Rattle.uses.specs.Extent.{IsExtentValue};
 
 mod answering;
+mod shop;
+mod single;
 
 use crate::{Extent, count_jobs, hold_two_and_close, play, share_extent, take_two};
 use alloc_bits::AllocBits;
