@@ -10,6 +10,8 @@ mod job_line;
 mod locked;
 mod record;
 mod ruled;
+#[cfg(test)]
+mod tests;
 
 pub use job_line::{
     JobLine, MAX_CAPACITY, MAX_ENTRIES, MAX_PASSES, Opened, Receipt, Refused, Rest, Sizes, Taken,

@@ -228,7 +228,8 @@ fn measure<R: Threads + Wait + Sync + Clock>(
 ) -> Option<Measured>
     requires lanes { invocation.sizes.lanes ≤ MAX_LANES }
     requires passes { (0 < invocation.sizes.passes) × (invocation.sizes.passes ≤ MAX_PASSES) }
-    requires capacity { invocation.sizes.capacity ≤ MAX_CAPACITY }
+    requires capacity { (0 < invocation.sizes.capacity)
+        × (invocation.sizes.capacity ≤ MAX_CAPACITY) }
     requires machine { invocation.sizes.machine ≡ MACHINE }
     requires jobs { invocation.jobs ≤ MAX_JOBS }
 {
@@ -272,7 +273,8 @@ fn parse_arguments(arguments: &[String]) -> Option<Invocation>
     ensures lanes { IfSome result (λ it. it.sizes.lanes ≤ MAX_LANES) }
     ensures passes { IfSome result (λ it.
         (0 < it.sizes.passes) × (it.sizes.passes ≤ MAX_PASSES)) }
-    ensures capacity { IfSome result (λ it. it.sizes.capacity ≤ MAX_CAPACITY) }
+    ensures capacity { IfSome result (λ it.
+        (0 < it.sizes.capacity) × (it.sizes.capacity ≤ MAX_CAPACITY)) }
     ensures machine { IfSome result (λ it. it.sizes.machine ≡ MACHINE) }
     ensures jobs { IfSome result (λ it. it.jobs ≤ MAX_JOBS) }
 {
@@ -286,7 +288,7 @@ fn parse_arguments(arguments: &[String]) -> Option<Invocation>
     if lanes > MAX_LANES || passes > MAX_PASSES || capacity > MAX_CAPACITY || jobs > MAX_JOBS {
         return None;
     }
-    if passes == 0 || lanes as usize * jobs % passes as usize != 0 {
+    if passes == 0 || capacity == 0 || lanes as usize * jobs % passes as usize != 0 {
         return None;
     }
     let sizes = Sizes {

@@ -1,4 +1,4 @@
-//! Runs of a `LockedLine` by its contract alone: one by hand, and one on threads.
+//! Runs of each line by its contract alone: one by hand, and one on threads.
 ghost use Rattle.std.specs.Prelude.{◌≡◌, ℕ, ◌<◌, ◌≤◌, IfOk, map};
 ghost use Rattle.std.specs.List.{All};
 ghost use Rattle.job_types.specs.Job.{JobData};
@@ -7,18 +7,22 @@ ghost use Rattle.job_queue.specs.Line.{IsFor};
 
 use crate::pair::{Pair, both};
 use crate::running::run;
-use job_queue::{JobLine, LockedLine, Opened, QueuedJob, Receipt, Refused, Rest, Sizes};
+use job_queue::{
+    JobLine, LockedLine, Opened, QueuedJob, Receipt, Refused, Rest, RuledLine, Sizes,
+};
 use job_types::{Job, JobId, Kind, Op};
 use std::alloc::Global;
 use std::collections::VecDeque;
+use std::process::Abort;
 use std::sync::Wait;
 use std::test::Fail;
+use std::thread::Threads;
 
 const JOBS: usize = 100;
 
 // Two lanes and two passes.
 fn sizes(capacity: usize) -> Sizes
-    requires { capacity ≤ 1024 }
+    requires { (0 < capacity) × (capacity ≤ 1024) }
     ensures { result ≡ record { machine = 2; lanes = 2; passes = 2; capacity = capacity } }
 {
     Sizes {
@@ -106,15 +110,15 @@ fn play<R: Wait, L: JobLine>(
     }
 }
 
-#[test]
-fn close_against_submit(rt: HostRuntime) -> Result<(), Fail> {
+// The first job is accepted, the second finds the line full, and the third finds it closed.
+fn close_against_submit<R: Wait + Abort, L: JobLine>(rt: &R, alloc: Global) -> Result<(), Fail> {
     let jobs = (
-        job(rt.alloc(), 0)?,
-        job(rt.alloc(), 0)?,
-        job(rt.alloc(), 0)?,
+        job(alloc, 0)?,
+        job(alloc, 0)?,
+        job(alloc, 0)?,
     );
-    let opened = LockedLine::open(rt.alloc(), sizes(1))?;
-    let script = play(&rt, opened, jobs);
+    let opened = L::open(alloc, sizes(1))?;
+    let script = play(rt, opened, jobs);
     let id = JobId { lane: 0, seq: 0 };
     assert_eq!(rt; script.outcomes[0], Ok(Receipt { id, number: 0 }));
     assert_eq!(rt; script.outcomes[1], Err(Refused::Full));
@@ -124,6 +128,16 @@ fn close_against_submit(rt: HostRuntime) -> Result<(), Fail> {
         script.rest.jobs.len() == 1 && script.rest.accepted.as_slice() == [1, 0].as_slice()
     );
     Ok(())
+}
+
+#[test]
+fn close_against_submit_under_a_lock(rt: HostRuntime) -> Result<(), Fail> {
+    close_against_submit::<_, LockedLine>(&rt, rt.alloc())
+}
+
+#[test]
+fn close_against_submit_with_no_lock(rt: HostRuntime) -> Result<(), Fail> {
+    close_against_submit::<_, RuledLine>(&rt, rt.alloc())
 }
 
 // Whether the jobs of each lane stand in the order of their seqs, none of them seen before. Marks
@@ -144,11 +158,19 @@ fn are_new_and_rise(seen: &mut [[bool; JOBS]; 2], taken: &[QueuedJob]) -> bool {
     true
 }
 
-#[test]
-fn two_lanes_and_two_passes_on_threads(rt: HostRuntime) -> Result<(), Fail> {
-    let jobs = (jobs(rt.alloc(), 0)?, jobs(rt.alloc(), 1)?);
-    let opened = LockedLine::open(rt.alloc(), sizes(3))?;
-    let finished = run(&rt, rt.alloc(), opened, jobs);
+fn two_lanes_and_two_passes<R: Threads + Wait + Abort + Sync, L: JobLine + Sync>(
+    rt: &R,
+    alloc: Global,
+) -> Result<(), Fail>
+where
+    L::Lane: Send,
+    L::Pass: Send,
+    L::Closer: Send,
+    L::Note: Send,
+{
+    let jobs = (jobs(alloc, 0)?, jobs(alloc, 1)?);
+    let opened = L::open(alloc, sizes(3))?;
+    let finished = run(rt, alloc, opened, jobs);
     let mut seen = [[false; JOBS]; 2];
     assert!(rt; are_new_and_rise(&mut seen, &finished.taken.0));
     assert!(rt; are_new_and_rise(&mut seen, &finished.taken.1));
@@ -157,4 +179,14 @@ fn two_lanes_and_two_passes_on_threads(rt: HostRuntime) -> Result<(), Fail> {
         finished.rest.jobs.is_empty() && finished.rest.accepted.as_slice() == [100, 100].as_slice()
     );
     Ok(())
+}
+
+#[test]
+fn two_lanes_and_two_passes_under_a_lock(rt: HostRuntime) -> Result<(), Fail> {
+    two_lanes_and_two_passes::<_, LockedLine>(&rt, rt.alloc())
+}
+
+#[test]
+fn two_lanes_and_two_passes_with_no_lock(rt: HostRuntime) -> Result<(), Fail> {
+    two_lanes_and_two_passes::<_, RuledLine>(&rt, rt.alloc())
 }
