@@ -10,7 +10,7 @@ use crate::shop::answer_file;
 use cube_report::report_rows;
 use cube_shape::MAX_DIM;
 use dispatcher::Runner;
-use job_queue::LockedLine;
+use job_queue::RuledLine;
 use jobs_csv::{Device, Fault};
 use std::alloc::Global;
 use std::io::{Read, Sink, Write};
@@ -99,7 +99,7 @@ where
         IsMetBeforeWriting fault → writer.new ≡ writer.old) }
     ensures shown { (terminal.new ≡ terminal.old) ⊎ (options.is_quiet ≡ false) }
 {
-    let finished = answer_file::<H, LockedLine, TreeFloor, T, R, P>(
+    let finished = answer_file::<H, RuledLine, TreeFloor, T, R, P>(
         rt, alloc, options, runner, reader, terminal,
     )?;
     let Ok(rows) = report_rows::<TreeFloor>(alloc, options.n, &finished) else {
