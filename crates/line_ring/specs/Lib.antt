@@ -1,5 +1,4 @@
 pub mod Record
 pub mod History
 pub mod Run
-pub mod Handle
 pub mod Inner

@@ -1,7 +1,7 @@
 // Lanes and passes are dealt out of the end, and come back to it.
 ghost use Rattle.std.specs.Prelude.{◌≡◌, ◌+◌, ◌<◌, [], ◌∷◌, ◌++◌};
 ghost use Rattle.line_ring.specs.Record.{fresh_lane, fresh_pass};
-ghost use Rattle.line_ring.specs.Handle.{ring_id, is_lane, is_pass, is_end, lane_record, pass_record, dealt_lanes, dealt_passes, returned_lanes, returned_passes};
+ghost use Rattle.line_ring.specs.Inner.Handle.{ring_id, is_lane, is_pass, is_end, lane_record, pass_record, dealt_lanes, dealt_passes, back_lanes, back_passes};
 
 use crate::handle::{RingEnd, RingLane, RingPass};
 use crate::piece::Piece;
@@ -16,8 +16,8 @@ impl<T: Piece> Ring<T> {
         ensures end { is_end (ring_id self.now) end.new }
         ensures lanes { dealt_lanes end.new ≡ dealt_lanes end.old + 1 }
         ensures passes { dealt_passes end.new ≡ dealt_passes end.old }
-        ensures returned { (returned_lanes end.new ≡ returned_lanes end.old)
-            × (returned_passes end.new ≡ returned_passes end.old) }
+        ensures back { (back_lanes end.new ≡ back_lanes end.old)
+            × (back_passes end.new ≡ back_passes end.old) }
         ensures lane { is_lane (ring_id self.now) result }
         ensures fresh { lane_record result ≡ fresh_lane (dealt_lanes end.old) }
     {
@@ -38,8 +38,8 @@ impl<T: Piece> Ring<T> {
         ensures end { is_end (ring_id self.now) end.new }
         ensures lanes { dealt_lanes end.new ≡ dealt_lanes end.old }
         ensures passes { dealt_passes end.new ≡ dealt_passes end.old + 1 }
-        ensures returned { (returned_lanes end.new ≡ returned_lanes end.old)
-            × (returned_passes end.new ≡ returned_passes end.old) }
+        ensures back { (back_lanes end.new ≡ back_lanes end.old)
+            × (back_passes end.new ≡ back_passes end.old) }
         ensures pass { is_pass (ring_id self.now) result }
         ensures fresh { pass_record result ≡ fresh_pass (dealt_passes end.old) }
     {
@@ -55,9 +55,9 @@ impl<T: Piece> Ring<T> {
         ensures end { is_end (ring_id self.now) end.new }
         ensures dealt { (dealt_lanes end.new ≡ dealt_lanes end.old)
             × (dealt_passes end.new ≡ dealt_passes end.old) }
-        ensures lanes { returned_lanes end.new
-            ≡ returned_lanes end.old ++ lane_record lane ∷ [] }
-        ensures passes { returned_passes end.new ≡ returned_passes end.old }
+        ensures lanes { back_lanes end.new
+            ≡ back_lanes end.old ++ lane_record lane ∷ [] }
+        ensures passes { back_passes end.new ≡ back_passes end.old }
     {
         let RingLane {
             seat,
@@ -74,9 +74,9 @@ impl<T: Piece> Ring<T> {
         ensures end { is_end (ring_id self.now) end.new }
         ensures dealt { (dealt_lanes end.new ≡ dealt_lanes end.old)
             × (dealt_passes end.new ≡ dealt_passes end.old) }
-        ensures lanes { returned_lanes end.new ≡ returned_lanes end.old }
-        ensures passes { returned_passes end.new
-            ≡ returned_passes end.old ++ pass_record pass ∷ [] }
+        ensures lanes { back_lanes end.new ≡ back_lanes end.old }
+        ensures passes { back_passes end.new
+            ≡ back_passes end.old ++ pass_record pass ∷ [] }
     {
         let RingPass { seat } = pass;
         self.queue.absorb::<Gather>(&mut end.seat, seat);

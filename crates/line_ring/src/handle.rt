@@ -32,7 +32,7 @@ pub struct RingEnd<T> {
 }
 
 impl<T> RingLane<T> {
-    ghost use Rattle.line_ring.specs.Handle.{lane_record};
+    ghost use Rattle.line_ring.specs.Inner.Handle.{lane_record};
 
     /// The lane's number.
     pub fn number(&self) -> u32

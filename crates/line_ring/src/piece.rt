@@ -2,8 +2,8 @@
 
 /// A piece of work that waits in a ring.
 ///
-/// Contracts see the lane that it comes in by, its seq, which is how many pieces of that lane came in
-/// before it, and which machines it is for, by their dimension.
+/// Contracts see the lane that it comes in by, its seq, which is how many pieces of
+/// that lane come in before it, and which machines it is for, by their dimension.
 pub trait Piece: Drop {
     ghost use Rattle.std.specs.Prelude.{ℕ};
 

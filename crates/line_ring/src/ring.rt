@@ -48,7 +48,7 @@ impl SawEmpty {
 }
 
 impl<T: Piece> Ring<T> {
-    ghost use Rattle.line_ring.specs.Handle.{ring_id, is_lane, is_pass, is_end, lane_record, pass_record, dealt_lanes, dealt_passes, returned_lanes, returned_passes};
+    ghost use Rattle.line_ring.specs.Inner.Handle.{ring_id, is_lane, is_pass, is_end, lane_record, pass_record, dealt_lanes, dealt_passes, back_lanes, back_passes};
 
     /// Opens a ring for pieces that are for the machine of dimension `machine`, of which it holds
     /// `capacity` at most. No other call takes memory.
@@ -63,8 +63,8 @@ impl<T: Piece> Ring<T> {
         ensures end { IfOk result (λ made. is_end (ring_id made.0) made.1) }
         ensures none_dealt { IfOk result (λ made.
             (dealt_lanes made.1 ≡ 0) × (dealt_passes made.1 ≡ 0)) }
-        ensures none_returned { IfOk result (λ made.
-            (returned_lanes made.1 ≡ []) × (returned_passes made.1 ≡ [])) }
+        ensures none_back { IfOk result (λ made.
+            (back_lanes made.1 ≡ []) × (back_passes made.1 ≡ [])) }
     {
         let room = VecDeque::with_capacity(alloc, capacity)?;
         let (queue, mut seat) = RuledArrayQueue::<T, View<T>, RingRule<T>>::ruled(alloc, capacity)?;

@@ -1,6 +1,6 @@
 //! A ring on one thread, and one that seven threads share.
 ghost use Rattle.std.specs.Prelude.{◌≡◌, ◌<◌};
-ghost use Rattle.line_ring.specs.Handle.{ring_id, is_lane, is_pass, dealt_lanes, dealt_passes};
+ghost use Rattle.line_ring.specs.Inner.Handle.{ring_id, is_lane, is_pass, dealt_lanes, dealt_passes};
 
 mod crowd;
 

@@ -1,6 +1,6 @@
 //! Four lanes and three passes, each on a thread of its own, share room for three pieces.
 ghost use Rattle.std.specs.List.{All};
-ghost use Rattle.line_ring.specs.Handle.{ring_id, is_lane, is_pass};
+ghost use Rattle.line_ring.specs.Inner.Handle.{ring_id, is_lane, is_pass};
 
 use super::{Token, put, take};
 use crate::{Ring, RingLane, RingPass};

@@ -1,4 +1,4 @@
-use Rattle.line_ring.specs.Handle.{ring_id, is_pass}
+use Rattle.line_ring.specs.Inner.Handle.{ring_id, is_pass}
 use Rattle.line_ring.proofs.tests.crowd.drain.Given as goal
 
 abbrev pub invariant-loop : goal.invariant-loop

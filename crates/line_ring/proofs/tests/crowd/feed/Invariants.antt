@@ -1,4 +1,4 @@
-use Rattle.line_ring.specs.Handle.{ring_id, is_lane}
+use Rattle.line_ring.specs.Inner.Handle.{ring_id, is_lane}
 use Rattle.line_ring.proofs.tests.crowd.feed.Given as goal
 
 abbrev pub invariant-loop : goal.invariant-loop

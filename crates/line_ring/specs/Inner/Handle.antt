@@ -41,8 +41,8 @@ dealt_lanes end = end.lanes
 abbrev pub dealt_passes : {T : Type 0} → RingEnd T → ℕ
 dealt_passes end = end.passes
 
-abbrev pub returned_lanes : {T : Type 0} → RingEnd T → List (LaneRecord T)
-returned_lanes end = (view end.seat).lanes
+abbrev pub back_lanes : {T : Type 0} → RingEnd T → List (LaneRecord T)
+back_lanes end = (view end.seat).lanes
 
-abbrev pub returned_passes : {T : Type 0} → RingEnd T → List (PassRecord T)
-returned_passes end = (view end.seat).passes
+abbrev pub back_passes : {T : Type 0} → RingEnd T → List (PassRecord T)
+back_passes end = (view end.seat).passes
