@@ -1,7 +1,7 @@
 -- The parse of the program's words.
 use Rattle.std.proofs.Common.{◌≡◌, ℕ, Bool, true, false, List, Option, Some, None, IfSome, Ok, codes, if◌then◌else◌, refl, sym, ap, ◌∙◌}
 use Rattle.std.specs.Str.Parse.{ParsesBool, digits_value, without_leading_plus}
-use Rattle.clap.specs.Words.{ReadsOne, Text, is_simple, is_simple_and_free, one_of, one_text, rows_of}
+use Rattle.clap.specs.Words.{ReadsOne, Text, is_simple, is_simple_and_free, one_text, rows_of}
 use Rattle.clap.specs.declared.parser.matches.Found.{Found}
 use Rattle.clap.proofs.OnLiterals.{clap_on_literals}
 use Rattle.clap.proofs.WalkLemmas.{one_text-rows}

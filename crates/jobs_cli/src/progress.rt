@@ -9,7 +9,7 @@ use std::sync::{Mutex, Wait};
 // The line is written once for this many records, and once for this many replies.
 const STEP: u64 = 1_000;
 
-// Wipes the line. Its longest text has two numbers of seven digits, and no more columns.
+// Wipes the line, whose longest text has two numbers of seven digits.
 const WIPE: &[u8] = b"\r                               \r";
 
 // The last line of a terminal, and whether it shows the progress.
@@ -19,8 +19,8 @@ struct Line<W> {
     is_shown: bool,
 }
 
-// What threads share of a terminal: the counts, and the line under a lock. A thread that finds another
-// one at the line goes on, and a write that fails is let be.
+// What the threads of a run share: the counts, and the line under a lock. No thread waits for the line,
+// and a failed write is ignored.
 #[derive(Drop)]
 struct Screen<W> {
     records: AtomicU64,

@@ -1,4 +1,4 @@
-use Rattle.std.proofs.Common.{codes, rules}
+use Rattle.std.proofs.Common.{codes}
 use Rattle.clap.specs.Words.{found_of}
 use Rattle.jobs_cli.proofs.CommandLineLemmas.{flag}
 use Rattle.jobs_cli.proofs.command_line.is_quiet_in.Goals as goal
