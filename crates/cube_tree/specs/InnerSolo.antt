@@ -1,5 +1,5 @@
 -- No public contract cites these: what a seat that has all stations knows.
-use Rattle.std.specs.Prelude.{◌≡◌, ℕ, ◌+◌, ◌^◌, ◌<◌, List, [], All, length, IsSome, Option, None}
+use Rattle.std.specs.Prelude.{◌≡◌, ℕ, ◌+◌, ◌^◌, ◌<◌, List, All, length, IsSome, Option, None}
 use Rattle.cube_shape.specs.declared.node.Node.{Node}
 use Rattle.cube_core.specs.declared.phase.Phase.{Phase}
 use Rattle.cube_core.specs.declared.phase.Phase.TheVariants.{Idle, Retired}
