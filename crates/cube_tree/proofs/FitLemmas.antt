@@ -20,8 +20,8 @@ use Rattle.tree_steps.specs.Rule.{times}
 use Rattle.tree_steps.specs.Steps.{Known, first_of, AreOffPath, IsOffAll}
 use Rattle.tree_steps.specs.Alone.{AreAllAtRest, IsBlocked, unpicked}
 use Rattle.tree_steps.proofs.AloneLemmas.{any_of_all, entry_there}
-use Rattle.cube_tree.specs.Slots.{node_of_station, region_of_slot, holdings}
-use Rattle.cube_tree.specs.InnerSolo.{AreBlocked, HasPhase, IsMoved, Represents, TakesFirst, phase_of_slot}
+use Rattle.cube_tree.specs.Slots.{Represents, node_of_station, region_of_slot, holdings, phase_of_slot}
+use Rattle.cube_tree.specs.InnerSolo.{AreBlocked, HasPhase, IsMoved, TakesFirst}
 use Rattle.cube_tree.proofs.MovedLemmas.{all_both, moved_all, moved_present, none_there, times_unpicked, unpicked_all}
 use Rattle.cube_tree.proofs.TryLemmas.{node_of_level}
 

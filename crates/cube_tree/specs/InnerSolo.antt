@@ -1,31 +1,13 @@
 -- No public contract cites these: what a seat that has all stations knows.
-use Rattle.std.specs.Prelude.{◌≡◌, ◌≢◌, ℕ, ◌+◌, ◌^◌, ◌<◌, List, [], All, length, IsSome, Option, Some, None}
+use Rattle.std.specs.Prelude.{◌≡◌, ℕ, ◌+◌, ◌^◌, ◌<◌, List, All, length, IsSome, Option, None}
 use Rattle.cube_shape.specs.declared.node.Node.{Node}
-use Rattle.cube_shape.specs.Region.{AreApart}
-use Rattle.cube_shape.specs.Node.{IsInCube}
 use Rattle.cube_core.specs.declared.phase.Phase.{Phase}
-use Rattle.cube_core.specs.declared.phase.Phase.TheVariants.{Idle, Holding, Retired}
-use Rattle.cube_core.specs.Held.{region_at}
+use Rattle.cube_core.specs.declared.phase.Phase.TheVariants.{Idle, Retired}
 use Rattle.tree_steps.specs.declared.view.Entry.{Entry}
 use Rattle.tree_steps.specs.Rule.{others, times}
 use Rattle.tree_steps.specs.Steps.{Known, IsAt, IsOffAll, first_of}
 use Rattle.tree_steps.specs.Alone.{IsBlocked, unpicked}
 use Rattle.cube_tree.specs.Slots.{node_of_station}
-
--- the phase of a station by the node that it holds
-abbrev pub phase_of_slot : Option Node → Phase
-phase_of_slot None = Idle
-phase_of_slot (Some v) = Holding v.0
-
--- all stations are with this seat, and each holds the node that the list has for it
-pub record Represents (n count : ℕ) (nodes : List (Option Node)) (m : Known) : Type 0 where
-  pub slot_count : length nodes ≡ count
-  pub present : (s : ℕ) → s < count → 0 < times s m.0.stations
-  pub phases : All (λ e. e.phase ≡ phase_of_slot (node_of_station nodes e.station)) m.0.stations
-  pub in_cube : (s : ℕ) (v : Node) → node_of_station nodes s ≡ Some v → IsInCube n v.0
-  pub apart : (s t : ℕ) (v w : Node) → s ≢ t → node_of_station nodes s ≡ Some v → node_of_station nodes t ≡ Some w
-      → AreApart (region_at n v.0) (region_at n w.0)
-  pub slots : m.1 ≡ []
 
 -- the record of this station is in this phase
 abbrev pub HasPhase : ℕ → Phase → Known → Type 0
@@ -40,11 +22,12 @@ pub record IsMoved (s : ℕ) (p : Phase) (old new : Known) : Type 0 where
   pub loads : new.0.loads ≡ old.0.loads
   pub slots : new.1 ≡ old.1
 
--- the node of the region (m, k), where j is n - k
+-- the first m nodes of the level that is j levels below the root are blocked
 abbrev pub AreBlocked : ℕ → ℕ → List Entry → Type 0
 AreBlocked j m entries = (i : ℕ) → i < m → IsBlocked (2 ^ j + i) entries
 
--- the station has taken the node of the region (m, k), and the nodes before it on its level are blocked
+-- the station has taken the first node of its level that is not blocked, and what it holds is apart from
+-- what the others hold
 pub record TakesFirst (s j node : ℕ) (old new : Known) : Type 0 where
   pub m : ℕ
   pub there : m < 2 ^ j

@@ -1,5 +1,5 @@
 //! The opening of a cube.
-ghost use Rattle.std.specs.Prelude.{◌≡◌, ◌<◌, ◌≤◌, ◌⊎◌, ◌↔◌, [], All, map, length, vec_len, vec_capacity, IfOk, IsErrOf};
+ghost use Rattle.std.specs.Prelude.{◌≡◌, ◌<◌, ◌≤◌, ◌⊎◌, ◌↔◌, [], All, map, vec_len, vec_capacity, IfOk, IsErrOf};
 ghost use Rattle.tree_steps.specs.Rule.{first_view, idle_entries};
 ghost use Rattle.tree_steps.specs.Tree.{id_of, size_of, station_count};
 ghost use Rattle.cube_tree.specs.Seats.{IsBare};

@@ -1,8 +1,7 @@
 //! All stations of a machine in one hand.
-ghost use Rattle.std.specs.Prelude.{◌≡◌, ◌+◌, ◌^◌, ◌↔◌, length, IsTrue, IsSome};
-ghost use Rattle.cube_shape.specs.Machine.{IsLawful};
+ghost use Rattle.std.specs.Prelude.{◌≡◌};
 ghost use Rattle.tree_steps.specs.Tree.{id_of, dim_of, station_count};
-ghost use Rattle.cube_tree.specs.InnerSolo.{Represents};
+ghost use Rattle.cube_tree.specs.Slots.{Represents};
 
 use cube_shape::Node;
 use tree_steps::{Seat, Tree};

@@ -1,5 +1,5 @@
 //! What a machine with all its stations in one hand answers, and its takes and releases.
-ghost use Rattle.std.specs.Prelude.{◌≡◌, ◌≢◌, ℕ, ◌+◌, ◌-◌, ◌^◌, ◌<◌, ◌≤◌, ◌↔◌, length, None, All, IsTrue, IsSome, IfOk, IfSome, IfNone, IsErrOf, OnErr, MatchBool, MatchOption};
+ghost use Rattle.std.specs.Prelude.{◌≡◌, ℕ, ◌+◌, ◌-◌, ◌^◌, ◌<◌, ◌≤◌, ◌↔◌, length, None, IsTrue, IsSome, IfOk, IfSome, IfNone, IsErrOf, OnErr, MatchBool, MatchOption};
 ghost use Rattle.cube_shape.specs.declared.region.Region.{Region as HeldRegion};
 ghost use Rattle.cube_shape.specs.Node.{IsInCube};
 ghost use Rattle.cube_shape.specs.Region.{block};

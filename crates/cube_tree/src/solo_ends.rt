@@ -1,8 +1,7 @@
 //! Where a cube and all its stations become one, and how that ends.
-ghost use Rattle.std.specs.Prelude.{◌≡◌, ℕ, ◌<◌, [], None, All, map, vec_len, IfOk, IfErr};
+ghost use Rattle.std.specs.Prelude.{◌≡◌, ℕ, ◌<◌, [], None, All, vec_len, IfOk, IfErr};
 ghost use Rattle.tree_steps.specs.Rule.{times};
 ghost use Rattle.tree_steps.specs.Alone.{AreAllAtRest};
-ghost use Rattle.tree_steps.specs.Steps.{IsAt};
 ghost use Rattle.tree_steps.specs.Tree.{id_of, station_count};
 ghost use Rattle.cube_tree.specs.Ends.{HasAll, IsWhollyFree};
 ghost use Rattle.cube_tree.specs.Handles.{cube_size, HasTable, IsStationOf};

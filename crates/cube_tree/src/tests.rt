@@ -2,7 +2,7 @@
 ghost use Rattle.std.specs.Prelude.{◌≡◌, ◌+◌, ◌<◌, ◌≤◌, [], All, vec_len, vec_capacity};
 ghost use Rattle.cube_shape.specs.Node.{IsInCube};
 ghost use Rattle.cube_tree.specs.Ends.{HasAll};
-ghost use Rattle.cube_tree.specs.Handles.{cube_dim, cube_size, size_with, IsStationOf, IsSubcubeOf, held_node};
+ghost use Rattle.cube_tree.specs.Handles.{cube_dim, cube_size, size_with, IsStationOf, IsSubcubeOf};
 
 mod alone;
 mod crowd;

@@ -1,6 +1,6 @@
 //! The words of the command line.
-ghost use Rattle.std.specs.Prelude.{◌≡◌, ◌<◌, ◌≤◌, IfSome};
-ghost use Rattle.cube_shape.specs.declared.limits.TheConstants.{MAX_STATIONS};
+ghost use Rattle.std.specs.Prelude.{IfSome};
+ghost use Rattle.tree_bench.specs.Arguments.{HasLanes};
 
 use crate::turns::Sizes;
 use cube_shape::MAX_STATIONS;
@@ -8,6 +8,17 @@ use std::io;
 use std::rt::Env;
 
 /// What is to be measured.
+#[derive(Clone, Copy)]
+pub enum Measured {
+    /// The tree, with a station on each thread.
+    Threads(Invocation),
+    /// So many turns of the tree in one hand.
+    Solo(Sizes, u64),
+    /// So many turns of the allocation bits.
+    Bits(Sizes, u64),
+}
+
+/// A run on threads.
 #[derive(Clone, Copy)]
 pub struct Invocation {
     pub sizes: Sizes,
@@ -31,23 +42,33 @@ fn sizes_named(name: &str) -> Option<Sizes> {
     }
 }
 
+// The turns of a tree on threads.
+fn on_threads(sizes: Sizes, threads: &str, turns: u64) -> Option<Measured>
+    ensures { IfSome result HasLanes }
+{
+    let threads = threads.parse::<u32>().ok()?;
+    if threads == 0 || threads > MAX_STATIONS {
+        return None;
+    }
+    Some(Measured::Threads(Invocation {
+        sizes,
+        threads,
+        turns,
+    }))
+}
+
 /// The run that the arguments ask for, if they are well formed.
-pub fn parse_arguments(arguments: &[String]) -> Option<Invocation>
-    ensures some { IfSome result (λ invocation. 0 < invocation.threads) }
-    ensures few { IfSome result (λ invocation. invocation.threads ≤ MAX_STATIONS) }
+pub fn parse_arguments(arguments: &[String]) -> Option<Measured>
+    ensures { IfSome result HasLanes }
 {
     if arguments.len() != 4 {
         return None;
     }
     let sizes = sizes_named(&arguments[1])?;
-    let threads = arguments[2].parse::<u32>().ok()?;
     let turns = arguments[3].parse::<u64>().ok()?;
-    if threads == 0 || threads > MAX_STATIONS {
-        return None;
+    match arguments[2].as_str() {
+        "solo" => Some(Measured::Solo(sizes, turns)),
+        "bits" => Some(Measured::Bits(sizes, turns)),
+        threads => on_threads(sizes, threads, turns),
     }
-    Some(Invocation {
-        sizes,
-        threads,
-        turns,
-    })
 }

@@ -12,8 +12,8 @@ use std::sync::Wait;
 use std::thread::Threads;
 use std::{mem, thread};
 
-// The dimension of the machine.
-const DIM: u32 = 10;
+/// The dimension of the machine.
+pub const DIM: u32 = 10;
 
 // A station that one thread steps with, and what came of its turns.
 struct Lane {

@@ -13,8 +13,8 @@ pub enum Sizes {
     Mixed,
 }
 
-// The dimension that a station asks for in a turn.
-fn dim_of(sizes: Sizes, number: u32, turn: u64) -> u32
+/// The dimension that a station asks for in a turn.
+pub fn dim_of(sizes: Sizes, number: u32, turn: u64) -> u32
     ensures { result ≤ 5 }
 {
     match sizes {

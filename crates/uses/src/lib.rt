@@ -6,6 +6,7 @@
 mod answering;
 mod count;
 mod extent;
+mod room;
 mod schedule;
 mod subcubes;
 mod two_regions;
@@ -13,6 +14,7 @@ mod two_regions;
 pub use answering::answer_and_count;
 pub use count::count_jobs;
 pub use extent::{Extent, share_extent};
+pub use room::has_room;
 pub use schedule::play;
 pub use subcubes::{hold_two, hold_two_and_close};
 pub use two_regions::take_two;

@@ -4,14 +4,15 @@ ghost use Rattle.std.specs.Prelude.{All};
 ghost use Rattle.uses.specs.Extent.{IsExtentValue};
 
 mod answering;
+mod beside_bits;
 mod shop;
 mod single;
 
-use crate::{Extent, count_jobs, hold_two_and_close, play, share_extent, take_two};
+use crate::{Extent, count_jobs, has_room, hold_two_and_close, play, share_extent, take_two};
 use alloc_bits::AllocBits;
 use cube_core::{Act, Phase};
 use cube_shape::Region;
-use cube_tree::Cube;
+use cube_tree::{Cube, Solo};
 use jobs_csv::{Fault, FaultKind};
 use std::test::Fail;
 
@@ -115,5 +116,23 @@ fn two_subcubes_are_apart(rt: HostRuntime) {
             assert_eq!(rt; machine.words(), [3, 0, 0, 0].as_slice());
         }
         _ => panic!(rt; "a take is refused, or the cube is not closed"),
+    }
+}
+
+// Three processors of four are held, so there is room for one more and for no pair.
+#[test]
+fn one_processor_is_left(rt: HostRuntime) {
+    let (cube, stations) = Cube::open(rt.alloc(), 2, 4).expect(&rt, "no memory");
+    match Solo::new(rt.alloc(), cube, stations) {
+        Ok(mut solo) => {
+            assert!(rt; has_room(&mut solo, 2));
+            assert_eq!(rt; (solo.take(1), solo.take(0)), (Ok(0), Ok(1)));
+            assert!(rt; has_room(&mut solo, 0) && !has_room(&mut solo, 1));
+            assert_eq!(rt; solo.take(0), Ok(2));
+            assert!(rt; !has_room(&mut solo, 0));
+            let machine = solo.close();
+            assert!(rt; machine.words().iter().skip(1).all(|word| *word == 0));
+        }
+        Err(_) => panic!(rt; "no memory"),
     }
 }

@@ -1,6 +1,6 @@
 use Rattle.std.proofs.Common.{sym, ◌∙◌, subst, set, None, arith}
 use Rattle.tree_steps.specs.declared.view.Size.{Size}
-use Rattle.cube_tree.specs.InnerSolo.{Represents}
+use Rattle.cube_tree.specs.Slots.{Represents}
 use Rattle.cube_tree.specs.Solo.{solo_dim}
 use Rattle.cube_tree.proofs.FitLemmas.{held_there, released_state}
 use Rattle.cube_tree.proofs.solo.Solo.release.Goals as goal

@@ -3,8 +3,7 @@ use Rattle.cube_shape.specs.Region.{block}
 use Rattle.cube_shape.specs.Machine.{Gives}
 use Rattle.cube_shape.proofs.MachineLemmas.{IsFirstFit-fits}
 use Rattle.tree_steps.specs.declared.view.Size.{Size}
-use Rattle.cube_tree.specs.Slots.{holdings}
-use Rattle.cube_tree.specs.InnerSolo.{Represents}
+use Rattle.cube_tree.specs.Slots.{Represents, holdings}
 use Rattle.cube_tree.specs.Solo.{solo_dim, held_by}
 use Rattle.cube_tree.proofs.FitLemmas.{not_some, none_slot, ok_or_err, refused_state, nothing_fits, taken_state, taken_fit, taken_gives}
 use Rattle.cube_tree.proofs.solo.Solo.take.Goals as goal
