@@ -1,5 +1,5 @@
 -- Views are dealt out of the first, and come together again.
-use Rattle.std.proofs.Common.{◌≡◌, ◌≢◌, ℕ, zero, suc, ◌+◌, ◌<◌, ◌≤◌, ⊎_elim, List, [], ◌∷◌, ◌++◌, length, length-append, append_assoc, set, sym, refl, ap, ◌∙◌, subst, arith}
+use Rattle.std.proofs.Common.{◌≡◌, ◌≢◌, ℕ, zero, suc, ◌+◌, ◌<◌, ◌≤◌, ⊎_elim, List, [], ◌∷◌, ◌++◌, length, append_assoc, set, sym, refl, ap, ◌∙◌, subst, arith}
 use Rattle.std.proofs.lemmas.List.{append-nil}
 use Rattle.std.specs.List.{AllByRecursion}
 use mathlib.Core.Logic.{dite}
@@ -14,10 +14,9 @@ use Rattle.histories.proofs.ViewLemmas.{True, splits, joins, nobody_else}
 use Rattle.line_ring.specs.declared.ring.TheConstants.{MAX_LANES, MAX_PASSES}
 use Rattle.line_ring.specs.declared.record.LaneRecord.{LaneRecord}
 use Rattle.line_ring.specs.declared.record.PassRecord.{PassRecord}
-use Rattle.line_ring.specs.declared.record.RestRecord.{RestRecord}
 use Rattle.line_ring.specs.declared.rule.View.{View}
-use Rattle.line_ring.specs.History.{lane_part, pass_part, rest_part, rest_of}
-use Rattle.line_ring.specs.Inner.View.{view, rest_record, lanes_in, passes_in, rests_in, lane_number, pass_number, rest_number, members, first_of, lanes_from, passes_from, first_view, empty_view, without_lane, lane_alone, without_pass, pass_alone, joined}
+use Rattle.line_ring.specs.History.{lane_part, pass_part, rest_of}
+use Rattle.line_ring.specs.Inner.View.{rest_part, view, rest_record, lanes_in, passes_in, rests_in, lane_number, pass_number, rest_number, members, first_of, lanes_from, passes_from, first_view, empty_view, without_lane, lane_alone, without_pass, pass_alone, joined}
 use Rattle.line_ring.specs.Inner.Rule.{Keeps}
 use Rattle.line_ring.specs.Inner.Step.{IsWhole}
 use Rattle.line_ring.proofs.ListLemmas.{no_pieces}

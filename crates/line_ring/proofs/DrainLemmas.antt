@@ -13,7 +13,7 @@ use Rattle.line_ring.specs.declared.record.RestRecord.{RestRecord}
 use Rattle.line_ring.specs.declared.rule.View.{View}
 use Rattle.line_ring.specs.Record.{AreSeqs, Rises}
 use Rattle.line_ring.specs.Run.{RingRun}
-use Rattle.line_ring.specs.Inner.View.{view, rest_record, lanes_in, passes_in, lanes_from, passes_from}
+use Rattle.line_ring.specs.Inner.View.{view, rest_record, lanes_in, passes_in}
 use Rattle.line_ring.specs.Inner.Step.{drained_in, after_drain, IsEndView, IsWhole, RunsTo, Drains}
 use Rattle.line_ring.proofs.ListLemmas.{count_pieces, rises-front, rises-both}
 use Rattle.line_ring.proofs.DealLemmas.{fresh_lanes_weigh, fresh_passes_weigh, lanes_count, passes_count, lanes_once}

@@ -1,10 +1,10 @@
 -- What the records of all members say together, once one view has them all.
-use Rattle.std.proofs.Common.{◌≡◌, ◌≢◌, ℕ, zero, suc, ◌+◌, ◌-◌, ◌<◌, ◌≤◌, ⊎_elim, List, [], ◌∷◌, ◌++◌, length, cond, ne_eqb, sym, refl, ap, ◌∙◌, subst, arith}
+use Rattle.std.proofs.Common.{◌≡◌, ◌≢◌, ℕ, zero, suc, ◌+◌, ◌<◌, List, [], ◌∷◌, ◌++◌, cond, ne_eqb, sym, refl, ap, ◌∙◌, subst, arith}
 use Rattle.std.specs.List.{AllByRecursion}
 use mathlib.Core.Option.{some}
 use lib.ListN.{get_elem?}
 use Rattle.crossbeam_queue.specs.Fifo.{Pops, Learns}
-use Rattle.histories.specs.Sums.{total, below, is_at}
+use Rattle.histories.specs.Sums.{total, below}
 use Rattle.histories.proofs.SumLemmas.{total-below}
 use Rattle.histories.proofs.ViewLemmas.{True, all_weaker, has_everyone, steps, stays}
 use Rattle.line_ring.specs.declared.ring.TheConstants.{MAX_LANES, MAX_PASSES}
@@ -13,10 +13,10 @@ use Rattle.line_ring.specs.declared.record.PassRecord.{PassRecord}
 use Rattle.line_ring.specs.declared.record.RestRecord.{RestRecord}
 use Rattle.line_ring.specs.declared.rule.View.{View}
 use Rattle.line_ring.specs.Record.{AreSeqs, Rises}
-use Rattle.line_ring.specs.History.{Deed, drains, rest_of, waiting, lane_part, pass_part, rest_part}
-use Rattle.line_ring.specs.Inner.View.{view, rest_record, lanes_in, passes_in, rests_in, lane_number, pass_number, rest_number, members}
+use Rattle.line_ring.specs.History.{drains, rest_of, waiting, lane_part, pass_part}
+use Rattle.line_ring.specs.Inner.View.{rest_part, view, rest_record, lanes_in, passes_in, rests_in, lane_number, pass_number, rest_number, members}
 use Rattle.line_ring.specs.Inner.Rule.{Keeps}
-use Rattle.line_ring.specs.Inner.Step.{drained_in, after_drain, IsWhole, RunsTo, Drains}
+use Rattle.line_ring.specs.Inner.Step.{drained_in, IsWhole, RunsTo, Drains}
 use Rattle.line_ring.proofs.HistoryLemmas.{balanced, seqs, rises, rest_rises}
 use Rattle.line_ring.proofs.KeepLemmas.{about_set}
 

@@ -1,6 +1,5 @@
 -- The rule of a ring, as pieces come in and go out.
-use Rattle.std.proofs.Common.{◌≡◌, ◌≢◌, ℕ, ◌+◌, ◌<◌, ⊎_elim, List, [], ◌∷◌, ◌++◌, length, set, sym, refl, ap, ◌∙◌, subst, arith}
-use Rattle.std.specs.List.{AllByRecursion}
+use Rattle.std.proofs.Common.{◌≡◌, ◌≢◌, ℕ, ◌<◌, ⊎_elim, List, [], ◌∷◌, ◌++◌, length, set, sym, refl, ap, ◌∙◌, subst, arith}
 use mathlib.Core.Option.{some}
 use lib.ListN.{get_elem?}
 use Rattle.atomic_table.proofs.Lists.{at_set}
@@ -9,10 +8,11 @@ use Rattle.crossbeam_queue.specs.Fifo.{Pushes, Pops, Learns}
 use Rattle.line_ring.specs.declared.record.LaneRecord.{LaneRecord}
 use Rattle.line_ring.specs.declared.record.PassRecord.{PassRecord}
 use Rattle.line_ring.specs.declared.rule.View.{View}
-use Rattle.line_ring.specs.History.{Deed, accepts, takes_piece, drains, rest_of, waiting, lane_part, pass_part, rest_part}
-use Rattle.line_ring.specs.Inner.View.{view, lane_view, pass_view, rest_record, lanes_in, passes_in, rests_in, lane_number, pass_number, rest_number, members}
+use Rattle.line_ring.specs.History.{accepts, takes_piece, rest_of, waiting, lane_part, pass_part}
+use Rattle.line_ring.specs.Inner.View.{rest_part, lane_view, pass_view, lanes_in, passes_in, rests_in, lane_number, pass_number, rest_number, members}
 use Rattle.line_ring.specs.Inner.Rule.{Keeps}
-use Rattle.line_ring.specs.Inner.Step.{lane_in, pass_in, after_push, after_take, IsLaneView, IsPassView, LaneLearns, PassLearns, Takes}
+use Rattle.line_ring.specs.Record.{lane_in, pass_in}
+use Rattle.line_ring.specs.Inner.Step.{after_push, IsLaneView, IsPassView, LaneLearns, PassLearns, Takes}
 use Rattle.line_ring.proofs.HistoryLemmas.{lane_own, lane_other, pass_own, pass_other}
 
 module _ {T : Type 0} (lane_of seq_of : T → ℕ) (is_for : ℕ → T → Type 0) where

@@ -1,5 +1,5 @@
 -- Lists of pieces: a lane's seqs, and that they rise.
-use Rattle.std.proofs.Common.{◌≡◌, ℕ, suc, ◌+◌, ◌<◌, Bool, true, false, cond, List, [], ◌∷◌, ◌++◌, length, append_assoc, sym, ap, ◌∙◌, subst, arith}
+use Rattle.std.proofs.Common.{◌≡◌, ℕ, ◌+◌, ◌<◌, Bool, true, false, cond, List, [], ◌∷◌, ◌++◌, length, append_assoc, sym, subst, arith}
 use Rattle.std.specs.List.{AllByRecursion}
 use Rattle.histories.specs.Sums.{total}
 use Rattle.histories.proofs.ViewLemmas.{all_append}

@@ -1,11 +1,10 @@
 -- The history of a ring: what was put in and taken out, newest first, and what it makes of each
 -- record.
-use Rattle.std.specs.Prelude.{◌≡◌, ℕ, ◌<◌, Bool, true, false, List, [], ◌∷◌, ◌++◌, length, ◌==◌}
+use Rattle.std.specs.Prelude.{◌≡◌, ℕ, ◌<◌, Bool, false, List, [], ◌∷◌, ◌++◌, length, ◌==◌}
 use Rattle.histories.specs.History.{part, Legal}
 use Rattle.line_ring.specs.declared.ring.TheConstants.{MAX_LANES, MAX_PASSES}
 use Rattle.line_ring.specs.declared.record.LaneRecord.{LaneRecord}
 use Rattle.line_ring.specs.declared.record.PassRecord.{PassRecord}
-use Rattle.line_ring.specs.declared.record.RestRecord.{RestRecord}
 use Rattle.line_ring.specs.Record.{fresh_lane, fresh_pass}
 
 pub data Deed (T : Type 0) : Type 0 where
@@ -16,75 +15,60 @@ pub data Deed (T : Type 0) : Type 0 where
   -- the piece at the front came out at the ring's end
   drains : T → Deed T
 
-module _ {T : Type 0} where
-  abbrev pub rest_of : List T → List T
-  rest_of [] = []
-  rest_of (x ∷ xs) = xs
+abbrev pub rest_of : {T : Type 0} → List T → List T
+rest_of [] = []
+rest_of (x ∷ xs) = xs
 
-  -- the pieces that wait, front first
-  abbrev pub waiting : List (Deed T) → List T
-  waiting [] = []
-  waiting (accepts lane piece ∷ history) = waiting history ++ piece ∷ []
-  waiting (takes_piece pass piece ∷ history) = rest_of (waiting history)
-  waiting (drains piece ∷ history) = rest_of (waiting history)
+-- the pieces that wait, front first
+abbrev pub waiting : {T : Type 0} → List (Deed T) → List T
+waiting [] = []
+waiting (accepts lane piece ∷ history) = waiting history ++ piece ∷ []
+waiting (takes_piece pass piece ∷ history) = rest_of (waiting history)
+waiting (drains piece ∷ history) = rest_of (waiting history)
 
-  -- ---- the records that a history makes
+-- ---- the records that a history makes
 
-  abbrev pub is_by_lane : Deed T → ℕ → Bool
-  is_by_lane (accepts lane piece) k = lane == k
-  is_by_lane (takes_piece pass piece) k = false
-  is_by_lane (drains piece) k = false
+abbrev pub is_by_lane : {T : Type 0} → Deed T → ℕ → Bool
+is_by_lane (accepts lane piece) k = lane == k
+is_by_lane (takes_piece pass piece) k = false
+is_by_lane (drains piece) k = false
 
-  abbrev pub lane_after : Deed T → LaneRecord T → LaneRecord T
-  lane_after (accepts lane piece) r = record r { accepted = r.accepted ++ piece ∷ [] }
-  lane_after (takes_piece pass piece) r = r
-  lane_after (drains piece) r = r
+abbrev pub lane_after : {T : Type 0} → Deed T → LaneRecord T → LaneRecord T
+lane_after (accepts lane piece) r = record r { accepted = r.accepted ++ piece ∷ [] }
+lane_after (takes_piece pass piece) r = r
+lane_after (drains piece) r = r
 
-  abbrev pub lane_part : List (Deed T) → ℕ → LaneRecord T
-  lane_part = part is_by_lane lane_after fresh_lane
+abbrev pub lane_part : {T : Type 0} → List (Deed T) → ℕ → LaneRecord T
+lane_part = part is_by_lane lane_after fresh_lane
 
-  abbrev pub is_by_pass : Deed T → ℕ → Bool
-  is_by_pass (accepts lane piece) k = false
-  is_by_pass (takes_piece pass piece) k = pass == k
-  is_by_pass (drains piece) k = false
+abbrev pub is_by_pass : {T : Type 0} → Deed T → ℕ → Bool
+is_by_pass (accepts lane piece) k = false
+is_by_pass (takes_piece pass piece) k = pass == k
+is_by_pass (drains piece) k = false
 
-  abbrev pub pass_after : Deed T → PassRecord T → PassRecord T
-  pass_after (accepts lane piece) r = r
-  pass_after (takes_piece pass piece) r = record r { taken = r.taken ++ piece ∷ [] }
-  pass_after (drains piece) r = r
+abbrev pub pass_after : {T : Type 0} → Deed T → PassRecord T → PassRecord T
+pass_after (accepts lane piece) r = r
+pass_after (takes_piece pass piece) r = record r { taken = r.taken ++ piece ∷ [] }
+pass_after (drains piece) r = r
 
-  abbrev pub pass_part : List (Deed T) → ℕ → PassRecord T
-  pass_part = part is_by_pass pass_after fresh_pass
+abbrev pub pass_part : {T : Type 0} → List (Deed T) → ℕ → PassRecord T
+pass_part = part is_by_pass pass_after fresh_pass
 
-  -- there is one end, of the number 0
-  abbrev pub is_by_end : Deed T → ℕ → Bool
-  is_by_end (accepts lane piece) k = false
-  is_by_end (takes_piece pass piece) k = false
-  is_by_end (drains piece) k = 0 == k
+-- ---- which deeds a history allows
 
-  abbrev pub rest_after : Deed T → RestRecord T → RestRecord T
-  rest_after (accepts lane piece) r = r
-  rest_after (takes_piece pass piece) r = r
-  rest_after (drains piece) r = record { drained = r.drained ++ piece ∷ [] }
+-- a lane's pieces come in as its 0, 1, 2 and so on, and the piece that goes out is the one at the front
+abbrev pub May : {T : Type 0} → (T → ℕ) → (T → ℕ) → List (Deed T) → Deed T → Type 0
+May lane_of seq_of history (accepts lane piece) = (lane < MAX_LANES) × (lane_of piece ≡ lane) × (seq_of piece ≡ length (lane_part history lane).accepted)
+May lane_of seq_of history (takes_piece pass piece) = (pass < MAX_PASSES) × (waiting history ≡ piece ∷ rest_of (waiting history))
+May lane_of seq_of history (drains piece) = waiting history ≡ piece ∷ rest_of (waiting history)
 
-  abbrev pub rest_part : List (Deed T) → ℕ → RestRecord T
-  rest_part = part is_by_end rest_after (λ _. record { drained = [] })
+abbrev pub IsLegal : {T : Type 0} → (T → ℕ) → (T → ℕ) → List (Deed T) → Type 0
+IsLegal lane_of seq_of history = Legal (May lane_of seq_of) history
 
-module _ {T : Type 0} (lane_of seq_of : T → ℕ) where
-  -- which deeds a history allows: a lane's pieces come in as its 0, 1, 2 and so on, and the piece
-  -- that goes out is the one at the front
-  abbrev pub May : List (Deed T) → Deed T → Type 0
-  May history (accepts lane piece) = (lane < MAX_LANES) × (lane_of piece ≡ lane) × (seq_of piece ≡ length (lane_part history lane).accepted)
-  May history (takes_piece pass piece) = (pass < MAX_PASSES) × (waiting history ≡ piece ∷ rest_of (waiting history))
-  May history (drains piece) = waiting history ≡ piece ∷ rest_of (waiting history)
+-- at one moment of some history, in which the lane, or the pass, had done what its record says, this
+-- many pieces were waiting
+abbrev pub HeldBesideLane : {T : Type 0} → (T → ℕ) → (T → ℕ) → LaneRecord T → ℕ → Type 0
+HeldBesideLane {T} lane_of seq_of r count = (history : List (Deed T)) × IsLegal lane_of seq_of history × (lane_part history r.number ≡ r) × (length (waiting history) ≡ count)
 
-  abbrev pub IsLegal : List (Deed T) → Type 0
-  IsLegal history = Legal May history
-
-  -- at one moment of some history, in which the lane, or the pass, had done what its record says,
-  -- this many pieces were waiting
-  abbrev pub HeldBesideLane : LaneRecord T → ℕ → Type 0
-  HeldBesideLane r count = (history : List (Deed T)) × IsLegal history × (lane_part history r.number ≡ r) × (length (waiting history) ≡ count)
-
-  abbrev pub HeldBesidePass : PassRecord T → ℕ → Type 0
-  HeldBesidePass r count = (history : List (Deed T)) × IsLegal history × (pass_part history r.number ≡ r) × (length (waiting history) ≡ count)
+abbrev pub HeldBesidePass : {T : Type 0} → (T → ℕ) → (T → ℕ) → PassRecord T → ℕ → Type 0
+HeldBesidePass {T} lane_of seq_of r count = (history : List (Deed T)) × IsLegal lane_of seq_of history × (pass_part history r.number ≡ r) × (length (waiting history) ≡ count)

@@ -1,33 +1,31 @@
 -- The records of lanes and passes, and the order of a lane's pieces.
-use Rattle.std.specs.Prelude.{◌≡◌, ℕ, zero, suc, ◌+◌, ◌<◌, List, [], ◌∷◌, ◌++◌}
+use Rattle.std.specs.Prelude.{◌≡◌, ℕ, ◌+◌, ◌<◌, List, [], ◌∷◌}
 use Rattle.std.specs.List.{AllByRecursion as Each}
 use Rattle.line_ring.specs.declared.record.LaneRecord.{LaneRecord}
 use Rattle.line_ring.specs.declared.record.PassRecord.{PassRecord}
 
-module _ {T : Type 0} where
-  -- the record of a lane, or of a pass, that has done nothing
-  abbrev pub fresh_lane : ℕ → LaneRecord T
-  fresh_lane number = record { number = number; accepted = [] }
+-- the record of a lane, or of a pass, that has done nothing
+abbrev pub fresh_lane : {T : Type 0} → ℕ → LaneRecord T
+fresh_lane number = record { number = number; accepted = [] }
 
-  abbrev pub fresh_pass : ℕ → PassRecord T
-  fresh_pass number = record { number = number; taken = [] }
+abbrev pub fresh_pass : {T : Type 0} → ℕ → PassRecord T
+fresh_pass number = record { number = number; taken = [] }
 
-  -- the fresh records of the lanes, or of the passes, below a count
-  abbrev pub fresh_lanes : ℕ → List (LaneRecord T)
-  fresh_lanes zero = []
-  fresh_lanes (suc count) = fresh_lanes count ++ fresh_lane count ∷ []
+-- the record that stands alone in a list
+abbrev pub lane_in : {T : Type 0} → List (LaneRecord T) → LaneRecord T
+lane_in [] = fresh_lane 0
+lane_in (r ∷ rs) = r
 
-  abbrev pub fresh_passes : ℕ → List (PassRecord T)
-  fresh_passes zero = []
-  fresh_passes (suc count) = fresh_passes count ++ fresh_pass count ∷ []
+abbrev pub pass_in : {T : Type 0} → List (PassRecord T) → PassRecord T
+pass_in [] = fresh_pass 0
+pass_in (r ∷ rs) = r
 
-module _ {T : Type 0} (lane_of seq_of : T → ℕ) where
-  -- the pieces are those of the lane from seq on, in order
-  abbrev pub AreSeqs : ℕ → ℕ → List T → Type 0
-  AreSeqs lane seq [] = Unit {0}
-  AreSeqs lane seq (piece ∷ pieces) = (lane_of piece ≡ lane) × (seq_of piece ≡ seq) × AreSeqs lane (seq + 1) pieces
+-- the pieces are those of the lane from seq on, in order
+abbrev pub AreSeqs : {T : Type 0} → (T → ℕ) → (T → ℕ) → ℕ → ℕ → List T → Type 0
+AreSeqs lane_of seq_of lane seq [] = Unit {0}
+AreSeqs lane_of seq_of lane seq (piece ∷ pieces) = (lane_of piece ≡ lane) × (seq_of piece ≡ seq) × AreSeqs lane_of seq_of lane (seq + 1) pieces
 
-  -- the pieces of one lane stand in the order of their seqs
-  abbrev pub Rises : List T → Type 0
-  Rises [] = Unit {0}
-  Rises (piece ∷ pieces) = Each (λ later. lane_of later ≡ lane_of piece → seq_of piece < seq_of later) pieces × Rises pieces
+-- the pieces of one lane stand in the order of their seqs
+abbrev pub Rises : {T : Type 0} → (T → ℕ) → (T → ℕ) → List T → Type 0
+Rises lane_of seq_of [] = Unit {0}
+Rises lane_of seq_of (piece ∷ pieces) = Each (λ later. lane_of later ≡ lane_of piece → seq_of piece < seq_of later) pieces × Rises lane_of seq_of pieces

@@ -55,7 +55,8 @@ impl<T: Piece> Ring<T> {
         ensures end { is_end (ring_id self.now) end.new }
         ensures dealt { (dealt_lanes end.new ≡ dealt_lanes end.old)
             × (dealt_passes end.new ≡ dealt_passes end.old) }
-        ensures lanes { back_lanes end.new ≡ back_lanes end.old ++ lane_record lane ∷ [] }
+        ensures lanes { back_lanes end.new
+            ≡ back_lanes end.old ++ lane_record lane ∷ [] }
         ensures passes { back_passes end.new ≡ back_passes end.old }
     {
         let RingLane {
@@ -74,7 +75,8 @@ impl<T: Piece> Ring<T> {
         ensures dealt { (dealt_lanes end.new ≡ dealt_lanes end.old)
             × (dealt_passes end.new ≡ dealt_passes end.old) }
         ensures lanes { back_lanes end.new ≡ back_lanes end.old }
-        ensures passes { back_passes end.new ≡ back_passes end.old ++ pass_record pass ∷ [] }
+        ensures passes { back_passes end.new
+            ≡ back_passes end.old ++ pass_record pass ∷ [] }
     {
         let RingPass { seat } = pass;
         self.queue.absorb::<Gather>(&mut end.seat, seat);

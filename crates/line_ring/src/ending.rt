@@ -35,6 +35,7 @@ impl<T: Piece> Ring<T> {
             lanes: _,
             passes: _,
         } = end;
+        // The ring holds no more than there is room for, and nothing comes in any more.
         queue.len_as::<Drain, R>(rt, &mut seat);
         while let Some(piece) = queue.pop_as::<Drain, R>(rt, &mut seat) {
             rest.push_back_reserved(piece);

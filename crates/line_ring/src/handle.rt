@@ -22,7 +22,7 @@ pub struct RingPass<T> {
     ghost known: { IsPassView (view seat) },
 }
 
-/// The right to end a ring. There is one. Lanes and passes are dealt out of it, and come back to it.
+/// The right to end a ring. There is one. Lanes and passes are dealt out of it and come back to it.
 pub struct RingEnd<T> {
     pub(crate) seat: Pass<T, View<T>>,
     pub(crate) lanes: u32,
@@ -30,12 +30,6 @@ pub struct RingEnd<T> {
     ghost none_out: { seat.me.1 ≡ [] },
     ghost known: { IsEndView lanes passes (view seat) },
 }
-
-/// A push of this call found the ring full. Only `Ring::push` makes it, and it has no `Drop`.
-pub struct SawFull(pub(crate) ());
-
-/// A pop of this call found the ring empty. Only `Ring::pop` makes it, and it has no `Drop`.
-pub struct SawEmpty(pub(crate) ());
 
 impl<T> RingLane<T> {
     ghost use Rattle.line_ring.specs.Inner.Handle.{lane_record};
@@ -52,19 +46,5 @@ impl<T> RingLane<T> {
         ensures { result ≡ length (lane_record self.now).accepted }
     {
         self.accepted
-    }
-}
-
-impl SawFull {
-    /// Records that the ring was full.
-    pub fn spend(self) {
-        let SawFull(()) = self;
-    }
-}
-
-impl SawEmpty {
-    /// Records that the ring was empty.
-    pub fn spend(self) {
-        let SawEmpty(()) = self;
     }
 }

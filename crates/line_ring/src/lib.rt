@@ -12,8 +12,10 @@ mod piece;
 mod record;
 mod ring;
 mod rule;
+#[cfg(test)]
+mod tests;
 
-pub use handle::{RingEnd, RingLane, RingPass, SawEmpty, SawFull};
+pub use handle::{RingEnd, RingLane, RingPass};
 pub use piece::Piece;
 pub use record::{LaneRecord, PassRecord, RestRecord};
-pub use ring::{MAX_LANES, MAX_PASSES, Ring};
+pub use ring::{MAX_LANES, MAX_PASSES, Ring, SawEmpty, SawFull};

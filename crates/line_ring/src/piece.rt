@@ -1,7 +1,9 @@
 // What may wait in a ring.
 
-/// A piece of work that waits in a ring. Contracts see the lane that it came in by, its number among
-/// the pieces of that lane, and for a machine of which dimension it was made.
+/// A piece of work that waits in a ring.
+///
+/// Contracts see the lane that it comes in by, its seq, which is how many pieces of
+/// that lane come in before it, and which machines it is for, by their dimension.
 pub trait Piece: Drop {
     ghost use Rattle.std.specs.Prelude.{ℕ};
 

@@ -4,7 +4,7 @@ ghost use Rattle.std.specs.VecDeque.{deque_capacity};
 ghost use Rattle.crossbeam_queue.specs.Passes.{ruled_capacity};
 ghost use Rattle.line_ring.specs.History.{HeldBesideLane, HeldBesidePass};
 
-use crate::handle::{RingEnd, RingLane, RingPass, SawEmpty, SawFull};
+use crate::handle::{RingEnd, RingLane, RingPass};
 use crate::piece::Piece;
 use crate::rule::{NextMachine, Put, RingRule, Take, View};
 use crossbeam_queue::RuledArrayQueue;
@@ -27,6 +27,26 @@ pub struct Ring<T: Piece> {
     ghost reserved: { ruled_capacity queue ≤ deque_capacity room },
 }
 
+/// A push of this call found the ring full. Only `Ring::push` makes it, and it has no `Drop`.
+pub struct SawFull(());
+
+/// A pop of this call found the ring empty. Only `Ring::pop` makes it, and it has no `Drop`.
+pub struct SawEmpty(());
+
+impl SawFull {
+    /// Records that the ring was full.
+    pub fn spend(self) {
+        let SawFull(()) = self;
+    }
+}
+
+impl SawEmpty {
+    /// Records that the ring was empty.
+    pub fn spend(self) {
+        let SawEmpty(()) = self;
+    }
+}
+
 impl<T: Piece> Ring<T> {
     ghost use Rattle.line_ring.specs.Inner.Handle.{ring_id, is_lane, is_pass, is_end, lane_record, pass_record, dealt_lanes, dealt_passes, back_lanes, back_passes};
 
@@ -47,8 +67,7 @@ impl<T: Piece> Ring<T> {
             (back_lanes made.1 ≡ []) × (back_passes made.1 ≡ [])) }
     {
         let room = VecDeque::with_capacity(alloc, capacity)?;
-        let (queue, mut seat) =
-            RuledArrayQueue::<T, View<T>, RingRule<T>>::ruled(alloc, capacity)?;
+        let (queue, mut seat) = RuledArrayQueue::<T, View<T>, RingRule<T>>::ruled(alloc, capacity)?;
         for _ in 0..machine {
             queue.another::<NextMachine>(&mut seat);
         }

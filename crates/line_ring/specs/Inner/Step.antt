@@ -3,25 +3,14 @@ use Rattle.std.specs.Prelude.{◌≡◌, ℕ, ◌+◌, ◌-◌, ◌<◌, ◌≤�
 use Rattle.std.specs.List.{AllByRecursion as Each}
 use Rattle.histories.specs.Sums.{total, is_at}
 use Rattle.line_ring.specs.declared.ring.TheConstants.{MAX_LANES, MAX_PASSES}
-use Rattle.line_ring.specs.declared.record.LaneRecord.{LaneRecord}
-use Rattle.line_ring.specs.declared.record.PassRecord.{PassRecord}
 use Rattle.line_ring.specs.declared.record.RestRecord.{RestRecord}
 use Rattle.line_ring.specs.declared.rule.View.{View}
-use Rattle.line_ring.specs.Record.{fresh_lane, fresh_pass, AreSeqs, Rises}
+use Rattle.line_ring.specs.Record.{lane_in, pass_in, AreSeqs, Rises}
 use Rattle.line_ring.specs.History.{HeldBesideLane, HeldBesidePass}
 use Rattle.line_ring.specs.Inner.View.{view, lane_view, pass_view, rest_record, lanes_in, passes_in, lanes_from, passes_from}
 
 module _ {T : Type 0} where
-  -- ---- the record that a view has
-
-  abbrev pub lane_in : List (LaneRecord T) → LaneRecord T
-  lane_in [] = fresh_lane 0
-  lane_in (r ∷ rs) = r
-
-  abbrev pub pass_in : List (PassRecord T) → PassRecord T
-  pass_in [] = fresh_pass 0
-  pass_in (r ∷ rs) = r
-
+  -- what has come out, by the record of the end
   abbrev pub drained_in : List (RestRecord T) → List T
   drained_in [] = []
   drained_in (r ∷ rs) = r.drained
