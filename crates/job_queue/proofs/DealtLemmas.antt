@@ -10,7 +10,7 @@ use Rattle.line_gate.specs.Gate.{GateId}
 use Rattle.line_gate.specs.declared.record.LaneEntries.{LaneEntries}
 use Rattle.line_gate.specs.declared.record.PassReadings.{PassReadings}
 use Rattle.line_gate.specs.Record.{fresh_lane as fresh_gate_lane, fresh_pass as fresh_gate_pass, lanes_from, passes_from}
-use Rattle.line_ring.specs.Handle.{RingId, is_lane as IsRingLane, is_pass as IsRingPass, is_end as IsRingEnd, lane_record as ring_lane_record, pass_record as ring_pass_record}
+use Rattle.line_ring.specs.Inner.Handle.{RingId, is_lane as IsRingLane, is_pass as IsRingPass, is_end as IsRingEnd, lane_record as ring_lane_record, pass_record as ring_pass_record}
 use Rattle.job_queue.specs.declared.ruled.handle.RuledLane.{RuledLane}
 use Rattle.job_queue.specs.declared.ruled.handle.RuledPass.{RuledPass}
 use Rattle.job_queue.specs.Inner.Ruled.Handle.{line_of, IsOf, is_lane, is_pass, gate_lanes, ring_lanes, counts_after}

@@ -13,7 +13,7 @@ use Rattle.line_ring.specs.declared.record.LaneRecord.{LaneRecord as RingLaneRec
 use Rattle.line_ring.specs.declared.record.PassRecord.{PassRecord as RingPassRecord}
 use Rattle.line_ring.specs.Record.{AreSeqs as AreRingSeqs, Rises as RingRises}
 use Rattle.line_ring.specs.Run.{RingRun}
-use Rattle.line_ring.specs.Handle.{lane_record as ring_lane_record, pass_record as ring_pass_record}
+use Rattle.line_ring.specs.Inner.Handle.{lane_record as ring_lane_record, pass_record as ring_pass_record}
 use Rattle.job_queue.specs.declared.record.QueuedJob.{QueuedJob}
 use Rattle.job_queue.specs.declared.record.Entry.{Entry}
 use Rattle.job_queue.specs.declared.record.LaneRecord.{LaneRecord}

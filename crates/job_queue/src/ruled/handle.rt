@@ -1,5 +1,5 @@
 // What the callers of a ruled line hold. None of it has a `Drop`: it is spent in the line's end.
-ghost use Rattle.line_ring.specs.Handle.{lane_record as ring_record};
+ghost use Rattle.line_ring.specs.Inner.Handle.{lane_record as ring_record};
 ghost use Rattle.job_queue.specs.Inner.Ruled.Join.{IsJoined};
 
 use crate::record::QueuedJob;

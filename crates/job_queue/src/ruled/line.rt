@@ -2,7 +2,7 @@
 ghost use Rattle.std.specs.Prelude.{◌≡◌, ◌+◌, ◌<◌, ◌++◌, ◌∷◌, ◌^◌, [], Some, true, false, length};
 ghost use Rattle.line_gate.specs.Record.{Seals as SealsGate};
 ghost use Rattle.line_gate.specs.declared.record.Reading.{Reading as GateReading};
-ghost use Rattle.line_ring.specs.Handle.{ring_id, is_lane as IsRingLane, lane_record as ring_record};
+ghost use Rattle.line_ring.specs.Inner.Handle.{ring_id, is_lane as IsRingLane, lane_record as ring_record};
 ghost use Rattle.job_queue.specs.Line.{IsFor};
 ghost use Rattle.job_queue.specs.Inner.Ruled.Join.{Puts};
 

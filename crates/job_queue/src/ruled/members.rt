@@ -4,7 +4,7 @@ ghost use Rattle.std.specs.List.{All};
 ghost use Rattle.std.specs.Vec.{vec_capacity};
 ghost use Rattle.job_types.specs.declared.request.TheConstants.{MAX_LANES};
 ghost use Rattle.line_gate.specs.Record.{lanes_from, passes_from};
-ghost use Rattle.line_ring.specs.Handle.{ring_id, is_end as IsRingEnd, dealt_lanes, dealt_passes, returned_lanes, returned_passes};
+ghost use Rattle.line_ring.specs.Inner.Handle.{ring_id, is_end as IsRingEnd, dealt_lanes, dealt_passes, back_lanes, back_passes};
 ghost use Rattle.job_queue.specs.declared.job_line.TheConstants.{MAX_PASSES};
 ghost use Rattle.job_queue.specs.Record.{fresh_lanes, fresh_passes};
 ghost use Rattle.job_queue.specs.Inner.Ruled.Handle.{line_of, is_lane, is_pass, lane_record, pass_record, gate_lanes, gate_passes, ring_lanes, ring_passes, counts_after};
@@ -34,8 +34,8 @@ pub fn deal_lanes(
     ensures dealt { (members.new.lanes ≡ []) × (members.new.passes ≡ members.old.passes) }
     ensures end { IsRingEnd (ring_id ring.now) end.new × (dealt_lanes end.new ≡ count) }
     ensures passes { dealt_passes end.new ≡ dealt_passes end.old }
-    ensures back { (returned_lanes end.new ≡ returned_lanes end.old)
-        × (returned_passes end.new ≡ returned_passes end.old) }
+    ensures back { (back_lanes end.new ≡ back_lanes end.old)
+        × (back_passes end.new ≡ back_passes end.old) }
     ensures lanes { All (is_lane (line_of gate.now (ring_id ring.now))) result.items }
     ensures fresh { map lane_record result.items ≡ fresh_lanes count }
 {
@@ -69,8 +69,8 @@ pub fn deal_passes(
     ensures dealt { (members.new.passes ≡ []) × (members.new.lanes ≡ members.old.lanes) }
     ensures end { IsRingEnd (ring_id ring.now) end.new × (dealt_passes end.new ≡ count) }
     ensures lanes { dealt_lanes end.new ≡ dealt_lanes end.old }
-    ensures back { (returned_lanes end.new ≡ returned_lanes end.old)
-        × (returned_passes end.new ≡ returned_passes end.old) }
+    ensures back { (back_lanes end.new ≡ back_lanes end.old)
+        × (back_passes end.new ≡ back_passes end.old) }
     ensures passes { All (is_pass (line_of gate.now (ring_id ring.now))) result.items }
     ensures fresh { map pass_record result.items ≡ fresh_passes count }
 {
@@ -102,8 +102,8 @@ pub fn gather_lanes(
     ensures gate_lanes { gate_end.new.lanes ≡ gate_end.old.lanes ++ gate_lanes lanes.items }
     ensures gate_same { (gate_end.new.passes ≡ gate_end.old.passes) × (gate_end.new.number ≡ gate_end.old.number) }
     ensures ring_end { IsRingEnd (ring_id ring.now) ring_end.new }
-    ensures ring_lanes { returned_lanes ring_end.new ≡ returned_lanes ring_end.old ++ ring_lanes lanes.items }
-    ensures ring_same { returned_passes ring_end.new ≡ returned_passes ring_end.old }
+    ensures ring_lanes { back_lanes ring_end.new ≡ back_lanes ring_end.old ++ ring_lanes lanes.items }
+    ensures ring_same { back_passes ring_end.new ≡ back_passes ring_end.old }
     ensures dealt { (dealt_lanes ring_end.new ≡ dealt_lanes ring_end.old)
         × (dealt_passes ring_end.new ≡ dealt_passes ring_end.old) }
     ensures accepted { accepted.new.items ≡ counts_after accepted.old.items lanes.items }
@@ -137,8 +137,8 @@ pub fn gather_passes(
     ensures gate_passes { gate_end.new.passes ≡ gate_end.old.passes ++ gate_passes passes.items }
     ensures gate_same { (gate_end.new.lanes ≡ gate_end.old.lanes) × (gate_end.new.number ≡ gate_end.old.number) }
     ensures ring_end { IsRingEnd (ring_id ring.now) ring_end.new }
-    ensures ring_passes { returned_passes ring_end.new ≡ returned_passes ring_end.old ++ ring_passes passes.items }
-    ensures ring_same { returned_lanes ring_end.new ≡ returned_lanes ring_end.old }
+    ensures ring_passes { back_passes ring_end.new ≡ back_passes ring_end.old ++ ring_passes passes.items }
+    ensures ring_same { back_lanes ring_end.new ≡ back_lanes ring_end.old }
     ensures dealt { (dealt_lanes ring_end.new ≡ dealt_lanes ring_end.old)
         × (dealt_passes ring_end.new ≡ dealt_passes ring_end.old) }
 {

@@ -2,7 +2,7 @@
 use Rattle.std.specs.Prelude.{◌≡◌, ℕ, ◌<◌, List, [], ◌∷◌, map, length, slice_set}
 use Rattle.atomic_table.specs.Seated.{TableId}
 use Rattle.line_gate.specs.Gate.{GateId}
-use Rattle.line_ring.specs.Handle.{RingId, ring_id, is_lane as IsRingLane, is_pass as IsRingPass, is_end as IsRingEnd, lane_record as ring_lane_record, pass_record as ring_pass_record, dealt_lanes, dealt_passes, returned_lanes, returned_passes}
+use Rattle.line_ring.specs.Inner.Handle.{RingId, ring_id, is_lane as IsRingLane, is_pass as IsRingPass, is_end as IsRingEnd, lane_record as ring_lane_record, pass_record as ring_pass_record, dealt_lanes, dealt_passes, back_lanes, back_passes}
 use Rattle.line_gate.specs.declared.record.LaneEntries.{LaneEntries}
 use Rattle.line_gate.specs.declared.record.PassReadings.{PassReadings}
 use Rattle.line_ring.specs.declared.handle.RingEnd.{RingEnd}
@@ -41,8 +41,8 @@ is_pass id pass = (ring : RingId) × IsOf id pass.gate.gate ring × IsRingPass r
 pub record AllDealt (sizes : Sizes) (end : RingEnd QueuedJob) : Type 0 where
   pub lanes : dealt_lanes end ≡ sizes.lanes
   pub passes : dealt_passes end ≡ sizes.passes
-  pub no_lanes : returned_lanes end ≡ []
-  pub no_passes : returned_passes end ≡ []
+  pub no_lanes : back_lanes end ≡ []
+  pub no_passes : back_passes end ≡ []
 
 abbrev pub is_closer : LineId → RuledCloser → Type 0
 is_closer id closer = (ring : RingId) × IsOf id closer.gate.gate ring × IsRingEnd ring closer.ring × AllDealt id.sizes closer.ring

@@ -6,7 +6,7 @@ use Rattle.line_gate.specs.declared.record.LaneEntries.{LaneEntries}
 use Rattle.line_gate.specs.Record.{lanes_from}
 use Rattle.line_ring.specs.declared.record.LaneRecord.{LaneRecord as RingLaneRecord}
 use Rattle.line_ring.specs.Record.{fresh_lane as fresh_ring_lane}
-use Rattle.line_ring.specs.Handle.{ring_id, lane_record as ring_record}
+use Rattle.line_ring.specs.Inner.Handle.{ring_id, lane_record as ring_record}
 use Rattle.job_queue.specs.declared.record.QueuedJob.{QueuedJob}
 use Rattle.job_queue.specs.declared.record.LaneRecord.{LaneRecord}
 use Rattle.job_queue.specs.Record.{fresh_lane, fresh_lanes}
@@ -47,8 +47,8 @@ loop-preserved c =
       c.deal_lane-in_ring.ensures.end,
       c.deal_lane-in_ring.ensures.lanes ∙ ap (λ (n : ℕ). n + 1) inv.4,
       c.deal_lane-in_ring.ensures.passes ∙ inv.5,
-      c.deal_lane-in_ring.ensures.returned.0 ∙ inv.6,
-      c.deal_lane-in_ring.ensures.returned.1 ∙ inv.7,
+      c.deal_lane-in_ring.ensures.back.0 ∙ inv.6,
+      c.deal_lane-in_ring.ensures.back.1 ∙ inv.7,
       All-same (is_lane line) _ _ c.push_reserved.ensures.items (All-push (is_lane line) _ _ inv.8 (ring_id c.args.ring.now, (ap (λ (t : TableId). t ∷ (ring_id c.args.ring.now).table ∷ []) (sym c.deal_lane-at_gate.ensures.gates.1), refl, refl), c.deal_lane-in_ring.ensures.lane, number)),
       ap (map lane_record) c.push_reserved.ensures.items ∙ (map-append lane_record _ _ ∙ (ap (λ (rs : List LaneRecord). rs ++ joined_lane c.deal_lane-at_gate.result.known (ring_record c.deal_lane-in_ring.result) ∷ []) inv.9
           ∙ (ap (λ (r : LaneRecord). fresh_lanes i ++ r ∷ []) (fresh_joined_lane i _ _ at_gate.0 in_ring) ∙ ap fresh_lanes next))),

@@ -6,7 +6,7 @@ use Rattle.line_gate.specs.declared.record.PassReadings.{PassReadings}
 use Rattle.line_gate.specs.Record.{passes_from}
 use Rattle.line_ring.specs.declared.record.PassRecord.{PassRecord as RingPassRecord}
 use Rattle.line_ring.specs.Record.{fresh_pass as fresh_ring_pass}
-use Rattle.line_ring.specs.Handle.{ring_id, pass_record as ring_record}
+use Rattle.line_ring.specs.Inner.Handle.{ring_id, pass_record as ring_record}
 use Rattle.job_queue.specs.declared.record.QueuedJob.{QueuedJob}
 use Rattle.job_queue.specs.declared.record.PassRecord.{PassRecord}
 use Rattle.job_queue.specs.Record.{fresh_pass, fresh_passes}
@@ -32,8 +32,8 @@ loop-preserved c =
       c.deal_pass-in_ring.ensures.end,
       c.deal_pass-in_ring.ensures.passes ∙ ap (λ (n : ℕ). n + 1) inv.4,
       c.deal_pass-in_ring.ensures.lanes ∙ inv.5,
-      c.deal_pass-in_ring.ensures.returned.0 ∙ inv.6,
-      c.deal_pass-in_ring.ensures.returned.1 ∙ inv.7,
+      c.deal_pass-in_ring.ensures.back.0 ∙ inv.6,
+      c.deal_pass-in_ring.ensures.back.1 ∙ inv.7,
       All-same (is_pass line) _ _ c.push_reserved.ensures.items (All-push (is_pass line) _ _ inv.8 (ring_id c.args.ring.now, (ap (λ (t : TableId). t ∷ (ring_id c.args.ring.now).table ∷ []) (sym c.deal_pass-at_gate.ensures.gates.1), refl, refl), c.deal_pass-in_ring.ensures.pass)),
       ap (map pass_record) c.push_reserved.ensures.items ∙ (map-append pass_record _ _ ∙ (ap (λ (rs : List PassRecord). rs ++ joined_pass c.deal_pass-at_gate.result.known (ring_record c.deal_pass-in_ring.result) ∷ []) inv.9
           ∙ (ap (λ (r : PassRecord). fresh_passes i ++ r ∷ []) (fresh_joined_pass i _ _ at_gate.0 in_ring) ∙ ap fresh_passes next))),

@@ -4,7 +4,7 @@ use Rattle.line_gate.specs.declared.record.LaneEntries.{LaneEntries}
 use Rattle.line_gate.specs.declared.record.PassReadings.{PassReadings}
 use Rattle.line_ring.specs.declared.record.LaneRecord.{LaneRecord as RingLaneRecord}
 use Rattle.line_ring.specs.declared.record.PassRecord.{PassRecord as RingPassRecord}
-use Rattle.line_ring.specs.Handle.{ring_id, returned_lanes, returned_passes, lane_record as ring_lane_record, pass_record as ring_pass_record}
+use Rattle.line_ring.specs.Inner.Handle.{ring_id, back_lanes, back_passes, lane_record as ring_lane_record, pass_record as ring_pass_record}
 use Rattle.job_queue.specs.declared.record.QueuedJob.{QueuedJob}
 use Rattle.job_queue.specs.declared.ruled.handle.RuledLane.{RuledLane}
 use Rattle.job_queue.specs.Inner.Ruled.Handle.{line_of, is_lane, gate_lanes, ring_lanes, counts_after}
@@ -20,7 +20,7 @@ loop-lane-init c =
       refl,
       refl,
       c.requires.ring_end,
-      ap (λ (xs : List RuledLane). returned_lanes c.args.ring_end.now ++ ring_lanes xs) is,
+      ap (λ (xs : List RuledLane). back_lanes c.args.ring_end.now ++ ring_lanes xs) is,
       refl,
       refl,
       refl,
@@ -47,7 +47,7 @@ loop-lane-preserved c =
     let items = c.in-Some.ensures.items in
     let rest = c.pop_front.new.self.items in
     let G = c.loop-lane.gate_end.lanes in
-    let R = returned_lanes c.loop-lane.ring_end in
+    let R = back_lanes c.loop-lane.ring_end in
     let A = c.loop-lane.accepted.items in (
       c.gather_lane.ensures.gate,
       ap (λ (xs : List LaneEntries). xs ++ gate_lanes rest) c.gather_lane.ensures.lanes ∙ (append_assoc G (x.gate.known ∷ []) (gate_lanes rest) ∙ (ap (λ (xs : List RuledLane). G ++ gate_lanes xs) (sym items) ∙ inv.1)),

@@ -4,7 +4,7 @@ use Rattle.line_gate.specs.declared.record.LaneEntries.{LaneEntries}
 use Rattle.line_gate.specs.declared.record.PassReadings.{PassReadings}
 use Rattle.line_ring.specs.declared.record.LaneRecord.{LaneRecord as RingLaneRecord}
 use Rattle.line_ring.specs.declared.record.PassRecord.{PassRecord as RingPassRecord}
-use Rattle.line_ring.specs.Handle.{ring_id, returned_lanes, returned_passes, lane_record as ring_lane_record, pass_record as ring_pass_record}
+use Rattle.line_ring.specs.Inner.Handle.{ring_id, back_lanes, back_passes, lane_record as ring_lane_record, pass_record as ring_pass_record}
 use Rattle.job_queue.specs.declared.record.QueuedJob.{QueuedJob}
 use Rattle.job_queue.specs.declared.ruled.handle.RuledPass.{RuledPass}
 use Rattle.job_queue.specs.Inner.Ruled.Handle.{line_of, is_pass, gate_passes, ring_passes, counts_after}
@@ -20,7 +20,7 @@ loop-pass-init c =
       refl,
       refl,
       c.requires.ring_end,
-      ap (λ (xs : List RuledPass). returned_passes c.args.ring_end.now ++ ring_passes xs) is,
+      ap (λ (xs : List RuledPass). back_passes c.args.ring_end.now ++ ring_passes xs) is,
       refl,
       refl,
       refl,
@@ -45,7 +45,7 @@ loop-pass-preserved c =
     let items = c.in-Some.ensures.items in
     let rest = c.pop_front.new.self.items in
     let G = c.loop-pass.gate_end.passes in
-    let R = returned_passes c.loop-pass.ring_end in (
+    let R = back_passes c.loop-pass.ring_end in (
       c.gather_pass.ensures.gate,
       ap (λ (xs : List PassReadings). xs ++ gate_passes rest) c.gather_pass.ensures.passes ∙ (append_assoc G (x.gate.known ∷ []) (gate_passes rest) ∙ (ap (λ (xs : List RuledPass). G ++ gate_passes xs) (sym items) ∙ inv.1)),
       c.gather_pass.ensures.lanes ∙ inv.2,

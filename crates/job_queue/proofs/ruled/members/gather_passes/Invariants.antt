@@ -1,13 +1,13 @@
 use Rattle.std.proofs.Common.{◌≡◌, ◌++◌, length}
 use Rattle.std.specs.List.{All}
-use Rattle.line_ring.specs.Handle.{ring_id, is_end, dealt_lanes, dealt_passes, returned_lanes, returned_passes}
+use Rattle.line_ring.specs.Inner.Handle.{ring_id, is_end, dealt_lanes, dealt_passes, back_lanes, back_passes}
 use Rattle.job_queue.specs.Inner.Ruled.Handle.{line_of, is_pass, gate_passes, ring_passes}
 use Rattle.job_queue.proofs.ruled.members.gather_passes.Given as goal
 
 abbrev pub invariant-loop-pass : goal.invariant-loop-pass
 invariant-loop-pass l =
     (l.gate_end.gate ≡ l.gate.table) × (l.gate_end.passes ++ gate_passes l.passes.items ≡ l.fn.gate_end.passes ++ gate_passes l.fn.passes.items) × (l.gate_end.lanes ≡ l.fn.gate_end.lanes) × (l.gate_end.number ≡ l.fn.gate_end.number)
-    × is_end (ring_id l.ring) l.ring_end × (returned_passes l.ring_end ++ ring_passes l.passes.items ≡ returned_passes l.fn.ring_end ++ ring_passes l.fn.passes.items) × (returned_lanes l.ring_end ≡ returned_lanes l.fn.ring_end)
+    × is_end (ring_id l.ring) l.ring_end × (back_passes l.ring_end ++ ring_passes l.passes.items ≡ back_passes l.fn.ring_end ++ ring_passes l.fn.passes.items) × (back_lanes l.ring_end ≡ back_lanes l.fn.ring_end)
     × (dealt_lanes l.ring_end ≡ dealt_lanes l.fn.ring_end) × (dealt_passes l.ring_end ≡ dealt_passes l.fn.ring_end)
     × All (is_pass (line_of l.gate (ring_id l.ring))) l.passes.items
 

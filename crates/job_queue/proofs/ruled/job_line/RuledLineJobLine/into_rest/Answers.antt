@@ -7,7 +7,7 @@ use Rattle.line_gate.specs.declared.record.PassReadings.{PassReadings}
 use Rattle.line_gate.specs.Record.{IsSettled}
 use Rattle.line_ring.specs.declared.record.LaneRecord.{LaneRecord as RingLaneRecord}
 use Rattle.line_ring.specs.declared.record.PassRecord.{PassRecord as RingPassRecord}
-use Rattle.line_ring.specs.Handle.{returned_lanes, returned_passes}
+use Rattle.line_ring.specs.Inner.Handle.{back_lanes, back_passes}
 use Rattle.job_queue.specs.declared.record.QueuedJob.{QueuedJob}
 use Rattle.job_queue.specs.declared.ruled.handle.RuledLane.{RuledLane}
 use Rattle.job_queue.specs.Record.{accepted}

@@ -1,7 +1,7 @@
 use Rattle.std.proofs.Common.{◌≡◌, ◌∷◌, [], sym, refl, ap, ◌∙◌}
 use Rattle.atomic_table.specs.Seated.{TableId}
 use Rattle.line_gate.specs.declared.gate.Counts.{Counts}
-use Rattle.line_ring.specs.Handle.{ring_id}
+use Rattle.line_ring.specs.Inner.Handle.{ring_id}
 use Rattle.job_queue.proofs.ruled.job_line.RuledLineJobLine.open.Goals as goal
 
 pub returns-clause-closer : goal.returns-clause-closer
@@ -16,7 +16,7 @@ returns-clause-closer c =
       record {
         lanes = all.lanes ∙ (dealt.end.1 ∙ sym (ap (λ (x : Counts). x.lanes) counts));
         passes = all.end.1 ∙ sym (ap (λ (x : Counts). x.passes) counts);
-        no_lanes = all.back.0 ∙ (dealt.back.0 ∙ c.in-Ok-open.ensures.none_returned.0);
-        no_passes = all.back.1 ∙ (dealt.back.1 ∙ c.in-Ok-open.ensures.none_returned.1);
+        no_lanes = all.back.0 ∙ (dealt.back.0 ∙ c.in-Ok-open.ensures.none_back.0);
+        no_passes = all.back.1 ∙ (dealt.back.1 ∙ c.in-Ok-open.ensures.none_back.1);
       },
     )

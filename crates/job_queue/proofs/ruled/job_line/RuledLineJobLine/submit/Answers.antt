@@ -1,6 +1,6 @@
 use Rattle.std.proofs.Common.{◌≡◌, ℕ, length, List, sym, ap, ◌∙◌, arith}
 use Rattle.line_gate.specs.Record.{after_enter}
-use Rattle.line_ring.specs.Handle.{lane_record as ring_record}
+use Rattle.line_ring.specs.Inner.Handle.{lane_record as ring_record}
 use Rattle.job_queue.specs.declared.record.QueuedJob.{QueuedJob}
 use Rattle.job_queue.specs.Record.{job_id}
 use Rattle.job_queue.proofs.JoinLemmas.{joined_accepted, joined_length, joined_few, joined_put, put_gains_job, put_gains_none}
