@@ -7,9 +7,7 @@ ghost use Rattle.job_queue.specs.Line.{IsFor};
 
 use crate::pair::{Pair, both};
 use crate::running::run;
-use job_queue::{
-    JobLine, LockedLine, Opened, QueuedJob, Receipt, Refused, Rest, RuledLine, Sizes,
-};
+use job_queue::{JobLine, LockedLine, Opened, QueuedJob, Receipt, Refused, Rest, RuledLine, Sizes};
 use job_types::{Job, JobId, Kind, Op};
 use std::alloc::Global;
 use std::collections::VecDeque;
@@ -112,11 +110,7 @@ fn play<R: Wait, L: JobLine>(
 
 // The first job is accepted, the second finds the line full, and the third finds it closed.
 fn close_against_submit<R: Wait + Abort, L: JobLine>(rt: &R, alloc: Global) -> Result<(), Fail> {
-    let jobs = (
-        job(alloc, 0)?,
-        job(alloc, 0)?,
-        job(alloc, 0)?,
-    );
+    let jobs = (job(alloc, 0)?, job(alloc, 0)?, job(alloc, 0)?);
     let opened = L::open(alloc, sizes(1))?;
     let script = play(rt, opened, jobs);
     let id = JobId { lane: 0, seq: 0 };
