@@ -1,5 +1,5 @@
 -- What contracts say of the words of the command line.
-use Rattle.std.specs.Prelude.{ℕ, ◌<◌, ◌≤◌}
+use Rattle.std.specs.Prelude.{◌<◌, ◌≤◌}
 use Rattle.cube_shape.specs.declared.limits.TheConstants.{MAX_STATIONS}
 use Rattle.tree_bench.specs.declared.arguments.Measured.{Measured}
 use Rattle.tree_bench.specs.declared.arguments.Measured.TheVariants.{Threads, Solo, Bits}
