@@ -11,7 +11,7 @@ ghost use Rattle.uses.specs.Processors.{processors_in};
 use batch::answer_all;
 use cube_ledger::Ledger;
 use dispatcher::{Finished, Plain};
-use job_queue::LockedLine;
+use job_queue::RuledLine;
 use job_types::Job;
 use std::alloc::Global;
 use std::collections::VecDeque;
@@ -39,7 +39,7 @@ pub fn answer_and_count<R: Threads + Wait + Sync>(
         ≡ processors_in (map (λ replies. replies.items) answered.0.by_worker.items)
         answered.0.rest.items) }
 {
-    let Ok(finished) = answer_all::<R, LockedLine, TreeFloor, Plain>(
+    let Ok(finished) = answer_all::<R, RuledLine, TreeFloor, Plain>(
         rt, alloc, n, 4, 16, &Plain, jobs,
     ) else {
         return None;

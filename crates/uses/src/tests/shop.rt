@@ -1,11 +1,11 @@
-//! A shop over the tree, by hand: its only worker stands down, so the job is answered at the end.
+//! A shop with no lock, by hand: its only worker stands down, so the job is answered at the end.
 ghost use Rattle.std.specs.Prelude.{◌≡◌, IfOk};
 ghost use Rattle.job_queue.specs.Line.{IsFor};
 
 use super::single::{Single, finish};
 use dispatcher::Finished;
 use floors::Floor;
-use job_queue::{JobLine, LockedLine, Receipt, Refused};
+use job_queue::{JobLine, Receipt, Refused, RuledLine};
 use job_types::{Job, JobId, Kind, Op, Region};
 use std::alloc::Global;
 use std::sync::Wait;
@@ -79,7 +79,7 @@ fn a_close_comes_against_a_submit(rt: HostRuntime) -> Result<(), Fail> {
         job(rt.alloc(), &[3, 4])?,
         job(rt.alloc(), &[5, 6])?,
     );
-    let single = Single::<LockedLine, TreeFloor>::open(rt.alloc(), 2, 1)?;
+    let single = Single::<RuledLine, TreeFloor>::open(rt.alloc(), 2, 1)?;
     let Script {
         outcomes,
         close_number,
