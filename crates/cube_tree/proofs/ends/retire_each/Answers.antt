@@ -16,7 +16,7 @@ loop-station-preserved c =
       loads = ap (λ (m : Known). m.0.loads) merged ∙ ap (λ l. c.loop-station.seat.me.0.loads ++ l) own.no_loads ∙ append-nil _ ∙ c.loop-station.invariant.loads;
       of_tree = (All-pop (HasTable (id_of c.args.tree.now)) c.loop-station.stations.items c.pop.new.self.items _ c.pop.ensures.items c.loop-station.invariant.of_tree).0;
       gone = gone_more c.loop-station.seat.me _ _ own merged c.loop-station.invariant.gone;
-      there = λ s. there_more s c.loop-station.seat.me _ _ c.loop-station.stations.items c.pop.new.self.items c.in-Some.station own.entry own.one own.number_is merged c.in-Some.ensures.items c.in-Some.station.idle.number_is ∙ c.loop-station.invariant.there s;
+      there = λ s. there_more s c.loop-station.seat.me c.into_retired-retired.result.me _ c.loop-station.stations.items c.pop.new.self.items c.in-Some.station own.entry own.one own.number_is merged c.in-Some.ensures.items c.in-Some.station.idle.number_is ∙ c.loop-station.invariant.there s;
     }
 
 pub returns-clause-there : goal.returns-clause-there
