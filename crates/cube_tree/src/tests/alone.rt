@@ -1,5 +1,5 @@
 //! A machine with all its stations in one hand.
-ghost use Rattle.std.specs.Prelude.{◌≡◌, ◌<◌, ◌≤◌, IfSome};
+ghost use Rattle.std.specs.Prelude.{◌≡◌, ◌<◌, ◌≤◌};
 ghost use Rattle.cube_tree.specs.Handles.{size_with};
 ghost use Rattle.cube_tree.specs.Solo.{solo_dim, solo_size};
 
@@ -14,22 +14,17 @@ fn is_free(machine: &FreeMachine) -> bool {
     machine.words().iter().skip(1).all(|word| *word == 0)
 }
 
-// A machine of dimension `n`. Where there was no memory for its stations in one hand, the cube and its
-// stations, which are given back, are closed.
-fn made(rt: &impl Abort, alloc: Global, n: u32, stations: u32) -> Option<Solo>
+// A machine of dimension `n` with all its stations.
+fn made(rt: &impl Abort, alloc: Global, n: u32, stations: u32) -> Solo
     requires dim { n ≤ MAX_DIM }
     requires some { 0 < stations }
     requires few { stations ≤ MAX_STATIONS }
-    ensures { IfSome result (λ solo. solo_size solo ≡ size_with n stations) }
+    ensures { solo_size result ≡ size_with n stations }
 {
     let (cube, list) = opened(rt, alloc, n, stations);
     match Solo::new(alloc, cube, list) {
-        Ok(solo) => Some(solo),
-        Err((cube, list, _)) => {
-            let machine = cube.close_with(list);
-            assert!(rt; is_free(&machine));
-            None
-        }
+        Ok(solo) => solo,
+        Err(_) => panic!(rt; "no memory"),
     }
 }
 
@@ -53,9 +48,7 @@ fn taken(rt: &impl Abort, solo: &mut Solo, k: u32) -> Result<(usize, u64), SoloR
 
 #[test]
 fn the_lowest_station_gets_the_first_fit(rt: HostRuntime) {
-    let Some(mut solo) = made(&rt, rt.alloc(), 3, 4) else {
-        return;
-    };
+    let mut solo = made(&rt, rt.alloc(), 3, 4);
     assert_eq!(rt; solo.dim(), 3);
     assert_eq!(rt; taken(&rt, &mut solo, 1), Ok((0, 0)));
     assert_eq!(rt; taken(&rt, &mut solo, 0), Ok((1, 2)));
@@ -83,9 +76,7 @@ fn the_lowest_station_gets_the_first_fit(rt: HostRuntime) {
 
 #[test]
 fn each_station_of_the_largest_machine_holds(rt: HostRuntime) {
-    let Some(mut solo) = made(&rt, rt.alloc(), 10, 32) else {
-        return;
-    };
+    let mut solo = made(&rt, rt.alloc(), 10, 32);
     for number in 0..32u32 {
         assert_eq!(rt;
             taken(&rt, &mut solo, 0),
@@ -94,4 +85,15 @@ fn each_station_of_the_largest_machine_holds(rt: HostRuntime) {
     }
     assert_eq!(rt; taken(&rt, &mut solo, 0), Err(SoloRefused::NoStation));
     assert!(rt; is_free(&solo.close()));
+}
+
+// Where memory for it is refused, the cube and its stations are given back.
+#[test]
+fn a_machine_that_is_not_made_gives_all_back(rt: HostRuntime) {
+    let (cube, list) = opened(&rt, rt.alloc(), 2, 3);
+    let machine = match Solo::new(rt.alloc(), cube, list) {
+        Ok(solo) => solo.close(),
+        Err((cube, list, _)) => cube.close_with(list),
+    };
+    assert!(rt; is_free(&machine));
 }
