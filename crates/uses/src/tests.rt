@@ -5,6 +5,7 @@ ghost use Rattle.uses.specs.Extent.{IsExtentValue};
 
 mod answering;
 mod beside_bits;
+mod occupied;
 mod shop;
 mod single;
 
