@@ -1,8 +1,6 @@
 -- The members of a ruled line, as they are dealt out and come together again.
-use Rattle.std.proofs.Common.{◌≡◌, ◌≢◌, ℕ, suc, ◌+◌, ◌-◌, ◌<◌, ◌≤◌, List, [], ◌∷◌, ◌++◌, map, length, length-set, get_or, get_or-set_same, get_or-set_other, set, sym, refl, ap, ◌∙◌, subst, arith}
+use Rattle.std.proofs.Common.{◌≡◌, ℕ, suc, ◌+◌, ◌<◌, ◌≤◌, List, [], ◌∷◌, length, length-set, get_or, get_or-set_same, get_or-set_other, set, sym, refl, ap, ◌∙◌, subst, arith}
 use Rattle.std.specs.List.{AllByRecursion}
-use mathlib.Core.Logic.{dite}
-use native.Mathlib.Decide.{ℕ_discrete}
 use Rattle.histories.specs.Sums.{total, is_at}
 use Rattle.histories.proofs.SumLemmas.{is_at-same}
 use Rattle.atomic_table.specs.Seated.{TableId}
@@ -10,10 +8,10 @@ use Rattle.line_gate.specs.Gate.{GateId}
 use Rattle.line_gate.specs.declared.record.LaneEntries.{LaneEntries}
 use Rattle.line_gate.specs.declared.record.PassReadings.{PassReadings}
 use Rattle.line_gate.specs.Record.{fresh_lane as fresh_gate_lane, fresh_pass as fresh_gate_pass, lanes_from, passes_from}
-use Rattle.line_ring.specs.Inner.Handle.{RingId, is_lane as IsRingLane, is_pass as IsRingPass, is_end as IsRingEnd, lane_record as ring_lane_record, pass_record as ring_pass_record}
+use Rattle.line_ring.specs.Inner.Handle.{RingId, is_lane as IsRingLane, is_pass as IsRingPass, lane_record as ring_lane_record}
 use Rattle.job_queue.specs.declared.ruled.handle.RuledLane.{RuledLane}
 use Rattle.job_queue.specs.declared.ruled.handle.RuledPass.{RuledPass}
-use Rattle.job_queue.specs.Inner.Ruled.Handle.{line_of, IsOf, is_lane, is_pass, gate_lanes, ring_lanes, counts_after}
+use Rattle.job_queue.specs.Inner.Ruled.Handle.{line_of, IsOf, is_lane, is_pass, counts_after}
 
 cons_first : {A : Type 0} {x y : A} {xs ys : List A} → x ∷ xs ≡ y ∷ ys → x ≡ y
 cons_first e = cc

@@ -1,5 +1,5 @@
 -- The end of the gate and the end of the ring, joined: what they say of the line's lanes and passes.
-use Rattle.std.proofs.Common.{◌≡◌, ℕ, ◌+◌, ◌<◌, ◌≤◌, List, [], ◌∷◌, ◌++◌, map, length, get_or, sym, refl, ap, ◌∙◌, subst, arith}
+use Rattle.std.proofs.Common.{◌≡◌, ℕ, ◌+◌, ◌<◌, ◌≤◌, List, [], ◌∷◌, ◌++◌, map, length, get_or, sym, ap, ◌∙◌, subst, arith}
 use Rattle.std.specs.List.{AllByRecursion}
 use Rattle.histories.specs.Sums.{total, times, is_at}
 use Rattle.histories.proofs.SumLemmas.{total-map, total-same}
@@ -21,9 +21,9 @@ use Rattle.job_queue.specs.declared.record.PassRecord.{PassRecord}
 use Rattle.job_queue.specs.declared.record.Reading.{Reading}
 use Rattle.job_queue.specs.declared.ruled.handle.RuledLane.{RuledLane}
 use Rattle.job_queue.specs.declared.ruled.handle.RuledPass.{RuledPass}
-use Rattle.job_queue.specs.Record.{job_id, accepted, AreSeqs, Rises, Seals}
+use Rattle.job_queue.specs.Record.{accepted, AreSeqs, Rises, Seals}
 use Rattle.job_queue.specs.Run.{WholeRun}
-use Rattle.job_queue.specs.Inner.Ruled.Join.{with_jobs, reading_of}
+use Rattle.job_queue.specs.Inner.Ruled.Join.{reading_of}
 use Rattle.job_queue.specs.Line.{LineId}
 use Rattle.job_queue.specs.Inner.Ruled.Handle.{is_lane, lane_record, pass_record, gate_lanes, gate_passes, ring_lanes, ring_passes, counts_after}
 use Rattle.job_queue.proofs.JoinLemmas.{joined_accepted, total-with_jobs, each-with_jobs}

@@ -1,6 +1,6 @@
 -- The records of a lane at the gate and in the ring, joined.
-use Rattle.std.proofs.Common.{◌≡◌, ℕ, suc, ◌+◌, ◌<◌, ◌≤◌, Bool, true, false, Option, Some, None, Result, Ok, Err, List, [], ◌∷◌, ◌++◌, map, length, length-append, sym, refl, ap, ◌∙◌, subst, arith}
-use Rattle.std.proofs.lemmas.List.{append-nil, map-append}
+use Rattle.std.proofs.Common.{◌≡◌, ℕ, suc, ◌+◌, ◌<◌, ◌≤◌, Bool, true, false, Some, None, Result, Ok, Err, List, [], ◌∷◌, ◌++◌, length, length-append, sym, refl, ap, ◌∙◌, subst, arith}
+use Rattle.std.proofs.lemmas.List.{append-nil}
 use Rattle.std.specs.List.{AllByRecursion}
 use Rattle.histories.specs.Sums.{total}
 use Rattle.line_gate.specs.declared.gate.TheConstants.{MAX_ENTRIES}
@@ -15,7 +15,6 @@ use Rattle.job_types.specs.Job.{JobData}
 use Rattle.job_queue.specs.declared.job_line.Receipt.{Receipt}
 use Rattle.job_queue.specs.declared.record.QueuedJob.{QueuedJob}
 use Rattle.job_queue.specs.declared.record.Entry.{Entry}
-use Rattle.job_queue.specs.declared.record.LaneRecord.{LaneRecord}
 use Rattle.job_queue.specs.Record.{entry, queued, fresh_lane, fresh_pass, accepted}
 use Rattle.job_queue.specs.Line.{GainsEntry}
 use Rattle.job_queue.specs.Inner.Ruled.Join.{one_if, accepted_count, job_of_entry, jobs_after, with_jobs, joined_lane, joined_pass, IsJoined, Puts}

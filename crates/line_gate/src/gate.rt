@@ -37,8 +37,8 @@ pub trait Witness {
     fn spend(self);
 }
 
-/// The gate of a line. `F` is the token of a push that found the line full, and `E` that of a pop that
-/// found it empty.
+/// The gate of a line. `F` is the token of a push that found the line full, and `E` that of a pop
+/// that found it empty.
 pub struct Gate<F: Witness, E: Witness> {
     pub(crate) table: Table<(), View, Counts, GateRule, Global>,
     marker: PhantomData<(F, E)>,
@@ -130,7 +130,8 @@ impl<F: Witness, E: Witness> Gate<F, E> {
         self.table.shared.join_seat::<Gather>(&mut end.seat, seat);
     }
 
-    /// Ends a closed gate. It is given as many lanes and passes as it has, so these are all of them.
+    /// Ends a closed gate. It is given as many lanes and passes as it has, so these are all of
+    /// them.
     pub fn end(self, end: GateEnd)
         requires gate { end.gate ≡ self.table }
         requires all_lanes { length end.lanes ≡ self.counts.lanes }

@@ -1,5 +1,5 @@
-// What the callers of a gate hold. But for the members of a gate that was never used, none of it has
-// a `Drop`: it is spent in the gate's end.
+// What the callers of a gate hold. But for the members of a new gate, none of it has a `Drop`: it is
+// spent in the gate's end.
 use crate::view::View;
 use std::marker::Model;
 
@@ -17,7 +17,11 @@ impl Model for GateMembers {
 
     ghost Value = { MembersOf };
 
-    ghost view = { λ m. record { gate = m.seat.table_id; lanes = m.seat.me.0.lanes; passes = m.seat.me.0.passes } };
+    ghost view = { λ m. record {
+      gate = m.seat.table_id;
+      lanes = m.seat.me.0.lanes;
+      passes = m.seat.me.0.passes;
+    } };
 
     ghost invariant = { λ m. IsMembersSeat m.seat.me };
 }
@@ -99,7 +103,12 @@ impl Model for GateEnd {
 
     ghost Value = { EndOf };
 
-    ghost view = { λ g. record { gate = g.seat.table_id; lanes = g.seat.me.0.lanes; passes = g.seat.me.0.passes; number = g.number } };
+    ghost view = { λ g. record {
+      gate = g.seat.table_id;
+      lanes = g.seat.me.0.lanes;
+      passes = g.seat.me.0.passes;
+      number = g.number;
+    } };
 
     ghost invariant = { λ g. IsEndSeat g.seat.me g.number };
 }

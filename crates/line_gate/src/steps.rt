@@ -32,8 +32,8 @@ impl<F: Witness, E: Witness> Gate<F, E> {
         }
     }
 
-    /// Enters: the number of the entry, which is then pending. After the close it is the count that was
-    /// found, and the entry is late.
+    /// Enters: the number of the entry, which is then pending. After the close it is the count that
+    /// was found, and the entry is late.
     pub fn enter(&self, lane: &mut GateLane) -> Result<u64, u64>
         requires gate { lane.old.gate ≡ self.now.table }
         requires settled { IsSettled lane.old.known }
@@ -110,8 +110,8 @@ impl<F: Witness, E: Witness> Gate<F, E> {
             .load::<ReadSettled>(&mut pass.seat, SETTLED)
     }
 
-    /// Reads the count of entries and the closed mark, for a pass that found the line empty and has read
-    /// how many entries are settled.
+    /// Reads the count of entries and the closed mark, for a pass that found the line empty and has
+    /// read how many entries are settled.
     pub fn read_gate(&self, pass: &mut GatePass, _settled: u64, empty: E) -> Counted
         requires gate { pass.old.gate ≡ self.now.table }
         requires half { pass.old.known.settled ≡ Some _settled }

@@ -100,9 +100,11 @@ pub fn gather_lanes(
     requires slots { length accepted.old.items ≡ gate.now.counts.lanes }
     ensures gate_end { gate_end.new.gate ≡ gate.now.table }
     ensures gate_lanes { gate_end.new.lanes ≡ gate_end.old.lanes ++ gate_lanes lanes.items }
-    ensures gate_same { (gate_end.new.passes ≡ gate_end.old.passes) × (gate_end.new.number ≡ gate_end.old.number) }
+    ensures gate_same { (gate_end.new.passes ≡ gate_end.old.passes)
+        × (gate_end.new.number ≡ gate_end.old.number) }
     ensures ring_end { IsRingEnd (ring_id ring.now) ring_end.new }
-    ensures ring_lanes { back_lanes ring_end.new ≡ back_lanes ring_end.old ++ ring_lanes lanes.items }
+    ensures ring_lanes { back_lanes ring_end.new
+        ≡ back_lanes ring_end.old ++ ring_lanes lanes.items }
     ensures ring_same { back_passes ring_end.new ≡ back_passes ring_end.old }
     ensures dealt { (dealt_lanes ring_end.new ≡ dealt_lanes ring_end.old)
         × (dealt_passes ring_end.new ≡ dealt_passes ring_end.old) }
@@ -135,9 +137,11 @@ pub fn gather_passes(
     requires passes { All (is_pass (line_of gate.now (ring_id ring.now))) passes.items }
     ensures gate_end { gate_end.new.gate ≡ gate.now.table }
     ensures gate_passes { gate_end.new.passes ≡ gate_end.old.passes ++ gate_passes passes.items }
-    ensures gate_same { (gate_end.new.lanes ≡ gate_end.old.lanes) × (gate_end.new.number ≡ gate_end.old.number) }
+    ensures gate_same { (gate_end.new.lanes ≡ gate_end.old.lanes)
+        × (gate_end.new.number ≡ gate_end.old.number) }
     ensures ring_end { IsRingEnd (ring_id ring.now) ring_end.new }
-    ensures ring_passes { back_passes ring_end.new ≡ back_passes ring_end.old ++ ring_passes passes.items }
+    ensures ring_passes { back_passes ring_end.new
+        ≡ back_passes ring_end.old ++ ring_passes passes.items }
     ensures ring_same { back_lanes ring_end.new ≡ back_lanes ring_end.old }
     ensures dealt { (dealt_lanes ring_end.new ≡ dealt_lanes ring_end.old)
         × (dealt_passes ring_end.new ≡ dealt_passes ring_end.old) }

@@ -1,16 +1,15 @@
-use Rattle.std.proofs.Common.{◌≡◌, ℕ, suc, ◌+◌, ◌-◌, ◌<◌, ◌∷◌, ◌++◌, [], List, map, length, sym, refl, ap, ◌∙◌, subst, arith}
+use Rattle.std.proofs.Common.{◌≡◌, ℕ, suc, ◌+◌, ◌-◌, ◌<◌, ◌∷◌, ◌++◌, [], List, map, length, sym, refl, ap, ◌∙◌, arith}
 use Rattle.std.proofs.lemmas.List.{map-append}
 use Rattle.std.proofs.lemmas.List.Elements.{All-push, All-same}
 use Rattle.atomic_table.specs.Seated.{TableId}
-use Rattle.line_gate.specs.declared.record.LaneEntries.{LaneEntries}
 use Rattle.line_gate.specs.Record.{lanes_from}
 use Rattle.line_ring.specs.declared.record.LaneRecord.{LaneRecord as RingLaneRecord}
 use Rattle.line_ring.specs.Record.{fresh_lane as fresh_ring_lane}
 use Rattle.line_ring.specs.Inner.Handle.{ring_id, lane_record as ring_record}
 use Rattle.job_queue.specs.declared.record.QueuedJob.{QueuedJob}
 use Rattle.job_queue.specs.declared.record.LaneRecord.{LaneRecord}
-use Rattle.job_queue.specs.Record.{fresh_lane, fresh_lanes}
-use Rattle.job_queue.specs.Inner.Ruled.Join.{joined_lane, IsJoined}
+use Rattle.job_queue.specs.Record.{fresh_lanes}
+use Rattle.job_queue.specs.Inner.Ruled.Join.{joined_lane}
 use Rattle.job_queue.specs.Inner.Ruled.Handle.{line_of, is_lane, lane_record}
 use Rattle.job_queue.proofs.JoinLemmas.{fresh_joined, fresh_joined_lane}
 use Rattle.job_queue.proofs.DealtLemmas.{next_lane}

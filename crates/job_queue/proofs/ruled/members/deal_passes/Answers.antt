@@ -1,15 +1,12 @@
-use Rattle.std.proofs.Common.{◌≡◌, ℕ, suc, ◌+◌, ◌-◌, ◌<◌, ◌∷◌, ◌++◌, [], List, map, length, sym, refl, ap, ◌∙◌, subst, arith}
+use Rattle.std.proofs.Common.{◌≡◌, ℕ, suc, ◌+◌, ◌-◌, ◌∷◌, ◌++◌, [], List, map, sym, refl, ap, ◌∙◌, arith}
 use Rattle.std.proofs.lemmas.List.{map-append}
 use Rattle.std.proofs.lemmas.List.Elements.{All-push, All-same}
 use Rattle.atomic_table.specs.Seated.{TableId}
-use Rattle.line_gate.specs.declared.record.PassReadings.{PassReadings}
 use Rattle.line_gate.specs.Record.{passes_from}
-use Rattle.line_ring.specs.declared.record.PassRecord.{PassRecord as RingPassRecord}
 use Rattle.line_ring.specs.Record.{fresh_pass as fresh_ring_pass}
 use Rattle.line_ring.specs.Inner.Handle.{ring_id, pass_record as ring_record}
-use Rattle.job_queue.specs.declared.record.QueuedJob.{QueuedJob}
 use Rattle.job_queue.specs.declared.record.PassRecord.{PassRecord}
-use Rattle.job_queue.specs.Record.{fresh_pass, fresh_passes}
+use Rattle.job_queue.specs.Record.{fresh_passes}
 use Rattle.job_queue.specs.Inner.Ruled.Join.{joined_pass}
 use Rattle.job_queue.specs.Inner.Ruled.Handle.{line_of, is_pass, pass_record}
 use Rattle.job_queue.proofs.JoinLemmas.{fresh_joined_pass}

@@ -1,13 +1,11 @@
-use Rattle.std.proofs.Common.{◌≡◌, ℕ, ◌∷◌, ◌++◌, [], List, map, length, length-set, append_assoc, sym, refl, ap, ◌∙◌, subst, arith}
+use Rattle.std.proofs.Common.{◌∷◌, ◌++◌, [], List, append_assoc, sym, refl, ap, ◌∙◌}
 use Rattle.std.proofs.lemmas.List.Elements.{All-head, All-rest, All-same}
-use Rattle.line_gate.specs.declared.record.LaneEntries.{LaneEntries}
 use Rattle.line_gate.specs.declared.record.PassReadings.{PassReadings}
-use Rattle.line_ring.specs.declared.record.LaneRecord.{LaneRecord as RingLaneRecord}
 use Rattle.line_ring.specs.declared.record.PassRecord.{PassRecord as RingPassRecord}
-use Rattle.line_ring.specs.Inner.Handle.{ring_id, back_lanes, back_passes, lane_record as ring_lane_record, pass_record as ring_pass_record}
+use Rattle.line_ring.specs.Inner.Handle.{ring_id, back_passes, pass_record as ring_pass_record}
 use Rattle.job_queue.specs.declared.record.QueuedJob.{QueuedJob}
 use Rattle.job_queue.specs.declared.ruled.handle.RuledPass.{RuledPass}
-use Rattle.job_queue.specs.Inner.Ruled.Handle.{line_of, is_pass, gate_passes, ring_passes, counts_after}
+use Rattle.job_queue.specs.Inner.Ruled.Handle.{line_of, is_pass, gate_passes, ring_passes}
 use Rattle.job_queue.proofs.DealtLemmas.{pass_here}
 use Rattle.job_queue.proofs.ruled.members.gather_passes.Goals as goal
 

@@ -1,4 +1,4 @@
-use Rattle.std.proofs.Common.{◌≡◌, ◌∷◌, [], sym, refl, ap, ◌∙◌}
+use Rattle.std.proofs.Common.{◌∷◌, [], sym, refl, ap, ◌∙◌}
 use Rattle.atomic_table.specs.Seated.{TableId}
 use Rattle.line_gate.specs.declared.gate.Counts.{Counts}
 use Rattle.line_ring.specs.Inner.Handle.{ring_id}

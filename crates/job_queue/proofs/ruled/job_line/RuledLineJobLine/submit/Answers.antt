@@ -1,4 +1,4 @@
-use Rattle.std.proofs.Common.{◌≡◌, ℕ, length, List, sym, ap, ◌∙◌, arith}
+use Rattle.std.proofs.Common.{length, List, sym, ap, ◌∙◌, arith}
 use Rattle.line_gate.specs.Record.{after_enter}
 use Rattle.line_ring.specs.Inner.Handle.{lane_record as ring_record}
 use Rattle.job_queue.specs.declared.record.QueuedJob.{QueuedJob}
