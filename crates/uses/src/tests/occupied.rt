@@ -1,5 +1,6 @@
 //! What the words of a machine in one hand say of its free regions.
 
+ghost use Rattle.std.specs.Prelude.{◌≡◌};
 ghost use Rattle.cube_tree.specs.Solo.{solo_dim, solo_size};
 
 use cube_ledger::{Occupancy, occupancy};
