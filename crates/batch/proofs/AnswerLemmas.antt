@@ -22,9 +22,9 @@ use Rattle.job_queue.specs.declared.record.QueuedJob.{QueuedJob}
 use Rattle.job_queue.specs.declared.record.LaneRecord.{LaneRecord}
 use Rattle.job_queue.specs.Record.{job_id, queued, accepted, job_of, accepted_jobs, AreSeqs}
 use Rattle.dispatcher.specs.Reply.{answered, IsRight}
-use Rattle.dispatcher.specs.Finished.{weight_of, FinishedRun}
+use Rattle.dispatcher.specs.Finished.{Outcome, weight_of}
 use Rattle.crew.specs.Run.{UnfedJobs, AreCounts, IsRun}
-use Rattle.batch.specs.Answers.{with_ids_from, lanes_with_ids, jobs_with_ids, all_replies, AnswersAll}
+use Rattle.batch.specs.Answers.{with_ids_from, lanes_with_ids, jobs_with_ids, all_replies, AnswersAll, IsWholeBatch}
 use Rattle.batch.specs.Stop.{AreAllFed}
 use Rattle.batch.proofs.PermutationLemmas.{balanced}
 
@@ -178,11 +178,10 @@ module _ (weight : QueuedJob → ℕ) where
       let others : List ReplyData = flat_map (λ rs. rs) by_worker in
       omega (arith, ap (total weight) (map-append answered replies others), total-append weight (map answered replies) (map answered others), replies_weigh by_worker)
 
-  all_weigh : (n : ℕ) (jobs : List (List JobData)) (lanes : List LaneRecord) (by_worker : List (List ReplyData)) (rest : List ReplyData) (note : ℕ) → FinishedRun n lanes by_worker rest note → AllByRecursion (IsFed jobs) lanes
-      → ((k : ℕ) → k < length jobs → times k (map (λ l. l.number) lanes) ≡ 1) → total weight (jobs_with_ids jobs) ≡ total weight (map answered (all_replies by_worker rest))
+  all_weigh : (n : ℕ) (jobs : List (List JobData)) (o : Outcome) → IsWholeBatch n jobs o → total weight (jobs_with_ids jobs) ≡ total weight (map answered (all_replies o.by_worker o.rest))
   unfolding lane_weight
-  all_weigh n jobs lanes by_worker rest note run fed numbers =
-      let flat : List ReplyData = flat_map (λ replies. replies) by_worker in
+  all_weigh n jobs o whole =
+      let flat : List ReplyData = flat_map (λ replies. replies) o.by_worker in
       let none_past : (k : ℕ) → length jobs ≤ k → lane_weight jobs k ≡ 0 = λ k past. ap (λ (js : List JobData). total weight (with_ids_from k 0 js)) (get_or_past jobs k [] past) in
       let at_zero : below (λ k. total weight (with_ids_from (0 + k) 0 (get_or jobs k []))) (length jobs) ≡ below (lane_weight jobs) (length jobs) =
       below-same _ _ (length jobs) (λ k within. ap (λ (i : ℕ). total weight (with_ids_from i 0 (get_or jobs k []))) (omega arith)) in
@@ -190,12 +189,12 @@ module _ (weight : QueuedJob → ℕ) where
         arith,
         jobs_weigh 0 jobs,
         at_zero,
-        once_each (lane_weight jobs) (length jobs) none_past (map (λ l. l.number) lanes) numbers,
-        lanes_weigh jobs lanes run.seqs fed,
-        run.balance weight,
-        replies_weigh by_worker,
-        ap (total weight) (map-append answered flat rest),
-        total-append weight (map answered flat) (map answered rest),
+        once_each (lane_weight jobs) (length jobs) none_past (map (λ l. l.number) whole.lanes) whole.numbers,
+        lanes_weigh jobs whole.lanes whole.finished.seqs whole.fed,
+        whole.finished.balance weight,
+        replies_weigh o.by_worker,
+        ap (total weight) (map-append answered flat o.rest),
+        total-append weight (map answered flat) (map answered o.rest),
       )
 
 -- ---- the replies
@@ -208,21 +207,30 @@ each_flat : {A : Type 0} (P : A → Type 0) (xss : List (List A)) → AllByRecur
 each_flat P [] all = tt
 each_flat P (xs ∷ xss) all = each_append P xs (flat_map (λ ys. ys) xss) all.0 (each_flat P xss all.1)
 
--- where all jobs were handed in, each has one right reply, and there is no other
-pub answers_all : (n : ℕ) (jobs : List (List JobData)) (by_worker : List (List ReplyData)) (rest : List ReplyData) (unfed : List UnfedJobs) → IsRun n jobs by_worker rest unfed → AreAllFed unfed → AnswersAll n jobs by_worker rest
-answers_all n jobs by_worker rest unfed run empty =
-    let fed = all_accepted jobs run.lanes unfed run.fed empty in
-    let flat : List ReplyData = flat_map (λ replies. replies) by_worker in
+-- where all jobs were handed in, each lane has accepted its list
+pub whole_batch : (n : ℕ) (jobs : List (List JobData)) (o : Outcome) (unfed : List UnfedJobs) → IsRun n jobs o unfed → AreAllFed unfed → IsWholeBatch n jobs o
+whole_batch n jobs o unfed run empty = record {
+  lanes = run.lanes;
+  note = run.note;
+  finished = run.finished;
+  fed = all_accepted jobs run.lanes unfed run.fed empty;
+  numbers = run.numbers;
+}
+
+-- then each job has one right reply, and there is no other
+pub answers_all : (n : ℕ) (jobs : List (List JobData)) (o : Outcome) → IsWholeBatch n jobs o → AnswersAll n jobs o.by_worker o.rest
+answers_all n jobs o whole =
+    let flat : List ReplyData = flat_map (λ replies. replies) o.by_worker in
     record {
-      answers = balanced same_job (jobs_with_ids jobs) (map answered (all_replies by_worker rest)) (λ weight. all_weigh weight n jobs run.lanes by_worker rest run.note run.finished fed run.numbers);
-      right = All-from_recursion (IsRight n) (all_replies by_worker rest) (each_append (IsRight n) flat rest (each_flat (IsRight n) by_worker run.finished.right) run.finished.rest_right);
+      answers = balanced same_job (jobs_with_ids jobs) (map answered (all_replies o.by_worker o.rest)) (λ weight. all_weigh weight n jobs o whole);
+      right = All-from_recursion (IsRight n) (all_replies o.by_worker o.rest) (each_append (IsRight n) flat o.rest (each_flat (IsRight n) o.by_worker whole.finished.right) whole.finished.rest_right);
     }
 
 -- ---- how many jobs the lanes have accepted
 
 -- the counts of the lanes are those of their lists, where all jobs were handed in
-pub counts_all : (n : ℕ) (jobs : List (List JobData)) (by_worker : List (List ReplyData)) (rest : List ReplyData) (counts : List ℕ) (unfed : List UnfedJobs) → IsRun n jobs by_worker rest unfed → AreCounts jobs counts unfed → AreAllFed unfed → counts ≡ map length jobs
-counts_all n jobs by_worker rest counts unfed run sums empty =
+pub counts_all : (n : ℕ) (jobs : List (List JobData)) (o : Outcome) (counts : List ℕ) (unfed : List UnfedJobs) → IsRun n jobs o unfed → AreCounts jobs counts unfed → AreAllFed unfed → counts ≡ map length jobs
+counts_all n jobs o counts unfed run sums empty =
     same_number_lists counts (map length jobs) (sums.lanes ∙ sym (length-map jobs length))
     (λ k within. of_lane k run.lanes unfed run.fed sums.sums empty (run.numbers k (omega (arith, within, sums.lanes))) ∙ sym (map_at jobs k))
   where

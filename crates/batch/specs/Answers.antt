@@ -1,11 +1,14 @@
 -- The jobs of a batch with their ids, and what its replies say.
-use Rattle.std.specs.Prelude.{ℕ, ◌+◌, List, [], ◌∷◌, ◌++◌, map, flat_map, IsPermutation}
-use Rattle.std.specs.List.{All}
+use Rattle.std.specs.Prelude.{◌≡◌, ℕ, ◌+◌, ◌<◌, List, [], ◌∷◌, ◌++◌, map, length, flat_map, slice_index_or, IsPermutation}
+use Rattle.std.specs.List.{All, AllByRecursion as Each}
+use Rattle.histories.specs.Sums.{times}
 use Rattle.job_types.specs.Job.{JobData}
 use Rattle.job_types.specs.Reply.{ReplyData}
 use Rattle.job_queue.specs.declared.record.QueuedJob.{QueuedJob}
-use Rattle.job_queue.specs.Record.{job_id, queued}
+use Rattle.job_queue.specs.declared.record.LaneRecord.{LaneRecord}
+use Rattle.job_queue.specs.Record.{job_id, queued, accepted_jobs}
 use Rattle.dispatcher.specs.Reply.{answered, IsRight}
+use Rattle.dispatcher.specs.Finished.{Outcome, FinishedRun}
 
 -- the jobs of a lane with their ids, numbered from seq on
 abbrev pub with_ids_from : ℕ → ℕ → List JobData → List QueuedJob
@@ -29,3 +32,14 @@ all_replies by_worker rest = flat_map (λ replies. replies) by_worker ++ rest
 pub record AnswersAll (n : ℕ) (jobs : List (List JobData)) (by_worker : List (List ReplyData)) (rest : List ReplyData) : Type 0 where
   pub answers : IsPermutation (jobs_with_ids jobs) (map answered (all_replies by_worker rest))
   pub right : All (IsRight n) (all_replies by_worker rest)
+
+-- A shop of a machine of dimension n has finished, with a lane for each of these lists, and each lane has
+-- accepted exactly its list. With the records of the lanes and the number of the close note:
+pub record IsWholeBatch (n : ℕ) (jobs : List (List JobData)) (o : Outcome) : Type 0 where
+  pub lanes : List LaneRecord
+  pub note : ℕ
+  -- the theorem of a finished shop
+  pub finished : FinishedRun n lanes note o
+  pub fed : Each (λ l. accepted_jobs l ≡ slice_index_or jobs l.number []) lanes
+  -- the lanes are the numbers below the count, each once
+  pub numbers : (k : ℕ) → k < length jobs → times k (map (λ l. l.number) lanes) ≡ 1

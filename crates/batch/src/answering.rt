@@ -2,11 +2,11 @@
 ghost use Rattle.std.specs.Prelude.{◌≡◌, ◌≢◌, ℕ, ◌^◌, ◌<◌, ◌++◌, [], None, Some, IfOk, IfErr, ◌↔◌, IsTrue, ⊤, true, not, ◌&&◌, if◌then◌else◌, map, length, slice_index_or};
 ghost use Rattle.std.specs.List.{All};
 ghost use Rattle.job_queue.specs.Line.{IsFor};
-ghost use Rattle.floors.specs.Floor.{IsWhollyFree};
 ghost use Rattle.dispatcher.specs.Opening.{refusal_of};
 ghost use Rattle.dispatcher.specs.Stop.{given_back};
+ghost use Rattle.dispatcher.specs.Finished.{outcome};
 ghost use Rattle.crew.specs.Run.{unfed_by, IsRun};
-ghost use Rattle.batch.specs.Answers.{AnswersAll};
+ghost use Rattle.batch.specs.Answers.{AnswersAll, IsWholeBatch};
 ghost use Rattle.batch.specs.Stop.{is_closed, is_spent, reason_of, AreAllFed};
 ghost use Rattle.batch.specs.Stopped.{MatchStopped};
 
@@ -134,13 +134,13 @@ where
     requires lanes { length jobs.items < 2 ^ 32 }
     requires made_for { (k : ℕ) → k < length jobs.items →
         All (IsFor n k) (slice_index_or (map (λ js. js.items) jobs.items) k []) }
+    ensures run { IfOk result (λ finished. IsWholeBatch n (map (λ js. js.items) jobs.items)
+        (outcome F.machine_words finished)) }
     ensures answers { IfOk result (λ finished. AnswersAll n (map (λ js. js.items) jobs.items)
         (map (λ replies. replies.items) finished.by_worker.items) finished.rest.items) }
     ensures accepted { IfOk result (λ finished.
         finished.accepted.items ≡ map (λ js. length js.items) jobs.items) }
     ensures dim { IfOk result (λ finished. F.machine_dim finished.machine ≡ n) }
-    ensures free { IfOk result (λ finished.
-        IsWhollyFree n (F.machine_words finished.machine)) }
     ensures sizes { IfOk result (λ finished.
         refusal_of n (length jobs.items) dispatchers capacity ≡ None) }
     ensures refused { IfErr result (λ stopped. MatchStopped stopped
@@ -152,9 +152,9 @@ where
         (λ why end. refusal_of n (length jobs.items) dispatchers capacity ≡ None)) }
     ensures unfinished { IfErr result (λ stopped. MatchStopped stopped (λ why back. ⊤)
         (λ why end. IsRun n (map (λ js. js.items) jobs.items)
-        (map (λ replies. replies.items) end.finished.by_worker.items) end.finished.rest.items
-        (map (λ u. unfed_by u.lane (given_back u.back ++ u.left.items) u.stop) end.unfed.items)
-        × IsWhollyFree n (F.machine_words end.finished.machine))) }
+        (outcome F.machine_words end.finished)
+        (map (λ u. unfed_by u.lane (given_back u.back ++ u.left.items) u.stop)
+        end.unfed.items))) }
     ensures reason { IfErr result (λ stopped. MatchStopped stopped (λ why back. ⊤)
         (λ why end. why ≡ reason_of end.all_started (map (λ u. u.stop) end.unfed.items))) }
     ensures not_done { IfErr result (λ stopped. MatchStopped stopped (λ why back. ⊤)

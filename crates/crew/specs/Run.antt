@@ -3,13 +3,12 @@ use Rattle.std.specs.Prelude.{◌≡◌, ℕ, ◌+◌, ◌<◌, ◌≤◌, ◌++
 use Rattle.std.specs.List.{All, AllZip}
 use Rattle.histories.specs.Sums.{times}
 use Rattle.job_types.specs.Job.{JobData}
-use Rattle.job_types.specs.Reply.{ReplyData}
 use Rattle.job_queue.specs.declared.job_line.TheConstants.{MAX_ENTRIES}
 use Rattle.job_queue.specs.declared.record.LaneRecord.{LaneRecord}
 use Rattle.job_queue.specs.Record.{accepted_jobs}
 use Rattle.dispatcher.specs.declared.feeding.FeedStop.{FeedStop}
 use Rattle.dispatcher.specs.declared.feeding.FeedStop.TheVariants.{Done, Closed, LaneSpent}
-use Rattle.dispatcher.specs.Finished.{FinishedRun}
+use Rattle.dispatcher.specs.Finished.{Outcome, FinishedRun}
 use Rattle.dispatcher.specs.Stop.{EndsWith}
 
 -- the jobs that a lane did not hand in, and why its feed stopped, or None where it was never run
@@ -30,13 +29,13 @@ IsStopOf lane jobs (Some Done) = jobs ≡ []
 IsStopOf lane jobs (Some (Closed seen)) = EndsWith lane.seen seen
 IsStopOf lane jobs (Some LaneSpent) = MAX_ENTRIES ≤ length lane.entries
 
--- The jobs of each lane, the replies of each worker and of the rest, and what the lanes did not hand in.
--- With the records of the lanes and the number of the close note:
-pub record IsRun (n : ℕ) (jobs : List (List JobData)) (by_worker : List (List ReplyData)) (rest : List ReplyData) (unfed : List UnfedJobs) : Type 0 where
+-- The jobs of each lane, what the finished shop answers, and what the lanes did not hand in. With the
+-- records of the lanes and the number of the close note:
+pub record IsRun (n : ℕ) (jobs : List (List JobData)) (o : Outcome) (unfed : List UnfedJobs) : Type 0 where
   pub lanes : List LaneRecord
   pub note : ℕ
-  -- each accepted job has one right reply
-  pub finished : FinishedRun n lanes by_worker rest note
+  -- the theorem of a finished shop
+  pub finished : FinishedRun n lanes note o
   -- what a lane accepted, followed by what it did not hand in, are its jobs
   pub fed : AllZip (λ l u. (u.lane ≡ l.number) × (accepted_jobs l ++ u.jobs ≡ slice_index_or jobs l.number [])) lanes unfed
   -- each feed stopped as it says

@@ -5,10 +5,10 @@ ghost use Rattle.std.specs.Vec.{vec_capacity};
 ghost use Rattle.job_types.specs.Job.{JobData};
 ghost use Rattle.job_queue.specs.Record.{fresh_lanes};
 ghost use Rattle.job_queue.specs.Line.{IsFor};
-ghost use Rattle.floors.specs.Floor.{IsWhollyFree};
 ghost use Rattle.dispatcher.specs.Opening.{refusal_of};
 ghost use Rattle.dispatcher.specs.Shop.{room_for};
 ghost use Rattle.dispatcher.specs.Stop.{given_back};
+ghost use Rattle.dispatcher.specs.Finished.{outcome};
 ghost use Rattle.crew.specs.Run.{unfed_by, AreCounts, IsRun};
 
 use crate::gang::Gang;
@@ -170,14 +170,13 @@ where
     requires unfed { (room.unfed.items ≡ [])
         × (length opened.lanes.items ≤ vec_capacity room.unfed) }
     ensures run { IsRun J.shop.floor.dim (map (λ js. js.items) jobs.items)
-        (map (λ replies. replies.items) result.finished.by_worker.items) result.finished.rest.items
+        (outcome F.machine_words result.finished)
         (map (λ u. unfed_by u.lane (given_back u.back ++ u.left.items) u.stop) result.unfed.items) }
     ensures workers { length result.finished.by_worker.items ≡ J.shop.line.sizes.passes }
     ensures started { result.all_started ≡ true → All (λ u. IsSome u.stop) result.unfed.items }
     ensures counts { AreCounts (map (λ js. js.items) jobs.items) result.finished.accepted.items
         (map (λ u. unfed_by u.lane (given_back u.back ++ u.left.items) u.stop) result.unfed.items) }
     ensures dim { F.machine_dim result.finished.machine ≡ J.shop.floor.dim }
-    ensures free { IsWhollyFree J.shop.floor.dim (F.machine_words result.finished.machine) }
 {
     let Opened {
         shop,
@@ -249,7 +248,7 @@ where
     requires made_for { (k : ℕ) → k < length jobs.items →
         All (IsFor n k) (slice_index_or (map (λ js. js.items) jobs.items) k []) }
     ensures run { IfOk result (λ end. IsRun n (map (λ js. js.items) jobs.items)
-        (map (λ replies. replies.items) end.finished.by_worker.items) end.finished.rest.items
+        (outcome F.machine_words end.finished)
         (map (λ u. unfed_by u.lane (given_back u.back ++ u.left.items) u.stop) end.unfed.items)) }
     ensures workers { IfOk result (λ end. length end.finished.by_worker.items ≡ dispatchers) }
     ensures started { IfOk result (λ end.
@@ -258,8 +257,6 @@ where
         end.finished.accepted.items
         (map (λ u. unfed_by u.lane (given_back u.back ++ u.left.items) u.stop) end.unfed.items)) }
     ensures dim { IfOk result (λ end. F.machine_dim end.finished.machine ≡ n) }
-    ensures free { IfOk result (λ end.
-        IsWhollyFree n (F.machine_words end.finished.machine)) }
     ensures accepted { IfOk result (λ end.
         refusal_of n (length jobs.items) dispatchers capacity ≡ None) }
     ensures refused { IfErr result (λ r. r.0 ≢ ShopRefused.OutOfMemory →

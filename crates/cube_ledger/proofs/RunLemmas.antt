@@ -6,7 +6,7 @@ use Rattle.job_types.specs.Reply.{ReplyData}
 use Rattle.job_queue.specs.declared.record.QueuedJob.{QueuedJob}
 use Rattle.job_queue.specs.declared.record.LaneRecord.{LaneRecord}
 use Rattle.job_queue.specs.Record.{accepted}
-use Rattle.dispatcher.specs.Finished.{FinishedRun, weight_of}
+use Rattle.dispatcher.specs.Finished.{Outcome, FinishedRun, weight_of}
 use Rattle.dispatcher.specs.Reply.{answered, IsRight}
 use Rattle.cube_ledger.specs.declared.slip.Slip.{Slip}
 use Rattle.cube_ledger.specs.Ledger.{HasAllSlips, slip_of}
@@ -21,11 +21,11 @@ module _ (n : ℕ) (weight : Slip → ℕ) (job_weight : QueuedJob → ℕ) (sam
   of_workers [] right = refl
   of_workers (replies ∷ by_worker) right = omega (arith, of_replies replies right.0, of_workers by_worker right.1)
 
-  pub slips_of_run : (lanes : List LaneRecord) (by_worker : List (List ReplyData)) (rest : List ReplyData) (note : ℕ) (slips : List Slip) → FinishedRun n lanes by_worker rest note → HasAllSlips by_worker rest slips → total weight slips ≡ total (λ l. total job_weight (accepted l.entries)) lanes
-  slips_of_run lanes by_worker rest note slips run all = omega (
+  pub slips_of_run : (lanes : List LaneRecord) (note : ℕ) (o : Outcome) (slips : List Slip) → FinishedRun n lanes note o → HasAllSlips o.by_worker o.rest slips → total weight slips ≡ total (λ l. total job_weight (accepted l.entries)) lanes
+  slips_of_run lanes note o slips run all = omega (
     arith,
     all weight,
-    of_workers by_worker run.right,
-    of_replies rest run.rest_right,
+    of_workers o.by_worker run.right,
+    of_replies o.rest run.rest_right,
     run.balance job_weight,
   )

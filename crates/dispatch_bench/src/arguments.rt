@@ -12,6 +12,8 @@ pub const DIM: u32 = 10;
 /// The run that is to be measured.
 #[derive(Clone, Copy)]
 pub struct Invocation {
+    /// Whether the shop is the one with no lock.
+    pub is_free: bool,
     /// The numbers of each job: a power of two, one for each processor at most.
     pub items: usize,
     pub lanes: u32,
@@ -31,14 +33,18 @@ pub fn arguments<R: Env + AllocGlobal>(rt: &R) -> io::Result<Vec<String>> {
 pub fn parse_arguments(arguments: &[String]) -> Option<Invocation>
     ensures { IfSome result (λ it. it.lanes ≤ MAX_LANES) }
 {
-    if arguments.len() != 6 {
+    if arguments.len() != 7 {
         return None;
     }
-    let items = arguments[1].parse::<usize>().ok()?;
-    let lanes = arguments[2].parse::<u32>().ok()?;
-    let dispatchers = arguments[3].parse::<u32>().ok()?;
-    let capacity = arguments[4].parse::<usize>().ok()?;
-    let jobs = arguments[5].parse::<usize>().ok()?;
+    let is_free = arguments[1].as_str() == "free";
+    if !is_free && arguments[1].as_str() != "locked" {
+        return None;
+    }
+    let items = arguments[2].parse::<usize>().ok()?;
+    let lanes = arguments[3].parse::<u32>().ok()?;
+    let dispatchers = arguments[4].parse::<u32>().ok()?;
+    let capacity = arguments[5].parse::<usize>().ok()?;
+    let jobs = arguments[6].parse::<usize>().ok()?;
     if !items.is_power_of_two() || items > 1 << DIM || lanes > MAX_LANES {
         return None;
     }
@@ -46,6 +52,7 @@ pub fn parse_arguments(arguments: &[String]) -> Option<Invocation>
         return None;
     }
     Some(Invocation {
+        is_free,
         items,
         lanes,
         dispatchers,

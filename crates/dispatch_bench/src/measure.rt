@@ -5,8 +5,8 @@ use crate::arguments::{DIM, Invocation};
 use crate::jobs::jobs_of_all;
 use crew::run;
 use dispatcher::{Finished, Plain};
-use floors::LockedFloor;
-use job_queue::LockedLine;
+use floors::Floor;
+use job_queue::JobLine;
 use job_types::MAX_LANES;
 use std::alloc::Global;
 use std::io;
@@ -38,17 +38,24 @@ fn elapsed<R: Clock>(rt: &R, start: io::Result<Instant>) -> Option<u128> {
     Some(elapsed.as_nanos())
 }
 
-/// Runs a new shop over the locked line and the locked floor.
-pub fn measure<R: Threads + Wait + Sync + Clock>(
+/// Runs a new shop over this line and this floor.
+pub fn measure<R: Threads + Wait + Sync + Clock, L: JobLine + Sync, F: Floor + Sync>(
     rt: &R,
     alloc: Global,
     invocation: Invocation,
 ) -> Option<Measured>
+where
+    L::Lane: Send,
+    L::Pass: Send,
+    L::Closer: Send,
+    L::Note: Send,
+    F::Station: Send,
+    F::Machine: Drop,
     requires { invocation.lanes ≤ MAX_LANES }
 {
     let lists = jobs_of_all(alloc, invocation)?;
     let start = Instant::now(rt);
-    let ran = run::<R, LockedLine, LockedFloor, Plain>(
+    let ran = run::<R, L, F, Plain>(
         rt,
         alloc,
         DIM,

@@ -1,9 +1,10 @@
 -- From what the line says at its end to what the replies say.
-use Rattle.std.proofs.Common.{◌≡◌, ◌∷◌, [], ◌++◌, List, map, ℕ, refl, sym, ap, subst, ◌∙◌, arith}
+use Rattle.std.proofs.Common.{◌≡◌, ◌<◌, ◌∷◌, [], ◌++◌, List, length, map, ℕ, refl, sym, ap, subst, ◌∙◌, arith}
 use Rattle.std.specs.List.{All, AllByRecursion}
 use Rattle.std.proofs.lemmas.List.{map-append}
 use Rattle.std.proofs.lemmas.List.Elements.{All-head, All-tail}
-use Rattle.histories.specs.Sums.{total}
+use Rattle.floors.specs.Floor.{IsWhollyFree}
+use Rattle.histories.specs.Sums.{total, times}
 use Rattle.histories.proofs.SumLemmas.{total-map}
 use Rattle.histories.proofs.ViewLemmas.{all_weaker}
 use Rattle.job_types.specs.Reply.{ReplyData}
@@ -13,7 +14,8 @@ use Rattle.job_queue.specs.declared.record.PassRecord.{PassRecord}
 use Rattle.job_queue.specs.Record.{Rises}
 use Rattle.job_queue.specs.Run.{WholeRun}
 use Rattle.dispatcher.specs.Reply.{answered, IsRight}
-use Rattle.dispatcher.specs.Finished.{weight_of, FinishedRun}
+use Rattle.dispatcher.specs.Finished.{Outcome, weight_of, FinishedRun}
+use Rattle.dispatcher.proofs.OnceLemmas.{Balance, Counts, answered_once, no_other}
 
 -- what holds of each, read one by one
 pub each_of : {A : Type 0} (P : A → Type 0) (xs : List A) → All P xs → AllByRecursion P xs
@@ -45,23 +47,29 @@ module _ {E P V : Type 0} (pass_of : E → P) (record_of : P → PassRecord) (re
       let Own : E → Type 0 = λ x. All (IsRight n) (items_of (replies_of x)) in
       (each_of (IsRight n) (items_of (replies_of e)) (All-head Own e es all), replies_right n es (All-tail Own e es all))
 
--- the lanes, passes and jobs of a whole run, as replies
-pub finished : (n : ℕ) (lanes : List LaneRecord) (passes : List PassRecord) (by_worker : List (List ReplyData)) (jobs : List QueuedJob) (rest : List ReplyData) (note : ℕ) → WholeRun lanes passes jobs note
-    → map (λ p. p.taken) passes ≡ map (map answered) by_worker → map answered rest ≡ jobs → AllByRecursion (AllByRecursion (IsRight n)) by_worker → AllByRecursion (IsRight n) rest → FinishedRun n lanes by_worker rest note
-finished n lanes passes by_worker jobs rest note run taken left right rest_right =
-    let together : (rs : List ReplyData) → map answered rs ++ jobs ≡ map answered (rs ++ rest) = λ rs. ap (λ (js : List QueuedJob). map answered rs ++ js) (sym left) ∙ sym (map-append answered rs rest) in
+-- the lanes, passes and jobs of a whole run, as what the shop answers
+pub finished : (n count : ℕ) (lanes : List LaneRecord) (passes : List PassRecord) (jobs : List QueuedJob) (note : ℕ) (o : Outcome) → WholeRun lanes passes jobs note
+    → map (λ p. p.taken) passes ≡ map (map answered) o.by_worker → map answered o.rest ≡ jobs → AllByRecursion (AllByRecursion (IsRight n)) o.by_worker → AllByRecursion (IsRight n) o.rest
+    → length o.accepted ≡ count → ((k : ℕ) → k < count → times k (map (λ l. l.number) lanes) ≡ 1) → Counts lanes o → IsWhollyFree n o.words → FinishedRun n lanes note o
+finished n count lanes passes jobs note o run taken left right rest_right size numbers counts free =
+    let together : (rs : List ReplyData) → map answered rs ++ jobs ≡ map answered (rs ++ o.rest) = λ rs. ap (λ (js : List QueuedJob). map answered rs ++ js) (sym left) ∙ sym (map-append answered rs o.rest) in
+    let balance : Balance lanes o = λ weight.
+    let passes_weigh : total (λ (p : PassRecord). total weight p.taken) passes ≡ total (weight_of weight) o.by_worker =
+    sym (total-map (total weight) (λ (p : PassRecord). p.taken) passes) ∙ (ap (total (total weight)) taken ∙ total-map (total weight) (map answered) o.by_worker) in
+    omega (arith, run.balance weight, passes_weigh, ap (total weight) left) in
     record {
-      balance = λ weight.
-          let passes_weigh : total (λ (p : PassRecord). total weight p.taken) passes ≡ total (weight_of weight) by_worker =
-          sym (total-map (total weight) (λ (p : PassRecord). p.taken) passes) ∙ (ap (total (total weight)) taken ∙ total-map (total weight) (map answered) by_worker) in
-          omega (arith, run.balance weight, passes_weigh, ap (total weight) left);
+      balance = balance;
       seqs = run.seqs;
-      rises = all_weaker (λ (rs : List ReplyData). Rises (map answered rs ++ jobs)) (λ rs. Rises (map answered (rs ++ rest))) (λ rs risen. subst Rises (together rs) risen) by_worker
-          (of_each_part (λ (ts : List QueuedJob). Rises (ts ++ jobs)) (map answered) by_worker
+      counts = counts;
+      answered_once = λ lane seq within. answered_once lane seq count lanes o balance run.seqs size numbers counts within;
+      no_other = λ lane seq past. no_other lane seq lanes o balance run.seqs counts past;
+      rises = all_weaker (λ (rs : List ReplyData). Rises (map answered rs ++ jobs)) (λ rs. Rises (map answered (rs ++ o.rest))) (λ rs risen. subst Rises (together rs) risen) o.by_worker
+          (of_each_part (λ (ts : List QueuedJob). Rises (ts ++ jobs)) (map answered) o.by_worker
           (subst (AllByRecursion (λ (ts : List QueuedJob). Rises (ts ++ jobs))) taken
           (each_part (λ (ts : List QueuedJob). Rises (ts ++ jobs)) (λ (p : PassRecord). p.taken) passes run.rises)));
       rest_rises = subst Rises (sym left) run.rest_rises;
+      entered_before = run.entered_before;
       right = right;
       rest_right = rest_right;
-      entered_before = run.entered_before;
+      free = free;
     }

@@ -13,11 +13,21 @@ use Rattle.job_queue.specs.declared.record.QueuedJob.{QueuedJob}
 use Rattle.job_queue.specs.declared.record.LaneRecord.{LaneRecord}
 use Rattle.job_queue.specs.Record.{accepted, AreSeqs, job_id}
 use Rattle.dispatcher.specs.Reply.{answered}
-use Rattle.dispatcher.specs.Finished.{is_to, replies_to, weight_of, FinishedRun}
+use Rattle.dispatcher.specs.Finished.{Outcome, is_to, replies_to, weight_of}
 
 -- 1 for the job of this lane and seq, and 0 for any other
 abbrev is_job : ℕ → ℕ → QueuedJob → ℕ
 is_job lane seq job = is_at lane job.id.lane * is_at seq job.id.seq
+
+-- the accepted jobs weigh what was answered; they are seqs from 0 on; they are as many as are counted
+abbrev pub Balance : List LaneRecord → Outcome → Type 0
+Balance lanes o = (weight : QueuedJob → ℕ) → total (λ l. total weight (accepted l.entries)) lanes ≡ total (weight_of weight) o.by_worker + weight_of weight o.rest
+
+abbrev pub Seqs : List LaneRecord → Type 0
+Seqs lanes = AllByRecursion (λ l. AreSeqs l.number 0 (accepted l.entries)) lanes
+
+abbrev pub Counts : List LaneRecord → Outcome → Type 0
+Counts lanes o = AllByRecursion (λ l. get_or o.accepted l.number 0 ≡ length (accepted l.entries)) lanes
 
 total-each : {A : Type 0} (f g : A → ℕ) (xs : List A) → AllByRecursion (λ x. f x ≡ g x) xs → total f xs ≡ total g xs
 total-each f g [] all = refl
@@ -87,26 +97,23 @@ module _ (lane seq : ℕ) where
   all_uncounted counts (l ∷ lanes) seqs count past = (uncounted counts l seqs.0 count.0 past, all_uncounted counts lanes seqs.1 count.1 past)
 
   -- the replies to the job weigh what the accepted jobs do
-  replied : (n : ℕ) (lanes : List LaneRecord) (by_worker : List (List ReplyData)) (rest : List ReplyData) (note : ℕ) → FinishedRun n lanes by_worker rest note
-      → replies_to lane seq by_worker rest ≡ total (λ l. total (is_job lane seq) (accepted l.entries)) lanes
-  replied n lanes by_worker rest note run =
+  replied : (lanes : List LaneRecord) (o : Outcome) → Balance lanes o → replies_to lane seq o ≡ total (λ l. total (is_job lane seq) (accepted l.entries)) lanes
+  replied lanes o balance =
       let one : (rs : List ReplyData) → weight_of (is_job lane seq) rs ≡ total (is_to lane seq) rs = λ rs. total-map (is_job lane seq) answered rs in
-      omega (arith, run.balance (is_job lane seq), one rest, sum_of by_worker)
+      omega (arith, balance (is_job lane seq), one o.rest, sum_of o.by_worker)
     where
       sum_of : (rss : List (List ReplyData)) → total (weight_of (is_job lane seq)) rss ≡ total (total (is_to lane seq)) rss
       sum_of [] = refl
       sum_of (rs ∷ rss) = omega (arith, total-map (is_job lane seq) answered rs, sum_of rss)
 
-  pub answered_once : (n count : ℕ) (lanes : List LaneRecord) (by_worker : List (List ReplyData)) (rest : List ReplyData) (note : ℕ) (counts : List ℕ) → FinishedRun n lanes by_worker rest note → length counts ≡ count
-      → ((k : ℕ) → k < count → times k (map (λ l. l.number) lanes) ≡ 1) → AllByRecursion (λ l. get_or counts l.number 0 ≡ length (accepted l.entries)) lanes → seq < get_or counts lane 0 → replies_to lane seq by_worker rest ≡ 1
-  answered_once n count lanes by_worker rest note counts run size numbers accepted_by within =
-      let below : lane < count = ⊎_elim (λ (is : lane < count). is) (λ (past : count ≤ lane). absurd (omega (arith, within, get_or_past counts lane 0 (omega (arith, past, size))))) (cases_lt lane count) in
-      replied n lanes by_worker rest note run
-      ∙ (total-each (λ l. total (is_job lane seq) (accepted l.entries)) (λ l. is_at lane l.number) lanes (all_counted counts lanes run.seqs accepted_by within)
+  pub answered_once : (count : ℕ) (lanes : List LaneRecord) (o : Outcome) → Balance lanes o → Seqs lanes → length o.accepted ≡ count → ((k : ℕ) → k < count → times k (map (λ l. l.number) lanes) ≡ 1) → Counts lanes o → seq < get_or o.accepted lane 0 → replies_to lane seq o ≡ 1
+  answered_once count lanes o balance seqs size numbers counts within =
+      let below : lane < count = ⊎_elim (λ (is : lane < count). is) (λ (past : count ≤ lane). absurd (omega (arith, within, get_or_past o.accepted lane 0 (omega (arith, past, size))))) (cases_lt lane count) in
+      replied lanes o balance
+      ∙ (total-each (λ l. total (is_job lane seq) (accepted l.entries)) (λ l. is_at lane l.number) lanes (all_counted o.accepted lanes seqs counts within)
       ∙ (sym (total-map (is_at lane) (λ (l : LaneRecord). l.number) lanes) ∙ numbers lane below))
 
-  pub no_other : (n : ℕ) (lanes : List LaneRecord) (by_worker : List (List ReplyData)) (rest : List ReplyData) (note : ℕ) (counts : List ℕ) → FinishedRun n lanes by_worker rest note
-      → AllByRecursion (λ l. get_or counts l.number 0 ≡ length (accepted l.entries)) lanes → get_or counts lane 0 ≤ seq → replies_to lane seq by_worker rest ≡ 0
-  no_other n lanes by_worker rest note counts run accepted_by past =
-      replied n lanes by_worker rest note run
-      ∙ total-none (λ l. total (is_job lane seq) (accepted l.entries)) lanes (all_uncounted counts lanes run.seqs accepted_by past)
+  pub no_other : (lanes : List LaneRecord) (o : Outcome) → Balance lanes o → Seqs lanes → Counts lanes o → get_or o.accepted lane 0 ≤ seq → replies_to lane seq o ≡ 0
+  no_other lanes o balance seqs counts past =
+      replied lanes o balance
+      ∙ total-none (λ l. total (is_job lane seq) (accepted l.entries)) lanes (all_uncounted o.accepted lanes seqs counts past)

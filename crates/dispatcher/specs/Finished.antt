@@ -1,12 +1,30 @@
--- What all replies of a shop say together with the records of its lanes, once it has finished.
-use Rattle.std.specs.Prelude.{◌≡◌, ℕ, ◌+◌, ◌*◌, ◌<◌, List, ◌++◌, map}
+-- What a shop says once it has finished: the theorem on all of its jobs, replies and words.
+use Rattle.std.specs.Prelude.{◌≡◌, ℕ, ◌+◌, ◌*◌, ◌<◌, ◌≤◌, List, ◌++◌, map, length, slice_index}
 use Rattle.std.specs.List.{AllByRecursion as Each}
 use Rattle.histories.specs.Sums.{total, is_at}
 use Rattle.job_types.specs.Reply.{ReplyData}
 use Rattle.job_queue.specs.declared.record.QueuedJob.{QueuedJob}
 use Rattle.job_queue.specs.declared.record.LaneRecord.{LaneRecord}
 use Rattle.job_queue.specs.Record.{accepted, AreSeqs, Rises}
+use Rattle.floors.specs.Floor.{IsWhollyFree}
 use Rattle.dispatcher.specs.Reply.{answered, IsRight}
+use Rattle.dispatcher.specs.declared.finishing.Finished.{Finished}
+
+-- what `finish` answers: the replies of each worker and those to the jobs that no worker took, the number
+-- of accepted jobs of each lane, at the lane's number, and the words of the machine
+pub record Outcome : Type 0 where
+  pub by_worker : List (List ReplyData)
+  pub rest : List ReplyData
+  pub accepted : List ℕ
+  pub words : List ℕ
+
+abbrev pub outcome : {M : Type 0} → (M → List ℕ) → Finished M → Outcome
+outcome words_of finished = record {
+  by_worker = map (λ replies. replies.items) finished.by_worker.items;
+  rest = finished.rest.items;
+  accepted = finished.accepted.items;
+  words = words_of finished.machine;
+}
 
 -- how the jobs of these replies weigh
 abbrev pub weight_of : (QueuedJob → ℕ) → List ReplyData → ℕ
@@ -17,22 +35,28 @@ abbrev pub is_to : ℕ → ℕ → ReplyData → ℕ
 is_to lane seq reply = is_at lane reply.id.lane * is_at seq reply.id.seq
 
 -- how many replies there are to the job of this lane and seq
-abbrev pub replies_to : ℕ → ℕ → List (List ReplyData) → List ReplyData → ℕ
-replies_to lane seq by_worker rest = total (total (is_to lane seq)) by_worker + total (is_to lane seq) rest
+abbrev pub replies_to : ℕ → ℕ → Outcome → ℕ
+replies_to lane seq o = total (total (is_to lane seq)) o.by_worker + total (is_to lane seq) o.rest
 
--- The machine's dimension, the records of all lanes, the replies of each worker, those to the jobs
--- that no worker took, and the number of the close note.
-pub record FinishedRun (n : ℕ) (lanes : List LaneRecord) (by_worker : List (List ReplyData)) (rest : List ReplyData) (note : ℕ) : Type 0 where
-  -- however the jobs are weighed, those that were accepted weigh what was answered: each has exactly
-  -- one reply, with the id and the job of its acceptance
-  pub balance : (weight : QueuedJob → ℕ) → total (λ l. total weight (accepted l.entries)) lanes ≡ total (weight_of weight) by_worker + weight_of weight rest
-  -- a lane's accepted jobs are its seqs 0, 1, 2 and so on
+-- The theorem, for the machine's dimension, the records of all lanes, the number of the close note and
+-- what `finish` answers.
+pub record FinishedRun (n : ℕ) (lanes : List LaneRecord) (note : ℕ) (o : Outcome) : Type 0 where
+  -- However the jobs are weighed, those that were accepted weigh what was answered: an accepted job was
+  -- taken at most once, and each has exactly one reply, with the id and the job of its acceptance.
+  pub balance : (weight : QueuedJob → ℕ) → total (λ l. total weight (accepted l.entries)) lanes ≡ total (weight_of weight) o.by_worker + weight_of weight o.rest
+  -- a lane's accepted jobs are its seqs 0, 1, 2 and so on, as many as are counted
   pub seqs : Each (λ l. AreSeqs l.number 0 (accepted l.entries)) lanes
-  -- in the replies of a worker, followed by the rest, a lane's seqs rise
-  pub rises : Each (λ replies. Rises (map answered (replies ++ rest))) by_worker
-  pub rest_rises : Rises (map answered rest)
-  -- each reply is right
-  pub right : Each (Each (IsRight n)) by_worker
-  pub rest_right : Each (IsRight n) rest
-  -- each accepted job entered before the close
+  pub counts : Each (λ l. slice_index o.accepted l.number ≡ length (accepted l.entries)) lanes
+  -- each of these has one reply, and there is no other reply
+  pub answered_once : (lane seq : ℕ) → seq < slice_index o.accepted lane → replies_to lane seq o ≡ 1
+  pub no_other : (lane seq : ℕ) → slice_index o.accepted lane ≤ seq → replies_to lane seq o ≡ 0
+  -- each lane's in its order: in the replies of a worker, followed by the rest, a lane's seqs rise
+  pub rises : Each (λ replies. Rises (map answered (replies ++ o.rest))) o.by_worker
+  pub rest_rises : Rises (map answered o.rest)
+  -- none that entered after the close: each entry's number is below the note's
   pub entered_before : Each (λ l. Each (λ e. e.number < note) l.entries) lanes
+  -- each reply is right
+  pub right : Each (Each (IsRight n)) o.by_worker
+  pub rest_right : Each (IsRight n) o.rest
+  -- the machine is wholly free
+  pub free : IsWhollyFree n o.words

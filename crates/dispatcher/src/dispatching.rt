@@ -64,7 +64,7 @@ pub fn dispatch<R: Wait, L: JobLine, F: Floor, T: Runner>(
                 pause.reset();
             }
             Taken::EmptyNow => pause.wait(rt),
-            Taken::Ended => {
+            Taken::Ended(_) => {
                 return WorkerEnd {
                     pass,
                     station,

@@ -1,14 +1,12 @@
 //! The end of a shop.
-ghost use Rattle.std.specs.Prelude.{◌≡◌, ℕ, ◌<◌, ◌≤◌, [], map, length, slice_index};
+ghost use Rattle.std.specs.Prelude.{◌≡◌, ℕ, ◌<◌, ◌≤◌, [], map, length};
 ghost use Rattle.std.specs.List.{All};
 ghost use Rattle.std.specs.Vec.{vec_capacity};
 ghost use Rattle.histories.specs.Sums.{times};
-ghost use Rattle.floors.specs.Floor.{IsWhollyFree};
-ghost use Rattle.job_queue.specs.Record.{accepted};
 ghost use Rattle.job_queue.specs.Line.{IsMadeFor};
 ghost use Rattle.dispatcher.specs.Shop.{room_for};
 ghost use Rattle.dispatcher.specs.Reply.{answered, IsRight};
-ghost use Rattle.dispatcher.specs.Finished.{replies_to, FinishedRun};
+ghost use Rattle.dispatcher.specs.Finished.{outcome, FinishedRun};
 
 use crate::room::Gathered;
 use crate::runner::Runner;
@@ -90,23 +88,13 @@ impl<L: JobLine, F: Floor> Shop<L, F> {
         requires note { L.is_note self.line note.line }
         requires room { note.room ≡ room_for self }
         ensures finished { FinishedRun self.floor.dim (map L.lane_record lanes.items)
-            (map (λ replies. replies.items) result.by_worker.items) result.rest.items
-            (L.note_number note.line) }
-        ensures answered_once { (lane seq : ℕ) → seq < slice_index result.accepted.items lane →
-            replies_to lane seq (map (λ replies. replies.items) result.by_worker.items)
-            result.rest.items ≡ 1 }
-        ensures no_other { (lane seq : ℕ) → slice_index result.accepted.items lane ≤ seq →
-            replies_to lane seq (map (λ replies. replies.items) result.by_worker.items)
-            result.rest.items ≡ 0 }
+            (L.note_number note.line) (outcome F.machine_words result) }
         ensures by_worker { map (λ replies. replies.items) result.by_worker.items
             ≡ map (λ e. e.replies.items) ends.items }
         ensures lane_numbers { (k : ℕ) → k < self.line.sizes.lanes →
             times k (map (λ l. (L.lane_record l).number) lanes.items) ≡ 1 }
         ensures lane_count { length result.accepted.items ≡ self.line.sizes.lanes }
-        ensures accepted { All (λ l. slice_index result.accepted.items (L.lane_record l).number
-            ≡ length (accepted (L.lane_record l).entries)) lanes.items }
         ensures dim { F.machine_dim result.machine ≡ self.floor.dim }
-        ensures free { IsWhollyFree self.floor.dim (F.machine_words result.machine) }
     {
         let CloseNote { line: note, room } = note;
         let Gathered {

@@ -9,3 +9,4 @@ pub mod HandleLemmas
 pub mod JoinLemmas
 pub mod DealtLemmas
 pub mod EndJoinLemmas
+pub mod LentLemmas

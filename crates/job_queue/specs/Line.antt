@@ -44,17 +44,17 @@ GainsRefusal old LaneSpent new = new ≡ old
 abbrev pub taken_by : Taken → List QueuedJob
 taken_by (Job id job) = queued id job ∷ []
 taken_by EmptyNow = []
-taken_by Ended = []
+taken_by (Ended saw) = []
 
 -- What the call read. Where it found the line empty to the end it read once, and its answer is
 -- Ended exactly where that reading seals the line.
 abbrev pub GainsReading : List Reading → Taken → List Reading → Type 0
 GainsReading old (Job id job) new = (new ≡ old) ⊎ ((r : Reading) × (new ≡ old ++ r ∷ []) × Seals r)
 GainsReading old EmptyNow new = (r : Reading) × (new ≡ old ++ r ∷ []) × ¬ Seals r
-GainsReading old Ended new = (r : Reading) × (new ≡ old ++ r ∷ []) × Seals r
+GainsReading old (Ended saw) new = (r : Reading) × (new ≡ old ++ r ∷ []) × Seals r
 
 -- a job that was taken is for this machine
 abbrev pub TakesMadeFor : ℕ → Taken → Type 0
 TakesMadeFor machine (Job id job) = IsMadeFor machine (queued id job)
 TakesMadeFor machine EmptyNow = Unit {0}
-TakesMadeFor machine Ended = Unit {0}
+TakesMadeFor machine (Ended saw) = Unit {0}

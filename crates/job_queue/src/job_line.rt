@@ -6,6 +6,7 @@ ghost use Rattle.job_queue.specs.Record.{queued, fresh_lanes, fresh_passes, acce
 ghost use Rattle.job_queue.specs.Line.{LineId, next_id, GainsEntry, GainsRefusal, GainsReading, taken_by, IsMadeFor, TakesMadeFor};
 ghost use Rattle.job_queue.specs.Run.{WholeRun};
 
+use crate::end::SawEnd;
 use crate::record::QueuedJob;
 use job_types::{Job, JobId, MAX_LANES};
 use std::alloc::{AllocError, Global};
@@ -77,7 +78,7 @@ pub enum Taken {
     /// The line was empty, and jobs may still come.
     EmptyNow,
     /// The line was empty, and no job will come.
-    Ended,
+    Ended(SawEnd),
 }
 
 /// What is left of a line.

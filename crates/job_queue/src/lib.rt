@@ -6,6 +6,7 @@
 //! `LockedLine` is the plainest line that meets it.
 #![tactic(auto)]
 
+mod end;
 mod job_line;
 mod locked;
 mod record;
@@ -13,6 +14,7 @@ mod ruled;
 #[cfg(test)]
 mod tests;
 
+pub use end::SawEnd;
 pub use job_line::{
     JobLine, MAX_CAPACITY, MAX_ENTRIES, MAX_PASSES, Opened, Receipt, Refused, Rest, Sizes, Taken,
 };

@@ -9,3 +9,4 @@ mod view;
 
 pub use handle::{CloseNote, Closer, Lane, Pass};
 pub use line::LockedLine;
+pub use store::SawEmpty;

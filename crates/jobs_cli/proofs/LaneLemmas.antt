@@ -31,7 +31,7 @@ cons_is_empty : (job : JobData) (jobs : List JobData) → job ∷ jobs ≡ [] �
 cons_is_empty job jobs e = let bad : suc (length jobs) ≡ 0 = ap length e in absurd (omega (arith, bad))
 
 -- no job is in a lane that is past those of all jobs
-past_all : (fewer lane : ℕ) (jobs : List JobData) → fewer ≤ lane → All (λ job. job.lane < fewer) jobs → in_lane lane jobs ≡ []
+pub past_all : (fewer lane : ℕ) (jobs : List JobData) → fewer ≤ lane → All (λ job. job.lane < fewer) jobs → in_lane lane jobs ≡ []
 past_all fewer lane [] le below = refl
 past_all fewer lane (job ∷ jobs) le below =
     let first : job.lane < fewer = below 0 job (omega arith) in

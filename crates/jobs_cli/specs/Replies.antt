@@ -1,12 +1,36 @@
 -- The replies to a file of jobs: one for each job, under the job's id.
-use Rattle.std.specs.Prelude.{List, map, IsPermutation}
+use Rattle.std.specs.Prelude.{◌≡◌, ℕ, ◌<◌, List, map, IsPermutation}
+use Rattle.std.specs.List.{AllByRecursion as Each}
+use Rattle.histories.specs.Sums.{times}
 use Rattle.job_types.specs.Job.{JobData}
 use Rattle.job_types.specs.Reply.{ReplyData}
+use Rattle.job_queue.specs.declared.record.LaneRecord.{LaneRecord}
+use Rattle.job_queue.specs.Record.{accepted_jobs}
 use Rattle.dispatcher.specs.Reply.{answered}
+use Rattle.dispatcher.specs.Finished.{Outcome, FinishedRun}
+use Rattle.batch.specs.Answers.{all_replies}
 use Rattle.batch.specs.Order.{AreSorted}
+use Rattle.jobs_csv.specs.Lanes.{in_lane}
 use Rattle.jobs_cli.specs.JobIds.{with_ids}
+use Rattle.jobs_cli.specs.OpenLanes.{IsLaneCount}
 
--- these are the replies to the jobs of a file, by lane and in a lane by number
-pub record AreReplies (jobs : List JobData) (replies : List ReplyData) : Type 0 where
+-- A shop of a machine of dimension n has finished, whose lanes have accepted the jobs of a file. With the
+-- number of open lanes, their records and the number of the close note:
+pub record IsRunOf (n : ℕ) (jobs : List JobData) (o : Outcome) : Type 0 where
+  pub count : ℕ
+  pub lanes : List LaneRecord
+  pub note : ℕ
+  -- the theorem of a finished shop
+  pub finished : FinishedRun n lanes note o
+  -- each open lane is there once, and has accepted the jobs of the file that are its own, in file order
+  pub open_lanes : IsLaneCount jobs count
+  pub numbers : (k : ℕ) → k < count → times k (map (λ l. l.number) lanes) ≡ 1
+  pub fed : Each (λ l. accepted_jobs l ≡ in_lane l.number jobs) lanes
+
+-- these are the replies of a run of the jobs of a file, by lane and in a lane by number
+pub record AreReplies (n : ℕ) (jobs : List JobData) (replies : List ReplyData) : Type 0 where
+  pub outcome : Outcome
+  pub run : IsRunOf n jobs outcome
+  pub all : IsPermutation (all_replies outcome.by_worker outcome.rest) replies
   pub same : IsPermutation (with_ids jobs) (map answered replies)
   pub sorted : AreSorted replies

@@ -62,7 +62,7 @@ where
     W: Write + Drop + Send,
     requires { options.n ≤ MAX_DIM }
     ensures answered { IfSome (R.remaining reader.old) (λ bytes. ReturnsRows
-        (λ finished jobs. AnswersFile options.n jobs finished)
+        (λ finished jobs. AnswersFile F.machine_words options.n jobs finished)
         (parse_jobs options.n bytes) result) }
     ensures lanes { IfOk result (λ finished. length finished.accepted.items ≤ MAX_LANES) }
     ensures dim { IfOk result (λ finished. F.machine_dim finished.machine ≡ options.n) }
@@ -123,7 +123,7 @@ where
     P: Write + Send,
     requires { options.n ≤ MAX_DIM }
     ensures answered { IfSome (R.remaining reader.old) (λ bytes. ReturnsRows
-        (λ finished jobs. AnswersFile options.n jobs finished)
+        (λ finished jobs. AnswersFile F.machine_words options.n jobs finished)
         (parse_jobs options.n bytes) result) }
     ensures lanes { IfOk result (λ finished. length finished.accepted.items ≤ MAX_LANES) }
     ensures dim { IfOk result (λ finished. F.machine_dim finished.machine ≡ options.n) }

@@ -19,7 +19,7 @@ pub fn drain<R: Wait, L: JobLine>(rt: &R, line: &L, pass: &mut L::Pass, taken: &
         match line.take(rt, pass) {
             Taken::Job(id, job) => taken.push_reserved(QueuedJob { id, job }),
             Taken::EmptyNow => yield_now(),
-            Taken::Ended => return,
+            Taken::Ended(_) => return,
         }
     }
     unreachable!()

@@ -54,14 +54,17 @@ impl<J: Naming, L: JobLine> Model for Feeder<J, L> {
 
     ghost invariant = { λ f. L.is_lane J.line f.lane
         × All (IsFor J.line.sizes.machine (L.lane_record f.lane).number) f.left.items
-        × (accepted_jobs (L.lane_record f.lane) ++ f.left.items ≡ J.jobs (L.lane_record f.lane).number) };
+        × (accepted_jobs (L.lane_record f.lane) ++ f.left.items
+        ≡ J.jobs (L.lane_record f.lane).number) };
 }
 
 impl<J: Naming, L: JobLine> Feeder<J, L> {
     pub fn new(lane: L::Lane, left: VecDeque<Job>) -> Feeder<J, L>
         requires lane { L.is_lane J.line lane }
-        requires made_for { All (IsFor J.line.sizes.machine (L.lane_record lane).number) left.items }
-        requires jobs { accepted_jobs (L.lane_record lane) ++ left.items ≡ J.jobs (L.lane_record lane).number }
+        requires made_for { All (IsFor J.line.sizes.machine (L.lane_record lane).number)
+            left.items }
+        requires jobs { accepted_jobs (L.lane_record lane) ++ left.items
+            ≡ J.jobs (L.lane_record lane).number }
         ensures { result ≡ (L.lane_record lane, left.items) }
     {
         Feeder {
@@ -79,7 +82,8 @@ impl<J: Naming, L: JobLine> Feeder<J, L> {
 
     pub fn into_parts(self) -> (L::Lane, VecDeque<Job>)
         ensures lane { L.is_lane J.line result.0 }
-        ensures jobs { accepted_jobs (L.lane_record result.0) ++ result.1.items ≡ J.jobs (L.lane_record result.0).number }
+        ensures jobs { accepted_jobs (L.lane_record result.0) ++ result.1.items
+            ≡ J.jobs (L.lane_record result.0).number }
         ensures parts { (L.lane_record result.0, result.1.items) ≡ self }
     {
         let Feeder { lane, left, of: _ } = self;
@@ -102,7 +106,8 @@ impl<J: Naming, L: JobLine> Model for Taker<J, L> {
 
     ghost view = { λ t. L.pass_record t.pass };
 
-    ghost invariant = { λ t. L.is_pass J.line t.pass × ((L.pass_record t.pass).taken ≡ t.taken.items) };
+    ghost invariant = { λ t. L.is_pass J.line t.pass
+        × ((L.pass_record t.pass).taken ≡ t.taken.items) };
 }
 
 impl<J: Naming, L: JobLine> Taker<J, L> {

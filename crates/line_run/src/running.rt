@@ -96,12 +96,15 @@ where
     requires lanes { All (L.is_lane (L.id opened.line)) opened.lanes.items }
     requires passes { All (L.is_pass (L.id opened.line)) opened.passes.items }
     requires closer { L.is_closer (L.id opened.line) opened.closer }
-    requires two_lanes { ((L.id opened.line).sizes.lanes ≡ 2) × (map L.lane_record opened.lanes.items ≡ fresh_lanes 2) }
-    requires two_passes { ((L.id opened.line).sizes.passes ≡ 2) × (map L.pass_record opened.passes.items ≡ fresh_passes 2) }
+    requires two_lanes { ((L.id opened.line).sizes.lanes ≡ 2)
+        × (map L.lane_record opened.lanes.items ≡ fresh_lanes 2) }
+    requires two_passes { ((L.id opened.line).sizes.passes ≡ 2)
+        × (map L.pass_record opened.passes.items ≡ fresh_passes 2) }
     requires first_jobs { All (IsFor (L.id opened.line).sizes.machine 0) jobs.0.items }
     requires second_jobs { All (IsFor (L.id opened.line).sizes.machine 1) jobs.1.items }
     ensures each_once { (weight : JobData → ℕ) → total weight (jobs.0.items ++ jobs.1.items)
-        ≡ total weight (map job_of (result.taken.0.items ++ result.taken.1.items ++ result.rest.jobs.items))
+        ≡ total weight (map job_of (result.taken.0.items ++ result.taken.1.items
+        ++ result.rest.jobs.items))
         + total weight (result.unfed.0.items ++ result.unfed.1.items) }
 {
     let Opened {
@@ -172,12 +175,15 @@ where
     requires lanes { All (L.is_lane (L.id opened.line)) opened.lanes.items }
     requires passes { All (L.is_pass (L.id opened.line)) opened.passes.items }
     requires closer { L.is_closer (L.id opened.line) opened.closer }
-    requires two_lanes { ((L.id opened.line).sizes.lanes ≡ 2) × (map L.lane_record opened.lanes.items ≡ fresh_lanes 2) }
-    requires two_passes { ((L.id opened.line).sizes.passes ≡ 2) × (map L.pass_record opened.passes.items ≡ fresh_passes 2) }
+    requires two_lanes { ((L.id opened.line).sizes.lanes ≡ 2)
+        × (map L.lane_record opened.lanes.items ≡ fresh_lanes 2) }
+    requires two_passes { ((L.id opened.line).sizes.passes ≡ 2)
+        × (map L.pass_record opened.passes.items ≡ fresh_passes 2) }
     requires first_jobs { All (IsFor (L.id opened.line).sizes.machine 0) jobs.0.items }
     requires second_jobs { All (IsFor (L.id opened.line).sizes.machine 1) jobs.1.items }
     ensures each_once { (weight : JobData → ℕ) → total weight (jobs.0.items ++ jobs.1.items)
-        ≡ total weight (map job_of (result.taken.0.items ++ result.taken.1.items ++ result.rest.jobs.items))
+        ≡ total weight (map job_of (result.taken.0.items ++ result.taken.1.items
+        ++ result.rest.jobs.items))
         + total weight (result.unfed.0.items ++ result.unfed.1.items) }
 {
     run_named::<Brand, R, L>(rt, alloc, opened, jobs)

@@ -5,6 +5,8 @@ ghost use Rattle.job_types.specs.Job.{JobData};
 ghost use Rattle.job_queue.specs.Record.{fresh_lanes, fresh_passes};
 ghost use Rattle.job_queue.specs.Line.{IsFor};
 
+mod crowd;
+
 use crate::pair::{Pair, both};
 use crate::running::run;
 use job_queue::{JobLine, LockedLine, Opened, QueuedJob, Receipt, Refused, Rest, RuledLine, Sizes};
@@ -78,9 +80,13 @@ fn play<R: Wait, L: JobLine>(
     requires lanes { All (L.is_lane (L.id opened.line)) opened.lanes.items }
     requires passes { All (L.is_pass (L.id opened.line)) opened.passes.items }
     requires closer { L.is_closer (L.id opened.line) opened.closer }
-    requires two_lanes { ((L.id opened.line).sizes.lanes ≡ 2) × (map L.lane_record opened.lanes.items ≡ fresh_lanes 2) }
-    requires two_passes { ((L.id opened.line).sizes.passes ≡ 2) × (map L.pass_record opened.passes.items ≡ fresh_passes 2) }
-    requires jobs { IsFor (L.id opened.line).sizes.machine 0 jobs.0 × IsFor (L.id opened.line).sizes.machine 0 jobs.1 × IsFor (L.id opened.line).sizes.machine 0 jobs.2 }
+    requires two_lanes { ((L.id opened.line).sizes.lanes ≡ 2)
+        × (map L.lane_record opened.lanes.items ≡ fresh_lanes 2) }
+    requires two_passes { ((L.id opened.line).sizes.passes ≡ 2)
+        × (map L.pass_record opened.passes.items ≡ fresh_passes 2) }
+    requires jobs { IsFor (L.id opened.line).sizes.machine 0 jobs.0
+        × IsFor (L.id opened.line).sizes.machine 0 jobs.1
+        × IsFor (L.id opened.line).sizes.machine 0 jobs.2 }
 {
     let Opened {
         line,
@@ -136,18 +142,19 @@ fn close_against_submit_with_no_lock(rt: HostRuntime) -> Result<(), Fail> {
 
 // Whether the jobs of each lane stand in the order of their seqs, none of them seen before. Marks
 // them as seen.
-fn are_new_and_rise(seen: &mut [[bool; JOBS]; 2], taken: &[QueuedJob]) -> bool {
-    let mut next = [0, 0];
+fn are_new_and_rise(seen: &mut [[bool; JOBS]], taken: &[QueuedJob]) -> bool {
+    let mut next = [0; 16];
     for queued in taken {
         let JobId { lane, seq } = queued.id;
-        if lane >= 2 || seq >= JOBS as u64 || seq < next[lane as usize] {
+        let lane = lane as usize;
+        if lane >= 16 || lane >= seen.len() || seq >= JOBS as u64 || seq < next[lane] {
             return false;
         }
-        if seen[lane as usize][seq as usize] {
+        if seen[lane][seq as usize] {
             return false;
         }
-        seen[lane as usize][seq as usize] = true;
-        next[lane as usize] = seq + 1;
+        seen[lane][seq as usize] = true;
+        next[lane] = seq + 1;
     }
     true
 }

@@ -11,6 +11,7 @@ use super::handle::{CloseNote, Closer, Lane, Pass};
 use super::members::{deal_lanes, deal_passes, gather_lanes, gather_passes};
 use super::store::Store;
 use super::store_lock::StoreLock;
+use crate::end::SawEnd;
 use crate::job_line::{
     JobLine, MAX_CAPACITY, MAX_ENTRIES, MAX_PASSES, Opened, Receipt, Refused, Rest, Sizes, Taken,
 };
@@ -95,10 +96,11 @@ impl JobLine for LockedLine {
             }
             Err(saw) => {
                 let closed = self.lock.closed_at(&mut pass.seat).is_some();
-                self.lock.read(&mut pass.seat, saw);
+                self.lock.read(&mut pass.seat, &saw);
                 if closed {
-                    Taken::Ended
+                    Taken::Ended(SawEnd::under_the_lock(saw))
                 } else {
+                    saw.spend();
                     Taken::EmptyNow
                 }
             }

@@ -233,14 +233,13 @@ impl StoreLock {
         self.table.shared.store::<Hand>(seat, 0, 0);
     }
 
-    pub fn read(&self, seat: &mut Seat, saw: SawEmpty)
+    pub fn read(&self, seat: &mut Seat, _saw: &SawEmpty)
         requires table { seat.old.table_id ≡ table_of self.now }
         requires ready { (r : PassRecord) × (x : State) × (y : State)
             × IsPassOut seat.old.me r x y × (x.jobs.items ≡ []) × Same x y }
         ensures table { seat.new.table_id ≡ table_of self.now }
         ensures gained { seat.new.me ≡ after_reading seat.old.me }
     {
-        saw.spend();
         self.table.shared.store::<Read>(seat, 0, 0);
     }
 

@@ -10,6 +10,7 @@ ghost use Rattle.job_queue.specs.Inner.Ruled.Handle.{line_id};
 use super::handle::{RuledCloser, RuledLane, RuledNote, RuledPass};
 use super::line::{LineGate, LineRing, RuledLine};
 use super::members::{deal_lanes, deal_passes, gather_lanes, gather_passes};
+use crate::end::SawEnd;
 use crate::job_line::{
     JobLine, MAX_CAPACITY, MAX_ENTRIES, MAX_PASSES, Opened, Receipt, Refused, Rest, Sizes, Taken,
 };
@@ -101,15 +102,12 @@ impl JobLine for RuledLine {
             Ok(QueuedJob { id, job }) => return Taken::Job(id, job),
             Err(saw) => saw,
         };
-        if !self.read(&mut pass.gate, saw) {
+        let Some(sealed) = self.read(&mut pass.gate, saw) else {
             return Taken::EmptyNow;
-        }
-        match self.ring.pop(rt, &mut pass.ring) {
+        };
+        match self.pop_at_last(rt, &mut pass.ring, sealed) {
             Ok(QueuedJob { id, job }) => Taken::Job(id, job),
-            Err(saw) => {
-                saw.spend();
-                Taken::Ended
-            }
+            Err(saw) => Taken::Ended(SawEnd::of_the_ring(saw)),
         }
     }
 

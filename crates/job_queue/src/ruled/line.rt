@@ -1,16 +1,16 @@
 // The ruled line, and what a call does at its gate and in its ring together.
-ghost use Rattle.std.specs.Prelude.{◌≡◌, ◌+◌, ◌<◌, ◌++◌, ◌∷◌, ◌^◌, [], Some, true, false, length};
+ghost use Rattle.std.specs.Prelude.{◌≡◌, ◌+◌, ◌<◌, ◌++◌, ◌∷◌, ◌^◌, [], Some, None, IsSome, IfOk, IfErr, length};
 ghost use Rattle.line_gate.specs.Record.{Seals as SealsGate};
 ghost use Rattle.line_gate.specs.declared.record.Reading.{Reading as GateReading};
-ghost use Rattle.line_ring.specs.Inner.Handle.{ring_id, is_lane as IsRingLane, lane_record as ring_record};
-ghost use Rattle.job_queue.specs.Line.{IsFor};
+ghost use Rattle.line_ring.specs.Inner.Handle.{ring_id, is_lane as IsRingLane, is_pass as IsRingPass, lane_record as ring_record, pass_record as ring_pass};
+ghost use Rattle.job_queue.specs.Line.{IsFor, IsMadeFor};
 ghost use Rattle.job_queue.specs.Inner.Ruled.Join.{Puts};
 
 use crate::job_line::Receipt;
 use crate::record::QueuedJob;
 use job_types::{Job, JobId};
 use line_gate::{Gate, GateLane, GatePass, Witness};
-use line_ring::{Piece, Ring, RingLane, SawEmpty, SawFull};
+use line_ring::{Piece, Ring, RingLane, RingPass, SawEmpty, SawFull};
 use std::sync::Wait;
 
 // The gate and the ring of a ruled line.
@@ -44,6 +44,20 @@ pub struct RingWasEmpty(SawEmpty);
 impl Witness for RingWasEmpty {
     fn spend(self) {
         let RingWasEmpty(saw) = self;
+        saw.spend();
+    }
+}
+
+// The gate was read as sealed. Only `RuledLine::read` makes it, and it has no `Drop`.
+pub struct Sealed(());
+
+// A pop found the ring empty after such a reading. Only `RuledLine::pop_at_last` makes it, and it has
+// no `Drop`.
+pub struct EmptyAtLast(SawEmpty);
+
+impl EmptyAtLast {
+    pub(crate) fn spend(self) {
+        let EmptyAtLast(saw) = self;
         saw.spend();
     }
 }
@@ -93,16 +107,42 @@ impl RuledLine {
         }
     }
 
-    // Reads the gate, once the ring was found empty: whether it is sealed.
-    pub(crate) fn read(&self, gate: &mut GatePass, saw: SawEmpty) -> bool
+    // Reads the gate, once the ring was found empty, and shows where it is sealed.
+    pub(crate) fn read(&self, gate: &mut GatePass, saw: SawEmpty) -> Option<Sealed>
         requires gate { gate.old.gate ≡ self.now.gate.table }
         ensures gate { gate.new.gate ≡ self.now.gate.table }
         ensures reading { (r : GateReading)
             × (gate.new.known.readings ≡ gate.old.known.readings ++ r ∷ [])
-            × (result ≡ true → SealsGate r) × (result ≡ false → ¬ SealsGate r) }
+            × (IsSome result → SealsGate r) × (result ≡ None → ¬ SealsGate r) }
     {
         let settled = self.gate.read_settled(gate);
         let found = self.gate.read_gate(gate, settled, RingWasEmpty(saw));
-        found.closed && found.entries == settled
+        if found.closed && found.entries == settled {
+            Some(Sealed(()))
+        } else {
+            None
+        }
+    }
+
+    // Takes the job at the front once the gate was read as sealed.
+    pub(crate) fn pop_at_last<R: Wait>(
+        &self,
+        rt: &R,
+        ring: &mut RingPass<QueuedJob>,
+        sealed: Sealed,
+    ) -> Result<QueuedJob, EmptyAtLast>
+        requires { IsRingPass (ring_id self.now.ring) ring.old }
+        ensures pass { IsRingPass (ring_id self.now.ring) ring.new }
+        ensures number { (ring_pass ring.new).number ≡ (ring_pass ring.old).number }
+        ensures taken { IfOk result (λ q.
+            (ring_pass ring.new).taken ≡ (ring_pass ring.old).taken ++ q ∷ []) }
+        ensures machine { IfOk result (IsMadeFor (ring_id self.now.ring).machine) }
+        ensures unchanged { IfErr result (λ _. ring_pass ring.new ≡ ring_pass ring.old) }
+    {
+        let Sealed(()) = sealed;
+        match self.ring.pop(rt, ring) {
+            Ok(queued) => Ok(queued),
+            Err(saw) => Err(EmptyAtLast(saw)),
+        }
     }
 }

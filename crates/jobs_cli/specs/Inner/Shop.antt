@@ -3,6 +3,7 @@ use Rattle.std.specs.Prelude.{ℕ, List, map, length, All, IsPermutation}
 use Rattle.job_types.specs.Job.{JobData}
 use Rattle.job_types.specs.Reply.{ReplyData}
 use Rattle.dispatcher.specs.Reply.{answered, IsRight}
+use Rattle.dispatcher.specs.Finished.{outcome}
 use Rattle.dispatcher.specs.declared.finishing.Finished.{Finished}
 use Rattle.batch.specs.Answers.{all_replies}
 use Rattle.batch.specs.declared.answering.StopReason.{StopReason}
@@ -13,13 +14,15 @@ use Rattle.jobs_csv.specs.declared.fault.FaultKind.{FaultKind}
 use Rattle.jobs_csv.specs.declared.fault.FaultKind.TheVariants as what
 use Rattle.jobs_cli.specs.JobIds.{with_ids}
 use Rattle.jobs_cli.specs.OpenLanes.{IsLaneCount}
+use Rattle.jobs_cli.specs.Replies.{IsRunOf}
 
 -- all replies of a finished shop
 abbrev pub replies_in : {M : Type 0} → Finished M → List ReplyData
 replies_in finished = all_replies (map (λ replies. replies.items) finished.by_worker.items) finished.rest.items
 
--- each job has one right reply, and each open lane was opened
-pub record AnswersFile {M : Type 0} (n : ℕ) (jobs : List JobData) (finished : Finished M) : Type 0 where
+-- the shop has run the jobs, each of them has one right reply, and each open lane was opened
+pub record AnswersFile {M : Type 0} (words_of : M → List ℕ) (n : ℕ) (jobs : List JobData) (finished : Finished M) : Type 0 where
+  pub run : IsRunOf n jobs (outcome words_of finished)
   pub same : IsPermutation (with_ids jobs) (map answered (replies_in finished))
   pub right : All (IsRight n) (replies_in finished)
   pub lanes : IsLaneCount jobs (length finished.accepted.items)

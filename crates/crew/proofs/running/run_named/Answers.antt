@@ -1,16 +1,16 @@
 use Rattle.std.proofs.Common.{◌≡◌, ◌+◌, ◌++◌, [], map, length, get_or, sym, ap, subst, ◌∙◌, arith}
 use Rattle.std.specs.List.{All, AllZip}
 use Rattle.std.proofs.lemmas.List.{length-map}
-use Rattle.std.proofs.lemmas.List.Elements.{All-map, All-same, All-weaker}
+use Rattle.std.proofs.lemmas.List.Elements.{All-from_recursion, All-map, All-same, All-weaker}
 use Rattle.histories.specs.Sums.{times}
 use Rattle.job_queue.specs.declared.record.LaneRecord.{LaneRecord}
 use Rattle.job_queue.specs.Record.{accepted, accepted_jobs}
 use Rattle.dispatcher.specs.Shop.{ShopId}
 use Rattle.dispatcher.specs.Reply.{IsRight}
 use Rattle.dispatcher.specs.Stop.{given_back}
-use Rattle.dispatcher.specs.Finished.{FinishedRun}
+use Rattle.dispatcher.specs.Finished.{FinishedRun, outcome}
 use Rattle.dispatcher.proofs.WorkLemmas.{at_line, at_floor}
-use Rattle.dispatcher.proofs.OpenLemmas.{map_twice}
+use Rattle.dispatcher.proofs.OpenLemmas.{map_twice, of_parts}
 use Rattle.crew.specs.Run.{UnfedJobs, unfed_by, IsStopOf}
 use Rattle.crew.proofs.RunLemmas.{lanes_count, all_fed, all_stopped, all_counted}
 use Rattle.crew.proofs.running.run_named.Goals as goal
@@ -63,7 +63,7 @@ returns-clause-run g c =
     record {
       lanes = map line.lane_record lanes;
       note = line.note_number c.into_note-note.result.line;
-      finished = at_floor (λ i. FinishedRun i.dim (map line.lane_record lanes) (map (λ v. v.items) c.finish.result.by_worker.items) c.finish.result.rest.items (line.note_number c.into_note-note.result.line)) _ _ c.requires.shop c.finish.ensures.finished;
+      finished = at_floor (λ i. FinishedRun i.dim (map line.lane_record lanes) (line.note_number c.into_note-note.result.line) (outcome g.F.Floor.machine_words c.finish.result)) _ _ c.requires.shop c.finish.ensures.finished;
       fed = subst (λ us. AllZip Own (map line.lane_record lanes) us) (sym c.part-lanes.ensures.unfed) by_lane;
       stops = subst (λ us. AllZip (λ (l : LaneRecord) (u : UnfedJobs). IsStopOf l u.jobs u.stop) (map line.lane_record lanes) us) (sym c.part-lanes.ensures.unfed)
           (subst (λ ls. AllZip (λ (l : LaneRecord) (u : UnfedJobs). IsStopOf l u.jobs u.stop) (map line.lane_record ls) (map (λ f. unfed_by (line.lane_record f.lane).number (given_back f.back ++ f.left.items) f.stop) fed)) (sym c.part-lanes.ensures.lanes)
@@ -86,10 +86,11 @@ returns-clause-counts g c =
     let fed = c.relieve_feeders.new.fed.items in
     let jobs = map (λ js. js.items) c.args.jobs.items in
     let counts = c.finish.result.accepted.items in
+    let Counted : LaneRecord → Type 0 = λ l. get_or counts l.number 0 ≡ length (accepted l.entries) in
     let Sums : UnfedJobs → Type 0 = λ u. get_or counts u.lane 0 + length u.jobs ≡ length (get_or jobs u.lane []) in
     let own = All-weaker (λ f. accepted_jobs (line.lane_record f.lane) ++ given_back f.back ++ f.left.items ≡ g.J.Naming.jobs (line.lane_record f.lane).number) (λ f. accepted_jobs (line.lane_record f.lane) ++ given_back f.back ++ f.left.items ≡ get_or jobs (line.lane_record f.lane).number [])
     (λ f own. own ∙ sym (c.requires.jobs (line.lane_record f.lane).number)) fed c.relieve_feeders.ensures.jobs in
-    let counted = subst (All (λ l. get_or counts (line.lane_record l).number 0 ≡ length (accepted (line.lane_record l).entries))) c.part-lanes.ensures.lanes c.finish.ensures.accepted in
+    let counted = subst (All (λ l. get_or counts (line.lane_record l).number 0 ≡ length (accepted (line.lane_record l).entries))) c.part-lanes.ensures.lanes (of_parts Counted line.lane_record c.part-lanes.result.0.items (All-from_recursion Counted _ c.finish.ensures.finished.counts)) in
     record {
       lanes = c.finish.ensures.lane_count ∙ (c.requires.all_lanes ∙ sym (length-map c.args.jobs.items (λ js. js.items)));
       sums = subst (All Sums) (sym c.part-lanes.ensures.unfed) (all_counted (λ f. f.lane) line.lane_record (λ f. given_back f.back) (λ f. f.left.items) (λ f. f.stop) (λ k. get_or jobs k []) counts fed own counted);

@@ -8,4 +8,4 @@ answer_file-requires-sync-F g c κs within = search (sendable, tree_floor_sync) 
 
 pub returns-clause-answered : goal.returns-clause-answered
 returns-clause-answered g c =
-    run_answered c.args.options.n (g.R.Read.remaining c.args.reader.now) c.in_ok-finished.finished c.in-Ok.replies.items _ _ (g.W.Device.failures c.args.writer.now) (g.W.Device.failures c.write_rows.new.writer) c.write_rows.result c.in_ok-finished.ensures.answered c.in-Ok.ensures.same c.in-Ok.ensures.sorted c.write_rows.ensures.written c.write_rows.ensures.failed
+    run_answered _ c.args.options.n (g.R.Read.remaining c.args.reader.now) c.in_ok-finished.finished c.in-Ok.replies.items _ _ (g.W.Device.failures c.args.writer.now) (g.W.Device.failures c.write_rows.new.writer) c.write_rows.result c.in_ok-finished.ensures.answered c.in-Ok.ensures.same c.in-Ok.ensures.sorted c.write_rows.ensures.written c.write_rows.ensures.failed

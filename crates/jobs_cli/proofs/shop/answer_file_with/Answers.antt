@@ -18,4 +18,4 @@ answer_all-requires-clause-made_for g c κs within =
 
 pub returns-in-Ok-answer_all-clause-answered : goal.returns-in-Ok-answer_all-clause-answered
 returns-in-Ok-answer_all-clause-answered g c =
-    file_answered c.args.options.n (g.R.Read.remaining c.args.reader.now) c.in_ok-lanes.lanes (map (λ list. list.items) c.in-Ok.lists.items) c.in-Ok-answer_all.finished c.in_ok-lanes.ensures.parse c.in-Ok.ensures c.in-Ok-answer_all.ensures.answers (as_many _ _ _ c.in-Ok.lists.items c.in-Ok-answer_all.ensures.accepted)
+    file_answered g.F.Floor.machine_words c.args.options.n (g.R.Read.remaining c.args.reader.now) c.in_ok-lanes.lanes (map (λ list. list.items) c.in-Ok.lists.items) c.in-Ok-answer_all.finished c.in_ok-lanes.ensures.parse c.in-Ok.ensures c.in-Ok-answer_all.ensures.run c.in-Ok-answer_all.ensures.answers (as_many _ _ _ c.in-Ok.lists.items c.in-Ok-answer_all.ensures.accepted)

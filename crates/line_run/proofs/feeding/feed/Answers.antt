@@ -1,11 +1,9 @@
-use Rattle.std.proofs.Common.{◌≡◌, ◌++◌, ◌∷◌, [], List, map, ℕ, None, Some, sym, ap, ◌∙◌, append_assoc}
-use Rattle.std.proofs.lemmas.List.{map-append}
+use Rattle.std.proofs.Common.{◌≡◌, ◌++◌, ◌∷◌, List, sym, ap, ◌∙◌}
 use Rattle.std.proofs.lemmas.List.Elements.{All-rest, All-same}
 use Rattle.job_types.specs.Job.{JobData}
-use Rattle.job_queue.specs.declared.record.QueuedJob.{QueuedJob}
 use Rattle.job_queue.specs.declared.record.LaneRecord.{LaneRecord}
-use Rattle.job_queue.specs.Record.{accepted, job_of, accepted_jobs}
-use Rattle.job_queue.specs.Line.{GainsEntry, IsFor}
+use Rattle.job_queue.specs.Record.{accepted_jobs}
+use Rattle.job_queue.specs.Line.{IsFor}
 use Rattle.job_queue.proofs.FeedLemmas.{fed_one, fed_none}
 use Rattle.line_run.proofs.feeding.feed.Goals as goal
 

@@ -1,6 +1,7 @@
 use Rattle.std.proofs.Common.{◌≡◌, ◌<◌, ℕ, map, length, get_or, sym, ap, subst, ◌∙◌}
 use Rattle.std.specs.List.{All, AllByRecursion}
 use Rattle.std.proofs.lemmas.List.Elements.{All-map, All-same}
+use Rattle.floors.specs.Floor.{IsWhollyFree}
 use Rattle.histories.specs.Sums.{times}
 use Rattle.job_queue.specs.declared.record.LaneRecord.{LaneRecord}
 use Rattle.job_queue.specs.Record.{accepted}
@@ -9,7 +10,6 @@ use Rattle.dispatcher.specs.Reply.{answered, IsRight}
 use Rattle.dispatcher.proofs.WorkLemmas.{at_line, at_floor}
 use Rattle.dispatcher.proofs.OpenLemmas.{map_twice}
 use Rattle.dispatcher.proofs.FinishLemmas.{each_of, taken_answered, replies_right, finished}
-use Rattle.dispatcher.proofs.OnceLemmas.{answered_once, no_other}
 use Rattle.dispatcher.proofs.shop.Shop.finish.Goals as goal
 
 pub into_rest-jobs-requires-clause-lanes : goal.into_rest-jobs-requires-clause-lanes
@@ -37,38 +37,24 @@ answer_rest-stations-requires-clause-made_for g c =
 pub returns-clause-finished : goal.returns-clause-finished
 returns-clause-finished g c =
     let line = g.L.JobLine in
+    let lanes = c.args.lanes.items in
     let ends = c.args.ends.items in
     let dim = c.args.self.floor.dim in
     let passes = c.gather-passes.result.passes.items in
-    let by_worker = c.gather-passes.result.by_worker.items in
-    finished dim (map line.lane_record c.args.lanes.items) (map line.pass_record passes) (map (λ v. v.items) by_worker) c.into_rest-jobs.result.jobs.items c.answer_rest-stations.result.1.items (line.note_number c.args.note.line)
+    let rest = c.answer_rest-stations.result.1.items in
+    let counts = c.into_rest-jobs.result.accepted.items in
+    finished dim (line.id c.self.inside.line).sizes.lanes (map line.lane_record lanes) (map line.pass_record passes) c.into_rest-jobs.result.jobs.items (line.note_number c.args.note.line) _
     c.into_rest-jobs.ensures.run
     (ap (λ ps. map (λ p. p.taken) (map line.pass_record ps)) c.gather-passes.ensures.passes
     ∙ (taken_answered (λ e. e.pass) line.pass_record (λ e. e.replies) (λ v. v.items) ends c.requires.replies
     ∙ ap (λ vs. map (map answered) (map (λ v. v.items) vs)) (sym c.gather-passes.ensures.replies)))
     c.answer_rest-stations.ensures.answers
     (subst (λ vs. AllByRecursion (AllByRecursion (IsRight dim)) (map (λ v. v.items) vs)) (sym c.gather-passes.ensures.replies) (replies_right (λ e. e.pass) line.pass_record (λ e. e.replies) (λ v. v.items) dim ends c.requires.right))
-    (each_of (IsRight dim) c.answer_rest-stations.result.1.items (at_floor (λ i. All (IsRight i.dim) c.answer_rest-stations.result.1.items) _ _ c.self.view_is c.answer_rest-stations.ensures.right))
-
--- the count of each lane, read one by one
-pub returns-clause-answered_once : goal.returns-clause-answered_once
-returns-clause-answered_once g c = λ lane seq within.
-    let line = g.L.JobLine in
-    let lanes = c.args.lanes.items in
-    let counts = c.into_rest-jobs.result.accepted.items in
-    answered_once lane seq c.args.self.floor.dim (line.id c.self.inside.line).sizes.lanes (map line.lane_record lanes) (map (λ v. v.items) c.gather-passes.result.by_worker.items) c.answer_rest-stations.result.1.items (line.note_number c.args.note.line) counts
-    (returns-clause-finished g c) c.into_rest-jobs.ensures.lane_count
+    (each_of (IsRight dim) rest (at_floor (λ i. All (IsRight i.dim) rest) _ _ c.self.view_is c.answer_rest-stations.ensures.right))
+    c.into_rest-jobs.ensures.lane_count
     (λ k below. ap (times k) (map_twice line.lane_record (λ (l : LaneRecord). l.number) lanes) ∙ c.into_rest-jobs.ensures.numbers k below)
-    (each_of (λ (l : LaneRecord). get_or counts l.number 0 ≡ length (accepted l.entries)) (map line.lane_record lanes) (All-map (λ (l : LaneRecord). get_or counts l.number 0 ≡ length (accepted l.entries)) line.lane_record lanes c.into_rest-jobs.ensures.accepted)) within
-
-pub returns-clause-no_other : goal.returns-clause-no_other
-returns-clause-no_other g c = λ lane seq past.
-    let line = g.L.JobLine in
-    let lanes = c.args.lanes.items in
-    let counts = c.into_rest-jobs.result.accepted.items in
-    no_other lane seq c.args.self.floor.dim (map line.lane_record lanes) (map (λ v. v.items) c.gather-passes.result.by_worker.items) c.answer_rest-stations.result.1.items (line.note_number c.args.note.line) counts
-    (returns-clause-finished g c)
-    (each_of (λ (l : LaneRecord). get_or counts l.number 0 ≡ length (accepted l.entries)) (map line.lane_record lanes) (All-map (λ (l : LaneRecord). get_or counts l.number 0 ≡ length (accepted l.entries)) line.lane_record lanes c.into_rest-jobs.ensures.accepted)) past
+    (each_of (λ (l : LaneRecord). get_or counts l.number 0 ≡ length (accepted l.entries)) (map line.lane_record lanes) (All-map (λ (l : LaneRecord). get_or counts l.number 0 ≡ length (accepted l.entries)) line.lane_record lanes c.into_rest-jobs.ensures.accepted))
+    (at_floor (λ i. IsWhollyFree i.dim (g.F.Floor.machine_words c.close.result)) _ _ c.self.view_is c.close.ensures.free)
 
 pub returns-clause-by_worker : goal.returns-clause-by_worker
 returns-clause-by_worker g c = ap (map (λ v. v.items)) c.gather-passes.ensures.replies ∙ map_twice (λ e. e.replies) (λ v. v.items) c.args.ends.items

@@ -7,11 +7,11 @@ use Rattle.job_queue.specs.declared.record.LaneRecord.{LaneRecord}
 use Rattle.job_queue.specs.declared.record.PassRecord.{PassRecord}
 use Rattle.job_queue.specs.Record.{fresh_lane, fresh_lanes, fresh_pass, fresh_passes}
 
-lanes_count : (n : ℕ) → length (fresh_lanes n) ≡ n
+pub lanes_count : (n : ℕ) → length (fresh_lanes n) ≡ n
 lanes_count zero = refl
 lanes_count (suc n) = omega (arith, length-append (fresh_lanes n) (fresh_lane n ∷ []), lanes_count n)
 
-passes_count : (n : ℕ) → length (fresh_passes n) ≡ n
+pub passes_count : (n : ℕ) → length (fresh_passes n) ≡ n
 passes_count zero = refl
 passes_count (suc n) = omega (arith, length-append (fresh_passes n) (fresh_pass n ∷ []), passes_count n)
 
