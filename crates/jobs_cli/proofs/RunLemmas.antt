@@ -26,7 +26,6 @@ use Rattle.jobs_csv.specs.Text.{file_text}
 use Rattle.jobs_cli.specs.Answer.{IsAnswer}
 use Rattle.jobs_cli.specs.Inner.Lanes.{AreOpenLanes}
 use Rattle.jobs_cli.specs.Inner.Shop.{AnswersFile, replies_in}
-use Rattle.jobs_cli.specs.OpenLanes.{IsLaneCount}
 use Rattle.jobs_cli.specs.Replies.{AreReplies, IsRunOf}
 use Rattle.jobs_cli.proofs.LaneLemmas.{past_all}
 use Rattle.jobs_cli.proofs.OrderLemmas.{all_jobs}
@@ -43,9 +42,9 @@ every_lane lists jobs opens lane =
     (cases_lt lane (length lists))
 
 -- a whole batch of the open lanes is a run of the file
-run_of : (n : ℕ) (lists : List (List JobData)) (jobs : List JobData) (o : Outcome) → AreOpenLanes lists jobs → IsWholeBatch n lists o → IsRunOf n jobs o
+run_of : (n : ℕ) (lists : List (List JobData)) (jobs : List JobData) (o : Outcome) → AreOpenLanes lists jobs → IsWholeBatch n lists o → IsRunOf n jobs (length lists) o
+unfolding IsRunOf
 run_of n lists jobs o opens whole = record {
-  count = length lists;
   lanes = whole.lanes;
   note = whole.note;
   finished = whole.finished;
@@ -62,10 +61,9 @@ file_answered words_of n (Some bytes) lanes lists finished (jobs, good, are) ope
   jobs,
   good,
   record {
-    run = run_of n lists jobs (outcome words_of finished) (opens jobs are) whole;
+    run = subst (λ count. IsRunOf n jobs count (outcome words_of finished)) (sym count) (run_of n lists jobs (outcome words_of finished) (opens jobs are) whole);
     same = IsPermutation-trans _ _ _ (all_jobs lists jobs (opens jobs are)) all.answers;
     right = all.right;
-    lanes = subst (IsLaneCount jobs) (sym count) (opens jobs are).count;
   },
 )
 
@@ -85,6 +83,7 @@ run_answered words_of n (Some bytes) finished replies old new before after (Ok d
   rows = replies;
   good = good;
   answered = record {
+    lanes = length finished.accepted.items;
     outcome = outcome words_of finished;
     run = answers.run;
     all = same;

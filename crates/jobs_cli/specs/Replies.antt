@@ -15,9 +15,8 @@ use Rattle.jobs_cli.specs.JobIds.{with_ids}
 use Rattle.jobs_cli.specs.OpenLanes.{IsLaneCount}
 
 -- A shop of a machine of dimension n has finished, whose lanes have accepted the jobs of a file. With the
--- number of open lanes, their records and the number of the close note:
-pub record IsRunOf (n : ℕ) (jobs : List JobData) (o : Outcome) : Type 0 where
-  pub count : ℕ
+-- records of the lanes, of which there are `count`, and the number of the close note:
+pub record FileRun (n : ℕ) (jobs : List JobData) (count : ℕ) (o : Outcome) : Type 0 where
   pub lanes : List LaneRecord
   pub note : ℕ
   -- the theorem of a finished shop
@@ -27,10 +26,15 @@ pub record IsRunOf (n : ℕ) (jobs : List JobData) (o : Outcome) : Type 0 where
   pub numbers : (k : ℕ) → k < count → times k (map (λ l. l.number) lanes) ≡ 1
   pub fed : Each (λ l. accepted_jobs l ≡ in_lane l.number jobs) lanes
 
+-- there is such a run: a closed name for it, which a proof opens by `unfolding IsRunOf`
+unfoldable pub IsRunOf : ℕ → List JobData → ℕ → Outcome → Type 0
+IsRunOf n jobs count o = FileRun n jobs count o
+
 -- these are the replies of a run of the jobs of a file, by lane and in a lane by number
 pub record AreReplies (n : ℕ) (jobs : List JobData) (replies : List ReplyData) : Type 0 where
+  pub lanes : ℕ
   pub outcome : Outcome
-  pub run : IsRunOf n jobs outcome
+  pub run : IsRunOf n jobs lanes outcome
   pub all : IsPermutation (all_replies outcome.by_worker outcome.rest) replies
   pub same : IsPermutation (with_ids jobs) (map answered replies)
   pub sorted : AreSorted replies

@@ -5,14 +5,12 @@ use Rattle.dispatcher.specs.Finished.{Outcome}
 use Rattle.jobs_csv.specs.declared.report_rows.ReportRow.{ReportRow}
 use Rattle.cube_report.specs.Report.{rows_of}
 use Rattle.jobs_cli.specs.JobIds.{with_ids}
-use Rattle.jobs_cli.specs.OpenLanes.{IsLaneCount}
 use Rattle.jobs_cli.specs.Replies.{IsRunOf}
 
 -- a run of the jobs of a file has finished, and these are the rows of the report on them: those of the open
 -- lanes and of the dimensions, and those of a machine that is wholly free
 pub record AreReportRows (n : ℕ) (jobs : List JobData) (rows : List ReportRow) : Type 0 where
-  pub outcome : Outcome
-  pub run : IsRunOf n jobs outcome
   pub lanes : ℕ
-  pub open_lanes : IsLaneCount jobs lanes
+  pub outcome : Outcome
+  pub run : IsRunOf n jobs lanes outcome
   pub rows_are : rows ≡ rows_of n lanes (with_ids jobs)

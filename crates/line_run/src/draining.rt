@@ -1,16 +1,19 @@
 // Takes jobs by one pass.
-ghost use Rattle.std.specs.Prelude.{◌≡◌, ◌++◌};
+ghost use Rattle.std.specs.Prelude.{◌≡◌, ◌++◌, List};
+ghost use Rattle.job_queue.specs.declared.record.QueuedJob.{QueuedJob};
 
 use job_queue::{JobLine, QueuedJob, Taken};
 use std::sync::Wait;
 use std::thread::yield_now;
 
-/// Takes jobs until the line has ended, or until there is no memory for one more.
+/// Takes jobs until the line has ended, or until there is no memory for one more, and puts them at the
+/// end of a list. What the pass has taken before and the list does not hold stays so.
 pub fn drain<R: Wait, L: JobLine>(rt: &R, line: &L, pass: &mut L::Pass, taken: &mut Vec<QueuedJob>)
     requires pass { L.is_pass (L.id line.now) pass.old }
-    requires taken { (L.pass_record pass.old).taken ≡ taken.old.items }
     ensures pass { L.is_pass (L.id line.now) pass.new }
-    ensures taken { (L.pass_record pass.new).taken ≡ taken.new.items }
+    ensures taken { (before : List QueuedJob) →
+        (L.pass_record pass.old).taken ≡ before ++ taken.old.items →
+        (L.pass_record pass.new).taken ≡ before ++ taken.new.items }
 {
     for _ in rt.forever() {
         if taken.reserve(1).is_err() {

@@ -45,12 +45,13 @@ fn job(alloc: Global, lane: u32) -> Result<Job, Fail>
     }
 }
 
-fn jobs(alloc: Global, lane: u32) -> Result<VecDeque<Job>, Fail>
+// So many jobs by this lane.
+fn jobs(alloc: Global, lane: u32, count: usize) -> Result<VecDeque<Job>, Fail>
     requires { lane < 16 }
     ensures { IfOk result (λ js. All (IsFor 2 lane) js.items) }
 {
     let mut jobs = VecDeque::new(alloc);
-    for _ in 0..JOBS {
+    for _ in 0..count {
         let made = job(alloc, lane)?;
         jobs.push_back(made)?;
     }
@@ -169,7 +170,7 @@ where
     L::Closer: Send,
     L::Note: Send,
 {
-    let jobs = (jobs(alloc, 0)?, jobs(alloc, 1)?);
+    let jobs = (jobs(alloc, 0, JOBS)?, jobs(alloc, 1, JOBS)?);
     let opened = L::open(alloc, sizes(3))?;
     let finished = run(rt, alloc, opened, jobs);
     let mut seen = [[false; JOBS]; 2];

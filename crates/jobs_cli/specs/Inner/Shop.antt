@@ -13,19 +13,17 @@ use Rattle.batch.specs.declared.answering.Stopped.TheVariants as stopped
 use Rattle.jobs_csv.specs.declared.fault.FaultKind.{FaultKind}
 use Rattle.jobs_csv.specs.declared.fault.FaultKind.TheVariants as what
 use Rattle.jobs_cli.specs.JobIds.{with_ids}
-use Rattle.jobs_cli.specs.OpenLanes.{IsLaneCount}
 use Rattle.jobs_cli.specs.Replies.{IsRunOf}
 
 -- all replies of a finished shop
 abbrev pub replies_in : {M : Type 0} → Finished M → List ReplyData
 replies_in finished = all_replies (map (λ replies. replies.items) finished.by_worker.items) finished.rest.items
 
--- the shop has run the jobs, each of them has one right reply, and each open lane was opened
+-- the shop has run the jobs, with as many lanes as it counts, and each of them has one right reply
 pub record AnswersFile {M : Type 0} (words_of : M → List ℕ) (n : ℕ) (jobs : List JobData) (finished : Finished M) : Type 0 where
-  pub run : IsRunOf n jobs (outcome words_of finished)
+  pub run : IsRunOf n jobs (length finished.accepted.items) (outcome words_of finished)
   pub same : IsPermutation (with_ids jobs) (map answered (replies_in finished))
   pub right : All (IsRight n) (replies_in finished)
-  pub lanes : IsLaneCount jobs (length finished.accepted.items)
 
 -- a lane that is spent is told as such, and all else was memory or a thread that was refused
 abbrev pub kind_of_reason : StopReason → FaultKind

@@ -3,9 +3,10 @@ ghost use Rattle.std.specs.Prelude.{◌≡◌, ◌<◌, ◌≤◌, map};
 ghost use Rattle.std.specs.List.{All};
 ghost use Rattle.job_queue.specs.Record.{fresh_lanes, fresh_passes};
 
-use super::{JOBS, are_new_and_rise, job};
+use super::{JOBS, are_new_and_rise, jobs};
+use crate::draining::drain;
 use crate::member::{Door, Naming};
-use job_queue::{JobLine, LockedLine, Opened, QueuedJob, Refused, Rest, RuledLine, Sizes, Taken};
+use job_queue::{JobLine, LockedLine, Opened, QueuedJob, Refused, Rest, RuledLine, Sizes};
 use job_types::Job;
 use std::alloc::Global;
 use std::collections::VecDeque;
@@ -68,23 +69,13 @@ impl Found {
     }
 }
 
-fn jobs_of(alloc: Global, lane: u32, count: usize) -> Result<VecDeque<Job>, Fail>
-    requires { lane < 16 }
-{
-    let mut jobs = VecDeque::new(alloc);
-    for _ in 0..count {
-        jobs.push_back(job(alloc, lane)?)?;
-    }
-    Ok(jobs)
-}
-
 // The jobs of so many lanes, so many of each, at the lane's number.
 fn jobs_of_all(alloc: Global, lanes: u32, count: usize) -> Result<Vec<Mutex<VecDeque<Job>>>, Fail>
     requires { lanes ≤ 16 }
 {
     let mut all = Vec::new(alloc);
     for lane in 0..lanes {
-        all.push(Mutex::new(jobs_of(alloc, lane, count)?))?;
+        all.push(Mutex::new(jobs(alloc, lane, count)?))?;
     }
     Ok(all)
 }
@@ -311,29 +302,6 @@ fn room_of_all(
     Ok(all)
 }
 
-// Takes jobs until the line has ended.
-fn take_to_the_end<R: Wait, L: JobLine>(
-    rt: &R,
-    line: &L,
-    pass: &mut L::Pass,
-    taken: &mut Vec<QueuedJob>,
-)
-    requires { L.is_pass (L.id line.now) pass.old }
-    ensures { L.is_pass (L.id line.now) pass.new }
-{
-    for _ in rt.forever() {
-        if taken.reserve(1).is_err() {
-            return;
-        }
-        match line.take(rt, pass) {
-            Taken::Job(id, job) => taken.push_reserved(QueuedJob { id, job }),
-            Taken::EmptyNow => yield_now(),
-            Taken::Ended(_) => return,
-        }
-    }
-    unreachable!()
-}
-
 // Takes by all passes at once.
 fn take_all<R: Threads + Wait + Sync, L: JobLine + Sync>(
     rt: &R,
@@ -355,7 +323,7 @@ where
             ensures { L.is_pass (L.id line.entry.now) pass.exit.now }
         {
             if let Some(taken) = taken.get(number) {
-                take_to_the_end(rt, line, pass, &mut taken.lock(rt));
+                drain(rt, line, pass, &mut taken.lock(rt));
             }
         },
     );
