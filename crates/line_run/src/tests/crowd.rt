@@ -28,14 +28,15 @@ struct Found {
     // The greatest number of a receipt, and the least count that was seen with the closed mark.
     last: AtomicU64,
     least_seen: AtomicU64,
-    // 1 once the line is closed.
+    // 1 once the line is closed, which is when so many jobs were accepted.
     is_closed: AtomicU64,
+    closes_after: u64,
     // Whether each lane keeps its last job until then.
     keeps_last: bool,
 }
 
 impl Found {
-    fn nothing(keeps_last: bool) -> Found {
+    fn nothing(closes_after: u64, keeps_last: bool) -> Found {
         Found {
             accepted: AtomicU64::new(0),
             closed: AtomicU64::new(0),
@@ -43,14 +44,15 @@ impl Found {
             last: AtomicU64::new(0),
             least_seen: AtomicU64::new(u64::MAX),
             is_closed: AtomicU64::new(0),
+            closes_after,
             keeps_last,
         }
     }
 
-    // Waits until so many jobs were accepted.
-    fn await_accepted<R: Wait>(&self, rt: &R, count: u64) {
+    // Waits until the line is to be closed.
+    fn await_accepted<R: Wait>(&self, rt: &R) {
         for _ in rt.forever() {
-            if self.accepted.load(SeqCst) >= count {
+            if self.accepted.load(SeqCst) >= self.closes_after {
                 return;
             }
             yield_now();
@@ -153,7 +155,7 @@ where
     );
 }
 
-// Closes the line once twenty jobs were accepted.
+// Closes the line once enough jobs were accepted.
 fn shut_late<R: Wait, J: Naming, L: JobLine>(
     rt: &R,
     line: &L,
@@ -162,19 +164,19 @@ fn shut_late<R: Wait, J: Naming, L: JobLine>(
 )
     requires { L.id line.now ≡ J.line }
 {
-    found.await_accepted(rt, 20);
+    found.await_accepted(rt);
     door.lock(rt).close(rt, line);
     found.is_closed.store(1, SeqCst);
 }
 
-// Hands in by all lanes, while one more thread closes the line once twenty jobs were accepted.
-fn race<'a, R: Threads + Wait + Sync, J: Naming + Send + Sync, L: JobLine + Sync>(
-    rt: &'a R,
-    line: &'a L,
-    lanes: &'a mut [L::Lane],
-    door: &'a Mutex<Door<J, L>>,
-    jobs: &'a [Mutex<VecDeque<Job>>],
-    found: &'a Found,
+// Hands in by all lanes, while one more thread closes the line.
+fn race<R: Threads + Wait + Sync, J: Naming + Send + Sync, L: JobLine + Sync>(
+    rt: &R,
+    line: &L,
+    lanes: &mut [L::Lane],
+    door: &Mutex<Door<J, L>>,
+    jobs: &[Mutex<VecDeque<Job>>],
+    found: &Found,
 )
 where
     L::Lane: Send,
@@ -194,99 +196,6 @@ where
         requires { L.id line.now ≡ J.line }
     { shut_late(rt, line, door, found) };
     join_mut(rt, &mut closing, &mut feeding);
-}
-
-// What is left of a line after the race, and its close number.
-#[derive(Drop)]
-struct Raced {
-    rest: Rest,
-    close_number: u64,
-}
-
-fn run_race<R: Threads + Wait + Sync, J: Naming + Send + Sync, L: JobLine + Sync>(
-    rt: &R,
-    opened: Opened<L, L::Lane, L::Pass, L::Closer>,
-    jobs: &[Mutex<VecDeque<Job>>],
-    found: &Found,
-) -> Raced
-where
-    L::Lane: Send,
-    L::Closer: Send,
-    L::Note: Send,
-    requires named { L.id opened.line ≡ J.line }
-    requires lanes { All (L.is_lane (L.id opened.line)) opened.lanes.items }
-    requires passes { All (L.is_pass (L.id opened.line)) opened.passes.items }
-    requires closer { L.is_closer (L.id opened.line) opened.closer }
-    requires machine { (L.id opened.line).sizes.machine ≡ 2 }
-    requires all_lanes { map L.lane_record opened.lanes.items
-        ≡ fresh_lanes (L.id opened.line).sizes.lanes }
-    requires all_passes { map L.pass_record opened.passes.items
-        ≡ fresh_passes (L.id opened.line).sizes.passes }
-{
-    let Opened {
-        line,
-        mut lanes,
-        passes,
-        closer,
-    } = opened;
-    let door: Mutex<Door<J, L>> = Mutex::new(Door::new(closer));
-    race(rt, &line, &mut lanes, &door, jobs, found);
-    let note = door.into_inner().into_note(rt, &line);
-    let close_number = L::close_number(&note);
-    Raced {
-        rest: line.into_rest(rt, lanes, passes, note),
-        close_number,
-    }
-}
-
-// Eight lanes hand in fifty jobs each while a ninth thread closes the line, and each lane hands in its
-// last one after that.
-fn late_entries<R: Threads + Wait + Abort + Sync, L: JobLine + Sync>(
-    rt: &R,
-    alloc: Global,
-) -> Result<(), Fail>
-where
-    L::Lane: Send,
-    L::Closer: Send,
-    L::Note: Send,
-{
-    let jobs = jobs_of_all(alloc, 8, 50)?;
-    let found = Found::nothing(true);
-    let sizes = Sizes {
-        machine: 2,
-        lanes: 8,
-        passes: 1,
-        capacity: 400,
-    };
-    let opened = L::open(alloc, sizes)?;
-    let raced = run_race::<R, Brand, L>(rt, opened, &jobs, &found);
-    let accepted = found.accepted.load(SeqCst);
-    let closed = found.closed.load(SeqCst);
-    assert!(rt; accepted >= 20 && closed >= 8 && found.spent.load(SeqCst) == 0);
-    assert_eq!(rt; accepted.wrapping_add(closed), 400);
-    assert!(rt; found.last.load(SeqCst) < raced.close_number);
-    assert!(rt; found.least_seen.load(SeqCst) >= raced.close_number);
-    assert_eq!(rt; raced.rest.jobs.len() as u64, accepted);
-    assert_eq!(rt; sum(&raced.rest.accepted), accepted);
-    Ok(())
-}
-
-fn sum(counts: &[u64]) -> u64 {
-    let mut sum: u64 = 0;
-    for count in counts {
-        sum = sum.wrapping_add(*count);
-    }
-    sum
-}
-
-#[test]
-fn late_entries_under_a_lock(rt: HostRuntime) -> Result<(), Fail> {
-    late_entries::<_, LockedLine>(&rt, rt.alloc())
-}
-
-#[test]
-fn late_entries_with_no_lock(rt: HostRuntime) -> Result<(), Fail> {
-    late_entries::<_, RuledLine>(&rt, rt.alloc())
 }
 
 // A list with room for so many jobs for each pass.
@@ -329,36 +238,16 @@ where
     );
 }
 
-// Hands in by all lanes, and closes the line after that.
-fn hand_in_and_shut<R: Threads + Wait + Sync, J: Naming, L: JobLine + Sync>(
+// Takes by all passes, while all lanes hand in and one more thread closes the line.
+fn race_and_take<R: Threads + Wait + Sync, J: Naming + Send + Sync, L: JobLine + Sync>(
     rt: &R,
     line: &L,
     lanes: &mut [L::Lane],
+    passes: &mut [L::Pass],
     door: &Mutex<Door<J, L>>,
     jobs: &[Mutex<VecDeque<Job>>],
+    taken: &[Mutex<Vec<QueuedJob>>],
     found: &Found,
-)
-where
-    L::Lane: Send,
-    requires named { L.id line.now ≡ J.line }
-    requires lanes { All (L.is_lane (L.id line.now)) lanes.old }
-    requires machine { (L.id line.now).sizes.machine ≡ 2 }
-    ensures { All (L.is_lane (L.id line.now)) lanes.new }
-{
-    hand_in_all(rt, line, lanes, jobs, found);
-    door.lock(rt).close(rt, line);
-}
-
-// Takes by all passes, while all lanes hand in and the line is closed after them.
-fn feed_and_take<'a, R: Threads + Wait + Sync, J: Naming + Send + Sync, L: JobLine + Sync>(
-    rt: &'a R,
-    line: &'a L,
-    lanes: &'a mut [L::Lane],
-    passes: &'a mut [L::Pass],
-    door: &'a Mutex<Door<J, L>>,
-    jobs: &'a [Mutex<VecDeque<Job>>],
-    taken: &'a [Mutex<Vec<QueuedJob>>],
-    found: &'a Found,
 )
 where
     L::Lane: Send,
@@ -372,26 +261,34 @@ where
     ensures lanes { All (L.is_lane (L.id line.now)) lanes.new }
     ensures passes { All (L.is_pass (L.id line.now)) passes.new }
 {
-    let mut feeding = ||
+    let mut racing = ||
         requires named { L.id line.now ≡ J.line }
         requires lanes { All (L.is_lane (L.id line.now)) lanes.now }
         requires machine { (L.id line.now).sizes.machine ≡ 2 }
         ensures { All (L.is_lane (L.id line.entry.now)) lanes.exit.now }
-    { hand_in_and_shut(rt, line, lanes, door, jobs, found) };
+    { race(rt, line, lanes, door, jobs, found) };
     let mut taking = ||
         requires { All (L.is_pass (L.id line.now)) passes.now }
         ensures { All (L.is_pass (L.id line.entry.now)) passes.exit.now }
     { take_all(rt, line, passes, taken) };
-    join_mut(rt, &mut taking, &mut feeding);
+    join_mut(rt, &mut taking, &mut racing);
 }
 
-fn run_to_the_end<R: Threads + Wait + Sync, J: Naming + Send + Sync, L: JobLine + Sync>(
+// What is left of a line after a run, and its close number.
+#[derive(Drop)]
+struct Raced {
+    rest: Rest,
+    close_number: u64,
+}
+
+// Lets all lanes and all passes of a line run. A pass with no list of its own takes nothing.
+fn run_crowd<R: Threads + Wait + Sync, J: Naming + Send + Sync, L: JobLine + Sync>(
     rt: &R,
     opened: Opened<L, L::Lane, L::Pass, L::Closer>,
     jobs: &[Mutex<VecDeque<Job>>],
     taken: &[Mutex<Vec<QueuedJob>>],
     found: &Found,
-) -> Rest
+) -> Raced
 where
     L::Lane: Send,
     L::Pass: Send,
@@ -414,7 +311,7 @@ where
         closer,
     } = opened;
     let door: Mutex<Door<J, L>> = Mutex::new(Door::new(closer));
-    feed_and_take(
+    race_and_take(
         rt,
         &line,
         &mut lanes,
@@ -425,11 +322,66 @@ where
         found,
     );
     let note = door.into_inner().into_note(rt, &line);
-    line.into_rest(rt, lanes, passes, note)
+    let close_number = L::close_number(&note);
+    Raced {
+        rest: line.into_rest(rt, lanes, passes, note),
+        close_number,
+    }
+}
+
+// Eight lanes hand in fifty jobs each while a ninth thread closes the line, and each lane hands in its
+// last one after that.
+fn late_entries<R: Threads + Wait + Abort + Sync, L: JobLine + Sync>(
+    rt: &R,
+    alloc: Global,
+) -> Result<(), Fail>
+where
+    L::Lane: Send,
+    L::Pass: Send,
+    L::Closer: Send,
+    L::Note: Send,
+{
+    let jobs = jobs_of_all(alloc, 8, 50)?;
+    let found = Found::nothing(20, true);
+    let sizes = Sizes {
+        machine: 2,
+        lanes: 8,
+        passes: 1,
+        capacity: 400,
+    };
+    let opened = L::open(alloc, sizes)?;
+    let raced = run_crowd::<R, Brand, L>(rt, opened, &jobs, &[], &found);
+    let accepted = found.accepted.load(SeqCst);
+    let closed = found.closed.load(SeqCst);
+    assert!(rt; accepted >= 20 && closed >= 8 && found.spent.load(SeqCst) == 0);
+    assert_eq!(rt; accepted.wrapping_add(closed), 400);
+    assert!(rt; found.last.load(SeqCst) < raced.close_number);
+    assert!(rt; found.least_seen.load(SeqCst) >= raced.close_number);
+    assert_eq!(rt; raced.rest.jobs.len() as u64, accepted);
+    assert_eq!(rt; sum(&raced.rest.accepted), accepted);
+    Ok(())
+}
+
+fn sum(counts: &[u64]) -> u64 {
+    let mut sum: u64 = 0;
+    for count in counts {
+        sum = sum.wrapping_add(*count);
+    }
+    sum
+}
+
+#[test]
+fn late_entries_under_a_lock(rt: HostRuntime) -> Result<(), Fail> {
+    late_entries::<_, LockedLine>(&rt, rt.alloc())
+}
+
+#[test]
+fn late_entries_with_no_lock(rt: HostRuntime) -> Result<(), Fail> {
+    late_entries::<_, RuledLine>(&rt, rt.alloc())
 }
 
 // Four lanes hand in a hundred jobs each through room for three, and three passes take until the line
-// has ended.
+// has ended. It is closed after the last job.
 fn ring_order<R: Threads + Wait + Abort + Sync, L: JobLine + Sync>(
     rt: &R,
     alloc: Global,
@@ -442,7 +394,7 @@ where
 {
     let jobs = jobs_of_all(alloc, 4, JOBS)?;
     let taken = room_of_all(alloc, 3, 4 * JOBS)?;
-    let found = Found::nothing(false);
+    let found = Found::nothing(4 * JOBS as u64, false);
     let sizes = Sizes {
         machine: 2,
         lanes: 4,
@@ -450,7 +402,7 @@ where
         capacity: 3,
     };
     let opened = L::open(alloc, sizes)?;
-    let rest = run_to_the_end::<R, Brand, L>(rt, opened, &jobs, &taken, &found);
+    let rest = run_crowd::<R, Brand, L>(rt, opened, &jobs, &taken, &found).rest;
     assert!(rt; rest.jobs.is_empty());
     assert!(rt; rest.accepted.as_slice() == [100, 100, 100, 100].as_slice());
     let mut seen = [[false; JOBS]; 4];
