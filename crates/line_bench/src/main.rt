@@ -40,18 +40,19 @@ struct Invocation {
     times_calls: bool,
 }
 
-// What a feeder hands in, or a taker has taken, and the nanoseconds of its calls that had success.
+// The jobs of a feeder or of a taker, and the nanoseconds of its calls that had success, where they
+// are timed.
 #[derive(Drop)]
-struct Feeding {
-    jobs: VecDeque<Job>,
+struct Timed<T> {
+    jobs: T,
     times: Option<Vec<u64>>,
 }
 
-#[derive(Drop)]
-struct Taking {
-    taken: Vec<QueuedJob>,
-    times: Option<Vec<u64>>,
-}
+// What a feeder hands in.
+type Feeding = Timed<VecDeque<Job>>;
+
+// What a taker has taken.
+type Taking = Timed<Vec<QueuedJob>>;
 
 // Room for the times of so many calls, where they are timed.
 fn room_for_times(alloc: Global, is_timed: bool, count: usize) -> Option<Option<Vec<u64>>> {
@@ -149,7 +150,7 @@ fn jobs_of_all(alloc: Global, invocation: Invocation) -> Option<Vec<Mutex<Feedin
 {
     let mut all = Vec::new(alloc);
     for lane in 0..invocation.sizes.lanes {
-        let feeding = Feeding {
+        let feeding = Timed {
             jobs: jobs_of(alloc, lane, invocation.jobs)?,
             times: room_for_times(alloc, invocation.times_calls, invocation.jobs)?,
         };
@@ -162,8 +163,8 @@ fn jobs_of_all(alloc: Global, invocation: Invocation) -> Option<Vec<Mutex<Feedin
 fn room_of_all(alloc: Global, invocation: Invocation, count: usize) -> Option<Vec<Mutex<Taking>>> {
     let mut all = Vec::new(alloc);
     for _ in 0..invocation.sizes.passes {
-        let taking = Taking {
-            taken: Vec::with_capacity(alloc, count).ok()?,
+        let taking = Timed {
+            jobs: Vec::with_capacity(alloc, count).ok()?,
             times: room_for_times(alloc, invocation.times_calls, count)?,
         };
         all.push(Mutex::new(taking)).ok()?;
@@ -208,11 +209,11 @@ fn drain<R: Wait + Clock, L: JobLine>(
     ensures { L.is_pass (L.id line.now) pass.new }
 {
     for _ in rt.forever() {
-        if taking.taken.len() >= count || taking.taken.reserve(1).is_err() {
+        if taking.jobs.len() >= count || taking.jobs.reserve(1).is_err() {
             return;
         }
         match take(rt, line, pass, &mut taking.times) {
-            Taken::Job(id, job) => taking.taken.push_reserved(QueuedJob { id, job }),
+            Taken::Job(id, job) => taking.jobs.push_reserved(QueuedJob { id, job }),
             Taken::EmptyNow => yield_now(),
             Taken::Ended(_) => return,
         }
@@ -318,22 +319,11 @@ fn taken_of_all(rest: &Rest) -> u64 {
     taken.wrapping_sub(rest.jobs.len() as u64)
 }
 
-// The times of all feeders, and of all takers, in order.
-fn submit_times<R: Wait>(rt: &R, alloc: Global, all: &[Mutex<Feeding>]) -> Option<Vec<u64>> {
+// The times of all feeders, or of all takers, in order.
+fn times_of_all<R: Wait, T>(rt: &R, alloc: Global, all: &[Mutex<Timed<T>>]) -> Option<Vec<u64>> {
     let mut times = Vec::new(alloc);
-    for feeding in all {
-        if let Some(own) = &feeding.lock(rt).times {
-            times.extend_from_slice(own).ok()?;
-        }
-    }
-    times.sort_unstable();
-    Some(times)
-}
-
-fn take_times<R: Wait>(rt: &R, alloc: Global, all: &[Mutex<Taking>]) -> Option<Vec<u64>> {
-    let mut times = Vec::new(alloc);
-    for taking in all {
-        if let Some(own) = &taking.lock(rt).times {
+    for timed in all {
+        if let Some(own) = &timed.lock(rt).times {
             times.extend_from_slice(own).ok()?;
         }
     }
@@ -382,8 +372,8 @@ where
     Some(Measured {
         taken: taken_of_all(&rest),
         nanos: nanos?,
-        submits: submit_times(rt, alloc, &jobs)?,
-        takes: take_times(rt, alloc, &taken)?,
+        submits: times_of_all(rt, alloc, &jobs)?,
+        takes: times_of_all(rt, alloc, &taken)?,
     })
 }
 

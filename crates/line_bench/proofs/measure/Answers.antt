@@ -1,4 +1,4 @@
-use Rattle.std.proofs.Common.{◌≡◌, sym, ap, ◌∙◌}
+use Rattle.std.proofs.Common.{sym, ap, ◌∙◌}
 use Rattle.job_queue.proofs.LentLemmas.{lanes_lent, passes_lent}
 use Rattle.line_bench.proofs.measure.Goals as goal
 
