@@ -10,7 +10,7 @@ ghost use Rattle.uses.specs.Processors.{processors_in};
 
 use batch::answer_all;
 use cube_ledger::Ledger;
-use dispatcher::{Finished, Plain};
+use dispatcher::{Finished, Runner};
 use job_queue::RuledLine;
 use job_types::Job;
 use std::alloc::Global;
@@ -19,13 +19,14 @@ use std::sync::Wait;
 use std::thread::Threads;
 use tree_floor::{FreeMachine, TreeFloor};
 
-/// Answers the jobs of all lanes on a machine of dimension `n`, by four workers on threads of their
-/// own, and counts the processors that the jobs had together. There is no answer where memory or a
-/// thread was refused.
-pub fn answer_and_count<R: Threads + Wait + Sync>(
+/// Answers the jobs of all lanes on a machine of dimension `n` by the runner, by four workers on
+/// threads of their own, and counts the processors that the jobs had together. There is no answer
+/// where memory or a thread was refused.
+pub fn answer_and_count<R: Threads + Wait + Sync, T: Runner + Sync>(
     rt: &R,
     alloc: Global,
     n: u32,
+    runner: &T,
     jobs: Vec<VecDeque<Job>>,
 ) -> Option<(Finished<FreeMachine>, u128)>
     requires lanes { length jobs.items < 2 ^ 32 }
@@ -39,9 +40,8 @@ pub fn answer_and_count<R: Threads + Wait + Sync>(
         ≡ processors_in (map (λ replies. replies.items) answered.0.by_worker.items)
         answered.0.rest.items) }
 {
-    let Ok(finished) = answer_all::<R, RuledLine, TreeFloor, Plain>(
-        rt, alloc, n, 4, 16, &Plain, jobs,
-    ) else {
+    let Ok(finished) = answer_all::<R, RuledLine, TreeFloor, T>(rt, alloc, n, 4, 16, runner, jobs)
+    else {
         return None;
     };
     let Ok(ledger) = Ledger::of(alloc, &finished) else {

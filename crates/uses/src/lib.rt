@@ -5,6 +5,7 @@
 
 mod answering;
 mod count;
+mod counting;
 mod extent;
 mod room;
 mod schedule;
@@ -13,6 +14,7 @@ mod two_regions;
 
 pub use answering::answer_and_count;
 pub use count::count_jobs;
+pub use counting::Counting;
 pub use extent::{Extent, share_extent};
 pub use room::has_room;
 pub use schedule::play;

@@ -3,7 +3,8 @@ ghost use Rattle.std.specs.Prelude.{◌≡◌, ℕ, ◌<◌, [], IfOk, map, leng
 ghost use Rattle.std.specs.List.{All};
 ghost use Rattle.job_queue.specs.Line.{IsFor};
 
-use crate::answer_and_count;
+use crate::{Counting, answer_and_count};
+use dispatcher::Plain;
 use job_types::{Job, JobId, Kind, Op, Reply};
 use std::alloc::Global;
 use std::collections::VecDeque;
@@ -77,9 +78,11 @@ fn count_of(replies: &[Reply], id: JobId, first: Option<u64>, second: Option<u64
 #[test]
 fn each_job_is_answered_once(rt: HostRuntime) -> Result<(), Fail> {
     let lists = lists(rt.alloc())?;
-    let answered = answer_and_count(&rt, rt.alloc(), 3, lists);
+    let runner = Counting::new(Plain);
+    let answered = answer_and_count(&rt, rt.alloc(), 3, &runner, lists);
     let (finished, processors) = answered.expect(&rt, "no memory, or no thread");
     assert_eq!(rt; processors, 8);
+    assert_eq!(rt; runner.answered(), 3);
     assert!(rt; finished.accepted.as_slice() == [1, 2].as_slice());
     let scan = (JobId { lane: 0, seq: 0 }, Some(2), Some(9));
     let xor = (JobId { lane: 1, seq: 0 }, Some(3), Some(3));

@@ -1,0 +1,37 @@
+//! A caller of `dispatcher`, with a runner of its own.
+
+use dispatcher::Runner;
+use job_types::{Job, JobId, Region, Reply};
+use std::sync::Wait;
+use std::sync::atomic::{AtomicU64, Ordering};
+
+/// Answers jobs by another runner, and counts them. Threads may share it.
+#[derive(Drop)]
+pub struct Counting<T> {
+    runner: T,
+    answered: AtomicU64,
+}
+
+impl<T> Counting<T> {
+    /// A runner that has answered no job.
+    pub fn new(runner: T) -> Counting<T> {
+        Counting {
+            runner,
+            answered: AtomicU64::new(0),
+        }
+    }
+
+    /// How many jobs were answered, modulo `2^64`. No contract tells of it: that of a runner is about
+    /// replies.
+    pub fn answered(&self) -> u64 {
+        self.answered.load(Ordering::Relaxed)
+    }
+}
+
+impl<T: Runner> Runner for Counting<T> {
+    fn run<R: Wait>(&self, rt: &R, id: JobId, region: Region, job: Job) -> Reply {
+        let reply = self.runner.run(rt, id, region, job);
+        self.answered.fetch_add(1, Ordering::Relaxed);
+        reply
+    }
+}
