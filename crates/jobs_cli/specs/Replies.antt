@@ -14,8 +14,8 @@ use Rattle.jobs_csv.specs.Lanes.{in_lane}
 use Rattle.jobs_cli.specs.JobIds.{with_ids}
 use Rattle.jobs_cli.specs.OpenLanes.{IsLaneCount}
 
--- A shop of a machine of dimension n has finished, whose lanes have accepted the jobs of a file. With the
--- records of the lanes, of which there are `count`, and the number of the close note:
+-- A shop of a machine of dimension n has finished, whose lanes have accepted the jobs of a file, of which
+-- `count` are open. With the records of the lanes and the number of the close note:
 pub record FileRun (n : ℕ) (jobs : List JobData) (count : ℕ) (o : Outcome) : Type 0 where
   pub lanes : List LaneRecord
   pub note : ℕ
