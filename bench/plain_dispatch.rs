@@ -1,6 +1,6 @@
 //! A dispatcher on threads, as plain Rust without crates.
 //!
-//! `plain_dispatch ITEMS LANES DISPATCHERS CAPACITY JOBS` does the work of `dispatch_bench locked`
+//! `plain_dispatch ITEMS LANES DISPATCHERS CAPACITY JOBS` does the work of `cube_bench dispatch locked`
 //! with the same two locks: a mutex around the line, and one around the allocation bits. Build it with
 //! `rustc --edition 2021 -O`.
 

@@ -1,6 +1,6 @@
 //! Jobs through a line that is a `Mutex<VecDeque>`, as plain Rust without crates.
 //!
-//! `plain_line LANES PASSES CAPACITY JOBS` does the work of `line_bench locked`. Build it with
+//! `plain_line LANES PASSES CAPACITY JOBS` does the work of `cube_bench line locked`. Build it with
 //! `rustc --edition 2021 -O`.
 
 use std::collections::VecDeque;

@@ -1,6 +1,6 @@
 //! The rounds of the four collectives on `2^DIM` places, as plain Rust without crates.
 //!
-//! `plain_rounds COLLECTIVE DIM TIMES` does the work of the program `rounds_bench`: it repeats one
+//! `plain_rounds COLLECTIVE DIM TIMES` does the work of `cube_bench rounds`: it repeats one
 //! collective of sums and prints a number that all places determine. Build it with
 //! `rustc --edition 2021 -O`.
 

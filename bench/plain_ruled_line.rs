@@ -1,7 +1,7 @@
 //! Jobs through a line with no lock, as plain Rust without crates: a gate of two words and the ring of
 //! crossbeam's `ArrayQueue`, written after its published algorithm.
 //!
-//! `plain_ruled_line LANES PASSES CAPACITY JOBS [calls]` does the work of `line_bench ruled` with the same
+//! `plain_ruled_line LANES PASSES CAPACITY JOBS [calls]` does the work of `cube_bench line ruled` with the same
 //! arguments. Build it with `rustc --edition 2021 -O`. With `--cfg stamps_seq_cst` all steps of the ring are
 //! sequentially consistent, as they are in the proved line, else they have crossbeam's orders. With
 //! `--cfg padded` the two words of the gate stand in cache lines of their own.

@@ -1,4 +1,4 @@
-//! The takes and releases of the program `tree_bench` as plain Rust without crates.
+//! The takes and releases of `cube_bench tree` as plain Rust without crates.
 //!
 //! `plain_tree MACHINE SIZES THREADS TURNS [times]`, where the machine is `words`, the status tree of
 //! `cube_tree` with the same atomic steps by hand, or `mutex`, allocation bits with first fit under one

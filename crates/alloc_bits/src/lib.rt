@@ -12,6 +12,3 @@ mod slots;
 
 pub use alloc_bits::{AllocBits, NoSubcube, NothingHeld};
 pub use cube_shape::{MAX_DIM, MAX_STATIONS, Region};
-
-#[cfg(test)]
-mod tests;

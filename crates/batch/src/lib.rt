@@ -4,8 +4,6 @@
 
 mod answering;
 mod sorting;
-#[cfg(test)]
-mod tests;
 
 pub use answering::{StopReason, Stopped, answer_all};
 pub use sorting::sorted_replies;

@@ -21,6 +21,3 @@ pub use messages::message_at;
 pub use monoid::Monoid;
 pub use operations::{Add, Affine, And, Max, Min, Or, Xor};
 pub use shape::{DIM_LIMIT, Shape, Tally};
-
-#[cfg(test)]
-mod tests;

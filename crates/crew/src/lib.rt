@@ -6,8 +6,6 @@ mod gang;
 mod member;
 mod running;
 mod slots;
-#[cfg(test)]
-mod tests;
 mod threads;
 
 pub use running::{RunEnd, Unfed, run};

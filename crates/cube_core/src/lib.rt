@@ -20,6 +20,3 @@ pub use event::{Event, Kind, Note};
 pub use phase::{Phase, Seen};
 pub use status_word::Word;
 pub use world::{World, calls_are_single_events, every_schedule_is_lawful};
-
-#[cfg(test)]
-mod tests;

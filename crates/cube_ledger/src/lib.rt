@@ -9,8 +9,6 @@ mod counting;
 mod ledger;
 mod regions;
 mod slip;
-#[cfg(test)]
-mod tests;
 
 pub use counting::occupancy;
 pub use ledger::{Ledger, Totals};

@@ -3,7 +3,5 @@
 #![tactic(auto)]
 
 mod rows;
-#[cfg(test)]
-mod tests;
 
 pub use rows::report_rows;

@@ -24,6 +24,3 @@ pub use neighbours::neighbour;
 pub use node::{Node, Side};
 pub use paths::{child_towards, on_path, parent, side};
 pub use region::{Region, node_of, region_of, regions_apart};
-
-#[cfg(test)]
-mod tests;

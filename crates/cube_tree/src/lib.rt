@@ -25,6 +25,3 @@ pub use refusal::Refusal;
 pub use refused::{CubeRefused, SoloRefused};
 pub use solo::Solo;
 pub use tree_steps::Why;
-
-#[cfg(test)]
-mod tests;

@@ -15,8 +15,6 @@ mod room;
 mod runner;
 mod serving;
 mod shop;
-#[cfg(test)]
-mod tests;
 
 pub use dispatching::dispatch;
 pub use feeding::{FeedEnd, FeedStop, feed};

@@ -11,6 +11,3 @@ mod locked;
 
 pub use floor::Floor;
 pub use locked::{FreeMachine, Held, LockedFloor, Station};
-
-#[cfg(test)]
-mod tests;

@@ -11,8 +11,6 @@ mod job_line;
 mod locked;
 mod record;
 mod ruled;
-#[cfg(test)]
-mod tests;
 
 pub use end::SawEnd;
 pub use job_line::{

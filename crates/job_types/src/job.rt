@@ -128,6 +128,3 @@ impl Job {
         Reply::new(id, region, tally, work)
     }
 }
-
-#[cfg(test)]
-mod tests;

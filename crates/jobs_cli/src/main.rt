@@ -4,23 +4,11 @@
 //! The input comes as CSV from standard input, and its answer goes as CSV to standard output. Jobs are
 //! answered on threads, by the dispatchers and over the line that `--dispatchers` and `--capacity` ask
 //! for. Where standard error is a terminal, it shows how far a long run is, unless `--quiet` is given.
-//! The whole program is `program::run`, over any words, reader and writers; this file ties them to the
-//! process.
+//! The whole program is `program::run` of `cli_commands`, over any words, reader and writers; this file
+//! ties them to the process.
 #![tactic(auto)]
 
-mod command_line;
-mod invocation;
-mod lanes;
-mod place;
-mod play;
-mod program;
-mod progress;
-mod replay;
-mod report;
-mod run;
-mod shop;
-mod stations;
-
+use cli_commands::program;
 use jobs_csv::{Counted, Fault};
 use std::io;
 use std::io::IsTerminal;
@@ -68,6 +56,3 @@ fn main(rt: HostRuntime) -> ExitCode {
     );
     ExitCode::from(ending.status())
 }
-
-#[cfg(test)]
-mod tests;

@@ -43,6 +43,3 @@ pub use replay_rows::ReplayRow;
 pub use report_rows::ReportRow;
 pub use row::{Row, RowFields};
 pub use schedule::{Line, MAX_STEPS, read_schedule};
-
-#[cfg(test)]
-mod tests;

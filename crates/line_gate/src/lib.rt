@@ -12,8 +12,6 @@ mod handle;
 mod record;
 mod rule;
 mod steps;
-#[cfg(test)]
-mod tests;
 mod view;
 
 pub use gate::{Counts, Gate, MAX_ENTRIES, Witness};

@@ -12,8 +12,6 @@ mod piece;
 mod record;
 mod ring;
 mod rule;
-#[cfg(test)]
-mod tests;
 
 pub use handle::{RingEnd, RingLane, RingPass};
 pub use piece::Piece;

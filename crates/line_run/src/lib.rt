@@ -9,8 +9,6 @@ mod feeding;
 mod member;
 mod pair;
 mod running;
-#[cfg(test)]
-mod tests;
 
 pub use draining::drain;
 pub use feeding::feed;

@@ -13,6 +13,3 @@ mod regions;
 
 pub use cube_shape::{MAX_DIM, Region};
 pub use regions::{clear_all, clear_region, first_fit, set_region};
-
-#[cfg(test)]
-mod tests;

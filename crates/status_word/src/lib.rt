@@ -12,6 +12,3 @@ mod word;
 pub use cube_shape::{MAX_STATIONS, Side};
 pub use use_bits::UseBits;
 pub use word::{Word, flags_are_the_bits_of_use};
-
-#[cfg(test)]
-mod tests;

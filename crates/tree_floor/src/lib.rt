@@ -9,6 +9,3 @@ mod tree_floor;
 
 pub use cube_tree::{FreeMachine, Station, Subcube};
 pub use tree_floor::TreeFloor;
-
-#[cfg(test)]
-mod tests;

@@ -20,6 +20,3 @@ pub use room::has_room;
 pub use schedule::play;
 pub use subcubes::{hold_two, hold_two_and_close};
 pub use two_regions::take_two;
-
-#[cfg(test)]
-mod tests;

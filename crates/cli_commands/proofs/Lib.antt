@@ -1,0 +1,7 @@
+pub mod LaneLemmas
+pub mod OrderLemmas
+pub mod RunLemmas
+pub mod TraceLemmas
+pub mod StationLemmas
+pub mod ReplayLemmas
+pub mod ProgramLemmas

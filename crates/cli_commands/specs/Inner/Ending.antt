@@ -1,0 +1,30 @@
+-- How a call of the program ends, by the request of its words or by the error that `clap` gives for them.
+use Rattle.std.specs.Prelude.{◌≡◌, ◌≢◌, ◌⊎◌, ℕ, false, List, Option, Ok, Err, IfSome}
+use Rattle.clap.specs.declared.error.kind.ErrorKind.{ErrorKind}
+use Rattle.clap.specs.declared.error.kind.ErrorKind.TheVariants.{DisplayHelp, DisplayVersion, OutOfMemory}
+use Rattle.jobs_csv.specs.Fault.{is_refusal}
+use Rattle.jobs_csv.specs.declared.fault.Fault.{Fault}
+use Rattle.jobs_csv.specs.declared.fault.FaultKind.TheVariants as what
+use Rattle.cli_words.specs.declared.invocation.Invocation.{Invocation}
+use Rattle.cli_commands.specs.declared.program.Ending.{Ending}
+use Rattle.cli_commands.specs.declared.program.Ending.TheVariants.{Done, Rejected, Failed}
+use Rattle.cli_commands.specs.Program.{IsAnswerTo}
+
+-- the request is answered, or it failed for one of the reasons that are given, which is its answer too
+abbrev pub EndsAfter : Invocation → Option (List ℕ) → Option (List ℕ) → Option (List ℕ) → (Fault → Type 0) → Ending → Type 0
+EndsAfter invocation bytes old new may_fail Done = IfSome bytes (λ b. IsAnswerTo invocation b old new (Ok tt))
+EndsAfter invocation bytes old new may_fail Rejected = ⊥
+EndsAfter invocation bytes old new may_fail (Failed fault is_reported) =
+    IfSome bytes (λ b. IsAnswerTo invocation b old new (Err fault)) × may_fail fault
+
+-- an error of this kind shows the help or the version
+abbrev pub IsShown : ErrorKind → Type 0
+IsShown kind = (kind ≡ DisplayHelp) ⊎ (kind ≡ DisplayVersion)
+
+-- the words have an error of this kind: it is shown, or it rejects them, or there was no memory, or it
+-- could not be written
+abbrev pub EndsOn : ErrorKind → Ending → Type 0
+EndsOn kind Done = IsShown kind
+EndsOn kind Rejected = (kind ≢ DisplayHelp) × (kind ≢ DisplayVersion) × (kind ≢ OutOfMemory)
+EndsOn kind (Failed fault is_reported) =
+    (is_refusal fault.what ≡ false) × ((fault.what ≡ what.OutOfMemory) ⊎ IsShown kind)

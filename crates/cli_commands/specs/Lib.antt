@@ -1,0 +1,10 @@
+pub mod JobIds
+pub mod OpenLanes
+pub mod Replies
+pub mod Report
+pub mod Answer
+pub mod Trace
+pub mod Place
+pub mod Replay
+pub mod Program
+pub mod Inner

@@ -1,0 +1,75 @@
+// The command `place`: a region allocator over names.
+ghost use Rattle.std.specs.Prelude.{◌≡◌, ◌≤◌, All, IfErr, IfSome, OnOk, List};
+ghost use Rattle.jobs_csv.specs.Place.{Fits};
+ghost use Rattle.jobs_csv.specs.PlaceRows.{place_columns, place_fields};
+ghost use Rattle.jobs_csv.specs.Text.{file_text};
+ghost use Rattle.jobs_csv.specs.declared.place_rows.PlaceRow.{PlaceRow as Row};
+ghost use Rattle.std.specs.Io.KnownBytes.{Appends};
+ghost use Rattle.cli_words.specs.declared.invocation.Invocation.TheVariants.{Place};
+ghost use Rattle.cli_commands.specs.Answer.{IsCommandFault, IsMetBeforeWriting};
+ghost use Rattle.cli_commands.specs.Place.{ArePlaced};
+ghost use Rattle.cli_commands.specs.Program.{IsAnswerTo};
+
+use crate::stations::Stations;
+use cube_shape::MAX_DIM;
+use jobs_csv::{Command, Device, Fault, FaultKind, LineBuffer, PlaceRow, WriteStopped};
+use std::alloc::Global;
+use std::io::{Read, Write};
+
+// Answers the commands one after the other, and writes each row under the header as it comes.
+fn answer_all<W: Write>(
+    alloc: Global,
+    n: u32,
+    commands: Vec<Command>,
+    writer: &mut W,
+) -> Result<(), WriteStopped>
+    requires limit { n ≤ MAX_DIM }
+    requires fits { All (λ command. Fits n command) commands.items }
+    ensures { OnOk result ((rows : List Row) × ArePlaced n commands.items rows
+        × Appends (W.contents writer.old) (W.contents writer.new)
+        (file_text place_columns place_fields rows)) }
+{
+    let mut stations = Stations::new(alloc, n)?;
+    let mut lines = LineBuffer::new(alloc)?.push_header::<PlaceRow>()?;
+    for command in commands {
+        let row = stations.answer(command);
+        lines = lines.write_row(row, writer)?;
+    }
+    lines.finish(writer)
+}
+
+/// Reads a file of commands for a machine of dimension `n`, answers them one after the other, and
+/// writes a row for each.
+///
+/// A name that holds a region has a station of its own, the first that had none. A region that is
+/// taken is the first fit for those that are held.
+///
+/// All commands are read before any of them is answered. A fault of the input is the first one in
+/// it, and then nothing is written. `Read` and `Write` come only where that device's count of
+/// failed calls rose in this call, or stood at `u64::MAX`; any other failure is `OutOfMemory`.
+/// After `Write` or `OutOfMemory` the first rows may be out.
+pub fn place_on<R: Read + Device, W: Write + Device>(
+    alloc: Global,
+    n: u32,
+    reader: &mut R,
+    writer: &mut W,
+) -> Result<(), Fault>
+    requires { n ≤ MAX_DIM }
+    ensures answered { IfSome (R.remaining reader.old) (λ bytes.
+        IsAnswerTo (Place n) bytes (W.contents writer.old) (W.contents writer.new) result) }
+    ensures failed { IfErr result
+        (IsCommandFault (R.failures reader.old) (R.failures reader.new)
+        (W.failures writer.old) (W.failures writer.new)) }
+    ensures untouched { IfErr result (λ fault. IsMetBeforeWriting fault → writer.new ≡ writer.old) }
+{
+    let commands = jobs_csv::read_place(alloc, n, reader)?;
+    let failures_before = writer.failures();
+    match answer_all(alloc, n, commands, writer) {
+        Ok(()) => Ok(()),
+        Err(WriteStopped) => Err(Fault::attribute(
+            FaultKind::Write,
+            failures_before,
+            writer.failures(),
+        )),
+    }
+}

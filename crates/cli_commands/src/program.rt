@@ -1,0 +1,202 @@
+//! From the words of a command line to the end of the program.
+ghost use Rattle.std.specs.Prelude.{◌≡◌, ◌⊎◌, ◌++◌, ◌∷◌, [], Bool, true, IfErr, IfSome, IsTrue, map, string_bytes};
+ghost use Rattle.std.specs.Io.KnownBytes.{Appends};
+ghost use Rattle.clap.specs.Words.{FailsBy, fault_of, kind_of};
+ghost use Rattle.clap.specs.declared.error.kind.ErrorKind.TheVariants.{DisplayHelp, DisplayVersion, OutOfMemory};
+ghost use Rattle.jobs_csv.specs.Fault.{attribute, fault_text};
+ghost use Rattle.jobs_csv.specs.declared.fault.Fault.{Fault as TheFault};
+ghost use Rattle.cli_words.specs.CommandLine.{IsWithinLimits, program_app};
+ghost use Rattle.cli_commands.specs.Answer.{IsMetBeforeWriting};
+ghost use Rattle.cli_commands.specs.Inner.Ending.{EndsAfter, EndsOn};
+ghost use Rattle.cli_commands.specs.Program.{AsksForProgress, EndsBy, IsAnswerTo, IsFaultOf, ShowsProgress, exit_status};
+
+use crate::{place, replay, report, run};
+use clap::error::ErrorKind;
+use cli_words::{Invocation, parse_args};
+use dispatcher::Plain;
+use jobs_csv::{Device, Fault, FaultKind};
+use std::alloc::Global;
+use std::io::{Read, Write};
+use std::sync::Wait;
+use std::thread::Threads;
+
+/// How a call of the program ends.
+#[derive(Clone, Copy, Debug, PartialEq, Eq)]
+pub enum Ending {
+    /// The command is done, or the help or the version is shown.
+    Done,
+    /// The command line is bad.
+    Rejected,
+    /// The command failed. `is_reported` says whether the error line was written.
+    Failed { fault: Fault, is_reported: bool },
+}
+
+impl Ending {
+    /// The exit status.
+    pub fn status(&self) -> u8
+        ensures { result ≡ exit_status self.now }
+    {
+        match self {
+            Ending::Done => 0,
+            Ending::Rejected => 2,
+            Ending::Failed { fault, .. } => fault.status(),
+        }
+    }
+}
+
+// Reports a fault in one line.
+fn report_fault<E: Write>(fault: Fault, errors: &mut E) -> Ending
+    ensures failed { (is_reported : Bool) × (result ≡ Ending.Failed fault is_reported) }
+    ensures line { result ≡ Ending.Failed fault true
+        → Appends (E.contents errors.old) (E.contents errors.new) (fault_text fault ++ 10 ∷ []) }
+{
+    let is_reported = errors.writeln(fault).is_ok();
+    Ending::Failed { fault, is_reported }
+}
+
+// Does what the request asks for.
+fn answer<H, R, W, P>(
+    rt: &H,
+    alloc: Global,
+    invocation: Invocation,
+    reader: &mut R,
+    writer: &mut W,
+    terminal: &mut Option<P>,
+) -> Result<(), Fault>
+where
+    H: Threads + Wait + Sync,
+    R: Read + Device,
+    W: Write + Device,
+    P: Write + Send,
+    requires { IsWithinLimits invocation }
+    ensures answered { IfSome (R.remaining reader.old) (λ bytes.
+        IsAnswerTo invocation bytes (W.contents writer.old) (W.contents writer.new) result) }
+    ensures failed { IfErr result
+        (IsFaultOf (R.failures reader.old) (R.failures reader.new)
+        (W.failures writer.old) (W.failures writer.new) invocation) }
+    ensures untouched { IfErr result (λ fault. IsMetBeforeWriting fault → writer.new ≡ writer.old) }
+    ensures shown { (terminal.new ≡ terminal.old) ⊎ ShowsProgress invocation }
+{
+    match invocation {
+        Invocation::Run(options) => {
+            run::run_with_progress(rt, alloc, options, &Plain, reader, writer, terminal)
+        }
+        Invocation::Report(options) => {
+            report::report_with_progress(rt, alloc, options, &Plain, reader, writer, terminal)
+        }
+        Invocation::Place { n } => place::place_on(alloc, n, reader, writer),
+        Invocation::Replay { n, stations } => replay::replay_on(alloc, n, stations, reader, writer),
+    }
+}
+
+// Does what the request asks for, and reports its fault in one line.
+fn carry_out<H, R, W, E, P>(
+    rt: &H,
+    alloc: Global,
+    invocation: Invocation,
+    reader: &mut R,
+    writer: &mut W,
+    errors: &mut E,
+    terminal: &mut Option<P>,
+) -> Ending
+where
+    H: Threads + Wait + Sync,
+    R: Read + Device,
+    W: Write + Device,
+    E: Write,
+    P: Write + Send,
+    requires { IsWithinLimits invocation }
+    ensures ends { EndsAfter invocation (R.remaining reader.old)
+        (W.contents writer.old) (W.contents writer.new)
+        (IsFaultOf (R.failures reader.old) (R.failures reader.new)
+        (W.failures writer.old) (W.failures writer.new) invocation) result }
+    ensures line { (fault : TheFault) → result ≡ Ending.Failed fault true
+        → Appends (E.contents errors.old) (E.contents errors.new) (fault_text fault ++ 10 ∷ []) }
+    ensures quiet { result ≡ Ending.Done → errors.new ≡ errors.old }
+    ensures shown { (terminal.new ≡ terminal.old) ⊎ ShowsProgress invocation }
+{
+    match answer(rt, alloc, invocation, reader, writer, terminal) {
+        Ok(()) => Ending::Done,
+        Err(fault) => report_fault(fault, errors),
+    }
+}
+
+// Writes the help or the version, which were asked for.
+fn show<W: Write + Device, E: Write>(error: &clap::Error, writer: &mut W, errors: &mut E) -> Ending
+    ensures shown { (result ≡ Ending.Done) ⊎ ((is_reported : Bool) × (result ≡ Ending.Failed
+        (attribute FaultKind.Write (W.failures writer.old) (W.failures writer.new)) is_reported)) }
+    ensures line { (fault : TheFault) → result ≡ Ending.Failed fault true
+        → Appends (E.contents errors.old) (E.contents errors.new) (fault_text fault ++ 10 ∷ []) }
+    ensures quiet { result ≡ Ending.Done → errors.new ≡ errors.old }
+{
+    let failures_before = writer.failures();
+    if write!(writer, "{error}").is_ok() && writer.flush().is_ok() {
+        return Ending::Done;
+    }
+    report_fault(
+        Fault::attribute(FaultKind::Write, failures_before, writer.failures()),
+        errors,
+    )
+}
+
+// Shows the help or the version where they were asked for, or says what is wrong with the words.
+fn explain<W: Write + Device, E: Write>(
+    error: &clap::Error,
+    writer: &mut W,
+    errors: &mut E,
+) -> Ending
+    ensures ends { EndsOn (kind_of error.now) result }
+    ensures line { (fault : TheFault) → result ≡ Ending.Failed fault true
+        → Appends (E.contents errors.old) (E.contents errors.new) (fault_text fault ++ 10 ∷ []) }
+    ensures quiet { result ≡ Ending.Done → errors.new ≡ errors.old }
+    ensures rejected { result ≡ Ending.Rejected → writer.new ≡ writer.old }
+{
+    match error.kind() {
+        ErrorKind::OutOfMemory => return report_fault(Fault::no_memory(), errors),
+        ErrorKind::DisplayHelp | ErrorKind::DisplayVersion => return show(error, writer, errors),
+        _ => {
+            let _written = write!(errors, "{error}");
+            return Ending::Rejected;
+        }
+    }
+}
+
+/// Does what the words of a command line ask for, of which the first is the program's name.
+///
+/// The line of a fault and what is wrong with a command line go to `errors`. Jobs are answered on
+/// threads of the runtime. The terminal, where there is one, shows how far a long run is while it
+/// works, unless the words ask for none of that.
+pub fn run<H, R, W, E, P>(
+    rt: &H,
+    alloc: Global,
+    words: &[String],
+    reader: &mut R,
+    writer: &mut W,
+    errors: &mut E,
+    terminal: &mut Option<P>,
+) -> Ending
+where
+    H: Threads + Wait + Sync,
+    R: Read + Device,
+    W: Write + Device,
+    E: Write,
+    P: Write + Send,
+    ensures ends { EndsBy (map string_bytes words.now) (R.remaining reader.old)
+        (W.contents writer.old) (W.contents writer.new)
+        (IsFaultOf (R.failures reader.old) (R.failures reader.new)
+        (W.failures writer.old) (W.failures writer.new)) result }
+    ensures line { (fault : TheFault) → result ≡ Ending.Failed fault true
+        → Appends (E.contents errors.old) (E.contents errors.new) (fault_text fault ++ 10 ∷ []) }
+    ensures quiet { result ≡ Ending.Done → errors.new ≡ errors.old }
+    ensures rejected { result ≡ Ending.Rejected
+        → (reader.new ≡ reader.old) × (writer.new ≡ writer.old) }
+    ensures shown { (terminal.new ≡ terminal.old) ⊎ AsksForProgress (map string_bytes words.now) }
+{
+    let error = match parse_args(alloc, words) {
+        Ok(invocation) => {
+            return carry_out(rt, alloc, invocation, reader, writer, errors, terminal);
+        }
+        Err(error) => error,
+    };
+    explain(&error, writer, errors)
+}

@@ -1,0 +1,6 @@
+use Rattle.std.proofs.Common.{◌≡◌}
+use Rattle.cube_tree.specs.Solo.{solo_dim}
+use Rattle.cube_bench.proofs.tree.alone.solo_turns.Given as goal
+
+abbrev pub invariant-loop-index : goal.invariant-loop-index
+invariant-loop-index l = solo_dim l.solo ≡ 10

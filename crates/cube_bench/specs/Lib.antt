@@ -1,0 +1,2 @@
+pub mod TreeLanes
+pub mod TreeWords

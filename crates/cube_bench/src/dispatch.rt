@@ -1,0 +1,94 @@
+//! Runs a dispatcher on threads, so that it can be timed: the words
+//! `SHOP ITEMS LANES DISPATCHERS CAPACITY JOBS`.
+ghost use Rattle.std.specs.Prelude.{◌≤◌};
+
+mod lists;
+mod words;
+
+use crate::outcome::{Measured, Stopped, nanos_since};
+use crew::run;
+use dispatcher::{Finished, Plain};
+use floors::{Floor, LockedFloor};
+use job_queue::{JobLine, LockedLine, RuledLine};
+use job_types::MAX_LANES;
+use lists::jobs_of_all;
+use std::alloc::Global;
+use std::rt::Clock;
+use std::sync::Wait;
+use std::thread::Threads;
+use std::time::Instant;
+use tree_floor::TreeFloor;
+use words::{DIM, Invocation, parse_words};
+
+// How many replies there are.
+fn reply_count<M>(finished: &Finished<M>) -> u64 {
+    let mut count = finished.rest.len() as u64;
+    for replies in finished.by_worker.iter() {
+        count = count.wrapping_add(replies.len() as u64);
+    }
+    count
+}
+
+// Runs a new shop over this line and this floor: how many jobs have a reply, and the nanoseconds from
+// the opening of the shop to its end.
+fn run_shop<R: Threads + Wait + Sync + Clock, L: JobLine + Sync, F: Floor + Sync>(
+    rt: &R,
+    alloc: Global,
+    invocation: Invocation,
+) -> Option<Measured>
+where
+    L::Lane: Send,
+    L::Pass: Send,
+    L::Closer: Send,
+    L::Note: Send,
+    F::Station: Send,
+    F::Machine: Drop,
+    requires { invocation.lanes ≤ MAX_LANES }
+{
+    let lists = jobs_of_all(alloc, invocation)?;
+    let start = Instant::now(rt);
+    let ran = run::<R, L, F, Plain>(
+        rt,
+        alloc,
+        DIM,
+        invocation.dispatchers,
+        invocation.capacity,
+        &Plain,
+        lists,
+    );
+    let nanos = nanos_since(rt, start);
+    let Ok(end) = ran else {
+        return None;
+    };
+    Some(Measured::timed(alloc, reply_count(&end.finished), nanos?))
+}
+
+// Runs the shop that is asked for.
+fn measure_shop<R: Threads + Wait + Sync + Clock>(
+    rt: &R,
+    alloc: Global,
+    invocation: Invocation,
+) -> Option<Measured>
+    requires { invocation.lanes ≤ MAX_LANES }
+{
+    if invocation.is_free {
+        run_shop::<R, RuledLine, TreeFloor>(rt, alloc, invocation)
+    } else {
+        run_shop::<R, LockedLine, LockedFloor>(rt, alloc, invocation)
+    }
+}
+
+/// Runs the shop that the words ask for, and counts and times it.
+pub fn measure<R: Threads + Wait + Sync + Clock>(
+    rt: &R,
+    alloc: Global,
+    words: &[String],
+) -> Result<Measured, Stopped> {
+    let Some(invocation) = parse_words(words) else {
+        return Err(Stopped::BadWords);
+    };
+    let Some(measured) = measure_shop(rt, alloc, invocation) else {
+        return Err(Stopped::Failed);
+    };
+    Ok(measured)
+}

@@ -1,0 +1,255 @@
+//! Hands jobs through a line, so that it can be timed: the words
+//! `LINE LANES PASSES CAPACITY JOBS [calls]`.
+ghost use Rattle.std.specs.Prelude.{◌≡◌, ◌<◌, ◌≤◌};
+ghost use Rattle.std.specs.List.{All};
+
+mod calls;
+mod words;
+
+use crate::jobs::jobs_of;
+use crate::outcome::{Measured, Stopped, nanos_since};
+use calls::{Feeding, Taking, Timed, room_for_times, submit, take, times_of_all};
+use job_queue::{
+    JobLine, LockedLine, MAX_CAPACITY, MAX_PASSES, Opened, QueuedJob, Refused, Rest, RuledLine,
+    Taken,
+};
+use job_types::MAX_LANES;
+use std::alloc::Global;
+use std::rt::Clock;
+use std::sync::{Mutex, Wait};
+use std::thread::{Threads, for_each_mut, join_mut, yield_now};
+use std::time::Instant;
+use words::{Invocation, MACHINE, MAX_JOBS, parse_words};
+
+// The jobs of each lane, at the lane's number.
+fn jobs_of_all(alloc: Global, invocation: Invocation) -> Option<Vec<Mutex<Feeding>>>
+    requires { invocation.sizes.lanes ≤ MAX_LANES }
+{
+    let mut all = Vec::new(alloc);
+    for lane in 0..invocation.sizes.lanes {
+        let feeding = Timed {
+            jobs: jobs_of(alloc, MACHINE, lane, 1, invocation.jobs)?,
+            times: room_for_times(alloc, invocation.times_calls, invocation.jobs)?,
+        };
+        all.push(Mutex::new(feeding)).ok()?;
+    }
+    Some(all)
+}
+
+// A list with room for `count` jobs for each pass.
+fn room_of_all(alloc: Global, invocation: Invocation, count: usize) -> Option<Vec<Mutex<Taking>>> {
+    let mut all = Vec::new(alloc);
+    for _ in 0..invocation.sizes.passes {
+        let taking = Timed {
+            jobs: Vec::with_capacity(alloc, count).ok()?,
+            times: room_for_times(alloc, invocation.times_calls, count)?,
+        };
+        all.push(Mutex::new(taking)).ok()?;
+    }
+    Some(all)
+}
+
+// Hands in the jobs, and tries again where the line is full.
+fn feed<R: Wait + Clock, L: JobLine>(rt: &R, line: &L, lane: &mut L::Lane, feeding: &mut Feeding)
+    requires lane { L.is_lane (L.id line.now) lane.old }
+    requires machine { (L.id line.now).sizes.machine ≡ MACHINE }
+    ensures { L.is_lane (L.id line.now) lane.new }
+{
+    for _ in rt.forever() {
+        let Some(job) = feeding.jobs.pop_front() else {
+            return;
+        };
+        if job.machine() != MACHINE || job.lane() != L::lane_number(lane) {
+            return;
+        }
+        match submit(rt, line, lane, job, &mut feeding.times) {
+            Ok(_) => {}
+            Err((job, Refused::Full)) => {
+                feeding.jobs.push_front_reserved(job);
+                yield_now();
+            }
+            Err((_, Refused::Closed { .. } | Refused::LaneSpent)) => return,
+        }
+    }
+    unreachable!()
+}
+
+// Takes this many jobs, for which the list has room.
+fn drain<R: Wait + Clock, L: JobLine>(
+    rt: &R,
+    line: &L,
+    pass: &mut L::Pass,
+    taking: &mut Taking,
+    count: usize,
+)
+    requires { L.is_pass (L.id line.now) pass.old }
+    ensures { L.is_pass (L.id line.now) pass.new }
+{
+    for _ in rt.forever() {
+        if taking.jobs.len() >= count || taking.jobs.reserve(1).is_err() {
+            return;
+        }
+        match take(rt, line, pass, &mut taking.times) {
+            Taken::Job(id, job) => taking.jobs.push_reserved(QueuedJob { id, job }),
+            Taken::EmptyNow => yield_now(),
+            Taken::Ended(_) => return,
+        }
+    }
+    unreachable!()
+}
+
+// Feeds by all lanes at once.
+fn feed_all<R: Threads + Wait + Clock + Sync, L: JobLine + Sync>(
+    rt: &R,
+    line: &L,
+    lanes: &mut [L::Lane],
+    jobs: &[Mutex<Feeding>],
+)
+where
+    L::Lane: Send,
+    requires lanes { All (L.is_lane (L.id line.now)) lanes.old }
+    requires machine { (L.id line.now).sizes.machine ≡ MACHINE }
+    ensures { All (L.is_lane (L.id line.now)) lanes.new }
+{
+    let feed_one = |number: usize, lane: &mut L::Lane|
+        requires lane { L.is_lane (L.id line.now) lane.now }
+        requires machine { (L.id line.now).sizes.machine ≡ MACHINE }
+        ensures { L.is_lane (L.id line.entry.now) lane.exit.now }
+    {
+        if let Some(jobs) = jobs.get(number) {
+            feed(rt, line, lane, &mut jobs.lock(rt));
+        }
+    };
+    for_each_mut(rt, lanes, MAX_LANES as usize, &feed_one);
+}
+
+// Drains by all passes at once, and each takes this many jobs.
+fn drain_all<R: Threads + Wait + Clock + Sync, L: JobLine + Sync>(
+    rt: &R,
+    line: &L,
+    passes: &mut [L::Pass],
+    taken: &[Mutex<Taking>],
+    count: usize,
+)
+where
+    L::Pass: Send,
+    requires { All (L.is_pass (L.id line.now)) passes.old }
+    ensures { All (L.is_pass (L.id line.now)) passes.new }
+{
+    let drain_one = |number: usize, pass: &mut L::Pass|
+        requires { L.is_pass (L.id line.now) pass.now }
+        ensures { L.is_pass (L.id line.entry.now) pass.exit.now }
+    {
+        if let Some(taken) = taken.get(number) {
+            drain(rt, line, pass, &mut taken.lock(rt), count);
+        }
+    };
+    for_each_mut(rt, passes, MAX_PASSES as usize, &drain_one);
+}
+
+// Feeds by all lanes and drains by all passes at once. Where no thread can be made, it feeds first.
+fn run_threads<'a, R: Threads + Wait + Clock + Sync, L: JobLine + Sync>(
+    rt: &'a R,
+    line: &'a L,
+    lanes: &'a mut [L::Lane],
+    passes: &'a mut [L::Pass],
+    jobs: &'a [Mutex<Feeding>],
+    taken: &'a [Mutex<Taking>],
+    count: usize,
+)
+where
+    L::Lane: Send,
+    L::Pass: Send,
+    requires lanes { All (L.is_lane (L.id line.now)) lanes.old }
+    requires passes { All (L.is_pass (L.id line.now)) passes.old }
+    requires machine { (L.id line.now).sizes.machine ≡ MACHINE }
+    ensures lanes { All (L.is_lane (L.id line.now)) lanes.new }
+    ensures passes { All (L.is_pass (L.id line.now)) passes.new }
+{
+    let mut feeding = ||
+        requires lanes { All (L.is_lane (L.id line.now)) lanes.now }
+        requires machine { (L.id line.now).sizes.machine ≡ MACHINE }
+        ensures { All (L.is_lane (L.id line.entry.now)) lanes.exit.now }
+    { feed_all(rt, line, lanes, jobs) };
+    let mut draining = ||
+        requires { All (L.is_pass (L.id line.now)) passes.now }
+        ensures { All (L.is_pass (L.id line.entry.now)) passes.exit.now }
+    { drain_all(rt, line, passes, taken, count) };
+    join_mut(rt, &mut draining, &mut feeding);
+}
+
+// The number of jobs that were accepted and are not left.
+fn taken_of_all(rest: &Rest) -> u64 {
+    let mut taken: u64 = 0;
+    for accepted in &rest.accepted {
+        taken = taken.wrapping_add(*accepted);
+    }
+    taken.wrapping_sub(rest.jobs.len() as u64)
+}
+
+// Runs the threads on a new line: the number of jobs that were taken, the nanoseconds that it took, and
+// those of each call in order, where the calls were timed.
+fn measure_line<R: Threads + Wait + Sync + Clock, L: JobLine + Sync>(
+    rt: &R,
+    alloc: Global,
+    invocation: Invocation,
+) -> Option<Measured>
+where
+    L::Lane: Send,
+    L::Pass: Send,
+    requires lanes { invocation.sizes.lanes ≤ MAX_LANES }
+    requires passes { (0 < invocation.sizes.passes) × (invocation.sizes.passes ≤ MAX_PASSES) }
+    requires capacity { (0 < invocation.sizes.capacity)
+        × (invocation.sizes.capacity ≤ MAX_CAPACITY) }
+    requires machine { invocation.sizes.machine ≡ MACHINE }
+    requires jobs { invocation.jobs ≤ MAX_JOBS }
+{
+    let Invocation {
+        sizes,
+        jobs: each,
+        ..
+    } = invocation;
+    let count = each * sizes.lanes as usize / sizes.passes as usize;
+    let jobs = jobs_of_all(alloc, invocation)?;
+    let taken = room_of_all(alloc, invocation, count)?;
+    let Ok(opened) = L::open(alloc, sizes) else {
+        return None;
+    };
+    let Opened {
+        line,
+        mut lanes,
+        mut passes,
+        closer,
+    } = opened;
+    let start = Instant::now(rt);
+    run_threads(rt, &line, &mut lanes, &mut passes, &jobs, &taken, count);
+    let nanos = nanos_since(rt, start);
+    let note = line.close(rt, closer);
+    let rest = line.into_rest(rt, lanes, passes, note);
+    Some(Measured {
+        count: taken_of_all(&rest),
+        nanos: Some(nanos?),
+        submits: times_of_all(rt, alloc, &jobs)?,
+        takes: times_of_all(rt, alloc, &taken)?,
+    })
+}
+
+/// Runs the line that the words ask for, and counts and times the jobs that were taken.
+pub fn measure<R: Threads + Wait + Sync + Clock>(
+    rt: &R,
+    alloc: Global,
+    words: &[String],
+) -> Result<Measured, Stopped> {
+    let Some(invocation) = parse_words(words) else {
+        return Err(Stopped::BadWords);
+    };
+    let measured = if invocation.is_ruled {
+        measure_line::<R, RuledLine>(rt, alloc, invocation)
+    } else {
+        measure_line::<R, LockedLine>(rt, alloc, invocation)
+    };
+    let Some(measured) = measured else {
+        return Err(Stopped::Failed);
+    };
+    Ok(measured)
+}

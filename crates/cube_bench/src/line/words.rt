@@ -1,0 +1,63 @@
+//! The words of a measurement of a line.
+ghost use Rattle.std.specs.Prelude.{◌≡◌, ◌<◌, ◌≤◌, IfSome};
+
+use job_queue::{MAX_CAPACITY, MAX_PASSES, Sizes};
+use job_types::MAX_LANES;
+
+/// The dimension of the machine that the jobs are for.
+pub const MACHINE: u32 = 2;
+
+/// The most jobs of a lane.
+pub const MAX_JOBS: usize = 1_000_000;
+
+/// The run that the words ask for.
+#[derive(Clone, Copy)]
+pub struct Invocation {
+    pub is_ruled: bool,
+    pub sizes: Sizes,
+    /// The jobs of each lane.
+    pub jobs: usize,
+    pub times_calls: bool,
+}
+
+/// The run that the words ask for, if they are well formed. The passes share the jobs evenly.
+pub fn parse_words(words: &[String]) -> Option<Invocation>
+    ensures lanes { IfSome result (λ it. it.sizes.lanes ≤ MAX_LANES) }
+    ensures passes { IfSome result (λ it.
+        (0 < it.sizes.passes) × (it.sizes.passes ≤ MAX_PASSES)) }
+    ensures capacity { IfSome result (λ it.
+        (0 < it.sizes.capacity) × (it.sizes.capacity ≤ MAX_CAPACITY)) }
+    ensures machine { IfSome result (λ it. it.sizes.machine ≡ MACHINE) }
+    ensures jobs { IfSome result (λ it. it.jobs ≤ MAX_JOBS) }
+{
+    if words.len() != 5 && words.len() != 6 {
+        return None;
+    }
+    let is_ruled = words[0].as_str() == "ruled";
+    let times_calls = words.len() == 6;
+    let lanes = words[1].parse::<u32>().ok()?;
+    let passes = words[2].parse::<u32>().ok()?;
+    let capacity = words[3].parse::<usize>().ok()?;
+    let jobs = words[4].parse::<usize>().ok()?;
+    if !is_ruled && words[0].as_str() != "locked" {
+        return None;
+    }
+    if lanes > MAX_LANES || passes > MAX_PASSES || capacity > MAX_CAPACITY || jobs > MAX_JOBS {
+        return None;
+    }
+    if passes == 0 || capacity == 0 || lanes as usize * jobs % passes as usize != 0 {
+        return None;
+    }
+    let sizes = Sizes {
+        machine: MACHINE,
+        lanes,
+        passes,
+        capacity,
+    };
+    Some(Invocation {
+        is_ruled,
+        sizes,
+        jobs,
+        times_calls,
+    })
+}

@@ -1,0 +1,95 @@
+//! Runs parts of the program, so that they can be timed: `cube_bench MEASUREMENT [and MEASUREMENT]..`.
+//! One after the other, each prints what it counted.
+//!
+//! `rounds COLLECTIVE DIM TIMES` repeats one collective on `2^DIM` places. The collective is
+//! `broadcast`, `reduce`, `allreduce` or `scan`, of sums; its root is the last place. It prints a number
+//! that all places determine in the end.
+//!
+//! `line LINE LANES PASSES CAPACITY JOBS [calls]` hands jobs through a line, which is `ruled` or
+//! `locked`. Each lane hands in JOBS jobs, and each pass takes as many as the others, each on a thread of
+//! its own. The jobs are made before. It prints the number of jobs that were taken, and on standard error
+//! the nanoseconds from the first submit to the last take. With `calls` it also reads the clock before
+//! and after each call, and standard error has six lines more: the nanoseconds of submits that were
+//! accepted, and of takes that had a job, each as median, 99 % and 99.9 %.
+//!
+//! `tree SIZES THREADS TURNS` takes and gives back regions of a running tree of dimension 10. Each thread
+//! has a station, which makes so many turns of one take and its release. SIZES is `leaf`, where each take
+//! asks for one processor, or `mixed`, where those of a station ask for the dimensions 0 to 5 in turn. In
+//! place of THREADS, `solo` has the turns made by a tree in one hand, and `bits` by the allocation bits.
+//! It prints how many takes were given.
+//!
+//! `dispatch SHOP ITEMS LANES DISPATCHERS CAPACITY JOBS` runs a dispatcher on threads, where SHOP is
+//! `free`, the line with no lock and the tree, or `locked`, the line and the floor under a lock each.
+//! Each lane hands in JOBS all-reduces of ITEMS numbers, and DISPATCHERS workers answer them on subcubes
+//! of a machine of dimension 10, through a line of CAPACITY jobs. The jobs are made before. It prints
+//! the number of replies, and on standard error the nanoseconds from the opening of the shop to its
+//! end.
+#![tactic(auto)]
+
+mod dispatch;
+mod jobs;
+mod line;
+mod outcome;
+mod rounds;
+mod tree;
+
+use outcome::{Measured, Stopped, print};
+use std::alloc::Global;
+use std::io;
+use std::process::ExitCode;
+use std::rt::{Clock, Env};
+use std::sync::Wait;
+use std::thread::Threads;
+
+// The words of the command line, from the program's name on.
+fn arguments<R: Env + AllocGlobal>(rt: &R) -> io::Result<Vec<String>> {
+    let arguments = std::env::args(rt)?.collect(rt.alloc())?;
+    Ok(arguments)
+}
+
+// Makes the measurement of these words, of which the first is its name.
+fn measure<R: Threads + Wait + Sync + Clock>(
+    rt: &R,
+    alloc: Global,
+    words: &[String],
+) -> Result<Measured, Stopped> {
+    let Some((name, words)) = words.split_first() else {
+        return Err(Stopped::BadWords);
+    };
+    match name.as_str() {
+        "rounds" => rounds::measure(alloc, words),
+        "line" => line::measure(rt, alloc, words),
+        "tree" => tree::measure(rt, alloc, words),
+        "dispatch" => dispatch::measure(rt, alloc, words),
+        _ => Err(Stopped::BadWords),
+    }
+}
+
+// Makes the measurements of these words one after the other, and prints what comes of each.
+fn measure_each<R: Threads + Wait + Sync + Clock + Print + Eprint>(
+    rt: &R,
+    alloc: Global,
+    words: &[String],
+) -> Result<(), Stopped> {
+    for words in words.split(|word| word.as_str() == "and") {
+        let measured = measure(rt, alloc, words)?;
+        if print(rt, &measured).is_err() {
+            return Err(Stopped::Failed);
+        }
+    }
+    Ok(())
+}
+
+fn main(rt: HostRuntime) -> ExitCode {
+    let Ok(arguments) = arguments(&rt) else {
+        return ExitCode::from(3);
+    };
+    let Some((_program, words)) = arguments.split_first() else {
+        return ExitCode::from(2);
+    };
+    match measure_each(&rt, rt.alloc(), words) {
+        Ok(()) => ExitCode::SUCCESS,
+        Err(Stopped::BadWords) => ExitCode::from(2),
+        Err(Stopped::Failed) => ExitCode::from(3),
+    }
+}

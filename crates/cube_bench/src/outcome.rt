@@ -1,0 +1,83 @@
+//! What comes of a measurement, and how it is printed.
+use std::alloc::Global;
+use std::io;
+use std::rt::Clock;
+use std::time::Instant;
+
+/// What was measured.
+#[derive(Drop)]
+pub struct Measured {
+    /// What the run counted.
+    pub count: u64,
+    /// The nanoseconds that it took, where the program timed it.
+    pub nanos: Option<u128>,
+    /// The nanoseconds of each submit that was accepted, in order, where calls were timed.
+    pub submits: Vec<u64>,
+    /// The nanoseconds of each take that had a job, in order, where calls were timed.
+    pub takes: Vec<u64>,
+}
+
+impl Measured {
+    /// A run that is timed from outside.
+    pub fn counted(alloc: Global, count: u64) -> Self {
+        Measured {
+            count,
+            nanos: None,
+            submits: Vec::new(alloc),
+            takes: Vec::new(alloc),
+        }
+    }
+
+    /// A run that took so many nanoseconds.
+    pub fn timed(alloc: Global, count: u64, nanos: u128) -> Self {
+        Measured {
+            count,
+            nanos: Some(nanos),
+            submits: Vec::new(alloc),
+            takes: Vec::new(alloc),
+        }
+    }
+}
+
+/// Why nothing was measured.
+#[derive(Clone, Copy, Debug, PartialEq, Eq)]
+pub enum Stopped {
+    /// The words ask for no measurement.
+    BadWords,
+    /// There was no memory or no clock, or the output failed.
+    Failed,
+}
+
+/// The nanoseconds since a reading of the clock.
+pub fn nanos_since<R: Clock>(rt: &R, start: io::Result<Instant>) -> Option<u128> {
+    let elapsed = start.ok()?.elapsed(rt).ok()?;
+    Some(elapsed.as_nanos())
+}
+
+// The time that so many thousandths of the sorted times do not pass.
+fn percentile(times: &[u64], thousandths: usize) -> u64 {
+    match times.get((times.len() / 1000).saturating_mul(thousandths)) {
+        Some(nanos) => *nanos,
+        None => 0,
+    }
+}
+
+// Prints the median, 99 % and 99.9 % of sorted times, where there are some.
+fn print_times<R: Eprint>(rt: &R, times: &[u64]) -> io::Result<()> {
+    if times.is_empty() {
+        return Ok(());
+    }
+    rt.eprintln(percentile(times, 500))?;
+    rt.eprintln(percentile(times, 990))?;
+    rt.eprintln(percentile(times, 999))
+}
+
+/// Prints the count, and on standard error the times.
+pub fn print<R: Print + Eprint>(rt: &R, measured: &Measured) -> io::Result<()> {
+    rt.println(measured.count)?;
+    if let Some(nanos) = measured.nanos {
+        rt.eprintln(nanos)?;
+    }
+    print_times(rt, &measured.submits)?;
+    print_times(rt, &measured.takes)
+}

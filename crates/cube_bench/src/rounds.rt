@@ -1,0 +1,121 @@
+//! One collective on `2^DIM` places, so many times, so that it can be timed: the words
+//! `COLLECTIVE DIM TIMES`.
+ghost use Rattle.std.specs.Prelude.{◌≡◌, ◌^◌, ◌<◌, ◌≤◌, All, IfSome, length};
+
+use crate::outcome::{Measured, Stopped};
+use collectives::{Add, Shape, all_reduce, broadcast, reduce, scan};
+use std::alloc::{AllocError, Global};
+
+// The largest dimension of a run.
+const MAX_DIM: u32 = 20;
+
+// A number that all places determine.
+fn digest(items: &[Add]) -> u64 {
+    let mut digest: u64 = 0;
+    for item in items {
+        digest = digest.wrapping_mul(31).wrapping_add(item.0);
+    }
+    digest
+}
+
+// Runs a collective once.
+fn run(shape: Shape, dim: u32, items: &mut [Add], scratch: &mut [Add])
+    requires dim { dim ≤ MAX_DIM }
+    requires places { length items.old ≡ 2 ^ dim }
+    requires scratch { length scratch.old ≡ 2 ^ dim }
+    requires values { All (λ item. item.0 < 2 ^ 64) items.old }
+    ensures places { length items.new ≡ 2 ^ dim }
+    ensures scratch { length scratch.new ≡ 2 ^ dim }
+    ensures values { All (λ item. item.0 < 2 ^ 64) items.new }
+{
+    let root = items.len() - 1;
+    let _tally = match shape {
+        Shape::Broadcast => broadcast(items, dim, root),
+        Shape::Reduce => reduce(items, dim, root),
+        Shape::AllReduce => all_reduce(items, dim),
+        Shape::Scan => scan(items, scratch, dim),
+    };
+}
+
+// Puts its rank at each rank's place.
+fn number(items: &mut [Add])
+    requires values { All (λ item. item.0 < 2 ^ 64) items.old }
+    ensures places { length items.new ≡ length items.old }
+    ensures values { All (λ item. item.0 < 2 ^ 64) items.new }
+{
+    for rank in 0..items.len() {
+        items[rank] = Add(rank as u64);
+    }
+}
+
+// Runs a collective `times` times, each run on the items that the run before it left.
+fn repeat(shape: Shape, dim: u32, times: u64, items: &mut [Add], scratch: &mut [Add])
+    requires dim { dim ≤ MAX_DIM }
+    requires places { length items.old ≡ 2 ^ dim }
+    requires scratch { length scratch.old ≡ 2 ^ dim }
+    requires values { All (λ item. item.0 < 2 ^ 64) items.old }
+{
+    for _ in 0..times {
+        run(shape, dim, items, scratch);
+    }
+}
+
+// The shape of the collective of this name.
+fn shape_named(name: &str) -> Option<Shape> {
+    match name {
+        "broadcast" => Some(Shape::Broadcast),
+        "reduce" => Some(Shape::Reduce),
+        "allreduce" => Some(Shape::AllReduce),
+        "scan" => Some(Shape::Scan),
+        _ => None,
+    }
+}
+
+// The run that the words ask for.
+#[derive(Clone, Copy)]
+struct Invocation {
+    shape: Shape,
+    dim: u32,
+    times: u64,
+}
+
+// The run that the words ask for, if they are well formed.
+fn parse_words(words: &[String]) -> Option<Invocation>
+    ensures { IfSome result (λ invocation. invocation.dim ≤ MAX_DIM) }
+{
+    if words.len() != 3 {
+        return None;
+    }
+    let shape = shape_named(&words[0])?;
+    let dim = words[1].parse::<u32>().ok()?;
+    let times = words[2].parse::<u64>().ok()?;
+    if dim > MAX_DIM {
+        return None;
+    }
+    Some(Invocation { shape, dim, times })
+}
+
+// The digest of the items after `times` runs of a collective, from the ranks as the first items.
+fn digest_after(alloc: Global, invocation: Invocation) -> Result<u64, AllocError>
+    requires { invocation.dim ≤ MAX_DIM }
+{
+    let Invocation { shape, dim, times } = invocation;
+    let places = 1usize << dim;
+    let mut items = vec![in alloc; Add(0); places]?;
+    let mut scratch = vec![in alloc; Add(0); places]?;
+    number(&mut items);
+    repeat(shape, dim, times, &mut items, &mut scratch);
+    Ok(digest(&items))
+}
+
+/// Runs the collective that the words ask for, so many times, and counts a number that all places
+/// determine in the end.
+pub fn measure(alloc: Global, words: &[String]) -> Result<Measured, Stopped> {
+    let Some(invocation) = parse_words(words) else {
+        return Err(Stopped::BadWords);
+    };
+    let Ok(digest) = digest_after(alloc, invocation) else {
+        return Err(Stopped::Failed);
+    };
+    Ok(Measured::counted(alloc, digest))
+}

@@ -1,0 +1,134 @@
+//! A station on each thread.
+ghost use Rattle.std.specs.Prelude.{◌≡◌, ◌<◌, ◌≤◌, [], All, vec_len, vec_capacity};
+ghost use Rattle.cube_shape.specs.declared.limits.TheConstants.{MAX_STATIONS};
+ghost use Rattle.cube_tree.specs.Handles.{cube_dim, IsStationOf};
+ghost use Rattle.cube_bench.specs.TreeLanes.{HasStation};
+
+use crate::tree::turns::turns;
+use crate::tree::words::Invocation;
+use cube_tree::{Cube, CubeRefused, Station, StillOut};
+use std::alloc::Global;
+use std::sync::Wait;
+use std::thread::Threads;
+use std::{mem, thread};
+
+/// The dimension of the machine.
+pub const DIM: u32 = 10;
+
+// A station that one thread steps with, and what came of its turns.
+struct Lane {
+    station: Option<Station>,
+    // How many takes were given.
+    given: u64,
+}
+
+// The turns of the station of a lane, which has one before and after.
+fn run(cube: &Cube, invocation: Invocation, lane: &mut Lane)
+    requires station { HasStation cube.now lane.old }
+    requires dim { cube_dim cube.now ≡ 10 }
+    ensures { HasStation cube.now lane.new }
+{
+    let station = lane.station.take().unwrap();
+    let (station, given) = turns(cube, station, invocation.sizes, invocation.turns);
+    lane.given = given;
+    match mem::replace(&mut lane.station, Some(station)) {
+        None => (),
+        Some(_) => unreachable!(),
+    }
+}
+
+// The turns of all lanes, each on a thread of its own.
+fn run_all<R: Threads + Sync>(rt: &R, cube: &Cube, invocation: Invocation, lanes: &mut [Lane])
+    requires stations { All (HasStation cube.now) lanes.old }
+    requires dim { cube_dim cube.now ≡ 10 }
+    ensures { All (HasStation cube.now) lanes.new }
+{
+    let count = lanes.len().max(1);
+    thread::for_each_mut(
+        rt,
+        lanes,
+        count,
+        &|_, lane|
+            requires { HasStation cube.now lane.now × (cube_dim cube.now ≡ 10) }
+            ensures { HasStation cube.entry.now lane.exit.now }
+        { run(cube, invocation, lane) },
+    );
+}
+
+// Each station of the list gets a lane.
+fn seat_all(cube: &Cube, list: &mut Vec<Station>, lanes: &mut Vec<Lane>)
+    requires stations { All (IsStationOf cube.now) list.old.items }
+    requires empty { lanes.old.items ≡ [] }
+    requires enough { vec_len list.old ≤ vec_capacity lanes.old }
+    ensures none { vec_len list.new ≡ 0 }
+    ensures seated { All (HasStation cube.now) lanes.new.items }
+{
+    while let Some(station) = list.pop() {
+        lanes.push_reserved(Lane {
+            station: Some(station),
+            given: 0,
+        });
+    }
+}
+
+// All stations retire: how many takes they were given.
+fn retire_all(cube: &Cube, lanes: &mut Vec<Lane>) -> u64
+    requires { All (HasStation cube.now) lanes.old.items }
+    ensures { vec_len lanes.new ≡ 0 }
+{
+    let mut sum = 0u64;
+    while let Some(Lane { station, given }) = lanes.pop() {
+        match station {
+            Some(station) => station.retire(cube),
+            None => (),
+        }
+        sum = sum.wrapping_add(given);
+    }
+    sum
+}
+
+// Closes a cube of which all stations have retired.
+fn close(rt: &impl Wait, cube: Cube) {
+    let mut cube = cube;
+    for _ in rt.forever() {
+        match cube.close() {
+            Ok(_) => return,
+            Err(
+                StillOut {
+                    cube: back,
+                    missing: _,
+                },
+            ) => cube = back,
+        }
+    }
+    unreachable!()
+}
+
+/// How many takes are given in the run that is asked for.
+pub fn given_in<R: Threads + Wait + Sync>(
+    rt: &R,
+    alloc: Global,
+    invocation: Invocation,
+) -> Result<u64, CubeRefused>
+    requires some { 0 < invocation.threads }
+    requires few { invocation.threads ≤ MAX_STATIONS }
+{
+    let Ok(mut lanes) = Vec::with_capacity(alloc, invocation.threads as usize) else {
+        return Err(CubeRefused::OutOfMemory);
+    };
+    match Cube::open(alloc, DIM, invocation.threads) {
+        Ok((cube, mut list)) => {
+            seat_all(&cube, &mut list, &mut lanes);
+            list.destroy_empty();
+            run_all(rt, &cube, invocation, lanes.as_mut_slice());
+            let given = retire_all(&cube, &mut lanes);
+            lanes.destroy_empty();
+            close(rt, cube);
+            Ok(given)
+        }
+        Err(why) => {
+            lanes.destroy_empty();
+            Err(why)
+        }
+    }
+}

@@ -1,6 +1,0 @@
-use Rattle.std.proofs.lemmas.List.Elements.{All-push, All-same}
-use Rattle.job_queue.specs.Line.{IsFor}
-use Rattle.dispatch_bench.proofs.jobs.jobs_of.Goals as goal
-
-pub loop-preserved : goal.loop-preserved
-loop-preserved c = All-same (IsFor 10 c.args.lane) _ _ c.in-Ok.ensures.items (All-push (IsFor 10 c.args.lane) c.loop.jobs.items c.in_ok-made.made c.loop.invariant c.in_ok-made.ensures)

@@ -1,0 +1,14 @@
+//! Expected values are worked out by hand.
+
+mod commands;
+mod devices;
+mod faults;
+mod jobs;
+mod meetings;
+mod progress;
+mod readings;
+mod refusals;
+mod rounds;
+mod rows;
+mod totals;
+mod words;

@@ -1,0 +1,228 @@
+//! The four commands over devices that fail, and over a large file.
+
+use crate::tests::devices::FailsAt;
+use cli_commands::{place_on, replay_on, report_on, run_on};
+use cube_shape::MAX_DIM;
+use dispatcher::{Plain, Runner};
+use job_queue::MAX_CAPACITY;
+use jobs_csv::{Counted, Device, Fault, FaultKind};
+use std::alloc::Global;
+use std::io::{Read, Write};
+use std::process::Abort;
+use std::sync::Wait;
+use std::test::Fail;
+use std::thread::Threads;
+
+// A command of the program.
+#[derive(Clone, Copy)]
+enum Command {
+    Run,
+    Report,
+    Place,
+    Replay,
+}
+
+// A run by two dispatchers.
+pub fn run_by<T: Runner + Sync, R: Read + Device, W: Write + Device>(
+    rt: &(impl AllocGlobal + Abort + Threads + Wait + Sync),
+    n: u32,
+    capacity: usize,
+    runner: &T,
+    reader: &mut R,
+    writer: &mut W,
+) -> Result<(), Fault> {
+    assert!(rt; n <= MAX_DIM && 1 <= capacity && capacity <= MAX_CAPACITY);
+    run_on(rt, rt.alloc(), n, 2, capacity, runner, reader, writer)
+}
+
+// A report by two dispatchers.
+pub fn report_by<T: Runner + Sync, R: Read + Device, W: Write + Device>(
+    rt: &(impl AllocGlobal + Abort + Threads + Wait + Sync),
+    n: u32,
+    capacity: usize,
+    runner: &T,
+    reader: &mut R,
+    writer: &mut W,
+) -> Result<(), Fault> {
+    assert!(rt; n <= MAX_DIM && 1 <= capacity && capacity <= MAX_CAPACITY);
+    report_on(rt, rt.alloc(), n, 2, capacity, runner, reader, writer)
+}
+
+// The commands of a file, on a machine of dimension 3.
+fn places<R: Read + Device, W: Write + Device>(
+    alloc: Global,
+    reader: &mut R,
+    writer: &mut W,
+) -> Result<(), Fault> {
+    place_on(alloc, 3, reader, writer)
+}
+
+// The schedule of a file, by one station on a machine of dimension 3.
+fn replays<R: Read + Device, W: Write + Device>(
+    alloc: Global,
+    reader: &mut R,
+    writer: &mut W,
+) -> Result<(), Fault> {
+    replay_on(alloc, 3, 1, reader, writer)
+}
+
+// A command on a machine of dimension 3.
+fn answer<R: Read + Device, W: Write + Device>(
+    rt: &(impl AllocGlobal + Abort + Threads + Wait + Sync),
+    command: Command,
+    reader: &mut R,
+    writer: &mut W,
+) -> Result<(), Fault> {
+    match command {
+        Command::Run => run_by(rt, 3, 16, &Plain, reader, writer),
+        Command::Report => report_by(rt, 3, 16, &Plain, reader, writer),
+        Command::Place => places(rt.alloc(), reader, writer),
+        Command::Replay => replays(rt.alloc(), reader, writer),
+    }
+}
+
+// A good file for a command.
+fn good_file(command: Command) -> &'static [u8] {
+    match command {
+        Command::Run | Command::Report => {
+            b"lane,kind,op,root,items\n1,allreduce,add,0,5 6\n0,allreduce,add,0,7\n"
+        }
+        Command::Place => b"command,name,dim\ntake,a,1\ntake,b,0\nfree,a,-\n",
+        Command::Replay => b"station,call,arg\n0,take,1\n0,run,-\n",
+    }
+}
+
+// Whether a reader that fails at this call has failed. The answer then is a failed read, and nothing
+// is written; else it is good.
+fn fails_to_read(
+    rt: &(impl AllocGlobal + Abort + Threads + Wait + Sync),
+    command: Command,
+    calls: u64,
+) -> bool {
+    let mut reader = Counted::new(FailsAt::new(good_file(command), calls));
+    let mut writer = Counted::new(Vec::new(rt.alloc()));
+    let answer = answer(rt, command, &mut reader, &mut writer);
+    if reader.failures() == 0 {
+        assert!(rt; answer == Ok(()));
+        return false;
+    }
+    let (row, what) = (0, FaultKind::Read);
+    assert!(rt; answer == Err(Fault { row, what }), "at call {calls}");
+    assert!(rt; writer.get_ref().is_empty());
+    true
+}
+
+// How many reads a command makes, each of which is reported where it fails.
+fn reads_of(rt: &(impl AllocGlobal + Abort + Threads + Wait + Sync), command: Command) -> u64 {
+    for calls in 0..1000 {
+        if !fails_to_read(rt, command, calls) {
+            return calls;
+        }
+    }
+    assert!(rt; false, "no answer without a failed read");
+    1000
+}
+
+#[test]
+fn reports_a_failed_read(rt: HostRuntime) {
+    assert!(rt; reads_of(&rt, Command::Run) > 5);
+    assert!(rt; reads_of(&rt, Command::Report) > 5);
+    assert!(rt; reads_of(&rt, Command::Place) > 5);
+    assert!(rt; reads_of(&rt, Command::Replay) > 5);
+}
+
+// Whether a writer that fails at this call, with an error or by taking nothing, has failed. The
+// answer then is a failed write, and else it is good.
+fn fails_to_write(
+    rt: &(impl AllocGlobal + Abort + Threads + Wait + Sync),
+    command: Command,
+    calls: u64,
+    gives_zero: bool,
+) -> bool {
+    let mut reader = Counted::new(good_file(command));
+    let mut writer = Counted::new(FailsAt {
+        device: Vec::new(rt.alloc()),
+        calls,
+        gives_zero,
+    });
+    let answer = answer(rt, command, &mut reader, &mut writer);
+    if writer.failures() == 0 {
+        assert!(rt; answer == Ok(()));
+        return false;
+    }
+    let (row, what) = (0, FaultKind::Write);
+    assert!(rt; answer == Err(Fault { row, what }), "at call {calls}");
+    true
+}
+
+// How many writes and flushes a command makes, each of which is reported where it fails.
+fn writes_of(rt: &(impl AllocGlobal + Abort + Threads + Wait + Sync), command: Command) -> u64 {
+    for calls in 0..1000 {
+        if !fails_to_write(rt, command, calls, false) {
+            return calls;
+        }
+    }
+    assert!(rt; false, "no answer without a failed write");
+    1000
+}
+
+// The replies take thirteen writes, and then comes a flush.
+#[test]
+fn reports_a_failed_write(rt: HostRuntime) {
+    for calls in 0..13 {
+        assert!(rt;
+            fails_to_write(&rt, Command::Run, calls, true),
+            "at call {calls}"
+        );
+    }
+    assert!(rt; !fails_to_write(&rt, Command::Run, 13, true));
+    assert!(rt; !fails_to_write(&rt, Command::Run, 14, true));
+    assert!(rt; writes_of(&rt, Command::Run) == 14);
+    assert!(rt; writes_of(&rt, Command::Report) > 5);
+    assert!(rt; writes_of(&rt, Command::Place) > 5);
+    assert!(rt; writes_of(&rt, Command::Replay) > 5);
+}
+
+// What a report has written where its second write fails.
+#[test]
+fn a_cut_report_is_a_beginning(rt: HostRuntime) {
+    let mut reader = Counted::new(good_file(Command::Report));
+    let mut writer = Counted::new(FailsAt::new(Vec::new(rt.alloc()), 1));
+    let answer = answer(&rt, Command::Report, &mut reader, &mut writer);
+    let (row, what) = (0, FaultKind::Write);
+    assert!(rt; answer == Err(Fault { row, what }));
+    assert!(rt; writer.get_ref().device.as_slice() == b"group,k".as_slice());
+}
+
+// So many jobs of one item, and their replies.
+pub fn long_file(alloc: Global, count: u64) -> Result<(Vec<u8>, Vec<u8>), Fail> {
+    let mut input = Vec::from_slice(alloc, b"lane,kind,op,root,items\n")?;
+    let mut wanted = Vec::from_slice(alloc, b"lane,seq,kind,dim,result,rounds,messages\n")?;
+    for seq in 0..count {
+        input.extend_from_slice(b"3,scan,add,0,1\n")?;
+        let reply = format!(in alloc; "3,{seq},scan,0,1,0,0\n")?;
+        wanted.extend_from_slice(reply.as_bytes())?;
+    }
+    Ok((input, wanted))
+}
+
+// The replies are written in several pieces; what came before a failed write is their beginning.
+#[test]
+fn writes_long_files(rt: HostRuntime) -> Result<(), Fail> {
+    let (input, wanted) = long_file(rt.alloc(), 8_000)?;
+    assert!(rt; wanted.len() > 150_000);
+    let mut reader = Counted::new(input.as_slice());
+    let mut writer = Counted::new(Vec::new(rt.alloc()));
+    assert!(rt; run_by(&rt, 0, 16, &Plain, &mut reader, &mut writer) == Ok(()));
+    assert!(rt; reader.failures() == 0 && writer.failures() == 0);
+    assert!(rt; writer.get_ref() == &wanted);
+    let mut reader = Counted::new(input.as_slice());
+    let mut writer = Counted::new(FailsAt::new(Vec::new(rt.alloc()), 20_000));
+    let answer = run_by(&rt, 0, 16, &Plain, &mut reader, &mut writer);
+    let (row, what) = (0, FaultKind::Write);
+    assert!(rt; answer == Err(Fault { row, what }));
+    let written = &writer.get_ref().device;
+    assert!(rt; written.len() > 139_900 && written.len() <= 140_000);
+    assert!(rt; wanted.starts_with(written));
+    Ok(())
+}

@@ -1,0 +1,70 @@
+//! Readers and writers that fail at one call, and texts that are joined.
+
+use std::alloc::Global;
+use std::io;
+use std::io::{Read, Write};
+use std::test::Fail;
+
+// A device that moves at most seven bytes a call, and fails at one call: with an error, or where it
+// gives zero by taking nothing.
+#[derive(Drop)]
+pub struct FailsAt<D> {
+    pub device: D,
+    pub calls: u64,
+    pub gives_zero: bool,
+}
+
+impl<D> FailsAt<D> {
+    // A device that fails at this call, and gives an error there.
+    pub fn new(device: D, calls: u64) -> Self {
+        FailsAt {
+            device,
+            calls,
+            gives_zero: false,
+        }
+    }
+
+    // Whether this call is the one that fails.
+    fn fails(&mut self) -> bool {
+        let fails = self.calls == 0;
+        self.calls = self.calls.wrapping_sub(1);
+        fails
+    }
+}
+
+impl<D: Read> Read for FailsAt<D> {
+    fn read(&mut self, buf: &mut [u8]) -> io::Result<usize> {
+        if self.fails() {
+            return Err(io::Error::from(io::ErrorKind::Other));
+        }
+        let len = buf.len().min(7);
+        self.device.read(&mut buf[..len])
+    }
+}
+
+impl<D: Write> Write for FailsAt<D> {
+    fn write(&mut self, buf: &[u8]) -> io::Result<usize> {
+        if self.fails() {
+            if self.gives_zero {
+                return Ok(0);
+            }
+            return Err(io::Error::from(io::ErrorKind::Other));
+        }
+        let len = buf.len().min(7);
+        self.device.write(&buf[..len])
+    }
+
+    fn flush(&mut self) -> io::Result<()> {
+        if self.fails() && !self.gives_zero {
+            return Err(io::Error::from(io::ErrorKind::Other));
+        }
+        self.device.flush()
+    }
+}
+
+// Two texts joined.
+pub fn joined(alloc: Global, a: &[u8], b: &[u8]) -> Result<Vec<u8>, Fail> {
+    let mut text = Vec::from_slice(alloc, a)?;
+    text.extend_from_slice(b)?;
+    Ok(text)
+}

@@ -1,0 +1,316 @@
+//! Files that are refused, in each of the three formats.
+
+use crate::tests::devices::{FailsAt, joined};
+use cube_shape::MAX_DIM;
+use job_types::JobRefused;
+use jobs_csv::{Counted, Device, Fault, FaultKind, read_jobs, read_place, read_schedule};
+use std::alloc::Global;
+use std::process::Abort;
+use std::test::Fail;
+
+const JOBS: &[u8] = b"lane,kind,op,root,items\n";
+
+const COMMANDS: &[u8] = b"command,name,dim\n";
+
+const CALLS: &[u8] = b"station,call,arg\n";
+
+// What a file holds.
+#[derive(Clone, Copy)]
+enum Format {
+    Jobs,
+    Commands,
+    Calls,
+}
+
+// The fault of a file, for a machine of dimension 3, if it has one.
+fn fault_of(alloc: Global, format: Format, input: &[u8]) -> Option<Fault> {
+    let mut reader = Counted::new(input);
+    match format {
+        Format::Jobs => read_jobs(alloc, 3, &mut reader).err(),
+        Format::Commands => read_place(alloc, 3, &mut reader).err(),
+        Format::Calls => read_schedule(alloc, &mut reader).err(),
+    }
+}
+
+// A file that begins with this head and ends with any of these texts has this fault at this record.
+fn expect_faults(
+    rt: &(impl AllocGlobal + Abort),
+    format: Format,
+    head: &[u8],
+    row: u64,
+    rows: &[(&[u8], FaultKind)],
+) -> Result<(), Fail> {
+    for (text, what) in rows {
+        let input = joined(rt.alloc(), head, text)?;
+        let what = *what;
+        match fault_of(rt.alloc(), format, &input) {
+            None => assert!(rt; false, "no fault, wanted {what}"),
+            Some(fault) => assert!(rt; fault == Fault { row, what }, "{fault}, wanted {what}"),
+        }
+    }
+    Ok(())
+}
+
+#[test]
+fn refuses_headers(rt: HostRuntime) -> Result<(), Fail> {
+    expect_faults(
+        &rt,
+        Format::Jobs,
+        b"",
+        0,
+        &[
+            (b"", FaultKind::Fields),
+            (b"\n\n", FaultKind::Fields),
+            (b"lane,kind,op,root\n", FaultKind::Fields),
+            (b"lane,kind,op,root,items,more\n", FaultKind::Fields),
+            (b"lane,kind,op,root,item\n", FaultKind::Word),
+            (b"Lane,kind,op,root,items\n", FaultKind::Word),
+            (b"lane,kind,op,root, items\n", FaultKind::Word),
+            (
+                b"\xEF\xBB\xBF\xEF\xBB\xBFlane,kind,op,root,items\n",
+                FaultKind::Word,
+            ),
+        ],
+    )?;
+    expect_faults(
+        &rt,
+        Format::Commands,
+        b"",
+        0,
+        &[
+            (b"", FaultKind::Fields),
+            (b"\n\n", FaultKind::Fields),
+            (b"command,name\n", FaultKind::Fields),
+            (b"command,name,dim,base\n", FaultKind::Fields),
+            (b"command,name,dims\n", FaultKind::Word),
+            (b"Command,name,dim\ntake,A,1\n", FaultKind::Word),
+            (b"command, name,dim\n", FaultKind::Word),
+            (b"station,call,arg\n", FaultKind::Word),
+        ],
+    )?;
+    expect_faults(
+        &rt,
+        Format::Calls,
+        b"",
+        0,
+        &[
+            (b"", FaultKind::Fields),
+            (b"station,call\n", FaultKind::Fields),
+            (b"station,call,args\n", FaultKind::Word),
+            (b"station,Call,arg\nx,run,-\n", FaultKind::Word),
+            (b"command,name,dim\n", FaultKind::Word),
+        ],
+    )
+}
+
+#[test]
+fn refuses_jobs(rt: HostRuntime) -> Result<(), Fail> {
+    expect_faults(
+        &rt,
+        Format::Jobs,
+        JOBS,
+        1,
+        &[
+            (b"0,allreduce,add,0\n", FaultKind::Fields),
+            (b"0,allreduce,add,0,1,2\n", FaultKind::Fields),
+            (b" \n", FaultKind::Fields),
+            (b"\"\"\n", FaultKind::Fields),
+            (b"16,allreduce,add,0,4\n", FaultKind::Number),
+            (b"4294967296,allreduce,add,0,4\n", FaultKind::Number),
+            (b",allreduce,add,0,4\n", FaultKind::Number),
+            (b"00,allreduce,add,0,4\n", FaultKind::Number),
+            (b"+1,allreduce,add,0,4\n", FaultKind::Number),
+            (b" 1,allreduce,add,0,4\n", FaultKind::Number),
+            (b"0x1,allreduce,add,0,4\n", FaultKind::Number),
+            (b"16,scan,add,0,4\n", FaultKind::Number),
+            (b"0,gather,add,0,4\n", FaultKind::Word),
+            (b"0,Scan,add,0,4\n", FaultKind::Word),
+            (b"0,scan,plus,0,4\n", FaultKind::Word),
+            (b"0,scan,-,0,4\n", FaultKind::Word),
+            (b"0,allreduce,plus,0,4\n", FaultKind::Word),
+            (b"0,reduce,-,0,1\n", FaultKind::Word),
+            (b"0,reduce,,0,4\n", FaultKind::Word),
+            (b"0,broadcast,add,0,1\n", FaultKind::Word),
+            (b"0,broadcast,add,0,4\n", FaultKind::Word),
+            (b"0,broadcast,,0,4\n", FaultKind::Word),
+            (b"0,broadcast,-,-,4\n", FaultKind::Number),
+            (b"0,,add,0,4\n", FaultKind::Word),
+            (b"0,allreduce ,add,0,4\n", FaultKind::Word),
+            (b"0,\xFF,add,0,4\n", FaultKind::Word),
+            (b"0,allreduce,-,x,4\n", FaultKind::Word),
+            (b"0,allreduce,add,00,1\n", FaultKind::Number),
+            (b"0,allreduce,add,,1\n", FaultKind::Number),
+            (b"0,allreduce,add,-1,1\n", FaultKind::Number),
+            (b"0,allreduce,add,1,1 x\n", FaultKind::Number),
+            (b"0,allreduce,add,0,1  2\n", FaultKind::Number),
+            (b"0,allreduce,add,0, 1 2\n", FaultKind::Number),
+            (b"0,allreduce,add,0, \n", FaultKind::Number),
+            (b"0,allreduce,add,0,1 02\n", FaultKind::Number),
+            (
+                b"0,allreduce,add,0,18446744073709551616\n",
+                FaultKind::Number,
+            ),
+            (b"0,broadcast,-,1,\n", FaultKind::Job(JobRefused::Empty)),
+            (b"0,broadcast,-,9,\n", FaultKind::Job(JobRefused::Empty)),
+            (b"0,allreduce,add,0,\n", FaultKind::Job(JobRefused::Empty)),
+            (
+                b"0,broadcast,-,9,1 2 3\n",
+                FaultKind::Job(JobRefused::NotPowerOfTwo),
+            ),
+            (
+                b"0,broadcast,-,2,4 9\n",
+                FaultKind::Job(JobRefused::BadRoot),
+            ),
+            (
+                b"0,reduce,max,4,1 2 3 4\n",
+                FaultKind::Job(JobRefused::BadRoot),
+            ),
+            (b"0,scan,add,1,4 9\n", FaultKind::Job(JobRefused::BadRoot)),
+            (
+                b"0,scan,add,1,1 2 3\n",
+                FaultKind::Job(JobRefused::NotPowerOfTwo),
+            ),
+            (
+                b"0,reduce,add,99,1 1 1 1 1 1 1 1 1 1 1 1 1 1 1 1\n",
+                FaultKind::Job(JobRefused::TooLarge),
+            ),
+            (b"0,scan,add,0,\n", FaultKind::Job(JobRefused::Empty)),
+            (b"0,allreduce,add,1,\n", FaultKind::Job(JobRefused::Empty)),
+            (
+                b"0,allreduce,add,1,1 2 3\n",
+                FaultKind::Job(JobRefused::NotPowerOfTwo),
+            ),
+            (
+                b"0,allreduce,add,1,1 1 1 1 1 1 1 1 1 1 1 1 1 1 1 1\n",
+                FaultKind::Job(JobRefused::TooLarge),
+            ),
+            (
+                b"0,allreduce,add,1,4 9\n",
+                FaultKind::Job(JobRefused::BadRoot),
+            ),
+            (
+                b"0,allreduce,add,18446744073709551615,4\n",
+                FaultKind::Job(JobRefused::BadRoot),
+            ),
+        ],
+    )
+}
+
+#[test]
+fn refuses_commands(rt: HostRuntime) -> Result<(), Fail> {
+    expect_faults(
+        &rt,
+        Format::Commands,
+        COMMANDS,
+        1,
+        &[
+            (b"take,A,1\n", FaultKind::Word),
+            (b"take,abcdefghijklmnopq,1\n", FaultKind::Word),
+            (b"take,a,4\n", FaultKind::Number),
+            (b"free,a,0\n", FaultKind::Word),
+            (b"take,a\n", FaultKind::Fields),
+            (b"take,a,1,2\n", FaultKind::Fields),
+            (b" \n", FaultKind::Fields),
+            (b"\"\"\n", FaultKind::Fields),
+            (b"give,A,x\n", FaultKind::Word),
+            (b"Take,a,1\n", FaultKind::Word),
+            (b",a,1\n", FaultKind::Word),
+            (b"\xFF,a,1\n", FaultKind::Word),
+            (b"take,,x\n", FaultKind::Word),
+            (b"take,a_b,1\n", FaultKind::Word),
+            (b"free,a\xFF,-\n", FaultKind::Word),
+            (b"take,a,-\n", FaultKind::Number),
+            (b"take,a,\n", FaultKind::Number),
+            (b"take,a,00\n", FaultKind::Number),
+            (b"take,a,+1\n", FaultKind::Number),
+            (b"take,a,18446744073709551616\n", FaultKind::Number),
+            (b"free,a,\n", FaultKind::Word),
+            (b"free,a,--\n", FaultKind::Word),
+        ],
+    )
+}
+
+#[test]
+fn refuses_calls(rt: HostRuntime) -> Result<(), Fail> {
+    let head = joined(rt.alloc(), CALLS, b"0,run,-\n")?;
+    expect_faults(
+        &rt,
+        Format::Calls,
+        &head,
+        2,
+        &[
+            (b"0,step,101\n", FaultKind::Number),
+            (b"0,run,1\n", FaultKind::Word),
+            (b"0,step,0\n", FaultKind::Number),
+            (b"0,step,-\n", FaultKind::Number),
+            (b"0,step,01\n", FaultKind::Number),
+            (b"0,take,-\n", FaultKind::Number),
+            (b"0,take,\n", FaultKind::Number),
+            (b"0,take,18446744073709551616\n", FaultKind::Number),
+            (b"0,release,0\n", FaultKind::Word),
+            (b"0,retire,\n", FaultKind::Word),
+            (b"0,walk,-\n", FaultKind::Word),
+            (b"0,Run,-\n", FaultKind::Word),
+            (b"0,,-\n", FaultKind::Word),
+            (b"00,walk,-\n", FaultKind::Number),
+            (b",run,-\n", FaultKind::Number),
+            (b"-,run,-\n", FaultKind::Number),
+            (b"0,run\n", FaultKind::Fields),
+            (b"0,run,-,-\n", FaultKind::Fields),
+        ],
+    )
+}
+
+#[test]
+fn reports_the_first_fault(rt: HostRuntime) -> Result<(), Fail> {
+    let head = joined(rt.alloc(), JOBS, b"0,allreduce,add,0,1 2\n")?;
+    expect_faults(
+        &rt,
+        Format::Jobs,
+        &head,
+        2,
+        &[
+            (b"0,scan,add,0,1 2 ", FaultKind::Number),
+            (b"0,allreduce,add\n16,x,x,x,x\n", FaultKind::Fields),
+        ],
+    )?;
+    let head = joined(rt.alloc(), COMMANDS, b"take,a,1\n")?;
+    let rows = &[(b"take,b,9\ntake,C,1\n".as_slice(), FaultKind::Number)];
+    expect_faults(&rt, Format::Commands, &head, 2, rows)
+}
+
+#[test]
+fn refuses_too_many(rt: HostRuntime) -> Result<(), Fail> {
+    let mut head = Vec::from_slice(rt.alloc(), COMMANDS)?;
+    for _ in 0..1_000_001 {
+        head.extend_from_slice(b"free,a,-\n")?;
+    }
+    let rows = &[(b"".as_slice(), FaultKind::TooMany)];
+    expect_faults(&rt, Format::Commands, &head, 1_000_001, rows)
+}
+
+// Whether a reader that fails at this call has failed: then the fault says so, and else there is
+// none.
+fn fails_to_read(rt: &(impl AllocGlobal + Abort), calls: u64) -> bool {
+    let (row, what) = (0, FaultKind::Read);
+    let text = b"command,name,dim\ntake,a,1\nfree,a,-\n".as_slice();
+    let mut reader = Counted::new(FailsAt::new(text, calls));
+    let fault = read_place(rt.alloc(), 3, &mut reader).err();
+    if reader.failures() == 0 {
+        assert!(rt; fault == None);
+        return false;
+    }
+    assert!(rt; fault == Some(Fault { row, what }), "at call {calls}");
+    true
+}
+
+#[test]
+fn reports_a_failed_read(rt: HostRuntime) {
+    for calls in 0..1000 {
+        if !fails_to_read(&rt, calls) {
+            assert!(rt; calls > 4);
+            return;
+        }
+    }
+    assert!(rt; false, "no read without a failed call");
+}

@@ -1,0 +1,271 @@
+//! Rows that are written, and writers that fail.
+
+use crate::tests::devices::FailsAt;
+use crate::tests::jobs::{answered, asked, made};
+use cube_core::{Event, Kind, Note, Refused};
+use job_types::{JobId, Op, Reply};
+use jobs_csv::{
+    Counted, Device, Fault, FaultKind, LineBuffer, Name, PlaceRow, ReplayRow, ReportRow, Row,
+    WriteStopped, write_rows,
+};
+use std::io::Write;
+use std::process::Abort;
+use std::test::Fail;
+
+// These rows are written under their header, whether the buffer is written out once or after each.
+fn expect_text<T: Row>(
+    rt: &(impl AllocGlobal + Abort),
+    rows: &[T],
+    wanted: &str,
+) -> Result<(), Fail> {
+    for flushes in [false, true] {
+        let mut writer = Counted::new(Vec::new(rt.alloc()));
+        let mut lines = LineBuffer::new(rt.alloc())?.push_header::<T>()?;
+        for row in rows {
+            lines = lines.push(row)?;
+            if flushes {
+                lines = lines.flush(&mut writer)?;
+            }
+        }
+        lines.finish(&mut writer)?;
+        assert!(rt; writer.failures() == 0);
+        assert!(rt; writer.get_ref().as_slice() == wanted.as_bytes());
+    }
+    Ok(())
+}
+
+#[test]
+fn writes_outcomes(rt: HostRuntime) -> Result<(), Fail> {
+    let name = Name::new(b"a").expect(&rt, "a name");
+    let long = Name::new(b"abcdefghijklmno9").expect(&rt, "a name");
+    expect_text(
+        &rt,
+        &[
+            PlaceRow::Given {
+                name,
+                dim: 0,
+                base: 0,
+            },
+            PlaceRow::Given {
+                name: long,
+                dim: 3,
+                base: 1016,
+            },
+            PlaceRow::Held { name, dim: 1 },
+            PlaceRow::NoStation { name, dim: 10 },
+            PlaceRow::NoSubcube { name, dim: 2 },
+            PlaceRow::Freed {
+                name,
+                dim: 0,
+                base: 7,
+            },
+            PlaceRow::NothingHeld { name },
+        ],
+        "command,name,dim,base,outcome\n\
+         take,a,0,0,given\n\
+         take,abcdefghijklmno9,3,1016,given\n\
+         take,a,1,-,held\n\
+         take,a,10,-,nostation\n\
+         take,a,2,-,nosubcube\n\
+         free,a,0,7,freed\n\
+         free,a,-,-,nothingheld\n",
+    )?;
+    expect_text::<PlaceRow>(&rt, &[], "command,name,dim,base,outcome\n")
+}
+
+#[test]
+fn writes_reports(rt: HostRuntime) -> Result<(), Fail> {
+    let (most_jobs, most) = (u64::MAX, u128::MAX);
+    let past = 18446744073709551616;
+    expect_text(
+        &rt,
+        &[
+            ReportRow::Lane {
+                lane: 0,
+                jobs: 1,
+                processors: 4,
+            },
+            ReportRow::Lane {
+                lane: 15,
+                jobs: most_jobs,
+                processors: most,
+            },
+            ReportRow::Dim {
+                dim: 10,
+                jobs: 0,
+                processors: 0,
+            },
+            ReportRow::Free {
+                dim: 1,
+                regions: 4,
+                processors: 8,
+            },
+            ReportRow::Total {
+                jobs: 3,
+                processors: past,
+            },
+        ],
+        "group,key,count,processors\n\
+         lane,0,1,4\n\
+         lane,15,18446744073709551615,340282366920938463463374607431768211455\n\
+         dim,10,0,0\n\
+         free,1,4,8\n\
+         total,-,3,18446744073709551616\n",
+    )
+}
+
+// The row of an event.
+fn made_row(station: u64, kind: Kind, node: u64, word: u64, note: Note) -> ReplayRow {
+    ReplayRow::Made {
+        event: Event {
+            station,
+            kind,
+            node,
+            word,
+            note,
+        },
+    }
+}
+
+// The row of a refused call.
+fn refused(station: u64, node: Option<u64>, why: Refused) -> ReplayRow {
+    ReplayRow::Refused { station, node, why }
+}
+
+#[test]
+fn writes_events(rt: HostRuntime) -> Result<(), Fail> {
+    expect_text(
+        &rt,
+        &[
+            made_row(0, Kind::Look, 4, 0, Note::Free),
+            made_row(0, Kind::Claim, 4, 7, Note::Climb),
+            made_row(0, Kind::Sweep, 2, 0, Note::Ok),
+            made_row(0, Kind::Raise, 1, 2, Note::Held),
+            made_row(0, Kind::Raise, 2, 7, Note::Under),
+            made_row(2, Kind::Zero, 5, 0, Note::Climb),
+            made_row(1, Kind::Unmark, 2, 2, Note::Ok),
+            made_row(1, Kind::Mark, 1, 1542, Note::Ok),
+            made_row(1, Kind::Mark, 1, 519, Note::Stop),
+            made_row(1, Kind::Child, 5, 7, Note::Used),
+            made_row(0, Kind::Clear, 1, 2, Note::Keep),
+            made_row(1, Kind::Clear, 2, 4, Note::Lost),
+            made_row(2, Kind::Clear, 1, 0, Note::Done),
+            made_row(3, Kind::Look, 1, 256, Note::InUse),
+            made_row(31, Kind::Retire, 0, 2147483648, Note::Retired),
+        ],
+        "station,event,node,word,note\n\
+         0,look,4,-,free\n\
+         0,claim,4,OLR,climb\n\
+         0,sweep,2,-,ok\n\
+         0,raise,1,L,held\n\
+         0,raise,2,OLR,under\n\
+         2,zero,5,-,climb\n\
+         1,unmark,2,L,ok\n\
+         1,mark,1,LR+1+2,ok\n\
+         1,mark,1,OLR+1,stop\n\
+         1,child,5,OLR,used\n\
+         0,clear,1,L,keep\n\
+         1,clear,2,R,lost\n\
+         2,clear,1,-,done\n\
+         3,look,1,-+0,inuse\n\
+         31,retire,0,-,retired\n",
+    )
+}
+
+#[test]
+fn writes_refusals_and_words(rt: HostRuntime) -> Result<(), Fail> {
+    expect_text(
+        &rt,
+        &[
+            refused(0, None, Refused::Resting),
+            refused(0, None, Refused::NotHolding),
+            refused(5, Some(1), Refused::NoStation),
+            refused(0, Some(4), Refused::NotInCube),
+            refused(0, Some(1), Refused::NotIdle),
+            ReplayRow::Word { node: 1, word: 7 },
+            ReplayRow::Word { node: 3, word: 258 },
+            ReplayRow::End { count: 2 },
+        ],
+        "station,event,node,word,note\n\
+         0,refused,-,-,resting\n\
+         0,refused,-,-,notholding\n\
+         5,refused,1,-,nostation\n\
+         0,refused,4,-,notincube\n\
+         0,refused,1,-,notidle\n\
+         -,end,1,OLR,-\n\
+         -,end,3,L+0,-\n\
+         -,end,-,-,2\n",
+    )
+}
+
+// Writes `count` lines of 30 bytes.
+fn write_many<W: Write>(
+    lines: LineBuffer,
+    count: u64,
+    writer: &mut W,
+) -> Result<LineBuffer, WriteStopped> {
+    let mut lines = lines;
+    for _row in 0..count {
+        lines = lines.write_row(refused(0, Some(1_000_000), Refused::NotInCube), writer)?;
+    }
+    Ok(lines)
+}
+
+// A buffer of 65,536 bytes is full: 180,000 bytes go out in two pieces, and the rest at the end.
+#[test]
+fn writes_out_full_buffers(rt: HostRuntime) -> Result<(), Fail> {
+    let mut writer = Counted::new(Vec::new(rt.alloc()));
+    let lines = write_many(LineBuffer::new(rt.alloc())?, 6_000, &mut writer)?;
+    let written = writer.get_ref().len();
+    assert!(rt; written >= 131_072 && written < 150_000, "{written}");
+    assert!(rt; lines.finish(&mut writer) == Ok(()));
+    assert!(rt; writer.get_ref().len() == 6_000 * 30);
+    Ok(())
+}
+
+// Two replies.
+fn two_replies(rt: &(impl AllocGlobal + Abort)) -> Result<Vec<Reply>, Fail> {
+    let mut replies = Vec::new(rt.alloc());
+    for seq in 0..2 {
+        let kind = job_types::Kind::AllReduce { op: Op::Add };
+        let job = made(asked(rt, rt.alloc(), 3, 1, kind, &[5, 6])?)?;
+        replies.push(answered(job, JobId { lane: 1, seq }))?;
+    }
+    Ok(replies)
+}
+
+// A write of replies whose writer fails at this call, with an error or by taking nothing. Returns
+// whether the writer failed.
+fn fails_to_write(
+    rt: &(impl AllocGlobal + Abort),
+    calls: u64,
+    gives_zero: bool,
+) -> Result<bool, Fail> {
+    let (row, what) = (0, FaultKind::Write);
+    let device = FailsAt {
+        device: Vec::new(rt.alloc()),
+        calls,
+        gives_zero,
+    };
+    let mut writer = Counted::new(device);
+    let answer = write_rows(rt.alloc(), two_replies(rt)?, &mut writer);
+    if writer.failures() == 0 {
+        assert!(rt; answer == Ok(()));
+        return Ok(false);
+    }
+    assert!(rt; answer == Err(Fault { row, what }), "at call {calls}");
+    Ok(true)
+}
+
+// The header has 41 bytes and each line 26: fourteen writes of seven bytes at most, and a flush.
+#[test]
+fn reports_a_failed_write(rt: HostRuntime) -> Result<(), Fail> {
+    for gives_zero in [false, true] {
+        for calls in 0..14 {
+            assert!(rt; fails_to_write(&rt, calls, gives_zero)?, "at call {calls}");
+        }
+        assert!(rt; fails_to_write(&rt, 14, gives_zero)? != gives_zero);
+        assert!(rt; !fails_to_write(&rt, 15, gives_zero)?);
+    }
+    Ok(())
+}

@@ -1,0 +1,257 @@
+//! The totals and the report of a shop that has answered three jobs, and the words of a few machines.
+
+ghost use Rattle.std.specs.Prelude.{◌≡◌, ◌^◌, ◌+◌, ◌≤◌, IfOk, length};
+ghost use Rattle.floors.specs.Floor.{IsWhollyFree};
+
+use crate::tests::jobs::{answered, asked, made};
+use cube_ledger::{FREE_PLACES, Ledger, Occupancy, Slip, Totals, occupancy};
+use cube_report::report_rows;
+use cube_shape::{MAX_DIM, Region};
+use dispatcher::Finished;
+use floors::{Floor, LockedFloor};
+use job_types::{JobId, Kind, Op, Reply};
+use jobs_csv::ReportRow;
+use std::alloc::Global;
+use std::process::Abort;
+use std::test::Fail;
+
+// The reply to the greatest of these numbers, on the machine of dimension 3.
+fn reply(
+    rt: &(impl AllocGlobal + Abort),
+    lane: u32,
+    seq: u64,
+    numbers: &[u64],
+) -> Result<Reply, Fail> {
+    let kind = Kind::Scan { op: Op::Max };
+    let job = made(asked(rt, rt.alloc(), 3, lane, kind, numbers)?)?;
+    Ok(answered(job, JobId { lane, seq }))
+}
+
+// One reply of the first worker, one of the third and one of the rest.
+fn finished(rt: &(impl AllocGlobal + Abort)) -> Result<Finished<()>, Fail> {
+    let mut first = Vec::new(rt.alloc());
+    first.push(reply(rt, 1, 0, &[5, 6])?)?;
+    let mut third = Vec::new(rt.alloc());
+    third.push(reply(rt, 0, 0, &[2, 9, 4, 7])?)?;
+    let mut by_worker = Vec::new(rt.alloc());
+    by_worker.push(first)?;
+    by_worker.push(Vec::new(rt.alloc()))?;
+    by_worker.push(third)?;
+    let mut rest = Vec::new(rt.alloc());
+    rest.push(reply(rt, 1, 1, &[8, 1])?)?;
+    Ok(Finished {
+        by_worker,
+        rest,
+        accepted: Vec::new(rt.alloc()),
+        machine: (),
+    })
+}
+
+// Whether a lane of a ledger has so many jobs on so many processors.
+fn has_lane(ledger: &Ledger, lane: u32, jobs: u64, processors: u128) -> bool {
+    ledger.lane(lane) == Totals { jobs, processors }
+}
+
+// Whether a dimension of a ledger has so many jobs on so many processors.
+fn has_dim(ledger: &Ledger, dim: u32, jobs: u64, processors: u128) -> bool {
+    ledger.dim(dim) == Totals { jobs, processors }
+}
+
+// Whether a ledger has so many jobs on so many processors in all.
+fn has_total(ledger: &Ledger, jobs: u64, processors: u128) -> bool {
+    ledger.total() == Totals { jobs, processors }
+}
+
+// Each of these lanes of a ledger has so many jobs on so many processors.
+fn expect_lanes(rt: &impl Abort, ledger: &Ledger, rows: &[(u32, u64, u128)]) {
+    for (lane, jobs, processors) in rows {
+        assert!(rt; has_lane(ledger, *lane, *jobs, *processors), "lane {lane}");
+    }
+}
+
+// Each of these dimensions of a ledger has so many jobs on so many processors.
+fn expect_dims(rt: &impl Abort, ledger: &Ledger, rows: &[(u32, u64, u128)]) {
+    for (dim, jobs, processors) in rows {
+        assert!(rt;
+            has_dim(ledger, *dim, *jobs, *processors),
+            "dimension {dim}"
+        );
+    }
+}
+
+// The ledger of a finished shop.
+fn ledger_of(alloc: Global, finished: &Finished<()>) -> Result<Ledger, Fail> {
+    Ok(Ledger::of(alloc, finished)?)
+}
+
+// Whether the slip of a reply has this id and this region.
+fn is_slip(reply: &Reply, id: JobId, region: Region) -> bool {
+    let slip = Slip::of(reply);
+    slip.id == id && slip.region == region
+}
+
+#[test]
+fn totals_of_three_replies(rt: HostRuntime) -> Result<(), Fail> {
+    let finished = finished(&rt)?;
+    let reply = finished.rest.first().expect(&rt, "a reply of the rest");
+    let (id, region) = (JobId { lane: 1, seq: 1 }, Region { base: 0, dim: 1 });
+    assert!(rt; is_slip(reply, id, region));
+    let ledger = ledger_of(rt.alloc(), &finished)?;
+    expect_lanes(
+        &rt,
+        &ledger,
+        &[(0, 1, 4), (1, 2, 4), (2, 0, 0), (u32::MAX, 0, 0)],
+    );
+    expect_dims(
+        &rt,
+        &ledger,
+        &[(0, 0, 0), (1, 2, 4), (2, 1, 4), (3, 0, 0), (u32::MAX, 0, 0)],
+    );
+    assert!(rt; has_total(&ledger, 3, 8));
+    Ok(())
+}
+
+// What these words say of the regions of their machine.
+fn said(n: u32, words: &[u64]) -> Occupancy
+    requires machine { n ≤ MAX_DIM }
+    requires words { length words.now ≡ 2 ^ (n + 1) }
+{
+    occupancy(n, words)
+}
+
+// The machine with these words has these free regions, by dimension, and none of a higher
+// dimension.
+fn expect_occupancy(
+    rt: &impl Abort,
+    n: u32,
+    words: &[u64],
+    free: &[u64],
+    held: u64,
+    largest: Option<u32>,
+)
+    requires machine { n ≤ MAX_DIM }
+    requires words { length words.now ≡ 2 ^ (n + 1) }
+{
+    let said = said(n, words);
+    for dim in 0..FREE_PLACES {
+        let wanted = free.get(dim).copied().unwrap_or(0);
+        assert_eq!(rt; said.free[dim], wanted, "of dimension {dim}");
+    }
+    assert!(rt; said.held == held && said.largest == largest);
+}
+
+#[test]
+fn occupancy_of_small_machines(rt: HostRuntime) {
+    let two_held = [0, 2, 6, 0, 519, 2, 0, 0, 0, 0, 7, 0, 0, 0, 0, 0];
+    expect_occupancy(&rt, 3, &two_held, &[5, 2, 1, 0], 3, Some(2));
+    expect_occupancy(&rt, 0, &[0, 0], &[1], 0, Some(0));
+    expect_occupancy(&rt, 1, &[0, 7, 0, 0], &[0, 0], 2, None);
+    expect_occupancy(&rt, 1, &[1, 7, 7, 256], &[0, 0], 2, None);
+    expect_occupancy(&rt, 1, &[u64::MAX, 256, 0, 256], &[2, 1], 0, Some(1));
+}
+
+// What is left of a floor that gave nothing out.
+fn free_machine<F: Floor>(alloc: Global, n: u32) -> Result<F::Machine, Fail>
+    requires { n ≤ MAX_DIM }
+    ensures { IfOk result (λ machine. IsWhollyFree n (F.machine_words machine)) }
+{
+    let (floor, stations) = F::open(alloc, n, 1)?;
+    Ok(floor.close(stations))
+}
+
+// The rows of a shop with two lanes that answered two jobs by its workers and one at its end.
+fn rows<F: Floor>(rt: &(impl AllocGlobal + Abort)) -> Result<Vec<ReportRow>, Fail>
+where
+    F::Machine: Drop,
+{
+    let mut first = Vec::new(rt.alloc());
+    first.push(reply(rt, 1, 0, &[5, 6])?)?;
+    first.push(reply(rt, 0, 0, &[2, 9, 4, 7])?)?;
+    let mut by_worker = Vec::new(rt.alloc());
+    by_worker.push(first)?;
+    let mut rest = Vec::new(rt.alloc());
+    rest.push(reply(rt, 1, 1, &[8, 1])?)?;
+    let accepted = Vec::from_slice(rt.alloc(), &[1, 2])?;
+    let machine = free_machine::<F>(rt.alloc(), 3)?;
+    let finished = Finished {
+        by_worker,
+        rest,
+        accepted,
+        machine,
+    };
+    Ok(report_rows::<F>(rt.alloc(), 3, &finished)?)
+}
+
+// The rows are these.
+fn expect_rows(rt: &impl Abort, rows: &[ReportRow], wanted: &[ReportRow]) {
+    assert!(rt; rows.len() == wanted.len());
+    for (place, row) in wanted.iter().enumerate() {
+        assert!(rt; rows.get(place) == Some(row), "row {place}");
+    }
+}
+
+#[test]
+fn rows_of_two_lanes(rt: HostRuntime) -> Result<(), Fail> {
+    let rows = rows::<LockedFloor>(&rt)?;
+    expect_rows(
+        &rt,
+        &rows,
+        &[
+            ReportRow::Lane {
+                lane: 0,
+                jobs: 1,
+                processors: 4,
+            },
+            ReportRow::Lane {
+                lane: 1,
+                jobs: 2,
+                processors: 4,
+            },
+            ReportRow::Dim {
+                dim: 0,
+                jobs: 0,
+                processors: 0,
+            },
+            ReportRow::Dim {
+                dim: 1,
+                jobs: 2,
+                processors: 4,
+            },
+            ReportRow::Dim {
+                dim: 2,
+                jobs: 1,
+                processors: 4,
+            },
+            ReportRow::Dim {
+                dim: 3,
+                jobs: 0,
+                processors: 0,
+            },
+            ReportRow::Free {
+                dim: 0,
+                regions: 8,
+                processors: 8,
+            },
+            ReportRow::Free {
+                dim: 1,
+                regions: 4,
+                processors: 8,
+            },
+            ReportRow::Free {
+                dim: 2,
+                regions: 2,
+                processors: 8,
+            },
+            ReportRow::Free {
+                dim: 3,
+                regions: 1,
+                processors: 8,
+            },
+            ReportRow::Total {
+                jobs: 3,
+                processors: 8,
+            },
+        ],
+    );
+    Ok(())
+}

@@ -1,8 +1,0 @@
-pub mod LaneLemmas
-pub mod OrderLemmas
-pub mod RunLemmas
-pub mod TraceLemmas
-pub mod StationLemmas
-pub mod ReplayLemmas
-pub mod CommandLineLemmas
-pub mod ProgramLemmas

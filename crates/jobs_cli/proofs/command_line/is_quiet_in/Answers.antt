@@ -1,7 +1,0 @@
-use Rattle.std.proofs.Common.{codes}
-use Rattle.clap.specs.Words.{found_of}
-use Rattle.jobs_cli.proofs.CommandLineLemmas.{flag}
-use Rattle.jobs_cli.proofs.command_line.is_quiet_in.Goals as goal
-
-pub returns : goal.returns
-returns c = flag _ (found_of c.args.matches.now) (codes "quiet") c.get_one.result c.get_one.ensures.none c.get_one.ensures.value

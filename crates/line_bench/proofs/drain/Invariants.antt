@@ -1,4 +1,0 @@
-use Rattle.line_bench.proofs.drain.Given as goal
-
-abbrev pub invariant-loop : goal.invariant-loop
-invariant-loop g l = let line = g.L.JobLine in line.is_pass (line.id l.line) l.pass

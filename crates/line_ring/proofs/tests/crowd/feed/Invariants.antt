@@ -1,5 +1,0 @@
-use Rattle.line_ring.specs.Inner.Handle.{ring_id, is_lane}
-use Rattle.line_ring.proofs.tests.crowd.feed.Given as goal
-
-abbrev pub invariant-loop : goal.invariant-loop
-invariant-loop g l = is_lane (ring_id l.ring) l.lane

@@ -1,0 +1,65 @@
+//! The jobs of two lanes, answered on the tree; the results are worked out by hand.
+use crate::tests::floor_calls::is_wholly_free;
+use crate::tests::jobs::{Plan, lists};
+use dispatcher::{Finished, Plain};
+use job_types::{JobId, JobRefused, Reply};
+use std::alloc::Global;
+use std::sync::Wait;
+use std::test::Fail;
+use std::thread::Threads;
+use tree_floor::{FreeMachine, TreeFloor};
+use uses::{Counting, answer_and_count};
+
+// The replies to the jobs of two lanes, and how many processors these had together.
+type Outcome = Option<(Finished<FreeMachine>, u128)>;
+
+fn count_on_tree<R: Threads + Wait + Sync>(
+    rt: &R,
+    alloc: Global,
+    runner: &Counting<Plain>,
+) -> Result<Outcome, JobRefused> {
+    let lists = lists(alloc, 3, 2, Plan::Kinds)?;
+    Ok(answer_and_count(rt, alloc, 3, runner, lists))
+}
+
+// How many of the replies are to this job, with this at its first two ranks.
+fn count_of(replies: &[Reply], id: JobId, first: Option<u64>, second: Option<u64>) -> u32 {
+    let mut count = 0u32;
+    for reply in replies {
+        if reply.id() == id && reply.at(0) == first && reply.at(1) == second {
+            count = count.wrapping_add(1);
+        }
+    }
+    count
+}
+
+// Whether this job of the lane has one reply in all, with this at its first two ranks.
+fn is_once<M>(
+    finished: &Finished<M>,
+    lane: u32,
+    seq: u64,
+    first: Option<u64>,
+    second: Option<u64>,
+) -> bool {
+    let id = JobId { lane, seq };
+    let mut count = count_of(&finished.rest, id, first, second);
+    for replies in &finished.by_worker {
+        count = count.wrapping_add(count_of(replies, id, first, second));
+    }
+    count == 1
+}
+
+#[test]
+fn each_job_is_answered_once(rt: HostRuntime) -> Result<(), Fail> {
+    let runner = Counting::new(Plain);
+    let answered = count_on_tree(&rt, rt.alloc(), &runner)?;
+    let (finished, processors) = answered.expect(&rt, "no memory, or no thread");
+    assert_eq!(rt; processors, 8);
+    assert_eq!(rt; runner.answered(), 3);
+    assert!(rt; finished.accepted.as_slice() == [1, 2].as_slice());
+    assert!(rt; is_once(&finished, 0, 0, Some(2), Some(9)));
+    assert!(rt; is_once(&finished, 1, 0, Some(3), Some(3)));
+    assert!(rt; is_once(&finished, 1, 1, None, Some(9)));
+    assert!(rt; is_wholly_free::<TreeFloor>(&finished.machine, 3, 16));
+    Ok(())
+}

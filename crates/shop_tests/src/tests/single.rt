@@ -1,0 +1,108 @@
+//! A shop of one lane and one worker, whose members are out of their lists.
+ghost use Rattle.std.specs.Prelude.{◌≡◌, ◌≤◌, [], IfOk, map};
+ghost use Rattle.std.specs.List.{All};
+ghost use Rattle.std.specs.Vec.{vec_capacity};
+ghost use Rattle.dispatcher.specs.Reply.{answered, IsRight};
+ghost use Rattle.dispatcher.specs.Shop.{room_for};
+
+use crate::tests::members::{only, sole};
+use dispatcher::{
+    CloseNote, Closer, Finished, Opened, Plain, Shop, ShopRefused, Worker, WorkerEnd,
+};
+use floors::Floor;
+use job_queue::JobLine;
+use std::alloc::Global;
+use std::marker::Model;
+use std::sync::Wait;
+
+// A new shop with its lane, its worker and its closer, and room for what its end is given.
+pub struct Single<L: JobLine, F: Floor> {
+    pub shop: Shop<L, F>,
+    pub lane: L::Lane,
+    pub lanes: Vec<L::Lane>,
+    pub worker: Worker<L, F>,
+    pub ends: Vec<WorkerEnd<L, F>>,
+    pub closer: Closer<L, F>,
+}
+
+impl<L: JobLine, F: Floor> Model for Single<L, F> {
+    ghost use Rattle.std.specs.Prelude.{◌≡◌, ◌≤◌, []};
+    ghost use Rattle.std.specs.Vec.{vec_capacity};
+    ghost use Rattle.job_queue.specs.Record.{fresh_lane, fresh_pass};
+    ghost use Rattle.dispatcher.specs.Shop.{ShopId, room_for};
+
+    ghost Value = { ShopId };
+
+    ghost view = { λ s. s.shop };
+
+    ghost invariant = { λ s. L.is_lane s.shop.line s.lane × (L.lane_record s.lane ≡ fresh_lane 0)
+        × L.is_pass s.shop.line s.worker.pass × (L.pass_record s.worker.pass ≡ fresh_pass 0)
+        × F.is_station s.shop.floor s.worker.station
+        × (s.shop.line.sizes.lanes ≡ 1) × (s.shop.line.sizes.passes ≡ 1)
+        × L.is_closer s.shop.line s.closer.line × (s.closer.room ≡ room_for s.shop)
+        × (s.lanes.items ≡ []) × (1 ≤ vec_capacity s.lanes)
+        × (s.ends.items ≡ []) × (1 ≤ vec_capacity s.ends) };
+}
+
+impl<L: JobLine, F: Floor> Single<L, F> {
+    pub fn open(alloc: Global, n: u32, capacity: usize) -> Result<Self, ShopRefused>
+    where
+        F::Machine: Drop,
+        ensures machine { IfOk result (λ s. s.line.sizes.machine ≡ n) }
+    {
+        let Ok(ends) = Vec::with_capacity(alloc, 1) else {
+            return Err(ShopRefused::OutOfMemory);
+        };
+        let opened = match Shop::open(alloc, n, 1, 1, capacity) {
+            Ok(opened) => opened,
+            Err(refused) => {
+                ends.destroy_empty();
+                return Err(refused);
+            }
+        };
+        let Opened {
+            shop,
+            mut lanes,
+            mut workers,
+            closer,
+        } = opened;
+        let lane = only(&mut lanes);
+        let worker = only(&mut workers);
+        workers.destroy_empty();
+        Ok(Single {
+            shop,
+            lane,
+            lanes,
+            worker,
+            ends,
+            closer,
+        })
+    }
+}
+
+// The end of such a shop, given its lane and its worker with the emptied lists of each.
+pub fn finish<R: Wait, L: JobLine, F: Floor>(
+    rt: &R,
+    shop: Shop<L, F>,
+    lane: (L::Lane, Vec<L::Lane>),
+    end: (WorkerEnd<L, F>, Vec<WorkerEnd<L, F>>),
+    note: CloseNote<L, F>,
+) -> Finished<F::Machine>
+    requires lane { L.is_lane shop.line lane.0 }
+    requires one_lane { shop.line.sizes.lanes ≡ 1 }
+    requires lane_room { (lane.1.items ≡ []) × (1 ≤ vec_capacity lane.1) }
+    requires pass { L.is_pass shop.line end.0.pass }
+    requires station { F.is_station shop.floor end.0.station }
+    requires one_worker { shop.line.sizes.passes ≡ 1 }
+    requires replies { (L.pass_record end.0.pass).taken ≡ map answered end.0.replies.items }
+    requires right { All (IsRight shop.floor.dim) end.0.replies.items }
+    requires end_room { (end.1.items ≡ []) × (1 ≤ vec_capacity end.1) }
+    requires note { L.is_note shop.line note.line }
+    requires room { note.room ≡ room_for shop }
+{
+    let (lane, lanes) = lane;
+    let (end, ends) = end;
+    let lanes = sole(lanes, lane);
+    let ends = sole(ends, end);
+    shop.finish(rt, &Plain, lanes, ends, note)
+}

@@ -1,6 +1,0 @@
-use Rattle.std.proofs.Common.{◌≡◌}
-use Rattle.cube_tree.specs.Solo.{solo_dim}
-use Rattle.tree_bench.proofs.alone.solo_turns.Given as goal
-
-abbrev pub invariant-loop-index : goal.invariant-loop-index
-invariant-loop-index l = solo_dim l.solo ≡ 10

@@ -1,7 +1,0 @@
-use denote.Param.Send.{sendable}
-use Rattle.cube_tree.proofs.SharedLemmas.{cube_field_sync}
-use Rattle.tree_bench.proofs.arguments.Invocation.TheSendSync as invocation
-use Rattle.tree_bench.proofs.lanes.run_all.Goals as goal
-
-pub for_each_mut-requires-sync-F : goal.for_each_mut-requires-sync-F
-for_each_mut-requires-sync-F g c κs within = search (sendable, cube_field_sync, invocation.the_field_sync) depth 30

@@ -1,9 +1,0 @@
--- What contracts say of the lanes.
-use Rattle.std.specs.Prelude.{IsSomeAnd}
-use Rattle.cube_tree.specs.declared.handles.Cube.{Cube}
-use Rattle.cube_tree.specs.Handles.{IsStationOf}
-use Rattle.tree_bench.specs.declared.lanes.Lane.{Lane}
-
--- the lane has a station, which is one of this cube
-abbrev pub HasStation : Cube → Lane → Type 0
-HasStation cube lane = IsSomeAnd lane.station (λ station. IsStationOf cube station)

@@ -1,0 +1,193 @@
+//! First fit over bits, and first fit and release of stations, on small machines.
+
+ghost use Rattle.std.specs.Prelude.{◌≡◌, ◌≤◌, length};
+
+use super::text::reads;
+use alloc_bits::{AllocBits, NoSubcube, NothingHeld};
+use cube_shape::{MAX_DIM, MAX_STATIONS, Region};
+use region_bits::{clear_all, clear_region, first_fit, set_region};
+use std::alloc::Global;
+use std::process::Abort;
+
+// Whether this is the first fit in a machine of dimension 3.
+fn fits(bits: &[bool], k: u32, region: Option<Region>) -> bool
+    requires dim { k ≤ 3 }
+    requires bits { length bits.now ≡ 8 }
+{
+    first_fit(bits, 3, k) == region
+}
+
+// The first two processors of a machine of dimension 3 are given.
+fn give_pair(bits: &mut [bool])
+    requires { length bits.old ≡ 8 }
+    ensures { length bits.new ≡ 8 }
+{
+    set_region(bits, 3, Region { base: 0, dim: 1 });
+}
+
+// They are taken back.
+fn take_pair_back(bits: &mut [bool])
+    requires { length bits.old ≡ 8 }
+    ensures { length bits.new ≡ 8 }
+{
+    clear_region(bits, 3, Region { base: 0, dim: 1 });
+}
+
+#[test]
+fn the_first_fit_is_the_first_clear_region(rt: HostRuntime) {
+    let mut bits = [true; 8];
+    assert!(rt; fits(&bits, 0, None));
+    clear_all(&mut bits);
+    assert!(rt; fits(&bits, 3, Some(Region { base: 0, dim: 3 })));
+    give_pair(&mut bits);
+    assert!(rt; fits(&bits, 0, Some(Region { base: 2, dim: 0 })));
+    assert!(rt; fits(&bits, 2, Some(Region { base: 4, dim: 2 })));
+    assert!(rt; fits(&bits, 3, None));
+    take_pair_back(&mut bits);
+    assert!(rt; fits(&bits, 3, Some(Region { base: 0, dim: 3 })));
+}
+
+// A line of a schedule: a take of a station and a dimension, with the base of the region; a release
+// of a station; the holder of a processor; the region of a station; whether a station holds one, and
+// whether none does.
+enum Row {
+    Takes(u32, u32, Option<u64>),
+    GivesBack(u32, Result<Region, NothingHeld>),
+    HasHolder(u64, Option<u32>),
+    HasRegion(u32, Option<Region>),
+    Holds(u32, bool),
+    IsWhollyFree(bool),
+}
+
+// Whether a station, which may hold nothing, gets a region of dimension `k` with this base.
+fn takes(machine: &mut AllocBits, station: u32, k: u32, base: Option<u64>) -> bool {
+    if station >= MAX_STATIONS || k > machine.dim() {
+        return false;
+    }
+    if machine.holds(station) {
+        return base.is_none();
+    }
+    match machine.take(station, k) {
+        Ok(region) => base == Some(region.base),
+        Err(NoSubcube) => base.is_none(),
+    }
+}
+
+// Whether a machine of this dimension goes as these lines say, from the first to the last.
+fn plays(rt: &impl Abort, alloc: Global, n: u32, rows: &[Row]) -> bool
+    requires { n ≤ MAX_DIM }
+{
+    let mut machine = AllocBits::new(alloc, n).expect(rt, "no memory");
+    machine.dim() == n && follows(&mut machine, rows)
+}
+
+// Whether the machine goes so.
+fn follows(machine: &mut AllocBits, rows: &[Row]) -> bool {
+    for row in rows {
+        let went = match row {
+            Row::Takes(station, k, base) => takes(machine, *station, *k, *base),
+            Row::GivesBack(station, answer) => machine.release(*station) == *answer,
+            Row::HasHolder(processor, holder) => machine.holder(*processor) == *holder,
+            Row::HasRegion(station, region) => machine.region(*station) == *region,
+            Row::Holds(station, holds) => machine.holds(*station) == *holds,
+            Row::IsWhollyFree(free) => machine.is_wholly_free() == *free,
+        };
+        if !went {
+            return false;
+        }
+    }
+    true
+}
+
+#[test]
+fn gives_the_least_free_region(rt: HostRuntime) {
+    assert!(rt;
+        plays(
+            &rt,
+            rt.alloc(),
+            3,
+            &[
+                Row::Takes(0, 1, Some(0)),
+                Row::Takes(1, 0, Some(2)),
+                Row::Takes(2, 1, Some(4)),
+                Row::GivesBack(1, Ok(Region { base: 2, dim: 0 })),
+                Row::Takes(3, 1, Some(2)),
+                Row::Takes(4, 2, None),
+                Row::HasHolder(3, Some(3)),
+                Row::HasHolder(4, Some(2)),
+                Row::HasHolder(6, None),
+                Row::HasHolder(8, None),
+                Row::HasRegion(3, Some(Region { base: 2, dim: 1 })),
+                Row::HasRegion(4, None),
+            ],
+        )
+    );
+}
+
+#[test]
+fn is_wholly_free_after_the_last_release(rt: HostRuntime) {
+    assert!(rt;
+        plays(
+            &rt,
+            rt.alloc(),
+            3,
+            &[
+                Row::IsWhollyFree(true),
+                Row::Takes(31, 3, Some(0)),
+                Row::Holds(31, true),
+                Row::IsWhollyFree(false),
+                Row::Takes(0, 0, None),
+                Row::GivesBack(31, Ok(Region { base: 0, dim: 3 })),
+                Row::IsWhollyFree(true),
+                Row::Takes(0, 3, Some(0)),
+            ],
+        )
+    );
+}
+
+#[test]
+fn refuses_to_release_what_is_not_held(rt: HostRuntime) {
+    assert!(rt;
+        plays(
+            &rt,
+            rt.alloc(),
+            0,
+            &[
+                Row::GivesBack(0, Err(NothingHeld)),
+                Row::GivesBack(4_000_000_000, Err(NothingHeld)),
+                Row::Takes(5, 0, Some(0)),
+                Row::GivesBack(4, Err(NothingHeld)),
+                Row::HasHolder(0, Some(5)),
+            ],
+        )
+    );
+}
+
+#[test]
+fn four_free_processors_may_hold_no_aligned_region(rt: HostRuntime) {
+    assert!(rt;
+        plays(
+            &rt,
+            rt.alloc(),
+            3,
+            &[
+                Row::Takes(0, 1, Some(0)),
+                Row::Takes(1, 1, Some(2)),
+                Row::Takes(2, 1, Some(4)),
+                Row::Takes(3, 1, Some(6)),
+                Row::GivesBack(1, Ok(Region { base: 2, dim: 1 })),
+                Row::GivesBack(2, Ok(Region { base: 4, dim: 1 })),
+                Row::Holds(4, false),
+                Row::Takes(4, 2, None),
+                Row::Holds(4, false),
+            ],
+        )
+    );
+}
+
+#[test]
+fn faults_as_text(rt: HostRuntime) {
+    let alloc = rt.alloc();
+    assert!(rt; reads(&rt, alloc, &NoSubcube, "no free subcube of this dimension"));
+    assert!(rt; reads(&rt, alloc, &NothingHeld, "the station holds nothing"));
+}

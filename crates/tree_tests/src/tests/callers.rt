@@ -1,0 +1,165 @@
+//! Each caller once; the results are worked out by hand.
+
+ghost use Rattle.std.specs.Prelude.{◌≡◌, All};
+ghost use Rattle.cube_tree.specs.Solo.{solo_dim};
+ghost use Rattle.uses.specs.Extent.{IsExtentValue};
+
+use super::cube::{ends_free, last, made, opened};
+use alloc_bits::AllocBits;
+use cube_core::{Act, Phase};
+use cube_ledger::{Occupancy, occupancy};
+use cube_shape::Region;
+use cube_tree::{Solo, SoloRefused};
+use jobs_csv::{Fault, FaultKind};
+use std::test::Fail;
+use uses::{Extent, count_jobs, has_room, hold_two_and_close, play, share_extent, take_two};
+
+#[test]
+fn two_regions_are_apart(rt: HostRuntime) -> Result<(), Fail> {
+    let mut bits = AllocBits::new(rt.alloc(), 2)?;
+    let taken = take_two(&mut bits, 3, 7, 1)?;
+    assert_eq!(rt; taken.0, Region { base: 0, dim: 1 });
+    assert_eq!(rt; taken.1, Region { base: 2, dim: 1 });
+    Ok(())
+}
+
+// The extents of four numbers, each alone.
+fn extents() -> [Extent; 4]
+    ensures { All IsExtentValue result }
+{
+    [
+        Extent {
+            least: 5,
+            greatest: 5,
+        },
+        Extent {
+            least: 9,
+            greatest: 9,
+        },
+        Extent {
+            least: 2,
+            greatest: 2,
+        },
+        Extent {
+            least: 7,
+            greatest: 7,
+        },
+    ]
+}
+
+#[test]
+fn every_rank_has_the_extent_of_all(rt: HostRuntime) {
+    let mut extents = extents();
+    share_extent(&mut extents, 2);
+    let all = Extent {
+        least: 2,
+        greatest: 9,
+    };
+    assert_eq!(rt; extents, [all; 4]);
+}
+
+// Station 0 holds node 2, the lower half, so station 1 finds it occupied and is idle again.
+#[test]
+fn a_schedule_leaves_lawful_holdings(rt: HostRuntime) -> Result<(), Fail> {
+    let world = play(
+        rt.alloc(),
+        1,
+        2,
+        &[
+            Act::Take {
+                station: 0,
+                node: 2,
+            },
+            Act::Step { station: 0 },
+            Act::Step { station: 0 },
+            Act::Step { station: 0 },
+            Act::Step { station: 0 },
+            Act::Take {
+                station: 1,
+                node: 2,
+            },
+            Act::Step { station: 1 },
+        ],
+    )?;
+    assert!(rt; world.phase(0) == Phase::Holding { node: 2 });
+    assert!(rt; world.phase(1) == Phase::Idle);
+    Ok(())
+}
+
+#[test]
+fn a_file_has_two_jobs(rt: HostRuntime) {
+    let file = b"lane,kind,op,root,items\n0,allreduce,add,0,1 2\n1,broadcast,-,0,7\n";
+    match count_jobs(rt.alloc(), 3, file.as_slice()) {
+        Ok(count) => assert_eq!(rt; count, 2),
+        Err(fault) => assert!(rt; false, "{fault}"),
+    }
+    let wrong = Err(Fault {
+        row: 0,
+        what: FaultKind::Word,
+    });
+    let file = b"lane,kind,op,root,item\n";
+    assert!(rt; count_jobs(rt.alloc(), 3, file.as_slice()) == wrong);
+}
+
+// On a machine of two processors each station gets one, and both together are the machine.
+#[test]
+fn two_subcubes_are_apart(rt: HostRuntime) {
+    let (cube, mut stations) = opened(&rt, rt.alloc(), 1, 2);
+    let second = last(&rt, &cube, &mut stations, 1);
+    let first = last(&rt, &cube, &mut stations, 0);
+    stations.destroy_empty();
+    match hold_two_and_close(cube, first, second, 0) {
+        (Some((low, high)), Ok(machine)) => {
+            assert_eq!(rt; low, Region { base: 0, dim: 0 });
+            assert_eq!(rt; high, Region { base: 1, dim: 0 });
+            assert_eq!(rt; machine.words(), [3, 0, 0, 0].as_slice());
+        }
+        _ => panic!(rt; "a take is refused, or the cube is not closed"),
+    }
+}
+
+// Whether a take on a machine of dimension 2 or 3 has this answer.
+fn takes(solo: &mut Solo, k: u32, answer: Result<usize, SoloRefused>) -> bool
+    ensures { solo_dim solo.new ≡ solo_dim solo.old }
+{
+    k <= solo.dim() && solo.take(k) == answer
+}
+
+// Whether there is room for a region of dimension `k`, as is said.
+fn room_is(solo: &mut Solo, k: u32, room: bool) -> bool
+    ensures { solo_dim solo.new ≡ solo_dim solo.old }
+{
+    k <= solo.dim() && has_room(solo, k) == room
+}
+
+// Three processors of four are held, so there is room for one more and for no pair.
+#[test]
+fn one_processor_is_left(rt: HostRuntime) {
+    let mut solo = made(&rt, rt.alloc(), 2, 4);
+    assert!(rt; room_is(&mut solo, 2, true));
+    assert!(rt; takes(&mut solo, 1, Ok(0)) && takes(&mut solo, 0, Ok(1)));
+    assert!(rt; room_is(&mut solo, 0, true) && room_is(&mut solo, 1, false));
+    assert!(rt; takes(&mut solo, 0, Ok(2)));
+    assert!(rt; room_is(&mut solo, 0, false));
+    assert!(rt; ends_free(solo));
+}
+
+// What the words of a machine of dimension 3 say.
+fn said_by(solo: &Solo) -> Occupancy
+    requires { solo_dim solo.now ≡ 3 }
+{
+    occupancy(3, solo.words())
+}
+
+// What the words of a machine in one hand say of its free regions.
+#[test]
+fn the_words_in_one_hand_say_what_is_free(rt: HostRuntime) {
+    let mut solo = made(&rt, rt.alloc(), 3, 4);
+    assert!(rt; takes(&mut solo, 1, Ok(0)) && takes(&mut solo, 0, Ok(1)));
+    let said = said_by(&solo);
+    assert!(rt; said.free.starts_with([5, 2, 1, 0].as_slice()));
+    assert!(rt; said.held == 3 && said.largest == Some(2));
+    assert!(rt; takes(&mut solo, 2, Ok(2)));
+    assert!(rt; takes(&mut solo, 1, Err(SoloRefused::NoSubcube)));
+    assert!(rt; ends_free(solo));
+}

@@ -1,0 +1,299 @@
+//! Takes and releases of stations on one thread, refused openings, and closings.
+
+ghost use Rattle.std.specs.Prelude.{◌≡◌, ◌+◌, ◌<◌, ◌≤◌, [], All, IfOk, IfErr, vec_len, vec_capacity};
+ghost use Rattle.cube_shape.specs.Node.{IsInCube};
+ghost use Rattle.cube_tree.specs.Ends.{HasAll};
+ghost use Rattle.cube_tree.specs.Handles.{cube_dim, cube_size, size_with, IsSameCube, IsStationOf, IsSubcubeOf};
+
+mod alone;
+mod crowd;
+
+pub(super) use alone::{ends_free, made};
+use cube_shape::{Node, Region};
+use cube_tree::{Cube, CubeRefused, FreeMachine, Refusal, Station, StillOut, Subcube, Why, apart};
+use std::alloc::Global;
+use std::process::Abort;
+
+// A cube and its stations, or why there is none.
+fn open(alloc: Global, n: u32, stations: u32) -> Result<(Cube, Vec<Station>), CubeRefused>
+    ensures size { IfOk result (λ made. cube_size made.0 ≡ size_with n stations) }
+    ensures count { IfOk result (λ made. vec_len made.1 ≡ stations) }
+    ensures all { IfOk result (λ made. HasAll stations made.1.items) }
+    ensures of_cube { IfOk result (λ made. All (IsStationOf made.0) made.1.items) }
+{
+    Cube::open(alloc, n, stations)
+}
+
+// A machine of dimension `n` with its stations.
+pub(super) fn opened(rt: &impl Abort, alloc: Global, n: u32, stations: u32) -> (Cube, Vec<Station>)
+    ensures size { cube_size result.0 ≡ size_with n stations }
+    ensures count { vec_len result.1 ≡ stations }
+    ensures all { HasAll stations result.1.items }
+    ensures of_cube { All (IsStationOf result.0) result.1.items }
+{
+    open(alloc, n, stations).expect(rt, "no memory")
+}
+
+// The last station of the list, which has to have this number.
+pub(super) fn last(rt: &impl Abort, cube: &Cube, list: &mut Vec<Station>, number: u32) -> Station
+    requires of_cube { All (IsStationOf cube.now) list.old.items }
+    requires some { 0 < vec_len list.old }
+    ensures station { IsStationOf cube.now result }
+    ensures rest { All (IsStationOf cube.now) list.new.items }
+    ensures len { vec_len list.new + 1 ≡ vec_len list.old }
+{
+    let station = list.pop().unwrap();
+    assert!(rt; station.number() == number);
+    station
+}
+
+// A try to take the region of a node.
+fn try_node(cube: &Cube, station: Station, node: u64) -> Result<Subcube, (Station, Why)>
+    requires cube { IsStationOf cube.now station }
+    requires node { IsInCube (cube_dim cube.now) node }
+    ensures held { IfOk result (IsSubcubeOf cube.now) }
+    ensures back { IfErr result (λ refused. IsStationOf cube.now refused.0) }
+{
+    station.try_node(cube, Node(node))
+}
+
+// The node, which has to be given as this region.
+fn given(rt: &impl Abort, cube: &Cube, station: Station, node: u64, region: Region) -> Subcube
+    requires cube { IsStationOf cube.now station }
+    requires node { IsInCube (cube_dim cube.now) node }
+    ensures { IsSubcubeOf cube.now result }
+{
+    match try_node(cube, station, node) {
+        Ok(subcube) => {
+            assert!(rt; subcube.region() == region);
+            subcube
+        }
+        Err(_) => panic!(rt; "the node is refused"),
+    }
+}
+
+// The node, which has to be refused for this reason.
+fn refused(rt: &impl Abort, cube: &Cube, station: Station, node: u64, reason: Why) -> Station
+    requires cube { IsStationOf cube.now station }
+    requires node { IsInCube (cube_dim cube.now) node }
+    ensures { IsStationOf cube.now result }
+{
+    match try_node(cube, station, node) {
+        Ok(_) => panic!(rt; "the node is given"),
+        Err((station, why)) => {
+            assert!(rt; why == reason);
+            station
+        }
+    }
+}
+
+// A try to take any region of dimension `k`.
+fn try_take(cube: &Cube, station: Station, k: u32) -> Result<Subcube, (Station, Refusal)>
+    requires cube { IsStationOf cube.now station }
+    requires dim { k ≤ cube_dim cube.now }
+    ensures held { IfOk result (IsSubcubeOf cube.now) }
+    ensures back { IfErr result (λ refused. IsStationOf cube.now refused.0) }
+{
+    station.try_take(cube, k)
+}
+
+// A region of dimension `k`, which has to be this one.
+fn given_any(rt: &impl Abort, cube: &Cube, station: Station, k: u32, base: u64) -> Subcube
+    requires cube { IsStationOf cube.now station }
+    requires dim { k ≤ cube_dim cube.now }
+    ensures { IsSubcubeOf cube.now result }
+{
+    match try_take(cube, station, k) {
+        Ok(subcube) => {
+            assert!(rt; subcube.region() == Region { base, dim: k });
+            subcube
+        }
+        Err(_) => panic!(rt; "no region is given"),
+    }
+}
+
+// A take of any region of dimension `k` that has to be refused with these counts.
+fn refused_all(rt: &impl Abort, cube: &Cube, station: Station, k: u32, counts: Refusal) -> Station
+    requires cube { IsStationOf cube.now station }
+    requires dim { k ≤ cube_dim cube.now }
+    ensures { IsStationOf cube.now result }
+{
+    match try_take(cube, station, k) {
+        Ok(_) => panic!(rt; "a region is given"),
+        Err((station, refusal)) => {
+            assert!(rt; refusal == counts);
+            station
+        }
+    }
+}
+
+// Both subcubes, as they were.
+fn both(cube: &Cube, a: Subcube, b: Subcube) -> (Subcube, Subcube)
+    requires first { IsSubcubeOf cube.now a }
+    requires second { IsSubcubeOf cube.now b }
+    ensures first { IsSubcubeOf cube.now result.0 }
+    ensures second { IsSubcubeOf cube.now result.1 }
+{
+    apart(a, b, cube)
+}
+
+// The station, which gives its region back.
+fn released(cube: &Cube, subcube: Subcube) -> Station
+    requires { IsSubcubeOf cube.now subcube }
+    ensures { IsStationOf cube.now result }
+{
+    subcube.release(cube)
+}
+
+// The region is given back, and its station retires.
+fn leave(cube: &Cube, subcube: Subcube)
+    requires { IsSubcubeOf cube.now subcube }
+{
+    subcube.release(cube).retire(cube);
+}
+
+// The cube, which has to close.
+fn closed(rt: &impl Abort, cube: Cube) -> FreeMachine {
+    match cube.close() {
+        Ok(machine) => machine,
+        Err(_) => panic!(rt; "a station is out"),
+    }
+}
+
+// The cube, which has to be given back with these stations missing.
+fn still_open(rt: &impl Abort, cube: Cube, out: u64) -> Cube
+    ensures { IsSameCube cube result }
+{
+    match cube.close() {
+        Ok(_) => panic!(rt; "no station is out"),
+        Err(StillOut { cube, missing }) => {
+            assert_eq!(rt; missing, out);
+            cube
+        }
+    }
+}
+
+// Whether each node of the machine is free.
+pub(super) fn is_free(machine: &FreeMachine) -> bool {
+    machine.words().iter().skip(1).all(|word| *word == 0)
+}
+
+// Whether the machine has these words at its end.
+fn has_words(machine: &FreeMachine, words: &[u64]) -> bool {
+    machine.words() == words
+}
+
+#[test]
+fn regions_of_one_moment_are_apart(rt: HostRuntime) {
+    let (cube, mut list) = opened(&rt, rt.alloc(), 2, 3);
+    let third = last(&rt, &cube, &mut list, 2);
+    let second = last(&rt, &cube, &mut list, 1);
+    let first = last(&rt, &cube, &mut list, 0);
+    list.destroy_empty();
+    let first = given(&rt, &cube, first, 4, Region { base: 0, dim: 0 });
+    let second = given(&rt, &cube, second, 5, Region { base: 1, dim: 0 });
+    let (first, second) = both(&cube, first, second);
+    let third = refused(&rt, &cube, third, 2, Why::InUse);
+    leave(&cube, first);
+    leave(&cube, second);
+    third.retire(&cube);
+    let machine = closed(&rt, cube);
+    assert!(rt; machine.dim() == 2 && is_free(&machine));
+}
+
+#[test]
+fn a_take_under_an_occupied_node_rolls_back(rt: HostRuntime) {
+    let (cube, mut list) = opened(&rt, rt.alloc(), 2, 2);
+    let second = last(&rt, &cube, &mut list, 1);
+    let first = last(&rt, &cube, &mut list, 0);
+    list.destroy_empty();
+    let first = given(&rt, &cube, first, 2, Region { base: 0, dim: 1 });
+    let second = refused(&rt, &cube, second, 4, Why::Under(Node(2)));
+    let second = given_any(&rt, &cube, second, 0, 2);
+    let first = given_any(&rt, &cube, released(&cube, first), 0, 0);
+    leave(&cube, first);
+    leave(&cube, second);
+    assert!(rt; has_words(&closed(&rt, cube), &[3, 0, 0, 0, 0, 0, 0, 0]));
+}
+
+#[test]
+fn refusals_are_counted(rt: HostRuntime) {
+    let (cube, mut list) = opened(&rt, rt.alloc(), 2, 2);
+    let second = last(&rt, &cube, &mut list, 1);
+    let first = last(&rt, &cube, &mut list, 0);
+    list.destroy_empty();
+    let first = given_any(&rt, &cube, first, 2, 0);
+    let halves = Refusal {
+        in_use: 0,
+        lost: 0,
+        under: 2,
+    };
+    let whole = Refusal {
+        in_use: 1,
+        lost: 0,
+        under: 0,
+    };
+    let second = refused_all(&rt, &cube, second, 1, halves);
+    let second = refused_all(&rt, &cube, second, 2, whole);
+    leave(&cube, first);
+    second.retire(&cube);
+    assert!(rt; closed(&rt, cube).dim() == 2);
+}
+
+#[test]
+fn a_cube_with_a_station_out_is_given_back(rt: HostRuntime) {
+    let (cube, mut list) = opened(&rt, rt.alloc(), 1, 2);
+    let second = last(&rt, &cube, &mut list, 1);
+    last(&rt, &cube, &mut list, 0).retire(&cube);
+    list.destroy_empty();
+    let cube = still_open(&rt, cube, 2);
+    second.retire(&cube);
+    assert!(rt; has_words(&closed(&rt, cube), &[3, 0, 0, 0]));
+}
+
+// Why no cube of this size is opened.
+fn refusal_of(rt: &impl Abort, alloc: Global, n: u32, stations: u32) -> CubeRefused {
+    match open(alloc, n, stations) {
+        Ok(_) => panic!(rt; "the cube is opened"),
+        Err(why) => why,
+    }
+}
+
+// Each station of the list takes a processor: the first one that is free.
+fn take_all(rt: &impl Abort, cube: &Cube, list: &mut Vec<Station>, held: &mut Vec<Subcube>)
+    requires stations { All (IsStationOf cube.now) list.old.items }
+    requires empty { held.old.items ≡ [] }
+    requires room { vec_len list.old ≤ vec_capacity held.old }
+    ensures none { vec_len list.new ≡ 0 }
+    ensures held { All (IsSubcubeOf cube.now) held.new.items }
+{
+    while let Some(station) = list.pop() {
+        let base = held.len() as u64;
+        held.push_reserved(given_any(rt, cube, station, 0, base));
+    }
+}
+
+// All is given back, and all stations retire.
+fn give_all_back(cube: &Cube, held: &mut Vec<Subcube>)
+    requires { All (IsSubcubeOf cube.now) held.old.items }
+    ensures { vec_len held.new ≡ 0 }
+{
+    while let Some(subcube) = held.pop() {
+        leave(cube, subcube);
+    }
+}
+
+#[test]
+fn cubes_at_the_limits(rt: HostRuntime) {
+    assert!(rt; refusal_of(&rt, rt.alloc(), 3, 33) == CubeRefused::BadStations);
+    assert!(rt; refusal_of(&rt, rt.alloc(), 3, 0) == CubeRefused::BadStations);
+    assert!(rt; refusal_of(&rt, rt.alloc(), 11, 1) == CubeRefused::BadDimension);
+    assert!(rt; refusal_of(&rt, rt.alloc(), 11, 33) == CubeRefused::BadDimension);
+    let mut held = Vec::with_capacity(rt.alloc(), 32).expect(&rt, "no memory");
+    let (cube, mut list) = opened(&rt, rt.alloc(), 10, 32);
+    take_all(&rt, &cube, &mut list, &mut held);
+    list.destroy_empty();
+    give_all_back(&cube, &mut held);
+    held.destroy_empty();
+    assert!(rt; is_free(&closed(&rt, cube)));
+}

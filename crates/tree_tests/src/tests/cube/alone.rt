@@ -1,0 +1,138 @@
+//! A machine with all its stations in one hand.
+
+ghost use Rattle.std.specs.Prelude.{◌≡◌};
+ghost use Rattle.cube_tree.specs.Solo.{solo_dim};
+
+use super::{is_free, opened};
+use cube_shape::Region;
+use cube_tree::{FreeMachine, Solo, SoloRefused};
+use std::alloc::Global;
+use std::process::Abort;
+
+// A machine of dimension `n` with all its stations.
+pub(in crate::tests) fn made(rt: &impl Abort, alloc: Global, n: u32, stations: u32) -> Solo
+    ensures { solo_dim result ≡ n }
+{
+    let (cube, list) = opened(rt, alloc, n, stations);
+    match Solo::new(alloc, cube, list) {
+        Ok(solo) => solo,
+        Err(_) => panic!(rt; "no memory"),
+    }
+}
+
+// Whether each node is free at the end of the machine.
+pub(in crate::tests) fn ends_free(solo: Solo) -> bool {
+    is_free(&solo.close())
+}
+
+// A line of a schedule: a take of a dimension, with the station and the base of its region; a release
+// of a station, which holds one; the region of a station; and the words.
+enum Row {
+    Takes(u32, Result<(usize, u64), SoloRefused>),
+    GivesBack(usize),
+    HasRegion(usize, Option<Region>),
+    HasWords([u64; 16]),
+}
+
+// Whether a take has this answer, after which the station holds a region of dimension `k`.
+fn takes(solo: &mut Solo, k: u32, answer: Result<(usize, u64), SoloRefused>) -> bool {
+    if k > solo.dim() {
+        return false;
+    }
+    let station = match solo.take(k) {
+        Ok(station) => station,
+        Err(why) => return answer == Err(why),
+    };
+    match solo.region(station) {
+        Some(region) => {
+            region.dim == k && solo.holds(station) && answer == Ok((station, region.base))
+        }
+        None => false,
+    }
+}
+
+// Whether the station holds a region, which it gives back.
+fn gives_back(solo: &mut Solo, station: usize) -> bool {
+    let holds = solo.holds(station);
+    if holds {
+        solo.release(station);
+    }
+    holds
+}
+
+// Whether the machine goes as these lines say, from the first to the last.
+fn follows(solo: &mut Solo, rows: &[Row]) -> bool {
+    for row in rows {
+        let went = match row {
+            Row::Takes(k, answer) => takes(solo, *k, *answer),
+            Row::GivesBack(station) => gives_back(solo, *station),
+            Row::HasRegion(station, region) => solo.region(*station) == *region,
+            Row::HasWords(words) => solo.words() == words.as_slice(),
+        };
+        if !went {
+            return false;
+        }
+    }
+    true
+}
+
+#[test]
+fn the_lowest_station_gets_the_first_fit(rt: HostRuntime) {
+    let mut solo = made(&rt, rt.alloc(), 3, 4);
+    assert!(rt; solo.dim() == 3);
+    assert!(rt;
+        follows(
+            &mut solo,
+            &[
+                Row::Takes(1, Ok((0, 0))),
+                Row::Takes(0, Ok((1, 2))),
+                Row::HasWords([0, 2, 6, 0, 519, 2, 0, 0, 0, 0, 7, 0, 0, 0, 0, 0]),
+                Row::Takes(2, Ok((2, 4))),
+                Row::Takes(1, Err(SoloRefused::NoSubcube)),
+                Row::Takes(0, Ok((3, 3))),
+                Row::Takes(3, Err(SoloRefused::NoStation)),
+                Row::GivesBack(1),
+                Row::HasRegion(0, Some(Region { base: 0, dim: 1 })),
+                Row::HasRegion(1, None),
+                Row::HasRegion(2, Some(Region { base: 4, dim: 2 })),
+                Row::HasRegion(4, None),
+                Row::Takes(1, Err(SoloRefused::NoSubcube)),
+                Row::Takes(0, Ok((1, 2))),
+            ]
+        )
+    );
+    assert!(rt; ends_free(solo));
+}
+
+// Whether the stations below this number take a processor each, by rising numbers.
+fn all_take(solo: &mut Solo, stations: u32) -> bool {
+    for number in 0..stations {
+        if !takes(solo, 0, Ok((number as usize, number as u64))) {
+            return false;
+        }
+    }
+    true
+}
+
+#[test]
+fn each_station_of_the_largest_machine_holds(rt: HostRuntime) {
+    let mut solo = made(&rt, rt.alloc(), 10, 32);
+    assert!(rt; all_take(&mut solo, 32));
+    assert!(rt; takes(&mut solo, 0, Err(SoloRefused::NoStation)));
+    assert!(rt; ends_free(solo));
+}
+
+// The machine of dimension 2 with three stations at its end. Where memory for it is refused, the cube
+// and its stations are given back.
+fn made_and_closed(rt: &impl Abort, alloc: Global) -> FreeMachine {
+    let (cube, list) = opened(rt, alloc, 2, 3);
+    match Solo::new(alloc, cube, list) {
+        Ok(solo) => solo.close(),
+        Err((cube, list, _)) => cube.close_with(list),
+    }
+}
+
+#[test]
+fn a_machine_that_is_not_made_gives_all_back(rt: HostRuntime) {
+    assert!(rt; is_free(&made_and_closed(&rt, rt.alloc())));
+}

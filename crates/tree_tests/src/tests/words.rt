@@ -1,0 +1,95 @@
+//! Words as text and by their tests. The texts are those of the words that the tree's documents show.
+
+use bitflags::Flags;
+use cube_shape::{MAX_STATIONS, Side};
+use status_word::{UseBits, Word};
+use std::alloc::Global;
+use std::process::Abort;
+
+// Whether words have these texts.
+fn have_texts(rt: &impl Abort, alloc: Global, rows: &[(u64, &str)]) -> bool {
+    for (word, text) in rows {
+        let shown = Word(*word).show(alloc).expect(rt, "no memory");
+        if shown.as_str() != *text {
+            return false;
+        }
+    }
+    true
+}
+
+#[test]
+fn words_as_text(rt: HostRuntime) {
+    assert!(rt;
+        have_texts(
+            &rt,
+            rt.alloc(),
+            &[
+                (0, "-"),
+                (7, "OLR"),
+                (6, "LR"),
+                (258, "L+0"),
+                (1028, "R+2"),
+                (256, "-+0"),
+                (519, "OLR+1"),
+                (1, "O"),
+                (4 + 256 + 512, "R+0+1"),
+            ]
+        )
+    );
+}
+
+#[test]
+fn tests_of_bits(rt: HostRuntime) {
+    assert!(rt; Word(256).is_free());
+    assert!(rt; !Word(2).is_free());
+    assert!(rt; Word::BUSY.is_occupied());
+    assert!(rt; !Word(6).is_occupied());
+    assert!(rt; Word(2).has_side(Side::Left));
+    assert!(rt; !Word(2).has_side(Side::Right));
+    assert!(rt; Word(258).is_marked(0));
+    assert!(rt; !Word(258).is_marked(1));
+}
+
+// A change of a word, with the word that it makes.
+#[derive(Clone, Copy)]
+enum Change {
+    WithSide(Side),
+    WithoutMarks,
+    Mark(u32),
+    Cleared(bool, bool),
+}
+
+// Whether the change of the first word makes the second.
+fn makes(word: u64, change: Change, made: u64) -> bool {
+    let word = Word(word);
+    match change {
+        Change::WithSide(side) => word.with_side(side).0 == made,
+        Change::WithoutMarks => word.without_marks().0 == made,
+        Change::Mark(station) => station < MAX_STATIONS && word.mark(station).0 == made,
+        Change::Cleared(left_free, right_free) => word.cleared(left_free, right_free).0 == made,
+    }
+}
+
+#[test]
+fn changes_of_bits(rt: HostRuntime) {
+    assert!(rt; makes(256, Change::WithSide(Side::Right), 260));
+    assert!(rt; makes(4, Change::WithSide(Side::Left), 6));
+    assert!(rt; makes(519, Change::WithoutMarks, 7));
+    assert!(rt; makes(2, Change::Mark(1), 514));
+    assert!(rt; makes(514, Change::Mark(1), 514));
+    assert!(rt; Word::mark_mask(3) == Word(2048));
+    assert!(rt; Word::side_mask(Side::Right) == Word(4));
+    assert!(rt; makes(6 + 256, Change::Cleared(true, false), 4));
+    assert!(rt; makes(6 + 256, Change::Cleared(false, true), 2));
+    assert!(rt; makes(6 + 256, Change::Cleared(true, true), 0));
+    assert!(rt; makes(6 + 256, Change::Cleared(false, false), 6));
+}
+
+#[test]
+fn the_set_of_use_bits(rt: HostRuntime) {
+    let bits = Word(258).use_bits();
+    assert!(rt; bits.contains(UseBits::LEFT));
+    assert!(rt; !bits.contains(UseBits::OCC));
+    assert!(rt; Word::BUSY.use_bits() == UseBits::all());
+    assert!(rt; Word(256).use_bits() == UseBits::empty());
+}

@@ -1,0 +1,303 @@
+//! Each refusal, each act, and a machine of one node; whole schedules stand in `schedules`, short
+//! ones that show a wrong step in `interleavings`, and outcomes that no clause pins in `outcomes`.
+
+ghost use Rattle.std.specs.Prelude.{◌≡◌, ◌+◌, ◌^◌, ◌≤◌, length};
+ghost use Rattle.cube_core.specs.World.{HasShapeOf};
+
+mod interleavings;
+mod outcomes;
+mod schedules;
+
+use super::text::reads;
+use cube_core::{Act, Event, Kind, MAX_DIM, MAX_STATIONS, Note, Phase, Refused, World};
+use std::alloc::Global;
+use std::process::Abort;
+
+// A line of a schedule: a call that begins something, an event (its station, kind, node, word and
+// note), a step of a station at rest, an act that is refused, and a retirement with the roll that it
+// makes; or what the world then says: the phase of a station, the word of a node, and that the words of
+// all nodes are 0.
+#[derive(Clone, Copy)]
+enum Row {
+    Takes(u64, u64),
+    Releases(u64),
+    Makes(u64, Kind, u64, u64, Note),
+    Rests(u64),
+    Refuses(Act, Refused),
+    Retires(u64, u64),
+    Stands(u64, Phase),
+    HasWord(u64, u64),
+    IsClear,
+}
+
+// Whether the next step of a station is this event.
+fn makes(world: &mut World, station: u64, kind: Kind, node: u64, word: u64, note: Note) -> bool
+    ensures { HasShapeOf world.old world.new }
+{
+    world.step(station)
+        == Ok(Event {
+            station,
+            kind,
+            node,
+            word,
+            note,
+        })
+}
+
+// Whether an act is refused for this reason.
+fn refuses(world: &mut World, act: Act, reason: Refused) -> bool
+    ensures { HasShapeOf world.old world.new }
+{
+    match act {
+        Act::Take { station, node } => world.begin_take(station, node) == Err(reason),
+        Act::Release { station } => world.begin_release(station) == Err(reason),
+        Act::Step { station } => world.step(station) == Err(reason),
+        Act::Retire { station } => world.retire(station) == Err(reason),
+    }
+}
+
+// Whether the station retires, and the roll is this one then.
+fn retires(world: &mut World, station: u64, roll: u64) -> bool
+    ensures { HasShapeOf world.old world.new }
+{
+    world.retire(station)
+        == Ok(Event {
+            station,
+            kind: Kind::Retire,
+            node: 0,
+            word: roll,
+            note: Note::Retired,
+        })
+}
+
+// Whether the words of the nodes from 1 on, below this one, are all 0.
+fn is_clear(world: &World, end: u64) -> bool
+    requires { end ≤ 2 ^ (world.now.dim + 1) }
+{
+    for node in 1..end {
+        if world.word(node) != 0 {
+            return false;
+        }
+    }
+    true
+}
+
+// Whether the world of this dimension and with so many stations goes as these lines say, from the first
+// to the last.
+fn follows(world: &mut World, n: u32, stations: u32, rows: &[Row]) -> bool
+    requires limit { n ≤ MAX_DIM }
+    requires dim { world.old.dim ≡ n }
+    requires stations { length world.old.records ≡ stations }
+{
+    for row in rows {
+        let went = match row {
+            Row::Takes(station, node) => world.begin_take(*station, *node).is_ok(),
+            Row::Releases(station) => world.begin_release(*station).is_ok(),
+            Row::Makes(station, kind, node, word, note) => {
+                makes(world, *station, *kind, *node, *word, *note)
+            }
+            Row::Rests(station) => world.step(*station) == Err(Refused::Resting),
+            Row::Refuses(act, reason) => refuses(world, *act, *reason),
+            Row::Retires(station, roll) => retires(world, *station, *roll),
+            Row::Stands(station, phase) => {
+                *station < u64::from(stations) && world.phase(*station) == *phase
+            }
+            Row::HasWord(node, word) => *node < 1 << (n + 1) && world.word(*node) == *word,
+            Row::IsClear => is_clear(world, 1 << (n + 1)),
+        };
+        if !went {
+            return false;
+        }
+    }
+    true
+}
+
+// Whether a new world goes as these lines say once these acts have been run on it.
+fn plays_after(
+    rt: &impl Abort,
+    alloc: Global,
+    n: u32,
+    stations: u32,
+    acts: &[Act],
+    rows: &[Row],
+) -> bool {
+    if n > MAX_DIM || stations > MAX_STATIONS {
+        return false;
+    }
+    let mut world = World::new(alloc, n, stations).expect(rt, "no memory");
+    world.run(acts);
+    follows(&mut world, n, stations, rows)
+}
+
+// Whether a new world goes as these lines say.
+fn plays(rt: &impl Abort, alloc: Global, n: u32, stations: u32, rows: &[Row]) -> bool {
+    plays_after(rt, alloc, n, stations, &[], rows)
+}
+
+#[test]
+fn gives_back_under_a_held_root(rt: HostRuntime) {
+    assert!(rt;
+        plays(
+            &rt,
+            rt.alloc(),
+            1,
+            3,
+            &[
+                Row::Takes(1, 1),
+                Row::Makes(1, Kind::Look, 1, 0, Note::Free),
+                Row::Makes(1, Kind::Claim, 1, 7, Note::Held),
+                Row::Takes(0, 2),
+                Row::Makes(0, Kind::Look, 2, 0, Note::Free),
+                Row::Makes(0, Kind::Claim, 2, 7, Note::Climb),
+                Row::Makes(0, Kind::Sweep, 1, 7, Note::Ok),
+                Row::Makes(0, Kind::Raise, 1, 7, Note::Under),
+                Row::Stands(0, Phase::Backing { node: 2, at: 1 }),
+                Row::Makes(0, Kind::Zero, 2, 0, Note::Climb),
+                Row::Stands(0, Phase::Arriving { at: 1 }),
+                Row::Stands(1, Phase::Holding { node: 1 }),
+                Row::HasWord(1, 7),
+                Row::HasWord(2, 0),
+            ],
+        )
+    );
+}
+
+// An act that begins a take.
+fn take(station: u64, node: u64) -> Act {
+    Act::Take { station, node }
+}
+
+// An act that begins a release.
+fn release(station: u64) -> Act {
+    Act::Release { station }
+}
+
+// A step.
+fn step(station: u64) -> Act {
+    Act::Step { station }
+}
+
+// A retirement.
+fn retire(station: u64) -> Act {
+    Act::Retire { station }
+}
+
+#[test]
+fn refuses_in_order(rt: HostRuntime) {
+    assert!(rt;
+        plays(
+            &rt,
+            rt.alloc(),
+            1,
+            2,
+            &[
+                Row::Refuses(take(2, 0), Refused::NoStation),
+                Row::Refuses(release(2), Refused::NoStation),
+                Row::Refuses(step(u64::MAX), Refused::NoStation),
+                Row::Refuses(take(0, 0), Refused::NotInCube),
+                Row::Refuses(take(0, 4), Refused::NotInCube),
+                Row::Refuses(release(0), Refused::NotHolding),
+                Row::Refuses(step(0), Refused::Resting),
+                Row::Takes(0, 3),
+                Row::Refuses(take(0, 4), Refused::NotIdle),
+                Row::Refuses(release(0), Refused::NotHolding),
+                Row::Refuses(retire(0), Refused::NotIdle),
+                Row::Refuses(retire(2), Refused::NoStation),
+            ],
+        )
+    );
+}
+
+#[test]
+fn retires_for_good(rt: HostRuntime) {
+    assert!(rt;
+        plays(
+            &rt,
+            rt.alloc(),
+            1,
+            2,
+            &[
+                Row::Retires(1, 2),
+                Row::Stands(1, Phase::Retired),
+                Row::HasWord(0, 2),
+                Row::Refuses(take(1, 1), Refused::NotIdle),
+                Row::Refuses(release(1), Refused::NotHolding),
+                Row::Refuses(step(1), Refused::Resting),
+                Row::Refuses(retire(1), Refused::NotIdle),
+            ],
+        )
+    );
+}
+
+#[test]
+fn a_machine_of_one_node(rt: HostRuntime) {
+    assert!(rt;
+        plays(
+            &rt,
+            rt.alloc(),
+            0,
+            2,
+            &[
+                Row::Refuses(take(0, 2), Refused::NotInCube),
+                Row::Takes(0, 1),
+                Row::Takes(1, 1),
+                Row::Makes(0, Kind::Look, 1, 0, Note::Free),
+                Row::Makes(1, Kind::Look, 1, 0, Note::Free),
+                Row::Makes(0, Kind::Claim, 1, 7, Note::Held),
+                Row::Makes(1, Kind::Claim, 1, 7, Note::Lost),
+                Row::Takes(1, 1),
+                Row::Makes(1, Kind::Look, 1, 7, Note::InUse),
+                Row::Releases(0),
+                Row::Makes(0, Kind::Zero, 1, 0, Note::Done),
+            ],
+        )
+    );
+}
+
+#[test]
+fn runs_acts_and_reads_the_end(rt: HostRuntime) {
+    assert!(rt;
+        plays_after(
+            &rt,
+            rt.alloc(),
+            1,
+            2,
+            &[
+                take(0, 3),
+                step(0),
+                step(0),
+                release(0),
+                step(0),
+                step(0),
+                step(0),
+                release(0),
+                take(1, 2),
+            ],
+            &[
+                Row::Stands(0, Phase::Leaving { node: 3 }),
+                Row::Stands(1, Phase::Looking { node: 2 }),
+                Row::HasWord(0, 0),
+                Row::HasWord(1, 4),
+                Row::HasWord(2, 0),
+                Row::HasWord(3, 7),
+            ],
+        )
+    );
+}
+
+#[test]
+fn refusals_as_text(rt: HostRuntime) {
+    let alloc = rt.alloc();
+    assert!(rt; reads(&rt, alloc, &Refused::NotIdle, "the station is not idle"));
+    assert!(rt;
+        reads(
+            &rt,
+            alloc,
+            &Refused::NotHolding,
+            "the station holds nothing"
+        )
+    );
+    assert!(rt; reads(&rt, alloc, &Refused::NoStation, "there is no such station"));
+    assert!(rt; reads(&rt, alloc, &Refused::NotInCube, "there is no such node"));
+    assert!(rt; reads(&rt, alloc, &Refused::Resting, "the station makes no step"));
+}
