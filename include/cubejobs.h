@@ -5,7 +5,8 @@
  * held. Each station holds one region at most, and it alone gives it back.
  *
  * The library takes no memory. A machine is one struct of about 1.5 KB, which the caller keeps wherever it
- * likes; there is nothing to close. Link libcubejobs_c.a, which `rt lib` makes in crates/cubejobs_c/out.
+ * likes; there is nothing to close. Link libcubejobs_c.a of release/linux-x86_64, or the one that `rt lib` makes
+ * in crates/cubejobs_c/out.
  *
  * It is proved that the functions do what is said here. Nothing checks what the caller owes them:
  *
