@@ -127,6 +127,7 @@ pub fn answer_all<R: Threads + Wait + Sync, L: JobLine + Sync, F: Floor + Sync, 
 where
     L::Lane: Send,
     L::Pass: Send,
+    L::End: Send,
     L::Closer: Send,
     L::Note: Send,
     F::Station: Send,
@@ -141,6 +142,7 @@ where
     ensures accepted { IfOk result (λ finished.
         finished.accepted.items ≡ map (λ js. length js.items) jobs.items) }
     ensures dim { IfOk result (λ finished. F.machine_dim finished.machine ≡ n) }
+    ensures closed { IfOk result (λ finished. F.is_closed dispatchers finished.machine) }
     ensures sizes { IfOk result (λ finished.
         refusal_of n (length jobs.items) dispatchers capacity ≡ None) }
     ensures refused { IfErr result (λ stopped. MatchStopped stopped

@@ -52,6 +52,7 @@ where
     L: JobLine + Sync,
     L::Lane: Send,
     L::Pass: Send,
+    L::End: Send,
     L::Closer: Send,
     L::Note: Send,
     F: Floor + Sync,
@@ -66,6 +67,8 @@ where
         (parse_jobs options.n bytes) result) }
     ensures lanes { IfOk result (λ finished. length finished.accepted.items ≤ MAX_LANES) }
     ensures dim { IfOk result (λ finished. F.machine_dim finished.machine ≡ options.n) }
+    ensures closed { IfOk result (λ finished.
+        F.is_closed options.dispatchers finished.machine) }
     ensures free { IfOk result (λ finished.
         IsWhollyFree options.n (F.machine_words finished.machine)) }
     ensures failed { IfErr result (λ fault.
@@ -113,6 +116,7 @@ where
     L: JobLine + Sync,
     L::Lane: Send,
     L::Pass: Send,
+    L::End: Send,
     L::Closer: Send,
     L::Note: Send,
     F: Floor + Sync,
@@ -127,6 +131,8 @@ where
         (parse_jobs options.n bytes) result) }
     ensures lanes { IfOk result (λ finished. length finished.accepted.items ≤ MAX_LANES) }
     ensures dim { IfOk result (λ finished. F.machine_dim finished.machine ≡ options.n) }
+    ensures closed { IfOk result (λ finished.
+        F.is_closed options.dispatchers finished.machine) }
     ensures free { IfOk result (λ finished.
         IsWhollyFree options.n (F.machine_words finished.machine)) }
     ensures failed { IfErr result (λ fault.

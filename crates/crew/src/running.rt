@@ -146,6 +146,7 @@ fn run_named<
 where
     L::Lane: Send,
     L::Pass: Send,
+    L::End: Send,
     L::Closer: Send,
     L::Note: Send,
     F::Station: Send,
@@ -177,6 +178,7 @@ where
     ensures counts { AreCounts (map (λ js. js.items) jobs.items) result.finished.accepted.items
         (map (λ u. unfed_by u.lane (given_back u.back ++ u.left.items) u.stop) result.unfed.items) }
     ensures dim { F.machine_dim result.finished.machine ≡ J.shop.floor.dim }
+    ensures closed { F.is_closed J.shop.line.sizes.passes result.finished.machine }
 {
     let Opened {
         shop,
@@ -240,6 +242,7 @@ pub fn run<R: Threads + Wait + Sync, L: JobLine + Sync, F: Floor + Sync, T: Runn
 where
     L::Lane: Send,
     L::Pass: Send,
+    L::End: Send,
     L::Closer: Send,
     L::Note: Send,
     F::Station: Send,
@@ -257,6 +260,7 @@ where
         end.finished.accepted.items
         (map (λ u. unfed_by u.lane (given_back u.back ++ u.left.items) u.stop) end.unfed.items)) }
     ensures dim { IfOk result (λ end. F.machine_dim end.finished.machine ≡ n) }
+    ensures closed { IfOk result (λ end. F.is_closed dispatchers end.finished.machine) }
     ensures accepted { IfOk result (λ end.
         refusal_of n (length jobs.items) dispatchers capacity ≡ None) }
     ensures refused { IfErr result (λ r. r.0 ≢ ShopRefused.OutOfMemory →

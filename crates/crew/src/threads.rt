@@ -59,7 +59,8 @@ pub fn run_threads<R: Threads + Wait + Sync, C: Crew + Sync>(rt: &R, crew: &C) -
     )
 }
 
-// Starts a thread for each feeder, and waits for them.
+// Starts a thread for each feeder, and waits for them. Where one cannot be started the shop is closed at
+// once, so that the others do not hand in what is not going to be a whole run.
 fn feed_on_threads<R: Threads + Wait + Sync, C: Crew + Sync>(rt: &R, crew: &C) -> bool
     requires { C.is_ready crew.now }
 {
@@ -80,6 +81,9 @@ fn feed_on_threads<R: Threads + Wait + Sync, C: Crew + Sync>(rt: &R, crew: &C) -
                         )
                         .is_ok();
                 }
+            }
+            if !started {
+                crew.close(rt);
             }
             started
         },

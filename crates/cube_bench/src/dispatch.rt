@@ -8,10 +8,11 @@ mod words;
 use crate::outcome::{Measured, Stopped, nanos_since};
 use crew::run;
 use dispatcher::{Finished, Plain};
-use floors::{Floor, LockedFloor};
+use floors::Floor;
 use job_queue::{JobLine, LockedLine, RuledLine};
 use job_types::MAX_LANES;
 use lists::jobs_of_all;
+use locked_floor::LockedFloor;
 use std::alloc::Global;
 use std::rt::Clock;
 use std::sync::Wait;
@@ -39,6 +40,7 @@ fn run_shop<R: Threads + Wait + Sync + Clock, L: JobLine + Sync, F: Floor + Sync
 where
     L::Lane: Send,
     L::Pass: Send,
+    L::End: Send,
     L::Closer: Send,
     L::Note: Send,
     F::Station: Send,

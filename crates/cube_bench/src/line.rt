@@ -107,6 +107,7 @@ fn feed_all<R: Threads + Wait + Clock + Sync, L: JobLine + Sync>(
 )
 where
     L::Lane: Send,
+    L::End: Send,
     requires lanes { All (L.is_lane (L.id line.now)) lanes.old }
     requires machine { (L.id line.now).sizes.machine ≡ MACHINE }
     ensures { All (L.is_lane (L.id line.now)) lanes.new }
@@ -133,6 +134,7 @@ fn drain_all<R: Threads + Wait + Clock + Sync, L: JobLine + Sync>(
 )
 where
     L::Pass: Send,
+    L::End: Send,
     requires { All (L.is_pass (L.id line.now)) passes.old }
     ensures { All (L.is_pass (L.id line.now)) passes.new }
 {
@@ -160,6 +162,7 @@ fn run_threads<'a, R: Threads + Wait + Clock + Sync, L: JobLine + Sync>(
 where
     L::Lane: Send,
     L::Pass: Send,
+    L::End: Send,
     requires lanes { All (L.is_lane (L.id line.now)) lanes.old }
     requires passes { All (L.is_pass (L.id line.now)) passes.old }
     requires machine { (L.id line.now).sizes.machine ≡ MACHINE }
@@ -197,6 +200,7 @@ fn measure_line<R: Threads + Wait + Sync + Clock, L: JobLine + Sync>(
 where
     L::Lane: Send,
     L::Pass: Send,
+    L::End: Send,
     requires lanes { invocation.sizes.lanes ≤ MAX_LANES }
     requires passes { (0 < invocation.sizes.passes) × (invocation.sizes.passes ≤ MAX_PASSES) }
     requires capacity { (0 < invocation.sizes.capacity)

@@ -12,11 +12,12 @@
 //! and after each call, and standard error has six lines more: the nanoseconds of submits that were
 //! accepted, and of takes that had a job, each as median, 99 % and 99.9 %.
 //!
-//! `tree SIZES THREADS TURNS` takes and gives back regions of a running tree of dimension 10. Each thread
-//! has a station, which makes so many turns of one take and its release. SIZES is `leaf`, where each take
-//! asks for one processor, or `mixed`, where those of a station ask for the dimensions 0 to 5 in turn. In
-//! place of THREADS, `solo` has the turns made by a tree in one hand, and `bits` by the allocation bits.
-//! It prints how many takes were given.
+//! `tree SIZES THREADS TURNS [half]` takes and gives back regions of a running tree of dimension 10. Each
+//! thread has a station, which makes so many turns of one take and its release. SIZES is `leaf`, where
+//! each take asks for one processor, or `mixed` or `wide`, where those of a station ask for the dimensions
+//! 0 to 5, or 0 to 9, in turn. In place of THREADS, `solo` has the turns made by a tree in one hand, and
+//! `bits` by the allocation bits. With `half`, one more station holds a half of the machine all the
+//! while. It prints how many takes were given.
 //!
 //! `dispatch SHOP ITEMS LANES DISPATCHERS CAPACITY JOBS` runs a dispatcher on threads, where SHOP is
 //! `free`, the line with no lock and the tree, or `locked`, the line and the floor under a lock each.

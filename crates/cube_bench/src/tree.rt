@@ -1,5 +1,5 @@
 //! Takes and gives back regions of a running tree of dimension 10, so that it can be timed: the words
-//! `SIZES THREADS TURNS`.
+//! `SIZES THREADS TURNS [half]`.
 ghost use Rattle.cube_bench.specs.TreeWords.{HasLanes};
 
 mod alone;
@@ -20,9 +20,9 @@ fn given_takes<R: Threads + Wait + Sync>(rt: &R, alloc: Global, run: TreeRun) ->
     requires { HasLanes run }
 {
     match run {
-        TreeRun::Threads(invocation) => given_in(rt, alloc, invocation).ok(),
-        TreeRun::Solo(sizes, count) => given_by_solo(alloc, sizes, count).ok(),
-        TreeRun::Bits(sizes, count) => given_by_bits(alloc, sizes, count).ok(),
+        TreeRun::Threads(threads, workload) => given_in(rt, alloc, threads, workload).ok(),
+        TreeRun::Solo(workload) => given_by_solo(alloc, workload).ok(),
+        TreeRun::Bits(workload) => given_by_bits(alloc, workload).ok(),
     }
 }
 

@@ -44,12 +44,12 @@ release_is_due s w none =
 -- ---- the events of a station
 
 -- the station's record after an accepted step: one event more, its own, and the next phase
-record IsStepped (w : State) (s : ℕ) : Type 0 where
-  there : s < length w.records
-  moves : step_refusal (phase_of w s) ≡ None
-  record_is : record_of (apply (Step s) w) s ≡ record { phase = (transition s (phase_of w s)).next (word_of w (transition s (phase_of w s)).node); trail = (transition s (phase_of w s)).events (word_of w (transition s (phase_of w s)).node) ++ trail_of w s }
+pub record IsStepped (w : State) (s : ℕ) : Type 0 where
+  pub there : s < length w.records
+  pub moves : step_refusal (phase_of w s) ≡ None
+  pub record_is : record_of (apply (Step s) w) s ≡ record { phase = (transition s (phase_of w s)).next (word_of w (transition s (phase_of w s)).node); trail = (transition s (phase_of w s)).events (word_of w (transition s (phase_of w s)).node) ++ trail_of w s }
 
-stepped : (w : State) (s : ℕ) → refusal (Step s) w ≡ None → IsStepped w s
+pub stepped : (w : State) (s : ℕ) → refusal (Step s) w ≡ None → IsStepped w s
 stepped w s none =
     let here = accepted (Step s) w none in
     record { there = here.0; moves = here.1; record_is = ap (λ u. record_of u s) (apply-accepted (Step s) w none) ∙ get_or-set_same w.records s _ (record { phase = Retired; trail = [] }) here.0 }

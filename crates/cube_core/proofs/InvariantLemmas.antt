@@ -9,13 +9,14 @@ use Rattle.cube_core.specs.declared.phase.Phase.TheVariants.{Idle, Retired}
 use Rattle.cube_core.specs.Phase.{owned, HasPassed}
 use Rattle.cube_core.specs.InnerPhase.{marked_at}
 use Rattle.cube_core.proofs.ChangeLemmas.{Fit, Agrees, Change}
-use Rattle.cube_core.proofs.MoveLemmas.{unmarked_at, Move}
+use Rattle.cube_core.proofs.MoveLemmas.{unmarked_at, word_read, Move}
 use Rattle.cube_core.proofs.SeenFreeLemmas.{Shut, shut_kept}
 use Rattle.cube_core.proofs.AgreeLemmas.{agrees_kept}
 use Rattle.cube_core.proofs.MarkLemmas.{Stamped, stamped_kept}
 use Rattle.cube_core.proofs.FreeMarkLemmas.{Witnessed, witnessed_kept}
 use Rattle.cube_core.proofs.DebtLemmas.{Owing, owing_kept}
 use Rattle.cube_core.proofs.RollLemmas.{Rolled, rolled_kept}
+use Rattle.cube_core.proofs.ReadLemmas.{Read, read_kept}
 
 -- of a machine of dimension n and this many stations
 pub record Invariant (n count : ℕ) (W : ℕ → ℕ) (P : ℕ → Phase) : Type 0 where
@@ -25,6 +26,7 @@ pub record Invariant (n count : ℕ) (W : ℕ → ℕ) (P : ℕ → Phase) : Typ
   pub witnessed : Witnessed W P
   pub owing : Owing W P
   pub rolled : Rolled count W P
+  pub read : Read P
 
 pub invariant_kept : {n count : ℕ} {W : ℕ → ℕ} {P : ℕ → Phase} {p : Phase} {u v y : ℕ} {q : Phase} {V : ℕ → ℕ} {Q : ℕ → Phase} → Move n u W p v y q → P u ≡ p → Change W P v y u q V Q → Invariant n count W P → Invariant n count V Q
 invariant_kept move is x k = record {
@@ -34,6 +36,7 @@ invariant_kept move is x k = record {
   witnessed = witnessed_kept move is x k.witnessed;
   owing = owing_kept move is x k.agrees k.stamped k.owing;
   rolled = rolled_kept move is x k.rolled;
+  read = read_kept move is x k.shut k.witnessed k.read;
 }
 
 -- where all words are 0, every station is idle, and those that are not there read as retired
@@ -59,6 +62,7 @@ invariant_initial n count W P zeros idle there = record {
   witnessed = record { witness = λ v _ _ some. absurd (some (zeros v)) };
   owing = record { owed = λ v _ used _. absurd (used (ap use_of (zeros v))) };
   rolled = record { roll = λ s here. (λ set. absurd (clear_bit s set), λ retired. absurd (not_retired (sym (there s here) ∙ retired))) };
+  read = record { marked = λ s some. absurd (some (of_both (λ p. word_read p ≡ 0) refl refl s)) };
 }
   where
     -- what an idle station and an absent one have in common

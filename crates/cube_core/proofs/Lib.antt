@@ -7,12 +7,14 @@ mod AgreeLemmas
 mod MarkLemmas
 mod FreeMarkLemmas
 mod RollLemmas
+mod ReadLemmas
 mod DebtLemmas
 mod InvariantLemmas
 mod HeldLemmas
 mod ConsequenceLemmas
 mod StandsLemmas
 mod CountLemmas
+mod CauseLemmas
 mod ScheduleLemmas
 mod WorldLemmas
 pub mod OneEventLemmas

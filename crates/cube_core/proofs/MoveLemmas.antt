@@ -37,23 +37,39 @@ unmarked_at (Unmarked a) = a
 unmarked_at (Marked a w left right) = 0
 unmarked_at Retired = 0
 
--- neither marked nor unmarked at a node, and not retired
+-- the word that it has read of its node, and claims it by
+abbrev pub word_read : Phase → ℕ
+word_read Idle = 0
+word_read (Looking h) = 0
+word_read (Looked h w) = w
+word_read (Climbing h a) = 0
+word_read (Swept h a) = 0
+word_read (Holding h) = 0
+word_read (Leaving h) = 0
+word_read (Backing h a) = 0
+word_read (Arriving a) = 0
+word_read (Unmarked a) = 0
+word_read (Marked a w left right) = 0
+word_read Retired = 0
+
+-- neither marked nor unmarked at a node, about to claim none, and not retired
 pub record IsPlain (q : Phase) : Type 0 where
   pub not_marked : marked_at q ≡ 0
   pub not_unmarked : unmarked_at q ≡ 0
+  pub unread : word_read q ≡ 0
   pub stays : q ≢ Retired
 
 pub plain_idle : IsPlain Idle
-plain_idle = record { not_marked = refl; not_unmarked = refl; stays = λ is. absurd (cc) }
+plain_idle = record { not_marked = refl; not_unmarked = refl; unread = refl; stays = λ is. absurd (cc) }
 
 pub plain_climbing : (h a : ℕ) → IsPlain (Climbing h a)
-plain_climbing h a = record { not_marked = refl; not_unmarked = refl; stays = λ is. absurd (cc) }
+plain_climbing h a = record { not_marked = refl; not_unmarked = refl; unread = refl; stays = λ is. absurd (cc) }
 
 pub plain_holding : (h : ℕ) → IsPlain (Holding h)
-plain_holding h = record { not_marked = refl; not_unmarked = refl; stays = λ is. absurd (cc) }
+plain_holding h = record { not_marked = refl; not_unmarked = refl; unread = refl; stays = λ is. absurd (cc) }
 
 pub plain_arriving : (a : ℕ) → IsPlain (Arriving a)
-plain_arriving a = record { not_marked = refl; not_unmarked = refl; stays = λ is. absurd (cc) }
+plain_arriving a = record { not_marked = refl; not_unmarked = refl; unread = refl; stays = λ is. absurd (cc) }
 
 -- ---- the phase past a
 

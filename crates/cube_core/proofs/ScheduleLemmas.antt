@@ -1,7 +1,6 @@
 -- What the invariant says after every schedule, in the words of the law.
-use Rattle.std.proofs.Common.{◌≡◌, ℕ, ◌+◌, ◌^◌, ◌<◌, ◌≤◌, inl, inr, List, sym, ◌∙◌, subst, arith}
+use Rattle.std.proofs.Common.{◌≡◌, ℕ, ◌+◌, ◌^◌, ◌<◌, inl, inr, List, sym, ◌∙◌, subst, arith}
 use Rattle.std.proofs.lemmas.Bool.{cases_eq}
-use Rattle.std.proofs.lemmas.List.{get_or_past}
 use Rattle.status_word.specs.Word.{IsSet, IsOccupied, IsMarked}
 use Rattle.cube_core.specs.declared.act.Act.{Act}
 use Rattle.cube_core.specs.Phase.{Owns}
@@ -14,6 +13,7 @@ use Rattle.cube_core.proofs.HeldLemmas.{held_named, held_lawful}
 pub use Rattle.cube_core.proofs.StandsLemmas.{Stands, accepted, apply-accepted, apply_all_stands, apply_begin_phase, below_inner, initial_stands, node_there, others_record}
 pub use Rattle.cube_core.proofs.CountLemmas.{Stands-counted, take_due, release_is_due}
 use Rattle.cube_core.proofs.CountLemmas.{take_named}
+use Rattle.cube_core.proofs.CauseLemmas.{no_word, caused}
 use Rattle.cube_core.proofs.StandsLemmas.{apply_leads}
 
 -- what the invariant says in the words of the law
@@ -45,10 +45,6 @@ Stands-debts w k = record {
   unlike = λ s t v other at_s at_t. k.holds.stamped.unlike s t other (subst (λ a. 0 < a) (sym at_s.1) at_s.0) (at_s.1 ∙ sym at_t.1);
 }
 
--- a node that is not there has the word 0
-no_word : (w : State) → Stands w → (v : ℕ) → 2 ^ (w.dim + 1) ≤ v → word_of w v ≡ 0
-no_word w k v past = get_or_past w.words v 0 (subst (λ m. m ≤ v) (sym k.word_count) past)
-
 pub Stands-lawful : (w : State) → Stands w → IsTreeLawful w
 Stands-lawful w k = record {
   safe = Stands-safe w k;
@@ -58,6 +54,7 @@ Stands-lawful w k = record {
   steps = λ act. (apply_leads act w k).step;
   taken = λ s v later none steps. take_named w s v later k none steps;
   engaged = in_use_engaged k.holds (2 ^ (w.dim + 1)) (no_word w k);
+  caused = caused w k;
   at_rest = at_rest_exact k.holds (2 ^ (w.dim + 1)) (no_word w k);
   retired = retired_zero k.holds (2 ^ (w.dim + 1)) (no_word w k);
   roll = k.holds.rolled.roll;

@@ -1,18 +1,20 @@
 -- What holds after every schedule.
-use Rattle.std.specs.Prelude.{◌≡◌, ℕ, ◌<◌, ◌↔◌, List, length, Some, None}
+use Rattle.std.specs.Prelude.{◌≡◌, ℕ, ◌<◌, ◌↔◌, List, ◌∷◌, length, Some, None}
 use Rattle.cube_shape.specs.declared.region.Region.{Region}
 use Rattle.cube_shape.specs.Node.{OnPath, IsNodeOf}
 use Rattle.cube_shape.specs.Machine.{IsLawful}
 use Rattle.status_word.specs.Word.{IsSet, IsFree, IsInUse}
 use Rattle.cube_core.specs.declared.phase.Phase.TheVariants.{Retired}
 use Rattle.cube_core.specs.declared.act.Act.{Act}
-use Rattle.cube_core.specs.declared.act.Act.TheVariants.{Take}
+use Rattle.cube_core.specs.declared.act.Act.TheVariants.{Take, Step}
+use Rattle.cube_core.specs.declared.event.Event.{Event}
 use Rattle.cube_core.specs.Phase.{standing, node_held, IsEngagedAt, IsAtRest}
-use Rattle.cube_core.specs.Schedule.{State, phase_of, word_of, refusal, station_of, apply, apply_all, HasOnlySteps}
+use Rattle.cube_core.specs.Schedule.{State, phase_of, trail_of, word_of, refusal, station_of, apply, apply_all, HasOnlySteps}
 use Rattle.cube_core.specs.Safety.{IsSafe}
 use Rattle.cube_core.specs.Debts.{HasDebts}
 use Rattle.cube_core.specs.Held.{held_of, IsMachineStep}
 use Rattle.cube_core.specs.Count.{IsCounted}
+use Rattle.cube_core.specs.Cause.{HasCause}
 
 pub record IsTreeLawful (w : State) : Type 0 where
   -- words, owners and marks agree
@@ -36,6 +38,9 @@ pub record IsTreeLawful (w : State) : Type 0 where
       → IsNodeOf w.dim v r
   -- where the word of a node is in use, some station owns a node at or under it, or is to clear one
   pub engaged : (v : ℕ) → 0 < v → IsInUse (word_of w v) → (s : ℕ) × IsEngagedAt (phase_of w s) v
+  -- so no event refuses a try without a cause: another station is in the way
+  pub caused : (s : ℕ) (event : Event) → refusal (Step s) w ≡ None
+      → trail_of (apply (Step s) w) s ≡ event ∷ trail_of w s → HasCause w s event
   -- when all are at rest, the word of a node is free exactly where no held node is at or under it
   pub at_rest : ((s : ℕ) → IsAtRest (phase_of w s)) → (v : ℕ) → 0 < v
       → IsFree (word_of w v) ↔ ((s : ℕ) → OnPath v (node_held (phase_of w s)) → ⊥)

@@ -6,6 +6,7 @@ pub mod Safety
 pub mod Debts
 pub mod Held
 pub mod Count
+pub mod Cause
 pub mod Law
 pub mod InnerPhase
 pub mod InnerEffect

@@ -6,6 +6,7 @@ ghost use Rattle.cube_core.specs.Event.{transition, retirement};
 ghost use Rattle.cube_core.specs.InnerEffect.{IsEffect};
 ghost use Rattle.cube_core.specs.Count.{depth, events_due};
 ghost use Rattle.cube_core.specs.Phase.{node_held};
+ghost use Rattle.cube_core.specs.Cause.{HasCause};
 ghost use Rattle.cube_core.specs.Law.{IsTreeLawful};
 
 use crate::act::{Act, Refused};
@@ -117,6 +118,8 @@ impl World {
 
     /// The next event of a station: one atomic step on one word. It lowers the count of the events
     /// that the station has still to make at most, and leaves the other stations' phases alone.
+    ///
+    /// Where the event refuses the station's try, another station is in the way: `cause` names it.
     pub fn step(&mut self, station: u64) -> Result<Event, Refused>
         ensures refused { IfErr result (λ why. refusal (Act.Step station) self.old ≡ Some why) }
         ensures accepted { IfOk result (λ _. refusal (Act.Step station) self.old ≡ None) }
@@ -131,6 +134,7 @@ impl World {
         ensures event { IfOk result (λ event.
             (record_of (apply (Act.Step station) self.old) station).trail
             ≡ event ∷ (record_of self.old station).trail) }
+        ensures cause { IfOk result (λ event. HasCause self.old station event) }
     {
         let phase = self.find(station)?;
         let Some(effect) = self.effect(station, phase) else {
@@ -272,6 +276,10 @@ impl World {
 /// - Where a word is in use, some station owns a node at or under its node, or is to clear one. So
 ///   when all stations are at rest a word is free exactly where no held region is at or under its
 ///   node, and when all have retired every node's word is `0`.
+/// - No try is refused without a cause. Where a Look finds its node in use, another station owns a
+///   node at or under it, or is to clear one. Where a Raise finds an ancestor occupied, another
+///   station owns the ancestor. Where a Claim finds another word than the one that was read, it is
+///   as at a Look, or the word read had another station's mark, and no mark is left.
 /// - The bit of a station stands in the roll exactly when it has retired.
 /// - Each accepted step adds one event to its own station's list and to no other. A take of a node
 ///   `j` levels below the root makes at most `3 + 7 * j` events and a release at most `1 + 5 * j`, in

@@ -9,7 +9,7 @@ use Rattle.status_word.specs.Word.{IsSet}
 use Rattle.std.specs.List.{AllByRecursion}
 use Rattle.histories.specs.Sums.{total, is_at}
 use Rattle.histories.proofs.SumLemmas.{everyone}
-use Rattle.cube_core.specs.declared.phase.Phase.TheVariants.{Idle, Retired}
+use Rattle.cube_core.specs.declared.phase.Phase.TheVariants.{Idle}
 use Rattle.tree_steps.specs.declared.view.Entry.{Entry}
 use Rattle.tree_steps.specs.Rule.{times}
 use Rattle.tree_steps.specs.Steps.{Known, first_of, KeepsLoad, HasWholeRoll, joined}

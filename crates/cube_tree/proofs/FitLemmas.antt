@@ -1,6 +1,6 @@
 -- What the stations of a seat hold, and which regions are free.
 use Rattle.std.proofs.Common.{◌≡◌, ◌≢◌, ℕ, ◌+◌, ◌-◌, ◌^◌, ◌<◌, ◌≤◌, ◌⊎◌, inl, inr, List, [], length, set, replicate, Option, Some, None, Result, Ok, Err, refl, sym, ◌∙◌, ap, subst, arith}
-use Rattle.std.specs.Prelude.{All, Any, IsSome}
+use Rattle.std.specs.Prelude.{All, Any, IsSome, IfSome}
 use Rattle.std.proofs.lemmas.Bool.{cases_eq, cases_lt}
 use Rattle.std.proofs.lemmas.List.{get_or-set_same, get_or-set_other, get_or_past, get_or-replicate, length-set, length-replicate}
 use Rattle.std.proofs.lemmas.List.Elements.{All-weaker}
@@ -18,10 +18,15 @@ use Rattle.cube_core.proofs.RunningLemmas.{region_named}
 use Rattle.tree_steps.specs.declared.view.Entry.{Entry}
 use Rattle.tree_steps.specs.Rule.{times}
 use Rattle.tree_steps.specs.Steps.{Known, first_of, AreOffPath, IsOffAll}
-use Rattle.tree_steps.specs.Alone.{AreAllAtRest, IsBlocked, unpicked}
-use Rattle.tree_steps.proofs.AloneLemmas.{any_of_all, entry_there}
+use Rattle.tree_steps.specs.declared.why.Why.{Why}
+use Rattle.tree_steps.specs.declared.why.Why.TheVariants.{InUse, Lost, Under}
+use Rattle.tree_steps.specs.Answer.{ancestor_of}
+use Rattle.tree_steps.specs.Alone.{AreAllAtRest, IsBlocked, HasHolder, unpicked}
+use Rattle.tree_steps.proofs.AloneLemmas.{any_of_all, entry_there, under_blocked}
 use Rattle.cube_tree.specs.Slots.{Represents, node_of_station, region_of_slot, holdings, phase_of_slot}
 use Rattle.cube_tree.specs.InnerSolo.{AreBlocked, HasPhase, IsMoved, TakesFirst}
+use Rattle.cube_tree.specs.InnerSearch.{NamesAncestor, IsUnder, IsNodeAfter}
+use Rattle.cube_tree.proofs.SearchLemmas.{is_between}
 use Rattle.cube_tree.proofs.MovedLemmas.{all_both, moved_all, moved_present, none_there, times_unpicked, unpicked_all}
 use Rattle.cube_tree.proofs.TryLemmas.{node_of_level}
 
@@ -40,17 +45,17 @@ ok_or_err is = cc
 same_some : {A : Type 0} {a b : A} → ◌≡◌ {A = Option A} (Some a) (Some b) → a ≡ b
 same_some e = cc
 
-idle_or_holding : {h : ℕ} → ◌≡◌ {A = Phase} Idle (Holding h) → ⊥
+pub idle_or_holding : {h : ℕ} → ◌≡◌ {A = Phase} Idle (Holding h) → ⊥
 idle_or_holding e = cc
 
-same_holding : {v h : ℕ} → ◌≡◌ {A = Phase} (Holding v) (Holding h) → v ≡ h
+pub same_holding : {v h : ℕ} → ◌≡◌ {A = Phase} (Holding v) (Holding h) → v ≡ h
 same_holding e = cc
 
-slot_of_phase : (o : Option Node) (h : ℕ) → phase_of_slot o ≡ Holding h → (w : Node) × (o ≡ Some w) × (w.0 ≡ h)
+pub slot_of_phase : (o : Option Node) (h : ℕ) → phase_of_slot o ≡ Holding h → (w : Node) × (o ≡ Some w) × (w.0 ≡ h)
 slot_of_phase None h is = absurd (idle_or_holding is)
 slot_of_phase (Some w) h is = (w, refl, same_holding is)
 
-slot_of_region : (n : ℕ) (o : Option Node) (a : Region) → region_of_slot n o ≡ Some a → (w : Node) × (o ≡ Some w) × (region_at n w.0 ≡ a)
+pub slot_of_region : (n : ℕ) (o : Option Node) (a : Region) → region_of_slot n o ≡ Some a → (w : Node) × (o ≡ Some w) × (region_at n w.0 ≡ a)
 slot_of_region n None a is = absurd (none_or_some is)
 slot_of_region n (Some w) a is = (w, refl, same_some is)
 
@@ -71,7 +76,7 @@ pub none_slot : (n : ℕ) (o : Option Node) → o ≡ None → region_of_slot n 
 none_slot n o is = ap (region_of_slot n) is
 
 -- nothing is held past the list
-slot_there : (nodes : List (Option Node)) (s : ℕ) (v : Node) → node_of_station nodes s ≡ Some v → s < length nodes
+pub slot_there : (nodes : List (Option Node)) (s : ℕ) (v : Node) → node_of_station nodes s ≡ Some v → s < length nodes
 slot_there nodes s v is = elim (cases_lt s (length nodes)) [ inl there ↦ there | inr past ↦ absurd (none_or_some (sym (get_or_past nodes s None past) ∙ is)) ]
 
 -- an empty list of slots
@@ -280,11 +285,20 @@ module _ {n count : ℕ} {nodes : List (Option Node)} {old new : Known} (state :
   pub released : (v : Node) → node_of_station nodes s ≡ Some v → TakesBack s (holdings n nodes) (holdings n (set nodes s None)) (region_at n v.0)
   released v is = record { held = ap (region_of_slot n) is; idle = holds_now state s there None moved; others = holds_else state s there None moved }
 
--- one more node of a level is blocked
-pub blocked_more : (j m : ℕ) (entries : List Entry) → AreBlocked j m entries → IsBlocked (2 ^ j + m) entries → AreBlocked j (m + 1) entries
-blocked_more j m entries had here i below = elim (cases_eq i m) [
-  | inl same ↦ subst (λ x. IsBlocked (2 ^ j + x) entries) (sym same) here
-  | inr other ↦ had i (omega (arith, below, other))
+-- a node under the ancestor that was occupied is blocked
+passed_blocked : (why : Why) (w : ℕ) (entries : List Entry) → IsUnder why w → IfSome (ancestor_of why) (λ at. HasHolder at entries) → IsBlocked w entries
+passed_blocked InUse w entries under holder = absurd under
+passed_blocked Lost w entries under holder = absurd under
+passed_blocked (Under at) w entries under holder = under_blocked at.0 w entries under holder
+
+-- the nodes of a level are blocked up to the node that is tried next
+pub blocked_more : (low v next : ℕ) (why : Why) (entries : List Entry) → NamesAncestor why v → IsBlocked v entries → IfSome (ancestor_of why) (λ at. HasHolder at entries) → IsNodeAfter why v next → ((w : ℕ) → low ≤ w → w < v → IsBlocked w entries) → (w : ℕ) → low ≤ w → w < next → IsBlocked w entries
+blocked_more low v next why entries names blocked holder after had w from before = elim (cases_lt w v) [
+  | inl less ↦ had w from less
+  | inr past ↦ elim (cases_eq w v) [
+    | inl same ↦ subst (λ x. IsBlocked x entries) (sym same) blocked
+    | inr other ↦ passed_blocked why w entries (is_between why v w next after names (omega (arith, past, other)) before) holder
+  ]
 ]
 
 -- a station that holds something is there

@@ -1,6 +1,11 @@
 -- The seat of a handle, before and after what its station does.
 use Rattle.std.proofs.Common.{◌≡◌, ℕ, [], ◌∷◌, ◌<◌, refl, sym, ◌∙◌, ap, subst}
-use Rattle.cube_shape.specs.Node.{IsInCube}
+use Rattle.cube_shape.specs.declared.region.Region.{Region}
+use Rattle.cube_shape.specs.Node.{IsInCube, IsNodeOf}
+use Rattle.cube_shape.specs.Region.{IsAligned}
+use Rattle.cube_shape.proofs.RegionLemmas.{IsNodeOf-aligned, IsNodeOf-one_region}
+use Rattle.cube_core.specs.Held.{region_at}
+use Rattle.cube_core.proofs.RunningLemmas.{region_named}
 use Rattle.cube_core.specs.declared.phase.Phase.{Phase}
 use Rattle.cube_core.specs.declared.phase.Phase.TheVariants.{Idle, Retired}
 use Rattle.cube_core.specs.Event.{retirement}
@@ -43,6 +48,18 @@ node_of_cube cube subcube of_cube = (
   subcube.positive,
   subst (λ count. held_node subcube < count) (sym subcube.words ∙ ap (λ (id : TableId). id.words) of_cube ∙ cube.tree.words) subcube.in_cube,
 )
+
+-- the region of a node is aligned, and the only one that the node names
+pub node_aligned : (n v : ℕ) → IsInCube n v → IsAligned n (region_at n v)
+node_aligned n v in_cube = IsNodeOf-aligned n v (region_at n v) (region_named n v in_cube)
+
+pub node_names : (n v : ℕ) → IsInCube n v → (r : Region) → IsNodeOf n v r → region_at n v ≡ r
+node_names n v in_cube r named = IsNodeOf-one_region n v (region_at n v) r (region_named n v in_cube) named
+
+-- the record of a station once it has retired
+pub retired_record : {number : ℕ} {m new : Known} → IsSeatOf number Idle m → (found : ℕ) → new ≡ retire_at found m → first_of new ≡ entry_after (retirement (first_of m).station) found (first_of m)
+retired_record {m = m} seat found is =
+    ap first_of is ∙ by_parts (λ x. first_of (retire_at found x) ≡ entry_after (retirement (first_of x).station) found (first_of x)) m (at_of seat).there refl
 
 -- a station that has retired
 pub record HasRetired (number : ℕ) (m : Known) : Type 0 where

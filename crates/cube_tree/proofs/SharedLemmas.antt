@@ -17,3 +17,6 @@ own_seat_sync = seat_sync unit view.the_row (search sendable)
 
 pub cube_field_sync : IsSync (cube.the_field).row
 cube_field_sync = search (sendable, tree_sync.the_field_sync, own_seat_sync) depth 20
+
+pub cube_sync : IsSync cube.the_row
+cube_sync = search (sendable, cube_field_sync) depth 20

@@ -5,7 +5,8 @@ use Rattle.std.proofs.Math.Pow.{pow_mono}
 use Rattle.std.proofs.Math.Nat.{mul-le-mul_right}
 use Rattle.cube_shape.specs.Node.{IsInCube}
 use Rattle.cube_core.specs.Count.{depth}
-use Rattle.cube_core.proofs.RunningLemmas.{depth_is}
+use Rattle.cube_core.specs.Held.{region_at}
+use Rattle.cube_core.proofs.RunningLemmas.{depth_is, region_named}
 use Rattle.tree_steps.specs.declared.why.Why.{Why}
 use Rattle.tree_steps.specs.declared.why.Why.TheVariants.{InUse, Lost, Under}
 use Rattle.tree_steps.specs.declared.view.Entry.{Entry}
@@ -14,6 +15,7 @@ use Rattle.cube_tree.specs.declared.handles.Cube.{Cube}
 use Rattle.cube_tree.specs.declared.handles.Subcube.{Subcube}
 use Rattle.cube_tree.specs.Handles.{cube_dim, subcube_entry, IsRefusedTry, TakesNode}
 use Rattle.cube_tree.specs.Tries.{counted, refusal_sum, Tries, TakesOne, IsRefusedAll}
+use Rattle.cube_tree.proofs.RefusalLemmas.{tries_events}
 
 -- a node of the level that is j levels below the root
 pub node_of_level : (n k m : ℕ) → k ≤ n → m < 2 ^ (n - k) → IsInCube n (2 ^ (n - k) + m) × (depth n (2 ^ (n - k) + m) ≡ n - k)
@@ -31,8 +33,28 @@ node_of_level n k m le below = (in_cube, depth_is n (2 ^ (n - k) + m) (n - k) in
     in_cube : IsInCube n (2 ^ (n - k) + m)
     in_cube = let some = pow_pos (n - k) in (omega arith, omega (arith, twice, more, below))
 
+-- the same of the node itself
+pub on_level : (n j v : ℕ) → j ≤ n → 2 ^ j ≤ v → v < 2 * 2 ^ j → IsInCube n v × (depth n v ≡ j)
+on_level n j v le low high = (in_cube, depth_is n v j in_cube low high)
+  where
+    in_cube : IsInCube n v
+    in_cube =
+        let some = pow_pos j in
+        let twice : 2 ^ (1 + j) ≡ 2 * 2 ^ j = pow-add 2 1 j in
+        let more : 2 ^ (1 + j) ≤ 2 ^ (n + 1) = pow_mono (omega (arith, le)) in
+        (omega (arith, some, low), omega (arith, twice, more, high))
+
+-- and its region is of the dimension of the level
+pub dim_of_level : (n k v : ℕ) → k ≤ n → 2 ^ (n - k) ≤ v → v < 2 * 2 ^ (n - k) → (region_at n v).dim ≡ k
+dim_of_level n k v le low high =
+    let level = on_level n (n - k) v (omega arith) low high in
+    same n k (region_at n v).dim le (region_named n v level.0).0 level.1
+  where
+    same : (a b c : ℕ) → b ≤ a → c ≤ a → a - c ≡ a - b → c ≡ b
+    same a b c le_b le_c is = omega arith
+
 -- each refusal is counted once
-sum_counted : (why : Why) (r : Refusal) → refusal_sum (counted why r) ≡ 1 + refusal_sum r
+pub sum_counted : (why : Why) (r : Refusal) → refusal_sum (counted why r) ≡ 1 + refusal_sum r
 sum_counted InUse r = omega arith
 sum_counted Lost r = omega arith
 sum_counted (Under at) r = omega arith
@@ -61,6 +83,7 @@ pub refused_all : (n k : ℕ) (old new : Entry) (r : Refusal) → k ≤ n → Tr
 refused_all n k old new r le tries = record {
   tries = tries;
   sum = tries_sum n (2 ^ (n - k)) (2 ^ (n - k)) r old new tries;
+  events = tries_events n (2 ^ (n - k)) (2 ^ (n - k)) r old new tries;
   bound = tries_bound n k (2 ^ (n - k)) r old new le (omega arith) tries;
 }
 

@@ -1,5 +1,5 @@
 -- The end of a machine: who has retired, and what is left.
-use Rattle.std.specs.Prelude.{◌≡◌, ℕ, ◌+◌, ◌^◌, ◌<◌, ◌↔◌, List, map, vec_len, slice_index}
+use Rattle.std.specs.Prelude.{◌≡◌, ℕ, ◌+◌, ◌^◌, ◌<◌, ◌↔◌, List, ◌∷◌, map, vec_len, slice_index}
 use Rattle.status_word.specs.Word.{IsSet}
 use Rattle.tree_steps.specs.Rule.{times}
 use Rattle.cube_tree.specs.declared.handles.Station.{Station}
@@ -31,6 +31,14 @@ machine_words machine = machine.words.items
 -- what the loads of the roll found, the newest first
 abbrev pub machine_loads : FreeMachine → List ℕ
 machine_loads machine = machine.seat.me.0.loads
+
+-- the last load of the roll, after those `before`, found the bit of each station below the count; it
+-- found what is word 0 of the machine
+pub record ClosedByRoll (count : ℕ) (before : List ℕ) (machine : FreeMachine) : Type 0 where
+  pub roll : ℕ
+  pub loads : machine_loads machine ≡ roll ∷ before
+  pub whole : IsWhole count roll
+  pub word : slice_index (machine_words machine) 0 ≡ roll
 
 -- the machine of dimension n is wholly free: there is a word for each node and the roll, and that of
 -- each node is 0

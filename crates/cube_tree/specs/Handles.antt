@@ -1,18 +1,23 @@
 -- What contracts say of the handles.
-use Rattle.std.specs.Prelude.{◌≡◌, ℕ, ◌+◌, ◌*◌, ◌≤◌, List, length}
+use Rattle.std.specs.Prelude.{◌≡◌, ℕ, ◌+◌, ◌*◌, ◌<◌, ◌≤◌, List, ◌∷◌, length, IfSome}
 use Rattle.cube_shape.specs.declared.region.Region.{Region}
-use Rattle.cube_core.specs.declared.phase.Phase.TheVariants.{Idle, Looking, Holding, Leaving}
+use Rattle.cube_shape.specs.Node.{IsNodeOf, OnPath}
+use Rattle.cube_shape.specs.Region.{IsAligned}
+use Rattle.cube_core.specs.declared.event.Event.{Event}
+use Rattle.cube_core.specs.declared.event.Kind.TheVariants.{Retire}
+use Rattle.cube_core.specs.declared.phase.Phase.TheVariants.{Idle, Looking, Holding, Leaving, Retired}
 use Rattle.cube_core.specs.Count.{depth}
 use Rattle.cube_core.specs.Held.{region_at}
 use Rattle.tree_steps.specs.declared.why.Why.{Why}
 use Rattle.tree_steps.specs.declared.view.Entry.{Entry}
 use Rattle.tree_steps.specs.declared.view.Size.{Size}
 use Rattle.tree_steps.specs.Steps.{first_of, entry_in, Makes}
-use Rattle.tree_steps.specs.Answer.{IsAnswered}
+use Rattle.tree_steps.specs.Answer.{IsAnswered, ancestor_of}
 use Rattle.tree_steps.specs.Tree.{id_of, size_of}
 use Rattle.atomic_table.specs.Seated.{TableId}
 use Rattle.cube_tree.specs.declared.handles.Cube.{Cube}
 use Rattle.cube_tree.specs.declared.handles.Station.{Station}
+use Rattle.cube_tree.specs.declared.handles.RetiredStation.{RetiredStation}
 use Rattle.cube_tree.specs.declared.handles.Subcube.{Subcube}
 
 -- the machine of a cube, and what its loads of the roll found, the newest first
@@ -31,6 +36,9 @@ station_entry station = first_of station.seat.me
 
 abbrev pub subcube_entry : Subcube → Entry
 subcube_entry subcube = first_of subcube.seat.me
+
+abbrev pub retired_entry : RetiredStation → Entry
+retired_entry retired = first_of retired.seat.me
 
 -- the size of the machine of dimension n with this many stations
 abbrev pub size_with : ℕ → ℕ → Size
@@ -59,31 +67,47 @@ held_node subcube = subcube.node
 abbrev pub held_region : Subcube → Region
 held_region subcube = subcube.region
 
--- the station whose record was `old` has taken the region of a node: it made the events of one take of
--- this node and no other, and of those at most 3 + 7 j, where the node is j levels below the root
+-- the station whose record was `old` has taken the region of a node, which is aligned and the one that the
+-- node names: it made the events of one take of this node and no other, and of those at most 3 + 7 j,
+-- where the node is j levels below the root
 pub record TakesNode (cube : Cube) (node : ℕ) (old : Entry) (subcube : Subcube) : Type 0 where
   pub of_cube : IsSubcubeOf cube subcube
+  pub number : (subcube_entry subcube).station ≡ old.station
   pub makes : Makes (entry_in (Looking node) old) (subcube_entry subcube)
   pub holds : (subcube_entry subcube).phase ≡ Holding node
   pub node_is : held_node subcube ≡ node
   pub region_is : held_region subcube ≡ region_at (cube_dim cube) node
+  pub aligned : IsAligned (cube_dim cube) (held_region subcube)
+  pub asked : (r : Region) → IsNodeOf (cube_dim cube) node r → held_region subcube ≡ r
   pub bound : length (subcube_entry subcube).trail ≤ length old.trail + (3 + 7 * depth (cube_dim cube) node)
 
 -- it was refused the region of a node of the machine of dimension n: it made the events of one take of
 -- this node and of its roll-back, and no other; one of them answers, and it is idle again
 pub record IsRefusedTry (n node : ℕ) (old new : Entry) (why : Why) : Type 0 where
+  pub number : new.station ≡ old.station
   pub makes : Makes (entry_in (Looking node) old) new
   pub idle : new.phase ≡ Idle
   pub answer : IsAnswered why node old new
+  pub names : IfSome (ancestor_of why) (λ at. OnPath at node × (at < node))
   pub bound : length new.trail ≤ length old.trail + (3 + 7 * depth n node)
 
 -- it has given back the region of a node: it made the events of one release and no other, and of
 -- those at most 1 + 5 j, and is idle again
 pub record GivesBack (cube : Cube) (node : ℕ) (old : Entry) (station : Station) : Type 0 where
   pub of_cube : IsStationOf cube station
+  pub number : (station_entry station).station ≡ old.station
   pub makes : Makes (entry_in (Leaving node) old) (station_entry station)
   pub idle : (station_entry station).phase ≡ Idle
   pub bound : length (station_entry station).trail ≤ length old.trail + (1 + 5 * depth (cube_dim cube) node)
+
+-- it has retired: it made one event and no other, its Retire
+pub record Retires (cube : Cube) (old : Entry) (retired : RetiredStation) : Type 0 where
+  pub of_cube : retired.seat.table_id ≡ id_of cube.tree
+  pub number : (retired_entry retired).station ≡ old.station
+  pub phase_is : (retired_entry retired).phase ≡ Retired
+  pub event : Event
+  pub kind_is : event.kind ≡ Retire
+  pub trail : (retired_entry retired).trail ≡ event ∷ old.trail
 
 -- the same subcube: its station, its record, its node and its region
 pub record IsSameSubcube (old new : Subcube) : Type 0 where

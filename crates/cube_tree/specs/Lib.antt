@@ -3,6 +3,8 @@ pub mod Handles
 pub mod Ends
 pub mod InnerEnds
 pub mod Tries
+pub mod Search
+pub mod InnerSearch
 pub mod Slots
 pub mod InnerSolo
 pub mod Solo

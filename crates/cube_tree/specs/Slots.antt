@@ -1,5 +1,5 @@
 -- What the stations of a machine hold, as a list of their nodes, and the seat that all of them step with.
-use Rattle.std.specs.Prelude.{◌≡◌, ◌≢◌, ℕ, ◌<◌, List, [], All, length, slice_index_or, Option, Some, None}
+use Rattle.std.specs.Prelude.{◌≡◌, ◌≢◌, ℕ, ◌<◌, List, [], All, length, slice_index, slice_index_or, Option, Some, None}
 use Rattle.cube_shape.specs.declared.node.Node.{Node}
 use Rattle.cube_shape.specs.declared.region.Region.{Region}
 use Rattle.cube_shape.specs.Machine.{Holdings}
@@ -8,6 +8,8 @@ use Rattle.cube_shape.specs.Node.{IsInCube}
 use Rattle.cube_core.specs.declared.phase.Phase.{Phase}
 use Rattle.cube_core.specs.declared.phase.Phase.TheVariants.{Idle, Holding}
 use Rattle.cube_core.specs.Held.{region_at}
+use Rattle.tree_steps.specs.declared.view.Entry.{Entry}
+use Rattle.tree_steps.specs.Alone.{TellsWord}
 use Rattle.tree_steps.specs.Rule.{times}
 use Rattle.tree_steps.specs.Steps.{Known}
 
@@ -28,6 +30,11 @@ holdings n nodes s = region_of_slot n (node_of_station nodes s)
 abbrev pub phase_of_slot : Option Node → Phase
 phase_of_slot None = Idle
 phase_of_slot (Some v) = Holding v.0
+
+-- no station has a bit in the roll, and the word of each node tells what these stations hold
+pub record IsTold (n : ℕ) (words : List ℕ) (entries : List Entry) : Type 0 where
+  pub roll : slice_index words 0 ≡ 0
+  pub nodes : (v : ℕ) → IsInCube n v → TellsWord v (slice_index words v) entries
 
 -- all stations are with this seat, and each holds the node that the list has for it
 pub record Represents (n count : ℕ) (nodes : List (Option Node)) (m : Known) : Type 0 where

@@ -1,5 +1,9 @@
 -- What contracts say of a machine whose stations are all in one hand.
-use Rattle.std.specs.Prelude.{◌≡◌, ℕ, ◌<◌, IsSome, None}
+use Rattle.std.specs.Prelude.{◌≡◌, ℕ, ◌<◌, ◌↔◌, IsSome, Some, None}
+use Rattle.cube_shape.specs.declared.region.Region.{Region}
+use Rattle.cube_shape.specs.declared.node.Side.{Side}
+use Rattle.cube_shape.specs.Node.{IsNodeOf, OnPath, child_of}
+use Rattle.status_word.specs.Word.{IsOccupied, HasSide}
 use Rattle.cube_shape.specs.Machine.{Holdings}
 use Rattle.tree_steps.specs.declared.view.Size.{Size}
 use Rattle.tree_steps.specs.Tree.{size_of}
@@ -16,6 +20,19 @@ solo_dim solo = (solo_size solo).dim
 -- what each station holds
 abbrev pub held_by : Solo → Holdings
 held_by solo = holdings (solo_dim solo) solo.nodes.items
+
+-- the region of node v is held
+abbrev pub IsHeld : ℕ → Holdings → ℕ → Type 0
+IsHeld n held v = (s : ℕ) × (r : Region) × (held s ≡ Some r) × IsNodeOf n v r
+
+-- what the word of node v says of what is held
+pub record TellsHeld (n : ℕ) (held : Holdings) (v word : ℕ) : Type 0 where
+  -- it is 0 exactly where the region of no node at v or under it is held
+  pub zero : (word ≡ 0) ↔ ((u : ℕ) → OnPath v u → IsHeld n held u → ⊥)
+  -- it is occupied exactly where the region of v is held
+  pub occupied : IsOccupied word ↔ IsHeld n held v
+  -- it has the side of each child for which the region of a node at it or under it is held
+  pub sides : (side : Side) (u : ℕ) → OnPath (child_of v side) u → IsHeld n held u → HasSide side word
 
 -- each station holds a region
 abbrev pub AllHold : Solo → Type 0

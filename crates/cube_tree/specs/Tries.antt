@@ -1,5 +1,10 @@
 -- Tries at one node after another.
-use Rattle.std.specs.Prelude.{◌≡◌, ℕ, zero, suc, ◌+◌, ◌*◌, ◌^◌, ◌<◌, ◌≤◌, length}
+use Rattle.std.specs.Prelude.{◌≡◌, ℕ, zero, suc, ◌+◌, ◌*◌, ◌^◌, ◌<◌, ◌≤◌, List, [], ◌∷◌, length}
+use Rattle.cube_core.specs.declared.event.Event.{Event}
+use Rattle.cube_core.specs.declared.event.Kind.{Kind}
+use Rattle.cube_core.specs.declared.event.Kind.TheVariants.{Look, Claim, Raise}
+use Rattle.cube_core.specs.declared.event.Note.{Note}
+use Rattle.cube_core.specs.declared.event.Note.TheVariants as note
 use Rattle.tree_steps.specs.declared.why.Why.{Why}
 use Rattle.tree_steps.specs.declared.why.Why.TheVariants.{InUse, Lost, Under}
 use Rattle.tree_steps.specs.declared.view.Entry.{Entry}
@@ -19,6 +24,23 @@ no_refusal = record { in_use = 0; lost = 0; under = 0 }
 
 abbrev pub refusal_sum : Refusal → ℕ
 refusal_sum r = r.in_use + r.lost + r.under
+
+-- the counts of the events that refuse a take: a look that found its node in use, a claim that was lost,
+-- a raise at an occupied ancestor
+abbrev pub refusals_by : Kind → Note → Refusal
+refusals_by Look note.InUse = record no_refusal { in_use = 1 }
+refusals_by Claim note.Lost = record no_refusal { lost = 1 }
+refusals_by Raise note.Under = record no_refusal { under = 1 }
+refusals_by kind n = no_refusal
+
+-- two counts together
+abbrev pub added : Refusal → Refusal → Refusal
+added r s = record { in_use = r.in_use + s.in_use; lost = r.lost + s.lost; under = r.under + s.under }
+
+-- the counts of the events in a trail
+abbrev pub refusals_in : List Event → Refusal
+refusals_in [] = no_refusal
+refusals_in (e ∷ earlier) = added (refusals_by e.kind e.note) (refusals_in earlier)
 
 -- the station tried so many nodes from the first one on, in order, and was refused each; the counts are
 -- those of its refusals
@@ -45,4 +67,5 @@ pub record TakesOne (cube : Cube) (j : ℕ) (old : Entry) (subcube : Subcube) : 
 pub record IsRefusedAll (n j : ℕ) (old new : Entry) (refusal : Refusal) : Type 0 where
   pub tries : Tries n (2 ^ j) (2 ^ j) refusal old new
   pub sum : refusal_sum refusal ≡ 2 ^ j
+  pub events : refusals_in new.trail ≡ added refusal (refusals_in old.trail)
   pub bound : length new.trail ≤ length old.trail + 2 ^ j * (3 + 7 * j)

@@ -1,22 +1,25 @@
 //! Stations retire, and a cube is closed.
-ghost use Rattle.std.specs.Prelude.{◌≡◌, ◌≢◌, ℕ, ◌<◌, ◌≤◌, [], ◌∷◌, All, MatchResult, IfOk, IfErr, length};
+ghost use Rattle.std.specs.Prelude.{◌≡◌, ◌≢◌, ℕ, ◌<◌, ◌≤◌, List, [], ◌∷◌, All, IfOk, IfErr, length, slice_index};
 ghost use Rattle.tree_steps.specs.Steps.{HasWholeRoll, retire_at};
 ghost use Rattle.tree_steps.specs.Tree.{id_of, size_of, station_count};
-ghost use Rattle.cube_tree.specs.Handles.{cube_dim, cube_size, loads_of, HasTable, IsSameCube, IsStationOf};
+ghost use Rattle.cube_tree.specs.Handles.{cube_dim, cube_size, loads_of, station_entry, HasTable, IsSameCube, IsStationOf, Retires};
 ghost use Rattle.cube_tree.specs.Seats.{IsBare};
 ghost use Rattle.cube_tree.specs.InnerEnds.{AreThere, IsGone};
-ghost use Rattle.cube_tree.specs.Ends.{HasAll, HasNumberBelow, IsMissing, IsWhole, IsWhollyFree, machine_dim, machine_loads, machine_words};
+ghost use Rattle.cube_tree.specs.Ends.{ClosedByRoll, HasAll, HasNumberBelow, IsMissing, IsWhollyFree, machine_dim, machine_loads, machine_words};
 
-use crate::handles::{Cube, FreeMachine, Station, StillOut};
+use crate::handles::{Cube, FreeMachine, RetiredStation, Station, StillOut};
 use cube_shape::MAX_STATIONS;
 use tree_steps::{Seat, Tree};
 
 impl Station {
     /// It makes one event more, by which its bit is set in the roll, and none after that.
-    pub fn retire(self, cube: &Cube)
+    pub fn retire(self, cube: &Cube) -> RetiredStation
         requires { IsStationOf cube.now self }
+        ensures { Retires cube.now (station_entry self) result }
     {
-        drop(self.into_retired(&cube.tree));
+        RetiredStation {
+            seat: self.into_retired(&cube.tree),
+        }
     }
 
     // The seat of the station once it has retired.
@@ -45,9 +48,7 @@ impl Cube {
     /// given back with the stations whose bit was clear, of which there is at least one.
     pub fn close(self) -> Result<FreeMachine, StillOut>
         ensures free { IfOk result (IsWhollyFree (cube_dim self)) }
-        ensures roll { IfOk result (λ machine. (roll : ℕ)
-            × (machine_loads machine ≡ roll ∷ loads_of self)
-            × IsWhole (cube_size self).stations roll) }
+        ensures roll { IfOk result (ClosedByRoll (cube_size self).stations (loads_of self)) }
         ensures missing { IfErr result (λ out. (roll : ℕ)
             × (loads_of out.cube ≡ roll ∷ loads_of self)
             × IsMissing (cube_size self).stations roll out.missing) }
@@ -92,8 +93,7 @@ impl Cube {
         requires cube { All (IsStationOf self) stations.items }
         requires all { HasAll (cube_size self).stations stations.items }
         ensures free { IsWhollyFree (cube_dim self) result }
-        ensures roll { (roll : ℕ) × (machine_loads result ≡ roll ∷ loads_of self)
-            × IsWhole (cube_size self).stations roll }
+        ensures roll { ClosedByRoll (cube_size self).stations (loads_of self) result }
     {
         let Cube { tree, mut seat } = self;
         retire_each(&tree, &mut seat, stations);
@@ -108,8 +108,7 @@ impl Cube {
         requires below { All (HasNumberBelow (cube_size self).stations) stations.items }
         requires all { length stations.items ≡ (cube_size self).stations }
         ensures free { IsWhollyFree (cube_dim self) result }
-        ensures roll { (roll : ℕ) × (machine_loads result ≡ roll ∷ loads_of self)
-            × IsWhole (cube_size self).stations roll }
+        ensures roll { ClosedByRoll (cube_size self).stations (loads_of self) result }
     {
         let Cube { tree, mut seat } = self;
         retire_each(&tree, &mut seat, stations);
@@ -126,6 +125,8 @@ pub(crate) fn finish(tree: Tree, mut seat: Seat) -> FreeMachine
     requires retired { HasWholeRoll (station_count tree) seat.me }
     ensures free { IsWhollyFree (size_of tree).dim result }
     ensures loads { machine_loads result ≡ seat.me.0.loads }
+    ensures roll { (roll : ℕ) (earlier : List ℕ) → seat.me.0.loads ≡ roll ∷ earlier
+        → slice_index (machine_words result) 0 ≡ roll }
 {
     let dim = tree.size().dim;
     let loads = tree.copy_loads(&mut seat);
@@ -144,7 +145,7 @@ impl FreeMachine {
         self.dim
     }
 
-    /// Its words at the end: word `0` is the roll, and word `v` that of node `v`.
+    /// Its words at the end: word `0` is the roll as it was last loaded, and word `v` that of node `v`.
     pub fn words(&self) -> &[u64]
         ensures { result.now ≡ machine_words self.now }
     {

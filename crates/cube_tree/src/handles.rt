@@ -1,9 +1,9 @@
 //! The handles of a machine: its cube, its stations, and the subcubes that they hold.
-ghost use Rattle.std.specs.Prelude.{◌≡◌, ◌+◌, ◌^◌, ◌<◌, ◌≤◌, vec_len};
+ghost use Rattle.std.specs.Prelude.{◌≡◌, ℕ, ◌+◌, ◌^◌, ◌<◌, ◌≤◌, slice_index, vec_len};
 ghost use Rattle.cube_core.specs.declared.phase.Phase.TheVariants.{Idle, Holding};
 ghost use Rattle.cube_core.specs.Held.{region_at};
 ghost use Rattle.cube_shape.specs.declared.limits.TheConstants.{MAX_DIM, MAX_STATIONS};
-ghost use Rattle.tree_steps.specs.Tree.{id_of};
+ghost use Rattle.tree_steps.specs.Tree.{id_of, read_words};
 ghost use Rattle.cube_tree.specs.Seats.{IsSeatOf, IsBare};
 
 use cube_shape::Region;
@@ -16,6 +16,7 @@ pub struct Cube {
     pub(crate) seat: Seat,
     ghost own: { IsBare seat.me },
     ghost table: { seat.table_id ≡ id_of tree },
+    ghost unread: { (v : ℕ) → slice_index (read_words tree) v ≡ 0 },
 }
 
 /// One who takes and gives back the region of one node at a time; at the moment it has none. It cannot
@@ -41,6 +42,12 @@ pub struct Subcube {
     ghost words: { seat.table_id.words ≡ 2 ^ (dim + 1) },
     ghost dim_in_limits: { dim ≤ MAX_DIM },
     ghost named: { region ≡ region_at dim node },
+}
+
+/// A station that has retired. It makes no event any more, and is known by what it did.
+#[derive(Drop)]
+pub struct RetiredStation {
+    pub(crate) seat: Seat,
 }
 
 /// The words of a machine of which all stations have retired.

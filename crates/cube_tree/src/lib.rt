@@ -13,6 +13,7 @@ mod handles;
 mod opening;
 mod refusal;
 mod refused;
+mod search;
 mod solo;
 mod solo_calls;
 mod solo_ends;
@@ -20,7 +21,7 @@ mod takes;
 mod tries;
 
 pub use comparison::apart;
-pub use handles::{Cube, FreeMachine, Station, StillOut, Subcube};
+pub use handles::{Cube, FreeMachine, RetiredStation, Station, StillOut, Subcube};
 pub use refusal::Refusal;
 pub use refused::{CubeRefused, SoloRefused};
 pub use solo::Solo;

@@ -1,10 +1,10 @@
-//! The opening of a cube.
+//! The opening of a cube, and its size.
 ghost use Rattle.std.specs.Prelude.{◌≡◌, ◌<◌, ◌≤◌, ◌⊎◌, ◌↔◌, [], All, map, vec_len, vec_capacity, IfOk, IsErrOf};
 ghost use Rattle.tree_steps.specs.Rule.{first_view, idle_entries};
 ghost use Rattle.tree_steps.specs.Tree.{id_of, size_of, station_count};
 ghost use Rattle.cube_tree.specs.Seats.{IsBare};
 ghost use Rattle.cube_tree.specs.Ends.{HasAll};
-ghost use Rattle.cube_tree.specs.Handles.{cube_size, loads_of, station_entry, size_with, IsStationOf, HasTable};
+ghost use Rattle.cube_tree.specs.Handles.{cube_dim, cube_size, loads_of, station_entry, size_with, IsStationOf, HasTable};
 
 use crate::handles::{Cube, Station};
 use crate::refused::CubeRefused;
@@ -46,6 +46,22 @@ impl Cube {
                 Err(CubeRefused::OutOfMemory)
             }
         }
+    }
+}
+
+impl Cube {
+    /// The dimension of the machine.
+    pub fn dim(&self) -> u32
+        ensures { result ≡ cube_dim self.now }
+    {
+        self.tree.size().dim
+    }
+
+    /// The number of its stations.
+    pub fn stations(&self) -> u32
+        ensures { result ≡ (cube_size self.now).stations }
+    {
+        self.tree.size().stations
     }
 }
 

@@ -11,6 +11,14 @@ pub struct Refusal {
     pub under: u64,
 }
 
+impl Refusal {
+    pub(crate) const NONE: Refusal = Refusal {
+        in_use: 0,
+        lost: 0,
+        under: 0,
+    };
+}
+
 // One refusal more.
 pub(crate) fn count(refusal: Refusal, why: Why) -> Refusal
     requires { refusal_sum refusal < 2 ^ 32 }

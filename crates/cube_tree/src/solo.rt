@@ -1,7 +1,7 @@
 //! All stations of a machine in one hand.
 ghost use Rattle.std.specs.Prelude.{◌≡◌};
-ghost use Rattle.tree_steps.specs.Tree.{id_of, dim_of, station_count};
-ghost use Rattle.cube_tree.specs.Slots.{Represents};
+ghost use Rattle.tree_steps.specs.Tree.{id_of, dim_of, read_words, station_count};
+ghost use Rattle.cube_tree.specs.Slots.{IsTold, Represents};
 
 use cube_shape::Node;
 use tree_steps::{Seat, Tree};
@@ -16,4 +16,5 @@ pub struct Solo {
     pub(crate) nodes: Vec<Option<Node>>,
     ghost table: { seat.table_id ≡ id_of tree },
     ghost state: { Represents (dim_of tree) (station_count tree) nodes.items seat.me },
+    ghost told: { IsTold (dim_of tree) (read_words tree) seat.me.0.stations },
 }

@@ -1,18 +1,21 @@
 //! What a machine with all its stations in one hand answers, and its takes and releases.
-ghost use Rattle.std.specs.Prelude.{◌≡◌, ℕ, ◌+◌, ◌-◌, ◌^◌, ◌<◌, ◌≤◌, ◌↔◌, length, None, IsTrue, IsSome, IfOk, IfSome, IfNone, IsErrOf, OnErr, MatchBool, MatchOption};
+ghost use Rattle.std.specs.Prelude.{◌≡◌, ℕ, ◌+◌, ◌-◌, ◌^◌, ◌<◌, ◌≤◌, ◌↔◌, length, slice_index, None, IsTrue, IsSome, IfOk, IfErr, IfSome, IfNone, IsErrOf, OnOk, OnErr, MatchOption, MatchResult};
 ghost use Rattle.cube_shape.specs.declared.region.Region.{Region as HeldRegion};
 ghost use Rattle.cube_shape.specs.Node.{IsInCube};
 ghost use Rattle.cube_shape.specs.Region.{block};
 ghost use Rattle.cube_shape.specs.Machine.{Gives, HasNoFit, IsFirstFit, IsLawful, TakesBack};
 ghost use Rattle.tree_steps.specs.Rule.{others};
 ghost use Rattle.tree_steps.specs.Steps.{IsAt, IsOffAll, Walks, begin, first_of};
-ghost use Rattle.tree_steps.specs.Alone.{AreAllAtRest, IsAlone, IsBlocked, unpicked};
-ghost use Rattle.tree_steps.specs.Tree.{id_of, dim_of, size_of, station_count};
-ghost use Rattle.cube_tree.specs.Slots.{node_of_station};
+ghost use Rattle.tree_steps.specs.Alone.{AreAllAtRest, HasHolder, IsAlone, IsBlocked, unpicked};
+ghost use Rattle.tree_steps.specs.Answer.{ancestor_of};
+ghost use Rattle.tree_steps.specs.Tree.{id_of, dim_of, read_words, size_of, station_count};
+ghost use Rattle.cube_tree.specs.Slots.{IsTold, node_of_station};
 ghost use Rattle.cube_tree.specs.InnerSolo.{AreBlocked, HasPhase, IsFirstIdle, IsMoved, TakesFirst};
-ghost use Rattle.cube_tree.specs.Solo.{solo_size, solo_dim, held_by, AllHold, IsLowestIdle};
+ghost use Rattle.cube_tree.specs.InnerSearch.{NamesAncestor};
+ghost use Rattle.cube_tree.specs.Solo.{solo_size, solo_dim, held_by, AllHold, IsLowestIdle, TellsHeld};
 
 use crate::refused::SoloRefused;
+use crate::search::node_after;
 use crate::solo::Solo;
 use crate::takes::region_at_node;
 use crate::tries::region_count;
@@ -44,9 +47,16 @@ impl Solo {
         Some(region_at_node(self.tree.size().dim, node.0))
     }
 
-    /// The words of the tree as they were last read: word `v` is that of node `v`.
+    /// The words of the tree: word `0` is the roll, and word `v` that of node `v`. They tell what is
+    /// held now; only the nodes of held regions and the nodes above them have another word than `0`.
+    ///
+    /// No clause says that such a word has no further bit: the side of a half in which nothing is held,
+    /// or a mark.
     pub fn words(&self) -> &[u64]
-        ensures { length result.now ≡ 2 ^ (solo_dim self.now + 1) }
+        ensures len { length result.now ≡ 2 ^ (solo_dim self.now + 1) }
+        ensures roll { slice_index result.now 0 ≡ 0 }
+        ensures told { (v : ℕ) → IsInCube (solo_dim self.now) v
+            → TellsHeld (solo_dim self.now) (held_by self.now) v (slice_index result.now v) }
     {
         self.tree.words()
     }
@@ -115,6 +125,7 @@ fn take_first(tree: &mut Tree, seat: &mut Seat, station: u32, k: u32) -> Option<
     requires there { station < station_count tree.old }
     requires idle { HasPhase station Phase.Idle seat.old.me }
     requires dim { k ≤ dim_of tree.old }
+    requires told { IsTold (dim_of tree.old) (read_words tree.old) seat.old.me.0.stations }
     ensures same { (id_of tree.new ≡ id_of tree.old) × (size_of tree.new ≡ size_of tree.old) }
     ensures table { seat.new.table_id ≡ seat.old.table_id }
     ensures moved { MatchOption result (IsMoved station Phase.Idle seat.old.me seat.new.me)
@@ -123,13 +134,15 @@ fn take_first(tree: &mut Tree, seat: &mut Seat, station: u32, k: u32) -> Option<
         TakesFirst station (dim_of tree.old - k) node seat.old.me seat.new.me) }
     ensures none { IfNone result (AreBlocked (dim_of tree.old - k) (2 ^ (dim_of tree.old - k))
         (unpicked station seat.old.me.0.stations)) }
+    ensures told { IsTold (dim_of tree.new) (read_words tree.new) seat.new.me.0.stations }
 {
     tree.turn(seat, station);
-    let nodes = region_count(tree, k);
-    for m in 0..nodes {
-        let node = nodes + m;
-        if take_alone(tree, seat, station, node) {
-            return Some(node);
+    let first = region_count(tree, k);
+    let mut node = first;
+    while node < 2 * first {
+        match take_alone(tree, seat, station, node) {
+            Ok(()) => return Some(node),
+            Err(why) => node = node_after(node, why),
         }
     }
     None
@@ -137,31 +150,36 @@ fn take_first(tree: &mut Tree, seat: &mut Seat, station: u32, k: u32) -> Option<
 
 // One take of a node by the first station of a seat that has all stations, after which the words on
 // its path are read.
-fn take_alone(tree: &mut Tree, seat: &mut Seat, station: u32, node: u64) -> bool
+fn take_alone(tree: &mut Tree, seat: &mut Seat, station: u32, node: u64) -> Result<(), Why>
     requires table { seat.old.table_id ≡ id_of tree.old }
     requires phase { IsAt seat.old.me Phase.Idle }
     requires station { (first_of seat.old.me).station ≡ station }
     requires there { station < station_count tree.old }
     requires alone { IsAlone seat.old.me }
     requires node { IsInCube (dim_of tree.old) node }
+    requires told { IsTold (dim_of tree.old) (read_words tree.old) seat.old.me.0.stations }
     ensures same { (id_of tree.new ≡ id_of tree.old) × (size_of tree.new ≡ size_of tree.old) }
     ensures table { seat.new.table_id ≡ seat.old.table_id }
     ensures walks { Walks (begin (Phase.Looking node) seat.old.me) seat.new.me }
-    ensures phase { MatchBool result (IsAt seat.new.me (Phase.Holding node))
-        (IsAt seat.new.me Phase.Idle) }
-    ensures exact { MatchBool result (IsOffAll seat.new.me.0.stations)
-        (IsBlocked node (others seat.old.me.0.stations)) }
+    ensures phase { MatchResult result (λ _. IsAt seat.new.me (Phase.Holding node)) (λ _.
+        IsAt seat.new.me Phase.Idle) }
+    ensures names { IfErr result (λ why. NamesAncestor why node) }
+    ensures off { OnOk result (IsOffAll seat.new.me.0.stations) }
+    ensures exact { OnErr result (IsBlocked node (others seat.old.me.0.stations)) }
+    ensures holder { IfErr result (λ why.
+        IfSome (ancestor_of why) (λ at. HasHolder at (others seat.old.me.0.stations))) }
+    ensures told { IsTold (dim_of tree.new) (read_words tree.new) seat.new.me.0.stations }
 {
     match tree.take(seat, station, node) {
         Ok(()) => {
             tree.compare(seat);
-            tree.read_path(node);
-            true
+            tree.read_path(seat, node);
+            Ok(())
         }
-        Err(Why::InUse) => false,
-        Err(_) => {
-            tree.read_path(node);
-            false
+        Err(Why::InUse) => Err(Why::InUse),
+        Err(why) => {
+            tree.read_path(seat, node);
+            Err(why)
         }
     }
 }
@@ -173,11 +191,13 @@ fn give_back(tree: &mut Tree, seat: &mut Seat, station: u32, node: u64)
     requires there { station < station_count tree.old }
     requires holds { HasPhase station (Phase.Holding node) seat.old.me }
     requires node { IsInCube (dim_of tree.old) node }
+    requires told { IsTold (dim_of tree.old) (read_words tree.old) seat.old.me.0.stations }
     ensures same { (id_of tree.new ≡ id_of tree.old) × (size_of tree.new ≡ size_of tree.old) }
     ensures table { seat.new.table_id ≡ seat.old.table_id }
     ensures moved { IsMoved station Phase.Idle seat.old.me seat.new.me }
+    ensures told { IsTold (dim_of tree.new) (read_words tree.new) seat.new.me.0.stations }
 {
     tree.turn(seat, station);
     tree.give_back(seat, station, node);
-    tree.read_path(node);
+    tree.read_path(seat, node);
 }

@@ -1,9 +1,9 @@
 //! Where a cube and all its stations become one, and how that ends.
-ghost use Rattle.std.specs.Prelude.{◌≡◌, ℕ, ◌<◌, [], None, All, vec_len, IfOk, IfErr};
+ghost use Rattle.std.specs.Prelude.{◌≡◌, ℕ, ◌<◌, List, [], None, All, vec_len, IfOk, IfErr};
 ghost use Rattle.tree_steps.specs.Rule.{times};
 ghost use Rattle.tree_steps.specs.Alone.{AreAllAtRest};
 ghost use Rattle.tree_steps.specs.Tree.{id_of, station_count};
-ghost use Rattle.cube_tree.specs.Ends.{HasAll, IsWhollyFree};
+ghost use Rattle.cube_tree.specs.Ends.{ClosedByRoll, HasAll, IsWhollyFree};
 ghost use Rattle.cube_tree.specs.Handles.{cube_size, HasTable, IsStationOf};
 ghost use Rattle.cube_tree.specs.Seats.{IsBare};
 ghost use Rattle.cube_tree.specs.InnerSolo.{IsGoneBelow, IsMoved, HasPhase};
@@ -44,7 +44,8 @@ impl Solo {
 
     /// All regions are given back and all stations retire: the machine is wholly free.
     pub fn close(self) -> FreeMachine
-        ensures { IsWhollyFree (solo_dim self) result }
+        ensures free { IsWhollyFree (solo_dim self) result }
+        ensures roll { (before : List ℕ) × ClosedByRoll (solo_size self).stations before result }
     {
         let mut solo = self;
         solo.release_all();

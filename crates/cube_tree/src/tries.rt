@@ -1,7 +1,8 @@
 //! Takes of any region of a dimension.
 ghost use Rattle.std.specs.Prelude.{◌≡◌, ◌-◌, ◌^◌, ◌≤◌, IfOk, IfErr};
 ghost use Rattle.tree_steps.specs.Tree.{dim_of};
-ghost use Rattle.cube_tree.specs.Handles.{cube_dim, station_entry, IsStationOf};
+ghost use Rattle.cube_shape.specs.Region.{IsAligned};
+ghost use Rattle.cube_tree.specs.Handles.{cube_dim, held_region, station_entry, IsStationOf};
 ghost use Rattle.cube_tree.specs.Tries.{TakesOne, IsRefusedAll};
 
 use crate::handles::{Cube, Station, Subcube};
@@ -27,6 +28,9 @@ impl Station {
         requires dim { k ≤ cube_dim cube.now }
         ensures taken { IfOk result (TakesOne cube.now (cube_dim cube.now - k)
             (station_entry self)) }
+        ensures aligned { IfOk result (λ subcube.
+            IsAligned (cube_dim cube.now) (held_region subcube)) }
+        ensures dimension { IfOk result (λ subcube. (held_region subcube).dim ≡ k) }
         ensures back { IfErr result (λ refused. IsStationOf cube.now refused.0) }
         ensures refused { IfErr result (λ refused.
             IsRefusedAll (cube_dim cube.now) (cube_dim cube.now - k)
@@ -34,11 +38,7 @@ impl Station {
     {
         let nodes = region_count(&cube.tree, k);
         let mut station = self;
-        let mut refusal = Refusal {
-            in_use: 0,
-            lost: 0,
-            under: 0,
-        };
+        let mut refusal = Refusal::NONE;
         for m in 0..nodes {
             match station.try_node(cube, Node(nodes + m)) {
                 Ok(subcube) => return Ok(subcube),

@@ -95,6 +95,7 @@ impl<L: JobLine, F: Floor> Shop<L, F> {
             times k (map (λ l. (L.lane_record l).number) lanes.items) ≡ 1 }
         ensures lane_count { length result.accepted.items ≡ self.line.sizes.lanes }
         ensures dim { F.machine_dim result.machine ≡ self.floor.dim }
+        ensures closed { F.is_closed self.line.sizes.passes result.machine }
     {
         let CloseNote { line: note, room } = note;
         let Gathered {

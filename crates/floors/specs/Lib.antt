@@ -1,3 +1,2 @@
 pub mod Floor
-pub mod Inner
 pub use Rattle.cube_shape.specs.Region.{AreApart, IsAligned}

@@ -14,6 +14,9 @@ use std::sync::Wait;
 /// back. Both carry the station's grants, the regions that it was given, in order, which only its
 /// own takes add to. Stations and what they hold are given only to calls of the floor that made
 /// them.
+///
+/// `is_closed` is what a floor says, besides, of the machine to which so many stations came back. Each
+/// floor has its own, and callers of any floor hand it on.
 pub trait Floor {
     ghost use Rattle.std.specs.Prelude.{List};
     ghost use Rattle.cube_shape.specs.declared.region.Region.{Region as HeldRegion};
@@ -41,6 +44,8 @@ pub trait Floor {
     ghost machine_dim: { Self.Machine → ℕ };
 
     ghost machine_words: { Self.Machine → List ℕ };
+
+    ghost is_closed: { ℕ → Self.Machine → Type 0 };
 
     /// Opens a machine of dimension `n`, wholly free, with this many stations. It reserves the words
     /// of the machine too, so that no other call takes memory.
@@ -86,10 +91,12 @@ pub trait Floor {
         ensures grants { grants result ≡ held_grants held };
 
     /// Ends the floor. It is given as many stations of the floor as the floor has, so these are all
-    /// of them, and no subcube is held.
+    /// of them, and no subcube is held. Each region that one of them was ever given is aligned.
     fn close(self, stations: Vec<Self::Station>) -> Self::Machine
         requires of_floor { All (is_station (id self)) stations.items }
         requires all { length stations.items ≡ (id self).stations }
+        ensures granted { All (λ s. All (IsAligned (id self).dim) (grants s)) stations.items }
+        ensures closed { is_closed (id self).stations result }
         ensures dim { machine_dim result ≡ (id self).dim }
         ensures free { IsWhollyFree (id self).dim (machine_words result) };
 

@@ -2,12 +2,10 @@
 //!
 //! `Floor` is the contract of every floor: the regions that its stations hold at one moment are
 //! aligned and apart, each station has a record of the regions that it was given, and once all
-//! stations have come back the machine is wholly free. `LockedFloor` is the plainest floor that
-//! meets it.
+//! stations have come back the machine is wholly free. The floors that meet it stand in crates of
+//! their own, which this one does not know.
 #![tactic(auto)]
 
 mod floor;
-mod locked;
 
 pub use floor::Floor;
-pub use locked::{FreeMachine, Held, LockedFloor, Station};

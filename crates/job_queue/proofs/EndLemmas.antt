@@ -6,6 +6,7 @@ use mathlib.Core.Option.{some, some-injective}
 use native.Mathlib.Decide.{ℕ_discrete}
 use lib.ListN.{get_elem?}
 use Rattle.atomic_table.specs.Table.{Seen, Final}
+use Rattle.histories.specs.History.{Legal}
 use Rattle.histories.specs.Sums.{total, below}
 use Rattle.histories.proofs.SumLemmas.{positive_term, total-below}
 use Rattle.histories.proofs.ViewLemmas.{True, all_weaker, has_everyone, nobody_else}
@@ -19,6 +20,7 @@ use Rattle.job_queue.specs.declared.locked.view.View.{View}
 use Rattle.job_queue.specs.declared.locked.view.CloserRecord.{CloserRecord}
 use Rattle.job_queue.specs.Record.{accepted, AreSeqs, Rises, Seals}
 use Rattle.job_queue.specs.Line.{IsMadeFor}
+use Rattle.job_queue.specs.History.{waiting as line_waiting, entries_by, taken_in, Lists, May as LineMay}
 use Rattle.job_queue.specs.Run.{WholeRun}
 use Rattle.job_queue.specs.Inner.Locked.View.{out_of, is_out}
 use Rattle.job_queue.specs.Inner.Locked.Deed.{entered, waiting, is_closed, lane_part, pass_part, closer_part, closed_at}
@@ -26,6 +28,9 @@ use Rattle.job_queue.specs.Inner.Locked.Rule.{Fits, Keeps}
 use Rattle.job_queue.specs.Inner.Locked.End.{IsWhole, IsEnd}
 use Rattle.job_queue.proofs.DeedLemmas.{entries_below, waiting_fits, waiting_made_for, closed_count}
 use Rattle.job_queue.proofs.HistoryLemmas.{balanced, seqs, rises, rises-end, entered_before, Stands, seen_stands, Sealed, readings_sealed}
+use Rattle.job_queue.proofs.ListLemmas.{drain_all, drained_legal, drained_waiting, drained_left, drained_closed, drained_entries, drained_taken}
+use Rattle.job_queue.proofs.LockedListLemmas.{listed, listed_closed, listed_waiting, listed_left, listed_entries, listed_taken, listed_legal}
+use Rattle.job_queue.proofs.RisingLemmas.{all_ascend}
 use Rattle.job_queue.proofs.KeepLemmas.{St, lanes_in, passes_in, closers_in, lane_number, pass_number, closer_number}
 
 module _ (sizes : Sizes) (s : St) (k : Keeps sizes s) (id : ℕ) (v : View) (me : get_elem? s.views id ≡ some v) (number : ℕ) (whole : IsWhole sizes v number) where
@@ -73,6 +78,27 @@ module _ (sizes : Sizes) (s : St) (k : Keeps sizes s) (id : ℕ) (v : View) (me 
       (all_weaker (True passes_in pass_number sizes.passes (pass_part k.history)) (λ r. (f r ≡ f (pass_part k.history r.number)) × (r.number < sizes.passes)) (λ r true. (ap f true.0, true.1)) v.passes (k.passes.each id v me))
       (has_everyone passes_in pass_number s.views k.passes id v me whole.passes)
 
+  -- the history as the line's users see it, at the end of which all that waits comes out
+  lists : Lists v.lanes v.passes (waiting k.history) number
+  lists =
+      let h = k.history in
+      let jobs = waiting h in
+      let line = listed h in
+      let waits : line_waiting line ≡ jobs = listed_waiting h in
+      let here : Legal (LineMay (length v.lanes) (length v.passes)) line =
+      subst (λ (n : ℕ). Legal (LineMay n (length v.passes)) line) (sym whole.lanes) (subst (λ (n : ℕ). Legal (LineMay sizes.lanes n) line) (sym whole.passes) (listed_legal sizes h k.legal)) in
+      record {
+        history = drain_all jobs line;
+        legal = drained_legal (length v.lanes) (length v.passes) jobs line waits here;
+        each_lane = all_weaker (True lanes_in lane_number sizes.lanes (lane_part h)) (λ r. r.entries ≡ entries_by (drain_all jobs line) r.number)
+            (λ r true. ap (λ (z : LaneRecord). z.entries) true.0 ∙ sym (drained_entries jobs line r.number ∙ listed_entries sizes h r.number k.legal)) v.lanes (k.lanes.each id v me);
+        each_pass = all_weaker (True passes_in pass_number sizes.passes (pass_part h)) (λ r. r.taken ≡ taken_in (drain_all jobs line) r.number)
+            (λ r true. ap (λ (z : PassRecord). z.taken) true.0 ∙ sym (drained_taken jobs line r.number ∙ listed_taken sizes h r.number)) v.passes (k.passes.each id v me);
+        closed = drained_closed jobs line ∙ (listed_closed h ∙ closed_here);
+        end = drained_left jobs line ∙ ap (λ (js : List QueuedJob). js ++ jobs) (listed_left h);
+        none_waits = drained_waiting jobs line waits;
+      }
+
   whole_run : WholeRun v.lanes v.passes (waiting k.history) number
   whole_run =
       let h = k.history in
@@ -86,6 +112,8 @@ module _ (sizes : Sizes) (s : St) (k : Keeps sizes s) (id : ℕ) (v : View) (me 
         seen = each_lane (λ r. AllByRecursion (λ n. number ≤ n) r.seen) (λ l. all_weaker (Stands sizes h) (λ n. number ≤ n) (λ n stands. omega (arith, stands.1, count_here.1)) (lane_part h l).seen (seen_stands sizes h l k.legal));
         sealed = each_pass (λ r. AllByRecursion (λ x. Seals x → x.settled ≡ number) r.readings)
             (λ p. all_weaker (Sealed sizes h) (λ x. Seals x → x.settled ≡ number) (λ x sealed seals. (sealed seals.0).1 ∙ count_here.1) (pass_part h p).readings (readings_sealed sizes h p k.legal));
+        numbers_rise = all_ascend v.lanes v.passes (waiting h) number lists;
+        listed = lists;
       }
 
   ended : (x : Store) → Fits sizes k.history x → IsEnd sizes v number x

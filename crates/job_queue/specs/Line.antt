@@ -41,20 +41,20 @@ GainsRefusal old Full new = (number : ℕ) × GainsEntry old number None new
 GainsRefusal old LaneSpent new = new ≡ old
 
 -- the jobs that the call took: one or none
-abbrev pub taken_by : Taken → List QueuedJob
+abbrev pub taken_by : {E : Type 0} → Taken E → List QueuedJob
 taken_by (Job id job) = queued id job ∷ []
 taken_by EmptyNow = []
-taken_by (Ended saw) = []
+taken_by (Ended end) = []
 
 -- What the call read. Where it found the line empty to the end it read once, and its answer is
 -- Ended exactly where that reading seals the line.
-abbrev pub GainsReading : List Reading → Taken → List Reading → Type 0
+abbrev pub GainsReading : {E : Type 0} → List Reading → Taken E → List Reading → Type 0
 GainsReading old (Job id job) new = (new ≡ old) ⊎ ((r : Reading) × (new ≡ old ++ r ∷ []) × Seals r)
 GainsReading old EmptyNow new = (r : Reading) × (new ≡ old ++ r ∷ []) × ¬ Seals r
-GainsReading old (Ended saw) new = (r : Reading) × (new ≡ old ++ r ∷ []) × Seals r
+GainsReading old (Ended end) new = (r : Reading) × (new ≡ old ++ r ∷ []) × Seals r
 
 -- a job that was taken is for this machine
-abbrev pub TakesMadeFor : ℕ → Taken → Type 0
+abbrev pub TakesMadeFor : {E : Type 0} → ℕ → Taken E → Type 0
 TakesMadeFor machine (Job id job) = IsMadeFor machine (queued id job)
 TakesMadeFor machine EmptyNow = Unit {0}
-TakesMadeFor machine (Ended saw) = Unit {0}
+TakesMadeFor machine (Ended end) = Unit {0}

@@ -64,6 +64,14 @@ abbrev pub Rises : List QueuedJob → Type 0
 Rises [] = Unit {0}
 Rises (job ∷ jobs) = Each (λ later. later.id.lane ≡ job.id.lane → job.id.seq < later.id.seq) jobs × Rises jobs
 
+-- the numbers rise
+abbrev pub Ascend : List ℕ → Type 0
+Ascend [] = Unit {0}
+Ascend (number ∷ numbers) = Each (λ later. number < later) numbers × Ascend numbers
+
+abbrev pub number_of : Entry → ℕ
+number_of e = e.number
+
 -- the reading shows the line closed and as many entries settled as counted
 abbrev pub Seals : Reading → Type 0
 Seals r = (r.closed ≡ true) × (r.settled ≡ r.counted)

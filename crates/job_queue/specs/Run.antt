@@ -1,11 +1,12 @@
 -- What the records of all lanes and passes of a line say together, once it has come to its end.
-use Rattle.std.specs.Prelude.{◌≡◌, ℕ, ◌+◌, ◌<◌, ◌≤◌, List, ◌++◌}
+use Rattle.std.specs.Prelude.{◌≡◌, ℕ, ◌+◌, ◌<◌, ◌≤◌, List, ◌++◌, map}
 use Rattle.std.specs.List.{AllByRecursion as Each}
 use Rattle.histories.specs.Sums.{total, below}
 use Rattle.job_queue.specs.declared.record.QueuedJob.{QueuedJob}
 use Rattle.job_queue.specs.declared.record.LaneRecord.{LaneRecord}
 use Rattle.job_queue.specs.declared.record.PassRecord.{PassRecord}
-use Rattle.job_queue.specs.Record.{accepted, AreSeqs, Rises, Seals}
+use Rattle.job_queue.specs.Record.{accepted, AreSeqs, Rises, Seals, Ascend, number_of}
+use Rattle.job_queue.specs.History.{Lists}
 
 -- All lanes, all passes, the jobs that are left and the number of the close note.
 pub record WholeRun (lanes : List LaneRecord) (passes : List PassRecord) (rest : List QueuedJob) (note : ℕ) : Type 0 where
@@ -24,3 +25,7 @@ pub record WholeRun (lanes : List LaneRecord) (passes : List PassRecord) (rest :
   pub seen : Each (λ l. Each (λ n. note ≤ n) l.seen) lanes
   -- where a pass read that the line is sealed, all entries were settled
   pub sealed : Each (λ p. Each (λ r. Seals r → r.settled ≡ note) p.readings) passes
+  -- a lane's entries have rising numbers
+  pub numbers_rise : Each (λ l. Ascend (map number_of l.entries)) lanes
+  -- one legal history has all of it: each entry before its job, each job before it was taken
+  pub listed : Lists lanes passes rest note

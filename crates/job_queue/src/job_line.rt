@@ -6,8 +6,8 @@ ghost use Rattle.job_queue.specs.Record.{queued, fresh_lanes, fresh_passes, acce
 ghost use Rattle.job_queue.specs.Line.{LineId, next_id, GainsEntry, GainsRefusal, GainsReading, taken_by, IsMadeFor, TakesMadeFor};
 ghost use Rattle.job_queue.specs.Run.{WholeRun};
 
-use crate::end::SawEnd;
 use crate::record::QueuedJob;
+use cube_shape::MAX_DIM;
 use job_types::{Job, JobId, MAX_LANES};
 use std::alloc::{AllocError, Global};
 use std::collections::VecDeque;
@@ -70,15 +70,15 @@ pub enum Refused {
     LaneSpent,
 }
 
-/// What a pass took.
+/// What a pass took. `E` is what shows that a line has ended.
 #[derive(Debug, Drop)]
-pub enum Taken {
+pub enum Taken<E> {
     /// A job, with its id.
     Job(JobId, Job),
     /// The line was empty, and jobs may still come.
     EmptyNow,
     /// The line was empty, and no job will come.
-    Ended(SawEnd),
+    Ended(E),
 }
 
 /// What is left of a line.
@@ -106,6 +106,8 @@ pub trait JobLine {
     type Closer;
     /// Shows that the line is closed.
     type Note;
+    /// Shows that the line has ended. Only its own `take` makes one.
+    type End: Drop;
 
     ghost id: { Self → LineId };
 
@@ -123,12 +125,13 @@ pub trait JobLine {
 
     ghost note_number: { Self.Note → ℕ };
 
-    /// Opens a line. It reserves all its room before it makes a lane, a pass or the closer, and no
-    /// other call takes memory.
+    /// Opens a line for a machine of at most the largest dimension. It reserves all its room before it
+    /// makes a lane, a pass or the closer, and no other call takes memory.
     fn open(
         alloc: Global,
         sizes: Sizes,
     ) -> Result<Opened<Self, Self::Lane, Self::Pass, Self::Closer>, AllocError>
+        requires machine { sizes.machine ≤ MAX_DIM }
         requires lanes { sizes.lanes ≤ MAX_LANES }
         requires passes { sizes.passes ≤ MAX_PASSES }
         requires room { 0 < sizes.capacity }
@@ -177,7 +180,7 @@ pub trait JobLine {
             MAX_ENTRIES ≤ length (lane_record lane.old).entries) };
 
     /// Takes the job at the front of the line, if there is one.
-    fn take<R: Wait>(&self, rt: &R, pass: &mut Self::Pass) -> Taken
+    fn take<R: Wait>(&self, rt: &R, pass: &mut Self::Pass) -> Taken<Self::End>
         requires { is_pass (id self.now) pass.old }
         ensures pass { is_pass (id self.now) pass.new }
         ensures number { (pass_record pass.new).number ≡ (pass_record pass.old).number }

@@ -6,16 +6,14 @@
 //! `LockedLine` is the plainest line that meets it.
 #![tactic(auto)]
 
-mod end;
 mod job_line;
 mod locked;
 mod record;
 mod ruled;
 
-pub use end::SawEnd;
 pub use job_line::{
     JobLine, MAX_CAPACITY, MAX_ENTRIES, MAX_PASSES, Opened, Receipt, Refused, Rest, Sizes, Taken,
 };
-pub use locked::{CloseNote, Closer, Lane, LockedLine, Pass};
+pub use locked::{LockedCloser, LockedEnd, LockedLane, LockedLine, LockedNote, LockedPass};
 pub use record::{Entry, LaneRecord, PassRecord, QueuedJob, Reading};
-pub use ruled::{RuledCloser, RuledLane, RuledLine, RuledNote, RuledPass};
+pub use ruled::{RuledCloser, RuledEnd, RuledLane, RuledLine, RuledNote, RuledPass};

@@ -7,6 +7,6 @@ mod store;
 mod store_lock;
 mod view;
 
-pub use handle::{CloseNote, Closer, Lane, Pass};
+pub use handle::{LockedCloser, LockedLane, LockedNote, LockedPass};
 pub use line::LockedLine;
-pub use store::SawEmpty;
+pub use store::LockedEnd;

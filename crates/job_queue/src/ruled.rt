@@ -5,4 +5,4 @@ mod line;
 mod members;
 
 pub use handle::{RuledCloser, RuledLane, RuledNote, RuledPass};
-pub use line::{EmptyAtLast, RuledLine};
+pub use line::{RuledEnd, RuledLine};

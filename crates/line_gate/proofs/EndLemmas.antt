@@ -1,5 +1,5 @@
 -- Once all members have come together, their records say what was done at the gate.
-use Rattle.std.proofs.Common.{◌≡◌, ℕ, ◌<◌, ◌≤◌, true, Some, List, [], ◌∷◌, length, sym, refl, ap, ◌∙◌, subst, arith}
+use Rattle.std.proofs.Common.{◌≡◌, ℕ, ◌<◌, ◌≤◌, true, Some, List, [], ◌∷◌, length, map, sym, refl, ap, ◌∙◌, subst, arith}
 use Rattle.std.specs.List.{AllByRecursion}
 use mathlib.Core.Logic.{dite}
 use native.Mathlib.Decide.{dec_le}
@@ -18,9 +18,11 @@ use Rattle.line_gate.specs.declared.view.View.{View}
 use Rattle.line_gate.specs.Record.{IsSettled, Seals}
 use Rattle.line_gate.specs.Run.{WholeGate}
 use Rattle.line_gate.specs.Inner.View.{closer}
-use Rattle.line_gate.specs.Inner.Deed.{entered, is_shut, lane_part, pass_part, closer_part}
+use Rattle.line_gate.specs.History.{numbers_by, AreEntries}
+use Rattle.line_gate.specs.Inner.Deed.{entered, is_shut, closed_at, lane_part, pass_part, closer_part}
 use Rattle.line_gate.specs.Inner.Rule.{Keeps}
 use Rattle.line_gate.proofs.HistoryLemmas.{made_weight, settled_weight, pending_weight, made_sum, closed_count, Stands, seen_stand, Fixed, are_read, sealed}
+use Rattle.line_gate.proofs.EnteringLemmas.{entering, are_entries, shut_closed, lane_numbers}
 use Rattle.line_gate.proofs.StepLemmas.{St, lanes_in, passes_in, closers_in, lane_number, pass_number, closer_number}
 
 -- settled lanes weigh their settled entries alone
@@ -45,10 +47,17 @@ none_below k n high = below-same (is_at k) (λ _. 0) n (λ j within. is_at-other
 
 module _ (counts : Counts) (s : St) (k : Keeps counts s) (id : ℕ) (v : View) (me : get_elem? s.views id ≡ some v) (number : ℕ) (closed : v.closers ≡ closer (Some number) ∷ [])
     (all_lanes : length v.lanes ≡ counts.lanes) (all_passes : length v.passes ≡ counts.passes) (idle : AllByRecursion IsSettled v.lanes) where
-  count_here : (is_shut k.history ≡ true) × (entered k.history ≡ number)
-  count_here =
+  closed_here : closed_at k.history ≡ Some number
+  closed_here =
       let all : AllByRecursion (True closers_in closer_number 1 (closer_part k.history)) (closer (Some number) ∷ []) = subst (AllByRecursion (True closers_in closer_number 1 (closer_part k.history))) closed (k.closers.each id v me) in
-      closed_count counts k.history number k.legal (ap (λ (c : CloserRecord). c.closed_at) (sym all.0.0))
+      ap (λ (c : CloserRecord). c.closed_at) (sym all.0.0)
+
+  count_here : (is_shut k.history ≡ true) × (entered k.history ≡ number)
+  count_here = closed_count counts k.history number k.legal closed_here
+
+  numbers_of : (rs : List LaneEntries) → AllByRecursion (True lanes_in lane_number counts.lanes (lane_part k.history)) rs → AllByRecursion IsSettled rs → AllByRecursion (λ (r : LaneEntries). numbers_by (entering k.history) r.number ≡ map (λ (e : SettledEntry). e.number) r.entries) rs
+  numbers_of [] own settled = tt
+  numbers_of (r ∷ rs) own settled = (lane_numbers counts k.history k.legal r own.0.0 settled.0.0, numbers_of rs own.1 settled.1)
 
   each_lane : (P : LaneEntries → Type 0) → ((l : ℕ) → P (lane_part k.history l)) → AllByRecursion P v.lanes
   each_lane P holds = all_weaker (True lanes_in lane_number counts.lanes (lane_part k.history)) P (λ r true. subst P (sym true.0) (holds r.number)) v.lanes (k.lanes.each id v me)
@@ -77,6 +86,10 @@ module _ (counts : Counts) (s : St) (k : Keeps counts s) (id : ℕ) (v : View) (
         seen = each_lane (λ r. AllByRecursion (λ n. number ≤ n) r.seen) (λ l. all_weaker (Stands counts h) (λ n. number ≤ n) (λ n stands. omega (arith, stands.1, count_here.1)) (lane_part h l).seen (seen_stand counts h l k.legal));
         sealed = each_pass (λ r. AllByRecursion (λ x. Seals x → x.settled ≡ number) r.readings)
             (λ p. all_weaker (Fixed counts h) (λ x. Seals x → x.settled ≡ number) (λ x fixed seals. sealed counts h x fixed seals ∙ count_here.1) (pass_part h p).readings (are_read counts h p k.legal).1);
+        entering = entering h;
+        are_entries = subst (λ (n : ℕ). AreEntries n (entering h)) (sym all_lanes) (are_entries counts h k.legal);
+        shut = shut_closed h ∙ closed_here;
+        each_lane = numbers_of v.lanes (k.lanes.each id v me) idle;
       }
 
 -- the words of a closed table

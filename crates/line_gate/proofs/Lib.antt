@@ -1,4 +1,5 @@
 pub mod HistoryLemmas
+pub mod EnteringLemmas
 pub mod StepLemmas
 pub mod DealLemmas
 pub mod EndLemmas

@@ -1,10 +1,11 @@
 -- What the records of all lanes and passes of a gate say together, once it has come to its end.
-use Rattle.std.specs.Prelude.{◌≡◌, ℕ, ◌<◌, ◌≤◌, List, length}
+use Rattle.std.specs.Prelude.{◌≡◌, ℕ, ◌<◌, ◌≤◌, Some, List, length, map}
 use Rattle.std.specs.List.{AllByRecursion as Each}
 use Rattle.histories.specs.Sums.{total, below, is_at}
 use Rattle.line_gate.specs.declared.record.LaneEntries.{LaneEntries}
 use Rattle.line_gate.specs.declared.record.PassReadings.{PassReadings}
 use Rattle.line_gate.specs.Record.{Seals}
+use Rattle.line_gate.specs.History.{Entering, shut_at, numbers_by, AreEntries}
 
 -- All lanes, all of whose entries are settled, all passes and the number of the close note.
 pub record WholeGate (lanes : List LaneEntries) (passes : List PassReadings) (note : ℕ) : Type 0 where
@@ -17,3 +18,8 @@ pub record WholeGate (lanes : List LaneEntries) (passes : List PassReadings) (no
   pub seen : Each (λ l. Each (λ n. note ≤ n) l.seen) lanes
   -- where a pass read that the gate is sealed, all entries were settled
   pub sealed : Each (λ p. Each (λ r. Seals r → r.settled ≡ note) p.readings) passes
+  -- one list has the entries of all lanes and the close
+  pub entering : List Entering
+  pub are_entries : AreEntries (length lanes) entering
+  pub shut : shut_at entering ≡ Some note
+  pub each_lane : Each (λ l. numbers_by entering l.number ≡ map (λ e. e.number) l.entries) lanes

@@ -5,6 +5,7 @@ ghost use Rattle.job_types.specs.declared.request.TheConstants.{MAX_LANES};
 ghost use Rattle.line_gate.specs.Record.{lanes_from, passes_from, IsSettled};
 ghost use Rattle.line_gate.specs.Run.{WholeGate};
 
+use crate::entered::Pushed;
 use crate::handle::{GateEnd, GateLane, GateMembers, GatePass};
 use crate::rule::{DealLane, DealPass, GateRule, Gather};
 use crate::view::View;
@@ -37,14 +38,14 @@ pub trait Witness {
     fn spend(self);
 }
 
-/// The gate of a line. `F` is the token of a push that found the line full, and `E` that of a pop
-/// that found it empty.
-pub struct Gate<F: Witness, E: Witness> {
+/// The gate of a line. `P` is the token of a push that put a job in, `F` that of one that found the
+/// line full, and `E` that of a pop that found it empty.
+pub struct Gate<P: Pushed, F: Pushed, E: Witness> {
     pub(crate) table: Table<(), View, Counts, GateRule, Global>,
-    marker: PhantomData<(F, E)>,
+    marker: PhantomData<(P, F, E)>,
 }
 
-impl<F: Witness, E: Witness> Model for Gate<F, E> {
+impl<P: Pushed, F: Pushed, E: Witness> Model for Gate<P, F, E> {
     ghost use Rattle.std.specs.Prelude.{◌≡◌};
     ghost use Rattle.line_gate.specs.Gate.{GateId};
 
@@ -56,16 +57,16 @@ impl<F: Witness, E: Witness> Model for Gate<F, E> {
         × (g.table.shared.table_id.slots ≡ 0) };
 }
 
-impl<F: Witness, E: Witness> Drop for Gate<F, E> {
+impl<P: Pushed, F: Pushed, E: Witness> Drop for Gate<P, F, E> {
     fn drop(self) {
         let Gate { table, marker: _ } = self;
         drop(table);
     }
 }
 
-impl<F: Witness, E: Witness> Gate<F, E> {
+impl<P: Pushed, F: Pushed, E: Witness> Gate<P, F, E> {
     /// A gate at which nothing was done, with its lanes, its passes and its closer.
-    pub fn open(alloc: Global, counts: Counts) -> Result<(Gate<F, E>, GateMembers), AllocError>
+    pub fn open(alloc: Global, counts: Counts) -> Result<(Gate<P, F, E>, GateMembers), AllocError>
         requires { counts.lanes ≤ MAX_LANES }
         ensures counts { IfOk result (λ made. made.0.counts ≡ counts) }
         ensures gate { IfOk result (λ made. made.1.gate ≡ made.0.table) }

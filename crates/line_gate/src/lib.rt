@@ -2,11 +2,13 @@
 //! line has come to its end.
 //!
 //! A lane enters by one step on the first word, which counts entries and has the closed mark, and
-//! settles its entry by one step on the second. The closer sets the mark. A pass that reads as many
+//! settles its entry by one step on the second. Between the two the entry is a value of its own,
+//! which only what came of its push can settle. The closer sets the mark. A pass that reads as many
 //! entries settled as counted, beside the closed mark, knows that all entries are settled. Each
 //! call is one atomic step, and waits for nobody.
 #![tactic(auto)]
 
+mod entered;
 mod gate;
 mod handle;
 mod record;
@@ -14,6 +16,7 @@ mod rule;
 mod steps;
 mod view;
 
+pub use entered::{Entered, EnteredLate, Pushed};
 pub use gate::{Counts, Gate, MAX_ENTRIES, Witness};
 pub use handle::{GateCloser, GateEnd, GateLane, GateMembers, GateNote, GatePass};
 pub use record::{LaneEntries, PassReadings, Reading, SettledEntry};

@@ -3,6 +3,7 @@ ghost use Rattle.std.specs.Prelude.{◌≡◌, ◌<◌, Some, true, false, lengt
 ghost use Rattle.line_gate.specs.declared.gate.TheConstants.{MAX_ENTRIES};
 ghost use Rattle.line_gate.specs.Record.{IsSettled, after_look, after_enter, after_late_enter, after_undo, after_settle, after_read_settled, after_read_gate};
 
+use crate::entered::{Entered, EnteredLate, Pushed};
 use crate::gate::{CLOSED, GATE, Gate, SETTLED, Witness};
 use crate::handle::{GateCloser, GateLane, GateNote, GatePass};
 use crate::rule::{Close, Enter, Look, ReadGate, ReadSettled, SettleAccepted, SettleFull, Undo};
@@ -16,7 +17,7 @@ pub struct Counted {
     pub closed: bool,
 }
 
-impl<F: Witness, E: Witness> Gate<F, E> {
+impl<P: Pushed, F: Pushed, E: Witness> Gate<P, F, E> {
     /// Looks at the gate: the count of entries, where the closed mark stands beside it.
     pub fn look(&self, lane: &mut GateLane) -> Option<u64>
         requires { lane.old.gate ≡ self.now.table }
@@ -32,58 +33,63 @@ impl<F: Witness, E: Witness> Gate<F, E> {
         }
     }
 
-    /// Enters: the number of the entry, which is then pending. After the close it is the count that
-    /// was found, and the entry is late.
-    pub fn enter(&self, lane: &mut GateLane) -> Result<u64, u64>
+    /// Enters: an entry, which is then pending, or after the close a late one.
+    pub fn enter(&self, lane: &mut GateLane) -> Result<Entered, EnteredLate>
         requires gate { lane.old.gate ≡ self.now.table }
         requires settled { IsSettled lane.old.known }
         requires unspent { length lane.old.known.entries < MAX_ENTRIES }
         ensures gate { lane.new.gate ≡ self.now.table }
         ensures known { MatchResult result
-            (λ number. lane.new.known ≡ after_enter number lane.old.known)
-            (λ count. lane.new.known ≡ after_late_enter count lane.old.known) }
+            (λ entered. lane.new.known ≡ after_enter entered lane.old.known)
+            (λ late. lane.new.known ≡ after_late_enter late lane.old.known) }
     {
         let found = self
             .table
             .shared
             .fetch_add::<Enter>(&mut lane.seat, GATE, 1);
         if found < CLOSED {
-            Ok(found)
+            Ok(Entered { number: found })
         } else {
-            Err(found - CLOSED)
+            Err(EnteredLate {
+                seen: found - CLOSED,
+            })
         }
     }
 
-    /// Takes a late entry back.
-    pub fn undo(&self, lane: &mut GateLane)
+    /// Takes a late entry back, and answers the count that it found.
+    pub fn undo(&self, lane: &mut GateLane, late: EnteredLate) -> u64
         requires gate { lane.old.gate ≡ self.now.table }
         requires late { lane.old.known.late ≡ true }
         ensures gate { lane.new.gate ≡ self.now.table }
         ensures known { lane.new.known ≡ after_undo lane.old.known }
+        ensures seen { result ≡ late }
     {
+        let EnteredLate { seen } = late;
         self.table.shared.fetch_sub::<Undo>(&mut lane.seat, GATE, 1);
+        seen
     }
 
     /// Settles the pending entry, whose job the line has accepted.
-    pub fn settle_accepted(&self, lane: &mut GateLane, _number: u64)
+    pub fn settle_accepted(&self, lane: &mut GateLane, put: P)
         requires gate { lane.old.gate ≡ self.now.table }
-        requires pending { lane.old.known.pending ≡ Some _number }
+        requires pending { lane.old.known.pending ≡ Some (P.entry put) }
         ensures gate { lane.new.gate ≡ self.now.table }
-        ensures known { lane.new.known ≡ after_settle _number true lane.old.known }
+        ensures known { lane.new.known ≡ after_settle (P.entry put) true lane.old.known }
     {
+        let Entered { number: _ } = put.into_entry();
         self.table
             .shared
             .fetch_add::<SettleAccepted>(&mut lane.seat, SETTLED, 1);
     }
 
     /// Settles the pending entry, whose job found the line full.
-    pub fn settle_full(&self, lane: &mut GateLane, _number: u64, full: F)
+    pub fn settle_full(&self, lane: &mut GateLane, full: F)
         requires gate { lane.old.gate ≡ self.now.table }
-        requires pending { lane.old.known.pending ≡ Some _number }
+        requires pending { lane.old.known.pending ≡ Some (F.entry full) }
         ensures gate { lane.new.gate ≡ self.now.table }
-        ensures known { lane.new.known ≡ after_settle _number false lane.old.known }
+        ensures known { lane.new.known ≡ after_settle (F.entry full) false lane.old.known }
     {
-        full.spend();
+        let Entered { number: _ } = full.into_entry();
         self.table
             .shared
             .fetch_add::<SettleFull>(&mut lane.seat, SETTLED, 1);

@@ -15,8 +15,8 @@ use Rattle.line_ring.specs.declared.ring.TheConstants.{MAX_LANES, MAX_PASSES}
 use Rattle.line_ring.specs.declared.record.LaneRecord.{LaneRecord}
 use Rattle.line_ring.specs.declared.record.PassRecord.{PassRecord}
 use Rattle.line_ring.specs.declared.rule.View.{View}
-use Rattle.line_ring.specs.History.{lane_part, pass_part, rest_of}
-use Rattle.line_ring.specs.Inner.View.{rest_part, view, rest_record, lanes_in, passes_in, rests_in, lane_number, pass_number, rest_number, members, first_of, lanes_from, passes_from, first_view, empty_view, without_lane, lane_alone, without_pass, pass_alone, joined}
+use Rattle.line_ring.specs.History.{lane_part, pass_part, rest_of, rest_part}
+use Rattle.line_ring.specs.Inner.View.{view, rest_record, lanes_in, passes_in, rests_in, lane_number, pass_number, rest_number, members, first_of, lanes_from, passes_from, first_view, empty_view, without_lane, lane_alone, without_pass, pass_alone, joined}
 use Rattle.line_ring.specs.Inner.Rule.{Keeps}
 use Rattle.line_ring.specs.Inner.Step.{IsWhole}
 use Rattle.line_ring.proofs.ListLemmas.{no_pieces}

@@ -1,7 +1,9 @@
 -- What is left comes out at the end, one piece after the other.
-use Rattle.std.proofs.Common.{◌≡◌, ℕ, ◌+◌, ◌-◌, ◌<◌, ◌≤◌, List, [], ◌∷◌, ◌++◌, length, length-append, sym, refl, ap, ◌∙◌, subst, arith}
+use Rattle.std.proofs.Common.{◌≡◌, ℕ, zero, suc, ◌+◌, ◌-◌, ◌<◌, ◌≤◌, List, [], ◌∷◌, ◌++◌, length, length-append, sym, refl, ap, ◌∙◌, subst, arith}
 use Rattle.std.proofs.lemmas.List.{append-nil}
 use Rattle.std.specs.List.{AllByRecursion}
+use mathlib.Core.Logic.{dite}
+use native.Mathlib.Decide.{ℕ_discrete, dec_le}
 use Rattle.crossbeam_queue.specs.Fifo.{Held}
 use Rattle.histories.specs.Sums.{total, is_at}
 use Rattle.histories.proofs.SumLemmas.{total-append}
@@ -11,16 +13,22 @@ use Rattle.line_ring.specs.declared.record.LaneRecord.{LaneRecord}
 use Rattle.line_ring.specs.declared.record.PassRecord.{PassRecord}
 use Rattle.line_ring.specs.declared.record.RestRecord.{RestRecord}
 use Rattle.line_ring.specs.declared.rule.View.{View}
-use Rattle.line_ring.specs.Record.{AreSeqs, Rises}
+use Rattle.line_ring.specs.Record.{fresh_lane, fresh_pass, AreSeqs, Rises}
+use Rattle.line_ring.specs.History.{Deed, accepts, takes_piece, drains, lane_part, pass_part, IsLegal}
 use Rattle.line_ring.specs.Run.{RingRun}
-use Rattle.line_ring.specs.Inner.View.{view, rest_record, lanes_in, passes_in}
+use Rattle.line_ring.specs.Inner.View.{view, rest_record, lanes_in, passes_in, lanes_from, passes_from}
 use Rattle.line_ring.specs.Inner.Step.{drained_in, after_drain, IsEndView, IsWhole, RunsTo, Drains}
+use Rattle.line_ring.proofs.HistoryLemmas.{lane_other, pass_other}
 use Rattle.line_ring.proofs.ListLemmas.{count_pieces, rises-front, rises-both}
 use Rattle.line_ring.proofs.DealLemmas.{fresh_lanes_weigh, fresh_passes_weigh, lanes_count, passes_count, lanes_once}
 
 all_and : {A : Type 0} (P Q : A → Type 0) (xs : List A) → AllByRecursion P xs → AllByRecursion Q xs → AllByRecursion (λ x. P x × Q x) xs
 all_and P Q [] left right = tt
 all_and P Q (x ∷ xs) left right = ((left.0, right.0), all_and P Q xs left.1 right.1)
+
+all_front : {A : Type 0} (P : A → Type 0) (xs ys : List A) → AllByRecursion P (xs ++ ys) → AllByRecursion P xs
+all_front P [] ys all = tt
+all_front P (x ∷ xs) ys all = (all.0, all_front P xs ys all.1)
 
 all_back : {A : Type 0} (P : A → Type 0) (xs ys : List A) → AllByRecursion P (xs ++ ys) → AllByRecursion P ys
 all_back P [] ys all = all
@@ -105,6 +113,47 @@ module _ {T : Type 0} (lane_of seq_of : T → ℕ) (is_for : ℕ → T → Type 
   pub drains_on : (capacity : ℕ) (v₀ v w : View T) (out new : List T) (x : T) → new ≡ out ++ x ∷ [] → Drained capacity v₀ v out → Drains lane_of seq_of is_for v x w → Drained capacity v₀ w new
   drains_on capacity v₀ v w out new x more drained step = subst (λ (xs : List T). Drained capacity v₀ w xs) (sym more) (drains_here capacity v₀ v w out x drained step)
 
+  -- ---- lanes and passes that were not dealt
+
+  spare_lane : (h : List (Deed T)) (first count k : ℕ) → AllByRecursion (λ l. l ≡ lane_part h l.number) (lanes_from first count) → first ≤ k → k < first + count → lane_part h k ≡ fresh_lane k
+  spare_lane h first zero k all low high = absurd (omega arith)
+  spare_lane h first (suc count) k all low high =
+      dite (ℕ_discrete first k)
+      (λ here. subst (λ (n : ℕ). lane_part h n ≡ fresh_lane n) here (sym all.0))
+      (λ later. spare_lane h (first + 1) count k all.1 (omega arith) (omega arith))
+
+  spare_pass : (h : List (Deed T)) (first count k : ℕ) → AllByRecursion (λ p. p ≡ pass_part h p.number) (passes_from first count) → first ≤ k → k < first + count → pass_part h k ≡ fresh_pass k
+  spare_pass h first zero k all low high = absurd (omega arith)
+  spare_pass h first (suc count) k all low high =
+      dite (ℕ_discrete first k)
+      (λ here. subst (λ (n : ℕ). pass_part h n ≡ fresh_pass n) here (sym all.0))
+      (λ later. spare_pass h (first + 1) count k all.1 (omega arith) (omega arith))
+
+  -- no history has a deed of a lane or a pass that no ring deals
+  no_lane_past : (h : List (Deed T)) (k : ℕ) → IsLegal lane_of seq_of h → MAX_LANES ≤ k → lane_part h k ≡ fresh_lane k
+  no_lane_past [] k legal high = refl
+  no_lane_past (accepts lane piece ∷ h) k legal high = lane_other lane piece h k (λ same. omega (arith, same, legal.0.0)) ∙ no_lane_past h k legal.1 high
+  no_lane_past (takes_piece pass piece ∷ h) k legal high = no_lane_past h k legal.1 high
+  no_lane_past (drains piece ∷ h) k legal high = no_lane_past h k legal.1 high
+
+  no_pass_past : (h : List (Deed T)) (k : ℕ) → IsLegal lane_of seq_of h → MAX_PASSES ≤ k → pass_part h k ≡ fresh_pass k
+  no_pass_past [] k legal high = refl
+  no_pass_past (accepts lane piece ∷ h) k legal high = no_pass_past h k legal.1 high
+  no_pass_past (takes_piece pass piece ∷ h) k legal high = pass_other pass piece h k (λ same. omega (arith, same, legal.0.0)) ∙ no_pass_past h k legal.1 high
+  no_pass_past (drains piece ∷ h) k legal high = no_pass_past h k legal.1 high
+
+  no_other_lane : (h : List (Deed T)) (dealt : ℕ) (spare : List (LaneRecord T)) → spare ≡ lanes_from dealt (MAX_LANES - dealt) → dealt ≤ MAX_LANES → IsLegal lane_of seq_of h → AllByRecursion (λ l. l ≡ lane_part h l.number) spare
+      → (k : ℕ) → dealt ≤ k → lane_part h k ≡ fresh_lane k
+  no_other_lane h dealt spare is few legal all k high =
+      dite (dec_le MAX_LANES k) (no_lane_past h k legal)
+      (λ low. spare_lane h dealt (MAX_LANES - dealt) k (subst (λ (ls : List (LaneRecord T)). AllByRecursion (λ l. l ≡ lane_part h l.number) ls) is all) high (omega (arith, few)))
+
+  no_other_pass : (h : List (Deed T)) (dealt : ℕ) (spare : List (PassRecord T)) → spare ≡ passes_from dealt (MAX_PASSES - dealt) → dealt ≤ MAX_PASSES → IsLegal lane_of seq_of h → AllByRecursion (λ p. p ≡ pass_part h p.number) spare
+      → (k : ℕ) → dealt ≤ k → pass_part h k ≡ fresh_pass k
+  no_other_pass h dealt spare is few legal all k high =
+      dite (dec_le MAX_PASSES k) (no_pass_past h k legal)
+      (λ low. spare_pass h dealt (MAX_PASSES - dealt) k (subst (λ (ps : List (PassRecord T)). AllByRecursion (λ p. p ≡ pass_part h p.number) ps) is all) high (omega (arith, few)))
+
   -- ---- nothing is left
 
   last_run : (capacity : ℕ) (v₀ v : View T) (out : List T) → Drained capacity v₀ v out → Held 0 (RunsTo lane_of seq_of v) → RunsTo lane_of seq_of (with_rest v₀ out) []
@@ -122,12 +171,22 @@ module _ {T : Type 0} (lane_of seq_of : T → ℕ) (is_for : ℕ → T → Type 
     passes_weigh : (f : PassRecord T → ℕ) → ((number : ℕ) → f (record { number = number; taken = [] }) ≡ 0) → total f (passes_in v₀) ≡ total f v₀.passes
     passes_weigh f none = omega (arith, total-append f v₀.spare_passes v₀.passes, ap (total f) end.spare_passes, fresh_passes_weigh f none passes (MAX_PASSES - passes))
 
-    pub ring_run : RingRun lane_of seq_of v₀.lanes v₀.passes out
-    ring_run = record {
+    pub ring_run : length v₀.lanes ≡ lanes → length v₀.passes ≡ passes → RingRun lane_of seq_of v₀.lanes v₀.passes out
+    ring_run all_lanes all_passes = record {
       balance = λ weight. omega (arith, run.balance weight, lanes_weigh (λ l. total weight l.accepted) (λ _. refl), passes_weigh (λ p. total weight p.taken) (λ _. refl));
       seqs = all_back (λ l. AreSeqs lane_of seq_of l.number 0 l.accepted) v₀.spare_lanes v₀.lanes run.seqs;
       rises = all_back (λ p. Rises lane_of seq_of (p.taken ++ out)) v₀.spare_passes v₀.passes drained.rises;
       rest_rises = subst (Rises lane_of seq_of) (append-nil out) run.rest_rises;
+      listed = record {
+        history = run.listed.history;
+        legal = run.listed.legal;
+        each_lane = all_back (λ l. l ≡ lane_part run.listed.history l.number) v₀.spare_lanes v₀.lanes run.listed.each_lane;
+        each_pass = all_back (λ p. p ≡ pass_part run.listed.history p.number) v₀.spare_passes v₀.passes run.listed.each_pass;
+        end = run.listed.end;
+        left = run.listed.left;
+      };
+      no_other_lane = λ k high. no_other_lane run.listed.history lanes v₀.spare_lanes end.spare_lanes end.few_lanes run.listed.legal (all_front (λ l. l ≡ lane_part run.listed.history l.number) v₀.spare_lanes v₀.lanes run.listed.each_lane) k (omega (arith, high, all_lanes));
+      no_other_pass = λ k high. no_other_pass run.listed.history passes v₀.spare_passes end.spare_passes end.few_passes run.listed.legal (all_front (λ p. p ≡ pass_part run.listed.history p.number) v₀.spare_passes v₀.passes run.listed.each_pass) k (omega (arith, high, all_passes));
     }
 
     pub lanes_there : (k : ℕ) → k < lanes → total (λ l. is_at k l.number) v₀.lanes ≡ 1

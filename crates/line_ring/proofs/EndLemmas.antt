@@ -13,8 +13,8 @@ use Rattle.line_ring.specs.declared.record.PassRecord.{PassRecord}
 use Rattle.line_ring.specs.declared.record.RestRecord.{RestRecord}
 use Rattle.line_ring.specs.declared.rule.View.{View}
 use Rattle.line_ring.specs.Record.{AreSeqs, Rises}
-use Rattle.line_ring.specs.History.{drains, rest_of, waiting, lane_part, pass_part}
-use Rattle.line_ring.specs.Inner.View.{rest_part, view, rest_record, lanes_in, passes_in, rests_in, lane_number, pass_number, rest_number, members}
+use Rattle.line_ring.specs.History.{drains, rest_of, waiting, lane_part, pass_part, rest_part}
+use Rattle.line_ring.specs.Inner.View.{view, rest_record, lanes_in, passes_in, rests_in, lane_number, pass_number, rest_number, members}
 use Rattle.line_ring.specs.Inner.Rule.{Keeps}
 use Rattle.line_ring.specs.Inner.Step.{drained_in, IsWhole, RunsTo, Drains}
 use Rattle.line_ring.proofs.HistoryLemmas.{balanced, seqs, rises, rest_rises}
@@ -62,6 +62,14 @@ module _ {T : Type 0} (lane_of seq_of : T → ℕ) (is_for : ℕ → T → Type 
           rises = each_pass (λ r. Rises lane_of seq_of (r.taken ++ items)) (λ p. subst (λ (ws : List T). Rises lane_of seq_of ((pass_part h p).taken ++ ws)) (sym k.waits) (rises lane_of seq_of h p k.legal));
           rest_rises = subst (λ (ws : List T). Rises lane_of seq_of (drained_in v.rests ++ ws)) (sym k.waits) (subst (λ (ds : List T). Rises lane_of seq_of (ds ++ waiting h)) (sym drained_is) (rest_rises lane_of seq_of h k.legal));
           numbers = has_everyone lanes_in lane_number views k.lanes id v me whole.lanes;
+          listed = record {
+            history = h;
+            legal = k.legal;
+            each_lane = all_weaker (True lanes_in lane_number MAX_LANES (lane_part h)) (λ l. l ≡ lane_part h l.number) (λ l true. true.0) (lanes_in v) (k.lanes.each id v me);
+            each_pass = all_weaker (True passes_in pass_number MAX_PASSES (pass_part h)) (λ p. p ≡ pass_part h p.number) (λ p true. true.0) (passes_in v) (k.passes.each id v me);
+            end = sym drained_is;
+            left = sym k.waits;
+          };
         }
 
   pub learns_run : (id : ℕ) (v : View T) → IsWhole v → Learns K id v (RunsTo lane_of seq_of v)

@@ -5,6 +5,7 @@ use Rattle.histories.specs.History.{part, Legal}
 use Rattle.line_ring.specs.declared.ring.TheConstants.{MAX_LANES, MAX_PASSES}
 use Rattle.line_ring.specs.declared.record.LaneRecord.{LaneRecord}
 use Rattle.line_ring.specs.declared.record.PassRecord.{PassRecord}
+use Rattle.line_ring.specs.declared.record.RestRecord.{RestRecord}
 use Rattle.line_ring.specs.Record.{fresh_lane, fresh_pass}
 
 pub data Deed (T : Type 0) : Type 0 where
@@ -53,6 +54,20 @@ pass_after (drains piece) r = r
 
 abbrev pub pass_part : {T : Type 0} → List (Deed T) → ℕ → PassRecord T
 pass_part = part is_by_pass pass_after fresh_pass
+
+-- what came out at the end, of which there is one, of the number 0
+abbrev pub is_by_end : {T : Type 0} → Deed T → ℕ → Bool
+is_by_end (accepts lane piece) k = false
+is_by_end (takes_piece pass piece) k = false
+is_by_end (drains piece) k = 0 == k
+
+abbrev pub rest_after : {T : Type 0} → Deed T → RestRecord T → RestRecord T
+rest_after (accepts lane piece) r = r
+rest_after (takes_piece pass piece) r = r
+rest_after (drains piece) r = record { drained = r.drained ++ piece ∷ [] }
+
+abbrev pub rest_part : {T : Type 0} → List (Deed T) → ℕ → RestRecord T
+rest_part = part is_by_end rest_after (λ _. record { drained = [] })
 
 -- ---- which deeds a history allows
 

@@ -1,10 +1,21 @@
 -- What the records of all lanes and passes of a ring say together, once it has come to its end.
-use Rattle.std.specs.Prelude.{◌≡◌, ℕ, ◌+◌, List, ◌++◌}
+use Rattle.std.specs.Prelude.{◌≡◌, ℕ, ◌+◌, ◌≤◌, List, [], ◌++◌, length}
 use Rattle.std.specs.List.{AllByRecursion as Each}
 use Rattle.histories.specs.Sums.{total}
 use Rattle.line_ring.specs.declared.record.LaneRecord.{LaneRecord}
 use Rattle.line_ring.specs.declared.record.PassRecord.{PassRecord}
-use Rattle.line_ring.specs.Record.{AreSeqs, Rises}
+use Rattle.line_ring.specs.Record.{fresh_lane, fresh_pass, AreSeqs, Rises}
+use Rattle.line_ring.specs.History.{Deed, waiting, lane_part, pass_part, rest_part, IsLegal}
+
+-- One legal history, of which the record of each lane, of each pass and of the end is its own part, and
+-- after which these pieces wait.
+pub record Lists {T : Type 0} (lane_of seq_of : T → ℕ) (lanes : List (LaneRecord T)) (passes : List (PassRecord T)) (out waits : List T) : Type 0 where
+  pub history : List (Deed T)
+  pub legal : IsLegal lane_of seq_of history
+  pub each_lane : Each (λ l. l ≡ lane_part history l.number) lanes
+  pub each_pass : Each (λ p. p ≡ pass_part history p.number) passes
+  pub end : (rest_part history 0).drained ≡ out
+  pub left : waiting history ≡ waits
 
 -- All lanes, all passes and the pieces that are left.
 pub record RingRun {T : Type 0} (lane_of seq_of : T → ℕ) (lanes : List (LaneRecord T)) (passes : List (PassRecord T)) (rest : List T) : Type 0 where
@@ -16,3 +27,8 @@ pub record RingRun {T : Type 0} (lane_of seq_of : T → ℕ) (lanes : List (Lane
   -- in what a pass took, followed by what is left, a lane's seqs rise
   pub rises : Each (λ p. Rises lane_of seq_of (p.taken ++ rest)) passes
   pub rest_rises : Rises lane_of seq_of rest
+  -- one history has all of it: what is left came out at the end, and none waits any more
+  pub listed : Lists lane_of seq_of lanes passes rest []
+  -- no other lane and no other pass did anything
+  pub no_other_lane : (k : ℕ) → length lanes ≤ k → lane_part listed.history k ≡ fresh_lane k
+  pub no_other_pass : (k : ℕ) → length passes ≤ k → pass_part listed.history k ≡ fresh_pass k

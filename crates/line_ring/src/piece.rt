@@ -7,6 +7,9 @@
 pub trait Piece: Drop {
     ghost use Rattle.std.specs.Prelude.{ℕ};
 
+    /// What a piece comes by. A push takes it, and hands it on.
+    type Entry;
+
     ghost lane: { Self → ℕ };
 
     ghost seq: { Self → ℕ };

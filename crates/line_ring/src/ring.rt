@@ -10,6 +10,7 @@ use crate::rule::{NextMachine, Put, RingRule, Take, View};
 use crossbeam_queue::RuledArrayQueue;
 use std::alloc::{AllocError, Global};
 use std::collections::VecDeque;
+use std::marker::Model;
 use std::sync::Wait;
 
 /// How many lanes a ring has at most.
@@ -27,16 +28,50 @@ pub struct Ring<T: Piece> {
     ghost reserved: { ruled_capacity queue ≤ deque_capacity room },
 }
 
-/// A push of this call found the ring full. Only `Ring::push` makes it, and it has no `Drop`.
-pub struct SawFull(());
+/// A push of this call put a piece in. It has the entry that the piece came in by, which is what
+/// contracts see. Only `Ring::push` makes it, and it has no `Drop`.
+pub struct DidPut<E> {
+    entry: E,
+}
+
+impl<E> Model for DidPut<E> {
+    ghost Value = { E };
+
+    ghost view = { λ put. put.entry };
+}
+
+/// A push of this call found the ring full. It has the entry of that push, which is what contracts
+/// see. Only `Ring::push` makes it, and it has no `Drop`.
+pub struct SawFull<E> {
+    entry: E,
+}
+
+impl<E> Model for SawFull<E> {
+    ghost Value = { E };
+
+    ghost view = { λ saw. saw.entry };
+}
 
 /// A pop of this call found the ring empty. Only `Ring::pop` makes it, and it has no `Drop`.
 pub struct SawEmpty(());
 
-impl SawFull {
-    /// Records that the ring was full.
-    pub fn spend(self) {
-        let SawFull(()) = self;
+impl<E> DidPut<E> {
+    /// The entry that the piece came in by.
+    pub fn into_entry(self) -> E
+        ensures { result ≡ self }
+    {
+        let DidPut { entry } = self;
+        entry
+    }
+}
+
+impl<E> SawFull<E> {
+    /// The entry of the push that found the ring full.
+    pub fn into_entry(self) -> E
+        ensures { result ≡ self }
+    {
+        let SawFull { entry } = self;
+        entry
     }
 }
 
@@ -84,13 +119,15 @@ impl<T: Piece> Ring<T> {
         Ok((ring, end))
     }
 
-    /// Puts a piece in at the back, unless the ring is full. The piece is the lane's next one.
+    /// Puts a piece in at the back, unless the ring is full. The piece is the lane's next one. Its
+    /// entry comes back in what shows that the piece is in, or that the ring was full.
     pub fn push<R: Wait>(
         &self,
         rt: &R,
         lane: &mut RingLane<T>,
         piece: T,
-    ) -> Result<(), (T, SawFull)>
+        entry: T::Entry,
+    ) -> Result<DidPut<T::Entry>, (T, SawFull<T::Entry>)>
         requires lane { is_lane (ring_id self.now) lane.old }
         requires machine { T.is_for (ring_id self.now).machine piece }
         requires from_lane { T.lane piece ≡ (lane_record lane.old).number }
@@ -100,7 +137,8 @@ impl<T: Piece> Ring<T> {
         ensures number { (lane_record lane.new).number ≡ (lane_record lane.old).number }
         ensures accepted { IfOk result (λ _. (lane_record lane.new).accepted
             ≡ (lane_record lane.old).accepted ++ piece ∷ []) }
-        ensures gives_back { IfErr result (λ refused. refused.0 ≡ piece) }
+        ensures entry { IfOk result (λ put. put ≡ entry) }
+        ensures gives_back { IfErr result (λ refused. (refused.0 ≡ piece) × (refused.1 ≡ entry)) }
         ensures unchanged { IfErr result (λ _. lane_record lane.new ≡ lane_record lane.old) }
         ensures full { IfErr result (λ _. HeldBesideLane T.lane T.seq (lane_record lane.old)
             (ring_id self.now).capacity) }
@@ -108,9 +146,9 @@ impl<T: Piece> Ring<T> {
         match self.queue.push_as::<Put, R>(rt, &mut lane.seat, piece) {
             Ok(()) => {
                 lane.accepted += 1;
-                Ok(())
+                Ok(DidPut { entry })
             }
-            Err(piece) => Err((piece, SawFull(()))),
+            Err(piece) => Err((piece, SawFull { entry })),
         }
     }
 

@@ -43,6 +43,7 @@ fn run_threads<R: Threads + Wait + Sync, J: Naming + Send + Sync, L: JobLine + S
 where
     L::Lane: Send,
     L::Pass: Send,
+    L::End: Send,
     L::Closer: Send,
     L::Note: Send,
     requires { L.id line.now ≡ J.line }
@@ -89,6 +90,7 @@ fn run_named<J: Naming + Send + Sync, R: Threads + Wait + Sync, L: JobLine + Syn
 where
     L::Lane: Send,
     L::Pass: Send,
+    L::End: Send,
     L::Closer: Send,
     L::Note: Send,
     requires line { L.id opened.line ≡ J.line }
@@ -170,6 +172,7 @@ pub fn run<R: Threads + Wait + Sync, L: JobLine + Sync>(
 where
     L::Lane: Send,
     L::Pass: Send,
+    L::End: Send,
     L::Closer: Send,
     L::Note: Send,
     requires lanes { All (L.is_lane (L.id opened.line)) opened.lanes.items }

@@ -14,8 +14,7 @@ use Rattle.cube_core.specs.Event.{transition, is_free, is_occupied, cleared_as_s
 use Rattle.cube_core.specs.Held.{region_at}
 use Rattle.tree_steps.specs.declared.view.Entry.{Entry}
 use Rattle.tree_steps.specs.Steps.{entry_in, steps_entry, Makes}
-use Rattle.cube_tree.specs.declared.refusal.Refusal.{Refusal}
-use Rattle.cube_tree.specs.Tries.{Tries}
+use Rattle.cube_tree.specs.Search.{RefusedTry, AreRefused}
 use Rattle.tree_floor.specs.Grants.{is_look, newest_node, grants_in}
 
 -- a station that was given the regions `given`, and then began a take of node h
@@ -124,19 +123,10 @@ pub given_back : (n node : ℕ) (old new : Entry) → Makes (entry_in (Leaving n
 given_back n node old new makes idle =
     subst (λ p. IsSoIn n node (grants_in n old.trail) p new.trail) idle (made_keeps n node (grants_in n old.trail) makes refl)
 
--- ---- the number of a station
-
-steps_station : (found : List ℕ) (e : Entry) → (steps_entry found e).station ≡ e.station
-steps_station [] e = refl
-steps_station (x ∷ found) e = steps_station found e
-
-pub made_by : {old new : Entry} → Makes old new → new.station ≡ old.station
-made_by {old = old} makes = ap (λ (e : Entry). e.station) makes.entry ∙ steps_station makes.found old
-
 -- ---- tries that were refused
 
-pub tries_give : (n first m : ℕ) (r : Refusal) (old new : Entry) → Tries n first m r old new → (new.station ≡ old.station) × ((d : ℕ) → grants_in d new.trail ≡ grants_in d old.trail)
-tries_give n first zero r old new tries = (ap (λ (e : Entry). e.station) tries.0, λ d. ap (λ (e : Entry). grants_in d e.trail) tries.0)
-tries_give n first (suc m) r old new (between, before, tries, one) =
-    let earlier = tries_give n first m before old between tries in
-    (made_by one.refused.makes ∙ earlier.0, λ d. given_no_more d (first + m) between new one.refused.makes one.refused.idle ∙ earlier.1 d)
+pub tries_give : (n : ℕ) (tries : List RefusedTry) (old new : Entry) → AreRefused n tries old new → (new.station ≡ old.station) × ((d : ℕ) → grants_in d new.trail ≡ grants_in d old.trail)
+tries_give n [] old new refused = (ap (λ (e : Entry). e.station) refused, λ d. ap (λ (e : Entry). grants_in d e.trail) refused)
+tries_give n (t ∷ tries) old new (between, earlier, refused, passed) =
+    let before = tries_give n tries old between earlier in
+    (refused.number ∙ before.0, λ d. given_no_more d t.node between new refused.makes refused.idle ∙ before.1 d)

@@ -3,13 +3,13 @@ use Rattle.std.proofs.Common.{◌≡◌, ℕ, zero, suc, ◌+◌, ◌-◌, ◌^�
 use Rattle.std.specs.Int.{trailing_zeros, w64}
 use Rattle.std.specs.List.{All}
 use Rattle.std.proofs.lemmas.Bool.{cases_eq}
+use Rattle.std.proofs.lemmas.List.Elements.{All-nil, All-push}
 use Rattle.std.proofs.lemmas.Nat.{pow_pos, pow_below}
 use Rattle.std.proofs.lemmas.Nat.Bits.{bit_at-pow_other, bit_at-trailing_zeros}
 use Rattle.atomic_table.specs.Seated.{TableId}
 use Rattle.cube_shape.specs.declared.region.Region.{Region}
 use Rattle.cube_shape.specs.Region.{IsAligned}
-use Rattle.cube_core.specs.Held.{region_at, dim_at}
-use Rattle.cube_core.proofs.RunningLemmas.{region_named}
+use Rattle.cube_core.specs.Held.{region_at}
 use Rattle.tree_steps.specs.declared.view.Entry.{Entry}
 use Rattle.tree_steps.specs.Rule.{idle_entries}
 use Rattle.tree_steps.specs.Tree.{id_of}
@@ -17,12 +17,11 @@ use Rattle.cube_tree.specs.declared.handles.Cube.{Cube}
 use Rattle.cube_tree.specs.declared.handles.Station.{Station}
 use Rattle.cube_tree.specs.declared.handles.Subcube.{Subcube}
 use Rattle.cube_tree.specs.declared.refusal.Refusal.{Refusal}
-use Rattle.cube_tree.specs.Handles.{cube_dim, cube_size, station_entry, subcube_entry, held_node, held_region, IsStationOf, IsSubcubeOf, GivesBack}
-use Rattle.cube_tree.specs.Tries.{TakesOne, IsRefusedAll}
-use Rattle.cube_tree.proofs.TryLemmas.{node_of_level}
+use Rattle.cube_tree.specs.Handles.{cube_dim, cube_size, station_entry, subcube_entry, held_node, held_region, IsStationOf, IsSubcubeOf, IsSameSubcube, GivesBack}
+use Rattle.cube_tree.specs.Search.{TakesNext, IsRefusedEach}
 use Rattle.tree_floor.specs.Grants.{grants_in, dim_of, station_grants, subcube_grants}
 use Rattle.tree_floor.specs.Inner.Handle.{floor_id, IsStation, IsHeld}
-use Rattle.tree_floor.proofs.GrantLemmas.{given_more, given_back, made_by, tries_give}
+use Rattle.tree_floor.proofs.GrantLemmas.{given_more, given_back, tries_give}
 
 -- ---- the dimension of a machine, from the number of its words
 
@@ -55,59 +54,49 @@ held_table cube subcube of_floor = sym (ap (λ tables. get_or tables 0 (id_of cu
 
 -- ---- takes
 
--- a node of the level of the regions of dimension k names such a region
-region_of_level : (n k m : ℕ) → k ≤ n → m < 2 ^ (n - k) → IsAligned n (region_at n (2 ^ (n - k) + m)) × ((region_at n (2 ^ (n - k) + m)).dim ≡ k)
-region_of_level n k m le below =
-    let node = node_of_level n k m le below in
-    let named = region_named n (2 ^ (n - k) + m) node.0 in
-    let level : n - dim_at n (2 ^ (n - k) + m) ≡ n - k = node.1 in
-    ((named.0, (named.1.0, named.1.1, named.1.2)), same n k (dim_at n (2 ^ (n - k) + m)) le named.0 level)
-  where
-    same : (a b c : ℕ) → b ≤ a → c ≤ a → a - c ≡ a - b → c ≡ b
-    same a b c le_b le_c is = omega arith
-
-pub record Takes (cube : Cube) (k : ℕ) (station : Station) (subcube : Subcube) : Type 0 where
+pub record Takes (cube : Cube) (station : Station) (subcube : Subcube) : Type 0 where
   pub of_floor : IsHeld (floor_id cube) subcube
-  pub aligned : IsAligned (cube_dim cube) (held_region subcube)
-  pub dimension : (held_region subcube).dim ≡ k
   pub granted : subcube_grants subcube ≡ station_grants station ++ held_region subcube ∷ []
 
-pub takes : (cube : Cube) (k : ℕ) (station : Station) (subcube : Subcube) → k ≤ cube_dim cube → IsStation (floor_id cube) station → TakesOne cube (cube_dim cube - k) (station_entry station) subcube → Takes cube k station subcube
-takes cube k station subcube le of_floor t = record {
+pub takes : (cube : Cube) (j : ℕ) (station : Station) (subcube : Subcube) → IsStation (floor_id cube) station → TakesNext cube j (station_entry station) subcube → Takes cube station subcube
+takes cube j station subcube of_floor t = record {
   of_floor = record {
     table = ap (λ (table : TableId). table ∷ []) (sym t.taken.of_cube);
-    below = subst (λ number. number < (cube_size cube).stations) (sym (made_by t.taken.makes ∙ earlier.0)) of_floor.below;
+    below = subst (λ number. number < (cube_size cube).stations) (sym (t.taken.number ∙ earlier.0)) of_floor.below;
+    granted = subst (All (IsAligned n)) (sym more) (All-push (IsAligned n) (station_grants station) (held_region subcube) of_floor.granted t.taken.aligned);
   };
-  aligned = subst (IsAligned (cube_dim cube)) (sym t.taken.region_is) level.0;
-  dimension = ap (λ (r : Region). r.dim) t.taken.region_is ∙ level.1;
-  granted =
-      ap (λ n. grants_in n (subcube_entry subcube).trail) (dim_of_cube cube _ t.taken.of_cube)
-      ∙ given_more n (2 ^ (n - k) + t.m) t.between (subcube_entry subcube) t.taken.makes t.taken.holds
-      ∙ ap (λ regions. regions ++ region_at n (2 ^ (n - k) + t.m) ∷ []) (earlier.1 n ∙ ap (λ d. grants_in d (station_entry station).trail) (sym (dim_of_cube cube _ (own_table cube station of_floor))))
-      ∙ ap (λ (r : Region). station_grants station ++ r ∷ []) (sym t.taken.region_is);
+  granted = more;
 }
   where
     n : ℕ
     n = cube_dim cube
 
     earlier : (t.between.station ≡ (station_entry station).station) × ((d : ℕ) → grants_in d t.between.trail ≡ grants_in d (station_entry station).trail)
-    earlier = tries_give (cube_dim cube) (2 ^ (cube_dim cube - k)) t.m t.before (station_entry station) t.between t.tries
+    earlier = tries_give (cube_dim cube) t.tries (station_entry station) t.between t.searches.refused
 
-    level : IsAligned (cube_dim cube) (region_at (cube_dim cube) (2 ^ (cube_dim cube - k) + t.m)) × ((region_at (cube_dim cube) (2 ^ (cube_dim cube - k) + t.m)).dim ≡ k)
-    level = region_of_level (cube_dim cube) k t.m le t.there
+    more : subcube_grants subcube ≡ station_grants station ++ held_region subcube ∷ []
+    more =
+        ap (λ n. grants_in n (subcube_entry subcube).trail) (dim_of_cube cube _ t.taken.of_cube)
+        ∙ given_more n (held_node subcube) t.between (subcube_entry subcube) t.taken.makes t.taken.holds
+        ∙ ap (λ regions. regions ++ region_at n (held_node subcube) ∷ []) (earlier.1 n ∙ ap (λ d. grants_in d (station_entry station).trail) (sym (dim_of_cube cube _ (own_table cube station of_floor))))
+        ∙ ap (λ (r : Region). station_grants station ++ r ∷ []) (sym t.taken.region_is)
 
 -- where all tries were refused the station is as it was
-pub stays : (cube : Cube) (j : ℕ) (old new : Station) (r : Refusal) → IsStation (floor_id cube) old → IsStationOf cube new → IsRefusedAll (cube_dim cube) j (station_entry old) (station_entry new) r → IsStation (floor_id cube) new × (station_grants new ≡ station_grants old)
+pub stays : (cube : Cube) (j : ℕ) (old new : Station) (r : Refusal) → IsStation (floor_id cube) old → IsStationOf cube new → IsRefusedEach (cube_dim cube) j (station_entry old) (station_entry new) r → IsStation (floor_id cube) new × (station_grants new ≡ station_grants old)
 stays cube j old new r of_floor back t = (
   record {
     table = ap (λ (table : TableId). table ∷ []) (sym back);
     below = subst (λ number. number < (cube_size cube).stations) (sym kept.0) of_floor.below;
+    granted = subst (All (IsAligned (cube_dim cube))) (sym same) of_floor.granted;
   },
-  ap (λ (table : TableId). grants_in (dim_of table) (station_entry new).trail) (back ∙ sym (own_table cube old of_floor)) ∙ kept.1 (dim_of old.seat.table_id),
+  same,
 )
   where
     kept : ((station_entry new).station ≡ (station_entry old).station) × ((d : ℕ) → grants_in d (station_entry new).trail ≡ grants_in d (station_entry old).trail)
-    kept = tries_give (cube_dim cube) (2 ^ j) (2 ^ j) r (station_entry old) (station_entry new) t.tries
+    kept = tries_give (cube_dim cube) t.tries (station_entry old) (station_entry new) t.searches.refused
+
+    same : station_grants new ≡ station_grants old
+    same = ap (λ (table : TableId). grants_in (dim_of table) (station_entry new).trail) (back ∙ sym (own_table cube old of_floor)) ∙ kept.1 (dim_of old.seat.table_id)
 
 -- ---- releases
 
@@ -115,10 +104,26 @@ pub comes_back : (cube : Cube) (held : Subcube) (station : Station) → IsHeld (
 comes_back cube held station of_floor back = (
   record {
     table = ap (λ (table : TableId). table ∷ []) (sym back.of_cube);
-    below = subst (λ number. number < (cube_size cube).stations) (sym (made_by back.makes)) of_floor.below;
+    below = subst (λ number. number < (cube_size cube).stations) (sym back.number) of_floor.below;
+    granted = subst (All (IsAligned (cube_dim cube))) (sym same) of_floor.granted;
   },
-  ap (λ (table : TableId). grants_in (dim_of table) (station_entry station).trail) (back.of_cube ∙ sym (held_table cube held of_floor)) ∙ given_back (dim_of held.seat.table_id) (held_node held) (subcube_entry held) (station_entry station) back.makes back.idle,
+  same,
 )
+  where
+    same : station_grants station ≡ subcube_grants held
+    same = ap (λ (table : TableId). grants_in (dim_of table) (station_entry station).trail) (back.of_cube ∙ sym (held_table cube held of_floor)) ∙ given_back (dim_of held.seat.table_id) (held_node held) (subcube_entry held) (station_entry station) back.makes back.idle
+
+-- ---- a comparison
+
+pub stays_held : (cube : Cube) (old new : Subcube) → IsHeld (floor_id cube) old → IsSameSubcube old new → IsHeld (floor_id cube) new
+stays_held cube old new of_floor same = record {
+  table = of_floor.table ∙ ap (λ (table : TableId). table ∷ []) (sym same.table);
+  below = subst (λ (e : Entry). e.station < (cube_size cube).stations) (sym same.entry) of_floor.below;
+  granted = subst (All (IsAligned (cube_dim cube))) (sym kept) of_floor.granted;
+}
+  where
+    kept : subcube_grants new ≡ subcube_grants old
+    kept = ap (λ (table : TableId). grants_in (dim_of table) (subcube_entry new).trail) same.table ∙ ap (λ (e : Entry). grants_in (dim_of old.seat.table_id) e.trail) same.entry
 
 -- ---- the opening
 
@@ -138,11 +143,18 @@ fresh_at a (suc count) most (suc i) (s ∷ list) d le is below = fresh_at (suc a
     tail [] = []
     tail (e ∷ es) = es
 
+pub opened_grants : (count : ℕ) (list : List Station) → map station_entry list ≡ idle_entries 0 count → All (λ s. station_grants s ≡ []) list
+opened_grants count list idle = λ i d below. ap (grants_in (dim_of (get_or list i d).seat.table_id)) (fresh_at 0 count count i list d (omega arith) idle below).trail
+
 pub opened_stations : (cube : Cube) (count : ℕ) (list : List Station) → (cube_size cube).stations ≡ count → All (IsStationOf cube) list → map station_entry list ≡ idle_entries 0 count → All (IsStation (floor_id cube)) list
 opened_stations cube count list size of_cube idle = λ i d below. record {
   table = ap (λ (table : TableId). table ∷ []) (sym (of_cube i d below));
   below = subst (λ most. (station_entry (get_or list i d)).station < most) (sym size) (fresh_at 0 count count i list d (omega arith) idle below).below;
+  granted = subst (All (IsAligned (cube_dim cube))) (sym (opened_grants count list idle i d below)) (All-nil (IsAligned (cube_dim cube)));
 }
 
-pub opened_grants : (count : ℕ) (list : List Station) → map station_entry list ≡ idle_entries 0 count → All (λ s. station_grants s ≡ []) list
-opened_grants count list idle = λ i d below. ap (grants_in (dim_of (get_or list i d).seat.table_id)) (fresh_at 0 count count i list d (omega arith) idle below).trail
+-- ---- the end
+
+-- each region that a station of the floor was given is aligned
+pub closed_grants : (cube : Cube) (list : List Station) → All (IsStation (floor_id cube)) list → All (λ s. All (IsAligned (cube_dim cube)) (station_grants s)) list
+closed_grants cube list of_floor = λ i d below. (of_floor i d below).granted

@@ -1,2 +1,3 @@
 pub mod Grants
+pub mod Roll
 pub mod Inner

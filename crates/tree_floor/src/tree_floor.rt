@@ -27,6 +27,7 @@ impl Floor for TreeFloor {
     ghost use Rattle.cube_tree.specs.Handles.{held_region as region_of_held};
     ghost use Rattle.cube_tree.specs.Ends.{machine_dim as dim_of_machine, machine_words as words_of_machine};
     ghost use Rattle.tree_floor.specs.Grants.{station_grants, subcube_grants};
+    ghost use Rattle.tree_floor.specs.Roll.{HasWholeRoll};
     ghost use Rattle.tree_floor.specs.Inner.Handle.{floor_id, IsStation, IsHeld};
 
     ghost id = { λ floor. floor_id floor.cube };
@@ -44,6 +45,8 @@ impl Floor for TreeFloor {
     ghost machine_dim = { dim_of_machine };
 
     ghost machine_words = { words_of_machine };
+
+    ghost is_closed = { HasWholeRoll };
 
     fn open(alloc: Global, n: u32, stations: u32) -> Result<(TreeFloor, Vec<Station>), AllocError>
         requires dim { n ≤ MAX_DIM }
@@ -66,7 +69,7 @@ impl Floor for TreeFloor {
         let mut station = station;
         let backoff = Backoff::new();
         for _ in rt.forever() {
-            match station.try_take(&self.cube, k) {
+            match station.try_take_skipping(&self.cube, k) {
                 Ok(subcube) => return subcube,
                 Err((back, _)) => station = back,
             }
@@ -90,6 +93,9 @@ impl Floor for TreeFloor {
     fn close(self, stations: Vec<Station>) -> FreeMachine
         requires of_floor { All (IsStation (floor_id self.cube)) stations.items }
         requires all { length stations.items ≡ (floor_id self.cube).stations }
+        ensures granted { All (λ s. All (IsAligned (floor_id self.cube).dim) (station_grants s))
+            stations.items }
+        ensures closed { HasWholeRoll (floor_id self.cube).stations result }
         ensures dim { dim_of_machine result ≡ (floor_id self.cube).dim }
         ensures free { IsWhollyFree (floor_id self.cube).dim (words_of_machine result) }
     {

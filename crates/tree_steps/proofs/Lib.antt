@@ -1,8 +1,10 @@
 pub mod RuleLemmas
 pub mod EventLemmas
 pub mod WalkLemmas
+mod ClosedLemmas
 pub mod SeatLemmas
 pub mod BoundLemmas
 pub mod OnceLemmas
 pub mod AloneLemmas
+mod ReadLemmas
 mod TreeLemmas

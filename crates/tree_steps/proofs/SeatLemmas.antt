@@ -25,6 +25,7 @@ use Rattle.tree_steps.specs.declared.view.Size.{Size}
 use Rattle.tree_steps.specs.Rule.{first, others, times, world_after, IsEntryOf, WasRoll, IsView, IsRuled, idle_entry, idle_entries, first_view}
 use Rattle.tree_steps.specs.Steps.{Known, KeepsLoad, AreOffPath, IsOffAll, first_alone, without_first, only_first, without_stations, joined, blank}
 use Rattle.tree_steps.specs.Alone.{AreAllAtRest, Turns, picked, unpicked, turned_to}
+use Rattle.tree_steps.proofs.ClosedLemmas.{closed_world}
 use Rattle.tree_steps.proofs.RuleLemmas.{times-append, times_here, times_at, times_in-set, times_in-append, view_at}
 
 -- ---- the opening
@@ -325,6 +326,17 @@ closes k t id v roll earlier ruled me loads whole node positive =
     was : WasRoll k ruled.acts roll
     was = All-head (WasRoll k ruled.acts) roll earlier (subst (All (WasRoll k ruled.acts)) loads (view_at (IsView k ruled.acts) t.views id v me ruled.views).loads)
 
+-- and the roll is what that load found
+pub roll_stays : (k : Size) (t : Table (Unit {0}) View) (id : ℕ) (v : View) (roll : ℕ) (earlier : List ℕ) → IsRuled k t → get_elem? t.views id ≡ some v → v.loads ≡ roll ∷ earlier → ((s : ℕ) → s < k.stations → IsSet roll s) → get_or t.words 0 0 ≡ roll
+roll_stays k t id v roll earlier ruled me loads whole =
+    ap (λ ws. get_or ws 0 0) ruled.words
+    ∙ ap (λ acts. word_of (world_after k acts) 0) was.split
+    ∙ ap (λ w. word_of w 0) (closed_world k was.later was.earlier (λ s below. subst (λ w. IsSet w s) (sym was.found) (whole s below)))
+    ∙ was.found
+  where
+    was : WasRoll k ruled.acts roll
+    was = All-head (WasRoll k ruled.acts) roll earlier (subst (All (WasRoll k ruled.acts)) loads (view_at (IsView k ruled.acts) t.views id v me ruled.views).loads)
+
 -- words that are copied one by one
 read_at : (words : List ℕ) (i x : ℕ) → get_elem? words i ≡ some x → get_or words i 0 ≡ x
 read_at [] i x at = absurd (some-ne-none x (sym at))
@@ -336,6 +348,10 @@ copied_more room words i x there at had k below = elim (cases_eq k i) [
   | inl here ↦ ap (λ j. get_or (set room i x) j 0) here ∙ get_or-set_same room i x 0 there ∙ sym (read_at words i x at) ∙ ap (λ j. get_or words j 0) (sym here)
   | inr other ↦ get_or-set_other room i k x 0 other ∙ had k (omega arith)
 ]
+
+-- a word that is copied
+pub copied_one : (room words : List ℕ) (n i x : ℕ) → length room ≤ n → i < length room → ((k : ℕ) → k < n → slice_index room k ≡ slice_index words k) → get_or words i 0 ≡ x → slice_index room i ≡ x
+copied_one room words n i x len there had is = had i (omega arith) ∙ is
 
 pub copied_all : (room words : List ℕ) (n : ℕ) → length room ≤ n → ((k : ℕ) → k < n → slice_index room k ≡ slice_index words k) → (node : ℕ) → get_or words node 0 ≡ 0 → slice_index room node ≡ 0
 copied_all room words n len had node none = elim (cases_lt node n) [

@@ -1,12 +1,13 @@
 -- What a seat that has all stations learns of a word, and how the record of one of them comes first.
-use Rattle.std.specs.Prelude.{◌≡◌, ◌≢◌, ℕ, ◌<◌, ◌≤◌, ◌==◌, if◌then◌else◌, true, ◌⊎◌, List, [], ◌∷◌, ◌++◌, All, Any}
-use Rattle.cube_shape.specs.Node.{OnPath}
-use Rattle.status_word.specs.Word.{IsOccupied, IsFree, IsInUse}
+use Rattle.std.specs.Prelude.{◌≡◌, ◌≢◌, ℕ, ◌<◌, ◌≤◌, ◌==◌, if◌then◌else◌, true, ◌⊎◌, ◌↔◌, List, [], ◌∷◌, ◌++◌, All, Any}
+use Rattle.cube_shape.specs.declared.node.Side.{Side}
+use Rattle.cube_shape.specs.Node.{OnPath, child_of}
+use Rattle.status_word.specs.Word.{IsOccupied, HasSide, IsFree, IsInUse}
 use Rattle.cube_core.specs.declared.phase.Phase.TheVariants.{Looking, Holding}
 use Rattle.cube_core.specs.Phase.{IsAtRest, IsEngagedAt, IsMarkedAt, Owns}
 use Rattle.tree_steps.specs.declared.view.Entry.{Entry}
 use Rattle.tree_steps.specs.Rule.{others, times}
-use Rattle.tree_steps.specs.Steps.{Known, Telling, begin, step_at}
+use Rattle.tree_steps.specs.Steps.{Known, Telling, begin, first_of, step_at}
 
 -- all stations are known to be with this seat, all but the first of them at rest
 abbrev pub IsAlone : Known → Type 0
@@ -15,6 +16,23 @@ IsAlone m = m.0.alone ≡ true
 -- one of these stations holds a node that is on the path to v, or v is on the path to that node
 abbrev pub IsBlocked : ℕ → List Entry → Type 0
 IsBlocked v entries = Any (λ e. (h : ℕ) × (e.phase ≡ Holding h) × (OnPath v h ⊎ OnPath h v)) entries
+
+-- one of these stations holds the node v
+abbrev pub HasHolder : ℕ → List Entry → Type 0
+HasHolder v entries = Any (λ e. e.phase ≡ Holding v) entries
+
+-- what the word found at node v says of these stations, where they are all that there are and at rest
+pub record TellsWord (v found : ℕ) (entries : List Entry) : Type 0 where
+  -- it is 0 exactly where none holds v or a node under it
+  pub zero : (found ≡ 0) ↔ ((h : ℕ) → OnPath v h → HasHolder h entries → ⊥)
+  -- it is not occupied exactly where none holds v
+  pub unoccupied : (IsOccupied found → ⊥) ↔ (HasHolder v entries → ⊥)
+  -- it has the side of each child at which, or under which, one holds a node
+  pub sides : (side : Side) (h : ℕ) → OnPath (child_of v side) h → HasHolder h entries → HasSide side found
+
+-- a load that changes nothing, and tells a seat that has all stations, at rest, what the word says of them
+abbrev pub tells_word : Telling
+tells_word step before found after = (after ≡ before) × (IsAlone before → IsAtRest (first_of before).phase → 0 < step.word → TellsWord step.word found before.0.stations)
 
 -- what the word found at node v says of the stations, where these are all that there are
 pub record MeansWord (v found : ℕ) (entries : List Entry) : Type 0 where

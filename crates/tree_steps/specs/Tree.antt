@@ -1,5 +1,5 @@
 -- What contracts say of a tree: which table its words are, and its size.
-use Rattle.std.specs.Prelude.{ℕ}
+use Rattle.std.specs.Prelude.{ℕ, List}
 use Rattle.atomic_table.specs.Seated.{TableId}
 use Rattle.tree_steps.specs.declared.tree.Tree.{Tree}
 use Rattle.tree_steps.specs.declared.view.Size.{Size}
@@ -12,6 +12,10 @@ size_of tree = tree.size
 
 abbrev pub dim_of : Tree → ℕ
 dim_of tree = (size_of tree).dim
+
+-- the words as they were last read
+abbrev pub read_words : Tree → List ℕ
+read_words tree = tree.room.items
 
 abbrev pub station_count : Tree → ℕ
 station_count tree = (size_of tree).stations

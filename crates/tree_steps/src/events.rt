@@ -2,54 +2,27 @@
 ghost use Rattle.std.specs.Prelude.{◌≡◌, ◌≢◌, ℕ, ◌+◌, ◌*◌, ◌^◌, ◌<◌, MatchOption, MatchBool, IfNone};
 ghost use Rattle.std.specs.Bool.{OnFalse};
 ghost use Rattle.cube_shape.specs.Node.{IsInCube, OnPath};
-ghost use Rattle.status_word.specs.Word.{mark_bit, side_bit};
-ghost use Rattle.cube_core.specs.Event.{phase_after_raise, phase_after_zero, seen_at};
+ghost use Rattle.cube_core.specs.Event.{phase_after_raise, phase_after_zero};
 ghost use Rattle.tree_steps.specs.Steps.{IsAt, Walks, Answered, begin, first_of, retire_at};
 ghost use Rattle.tree_steps.specs.Rule.{others};
-ghost use Rattle.tree_steps.specs.Alone.{IsAlone, IsBlocked};
+ghost use Rattle.tree_steps.specs.Alone.{IsAlone, IsBlocked, HasHolder};
 ghost use Rattle.tree_steps.specs.Tree.{id_of, dim_of};
 
 use crate::rule::{Learn, Look, Next, Retire, Zero};
 use crate::tree::{Seat, Tree};
 use cube_core::{Kind, Note, Phase, Seen};
-use cube_shape::{MAX_STATIONS, Node, Side, child_towards, side};
+use cube_shape::{MAX_STATIONS, Node, child_towards, side};
 use status_word::Word;
 
-// The bits of use, and those of one side and of one mark.
-const USE_BITS: u64 = 7;
+// The bits of use: all that stays of a word whose marks go.
+const USE_BITS: u64 = Word::BUSY.0;
 
-fn bit_of_side(side: Side) -> u64
-    ensures { result ≡ 2 ^ side_bit side }
-{
-    match side {
-        Side::Left => 2,
-        Side::Right => 4,
-    }
-}
-
-fn bit_of_mark(station: u32) -> u64
-    requires { station < MAX_STATIONS }
-    ensures { result ≡ 2 ^ mark_bit station }
-{
-    1 << (8 + station)
-}
-
+// The bit of a station in the roll, which is no status word.
 fn bit_of_retirement(station: u32) -> u64
     requires { station < MAX_STATIONS }
     ensures { result ≡ 2 ^ station }
 {
     1 << station
-}
-
-// What a station sees of a child whose word this is.
-fn see(word: u64) -> Seen
-    ensures { result ≡ seen_at word }
-{
-    if Word(word).is_free() {
-        Seen::Free
-    } else {
-        Seen::Used
-    }
 }
 
 impl Tree {
@@ -122,11 +95,14 @@ impl Tree {
             (IsAt seat.new.me (Phase.Backing node at)) }
         ensures refused { OnFalse result (Answered Kind.Raise at Note.Under (first_of seat.old.me)
             (first_of seat.new.me)) }
-        ensures exact { IsAlone seat.old.me
-            → OnFalse result (IsBlocked node (others seat.old.me.0.stations)) }
+        ensures holder { IsAlone seat.old.me
+            → OnFalse result (HasHolder at (others seat.old.me.0.stations)) }
     {
-        let bit = bit_of_side(side(child_towards(Node(at), Node(node))));
-        let found = self.table.shared.fetch_or::<Learn>(seat, at as usize, bit);
+        let bit = Word::side_mask(side(child_towards(Node(at), Node(node))));
+        let found = self
+            .table
+            .shared
+            .fetch_or::<Learn>(seat, at as usize, bit.0);
         !Word(found).is_occupied()
     }
 
@@ -179,12 +155,12 @@ impl Tree {
         ensures phase { MatchOption result (IsAt seat.new.me Phase.Idle)
             (λ word. IsAt seat.new.me (Phase.Marked at word Seen.NotYet Seen.NotYet)) }
     {
-        let bit = bit_of_mark(station);
-        let found = self.table.shared.fetch_or::<Next>(seat, at as usize, bit);
+        let bit = Word::mark_mask(station);
+        let found = self.table.shared.fetch_or::<Next>(seat, at as usize, bit.0);
         if Word(found).is_occupied() {
             None
         } else {
-            Some(found | bit)
+            Some(found | bit.0)
         }
     }
 
@@ -198,7 +174,7 @@ impl Tree {
         ensures phase { IsAt seat.new.me (Phase.Marked at _word result Seen.NotYet) }
         ensures seen { result ≢ Seen.NotYet }
     {
-        see(self.table.shared.load::<Next>(seat, 2 * at as usize))
+        Seen::of(Word(self.table.shared.load::<Next>(seat, 2 * at as usize)))
     }
 
     /// A load of the right child, once the left one was seen.
@@ -212,7 +188,7 @@ impl Tree {
         ensures phase { IsAt seat.new.me (Phase.Marked at _word _left result) }
         ensures seen { result ≢ Seen.NotYet }
     {
-        see(self.table.shared.load::<Next>(seat, 2 * at as usize + 1))
+        Seen::of(Word(self.table.shared.load::<Next>(seat, 2 * at as usize + 1)))
     }
 
     /// One exchange of the word that the mark made for the word without its marks and without each

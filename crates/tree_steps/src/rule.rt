@@ -1,7 +1,7 @@
 //! The rule of the table, what its steps tell, and how its seats are cut and joined.
 ghost use Rattle.tree_steps.specs.Rule.{IsRuled, first_view};
 ghost use Rattle.tree_steps.specs.Steps.{makes_next, makes_zero, makes_retirement, keeps_load, tells_apart, without_first, only_first, without_stations, joined, blank};
-ghost use Rattle.tree_steps.specs.Alone.{makes_look, learns_next, makes_turn};
+ghost use Rattle.tree_steps.specs.Alone.{makes_look, learns_next, makes_turn, tells_word};
 
 use crate::view::{Size, View};
 use atomic_table::{Join, Play, Split, TableRule};
@@ -64,6 +64,13 @@ pub struct Compare;
 
 impl Play<(), View> for Compare {
     ghost then = { tells_apart };
+}
+
+/// A load that tells a seat that has all stations, all of them at rest, what a word says of them.
+pub struct Tell;
+
+impl Play<(), View> for Tell {
+    ghost then = { tells_word };
 }
 
 /// The record of a station of a seat that has all stations, all of them at rest, comes first.

@@ -1,12 +1,13 @@
 //! Seats are made, cut and joined, the roll is loaded, and the tree is closed.
-ghost use Rattle.std.specs.Prelude.{◌≡◌, ℕ, ◌+◌, ◌^◌, ◌<◌, ◌≤◌, [], length, slice_index, vec_len, IfOk};
+ghost use Rattle.std.specs.Prelude.{◌≡◌, ℕ, ◌+◌, ◌^◌, ◌<◌, ◌≤◌, List, [], ◌∷◌, length, slice_index, vec_len, IfOk};
 ghost use Rattle.tree_steps.specs.Rule.{first_view};
-ghost use Rattle.tree_steps.specs.Steps.{KeepsLoad, IsOffAll, HasWholeRoll, joined, only_first, without_first, without_stations};
-ghost use Rattle.tree_steps.specs.Alone.{AreAllAtRest, Turns};
-ghost use Rattle.tree_steps.specs.Tree.{id_of, dim_of, size_of, station_count};
-ghost use Rattle.cube_shape.specs.Node.{IsInCube};
+ghost use Rattle.tree_steps.specs.Steps.{KeepsLoad, IsOffAll, first_of, HasWholeRoll, joined, only_first, without_first, without_stations};
+ghost use Rattle.cube_core.specs.Phase.{IsAtRest};
+ghost use Rattle.tree_steps.specs.Alone.{AreAllAtRest, IsAlone, TellsWord, Turns};
+ghost use Rattle.tree_steps.specs.Tree.{id_of, dim_of, size_of, read_words, station_count};
+ghost use Rattle.cube_shape.specs.Node.{IsInCube, OnPath};
 
-use crate::rule::{Compare, CopyLoads, CutFirst, LoadRoll, Merge, Turn};
+use crate::rule::{Compare, CopyLoads, CutFirst, LoadRoll, Merge, Tell, Turn};
 use crate::tree::{Seat, Tree};
 use crate::view::Size;
 use atomic_table::Table;
@@ -21,6 +22,7 @@ impl Tree {
         ensures size { IfOk result (λ made. size_of made.0 ≡ size) }
         ensures seat { IfOk result (λ made. made.1.table_id ≡ id_of made.0) }
         ensures view { IfOk result (λ made. made.1.me ≡ (first_view size, [])) }
+        ensures unread { IfOk result (λ made. (v : ℕ) → slice_index (read_words made.0) v ≡ 0) }
     {
         let room = vec![in alloc; 0; 1 << (size.dim + 1)]?;
         let (table, seat) = Table::of_words(alloc, &room, &size)?;
@@ -94,20 +96,44 @@ impl Tree {
 
     /// The words as they were last read: word `v` is that of node `v`.
     pub fn words(&self) -> &[u64]
-        ensures { length result.now ≡ 2 ^ (dim_of self.now + 1) }
+        ensures words { result.now ≡ read_words self.now }
+        ensures len { length result.now ≡ 2 ^ (dim_of self.now + 1) }
     {
         &self.room
     }
 
-    /// Reads the words of a node and of its ancestors.
-    pub fn read_path(&mut self, node: u64)
-        requires { IsInCube (dim_of self.old) node }
+    // A load of a node's word, which changes nothing. A seat that has all stations, all of them at rest,
+    // learns what the word says of them.
+    fn read(&self, seat: &mut Seat, node: u64) -> u64
+        requires seat { seat.old.table_id ≡ id_of self.now }
+        requires node { IsInCube (dim_of self.now) node }
+        ensures seat { seat.new.table_id ≡ seat.old.table_id }
+        ensures same { seat.new.me ≡ seat.old.me }
+        ensures word { IsAlone seat.old.me → IsAtRest (first_of seat.old.me).phase
+            → TellsWord node result seat.old.me.0.stations }
+    {
+        self.table.shared.load::<Tell>(seat, node as usize)
+    }
+
+    /// Reads the words of a node and of its ancestors, and no other. A seat that has all stations, all
+    /// of them at rest, learns what these words say of them.
+    pub fn read_path(&mut self, seat: &mut Seat, node: u64)
+        requires seat { seat.old.table_id ≡ id_of self.old }
+        requires node { IsInCube (dim_of self.old) node }
         ensures table { id_of self.new ≡ id_of self.old }
         ensures size { size_of self.new ≡ size_of self.old }
+        ensures seat { seat.new.table_id ≡ seat.old.table_id }
+        ensures same { seat.new.me ≡ seat.old.me }
+        ensures path { IsAlone seat.old.me → IsAtRest (first_of seat.old.me).phase
+            → (v : ℕ) → OnPath v node
+            → TellsWord v (slice_index (read_words self.new) v) seat.old.me.0.stations }
+        ensures others { (v : ℕ) → (OnPath v node → ⊥)
+            → slice_index (read_words self.new) v ≡ slice_index (read_words self.old) v }
     {
         let mut at = node;
         while at > 0 {
-            self.room[at as usize] = self.table.shared.peek(at as usize);
+            let word = self.read(seat, at);
+            self.room[at as usize] = word;
             at /= 2;
         }
     }
@@ -121,12 +147,15 @@ impl Tree {
         self.table.shared.load::<LoadRoll>(seat, 0)
     }
 
-    /// The words at the end, once a load of the roll has found the bit of each station.
+    /// The words at the end, once a load of the roll has found the bit of each station. No word has
+    /// changed since that load.
     pub fn close(self, seat: Seat) -> Vec<u64>
         requires seat { seat.table_id ≡ id_of self }
         requires retired { HasWholeRoll (station_count self) seat.me }
         ensures len { vec_len result ≡ 2 ^ (dim_of self + 1) }
         ensures nodes { (node : ℕ) → 0 < node → slice_index result.items node ≡ 0 }
+        ensures roll { (roll : ℕ) (earlier : List ℕ) → seat.me.0.loads ≡ roll ∷ earlier
+            → slice_index result.items 0 ≡ roll }
     {
         let Tree {
             table,

@@ -1,12 +1,12 @@
 //! Takes and releases, event by event.
-ghost use Rattle.std.specs.Prelude.{◌≡◌, ◌+◌, ◌*◌, ◌^◌, ◌<◌, MatchBool, MatchOption, MatchResult, IfSome, IfErr, OnErr, OnSome};
+ghost use Rattle.std.specs.Prelude.{◌≡◌, ◌+◌, ◌*◌, ◌^◌, ◌<◌, MatchBool, MatchOption, MatchResult, IfSome, IfErr, OnErr};
 ghost use Rattle.std.specs.Bool.{OnFalse};
 ghost use Rattle.cube_shape.specs.Node.{IsInCube, OnPath};
 ghost use Rattle.cube_core.specs.Event.{phase_after_raise, phase_after_zero};
 ghost use Rattle.tree_steps.specs.Steps.{IsAt, Walks, Answered, begin, first_of};
-ghost use Rattle.tree_steps.specs.Answer.{IsAnswered};
+ghost use Rattle.tree_steps.specs.Answer.{IsAnswered, ancestor_of};
 ghost use Rattle.tree_steps.specs.Rule.{others};
-ghost use Rattle.tree_steps.specs.Alone.{IsAlone, IsBlocked};
+ghost use Rattle.tree_steps.specs.Alone.{IsAlone, IsBlocked, HasHolder};
 ghost use Rattle.tree_steps.specs.Tree.{id_of, dim_of};
 
 use crate::tree::{Seat, Tree};
@@ -17,7 +17,7 @@ use cube_shape::{MAX_STATIONS, Node};
 impl Tree {
     /// One take of a node. Where an ancestor is occupied, the node is given back at once. With a seat
     /// that has all stations it is refused only where another one holds a node above it, at it or
-    /// under it.
+    /// under it; where an ancestor is named, another one holds this ancestor.
     pub fn take(&self, seat: &mut Seat, station: u32, node: u64) -> Result<(), Why>
         requires seat { seat.old.table_id ≡ id_of self.now }
         requires phase { IsAt seat.old.me Phase.Idle }
@@ -30,8 +30,12 @@ impl Tree {
             IsAt seat.new.me Phase.Idle) }
         ensures refused { IfErr result (λ why.
             IsAnswered why node (first_of seat.old.me) (first_of seat.new.me)) }
+        ensures names { IfErr result (λ why.
+            IfSome (ancestor_of why) (λ at. OnPath at node × (at < node))) }
         ensures exact { IsAlone seat.old.me
             → OnErr result (IsBlocked node (others seat.old.me.0.stations)) }
+        ensures holder { IsAlone seat.old.me → IfErr result (λ why.
+            IfSome (ancestor_of why) (λ at. HasHolder at (others seat.old.me.0.stations))) }
     {
         let Some(word) = self.look(seat, node) else {
             return Err(Why::InUse);
@@ -73,8 +77,9 @@ impl Tree {
             IsAt seat.new.me (Phase.Backing node at)) }
         ensures refused { IfSome result (λ at.
             Answered Kind.Raise at Note.Under (first_of seat.old.me) (first_of seat.new.me)) }
-        ensures exact { IsAlone seat.old.me
-            → OnSome result (IsBlocked node (others seat.old.me.0.stations)) }
+        ensures names { IfSome result (λ at. OnPath at node × (at < node)) }
+        ensures holder { IsAlone seat.old.me → IfSome result (λ at.
+            HasHolder at (others seat.old.me.0.stations)) }
     {
         let mut at = node;
         while at > 1 {
@@ -99,8 +104,8 @@ impl Tree {
             (IsAt seat.new.me (Phase.Backing node at)) }
         ensures refused { OnFalse result (Answered Kind.Raise at Note.Under (first_of seat.old.me)
             (first_of seat.new.me)) }
-        ensures exact { IsAlone seat.old.me
-            → OnFalse result (IsBlocked node (others seat.old.me.0.stations)) }
+        ensures holder { IsAlone seat.old.me
+            → OnFalse result (HasHolder at (others seat.old.me.0.stations)) }
     {
         self.sweep(seat, node, at);
         self.raise(seat, node, at)

@@ -4,19 +4,23 @@
 #![tactic(auto)]
 
 mod answering;
+mod any_floor;
 mod count;
 mod counting;
 mod extent;
 mod room;
 mod schedule;
 mod subcubes;
+mod tallied;
 mod two_regions;
 
 pub use answering::answer_and_count;
+pub use any_floor::hold_pair;
 pub use count::count_jobs;
 pub use counting::Counting;
 pub use extent::{Extent, share_extent};
 pub use room::has_room;
 pub use schedule::play;
 pub use subcubes::{hold_two, hold_two_and_close};
+pub use tallied::{Tallied, Tally};
 pub use two_regions::take_two;

@@ -1,22 +1,33 @@
 //! A caller of `cube_tree`.
 
 ghost use Rattle.std.specs.Prelude.{◌≡◌, ◌≤◌, IfSome, IfOk};
-ghost use Rattle.cube_shape.specs.Region.{AreApart};
+ghost use Rattle.cube_shape.specs.Region.{AreApart, IsAligned};
 ghost use Rattle.cube_tree.specs.Ends.{IsWhollyFree};
 ghost use Rattle.cube_tree.specs.Handles.{cube_dim, IsStationOf};
 
 use cube_shape::Region;
 use cube_tree::{Cube, FreeMachine, Station, StillOut, apart};
 
-/// Two stations hold a region of dimension `k` each at the same moment, give it back and retire.
-/// The regions that they held are apart; none are told where a take was refused.
-pub fn hold_two(cube: &Cube, first: Station, second: Station, k: u32) -> Option<(Region, Region)>
+/// Two stations hold a region of dimension `k` and one of dimension `l` at the same moment, give them
+/// back and retire. The regions that they held are aligned, of the dimensions asked, and apart; none are
+/// told where a take was refused.
+pub fn hold_two(
+    cube: &Cube,
+    first: Station,
+    second: Station,
+    k: u32,
+    l: u32,
+) -> Option<(Region, Region)>
     requires first { IsStationOf cube.now first }
     requires second { IsStationOf cube.now second }
     requires dim { k ≤ cube_dim cube.now }
-    ensures { IfSome result (λ held. AreApart held.0 held.1) }
+    requires other_dim { l ≤ cube_dim cube.now }
+    ensures apart { IfSome result (λ held. AreApart held.0 held.1) }
+    ensures aligned { IfSome result (λ held.
+        IsAligned (cube_dim cube.now) held.0 × IsAligned (cube_dim cube.now) held.1) }
+    ensures dimensions { IfSome result (λ held. (held.0.dim ≡ k) × (held.1.dim ≡ l)) }
 {
-    let subcube = match first.try_take(cube, k) {
+    let subcube = match first.try_take_skipping(cube, k) {
         Ok(subcube) => subcube,
         Err((first, _)) => {
             first.retire(cube);
@@ -24,7 +35,7 @@ pub fn hold_two(cube: &Cube, first: Station, second: Station, k: u32) -> Option<
             return None;
         }
     };
-    let other = match second.try_take(cube, k) {
+    let other = match second.try_take_skipping(cube, l) {
         Ok(other) => other,
         Err((second, _)) => {
             subcube.release(cube).retire(cube);
@@ -46,13 +57,15 @@ pub fn hold_two_and_close(
     first: Station,
     second: Station,
     k: u32,
+    l: u32,
 ) -> (Option<(Region, Region)>, Result<FreeMachine, StillOut>)
     requires first { IsStationOf cube first }
     requires second { IsStationOf cube second }
     requires dim { k ≤ cube_dim cube }
+    requires other_dim { l ≤ cube_dim cube }
     ensures apart { IfSome result.0 (λ held. AreApart held.0 held.1) }
     ensures free { IfOk result.1 (IsWhollyFree (cube_dim cube)) }
 {
-    let held = hold_two(&cube, first, second, k);
+    let held = hold_two(&cube, first, second, k, l);
     (held, cube.close())
 }

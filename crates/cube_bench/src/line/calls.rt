@@ -80,7 +80,7 @@ pub fn take<R: Wait + Clock, L: JobLine>(
     line: &L,
     pass: &mut L::Pass,
     times: &mut Option<Vec<u64>>,
-) -> Taken
+) -> Taken<L::End>
     requires { L.is_pass (L.id line.now) pass.old }
     ensures { L.is_pass (L.id line.now) pass.new }
 {

@@ -4,18 +4,19 @@ ghost use Rattle.std.specs.Prelude.{◌≡◌};
 ghost use Rattle.cube_tree.specs.Solo.{solo_dim};
 
 use crate::tree::lanes::DIM;
-use crate::tree::turns::{Sizes, dim_of};
+use crate::tree::turns::dim_of;
+use crate::tree::words::Workload;
 use alloc_bits::AllocBits;
 use cube_tree::{Cube, CubeRefused, Solo};
 use std::alloc::{AllocError, Global};
 
-// So many takes, each with its release: how many were given.
-fn solo_turns(solo: &mut Solo, sizes: Sizes, count: u64) -> u64
+// Takes, each with its release: how many were given.
+fn solo_turns(solo: &mut Solo, workload: Workload) -> u64
     requires { solo_dim solo.old ≡ 10 }
 {
     let mut given = 0u64;
-    for index in 0..count {
-        if let Ok(station) = solo.take(dim_of(sizes, 0, index)) {
+    for index in 0..workload.turns {
+        if let Ok(station) = solo.take(dim_of(workload.sizes, 0, index)) {
             solo.release(station);
             given = given.wrapping_add(1);
         }
@@ -24,12 +25,16 @@ fn solo_turns(solo: &mut Solo, sizes: Sizes, count: u64) -> u64
 }
 
 /// How many takes are given by a tree in one hand.
-pub fn given_by_solo(alloc: Global, sizes: Sizes, count: u64) -> Result<u64, CubeRefused> {
-    match Cube::open(alloc, DIM, 1) {
+pub fn given_by_solo(alloc: Global, workload: Workload) -> Result<u64, CubeRefused> {
+    let stations = if workload.beside_half { 2 } else { 1 };
+    match Cube::open(alloc, DIM, stations) {
         Err(why) => Err(why),
         Ok((cube, stations)) => match Solo::new(alloc, cube, stations) {
             Ok(mut solo) => {
-                let given = solo_turns(&mut solo, sizes, count);
+                if workload.beside_half {
+                    let _half = solo.take(DIM - 1);
+                }
+                let given = solo_turns(&mut solo, workload);
                 solo.close();
                 Ok(given)
             }
@@ -42,21 +47,24 @@ pub fn given_by_solo(alloc: Global, sizes: Sizes, count: u64) -> Result<u64, Cub
 }
 
 /// How many takes are given by the allocation bits.
-pub fn given_by_bits(alloc: Global, sizes: Sizes, count: u64) -> Result<u64, AllocError> {
+pub fn given_by_bits(alloc: Global, workload: Workload) -> Result<u64, AllocError> {
     let mut bits = AllocBits::new(alloc, DIM)?;
-    Ok(bit_turns(&mut bits, sizes, count))
+    if workload.beside_half {
+        let _half = bits.take(1, DIM - 1);
+    }
+    Ok(bit_turns(&mut bits, workload))
 }
 
-// So many takes, each with its release: how many were given.
-fn bit_turns(bits: &mut AllocBits, sizes: Sizes, count: u64) -> u64
+// Takes, each with its release: how many were given.
+fn bit_turns(bits: &mut AllocBits, workload: Workload) -> u64
     requires { bits.old.dim ≡ 10 }
 {
     let mut given = 0u64;
-    for index in 0..count {
+    for index in 0..workload.turns {
         if bits.holds(0) {
             return given;
         }
-        if bits.take(0, dim_of(sizes, 0, index)).is_ok() && bits.release(0).is_ok() {
+        if bits.take(0, dim_of(workload.sizes, 0, index)).is_ok() && bits.release(0).is_ok() {
             given = given.wrapping_add(1);
         }
     }

@@ -1,12 +1,12 @@
 //! A station on each thread.
-ghost use Rattle.std.specs.Prelude.{◌≡◌, ◌<◌, ◌≤◌, [], All, vec_len, vec_capacity};
+ghost use Rattle.std.specs.Prelude.{◌≡◌, ◌+◌, ◌<◌, ◌≤◌, [], All, MatchResult, vec_len, vec_capacity};
 ghost use Rattle.cube_shape.specs.declared.limits.TheConstants.{MAX_STATIONS};
-ghost use Rattle.cube_tree.specs.Handles.{cube_dim, IsStationOf};
+ghost use Rattle.cube_tree.specs.Handles.{cube_dim, IsStationOf, IsSubcubeOf};
 ghost use Rattle.cube_bench.specs.TreeLanes.{HasStation};
 
 use crate::tree::turns::turns;
-use crate::tree::words::Invocation;
-use cube_tree::{Cube, CubeRefused, Station, StillOut};
+use crate::tree::words::Workload;
+use cube_tree::{Cube, CubeRefused, Station, StillOut, Subcube};
 use std::alloc::Global;
 use std::sync::Wait;
 use std::thread::Threads;
@@ -23,13 +23,13 @@ struct Lane {
 }
 
 // The turns of the station of a lane, which has one before and after.
-fn run(cube: &Cube, invocation: Invocation, lane: &mut Lane)
+fn run(cube: &Cube, workload: Workload, lane: &mut Lane)
     requires station { HasStation cube.now lane.old }
     requires dim { cube_dim cube.now ≡ 10 }
     ensures { HasStation cube.now lane.new }
 {
     let station = lane.station.take().unwrap();
-    let (station, given) = turns(cube, station, invocation.sizes, invocation.turns);
+    let (station, given) = turns(cube, station, workload.sizes, workload.turns);
     lane.given = given;
     match mem::replace(&mut lane.station, Some(station)) {
         None => (),
@@ -38,7 +38,7 @@ fn run(cube: &Cube, invocation: Invocation, lane: &mut Lane)
 }
 
 // The turns of all lanes, each on a thread of its own.
-fn run_all<R: Threads + Sync>(rt: &R, cube: &Cube, invocation: Invocation, lanes: &mut [Lane])
+fn run_all<R: Threads + Sync>(rt: &R, cube: &Cube, workload: Workload, lanes: &mut [Lane])
     requires stations { All (HasStation cube.now) lanes.old }
     requires dim { cube_dim cube.now ≡ 10 }
     ensures { All (HasStation cube.now) lanes.new }
@@ -51,7 +51,7 @@ fn run_all<R: Threads + Sync>(rt: &R, cube: &Cube, invocation: Invocation, lanes
         &|_, lane|
             requires { HasStation cube.now lane.now × (cube_dim cube.now ≡ 10) }
             ensures { HasStation cube.entry.now lane.exit.now }
-        { run(cube, invocation, lane) },
+        { run(cube, workload, lane) },
     );
 }
 
@@ -79,12 +79,51 @@ fn retire_all(cube: &Cube, lanes: &mut Vec<Lane>) -> u64
     let mut sum = 0u64;
     while let Some(Lane { station, given }) = lanes.pop() {
         match station {
-            Some(station) => station.retire(cube),
+            Some(station) => {
+                station.retire(cube);
+            }
             None => (),
         }
         sum = sum.wrapping_add(given);
     }
     sum
+}
+
+// The last station of the list.
+fn last(cube: &Cube, list: &mut Vec<Station>) -> Station
+    requires of_cube { All (IsStationOf cube.now) list.old.items }
+    requires some { 0 < vec_len list.old }
+    ensures station { IsStationOf cube.now result }
+    ensures rest { All (IsStationOf cube.now) list.new.items }
+    ensures len { vec_len list.new + 1 ≡ vec_len list.old }
+{
+    list.pop().unwrap()
+}
+
+// The station that has no thread: it takes a half of the machine where the run is beside one.
+fn hold_half(cube: &Cube, station: Station, beside_half: bool) -> Result<Subcube, Station>
+    requires cube { IsStationOf cube.now station }
+    requires dim { cube_dim cube.now ≡ 10 }
+    ensures { MatchResult result (IsSubcubeOf cube.now) (IsStationOf cube.now) }
+{
+    if !beside_half {
+        return Err(station);
+    }
+    match station.try_take_skipping(cube, DIM - 1) {
+        Ok(subcube) => Ok(subcube),
+        Err((station, _)) => Err(station),
+    }
+}
+
+// It gives the half back and retires.
+fn leave(cube: &Cube, holder: Result<Subcube, Station>)
+    requires { MatchResult holder (IsSubcubeOf cube.now) (IsStationOf cube.now) }
+{
+    let station = match holder {
+        Ok(subcube) => subcube.release(cube),
+        Err(station) => station,
+    };
+    station.retire(cube);
 }
 
 // Closes a cube of which all stations have retired.
@@ -108,20 +147,24 @@ fn close(rt: &impl Wait, cube: Cube) {
 pub fn given_in<R: Threads + Wait + Sync>(
     rt: &R,
     alloc: Global,
-    invocation: Invocation,
+    threads: u32,
+    workload: Workload,
 ) -> Result<u64, CubeRefused>
-    requires some { 0 < invocation.threads }
-    requires few { invocation.threads ≤ MAX_STATIONS }
+    requires some { 0 < threads }
+    requires few { threads < MAX_STATIONS }
 {
-    let Ok(mut lanes) = Vec::with_capacity(alloc, invocation.threads as usize) else {
+    let Ok(mut lanes) = Vec::with_capacity(alloc, threads as usize) else {
         return Err(CubeRefused::OutOfMemory);
     };
-    match Cube::open(alloc, DIM, invocation.threads) {
+    match Cube::open(alloc, DIM, threads + 1) {
         Ok((cube, mut list)) => {
+            let holder = last(&cube, &mut list);
+            let holder = hold_half(&cube, holder, workload.beside_half);
             seat_all(&cube, &mut list, &mut lanes);
             list.destroy_empty();
-            run_all(rt, &cube, invocation, lanes.as_mut_slice());
+            run_all(rt, &cube, workload, lanes.as_mut_slice());
             let given = retire_all(&cube, &mut lanes);
+            leave(&cube, holder);
             lanes.destroy_empty();
             close(rt, cube);
             Ok(given)

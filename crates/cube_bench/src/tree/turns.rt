@@ -11,15 +11,18 @@ pub enum Sizes {
     Leaf,
     /// 0 to 5 in turn.
     Mixed,
+    /// 0 to 9 in turn.
+    Wide,
 }
 
 /// The dimension that a station asks for in a turn.
 pub fn dim_of(sizes: Sizes, number: u32, turn: u64) -> u32
-    ensures { result ≤ 5 }
+    ensures { result ≤ 9 }
 {
     match sizes {
         Sizes::Leaf => 0,
         Sizes::Mixed => (number % 6 + (turn % 6) as u32) % 6,
+        Sizes::Wide => (number % 10 + (turn % 10) as u32) % 10,
     }
 }
 
@@ -29,7 +32,7 @@ fn turn(cube: &Cube, station: Station, k: u32) -> (Station, bool)
     requires dim { k ≤ cube_dim cube.now }
     ensures { IsStationOf cube.now result.0 }
 {
-    match station.try_take(cube, k) {
+    match station.try_take_skipping(cube, k) {
         Ok(subcube) => (subcube.release(cube), true),
         Err((station, _)) => (station, false),
     }

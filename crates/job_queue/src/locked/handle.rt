@@ -6,7 +6,7 @@ ghost use Rattle.job_queue.specs.Inner.Locked.Step.{IsLaneSeat, pass_in};
 use super::store_lock::Seat;
 
 /// The right to hand in jobs by one lane of a `LockedLine`.
-pub struct Lane {
+pub struct LockedLane {
     pub(crate) seat: Seat,
     pub(crate) number: u32,
     pub(crate) entries: u64,
@@ -14,25 +14,25 @@ pub struct Lane {
 }
 
 /// The right to take jobs of a `LockedLine`.
-pub struct Pass {
+pub struct LockedPass {
     pub(crate) seat: Seat,
     ghost known: { seat.me ≡ (pass_view seat.me.0.about (pass_in seat.me.0.passes), []) },
 }
 
 /// The right to close a `LockedLine`. There is one.
-pub struct Closer {
+pub struct LockedCloser {
     pub(crate) seat: Seat,
     ghost known: { seat.me ≡ (closer_view seat.me.0.about None, []) },
 }
 
 /// Shows that a `LockedLine` is closed.
-pub struct CloseNote {
+pub struct LockedNote {
     pub(crate) seat: Seat,
     pub(crate) number: u64,
     ghost known: { seat.me ≡ (closer_view seat.me.0.about (Some number), []) },
 }
 
-impl Lane {
+impl LockedLane {
     ghost use Rattle.job_queue.specs.Inner.Locked.Handle.{lane_record};
 
     /// The lane's number.
@@ -43,7 +43,7 @@ impl Lane {
     }
 }
 
-impl CloseNote {
+impl LockedNote {
     ghost use Rattle.job_queue.specs.Inner.Locked.Handle.{note_number};
 
     /// The close number: how many entries came before the close.

@@ -7,15 +7,15 @@ ghost use Rattle.job_queue.specs.Line.{next_id, GainsEntry, GainsRefusal, GainsR
 ghost use Rattle.job_queue.specs.Run.{WholeRun};
 ghost use Rattle.job_queue.specs.Inner.Locked.Handle.{line_id};
 
-use super::handle::{CloseNote, Closer, Lane, Pass};
+use super::handle::{LockedCloser, LockedLane, LockedNote, LockedPass};
 use super::members::{deal_lanes, deal_passes, gather_lanes, gather_passes};
-use super::store::Store;
+use super::store::{LockedEnd, Store};
 use super::store_lock::StoreLock;
-use crate::end::SawEnd;
 use crate::job_line::{
     JobLine, MAX_CAPACITY, MAX_ENTRIES, MAX_PASSES, Opened, Receipt, Refused, Rest, Sizes, Taken,
 };
 use crate::record::QueuedJob;
+use cube_shape::MAX_DIM;
 use job_types::{Job, MAX_LANES};
 use std::alloc::{AllocError, Global};
 use std::sync::Wait;
@@ -26,13 +26,15 @@ pub struct LockedLine {
 }
 
 impl JobLine for LockedLine {
-    type Lane = Lane;
+    type Lane = LockedLane;
 
-    type Pass = Pass;
+    type Pass = LockedPass;
 
-    type Closer = Closer;
+    type Closer = LockedCloser;
 
-    type Note = CloseNote;
+    type Note = LockedNote;
+
+    type End = LockedEnd;
 
     ghost use Rattle.job_queue.specs.Inner.Locked.Handle.{line_id, is_lane as IsLane, is_pass as IsPass, is_closer as IsCloser, is_note as IsNote, lane_record as record_of_lane, pass_record as record_of_pass, note_number as number_of_note};
 
@@ -52,18 +54,18 @@ impl JobLine for LockedLine {
 
     ghost note_number = { number_of_note };
 
-    fn lane_number(lane: &Lane) -> u32 {
+    fn lane_number(lane: &LockedLane) -> u32 {
         lane.number()
     }
 
-    fn close_number(note: &CloseNote) -> u64 {
+    fn close_number(note: &LockedNote) -> u64 {
         note.number()
     }
 
     fn submit<R: Wait>(
         &self,
         rt: &R,
-        lane: &mut Lane,
+        lane: &mut LockedLane,
         job: Job,
     ) -> Result<Receipt, (Job, Refused)> {
         if lane.entries >= MAX_ENTRIES {
@@ -87,7 +89,7 @@ impl JobLine for LockedLine {
         }
     }
 
-    fn take<R: Wait>(&self, rt: &R, pass: &mut Pass) -> Taken {
+    fn take<R: Wait>(&self, rt: &R, pass: &mut LockedPass) -> Taken<LockedEnd> {
         self.lock.enter(rt, &mut pass.seat);
         match self.lock.pop(&mut pass.seat) {
             Ok(QueuedJob { id, job }) => {
@@ -95,30 +97,29 @@ impl JobLine for LockedLine {
                 Taken::Job(id, job)
             }
             Err(saw) => {
-                let closed = self.lock.closed_at(&mut pass.seat).is_some();
-                self.lock.read(&mut pass.seat, &saw);
-                if closed {
-                    Taken::Ended(SawEnd::under_the_lock(saw))
-                } else {
-                    saw.spend();
-                    Taken::EmptyNow
+                let found = self.lock.find_end(&mut pass.seat, &saw);
+                self.lock.read(&mut pass.seat, saw);
+                match found {
+                    Some(end) => Taken::Ended(end),
+                    None => Taken::EmptyNow,
                 }
             }
         }
     }
 
-    fn close<R: Wait>(&self, rt: &R, closer: Closer) -> CloseNote {
-        let Closer { mut seat } = closer;
+    fn close<R: Wait>(&self, rt: &R, closer: LockedCloser) -> LockedNote {
+        let LockedCloser { mut seat } = closer;
         self.lock.enter(rt, &mut seat);
         let number = self.lock.shut(&mut seat);
         self.lock.close(&mut seat);
-        CloseNote { seat, number }
+        LockedNote { seat, number }
     }
 
     fn open(
         alloc: Global,
         sizes: Sizes,
-    ) -> Result<Opened<LockedLine, Lane, Pass, Closer>, AllocError>
+    ) -> Result<Opened<LockedLine, LockedLane, LockedPass, LockedCloser>, AllocError>
+        requires machine { sizes.machine ≤ MAX_DIM }
         requires lanes { sizes.lanes ≤ MAX_LANES }
         requires passes { sizes.passes ≤ MAX_PASSES }
         requires room { 0 < sizes.capacity }
@@ -144,7 +145,7 @@ impl JobLine for LockedLine {
         };
         let lanes = deal_lanes(&lock, &mut seat, lanes, sizes.lanes);
         let passes = deal_passes(&lock, &mut seat, passes, sizes.passes);
-        let closer = Closer { seat };
+        let closer = LockedCloser { seat };
         Ok(Opened {
             line: LockedLine { lock },
             lanes,
@@ -156,9 +157,9 @@ impl JobLine for LockedLine {
     fn into_rest<R: Wait>(
         self,
         _rt: &R,
-        lanes: Vec<Lane>,
-        passes: Vec<Pass>,
-        note: CloseNote,
+        lanes: Vec<LockedLane>,
+        passes: Vec<LockedPass>,
+        note: LockedNote,
     ) -> Rest
         requires lanes { All (IsLane (line_id self.lock)) lanes.items }
         requires all_lanes { length lanes.items ≡ (line_id self.lock).sizes.lanes }
@@ -176,7 +177,7 @@ impl JobLine for LockedLine {
         ensures machine { All (IsMadeFor (line_id self.lock).sizes.machine) result.jobs.items }
     {
         let LockedLine { lock } = self;
-        let CloseNote {
+        let LockedNote {
             mut seat,
             number: _,
         } = note;

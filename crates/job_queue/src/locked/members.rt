@@ -7,12 +7,17 @@ ghost use Rattle.job_queue.specs.Inner.Locked.View.{view, first_view, passes_fro
 ghost use Rattle.job_queue.specs.Inner.Locked.Step.{IsIdle};
 ghost use Rattle.job_queue.specs.Inner.Locked.Handle.{table_of, sizes_of, line_id, is_lane, is_pass, lane_record, pass_record};
 
-use super::handle::{Lane, Pass};
+use super::handle::{LockedLane, LockedPass};
 use super::store_lock::{Seat, StoreLock};
 use std::collections::VecDeque;
 
 // Makes the lanes, of the first seat's records.
-pub fn deal_lanes(lock: &StoreLock, seat: &mut Seat, mut lanes: Vec<Lane>, count: u32) -> Vec<Lane>
+pub fn deal_lanes(
+    lock: &StoreLock,
+    seat: &mut Seat,
+    mut lanes: Vec<LockedLane>,
+    count: u32,
+) -> Vec<LockedLane>
     requires table { seat.old.table_id ≡ table_of lock.now }
     requires first { seat.old.me ≡ (first_view (sizes_of lock.now), []) }
     requires count { count ≡ (sizes_of lock.now).lanes }
@@ -29,7 +34,7 @@ pub fn deal_lanes(lock: &StoreLock, seat: &mut Seat, mut lanes: Vec<Lane>, count
 {
     for number in 0..count {
         let seat = lock.deal_lane(seat);
-        lanes.push_reserved(Lane {
+        lanes.push_reserved(LockedLane {
             seat,
             number,
             entries: 0,
@@ -42,9 +47,9 @@ pub fn deal_lanes(lock: &StoreLock, seat: &mut Seat, mut lanes: Vec<Lane>, count
 pub fn deal_passes(
     lock: &StoreLock,
     seat: &mut Seat,
-    mut passes: Vec<Pass>,
+    mut passes: Vec<LockedPass>,
     count: u32,
-) -> Vec<Pass>
+) -> Vec<LockedPass>
     requires table { seat.old.table_id ≡ table_of lock.now }
     requires left { seat.old.me ≡ (
       view (sizes_of lock.now) [] (first_view (sizes_of lock.now)).passes
@@ -61,13 +66,13 @@ pub fn deal_passes(
 {
     for _ in 0..count {
         let seat = lock.deal_pass(seat);
-        passes.push_reserved(Pass { seat });
+        passes.push_reserved(LockedPass { seat });
     }
     passes
 }
 
 // Takes in the records of the lanes.
-pub fn gather_lanes(lock: &StoreLock, seat: &mut Seat, lanes: Vec<Lane>)
+pub fn gather_lanes(lock: &StoreLock, seat: &mut Seat, lanes: Vec<LockedLane>)
     requires table { seat.old.table_id ≡ table_of lock.now }
     requires idle { IsIdle seat.old.me }
     requires lanes { All (is_lane (line_id lock.now)) lanes.items }
@@ -81,7 +86,7 @@ pub fn gather_lanes(lock: &StoreLock, seat: &mut Seat, lanes: Vec<Lane>)
 {
     let mut lanes = VecDeque::from_vec(lanes);
     while let Some(lane) = lanes.pop_front() {
-        let Lane {
+        let LockedLane {
             seat: other,
             number: _,
             entries: _,
@@ -92,7 +97,7 @@ pub fn gather_lanes(lock: &StoreLock, seat: &mut Seat, lanes: Vec<Lane>)
 }
 
 // Takes in the records of the passes.
-pub fn gather_passes(lock: &StoreLock, seat: &mut Seat, passes: Vec<Pass>)
+pub fn gather_passes(lock: &StoreLock, seat: &mut Seat, passes: Vec<LockedPass>)
     requires table { seat.old.table_id ≡ table_of lock.now }
     requires idle { IsIdle seat.old.me }
     requires passes { All (is_pass (line_id lock.now)) passes.items }
@@ -106,7 +111,7 @@ pub fn gather_passes(lock: &StoreLock, seat: &mut Seat, passes: Vec<Pass>)
 {
     let mut passes = VecDeque::from_vec(passes);
     while let Some(pass) = passes.pop_front() {
-        let Pass { seat: other } = pass;
+        let LockedPass { seat: other } = pass;
         lock.gather(seat, other);
     }
     passes.destroy_empty();

@@ -26,6 +26,10 @@ pub struct SawFull(());
 // A pop of this call found the line empty. Only `Store::pop` makes it, and it has no `Drop`.
 pub struct SawEmpty(());
 
+/// Shows that a `LockedLine` has ended: it was closed when a pop of this call found it empty.
+#[derive(Debug, Drop)]
+pub struct LockedEnd(());
+
 impl SawFull {
     pub(crate) fn spend(self) {
         let SawFull(()) = self;
@@ -100,5 +104,14 @@ impl Store {
         } else {
             None
         }
+    }
+    // The end, where the closed mark stands beside a failed pop.
+    pub(crate) fn find_end(&self, _saw: &SawEmpty) -> Option<LockedEnd>
+        ensures { MatchOption result (self.now.closed ≡ false) (λ _. self.now.closed ≡ true) }
+    {
+        if !self.closed {
+            return None;
+        }
+        Some(LockedEnd(()))
     }
 }

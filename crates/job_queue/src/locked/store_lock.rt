@@ -16,7 +16,7 @@ ghost use Rattle.job_queue.specs.Inner.Locked.End.{IsWhole, IsEnd};
 use super::plays::{
     Accept, DealLane, DealPass, Enter, Fill, Gather, Hand, LineRule, Read, Refuse, Shut,
 };
-use super::store::{SawEmpty, SawFull, Store};
+use super::store::{LockedEnd, SawEmpty, SawFull, Store};
 use super::view::View;
 use crate::job_line::{Receipt, Sizes};
 use crate::record::QueuedJob;
@@ -158,6 +158,17 @@ impl StoreLock {
         seat.slot_mut(&self.table.shared, 0).closed_at()
     }
 
+    pub fn find_end(&self, seat: &mut Seat, saw: &SawEmpty) -> Option<LockedEnd>
+        requires table { seat.old.table_id ≡ table_of self.now }
+        requires held { (x : State) × (seat.old.me.1 ≡ (0, x) ∷ []) }
+        ensures table { seat.new.table_id ≡ table_of self.now }
+        ensures same { seat.new.me ≡ seat.old.me }
+        ensures value { (x : State) → seat.old.me.1 ≡ (0, x) ∷ [] → MatchOption result
+            (x.closed ≡ false) (λ _. x.closed ≡ true) }
+    {
+        seat.slot_mut(&self.table.shared, 0).find_end(saw)
+    }
+
     pub fn push(&self, seat: &mut Seat, lane: u32, job: Job) -> Result<Receipt, (Job, SawFull)>
         requires table { seat.old.table_id ≡ table_of self.now }
         requires held { (x : State) × (seat.old.me.1 ≡ (0, x) ∷ [])
@@ -233,13 +244,14 @@ impl StoreLock {
         self.table.shared.store::<Hand>(seat, 0, 0);
     }
 
-    pub fn read(&self, seat: &mut Seat, _saw: &SawEmpty)
+    pub fn read(&self, seat: &mut Seat, saw: SawEmpty)
         requires table { seat.old.table_id ≡ table_of self.now }
         requires ready { (r : PassRecord) × (x : State) × (y : State)
             × IsPassOut seat.old.me r x y × (x.jobs.items ≡ []) × Same x y }
         ensures table { seat.new.table_id ≡ table_of self.now }
         ensures gained { seat.new.me ≡ after_reading seat.old.me }
     {
+        saw.spend();
         self.table.shared.store::<Read>(seat, 0, 0);
     }
 

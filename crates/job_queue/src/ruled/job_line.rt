@@ -8,13 +8,13 @@ ghost use Rattle.job_queue.specs.Run.{WholeRun};
 ghost use Rattle.job_queue.specs.Inner.Ruled.Handle.{line_id};
 
 use super::handle::{RuledCloser, RuledLane, RuledNote, RuledPass};
-use super::line::{LineGate, LineRing, RuledLine};
+use super::line::{LineGate, LineRing, RuledEnd, RuledLine};
 use super::members::{deal_lanes, deal_passes, gather_lanes, gather_passes};
-use crate::end::SawEnd;
 use crate::job_line::{
     JobLine, MAX_CAPACITY, MAX_ENTRIES, MAX_PASSES, Opened, Receipt, Refused, Rest, Sizes, Taken,
 };
 use crate::record::QueuedJob;
+use cube_shape::MAX_DIM;
 use job_types::{Job, MAX_LANES};
 use line_gate::Counts;
 use std::alloc::{AllocError, Global};
@@ -44,6 +44,8 @@ impl JobLine for RuledLine {
     type Closer = RuledCloser;
 
     type Note = RuledNote;
+
+    type End = RuledEnd;
 
     ghost use Rattle.job_queue.specs.Inner.Ruled.Handle.{line_id, is_lane as IsLane, is_pass as IsPass, is_closer as IsCloser, is_note as IsNote, lane_record as record_of_lane, pass_record as record_of_pass, note_number as number_of_note};
 
@@ -83,21 +85,21 @@ impl JobLine for RuledLine {
         if let Some(seen) = self.gate.look(&mut lane.gate) {
             return Err((job, Refused::Closed { seen }));
         }
-        let number = match self.gate.enter(&mut lane.gate) {
-            Ok(number) => number,
-            Err(seen) => {
-                self.gate.undo(&mut lane.gate);
+        let entered = match self.gate.enter(&mut lane.gate) {
+            Ok(entered) => entered,
+            Err(late) => {
+                let seen = self.gate.undo(&mut lane.gate, late);
                 return Err((job, Refused::Closed { seen }));
             }
         };
         lane.entries += 1;
-        match self.put(rt, &mut lane.gate, &mut lane.ring, number, job) {
+        match self.put(rt, &mut lane.gate, &mut lane.ring, entered, job) {
             Ok(receipt) => Ok(receipt),
             Err(job) => Err((job, Refused::Full)),
         }
     }
 
-    fn take<R: Wait>(&self, rt: &R, pass: &mut RuledPass) -> Taken {
+    fn take<R: Wait>(&self, rt: &R, pass: &mut RuledPass) -> Taken<RuledEnd> {
         let saw = match self.ring.pop(rt, &mut pass.ring) {
             Ok(QueuedJob { id, job }) => return Taken::Job(id, job),
             Err(saw) => saw,
@@ -107,7 +109,7 @@ impl JobLine for RuledLine {
         };
         match self.pop_at_last(rt, &mut pass.ring, sealed) {
             Ok(QueuedJob { id, job }) => Taken::Job(id, job),
-            Err(saw) => Taken::Ended(SawEnd::of_the_ring(saw)),
+            Err(end) => Taken::Ended(end),
         }
     }
 
@@ -119,6 +121,7 @@ impl JobLine for RuledLine {
         alloc: Global,
         sizes: Sizes,
     ) -> Result<Opened<RuledLine, RuledLane, RuledPass, RuledCloser>, AllocError>
+        requires machine { sizes.machine ≤ MAX_DIM }
         requires lanes { sizes.lanes ≤ MAX_LANES }
         requires passes { sizes.passes ≤ MAX_PASSES }
         requires room { 0 < sizes.capacity }

@@ -9,17 +9,19 @@ ghost use Rattle.job_queue.specs.Inner.Ruled.Join.{Puts};
 use crate::job_line::Receipt;
 use crate::record::QueuedJob;
 use job_types::{Job, JobId};
-use line_gate::{Gate, GateLane, GatePass, Witness};
-use line_ring::{Piece, Ring, RingLane, RingPass, SawEmpty, SawFull};
+use line_gate::{Entered, Gate, GateLane, GatePass, Pushed, Witness};
+use line_ring::{DidPut, Piece, Ring, RingLane, RingPass, SawEmpty, SawFull};
 use std::sync::Wait;
 
 // The gate and the ring of a ruled line.
-pub type LineGate = Gate<RingWasFull, RingWasEmpty>;
+pub type LineGate = Gate<RingTook, RingWasFull, RingWasEmpty>;
 
 pub type LineRing = Ring<QueuedJob>;
 
 impl Piece for QueuedJob {
     ghost use Rattle.job_queue.specs.Line.{IsMadeFor};
+
+    type Entry = Entered;
 
     ghost lane = { λ q. q.id.lane };
 
@@ -28,13 +30,27 @@ impl Piece for QueuedJob {
     ghost is_for = { IsMadeFor };
 }
 
-// A push of this call found the ring full: an entry is settled as full by it alone.
-pub struct RingWasFull(SawFull);
+// A push of this call put a job in, by this entry: the entry is settled as accepted by it alone.
+pub struct RingTook(DidPut<Entered>);
 
-impl Witness for RingWasFull {
-    fn spend(self) {
+impl Pushed for RingTook {
+    ghost entry = { λ took. took.0 };
+
+    fn into_entry(self) -> Entered {
+        let RingTook(put) = self;
+        put.into_entry()
+    }
+}
+
+// A push of this call, by this entry, found the ring full: the entry is settled as full by it alone.
+pub struct RingWasFull(SawFull<Entered>);
+
+impl Pushed for RingWasFull {
+    ghost entry = { λ full. full.0 };
+
+    fn into_entry(self) -> Entered {
         let RingWasFull(saw) = self;
-        saw.spend();
+        saw.into_entry()
     }
 }
 
@@ -51,16 +67,10 @@ impl Witness for RingWasEmpty {
 // The gate was read as sealed. Only `RuledLine::read` makes it, and it has no `Drop`.
 pub struct Sealed(());
 
-// A pop found the ring empty after such a reading. Only `RuledLine::pop_at_last` makes it, and it has
-// no `Drop`.
-pub struct EmptyAtLast(SawEmpty);
-
-impl EmptyAtLast {
-    pub(crate) fn spend(self) {
-        let EmptyAtLast(saw) = self;
-        saw.spend();
-    }
-}
+/// Shows that a `RuledLine` has ended: a pop found its ring empty after its gate was read as sealed.
+/// Only the pop that found it so makes one.
+#[derive(Debug, Drop)]
+pub struct RuledEnd(());
 
 /// A line of jobs with no lock: a ring, in which the jobs wait, and the gate beside it.
 pub struct RuledLine {
@@ -72,36 +82,38 @@ pub struct RuledLine {
 }
 
 impl RuledLine {
-    // Puts the job into the ring by the pending entry, and settles that.
+    // Puts the job into the ring by the entry that was made for it, and settles that.
     pub(crate) fn put<R: Wait>(
         &self,
         rt: &R,
         gate: &mut GateLane,
         ring: &mut RingLane<QueuedJob>,
-        number: u64,
+        entered: Entered,
         job: Job,
     ) -> Result<Receipt, Job>
         requires gate { gate.old.gate ≡ self.now.gate.table }
         requires ring { IsRingLane (ring_id self.now.ring) ring.old }
-        requires pending { gate.old.known.pending ≡ Some number }
+        requires pending { gate.old.known.pending ≡ Some entered }
         requires job { IsFor (ring_id self.now.ring).machine (ring_record ring.old).number job }
         requires count { length (ring_record ring.old).accepted + 1 < 2 ^ 64 }
         ensures gate { gate.new.gate ≡ self.now.gate.table }
         ensures ring { IsRingLane (ring_id self.now.ring) ring.new }
-        ensures puts { Puts number job gate.old.known (ring_record ring.old) result
+        ensures puts { Puts entered job gate.old.known (ring_record ring.old) result
             gate.new.known (ring_record ring.new) }
     {
         let id = JobId {
             lane: ring.number(),
             seq: ring.accepted(),
         };
-        match self.ring.push(rt, ring, QueuedJob { id, job }) {
-            Ok(()) => {
-                self.gate.settle_accepted(gate, number);
+        let number = entered.number();
+        match self.ring.push(rt, ring, QueuedJob { id, job }, entered) {
+            Ok(put) => {
+                self.gate.settle_accepted(gate, RingTook(put));
                 Ok(Receipt { id, number })
             }
-            Err((QueuedJob { id: _, job }, saw)) => {
-                self.gate.settle_full(gate, number, RingWasFull(saw));
+            Err((refused, saw)) => {
+                self.gate.settle_full(gate, RingWasFull(saw));
+                let QueuedJob { id: _, job } = refused;
                 Err(job)
             }
         }
@@ -130,7 +142,7 @@ impl RuledLine {
         rt: &R,
         ring: &mut RingPass<QueuedJob>,
         sealed: Sealed,
-    ) -> Result<QueuedJob, EmptyAtLast>
+    ) -> Result<QueuedJob, RuledEnd>
         requires { IsRingPass (ring_id self.now.ring) ring.old }
         ensures pass { IsRingPass (ring_id self.now.ring) ring.new }
         ensures number { (ring_pass ring.new).number ≡ (ring_pass ring.old).number }
@@ -142,7 +154,10 @@ impl RuledLine {
         let Sealed(()) = sealed;
         match self.ring.pop(rt, ring) {
             Ok(queued) => Ok(queued),
-            Err(saw) => Err(EmptyAtLast(saw)),
+            Err(saw) => {
+                saw.spend();
+                Err(RuledEnd(()))
+            }
         }
     }
 }

@@ -16,7 +16,7 @@ pub record RingId : Type 0 where
   pub machine : ℕ
   pub capacity : ℕ
 
-abbrev pub ring_id : {T : Type 0} → Ring T → RingId
+abbrev pub ring_id : {T E : Type 0} → Ring T E → RingId
 ring_id ring = record { table = ring.queue.table.shared.table_id; machine = ring.machine; capacity = ruled_capacity ring.queue }
 
 abbrev pub is_lane : {T : Type 0} → RingId → RingLane T → Type 0

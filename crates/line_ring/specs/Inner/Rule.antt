@@ -7,8 +7,8 @@ use lib.ListN.{get_elem?}
 use Rattle.histories.specs.Views.{Tied}
 use Rattle.line_ring.specs.declared.ring.TheConstants.{MAX_LANES, MAX_PASSES}
 use Rattle.line_ring.specs.declared.rule.View.{View}
-use Rattle.line_ring.specs.History.{Deed, waiting, lane_part, pass_part, IsLegal}
-use Rattle.line_ring.specs.Inner.View.{rest_part, lanes_in, passes_in, rests_in, lane_number, pass_number, rest_number, members}
+use Rattle.line_ring.specs.History.{Deed, waiting, lane_part, pass_part, IsLegal, rest_part}
+use Rattle.line_ring.specs.Inner.View.{lanes_in, passes_in, rests_in, lane_number, pass_number, rest_number, members}
 
 module _ {T : Type 0} (lane_of seq_of : T → ℕ) (is_for : ℕ → T → Type 0) where
   pub record Keeps (items : List T) (views : List (View T)) : Type 0 where

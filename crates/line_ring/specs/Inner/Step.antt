@@ -7,6 +7,7 @@ use Rattle.line_ring.specs.declared.record.RestRecord.{RestRecord}
 use Rattle.line_ring.specs.declared.rule.View.{View}
 use Rattle.line_ring.specs.Record.{lane_in, pass_in, AreSeqs, Rises}
 use Rattle.line_ring.specs.History.{HeldBesideLane, HeldBesidePass}
+use Rattle.line_ring.specs.Run.{Lists}
 use Rattle.line_ring.specs.Inner.View.{view, lane_view, pass_view, rest_record, lanes_in, passes_in, lanes_from, passes_from}
 
 module _ {T : Type 0} where
@@ -71,6 +72,7 @@ module _ {T : Type 0} (lane_of seq_of : T → ℕ) where
     pub rises : Each (λ p. Rises lane_of seq_of (p.taken ++ items)) (passes_in v)
     pub rest_rises : Rises lane_of seq_of (drained_in v.rests ++ items)
     pub numbers : (k : ℕ) → k < MAX_LANES → total (λ l. is_at k l.number) (lanes_in v) ≡ 1
+    pub listed : Lists lane_of seq_of (lanes_in v) (passes_in v) (drained_in v.rests) items
 
 module _ {T : Type 0} (lane_of seq_of : T → ℕ) (is_for : ℕ → T → Type 0) where
   -- the piece was at the front of what the ring held

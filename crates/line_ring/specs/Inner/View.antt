@@ -1,13 +1,12 @@
 -- What the seats of a ring know.
-use Rattle.std.specs.Prelude.{ℕ, zero, suc, ◌+◌, Bool, false, ◌==◌, List, [], ◌∷◌, ◌++◌, length}
-use Rattle.histories.specs.History.{part}
+use Rattle.std.specs.Prelude.{ℕ, zero, suc, ◌+◌, List, [], ◌∷◌, ◌++◌, length}
 use Rattle.line_ring.specs.declared.ring.TheConstants.{MAX_LANES, MAX_PASSES}
 use Rattle.line_ring.specs.declared.record.LaneRecord.{LaneRecord}
 use Rattle.line_ring.specs.declared.record.PassRecord.{PassRecord}
 use Rattle.line_ring.specs.declared.record.RestRecord.{RestRecord}
 use Rattle.line_ring.specs.declared.rule.View.{View}
 use Rattle.line_ring.specs.Record.{fresh_lane, fresh_pass}
-use Rattle.line_ring.specs.History.{Deed, accepts, takes_piece, drains, rest_of}
+use Rattle.line_ring.specs.History.{rest_of}
 
 abbrev pub first_of : {A : Type 0} → List A → List A
 first_of [] = []
@@ -27,20 +26,6 @@ module _ {T : Type 0} where
 
   abbrev pub pass_view : ℕ → PassRecord T → View T
   pass_view machine r = view machine [] [] [] (r ∷ []) []
-
-  -- what came out at the end, of which there is one, of the number 0
-  abbrev pub is_by_end : Deed T → ℕ → Bool
-  is_by_end (accepts lane piece) k = false
-  is_by_end (takes_piece pass piece) k = false
-  is_by_end (drains piece) k = 0 == k
-
-  abbrev pub rest_after : Deed T → RestRecord T → RestRecord T
-  rest_after (accepts lane piece) r = r
-  rest_after (takes_piece pass piece) r = r
-  rest_after (drains piece) r = record { drained = r.drained ++ piece ∷ [] }
-
-  abbrev pub rest_part : List (Deed T) → ℕ → RestRecord T
-  rest_part = part is_by_end rest_after (λ _. record { drained = [] })
 
   -- all records of a view, those that were not dealt first
   abbrev pub lanes_in : View T → List (LaneRecord T)

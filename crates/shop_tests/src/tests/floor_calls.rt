@@ -4,12 +4,14 @@ ghost use Rattle.std.specs.List.{All};
 
 use crate::tests::members::{Pair, both, only, sole};
 use cube_shape::{MAX_DIM, MAX_STATIONS, Region};
-use floors::{Floor, FreeMachine, LockedFloor};
+use floors::Floor;
+use locked_floor::{FreeMachine, LockedFloor};
 use std::alloc::Global;
 use std::process::Abort;
 use std::sync::Wait;
 use std::test::Fail;
 use tree_floor::TreeFloor;
+use uses::hold_pair;
 
 // A floor with its stations.
 pub fn opened<F: Floor>(
@@ -150,4 +152,22 @@ fn smallest_floor_and_largest(rt: HostRuntime) {
     assert!(rt; is_wholly_free::<TreeFloor>(&small, 0, 2));
     assert_eq!(rt; count, 32);
     assert!(rt; is_wholly_free::<TreeFloor>(&large, 10, 2048));
+}
+
+// Whether two stations of a machine of dimension 3 were given its first two regions of two processors
+// each, and the machine was wholly free then.
+fn gives_first_two<R: Abort + Wait, F: Floor>(rt: &R, alloc: Global) -> bool
+where
+    F::Machine: Drop,
+{
+    let (one, other, machine) = hold_pair::<R, F>(rt, alloc, 3, 1).expect(rt, "no memory");
+    one == Region { base: 0, dim: 1 }
+        && other == Region { base: 2, dim: 1 }
+        && is_wholly_free::<F>(&machine, 3, 16)
+}
+
+#[test]
+fn a_pair_on_each_floor(rt: HostRuntime) {
+    assert!(rt; gives_first_two::<_, LockedFloor>(&rt, rt.alloc()));
+    assert!(rt; gives_first_two::<_, TreeFloor>(&rt, rt.alloc()));
 }

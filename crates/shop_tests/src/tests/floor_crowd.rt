@@ -4,7 +4,8 @@ ghost use Rattle.std.specs.Prelude.{◌≡◌, ◌+◌, ◌<◌, ◌≤◌, [], 
 
 use crate::tests::floor_calls::{is_locked_free, is_wholly_free, opened};
 use cube_shape::Region;
-use floors::{Floor, LockedFloor};
+use floors::Floor;
+use locked_floor::LockedFloor;
 use std::alloc::{AllocError, Global};
 use std::process::Abort;
 use std::sync::Wait;

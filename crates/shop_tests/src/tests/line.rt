@@ -267,6 +267,76 @@ fn jobs_wait_in_order_with_no_lock(rt: HostRuntime) -> Result<(), Fail> {
     jobs_wait_in_order::<_, RuledLine>(&rt, rt.alloc())
 }
 
+// Hands in the lane's next job: whether it is accepted.
+fn hand_in_next<R: Wait, L: JobLine>(
+    rt: &R,
+    line: &L,
+    lane: &mut L::Lane,
+    jobs: &mut VecDeque<Job>,
+) -> bool
+    requires lane { L.is_lane (L.id line.now) lane.old }
+    requires machine { (L.id line.now).sizes.machine ≡ 2 }
+    ensures { L.is_lane (L.id line.now) lane.new }
+{
+    let Some(job) = jobs.pop_front() else {
+        return false;
+    };
+    hand_in(rt, line, lane, job).is_ok()
+}
+
+// What is left once lane 1 and lane 0 have handed in a job each, both were taken, and lane 1, lane 0
+// and lane 1 have handed in one more.
+fn hand_in_by_turns<R: Wait, L: JobLine>(
+    rt: &R,
+    hand: Hand<L>,
+    jobs: (VecDeque<Job>, VecDeque<Job>),
+) -> (bool, [Option<JobId>; 2], Rest) {
+    let Hand {
+        line,
+        mut lanes,
+        mut passes,
+        closer,
+    } = hand;
+    let (mut own, mut others) = jobs;
+    let first = hand_in_next(rt, &line, &mut lanes.second, &mut others);
+    let second = hand_in_next(rt, &line, &mut lanes.first, &mut own);
+    let taken = [
+        take_if(rt, &line, &mut passes.first, true),
+        take_if(rt, &line, &mut passes.second, true),
+    ];
+    let third = hand_in_next(rt, &line, &mut lanes.second, &mut others);
+    let fourth = hand_in_next(rt, &line, &mut lanes.first, &mut own);
+    let fifth = hand_in_next(rt, &line, &mut lanes.second, &mut others);
+    let note = line.close(rt, closer);
+    let accepted = first && second && third && fourth && fifth;
+    (accepted, taken, end(rt, line, lanes, passes, note))
+}
+
+// The jobs of two lanes come out, and are left, in the order in which they came in.
+fn rest_stands_in_order<R: Wait + Abort, L: JobLine>(rt: &R, alloc: Global) -> Result<(), Fail> {
+    let jobs = (
+        jobs(alloc, 2, 0, Plan::Same(2))?,
+        jobs(alloc, 2, 1, Plan::Same(3))?,
+    );
+    let (accepted, taken, rest) = hand_in_by_turns(rt, Hand::<L>::open(alloc, 4)?, jobs);
+    let at = |lane, seq| JobId { lane, seq };
+    assert!(rt; accepted);
+    assert_eq!(rt; taken, [Some(at(1, 0)), Some(at(0, 0))]);
+    let left = [at(1, 1), at(0, 1), at(1, 2)];
+    assert!(rt; rest.jobs.iter().map(|queued| queued.id).eq(left));
+    Ok(())
+}
+
+#[test]
+fn rest_stands_in_order_under_a_lock(rt: HostRuntime) -> Result<(), Fail> {
+    rest_stands_in_order::<_, LockedLine>(&rt, rt.alloc())
+}
+
+#[test]
+fn rest_stands_in_order_with_no_lock(rt: HostRuntime) -> Result<(), Fail> {
+    rest_stands_in_order::<_, RuledLine>(&rt, rt.alloc())
+}
+
 // Whether the jobs of each lane stand in the order of their seqs, none of them seen before. Marks
 // them as seen.
 pub fn are_new_and_rise(seen: &mut [[bool; JOBS]], taken: &[QueuedJob]) -> bool {
@@ -293,6 +363,7 @@ fn two_lanes_and_two_passes<R: Threads + Wait + Abort + Sync, L: JobLine + Sync>
 where
     L::Lane: Send,
     L::Pass: Send,
+    L::End: Send,
     L::Closer: Send,
     L::Note: Send,
 {

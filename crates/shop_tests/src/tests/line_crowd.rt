@@ -136,6 +136,7 @@ fn hand_in_all<R: Threads + Wait + Sync, L: JobLine + Sync>(
 )
 where
     L::Lane: Send,
+    L::End: Send,
     requires lanes { All (L.is_lane (L.id line.now)) lanes.old }
     requires machine { (L.id line.now).sizes.machine ≡ 2 }
     ensures { All (L.is_lane (L.id line.now)) lanes.new }
@@ -181,6 +182,7 @@ fn race<R: Threads + Wait + Sync, J: Naming + Send + Sync, L: JobLine + Sync>(
 )
 where
     L::Lane: Send,
+    L::End: Send,
     L::Closer: Send,
     L::Note: Send,
     requires named { L.id line.now ≡ J.line }
@@ -221,6 +223,7 @@ fn take_all<R: Threads + Wait + Sync, L: JobLine + Sync>(
 )
 where
     L::Pass: Send,
+    L::End: Send,
     requires { All (L.is_pass (L.id line.now)) passes.old }
     ensures { All (L.is_pass (L.id line.now)) passes.new }
 {
@@ -253,6 +256,7 @@ fn race_and_take<R: Threads + Wait + Sync, J: Naming + Send + Sync, L: JobLine +
 where
     L::Lane: Send,
     L::Pass: Send,
+    L::End: Send,
     L::Closer: Send,
     L::Note: Send,
     requires named { L.id line.now ≡ J.line }
@@ -293,6 +297,7 @@ fn run_crowd<R: Threads + Wait + Sync, J: Naming + Send + Sync, L: JobLine + Syn
 where
     L::Lane: Send,
     L::Pass: Send,
+    L::End: Send,
     L::Closer: Send,
     L::Note: Send,
     requires named { L.id opened.line ≡ J.line }
@@ -339,6 +344,7 @@ fn late_entries<R: Threads + Wait + Abort + Sync, L: JobLine + Sync>(
 where
     L::Lane: Send,
     L::Pass: Send,
+    L::End: Send,
     L::Closer: Send,
     L::Note: Send,
 {
@@ -390,6 +396,7 @@ fn ring_order<R: Threads + Wait + Abort + Sync, L: JobLine + Sync>(
 where
     L::Lane: Send,
     L::Pass: Send,
+    L::End: Send,
     L::Closer: Send,
     L::Note: Send,
 {
@@ -425,4 +432,80 @@ fn ring_order_under_a_lock(rt: HostRuntime) -> Result<(), Fail> {
 #[test]
 fn ring_order_with_no_lock(rt: HostRuntime) -> Result<(), Fail> {
     ring_order::<_, RuledLine>(&rt, rt.alloc())
+}
+
+// How many jobs the passes took.
+fn count_taken<R: Wait>(rt: &R, taken: &[Mutex<Vec<QueuedJob>>]) -> u64 {
+    let mut count: u64 = 0;
+    for list in taken {
+        count = count.wrapping_add(list.lock(rt).len() as u64);
+    }
+    count
+}
+
+// Sixteen lanes hand in twenty jobs each and eight passes take until the line has ended, while one more
+// thread closes it. What was accepted was taken, and nothing is left.
+fn ends_empty<R: Threads + Wait + Abort + Sync, L: JobLine + Sync>(
+    rt: &R,
+    alloc: Global,
+    capacity: usize,
+    closes_after: u64,
+) -> Result<(), Fail>
+where
+    L::Lane: Send,
+    L::Pass: Send,
+    L::End: Send,
+    L::Closer: Send,
+    L::Note: Send,
+    requires { (0 < capacity) × (capacity ≤ 1024) }
+{
+    let jobs = jobs_of_all(alloc, 16, 20)?;
+    let taken = room_of_all(alloc, 8, 320)?;
+    let found = Found::nothing(closes_after, false);
+    let sizes = Sizes {
+        machine: 2,
+        lanes: 16,
+        passes: 8,
+        capacity,
+    };
+    let opened = L::open(alloc, sizes)?;
+    let rest = run_crowd::<R, Brand, L>(rt, opened, &jobs, &taken, &found).rest;
+    let accepted = found.accepted.load(SeqCst);
+    assert!(rt; rest.jobs.is_empty());
+    assert!(rt; accepted >= closes_after && sum(&rest.accepted) == accepted);
+    assert_eq!(rt; accepted.wrapping_add(found.closed.load(SeqCst)), 320);
+    assert_eq!(rt; count_taken(rt, &taken), accepted);
+    Ok(())
+}
+
+// Closes after as many jobs as a row of numbers by chance says, with room for one job and for 1,024.
+fn nothing_is_left<R: Threads + Wait + Abort + Sync, L: JobLine + Sync>(
+    rt: &R,
+    alloc: Global,
+) -> Result<(), Fail>
+where
+    L::Lane: Send,
+    L::Pass: Send,
+    L::End: Send,
+    L::Closer: Send,
+    L::Note: Send,
+{
+    let mut chance: u32 = 2026;
+    for _ in 0..10u32 {
+        chance = chance.wrapping_mul(1_664_525).wrapping_add(1_013_904_223);
+        let closes_after = u64::from(chance >> 16) % 321;
+        ends_empty::<R, L>(rt, alloc, 1, closes_after)?;
+        ends_empty::<R, L>(rt, alloc, 1024, closes_after)?;
+    }
+    Ok(())
+}
+
+#[test]
+fn nothing_is_left_under_a_lock(rt: HostRuntime) -> Result<(), Fail> {
+    nothing_is_left::<_, LockedLine>(&rt, rt.alloc())
+}
+
+#[test]
+fn nothing_is_left_with_no_lock(rt: HostRuntime) -> Result<(), Fail> {
+    nothing_is_left::<_, RuledLine>(&rt, rt.alloc())
 }

@@ -21,6 +21,8 @@ pub struct Token {
 impl Piece for Token {
     ghost use Rattle.std.specs.Prelude.{⊤};
 
+    type Entry = ();
+
     ghost lane = { λ token. token.lane };
 
     ghost seq = { λ token. token.seq };
@@ -41,10 +43,13 @@ pub fn put<R: Wait>(rt: &R, ring: &Ring<Token>, lane: &mut RingLane<Token>) -> b
         lane: lane.number(),
         seq,
     };
-    match ring.push(rt, lane, token) {
-        Ok(()) => true,
+    match ring.push(rt, lane, token, ()) {
+        Ok(put) => {
+            put.into_entry();
+            true
+        }
         Err((back, full)) => {
-            full.spend();
+            full.into_entry();
             back != token
         }
     }

@@ -8,14 +8,17 @@ use crate::tests::floor_calls::{is_locked_free, is_wholly_free};
 use crate::tests::jobs::{Row, SUM, job, listed};
 use crate::tests::single::{Single, finish};
 use dispatcher::{FeedEnd, FeedStop, Finished, Plain, Shop, ShopRefused, Stop, dispatch, feed};
-use floors::{Floor, LockedFloor};
+use floors::Floor;
 use job_queue::{JobLine, LockedLine, Receipt, Refused, RuledLine};
 use job_types::{Job, JobId, Region, Reply};
+use locked_floor::LockedFloor;
 use std::alloc::Global;
 use std::collections::VecDeque;
+use std::process::Abort;
 use std::sync::Wait;
 use std::test::Fail;
 use tree_floor::TreeFloor;
+use uses::Tallied;
 
 // Why a shop of these sizes is refused.
 fn refused(alloc: Global, n: u32, lanes: u32, dispatchers: u32, capacity: usize) -> ShopRefused
@@ -319,12 +322,12 @@ fn have_first_regions(replies: &[Reply]) -> bool {
     true
 }
 
-#[test]
-fn feed_stops_at_the_close(rt: HostRuntime) -> Result<(), Fail> {
-    let jobs = three_jobs(rt.alloc())?;
-    let late_jobs = three_jobs(rt.alloc())?;
-    let single = Single::<LockedLine, LockedFloor>::open(rt.alloc(), 2, 4)?;
-    let run = feed_and_dispatch(&rt, rt.alloc(), single, jobs, late_jobs);
+// A shop over the line and the locked floor, which closes between two feeds.
+fn feeds_until_the_close<R: Wait + Abort, L: JobLine>(rt: &R, alloc: Global) -> Result<(), Fail> {
+    let jobs = three_jobs(alloc)?;
+    let late_jobs = three_jobs(alloc)?;
+    let single = Single::<L, LockedFloor>::open(alloc, 2, 4)?;
+    let run = feed_and_dispatch(rt, alloc, single, jobs, late_jobs);
     assert!(rt; is_done(&run.fed));
     assert!(rt; stops_at_the_close(&run.late));
     assert_eq!(rt; run.stop, Stop::Ended);
@@ -334,4 +337,14 @@ fn feed_stops_at_the_close(rt: HostRuntime) -> Result<(), Fail> {
     assert!(rt; finished.accepted.as_slice() == [3].as_slice());
     assert!(rt; is_locked_free(&finished.machine, 2, 8));
     Ok(())
+}
+
+#[test]
+fn feed_stops_at_the_close(rt: HostRuntime) -> Result<(), Fail> {
+    feeds_until_the_close::<_, LockedLine>(&rt, rt.alloc())
+}
+
+#[test]
+fn feed_stops_at_the_close_of_a_strangers_line(rt: HostRuntime) -> Result<(), Fail> {
+    feeds_until_the_close::<_, Tallied<RuledLine>>(&rt, rt.alloc())
 }

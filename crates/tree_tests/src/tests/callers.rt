@@ -108,7 +108,7 @@ fn two_subcubes_are_apart(rt: HostRuntime) {
     let second = last(&rt, &cube, &mut stations, 1);
     let first = last(&rt, &cube, &mut stations, 0);
     stations.destroy_empty();
-    match hold_two_and_close(cube, first, second, 0) {
+    match hold_two_and_close(cube, first, second, 0, 0) {
         (Some((low, high)), Ok(machine)) => {
             assert_eq!(rt; low, Region { base: 0, dim: 0 });
             assert_eq!(rt; high, Region { base: 1, dim: 0 });

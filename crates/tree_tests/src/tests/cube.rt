@@ -127,6 +127,27 @@ fn refused_all(rt: &impl Abort, cube: &Cube, station: Station, k: u32, counts: R
     }
 }
 
+// The same of a take that passes over what is under an occupied node.
+fn refused_skipping(
+    rt: &impl Abort,
+    cube: &Cube,
+    station: Station,
+    k: u32,
+    counts: Refusal,
+) -> Station
+    requires cube { IsStationOf cube.now station }
+    requires dim { k ≤ cube_dim cube.now }
+    ensures { IsStationOf cube.now result }
+{
+    match station.try_take_skipping(cube, k) {
+        Ok(_) => panic!(rt; "a region is given"),
+        Err((station, refusal)) => {
+            assert!(rt; refusal == counts);
+            station
+        }
+    }
+}
+
 // Both subcubes, as they were.
 fn both(cube: &Cube, a: Subcube, b: Subcube) -> (Subcube, Subcube)
     requires first { IsSubcubeOf cube.now a }
@@ -235,6 +256,15 @@ fn refusals_are_counted(rt: HostRuntime) {
     };
     let second = refused_all(&rt, &cube, second, 1, halves);
     let second = refused_all(&rt, &cube, second, 2, whole);
+    let once = Refusal {
+        in_use: 0,
+        lost: 0,
+        under: 1,
+    };
+    let second = refused_skipping(&rt, &cube, second, 0, once);
+    let second = refused_skipping(&rt, &cube, second, 1, once);
+    let second = refused_skipping(&rt, &cube, second, 2, whole);
+    assert!(rt; cube.dim() == 2 && cube.stations() == 2);
     leave(&cube, first);
     second.retire(&cube);
     assert!(rt; closed(&rt, cube).dim() == 2);

@@ -1,9 +1,11 @@
 //! Each refusal, each act, and a machine of one node; whole schedules stand in `schedules`, short
-//! ones that show a wrong step in `interleavings`, and outcomes that no clause pins in `outcomes`.
+//! ones that show a wrong step in `interleavings`, outcomes that no clause pins in `outcomes`, and who
+//! is in the way where a try is refused in `causes`.
 
 ghost use Rattle.std.specs.Prelude.{◌≡◌, ◌+◌, ◌^◌, ◌≤◌, length};
 ghost use Rattle.cube_core.specs.World.{HasShapeOf};
 
+mod causes;
 mod interleavings;
 mod outcomes;
 mod schedules;

@@ -5,10 +5,10 @@ use Rattle.job_queue.specs.declared.job_line.Sizes.{Sizes}
 use Rattle.job_queue.specs.declared.record.LaneRecord.{LaneRecord}
 use Rattle.job_queue.specs.declared.record.PassRecord.{PassRecord}
 use Rattle.job_queue.specs.declared.locked.store_lock.StoreLock.{StoreLock}
-use Rattle.job_queue.specs.declared.locked.handle.Lane.{Lane}
-use Rattle.job_queue.specs.declared.locked.handle.Pass.{Pass}
-use Rattle.job_queue.specs.declared.locked.handle.Closer.{Closer}
-use Rattle.job_queue.specs.declared.locked.handle.CloseNote.{CloseNote}
+use Rattle.job_queue.specs.declared.locked.handle.LockedLane.{LockedLane}
+use Rattle.job_queue.specs.declared.locked.handle.LockedPass.{LockedPass}
+use Rattle.job_queue.specs.declared.locked.handle.LockedCloser.{LockedCloser}
+use Rattle.job_queue.specs.declared.locked.handle.LockedNote.{LockedNote}
 use Rattle.job_queue.specs.Line.{LineId}
 use Rattle.job_queue.specs.Inner.Locked.Step.{lane_in, pass_in}
 
@@ -25,23 +25,23 @@ line_id lock = record { tables = table_of lock ∷ []; sizes = sizes_of lock }
 abbrev pub IsOf : LineId → TableId → Sizes → Type 0
 IsOf id table about = (id.tables ≡ table ∷ []) × (about ≡ id.sizes)
 
-abbrev pub is_lane : LineId → Lane → Type 0
+abbrev pub is_lane : LineId → LockedLane → Type 0
 is_lane id lane = IsOf id lane.seat.table_id lane.seat.me.0.about
 
-abbrev pub is_pass : LineId → Pass → Type 0
+abbrev pub is_pass : LineId → LockedPass → Type 0
 is_pass id pass = IsOf id pass.seat.table_id pass.seat.me.0.about
 
-abbrev pub is_closer : LineId → Closer → Type 0
+abbrev pub is_closer : LineId → LockedCloser → Type 0
 is_closer id closer = IsOf id closer.seat.table_id closer.seat.me.0.about
 
-abbrev pub is_note : LineId → CloseNote → Type 0
+abbrev pub is_note : LineId → LockedNote → Type 0
 is_note id note = IsOf id note.seat.table_id note.seat.me.0.about
 
-abbrev pub lane_record : Lane → LaneRecord
+abbrev pub lane_record : LockedLane → LaneRecord
 lane_record lane = lane_in lane.seat.me.0.lanes
 
-abbrev pub pass_record : Pass → PassRecord
+abbrev pub pass_record : LockedPass → PassRecord
 pass_record pass = pass_in pass.seat.me.0.passes
 
-abbrev pub note_number : CloseNote → ℕ
+abbrev pub note_number : LockedNote → ℕ
 note_number note = note.number

@@ -1,17 +1,16 @@
-//! Many threads at once: what is held at one moment is checked by a counter for each processor, and
-//! four stations hold a processor each at the same moment.
+//! Many threads at once: four stations hold a processor each at the same moment, and claims are lost to
+//! others.
 
-ghost use Rattle.std.specs.Prelude.{◌≡◌, ◌≤◌, [], All, IfOk, IsSomeAnd, vec_len, vec_capacity};
+ghost use Rattle.std.specs.Prelude.{◌≡◌, ◌≤◌, [], All, IsSomeAnd, vec_len, vec_capacity};
 ghost use Rattle.cube_tree.specs.Handles.{cube_dim, IsStationOf};
 
 use super::{closed, is_free, opened};
-use cube_shape::{Node, Region};
-use cube_tree::{Cube, Station, Subcube};
-use std::alloc::{AllocError, Global};
+use cube_shape::Node;
+use cube_tree::{Cube, Station, Why};
+use std::alloc::Global;
 use std::process::Abort;
 use std::sync::atomic::AtomicU64;
 use std::sync::atomic::Ordering::SeqCst;
-use std::test::Fail;
 use std::thread::Threads;
 use std::{mem, thread};
 
@@ -20,102 +19,29 @@ use std::{mem, thread};
 struct Shared {
     // The dimension of the machine.
     dim: u32,
-    // How many hold each processor.
-    held: Vec<AtomicU64>,
-    // How many takes each station was given.
-    given: Vec<AtomicU64>,
-    // How often a processor was found held that was given.
-    clashes: AtomicU64,
     // How many stations hold a processor and wait for the others.
     waiting: AtomicU64,
     // How many saw all four hold.
     met: AtomicU64,
-}
-
-// So many counters.
-fn zeros(alloc: Global, number: usize) -> Result<Vec<AtomicU64>, AllocError> {
-    let mut zeros = Vec::new(alloc);
-    for _ in 0..number {
-        zeros.push(AtomicU64::new(0))?;
-    }
-    Ok(zeros)
+    // How many tries of one node were lost to another station, and how many takes counted one as lost.
+    lost_tries: AtomicU64,
+    lost_takes: AtomicU64,
+    // How many takes of the only region there is counted anything but one refusal at its node.
+    miscounted: AtomicU64,
 }
 
 // The counters of a machine of dimension `dim`, all at 0.
-fn unused(alloc: Global, dim: u32) -> Result<Shared, AllocError>
-    ensures { IfOk result (λ shared. shared.dim ≡ dim) }
+fn unused(dim: u32) -> Shared
+    ensures { result.dim ≡ dim }
 {
-    Ok(Shared {
+    Shared {
         dim,
-        held: zeros(alloc, 32)?,
-        given: zeros(alloc, 8)?,
-        clashes: AtomicU64::new(0),
         waiting: AtomicU64::new(0),
         met: AtomicU64::new(0),
-    })
-}
-
-// Counts up on the processors of a region that is held: how many were counted already.
-fn enter(region: Region, held: &[AtomicU64]) -> u64 {
-    let mut found = 0u64;
-    for (processor, count) in held.iter().enumerate() {
-        let processor = processor as u64;
-        if region.base <= processor && processor - region.base < 1 << region.dim.min(10) {
-            found |= count.fetch_add(1, SeqCst);
-        }
+        lost_tries: AtomicU64::new(0),
+        lost_takes: AtomicU64::new(0),
+        miscounted: AtomicU64::new(0),
     }
-    found
-}
-
-// Counts down again.
-fn leave(region: Region, held: &[AtomicU64]) {
-    for (processor, count) in held.iter().enumerate() {
-        let processor = processor as u64;
-        if region.base <= processor && processor - region.base < 1 << region.dim.min(10) {
-            count.fetch_sub(1, SeqCst);
-        }
-    }
-}
-
-// Counts a take of this station that was given, on its processors too while it holds them.
-fn count_take(station: u32, subcube: &Subcube, shared: &Shared) {
-    if let Some(count) = shared.given.get(station as usize) {
-        count.fetch_add(1, SeqCst);
-    }
-    let region = subcube.region();
-    let found = enter(region, &shared.held);
-    shared.clashes.fetch_add(found, SeqCst);
-    leave(region, &shared.held);
-}
-
-// A take of one station, which gives back what it was given.
-fn turn(cube: &Cube, station: Station, k: u32, shared: &Shared) -> Station
-    requires cube { IsStationOf cube.now station }
-    requires dim { k ≤ cube_dim cube.now }
-    ensures { IsStationOf cube.now result }
-{
-    let number = station.number();
-    match station.try_take(cube, k) {
-        Ok(subcube) => {
-            count_take(number, &subcube, shared);
-            subcube.release(cube)
-        }
-        Err((station, _)) => station,
-    }
-}
-
-// A thousand takes of one station.
-fn turns(cube: &Cube, station: Station, shared: &Shared) -> Station
-    requires cube { IsStationOf cube.now station }
-    requires dim { cube_dim cube.now ≡ 5 }
-    ensures { IsStationOf cube.now result }
-{
-    let number = station.number();
-    let mut station = station;
-    for count in 0..1000u32 {
-        station = turn(cube, station, (number % 8 + count) % 6, shared);
-    }
-    station
 }
 
 // Counts the caller, who holds a region, and waits for the others, four in all, to hold theirs.
@@ -146,16 +72,68 @@ fn hold(cube: &Cube, station: Station, shared: &Shared) -> Station
     }
 }
 
-// What each station does: takes of all sizes on a machine of dimension 5, and one take of a processor
-// on one of dimension 2.
+// One try of the only node of a machine of one processor.
+fn try_root(cube: &Cube, station: Station, shared: &Shared) -> Station
+    requires cube { IsStationOf cube.now station }
+    requires dim { cube_dim cube.now ≡ 0 }
+    ensures { IsStationOf cube.now result }
+{
+    match station.try_node(cube, Node(1)) {
+        Ok(subcube) => subcube.release(cube),
+        Err((station, why)) => {
+            shared
+                .lost_tries
+                .fetch_add(u64::from(why == Why::Lost), SeqCst);
+            station
+        }
+    }
+}
+
+// One take of its only region.
+fn take_whole(cube: &Cube, station: Station, shared: &Shared) -> Station
+    requires { IsStationOf cube.now station }
+    ensures { IsStationOf cube.now result }
+{
+    match station.try_take(cube, 0) {
+        Ok(subcube) => subcube.release(cube),
+        Err((station, refusal)) => {
+            let is_one = matches!(
+                (refusal.in_use, refusal.lost, refusal.under),
+                (1, 0, 0) | (0, 1, 0)
+            );
+            shared.miscounted.fetch_add(u64::from(!is_one), SeqCst);
+            shared.lost_takes.fetch_add(refusal.lost, SeqCst);
+            station
+        }
+    }
+}
+
+// Tries and takes in turn, until a try and a take were lost to another station.
+fn race(cube: &Cube, station: Station, shared: &Shared) -> Station
+    requires cube { IsStationOf cube.now station }
+    requires dim { cube_dim cube.now ≡ 0 }
+    ensures { IsStationOf cube.now result }
+{
+    let mut station = station;
+    for _ in 0..20_000_000u64 {
+        if shared.lost_tries.load(SeqCst) > 0 && shared.lost_takes.load(SeqCst) > 0 {
+            return station;
+        }
+        station = take_whole(cube, try_root(cube, station, shared), shared);
+    }
+    station
+}
+
+// What each station does: one take of a processor on a machine of dimension 2, and takes of the whole on
+// a machine of one processor.
 fn act(cube: &Cube, station: Station, shared: &Shared) -> Station
     requires cube { IsStationOf cube.now station }
     requires dim { cube_dim cube.now ≡ shared.now.dim }
     ensures { IsStationOf cube.now result }
 {
     match shared.dim {
-        5 => turns(cube, station, shared),
         2 => hold(cube, station, shared),
+        0 => race(cube, station, shared),
         _ => station,
     }
 }
@@ -215,7 +193,9 @@ fn retire_all(cube: &Cube, slots: &mut Vec<Option<Station>>)
 {
     while let Some(slot) = slots.pop() {
         match slot {
-            Some(station) => station.retire(cube),
+            Some(station) => {
+                station.retire(cube);
+            }
             None => (),
         }
     }
@@ -235,18 +215,17 @@ fn play<R: Threads + Sync + Abort>(rt: &R, alloc: Global, stations: u32, shared:
 }
 
 #[test]
-fn a_crowd_holds_no_processor_twice(rt: HostRuntime) -> Result<(), Fail> {
-    let shared = unused(rt.alloc(), 5)?;
-    play(&rt, rt.alloc(), 8, &shared);
-    assert_eq!(rt; shared.clashes.load(SeqCst), 0);
-    assert!(rt; shared.given.iter().all(|count| count.load(SeqCst) > 0));
-    Ok(())
+fn four_threads_hold_a_processor_each(rt: HostRuntime) {
+    let shared = unused(2);
+    play(&rt, rt.alloc(), 4, &shared);
+    assert_eq!(rt; shared.met.load(SeqCst), 4);
 }
 
 #[test]
-fn four_threads_hold_a_processor_each(rt: HostRuntime) -> Result<(), Fail> {
-    let shared = unused(rt.alloc(), 2)?;
+fn a_lost_claim_is_told_and_counted(rt: HostRuntime) {
+    let shared = unused(0);
     play(&rt, rt.alloc(), 4, &shared);
-    assert_eq!(rt; shared.met.load(SeqCst), 4);
-    Ok(())
+    assert!(rt; shared.lost_tries.load(SeqCst) > 0);
+    assert!(rt; shared.lost_takes.load(SeqCst) > 0);
+    assert_eq!(rt; shared.miscounted.load(SeqCst), 0);
 }

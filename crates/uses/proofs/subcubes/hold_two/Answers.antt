@@ -1,8 +1,22 @@
-use Rattle.std.proofs.Common.{subst}
-use Rattle.cube_shape.specs.Region.{Covers}
+use Rattle.std.proofs.Common.{◌∙◌, ap, sym, subst}
+use Rattle.cube_shape.specs.declared.region.Region.{Region}
+use Rattle.cube_shape.specs.Region.{IsAligned}
+use Rattle.cube_tree.specs.Handles.{cube_dim}
 use Rattle.uses.proofs.subcubes.hold_two.Goals as goal
 
-pub returns : goal.returns
-returns c p in_first in_second = c.apart-subcube.ensures.apart p
-    (subst (λ region. Covers region p) c.region.ensures in_first)
-    (subst (λ region. Covers region p) c.region-2.ensures in_second)
+-- what is told are the regions of the subcubes that `apart` gave back
+pub returns-clause-apart : goal.returns-clause-apart
+returns-clause-apart c = rw (c.region.ensures, c.region-2.ensures) c.apart-subcube.ensures.apart
+
+-- and these are those that were taken
+pub returns-clause-aligned : goal.returns-clause-aligned
+returns-clause-aligned c = (
+  subst (IsAligned (cube_dim c.args.cube.now)) (sym (c.region.ensures ∙ c.apart-subcube.ensures.first.region_is)) c.in-Ok.ensures.aligned,
+  subst (IsAligned (cube_dim c.args.cube.now)) (sym (c.region-2.ensures ∙ c.apart-subcube.ensures.second.region_is)) c.in-Ok-try_take_skipping.ensures.aligned,
+)
+
+pub returns-clause-dimensions : goal.returns-clause-dimensions
+returns-clause-dimensions c = (
+  ap (λ (r : Region). r.dim) (c.region.ensures ∙ c.apart-subcube.ensures.first.region_is) ∙ c.in-Ok.ensures.dimension,
+  ap (λ (r : Region). r.dim) (c.region-2.ensures ∙ c.apart-subcube.ensures.second.region_is) ∙ c.in-Ok-try_take_skipping.ensures.dimension,
+)

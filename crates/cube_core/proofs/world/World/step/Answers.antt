@@ -1,7 +1,7 @@
 -- The event's node has a word, and the state becomes what the act makes of it.
 use Rattle.std.proofs.Common.{arith}
 use Rattle.cube_core.specs.declared.act.Act.TheVariants.{Step}
-use Rattle.cube_core.proofs.WorldLemmas.{node_in_words, word_there, step_accepted, apply_event_by, step_count, others_same, IsWorld-lawful, IsWorld-apply, IsWorld-of}
+use Rattle.cube_core.proofs.WorldLemmas.{node_in_words, word_there, step_accepted, apply_event_by, step_count, others_same, event_told_by, IsWorld-lawful, IsWorld-apply, IsWorld-of}
 use Rattle.cube_core.proofs.world.World.step.Goals as goal
 
 pub index_mut-requires : goal.index_mut-requires
@@ -44,3 +44,9 @@ returns-clause-others c =
     let none = step_accepted c.args.station c.in_ok-phase.phase c.args.self.now c.in_ok-phase.ensures.found.1 c.in_ok-phase.ensures.found.0 c.in-Some.ensures.moves in
     others_same (Step c.args.station) c.args.self.now _ (IsWorld-of c.self.view_is c.self.invariant)
     (apply_event_by c.args.station c.in_ok-phase.phase c.self.inside.dim c.self.inside.words.items c.self.inside.phases.items c.args.self.now c.in-Some.effect c.self.view_is none c.in_ok-phase.ensures.found.0 c.in-Some.ensures.effect)
+
+pub returns-clause-cause : goal.returns-clause-cause
+returns-clause-cause c =
+    let none = step_accepted c.args.station c.in_ok-phase.phase c.args.self.now c.in_ok-phase.ensures.found.1 c.in_ok-phase.ensures.found.0 c.in-Some.ensures.moves in
+    (IsWorld-lawful c.args.self.now (IsWorld-of c.self.view_is c.self.invariant)).caused c.args.station _ none
+    (event_told_by c.args.station c.in_ok-phase.phase c.args.self.now c.in-Some.effect c.in_ok-phase.ensures.found.1 none c.in_ok-phase.ensures.found.0 c.in-Some.ensures.effect)

@@ -8,8 +8,9 @@ finish-requires-clause-retired c = whole_roll c.load_roll.ensures.loads
     (bits_of _ c.load_roll.result c.retire_each.new.seat.me _ c.load_roll.ensures.loads c.retire_each.ensures.gone (λ s below. subst (λ n. 0 < n) (sym (c.retire_each.ensures.there s)) (c.requires.all s below)))
 
 pub returns-clause-roll : goal.returns-clause-roll
-returns-clause-roll c = (
-  c.load_roll.result,
-  c.finish.ensures.loads ∙ ap (λ (m : Known). m.0.loads) c.load_roll.ensures.loads.kept ∙ ap (λ l. c.load_roll.result ∷ l) c.retire_each.ensures.loads,
-  bits_of _ c.load_roll.result c.retire_each.new.seat.me _ c.load_roll.ensures.loads c.retire_each.ensures.gone (λ s below. subst (λ n. 0 < n) (sym (c.retire_each.ensures.there s)) (c.requires.all s below)),
-)
+returns-clause-roll c = record {
+  roll = c.load_roll.result;
+  loads = c.finish.ensures.loads ∙ ap (λ (m : Known). m.0.loads) c.load_roll.ensures.loads.kept ∙ ap (λ l. c.load_roll.result ∷ l) c.retire_each.ensures.loads;
+  whole = bits_of _ c.load_roll.result c.retire_each.new.seat.me _ c.load_roll.ensures.loads c.retire_each.ensures.gone (λ s below. subst (λ n. 0 < n) (sym (c.retire_each.ensures.there s)) (c.requires.all s below));
+  word = c.finish.ensures.roll c.load_roll.result _ (ap (λ (m : Known). m.0.loads) c.load_roll.ensures.loads.kept);
+}

@@ -5,8 +5,10 @@ use Rattle.tree_steps.proofs.BoundLemmas.{take_bound}
 use Rattle.cube_shape.specs.declared.limits.TheConstants.{MAX_DIM}
 use Rattle.cube_core.specs.Held.{region_at}
 use Rattle.tree_steps.specs.declared.view.Size.{Size}
-use Rattle.cube_tree.specs.Handles.{station_entry}
-use Rattle.cube_tree.proofs.HandleLemmas.{begun_after, makes_after}
+use Rattle.cube_shape.specs.Region.{IsAligned}
+use Rattle.tree_steps.proofs.WalkLemmas.{station_of_begun}
+use Rattle.cube_tree.specs.Handles.{cube_dim, station_entry}
+use Rattle.cube_tree.proofs.HandleLemmas.{begun_after, makes_after, node_aligned, node_names}
 use Rattle.cube_tree.proofs.handles.Station.try_node.Goals as goal
 
 pub invariant_of-result : goal.invariant_of-result
@@ -29,20 +31,26 @@ invariant_of-result-in-Err c = record {
 
 pub returns-in-Ok-clause-taken : goal.returns-in-Ok-clause-taken
 returns-in-Ok-clause-taken c =
-    let makes = makes_after c.args.self.idle (Looking c.args.node.0) c.in-Ok.ensures.walks in record {
+    let makes = makes_after c.args.self.idle (Looking c.args.node.0) c.in-Ok.ensures.walks in
+    let region_is = c.region_at_node.ensures ∙ ap (λ (size : Size). region_at size.dim c.args.node.0) c.size-dim.ensures in record {
       of_cube = search rules;
+      number = station_of_begun (Looking c.args.node.0) c.args.self.seat.me c.in-Ok.ensures.walks;
       makes = makes;
       holds = c.in-Ok.ensures.phase.phase;
       node_is = refl;
-      region_is = c.region_at_node.ensures ∙ ap (λ (size : Size). region_at size.dim c.args.node.0) c.size-dim.ensures;
+      region_is = region_is;
+      aligned = subst (IsAligned (cube_dim c.args.cube.now)) (sym region_is) (node_aligned (cube_dim c.args.cube.now) c.args.node.0 c.requires.node);
+      asked = λ r named. region_is ∙ node_names (cube_dim c.args.cube.now) c.args.node.0 c.requires.node r named;
       bound = take_bound _ c.args.node.0 (station_entry c.args.self) _ c.requires.node makes;
     }
 
 pub returns-in-Err-clause-refused : goal.returns-in-Err-clause-refused
 returns-in-Err-clause-refused c =
     let makes = makes_after c.args.self.idle (Looking c.args.node.0) c.in-Err.ensures.walks in record {
+      number = station_of_begun (Looking c.args.node.0) c.args.self.seat.me c.in-Err.ensures.walks;
       makes = makes;
       idle = c.in-Err.ensures.phase.phase;
       answer = c.in-Err.ensures.refused;
+      names = c.in-Err.ensures.names;
       bound = take_bound _ c.args.node.0 (station_entry c.args.self) _ c.requires.node makes;
     }

@@ -1,8 +1,9 @@
-use Rattle.std.proofs.Common.{◌≡◌, ◌+◌, ◌-◌, ◌^◌, sym, subst, arith}
+use Rattle.std.proofs.Common.{◌≡◌, ◌+◌, ◌-◌, ◌^◌, sym, ◌∙◌, ap, subst, arith}
+use Rattle.cube_shape.specs.declared.region.Region.{Region}
 use Rattle.cube_shape.specs.Node.{IsInCube}
 use Rattle.cube_tree.specs.Handles.{cube_dim, station_entry, IsRefusedTry, TakesNode}
 use Rattle.cube_tree.specs.Tries.{Tries}
-use Rattle.cube_tree.proofs.TryLemmas.{node_of_level, tries_sum, refused_all, takes_one, one_more}
+use Rattle.cube_tree.proofs.TryLemmas.{node_of_level, dim_of_level, tries_sum, refused_all, takes_one, one_more}
 use Rattle.cube_tree.proofs.handles.Station.try_take.Goals as goal
 
 pub try_node-requires-clause-node : goal.try_node-requires-clause-node
@@ -15,6 +16,15 @@ returns-in-Ok-clause-taken c =
     let count = c.region_count-nodes.ensures.value in
     takes_one c.args.cube.now c.args.k c.loop-m.m (station_entry c.args.self) (station_entry c.loop-m.station) c.loop-m.refusal _ c.requires.dim (omega (arith, count, c.loop-m-test.true)) c.loop-m.invariant.tries
     (subst (λ x. TakesNode c.args.cube.now (x + c.loop-m.m) (station_entry c.loop-m.station) c.in-Ok.subcube) count c.in-Ok.ensures.taken)
+
+pub returns-in-Ok-clause-aligned : goal.returns-in-Ok-clause-aligned
+returns-in-Ok-clause-aligned c = c.in-Ok.ensures.taken.aligned
+
+pub returns-in-Ok-clause-dimension : goal.returns-in-Ok-clause-dimension
+returns-in-Ok-clause-dimension c =
+    let count = c.region_count-nodes.ensures.value in
+    ap (λ (r : Region). r.dim) c.in-Ok.ensures.taken.region_is
+    ∙ dim_of_level (cube_dim c.args.cube.now) c.args.k (c.region_count-nodes.result + c.loop-m.m) c.requires.dim (omega (arith, count)) (omega (arith, count, c.loop-m-test.true))
 
 pub count-refusal-requires : goal.count-refusal-requires
 count-refusal-requires c =

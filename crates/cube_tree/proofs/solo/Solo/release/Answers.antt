@@ -11,4 +11,5 @@ invariant_of-self c =
       table = c.give_back.ensures.table ∙ c.args.self.now.table ∙ sym c.give_back.ensures.same.0;
       state = subst (λ (size : Size). Represents size.dim size.stations (set c.args.self.now.nodes.items c.args.station None) c.give_back.new.seat.me) (sym c.give_back.ensures.same.1)
           (released_state c.args.self.now.state c.args.station (omega (arith, there, size)) c.give_back.ensures.moved);
+      told = c.give_back.ensures.told;
     }

@@ -14,6 +14,7 @@ invariant_of-self c =
       table = c.take_first.ensures.table ∙ c.args.self.now.table ∙ sym c.take_first.ensures.same.0;
       state = subst (λ (size : Size). Represents size.dim size.stations c.args.self.now.nodes.items c.take_first.new.seat.me) (sym c.take_first.ensures.same.1)
           (refused_state c.args.self.now.state c.in-Some.station found.idle c.in_default-take_first.ensures.moved);
+      told = c.take_first.ensures.told;
     }
 
 pub returns-in_default-take_first-clause-no_subcube : goal.returns-in_default-take_first-clause-no_subcube
@@ -32,6 +33,7 @@ invariant_of-self-2 c =
       table = c.take_first.ensures.table ∙ c.args.self.now.table ∙ sym c.take_first.ensures.same.0;
       state = subst (λ (size : Size). Represents size.dim size.stations (set c.args.self.now.nodes.items c.in-Some.station (Some record { 0 = c.in-Some-take_first.node })) c.take_first.new.seat.me) (sym c.take_first.ensures.same.1)
           (taken_state c.args.self.now.state c.in-Some.station (omega (arith, there, size)) found.idle c.requires record { 0 = c.in-Some-take_first.node } c.in-Some-take_first.ensures.moved c.in-Some-take_first.ensures.first);
+      told = c.take_first.ensures.told;
     }
 
 pub returns-clause-given : goal.returns-clause-given

@@ -53,7 +53,7 @@ loop-piece-smaller g c =
     less
 
 pub returns-clause-run : goal.returns-clause-run
-returns-clause-run g c = ring_run _ _ _ _ _ _ _ _ _ c.args.end.known c.loop-piece.invariant.1 c.in_default.ensures.rule.1
+returns-clause-run g c = ring_run _ _ _ _ _ _ _ _ _ c.args.end.known c.loop-piece.invariant.1 c.in_default.ensures.rule.1 c.requires.lanes c.requires.passes
 
 pub returns-clause-numbers : goal.returns-clause-numbers
 returns-clause-numbers g c = lanes_there _ _ _ _ _ _ _ _ _ c.args.end.known c.loop-piece.invariant.1 c.in_default.ensures.rule.1

@@ -4,17 +4,11 @@ use Rattle.tree_floor.proofs.HandleLemmas.{takes, stays}
 use Rattle.tree_floor.proofs.tree_floor.TreeFloorFloor.take.Goals as goal
 
 pub returns-in-Ok-clause-of_floor : goal.returns-in-Ok-clause-of_floor
-returns-in-Ok-clause-of_floor g c = (takes c.args.self.now.cube c.args.k c.loop.station c.in-Ok.subcube c.requires.dim c.loop.invariant.0 c.in-Ok.ensures.taken).of_floor
-
-pub returns-in-Ok-clause-aligned : goal.returns-in-Ok-clause-aligned
-returns-in-Ok-clause-aligned g c = (takes c.args.self.now.cube c.args.k c.loop.station c.in-Ok.subcube c.requires.dim c.loop.invariant.0 c.in-Ok.ensures.taken).aligned
-
-pub returns-in-Ok-clause-dimension : goal.returns-in-Ok-clause-dimension
-returns-in-Ok-clause-dimension g c = (takes c.args.self.now.cube c.args.k c.loop.station c.in-Ok.subcube c.requires.dim c.loop.invariant.0 c.in-Ok.ensures.taken).dimension
+returns-in-Ok-clause-of_floor g c = (takes c.args.self.now.cube (cube_dim c.args.self.now.cube - c.args.k) c.loop.station c.in-Ok.subcube c.loop.invariant.0 c.in-Ok.ensures.taken).of_floor
 
 pub returns-in-Ok-clause-granted : goal.returns-in-Ok-clause-granted
 returns-in-Ok-clause-granted g c =
-    let t = takes c.args.self.now.cube c.args.k c.loop.station c.in-Ok.subcube c.requires.dim c.loop.invariant.0 c.in-Ok.ensures.taken in
+    let t = takes c.args.self.now.cube (cube_dim c.args.self.now.cube - c.args.k) c.loop.station c.in-Ok.subcube c.loop.invariant.0 c.in-Ok.ensures.taken in
     t.granted ∙ ap (λ regions. regions ++ c.in-Ok.subcube.region ∷ []) c.loop.invariant.1
 
 pub loop-preserved : goal.loop-preserved

@@ -1,7 +1,9 @@
-use Rattle.std.proofs.Common.{rules, arith}
+use Rattle.std.proofs.Common.{rules, arith, ◌/◌}
 use Rattle.tree_steps.proofs.EventLemmas.{walks_on, path_up}
 use Rattle.tree_steps.proofs.WalkLemmas.{answered_before}
-use Rattle.tree_steps.proofs.AloneLemmas.{blocked_before, alone_after}
+use Rattle.tree_steps.proofs.AloneLemmas.{others_before, alone_after}
+use Rattle.tree_steps.specs.Alone.{HasHolder}
+use Rattle.cube_shape.proofs.PathLemmas.{OnPath-le}
 use Rattle.tree_steps.proofs.tree.Tree.climb.Goals as goal
 
 pub pass-requires-clause-on_path : goal.pass-requires-clause-on_path
@@ -13,6 +15,11 @@ returns-then-not-pass-clause-walks c = walks_on c.loop-at.invariant.walks c.pass
 pub returns-then-not-pass-clause-refused : goal.returns-then-not-pass-clause-refused
 returns-then-not-pass-clause-refused c = answered_before c.loop-at.invariant.walks c.if-not-pass.ensures.refused
 
+pub returns-then-not-pass-clause-names : goal.returns-then-not-pass-clause-names
+returns-then-not-pass-clause-names c =
+    let le = OnPath-le c.loop-at.at c.args.node c.loop-at.invariant.on_path in
+    (path_up c.loop-at.at c.args.node c.loop-at-test.true c.loop-at.invariant.on_path, omega (arith, le, c.loop-at-test.true))
+
 pub loop-at-preserved : goal.loop-at-preserved
 loop-at-preserved c = record {
   same = search rules;
@@ -22,5 +29,5 @@ loop-at-preserved c = record {
   on_path = path_up c.loop-at.at c.args.node c.loop-at-test.true c.loop-at.invariant.on_path;
 }
 
-pub returns-then-not-pass-clause-exact : goal.returns-then-not-pass-clause-exact
-returns-then-not-pass-clause-exact c = λ alone. blocked_before c.args.node c.loop-at.invariant.walks (c.if-not-pass.ensures.exact (alone_after c.loop-at.invariant.walks alone))
+pub returns-then-not-pass-clause-holder : goal.returns-then-not-pass-clause-holder
+returns-then-not-pass-clause-holder c = λ alone. others_before (HasHolder (c.loop-at.at / 2)) c.loop-at.invariant.walks (c.if-not-pass.ensures.holder (alone_after c.loop-at.invariant.walks alone))

@@ -2,7 +2,8 @@ use Rattle.cube_core.specs.declared.phase.Phase.TheVariants.{Looking}
 use Rattle.std.proofs.Common.{◌∙◌}
 use Rattle.tree_steps.proofs.EventLemmas.{walks_on}
 use Rattle.tree_steps.proofs.WalkLemmas.{station_of_begun, answered_begun, answered_after}
-use Rattle.tree_steps.proofs.AloneLemmas.{alone_begun, blocked_begun}
+use Rattle.tree_steps.proofs.AloneLemmas.{alone_begun, others_begun, under_blocked}
+use Rattle.tree_steps.specs.Alone.{IsBlocked, HasHolder}
 use Rattle.tree_steps.proofs.tree.Tree.take.Goals as goal
 
 pub returns-then-not-claim-clause-walks : goal.returns-then-not-claim-clause-walks
@@ -24,9 +25,14 @@ pub returns-clause-refused : goal.returns-clause-refused
 returns-clause-refused c = answered_begun (Looking c.args.node) c.args.seat.now.me (walks_on c.look.ensures.walks c.claim.ensures.walks) (answered_after c.in-Some-climb.ensures.refused c.back_out.ensures.walks)
 
 pub returns-then-not-claim-clause-exact : goal.returns-then-not-claim-clause-exact
-returns-then-not-claim-clause-exact c = λ alone. blocked_begun c.args.node (Looking c.args.node) c.args.seat.now.me c.look.ensures.walks
+returns-then-not-claim-clause-exact c = λ alone. others_begun (IsBlocked c.args.node) (Looking c.args.node) c.args.seat.now.me c.look.ensures.walks
     (c.if-not-claim.ensures.exact (alone_begun (Looking c.args.node) c.args.seat.now.me c.look.ensures.walks alone) (c.in-Some.ensures.exact alone))
 
 pub returns-clause-exact : goal.returns-clause-exact
 returns-clause-exact c = λ alone. let walks = walks_on c.look.ensures.walks c.claim.ensures.walks in
-    blocked_begun c.args.node (Looking c.args.node) c.args.seat.now.me walks (c.in-Some-climb.ensures.exact (alone_begun (Looking c.args.node) c.args.seat.now.me walks alone))
+    others_begun (IsBlocked c.args.node) (Looking c.args.node) c.args.seat.now.me walks
+    (under_blocked c.in-Some-climb.at c.args.node _ c.in-Some-climb.ensures.names.0 (c.in-Some-climb.ensures.holder (alone_begun (Looking c.args.node) c.args.seat.now.me walks alone)))
+
+pub returns-clause-holder : goal.returns-clause-holder
+returns-clause-holder c = λ alone. let walks = walks_on c.look.ensures.walks c.claim.ensures.walks in
+    others_begun (HasHolder c.in-Some-climb.at) (Looking c.args.node) c.args.seat.now.me walks (c.in-Some-climb.ensures.holder (alone_begun (Looking c.args.node) c.args.seat.now.me walks alone))

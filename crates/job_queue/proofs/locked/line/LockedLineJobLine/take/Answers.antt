@@ -1,5 +1,4 @@
-use Rattle.std.proofs.Common.{◌≡◌, ℕ, ◌∷◌, [], Bool, Option, Some, None, true, false, sym, refl, ap, ◌∙◌}
-use Rattle.std.specs.Option.{MatchOption, is_some}
+use Rattle.std.proofs.Common.{◌≡◌, ◌∷◌, [], true, false, sym, refl, ap, ◌∙◌}
 use Rattle.std.proofs.lemmas.Bool.{true≢false}
 use Rattle.job_queue.specs.Inner.Locked.View.{reading}
 use Rattle.job_queue.specs.Inner.Locked.Step.{Sat, pass_in, after_reading}
@@ -26,8 +25,8 @@ hand_over-requires-clause-ready g c =
       record { jobs = s.0; accepted_by = s.1; entries = s.2; mark = s.3 },
     )
 
-pub closed_at-requires-clause-held : goal.closed_at-requires-clause-held
-closed_at-requires-clause-held g c =
+pub find_end-found-requires-clause-held : goal.find_end-found-requires-clause-held
+find_end-found-requires-clause-held g c =
     let t = c.enter.ensures.took in
     let p = c.in-Err.ensures.popped t.0 (ap (λ (m : Sat). m.1) t.1) in (p.0, ap (λ (m : Sat). m.1) p.1)
 
@@ -43,39 +42,34 @@ read-requires-clause-ready g c =
       r,
       x,
       y,
-      pass_out c.closed_at.new.seat.me m.0.about r x y (c.closed_at.ensures.same ∙ (p.1 ∙ ap (λ (m : Sat). (m.0, (0, y) ∷ [])) (pass_took m c.enter.new.seat.me c.args.pass.now.known t))),
+      pass_out c.find_end-found.new.seat.me m.0.about r x y (c.find_end-found.ensures.same ∙ (p.1 ∙ ap (λ (m : Sat). (m.0, (0, y) ∷ [])) (pass_took m c.enter.new.seat.me c.args.pass.now.known t))),
       s.0,
       record { jobs = s.1; accepted_by = s.2; entries = s.3; mark = s.4 },
     )
 
--- the closed mark, as the call read it
-mark_read : (o : Option ℕ) (shut : Bool) (n : ℕ) → MatchOption o (shut ≡ false) (λ k. (shut ≡ true) × (k ≡ n)) → shut ≡ is_some o
-mark_read (Some k) shut n read = read.0
-mark_read None shut n read = read
-
-pub returns-then-closed-clause-readings : goal.returns-then-closed-clause-readings
-returns-then-closed-clause-readings g c =
+pub returns-in-Some-clause-readings : goal.returns-in-Some-clause-readings
+returns-in-Some-clause-readings g c =
     let t = c.enter.ensures.took in
     let x = t.0 in
     let m = c.args.pass.now.seat.me in
     let p = c.in-Err.ensures.popped x (ap (λ (m : Sat). m.1) t.1) in
     let y = p.0 in
-    let is = c.closed_at.ensures.same ∙ (p.1 ∙ ap (λ (m : Sat). (m.0, (0, y) ∷ [])) (pass_took m c.enter.new.seat.me c.args.pass.now.known t)) in
-    let mark : x.closed ≡ true = sym p.2.4.0 ∙ (mark_read c.closed_at.result y.closed y.entries (c.closed_at.ensures.value y (ap (λ (m : Sat). m.1) p.1)) ∙ (sym c.is_some-closed.ensures ∙ c.if-closed.true)) in (
+    let is = c.find_end-found.ensures.same ∙ (p.1 ∙ ap (λ (m : Sat). (m.0, (0, y) ∷ [])) (pass_took m c.enter.new.seat.me c.args.pass.now.known t)) in
+    let mark : x.closed ≡ true = sym p.2.4.0 ∙ c.in-Some.ensures.value y (ap (λ (m : Sat). m.1) p.1) in (
       reading x.entries x.entries x.closed,
       ap (λ (m : Sat). (pass_in m.0.passes).readings) (c.read.ensures.gained ∙ ap after_reading is),
       (mark, refl),
     )
 
-pub returns-else-closed-clause-readings : goal.returns-else-closed-clause-readings
-returns-else-closed-clause-readings g c =
+pub returns-in-None-clause-readings : goal.returns-in-None-clause-readings
+returns-in-None-clause-readings g c =
     let t = c.enter.ensures.took in
     let x = t.0 in
     let m = c.args.pass.now.seat.me in
     let p = c.in-Err.ensures.popped x (ap (λ (m : Sat). m.1) t.1) in
     let y = p.0 in
-    let is = c.closed_at.ensures.same ∙ (p.1 ∙ ap (λ (m : Sat). (m.0, (0, y) ∷ [])) (pass_took m c.enter.new.seat.me c.args.pass.now.known t)) in
-    let mark : x.closed ≡ false = sym p.2.4.0 ∙ (mark_read c.closed_at.result y.closed y.entries (c.closed_at.ensures.value y (ap (λ (m : Sat). m.1) p.1)) ∙ (sym c.is_some-closed.ensures ∙ c.if-closed.false)) in (
+    let is = c.find_end-found.ensures.same ∙ (p.1 ∙ ap (λ (m : Sat). (m.0, (0, y) ∷ [])) (pass_took m c.enter.new.seat.me c.args.pass.now.known t)) in
+    let mark : x.closed ≡ false = sym p.2.4.0 ∙ c.in-None.ensures.value y (ap (λ (m : Sat). m.1) p.1) in (
       reading x.entries x.entries x.closed,
       ap (λ (m : Sat). (pass_in m.0.passes).readings) (c.read.ensures.gained ∙ ap after_reading is),
       λ seals. true≢false (sym seals.0 ∙ mark),

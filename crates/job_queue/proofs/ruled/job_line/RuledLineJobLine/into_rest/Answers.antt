@@ -11,8 +11,8 @@ use Rattle.job_queue.specs.declared.record.QueuedJob.{QueuedJob}
 use Rattle.job_queue.specs.declared.ruled.handle.RuledLane.{RuledLane}
 use Rattle.job_queue.specs.Record.{accepted}
 use Rattle.job_queue.specs.Inner.Ruled.Handle.{line_id, is_lane, lane_record, gate_lanes, gate_passes, ring_lanes, ring_passes}
-use Rattle.job_queue.proofs.DealtLemmas.{length-counts}
-use Rattle.job_queue.proofs.EndJoinLemmas.{all_settled, numbers_total, end_joined, accepted_counts}
+use Rattle.job_queue.proofs.DealtLemmas.{length-counts, number_of}
+use Rattle.job_queue.proofs.EndJoinLemmas.{all_settled, numbers_total, within_line, end_joined, accepted_counts}
 use Rattle.job_queue.proofs.ruled.job_line.RuledLineJobLine.into_rest.Goals as goal
 
 pub end-requires-clause-settled : goal.end-requires-clause-settled
@@ -26,7 +26,9 @@ returns-clause-run g c =
     let ls = c.args.lanes.items in
     let ps = c.args.passes.items in
     let note = c.requires.note.3 in
-    end_joined ls ps c.into_rest-jobs.result.items c.args.note.gate.number _ _ _ _ _
+    let id = line_id c.args.self in
+    let within = subst (λ (n : ℕ). AllByRecursion (λ (l : RuledLane). number_of l < n) ls) (sym c.requires.all_lanes) (within_line id ls (recursion_from_All (is_lane id) ls c.requires.lanes)) in
+    end_joined ls ps c.into_rest-jobs.result.items c.args.note.gate.number _ _ _ _ _ within
     (c.gather_passes.ensures.gate_same.0 ∙ (c.gather_lanes.ensures.gate_lanes ∙ ap (λ (xs : List LaneEntries). xs ++ gate_lanes ls) c.into_end-gate_end.ensures.lanes))
     (c.gather_passes.ensures.gate_passes ∙ ap (λ (xs : List PassReadings). xs ++ gate_passes ps) (c.gather_lanes.ensures.gate_same.0 ∙ c.into_end-gate_end.ensures.passes))
     (c.gather_passes.ensures.gate_same.1 ∙ (c.gather_lanes.ensures.gate_same.1 ∙ c.into_end-gate_end.ensures.number))

@@ -21,14 +21,14 @@ put-requires-clause-count g c = let lane = c.args.lane.now in omega (arith, join
 pub invariant_of-lane-2 : goal.invariant_of-lane-2
 invariant_of-lane-2 g c =
     let lane = c.args.lane.now in
-    let pending = c.in-Ok.ensures.known ∙ ap (after_enter c.in-Ok.number) c.in_default.ensures.known in
-    record { joined = joined_put lane.gate.known (ring_record lane.ring) lane.entries lane.joined c.in-Ok.number c.args.job c.put.result c.enter.new.lane.known c.put.new.gate.known (ring_record c.put.new.ring) (omega (arith, c.if-lane-ge-MAX_ENTRIES.false)) pending c.put.ensures.puts }
+    let pending = c.in-Ok.ensures.known ∙ ap (after_enter c.in-Ok.entered) c.in_default.ensures.known in
+    record { joined = joined_put lane.gate.known (ring_record lane.ring) lane.entries lane.joined c.in-Ok.entered c.args.job c.put.result c.enter.new.lane.known c.put.new.gate.known (ring_record c.put.new.ring) (omega (arith, c.if-lane-ge-MAX_ENTRIES.false)) pending c.put.ensures.puts }
 
 pub returns-in-Ok-put-clause-accepted : goal.returns-in-Ok-put-clause-accepted
 returns-in-Ok-put-clause-accepted g c =
     let lane = c.args.lane.now in
-    let pending = c.in-Ok.ensures.known ∙ ap (after_enter c.in-Ok.number) c.in_default.ensures.known in
-    put_gains_job lane.gate.known (ring_record lane.ring) lane.entries lane.joined c.in-Ok.number c.args.job c.enter.new.lane.known c.put.new.gate.known (ring_record c.put.new.ring) pending c.in-Ok-put.receipt c.in-Ok-put.ensures.puts
+    let pending = c.in-Ok.ensures.known ∙ ap (after_enter c.in-Ok.entered) c.in_default.ensures.known in
+    put_gains_job lane.gate.known (ring_record lane.ring) lane.entries lane.joined c.in-Ok.entered c.args.job c.enter.new.lane.known c.put.new.gate.known (ring_record c.put.new.ring) pending c.in-Ok-put.receipt c.in-Ok-put.ensures.puts
 
 pub returns-in-Ok-put-clause-id : goal.returns-in-Ok-put-clause-id
 returns-in-Ok-put-clause-id g c =
@@ -42,8 +42,8 @@ returns-in-Ok-put-clause-spent_first g c = let lane = c.args.lane.now in λ all.
 pub returns-in-Err-put-clause-refused : goal.returns-in-Err-put-clause-refused
 returns-in-Err-put-clause-refused g c =
     let lane = c.args.lane.now in
-    let pending = c.in-Ok.ensures.known ∙ ap (after_enter c.in-Ok.number) c.in_default.ensures.known in
-    (c.in-Ok.number, put_gains_none lane.gate.known (ring_record lane.ring) lane.entries lane.joined c.in-Ok.number c.args.job c.enter.new.lane.known c.put.new.gate.known (ring_record c.put.new.ring) pending c.in-Err-put.job c.in-Err-put.ensures.puts)
+    let pending = c.in-Ok.ensures.known ∙ ap (after_enter c.in-Ok.entered) c.in_default.ensures.known in
+    (c.in-Ok.entered, put_gains_none lane.gate.known (ring_record lane.ring) lane.entries lane.joined c.in-Ok.entered c.args.job c.enter.new.lane.known c.put.new.gate.known (ring_record c.put.new.ring) pending c.in-Err-put.job c.in-Err-put.ensures.puts)
 
 pub returns-in-Err-put-clause-spent_first : goal.returns-in-Err-put-clause-spent_first
 returns-in-Err-put-clause-spent_first g c = let lane = c.args.lane.now in λ all. absurd (omega (arith, all, joined_length lane.gate.known (ring_record lane.ring) lane.entries lane.joined, c.if-lane-ge-MAX_ENTRIES.false))

@@ -1,0 +1,57 @@
+-- A search of one level of nodes that passes over those under an ancestor which a try found occupied.
+use Rattle.std.specs.Prelude.{◌≡◌, ℕ, ◌+◌, ◌*◌, ◌^◌, ◌<◌, ◌≤◌, ◌⊎◌, List, [], ◌∷◌, All, Any, length, MatchOption}
+use Rattle.cube_shape.specs.Node.{OnPath}
+use Rattle.tree_steps.specs.declared.why.Why.{Why}
+use Rattle.tree_steps.specs.declared.view.Entry.{Entry}
+use Rattle.tree_steps.specs.Answer.{ancestor_of}
+use Rattle.cube_tree.specs.declared.refusal.Refusal.{Refusal}
+use Rattle.cube_tree.specs.declared.handles.Cube.{Cube}
+use Rattle.cube_tree.specs.declared.handles.Subcube.{Subcube}
+use Rattle.cube_tree.specs.Handles.{cube_dim, subcube_entry, held_node, IsRefusedTry, TakesNode}
+use Rattle.cube_tree.specs.Tries.{refusal_sum, refusals_in, added}
+
+-- a try that was refused: its node, and why
+pub record RefusedTry : Type 0 where
+  pub node : ℕ
+  pub why : Why
+
+-- the refusal stands for node v: v is the node that was tried, or is under the ancestor that was occupied
+abbrev pub StandsFor : ℕ → RefusedTry → Type 0
+StandsFor v t = (t.node ≡ v) ⊎ MatchOption (ancestor_of t.why) ⊥ (λ at. OnPath at v)
+
+-- node v comes after the node that was tried, and the refusal does not stand for it
+abbrev pub IsPassedFor : ℕ → RefusedTry → Type 0
+IsPassedFor v t = (t.node < v) × (StandsFor v t → ⊥)
+
+-- a station made these tries, the newest first, and each was refused; their nodes rise, and no try is of a
+-- node for which an earlier refusal stands
+abbrev pub AreRefused : ℕ → List RefusedTry → Entry → Entry → Type 0
+AreRefused n [] old new = new ≡ old
+AreRefused n (t ∷ earlier) old new = (between : Entry) × AreRefused n earlier old between × IsRefusedTry n t.node between new t.why × All (IsPassedFor t.node) earlier
+
+-- by these tries a station searched the level that is j levels below the root up to the node `end`: for
+-- each node of the level before that one some refusal stands
+pub record Searches (n j end : ℕ) (tries : List RefusedTry) (old new : Entry) : Type 0 where
+  pub refused : AreRefused n tries old new
+  pub level : All (λ t. (2 ^ j ≤ t.node) × (t.node < end)) tries
+  pub each : (v : ℕ) → 2 ^ j ≤ v → v < end → Any (StandsFor v) tries
+
+-- after a search up to its node, for which no refusal stands, it took this node
+pub record TakesNext (cube : Cube) (j : ℕ) (old : Entry) (subcube : Subcube) : Type 0 where
+  pub tries : List RefusedTry
+  pub between : Entry
+  pub searches : Searches (cube_dim cube) j (held_node subcube) tries old between
+  pub order : All (IsPassedFor (held_node subcube)) tries
+  pub low : 2 ^ j ≤ held_node subcube
+  pub high : held_node subcube < 2 * 2 ^ j
+  pub taken : TakesNode cube (held_node subcube) between subcube
+  pub bound : length (subcube_entry subcube).trail ≤ length old.trail + 2 ^ j * (3 + 7 * j)
+
+-- it searched the whole level; there is one refusal for each try, and the counts are those of the events
+pub record IsRefusedEach (n j : ℕ) (old new : Entry) (refusal : Refusal) : Type 0 where
+  pub tries : List RefusedTry
+  pub searches : Searches n j (2 * 2 ^ j) tries old new
+  pub few : length tries ≤ 2 ^ j
+  pub sum : refusal_sum refusal ≡ length tries
+  pub events : refusals_in new.trail ≡ added refusal (refusals_in old.trail)
+  pub bound : length new.trail ≤ length old.trail + length tries * (3 + 7 * j)

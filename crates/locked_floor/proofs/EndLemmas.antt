@@ -1,0 +1,65 @@
+-- Once all stations have come together and hold nothing, the bits are at home, and wholly free.
+use Rattle.std.proofs.Common.{◌≡◌, ◌≢◌, ℕ, ◌+◌, ◌<◌, ◌≤◌, None, List, [], ◌∷◌, length, sym, ap, ◌∙◌, subst, arith}
+use Rattle.std.specs.List.{AllByRecursion}
+use Rattle.std.proofs.lemmas.Bool.{cases_lt}
+use mathlib.Core.Logic.{dite}
+use mathlib.Core.Option.{some, some-injective}
+use native.Mathlib.Decide.{ℕ_discrete}
+use lib.ListN.{get_elem?}
+use Rattle.atomic_table.specs.Table.{Seen, Final}
+use Rattle.histories.specs.Sums.{total, is_at}
+use Rattle.histories.proofs.SumLemmas.{positive_term, is_at-other}
+use Rattle.histories.proofs.ViewLemmas.{True, has_everyone, nobody_else}
+use Rattle.alloc_bits.specs.Allocation.{Allocation, held_in}
+use Rattle.locked_floor.specs.declared.view.Size.{Size}
+use Rattle.locked_floor.specs.declared.view.StationRecord.{StationRecord}
+use Rattle.locked_floor.specs.declared.view.View.{View}
+use Rattle.locked_floor.specs.Inner.View.{out_of, is_out}
+use Rattle.locked_floor.specs.Inner.Deed.{station_part, held_after}
+use Rattle.locked_floor.specs.Inner.Rule.{Fits, Keeps}
+use Rattle.locked_floor.specs.Inner.Step.{Sat}
+use Rattle.locked_floor.specs.Inner.End.{IsWhole}
+use Rattle.locked_floor.proofs.DeedLemmas.{held_beyond}
+use Rattle.locked_floor.proofs.KeepLemmas.{St, stations_in, station_number}
+
+-- a station with a record in the list, all of whose records hold nothing, holds nothing
+idle_there : (recorded : ℕ → StationRecord) (n k : ℕ) (rs : List StationRecord) → AllByRecursion (True stations_in station_number n recorded) rs → AllByRecursion (λ r. r.holds ≡ None) rs
+    → total (λ r. is_at k (station_number r)) rs ≡ 1 → (recorded k).holds ≡ None
+idle_there recorded n k [] true idle one = absurd (omega arith)
+idle_there recorded n k (r ∷ rs) true idle one =
+    dite (ℕ_discrete r.number k)
+    (λ e. subst (λ (j : ℕ). (recorded j).holds ≡ None) e (ap (λ (z : StationRecord). z.holds) (sym true.0.0) ∙ idle.0))
+    (λ ne. idle_there recorded n k rs true.1 idle.1 (omega (arith, is_at-other k r.number ne)))
+
+module _ (size : Size) (s : St) (k : Keeps size s) (id : ℕ) (m : Sat) (me : get_elem? s.views id ≡ some m.0) (whole : IsWhole size m) where
+  -- no seat has taken the slot: it would be a station's, and they are all here
+  nobody_out : total is_out s.views ≡ 0
+  nobody_out =
+      dite (ℕ_discrete (total is_out s.views) 0) (λ none. none)
+      (λ some_out.
+      let t = positive_term is_out s.views (omega arith) in
+      let j = t.0 in let u : View = t.1 in
+      let in_here : is_out m.0 ≡ 0 = ap out_of whole.found in
+      let apart : j ≢ id = λ e. let same : u ≡ m.0 = some-injective u m.0 (sym t.2 ∙ (ap (get_elem? s.views) e ∙ me)) in let none : is_out u ≡ 0 = ap is_out same ∙ in_here in absurd (omega (arith, t.3)) in
+      absurd (omega (
+        arith,
+        k.taken_by j u t.2 t.3,
+        ap length (nobody_else stations_in station_number s.views k.stations id m.0 me whole.stations j u apart t.2),
+      )))
+
+  at_home : (x : Allocation) × (get_elem? s.homes 0 ≡ some (some x)) × Fits size k.history x
+  at_home = k.home (sym k.out ∙ nobody_out)
+
+  all_idle : (station : ℕ) → held_after k.history station ≡ None
+  all_idle station = elim (cases_lt station size.stations) [
+    | Rattle.std.proofs.Common.inl below ↦ idle_there (station_part k.history) size.stations station m.0.stations (k.stations.each id m.0 me) whole.idle (has_everyone stations_in station_number s.views k.stations id m.0 me whole.stations station below)
+    | Rattle.std.proofs.Common.inr beyond ↦ held_beyond size k.history station k.legal beyond
+  ]
+
+-- the slot of a closed table has the bits at the end
+pub ends : (size : Size) (id : ℕ) (m : Sat) (ws : List ℕ) (xs : List Allocation) (x : Allocation) → Final (Seen (Keeps size) id m.0) ws xs → IsWhole size m → get_elem? xs 0 ≡ some x → (x.dim ≡ size.dim) × ((station : ℕ) → held_in x station ≡ None)
+ends size id m ws xs x final whole here =
+    let s = final.0 in let k = final.1.0 in let me = final.1.1 in
+    let t = at_home size s k id m me whole in
+    let same : t.0 ≡ x = some-injective t.0 x (sym (final.4 0 t.0 t.1) ∙ here) in
+    subst (λ (z : Allocation). (z.dim ≡ size.dim) × ((station : ℕ) → held_in z station ≡ None)) same (t.2.dim, λ station. t.2.held station ∙ all_idle size s k id m me whole station)

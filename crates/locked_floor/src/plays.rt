@@ -1,0 +1,66 @@
+// The rule of a locked floor's table, and the names of its steps.
+ghost use Rattle.std.specs.Prelude.{◌≡◌};
+ghost use Rattle.locked_floor.specs.Inner.View.{first_view, without_station, station_alone, joined, spent_view};
+ghost use Rattle.locked_floor.specs.Inner.Rule.{Keeps};
+ghost use Rattle.locked_floor.specs.Inner.Step.{took, after_grant, after_free, after_nothing, AreFirstTwoApart};
+
+use crate::view::{Size, View};
+use alloc_bits::AllocBits;
+use atomic_table::{Join, Play, Split, TableRule};
+
+pub struct FloorRule;
+
+impl TableRule<AllocBits, View, Size> for FloorRule {
+    ghost holds = { Keeps };
+
+    ghost first = { first_view };
+}
+
+pub struct Enter;
+
+impl Play<AllocBits, View> for Enter {
+    ghost then = { took };
+}
+
+pub struct Grant;
+
+impl Play<AllocBits, View> for Grant {
+    ghost then = { λ st before found after. after ≡ after_grant before };
+}
+
+pub struct Free;
+
+impl Play<AllocBits, View> for Free {
+    ghost then = { λ st before found after. after ≡ after_free before };
+}
+
+pub struct Leave;
+
+impl Play<AllocBits, View> for Leave {
+    ghost then = { λ st before found after. after ≡ after_nothing before };
+}
+
+pub struct Compare;
+
+impl Play<AllocBits, View> for Compare {
+    ghost then = { λ st before found after.
+        (after ≡ before) × AreFirstTwoApart before.0.stations };
+}
+
+// One station's record is dealt out.
+pub struct Deal;
+
+impl Split<View> for Deal {
+    ghost left = { without_station };
+
+    ghost right = { station_alone };
+}
+
+// The records of two seats come together.
+pub struct Gather;
+
+impl Join<View> for Gather {
+    ghost both = { joined };
+
+    ghost spent = { spent_view };
+}
