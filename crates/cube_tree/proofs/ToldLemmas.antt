@@ -54,7 +54,7 @@ told_after {n = n} {node = node} {words = words} {read = read} {old = old} {new 
     untouched v in_cube off =
         let had : TellsWord v (slice_index words v) (first_of old ∷ others old.0.stations) = subst (TellsWord v (slice_index words v)) was.there (told.nodes v in_cube) in
         let has : TellsWord v (slice_index words v) (first_of new ∷ others old.0.stations) = tells_moved v (slice_index words v) (first_of old) (first_of new) (others old.0.stations) in_cube.0
-            (λ h holds on. off (subst (OnPath v) (before h (sym was.phase ∙ holds)) on)) (λ h holds on. off (subst (OnPath v) (now h (sym is.phase ∙ holds)) on)) had in
+        (λ h holds on. off (subst (OnPath v) (before h (sym was.phase ∙ holds)) on)) (λ h holds on. off (subst (OnPath v) (now h (sym is.phase ∙ holds)) on)) had in
         subst (TellsWord v (slice_index words v)) (ap (λ rest. first_of new ∷ rest) (sym same) ∙ sym is.there) has
 
 -- after a walk of the first station from a phase at rest to another, where the words on the path are
