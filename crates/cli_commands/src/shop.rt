@@ -1,7 +1,7 @@
 // A shop for the jobs of a file.
 ghost use Rattle.std.specs.Prelude.{◌≡◌, ◌⊎◌, ◌≤◌, false, IfErr, IfOk, IfSome, length};
 ghost use Rattle.floors.specs.Floor.{IsWhollyFree};
-ghost use Rattle.job_types.specs.declared.request.TheConstants.{MAX_LANES};
+ghost use Rattle.cube_shape.specs.declared.limits.TheConstants.{MAX_LANES};
 ghost use Rattle.jobs_csv.specs.Fault.{IsInputFault};
 ghost use Rattle.jobs_csv.specs.Jobs.{parse_jobs};
 ghost use Rattle.jobs_csv.specs.Outcome.{ReturnsRows};

@@ -6,7 +6,7 @@ use Rattle.std.proofs.lemmas.Bool.{true≢false}
 use Rattle.std.proofs.lemmas.List.{append-nil}
 use Rattle.std.proofs.lemmas.List.Elements.{All-tail}
 use Rattle.job_types.specs.Job.{JobData}
-use Rattle.job_queue.specs.declared.job_line.TheConstants.{MAX_ENTRIES}
+use Rattle.cube_shape.specs.declared.limits.TheConstants.{MAX_ENTRIES}
 use Rattle.job_queue.specs.declared.record.LaneRecord.{LaneRecord}
 use Rattle.dispatcher.specs.declared.feeding.FeedStop.{FeedStop}
 use Rattle.dispatcher.specs.declared.feeding.FeedStop.TheVariants.{Done, Closed, LaneSpent}

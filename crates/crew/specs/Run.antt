@@ -3,7 +3,7 @@ use Rattle.std.specs.Prelude.{◌≡◌, ℕ, ◌+◌, ◌<◌, ◌≤◌, ◌++
 use Rattle.std.specs.List.{All, AllZip}
 use Rattle.histories.specs.Sums.{times}
 use Rattle.job_types.specs.Job.{JobData}
-use Rattle.job_queue.specs.declared.job_line.TheConstants.{MAX_ENTRIES}
+use Rattle.cube_shape.specs.declared.limits.TheConstants.{MAX_ENTRIES}
 use Rattle.job_queue.specs.declared.record.LaneRecord.{LaneRecord}
 use Rattle.job_queue.specs.Record.{accepted_jobs}
 use Rattle.dispatcher.specs.declared.feeding.FeedStop.{FeedStop}

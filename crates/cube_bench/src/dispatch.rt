@@ -7,10 +7,10 @@ mod words;
 
 use crate::outcome::{Measured, Stopped, nanos_since};
 use crew::run;
+use cube_shape::MAX_LANES;
 use dispatcher::{Finished, Plain};
 use floors::Floor;
 use job_queue::{JobLine, LockedLine, RuledLine};
-use job_types::MAX_LANES;
 use lists::jobs_of_all;
 use locked_floor::LockedFloor;
 use std::alloc::Global;

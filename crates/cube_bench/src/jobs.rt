@@ -3,8 +3,8 @@ ghost use Rattle.std.specs.Prelude.{◌<◌, ◌≤◌, IfSome};
 ghost use Rattle.std.specs.List.{All};
 ghost use Rattle.job_queue.specs.Line.{IsFor};
 
-use cube_shape::MAX_DIM;
-use job_types::{Job, Kind, MAX_LANES, Op};
+use cube_shape::{MAX_DIM, MAX_LANES};
+use job_types::{Job, Kind, Op};
 use std::alloc::Global;
 use std::collections::VecDeque;
 

@@ -9,11 +9,8 @@ mod words;
 use crate::jobs::jobs_of;
 use crate::outcome::{Measured, Stopped, nanos_since};
 use calls::{Feeding, Taking, Timed, room_for_times, submit, take, times_of_all};
-use job_queue::{
-    JobLine, LockedLine, MAX_CAPACITY, MAX_PASSES, Opened, QueuedJob, Refused, Rest, RuledLine,
-    Taken,
-};
-use job_types::MAX_LANES;
+use cube_shape::{MAX_CAPACITY, MAX_LANES, MAX_PASSES};
+use job_queue::{JobLine, LockedLine, Opened, QueuedJob, Refused, Rest, RuledLine, Taken};
 use std::alloc::Global;
 use std::rt::Clock;
 use std::sync::{Mutex, Wait};

@@ -2,7 +2,7 @@
 ghost use Rattle.std.specs.Prelude.{◌≡◌, ℕ, ◌+◌, ◌≤◌, ◌++◌, [], ◌∷◌, List, IfOk, OnOk, IsPermutation, length, map};
 ghost use Rattle.std.specs.List.{All, range_with_len};
 ghost use Rattle.floors.specs.Floor.{IsWhollyFree};
-ghost use Rattle.job_types.specs.declared.request.TheConstants.{MAX_LANES};
+ghost use Rattle.cube_shape.specs.declared.limits.TheConstants.{MAX_LANES};
 ghost use Rattle.job_queue.specs.declared.record.QueuedJob.{QueuedJob};
 ghost use Rattle.dispatcher.specs.Reply.{answered, IsRight};
 ghost use Rattle.batch.specs.Answers.{all_replies};

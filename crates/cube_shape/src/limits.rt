@@ -7,6 +7,21 @@ pub const MAX_DIM: u32 = 10;
 /// `0` to `MAX_STATIONS - 1`.
 pub const MAX_STATIONS: u32 = 32;
 
+/// How many lanes there are at most, by which jobs come in. Their numbers are `0` to `MAX_LANES - 1`.
+pub const MAX_LANES: u32 = 16;
+
+/// How many passes there are at most, by which jobs are taken.
+pub const MAX_PASSES: u32 = 16;
+
+/// How many dispatchers there are at most. Each takes jobs by a pass of its own.
+pub const MAX_DISPATCHERS: u32 = MAX_PASSES;
+
+/// How many jobs a line holds at most.
+pub const MAX_CAPACITY: usize = 1024;
+
+/// How many entries a lane makes at most.
+pub const MAX_ENTRIES: u64 = 1 << 48;
+
 /// The dimension of a machine or of a region: `Dim(k)` stands for `2^k` processors.
 #[derive(Clone, Copy, Debug, PartialEq, Eq, PartialOrd, Ord, Hash)]
 pub struct Dim(pub u32);

@@ -1,8 +1,6 @@
 -- Which sizes of a shop are refused.
 use Rattle.std.specs.Prelude.{ℕ, Bool, not, ◌&&◌, Option, Some, None, nat_lt, if◌then◌else◌}
-use Rattle.cube_shape.specs.declared.limits.TheConstants.{MAX_DIM}
-use Rattle.job_types.specs.declared.request.TheConstants.{MAX_LANES}
-use Rattle.job_queue.specs.declared.job_line.TheConstants.{MAX_PASSES, MAX_CAPACITY}
+use Rattle.cube_shape.specs.declared.limits.TheConstants.{MAX_CAPACITY, MAX_DIM, MAX_LANES, MAX_DISPATCHERS}
 use Rattle.dispatcher.specs.declared.opening.ShopRefused.{ShopRefused}
 use Rattle.dispatcher.specs.declared.opening.ShopRefused.TheVariants.{BadDimension, BadLanes, BadDispatchers, BadCapacity}
 
@@ -15,6 +13,6 @@ abbrev pub refusal_of : ℕ → ℕ → ℕ → ℕ → Option ShopRefused
 refusal_of n lanes dispatchers capacity =
     if nat_lt MAX_DIM n then Some BadDimension
     else if not (is_within MAX_LANES lanes) then Some BadLanes
-    else if not (is_within MAX_PASSES dispatchers) then Some BadDispatchers
+    else if not (is_within MAX_DISPATCHERS dispatchers) then Some BadDispatchers
     else if not (is_within MAX_CAPACITY capacity) then Some BadCapacity
     else None

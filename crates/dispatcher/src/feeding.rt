@@ -8,8 +8,9 @@ ghost use Rattle.dispatcher.specs.Stop.{given_back, EndsWith};
 
 use crate::pause::Pause;
 use crate::shop::Shop;
+use cube_shape::MAX_ENTRIES;
 use floors::Floor;
-use job_queue::{JobLine, MAX_ENTRIES, Refused};
+use job_queue::{JobLine, Refused};
 use job_types::Job;
 use std::collections::VecDeque;
 use std::sync::Wait;

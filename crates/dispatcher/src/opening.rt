@@ -8,10 +8,9 @@ ghost use Rattle.dispatcher.specs.Shop.{HasSizes, room_for};
 
 use crate::room::Room;
 use crate::shop::{Closer, Shop, Worker};
-use cube_shape::MAX_DIM;
+use cube_shape::{MAX_CAPACITY, MAX_DIM, MAX_DISPATCHERS, MAX_LANES};
 use floors::Floor;
-use job_queue::{JobLine, MAX_CAPACITY, MAX_PASSES, Sizes};
-use job_types::MAX_LANES;
+use job_queue::{JobLine, Sizes};
 use std::alloc::Global;
 use std::collections::VecDeque;
 use thiserror::Error;
@@ -57,7 +56,7 @@ pub fn refusal(n: u32, lanes: u32, dispatchers: u32, capacity: usize) -> Option<
         Some(ShopRefused::BadDimension)
     } else if lanes == 0 || lanes > MAX_LANES {
         Some(ShopRefused::BadLanes)
-    } else if dispatchers == 0 || dispatchers > MAX_PASSES {
+    } else if dispatchers == 0 || dispatchers > MAX_DISPATCHERS {
         Some(ShopRefused::BadDispatchers)
     } else if capacity == 0 || capacity > MAX_CAPACITY {
         Some(ShopRefused::BadCapacity)

@@ -4,8 +4,9 @@ ghost use Rattle.job_queue.specs.Record.{queued, IsSettled};
 ghost use Rattle.job_queue.specs.Line.{next_id, GainsEntry, GainsRefusal};
 
 use crate::room::Room;
+use cube_shape::MAX_ENTRIES;
 use floors::Floor;
-use job_queue::{JobLine, MAX_ENTRIES, Receipt, Refused};
+use job_queue::{JobLine, Receipt, Refused};
 use job_types::{Job, Reply};
 use std::alloc::Global;
 use std::marker::Model;

@@ -11,7 +11,7 @@ use Rattle.histories.specs.Sums.{total, is_at}
 use Rattle.histories.specs.Views.{Tied}
 use Rattle.histories.proofs.SumLemmas.{total-set, total-push, is_at-same, is_at-other}
 use Rattle.histories.proofs.ViewLemmas.{True, splits, joins}
-use Rattle.job_types.specs.declared.request.TheConstants.{MAX_LANES}
+use Rattle.cube_shape.specs.declared.limits.TheConstants.{MAX_LANES}
 use Rattle.job_queue.specs.declared.job_line.Sizes.{Sizes}
 use Rattle.job_queue.specs.declared.locked.store.Store.{Store}
 use Rattle.job_queue.specs.declared.locked.view.View.{View}

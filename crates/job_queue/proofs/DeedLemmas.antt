@@ -7,7 +7,7 @@ use native.Mathlib.Decide.{ℕ_discrete}
 use Rattle.histories.specs.Sums.{total, below}
 use Rattle.histories.proofs.SumLemmas.{total-push, below-grows, below-same, below-zero, below-ones, below-bounded}
 use Rattle.histories.proofs.ViewLemmas.{all_append}
-use Rattle.job_queue.specs.declared.job_line.TheConstants.{MAX_ENTRIES}
+use Rattle.cube_shape.specs.declared.limits.TheConstants.{MAX_ENTRIES}
 use Rattle.job_queue.specs.declared.job_line.Sizes.{Sizes}
 use Rattle.job_queue.specs.declared.record.QueuedJob.{QueuedJob}
 use Rattle.job_queue.specs.declared.record.Entry.{Entry}

@@ -7,20 +7,11 @@ ghost use Rattle.job_queue.specs.Line.{LineId, next_id, GainsEntry, GainsRefusal
 ghost use Rattle.job_queue.specs.Run.{WholeRun};
 
 use crate::record::QueuedJob;
-use cube_shape::MAX_DIM;
-use job_types::{Job, JobId, MAX_LANES};
+use cube_shape::{MAX_CAPACITY, MAX_DIM, MAX_ENTRIES, MAX_LANES, MAX_PASSES};
+use job_types::{Job, JobId};
 use std::alloc::{AllocError, Global};
 use std::collections::VecDeque;
 use std::sync::Wait;
-
-/// How many passes a line has at most.
-pub const MAX_PASSES: u32 = 16;
-
-/// How many jobs a line holds at most.
-pub const MAX_CAPACITY: usize = 1024;
-
-/// How many entries a lane makes at most.
-pub const MAX_ENTRIES: u64 = 1 << 48;
 
 /// The sizes of a line.
 #[derive(Clone, Copy, Debug, PartialEq, Eq)]

@@ -11,9 +11,7 @@ mod locked;
 mod record;
 mod ruled;
 
-pub use job_line::{
-    JobLine, MAX_CAPACITY, MAX_ENTRIES, MAX_PASSES, Opened, Receipt, Refused, Rest, Sizes, Taken,
-};
+pub use job_line::{JobLine, Opened, Receipt, Refused, Rest, Sizes, Taken};
 pub use locked::{LockedCloser, LockedEnd, LockedLane, LockedLine, LockedNote, LockedPass};
 pub use record::{Entry, LaneRecord, PassRecord, QueuedJob, Reading};
 pub use ruled::{RuledCloser, RuledEnd, RuledLane, RuledLine, RuledNote, RuledPass};

@@ -7,10 +7,10 @@ ghost use Rattle.job_types.specs.Job.{refusal_of};
 
 use crate::kind::Kind;
 use crate::reply::{JobId, Reply};
-use crate::request::{JobRefused, MAX_LANES, Request, refusal};
+use crate::request::{JobRefused, Request, refusal};
 use crate::work::Work;
 use crate::workspace::Workspace;
-use cube_shape::{MAX_DIM, Region};
+use cube_shape::{MAX_DIM, MAX_LANES, Region};
 use std::alloc::Global;
 use std::marker::Model;
 

@@ -21,4 +21,4 @@ pub use cube_shape::{MAX_DIM, Region};
 pub use job::Job;
 pub use kind::{Kind, Op};
 pub use reply::{JobId, Reply};
-pub use request::{JobRefused, MAX_LANES, Request};
+pub use request::{JobRefused, Request};

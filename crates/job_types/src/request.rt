@@ -11,12 +11,9 @@ ghost use Rattle.job_types.specs.Inner.Workspace.{IsWorkspaceFor, numbers_of};
 use crate::kind::Kind;
 use crate::workspace::Workspace;
 use collectives::Tally;
-use cube_shape::MAX_DIM;
+use cube_shape::{MAX_DIM, MAX_LANES};
 use std::marker::Model;
 use thiserror::Error;
-
-/// How many lanes there are. Their numbers are `0` to `MAX_LANES - 1`.
-pub const MAX_LANES: u32 = 16;
 
 /// Why there is no job for some request. Where several reasons hold, the first one is reported.
 #[derive(Clone, Copy, Debug, PartialEq, Eq, Hash, Error)]

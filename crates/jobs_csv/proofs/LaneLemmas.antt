@@ -3,7 +3,7 @@ use Rattle.std.proofs.Common.{◌≡◌, ℕ, ◌+◌, ◌==◌, List, [], ◌�
 use Rattle.std.proofs.lemmas.List.{length_push}
 use Rattle.std.proofs.lemmas.List.Elements.{All-push}
 use Rattle.job_types.specs.Job.{JobData}
-use Rattle.job_types.specs.declared.request.TheConstants.{MAX_LANES}
+use Rattle.cube_shape.specs.declared.limits.TheConstants.{MAX_LANES}
 use Rattle.jobs_csv.specs.Lanes.{AreLanes}
 
 -- `count` lists with no job

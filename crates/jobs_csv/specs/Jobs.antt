@@ -3,7 +3,7 @@ use Rattle.std.specs.Prelude.{ℕ, ◌-◌, Bool, List, [], ◌∷◌, codes, Op
 use Rattle.job_types.specs.Job.{JobData, refusal_of}
 use Rattle.job_types.specs.declared.request.JobRefused.{JobRefused}
 use Rattle.job_types.specs.declared.request.JobRefused.TheVariants.{BadRoot}
-use Rattle.job_types.specs.declared.request.TheConstants.{MAX_LANES}
+use Rattle.cube_shape.specs.declared.limits.TheConstants.{MAX_LANES}
 use Rattle.jobs_csv.specs.declared.fault.Fault.{Fault}
 use Rattle.jobs_csv.specs.declared.fault.FaultKind.{FaultKind}
 use Rattle.jobs_csv.specs.declared.fault.FaultKind.TheVariants as what

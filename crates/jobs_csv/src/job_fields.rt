@@ -7,7 +7,8 @@ ghost use Rattle.jobs_csv.specs.Inner.Parse.{ReturnsParse};
 
 use crate::fault::FaultKind;
 use crate::fields;
-use job_types::{Kind, MAX_LANES, Op};
+use cube_shape::MAX_LANES;
+use job_types::{Kind, Op};
 use std::alloc::Global;
 
 /// A collective without its root.

@@ -20,8 +20,8 @@ use crate::lanes::Lanes;
 use crate::observer::{Observed, Observer, RecordCount};
 use crate::{columns, fields, job_fields};
 use csv::ByteRecord;
-use cube_shape::MAX_DIM;
-use job_types::{Job, JobRefused, Kind, MAX_LANES};
+use cube_shape::{MAX_DIM, MAX_LANES};
+use job_types::{Job, JobRefused, Kind};
 use std::alloc::Global;
 use std::io::Read;
 

@@ -3,7 +3,8 @@ ghost use Rattle.std.specs.Prelude.{[], IfOk};
 ghost use Rattle.jobs_csv.specs.Lanes.{AreLanes};
 
 use crate::format::RowSink;
-use job_types::{Job, MAX_LANES};
+use cube_shape::MAX_LANES;
+use job_types::Job;
 use std::alloc::{AllocError, Global};
 
 /// The jobs by lane, those of each lane in the order in which they were pushed.

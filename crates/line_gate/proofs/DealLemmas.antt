@@ -9,7 +9,7 @@ use Rattle.atomic_table.specs.Table.{opening, Splits, Joins}
 use Rattle.histories.specs.Sums.{total, is_at}
 use Rattle.histories.proofs.SumLemmas.{is_at-same, is_at-other}
 use Rattle.histories.proofs.ViewLemmas.{True, splits, joins}
-use Rattle.job_types.specs.declared.request.TheConstants.{MAX_LANES}
+use Rattle.cube_shape.specs.declared.limits.TheConstants.{MAX_LANES}
 use Rattle.line_gate.specs.declared.gate.Counts.{Counts}
 use Rattle.line_gate.specs.declared.view.View.{View}
 use Rattle.line_gate.specs.Record.{lanes_from, passes_from}

@@ -7,7 +7,7 @@ use native.Mathlib.Decide.{ℕ_discrete}
 use Rattle.histories.specs.Sums.{total, below}
 use Rattle.histories.proofs.SumLemmas.{total-push, below-grows, below-same, below-zero, below-ones, below-plus, below-bounded}
 use Rattle.histories.proofs.ViewLemmas.{all_weaker, all_append}
-use Rattle.line_gate.specs.declared.gate.TheConstants.{MAX_ENTRIES}
+use Rattle.cube_shape.specs.declared.limits.TheConstants.{MAX_ENTRIES}
 use Rattle.line_gate.specs.declared.gate.Counts.{Counts}
 use Rattle.line_gate.specs.declared.record.SettledEntry.{SettledEntry}
 use Rattle.line_gate.specs.declared.record.LaneEntries.{LaneEntries}

@@ -6,7 +6,8 @@ use mathlib.Core.Option.{some, none}
 use lib.ListN.{get_elem?}
 use Rattle.atomic_table.specs.Table.{State, keeps, step, stepped, Allows}
 use Rattle.histories.proofs.ViewLemmas.{stays, steps}
-use Rattle.line_gate.specs.declared.gate.TheConstants.{MAX_ENTRIES, CLOSED}
+use Rattle.line_gate.specs.declared.gate.TheConstants.{CLOSED}
+use Rattle.cube_shape.specs.declared.limits.TheConstants.{MAX_ENTRIES}
 use Rattle.line_gate.specs.declared.gate.Counts.{Counts}
 use Rattle.line_gate.specs.declared.record.LaneEntries.{LaneEntries}
 use Rattle.line_gate.specs.declared.record.PassReadings.{PassReadings}

@@ -1,7 +1,7 @@
 // The gate: it is made, its members are dealt out and come together again, and it ends.
 ghost use Rattle.std.specs.Prelude.{◌≡◌, ◌<◌, ◌≤◌, ◌∷◌, ◌++◌, [], length, IfOk};
 ghost use Rattle.std.specs.List.{All};
-ghost use Rattle.job_types.specs.declared.request.TheConstants.{MAX_LANES};
+ghost use Rattle.cube_shape.specs.declared.limits.TheConstants.{MAX_LANES};
 ghost use Rattle.line_gate.specs.Record.{lanes_from, passes_from, IsSettled};
 ghost use Rattle.line_gate.specs.Run.{WholeGate};
 
@@ -12,9 +12,6 @@ use crate::view::View;
 use atomic_table::Table;
 use std::alloc::{AllocError, Global};
 use std::marker::{Model, PhantomData};
-
-/// How many entries a lane makes at most.
-pub const MAX_ENTRIES: u64 = 1 << 48;
 
 // The closed mark of the first word; below it stands the count of entries.
 pub(crate) const CLOSED: u64 = 1 << 63;

@@ -17,7 +17,7 @@ mod steps;
 mod view;
 
 pub use entered::{Entered, EnteredLate, Pushed};
-pub use gate::{Counts, Gate, MAX_ENTRIES, Witness};
+pub use gate::{Counts, Gate, Witness};
 pub use handle::{GateCloser, GateEnd, GateLane, GateMembers, GateNote, GatePass};
 pub use record::{LaneEntries, PassReadings, Reading, SettledEntry};
 pub use steps::Counted;

@@ -1,6 +1,6 @@
 // The steps at a gate, each one atomic step.
 ghost use Rattle.std.specs.Prelude.{◌≡◌, ◌<◌, Some, true, false, length, MatchOption, MatchResult};
-ghost use Rattle.line_gate.specs.declared.gate.TheConstants.{MAX_ENTRIES};
+ghost use Rattle.cube_shape.specs.declared.limits.TheConstants.{MAX_ENTRIES};
 ghost use Rattle.line_gate.specs.Record.{IsSettled, after_look, after_enter, after_late_enter, after_undo, after_settle, after_read_settled, after_read_gate};
 
 use crate::entered::{Entered, EnteredLate, Pushed};

@@ -11,7 +11,7 @@ use Rattle.crossbeam_queue.specs.Fifo.{Forks, Merges}
 use Rattle.histories.specs.Sums.{total, is_at}
 use Rattle.histories.proofs.SumLemmas.{is_at-same, is_at-other}
 use Rattle.histories.proofs.ViewLemmas.{True, splits, joins, nobody_else}
-use Rattle.line_ring.specs.declared.ring.TheConstants.{MAX_LANES, MAX_PASSES}
+use Rattle.cube_shape.specs.declared.limits.TheConstants.{MAX_LANES, MAX_PASSES}
 use Rattle.line_ring.specs.declared.record.LaneRecord.{LaneRecord}
 use Rattle.line_ring.specs.declared.record.PassRecord.{PassRecord}
 use Rattle.line_ring.specs.declared.rule.View.{View}

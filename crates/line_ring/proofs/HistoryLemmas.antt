@@ -6,7 +6,7 @@ use native.Mathlib.Decide.{ℕ_discrete}
 use Rattle.histories.specs.Sums.{total, below}
 use Rattle.histories.proofs.SumLemmas.{total-push, below-grows, below-zero}
 use Rattle.histories.proofs.ViewLemmas.{all_weaker, all_append}
-use Rattle.line_ring.specs.declared.ring.TheConstants.{MAX_LANES, MAX_PASSES}
+use Rattle.cube_shape.specs.declared.limits.TheConstants.{MAX_LANES, MAX_PASSES}
 use Rattle.line_ring.specs.declared.record.LaneRecord.{LaneRecord}
 use Rattle.line_ring.specs.declared.record.PassRecord.{PassRecord}
 use Rattle.line_ring.specs.Record.{AreSeqs, Rises}

@@ -2,7 +2,7 @@
 -- record.
 use Rattle.std.specs.Prelude.{◌≡◌, ℕ, ◌<◌, Bool, false, List, [], ◌∷◌, ◌++◌, length, ◌==◌}
 use Rattle.histories.specs.History.{part, Legal}
-use Rattle.line_ring.specs.declared.ring.TheConstants.{MAX_LANES, MAX_PASSES}
+use Rattle.cube_shape.specs.declared.limits.TheConstants.{MAX_LANES, MAX_PASSES}
 use Rattle.line_ring.specs.declared.record.LaneRecord.{LaneRecord}
 use Rattle.line_ring.specs.declared.record.PassRecord.{PassRecord}
 use Rattle.line_ring.specs.declared.record.RestRecord.{RestRecord}

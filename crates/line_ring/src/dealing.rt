@@ -5,8 +5,9 @@ ghost use Rattle.line_ring.specs.Inner.Handle.{ring_id, is_lane, is_pass, is_end
 
 use crate::handle::{RingEnd, RingLane, RingPass};
 use crate::piece::Piece;
-use crate::ring::{MAX_LANES, MAX_PASSES, Ring};
+use crate::ring::Ring;
 use crate::rule::{DealLane, DealPass, Gather};
+use cube_shape::{MAX_LANES, MAX_PASSES};
 
 impl<T: Piece> Ring<T> {
     /// Deals a lane, whose number is how many were dealt before it.

@@ -13,12 +13,6 @@ use std::collections::VecDeque;
 use std::marker::Model;
 use std::sync::Wait;
 
-/// How many lanes a ring has at most.
-pub const MAX_LANES: u32 = 16;
-
-/// How many passes a ring has at most.
-pub const MAX_PASSES: u32 = 16;
-
 /// A ring of pieces of work, which threads share by `&`.
 pub struct Ring<T: Piece> {
     pub(crate) queue: RuledArrayQueue<T, View<T>, RingRule<T>>,

@@ -6,9 +6,9 @@ ghost use Rattle.job_queue.specs.Record.{fresh_lanes, fresh_passes, accepted};
 ghost use Rattle.job_queue.specs.Line.{IsMadeFor};
 ghost use Rattle.job_queue.specs.Run.{WholeRun};
 
-use cube_shape::MAX_DIM;
-use job_queue::{JobLine, MAX_CAPACITY, MAX_PASSES, Opened, Receipt, Refused, Rest, Sizes, Taken};
-use job_types::{Job, MAX_LANES};
+use cube_shape::{MAX_CAPACITY, MAX_DIM, MAX_LANES, MAX_PASSES};
+use job_queue::{JobLine, Opened, Receipt, Refused, Rest, Sizes, Taken};
+use job_types::Job;
 use std::alloc::{AllocError, Global};
 use std::marker::Model;
 use std::sync::Wait;

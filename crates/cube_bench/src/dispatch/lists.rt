@@ -5,7 +5,8 @@ ghost use Rattle.job_queue.specs.Line.{IsFor};
 
 use crate::dispatch::words::{DIM, Invocation};
 use crate::jobs::jobs_of;
-use job_types::{Job, MAX_LANES};
+use cube_shape::MAX_LANES;
+use job_types::Job;
 use std::alloc::Global;
 use std::collections::VecDeque;
 

@@ -1,8 +1,8 @@
 //! The words of a measurement of a dispatcher.
 ghost use Rattle.std.specs.Prelude.{◌≤◌, IfSome};
 
+use cube_shape::MAX_LANES;
 use dispatcher::refusal;
-use job_types::MAX_LANES;
 
 /// The dimension of the machine.
 pub const DIM: u32 = 10;

@@ -1,8 +1,8 @@
 //! The words of a measurement of a line.
 ghost use Rattle.std.specs.Prelude.{◌≡◌, ◌<◌, ◌≤◌, IfSome};
 
-use job_queue::{MAX_CAPACITY, MAX_PASSES, Sizes};
-use job_types::MAX_LANES;
+use cube_shape::{MAX_CAPACITY, MAX_LANES, MAX_PASSES};
+use job_queue::Sizes;
 
 /// The dimension of the machine that the jobs are for.
 pub const MACHINE: u32 = 2;

@@ -2,9 +2,8 @@
 
 use crate::tests::devices::FailsAt;
 use cli_commands::{place_on, replay_on, report_on, run_on};
-use cube_shape::MAX_DIM;
+use cube_shape::{MAX_CAPACITY, MAX_DIM};
 use dispatcher::{Plain, Runner};
-use job_queue::MAX_CAPACITY;
 use jobs_csv::{Counted, Device, Fault, FaultKind};
 use std::alloc::Global;
 use std::io::{Read, Write};

@@ -5,8 +5,8 @@ ghost use Rattle.cube_shape.specs.Region.{IsAligned};
 ghost use Rattle.job_types.specs.Dim.{dim_of};
 
 use collectives::Tally;
-use cube_shape::{MAX_DIM, Region};
-use job_types::{Job, JobId, JobRefused, Kind, MAX_LANES, Op, Reply};
+use cube_shape::{MAX_DIM, MAX_LANES, Region};
+use job_types::{Job, JobId, JobRefused, Kind, Op, Reply};
 use std::alloc::Global;
 use std::process::Abort;
 use std::test::Fail;

@@ -11,12 +11,10 @@ use super::handle::{LockedCloser, LockedLane, LockedNote, LockedPass};
 use super::members::{deal_lanes, deal_passes, gather_lanes, gather_passes};
 use super::store::{LockedEnd, Store};
 use super::store_lock::StoreLock;
-use crate::job_line::{
-    JobLine, MAX_CAPACITY, MAX_ENTRIES, MAX_PASSES, Opened, Receipt, Refused, Rest, Sizes, Taken,
-};
+use crate::job_line::{JobLine, Opened, Receipt, Refused, Rest, Sizes, Taken};
 use crate::record::QueuedJob;
-use cube_shape::MAX_DIM;
-use job_types::{Job, MAX_LANES};
+use cube_shape::{MAX_CAPACITY, MAX_DIM, MAX_ENTRIES, MAX_LANES, MAX_PASSES};
+use job_types::Job;
 use std::alloc::{AllocError, Global};
 use std::sync::Wait;
 

@@ -2,10 +2,9 @@
 ghost use Rattle.std.specs.Prelude.{◌≡◌, ◌<◌, ◌≤◌, ◌++◌, [], map, length};
 ghost use Rattle.std.specs.List.{All};
 ghost use Rattle.std.specs.Vec.{vec_capacity};
-ghost use Rattle.job_types.specs.declared.request.TheConstants.{MAX_LANES};
+ghost use Rattle.cube_shape.specs.declared.limits.TheConstants.{MAX_LANES, MAX_PASSES};
 ghost use Rattle.line_gate.specs.Record.{lanes_from, passes_from};
 ghost use Rattle.line_ring.specs.Inner.Handle.{ring_id, is_end as IsRingEnd, dealt_lanes, dealt_passes, back_lanes, back_passes};
-ghost use Rattle.job_queue.specs.declared.job_line.TheConstants.{MAX_PASSES};
 ghost use Rattle.job_queue.specs.Record.{fresh_lanes, fresh_passes};
 ghost use Rattle.job_queue.specs.Inner.Ruled.Handle.{line_of, is_lane, is_pass, lane_record, pass_record, gate_lanes, gate_passes, ring_lanes, ring_passes, counts_after};
 

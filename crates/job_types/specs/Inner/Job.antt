@@ -1,8 +1,7 @@
 -- What is true of every job.
 use Rattle.std.specs.Prelude.{◌≡◌, ℕ, ◌^◌, ◌<◌, ◌≤◌, false, List, length}
-use Rattle.cube_shape.specs.declared.limits.TheConstants.{MAX_DIM}
+use Rattle.cube_shape.specs.declared.limits.TheConstants.{MAX_DIM, MAX_LANES}
 use Rattle.job_types.specs.declared.kind.Kind.{Kind}
-use Rattle.job_types.specs.declared.request.TheConstants.{MAX_LANES}
 use Rattle.job_types.specs.Job.{has_bad_root}
 
 -- its items are 2 ^ dim, its machine has regions of that dimension, and its root, if it has one, is

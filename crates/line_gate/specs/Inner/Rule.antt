@@ -3,7 +3,7 @@
 use Rattle.std.specs.Prelude.{◌≡◌, ◌≤◌, List}
 use Rattle.atomic_table.specs.Table.{State}
 use Rattle.histories.specs.Views.{Tied}
-use Rattle.job_types.specs.declared.request.TheConstants.{MAX_LANES}
+use Rattle.cube_shape.specs.declared.limits.TheConstants.{MAX_LANES}
 use Rattle.line_gate.specs.declared.gate.Counts.{Counts}
 use Rattle.line_gate.specs.declared.view.View.{View}
 use Rattle.line_gate.specs.Inner.Deed.{Deed, words_of, lane_part, pass_part, closer_part, IsLegal}

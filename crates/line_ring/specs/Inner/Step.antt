@@ -2,7 +2,7 @@
 use Rattle.std.specs.Prelude.{◌≡◌, ℕ, ◌+◌, ◌-◌, ◌<◌, ◌≤◌, List, [], ◌∷◌, ◌++◌, length}
 use Rattle.std.specs.List.{AllByRecursion as Each}
 use Rattle.histories.specs.Sums.{total, is_at}
-use Rattle.line_ring.specs.declared.ring.TheConstants.{MAX_LANES, MAX_PASSES}
+use Rattle.cube_shape.specs.declared.limits.TheConstants.{MAX_LANES, MAX_PASSES}
 use Rattle.line_ring.specs.declared.record.RestRecord.{RestRecord}
 use Rattle.line_ring.specs.declared.rule.View.{View}
 use Rattle.line_ring.specs.Record.{lane_in, pass_in, AreSeqs, Rises}

@@ -1,6 +1,5 @@
 //! Steps at a gate of two lanes and one pass, by hand.
 ghost use Rattle.std.specs.Prelude.{◌≡◌, ◌+◌, ◌<◌, ◌≤◌, None, Some, true, false, length, MatchResult};
-ghost use Rattle.line_gate.specs.declared.gate.TheConstants.{MAX_ENTRIES};
 ghost use Rattle.line_gate.specs.Record.{lanes_from, passes_from, fresh_lane, IsSettled};
 
 use line_gate::{

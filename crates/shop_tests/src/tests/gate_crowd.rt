@@ -3,7 +3,8 @@ ghost use Rattle.std.specs.Prelude.{◌≡◌, [], None, Some, IsSome, IsSomeAnd
 ghost use Rattle.line_gate.specs.Record.{IsSettled};
 
 use crate::tests::gate::{COUNTS, Table, TestGate, deal, end, leave, read};
-use line_gate::{Counted, GateCloser, GateLane, GateNote, MAX_ENTRIES};
+use cube_shape::MAX_ENTRIES;
+use line_gate::{Counted, GateCloser, GateLane, GateNote};
 use std::sync::Wait;
 use std::sync::atomic::AtomicU64;
 use std::sync::atomic::Ordering::SeqCst;

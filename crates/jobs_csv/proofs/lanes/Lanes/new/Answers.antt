@@ -1,5 +1,5 @@
 use Rattle.std.proofs.Common.{◌≡◌, arith}
-use Rattle.job_types.specs.declared.request.TheConstants.{MAX_LANES}
+use Rattle.cube_shape.specs.declared.limits.TheConstants.{MAX_LANES}
 use Rattle.jobs_csv.proofs.LaneLemmas.{no_lanes, none_in_lanes, one_more_empty}
 use Rattle.jobs_csv.proofs.lanes.Lanes.new.Goals as goal
 

@@ -1,5 +1,5 @@
 use Rattle.std.proofs.Common.{◌<◌, length, sym, ap, ◌∙◌, subst, arith}
-use Rattle.line_gate.specs.declared.gate.TheConstants.{MAX_ENTRIES}
+use Rattle.cube_shape.specs.declared.limits.TheConstants.{MAX_ENTRIES}
 use Rattle.line_gate.specs.declared.record.LaneEntries.{LaneEntries}
 use Rattle.line_gate.specs.Record.{IsSettled}
 use Rattle.line_gate.specs.Gate.{GateId, LaneOf}
