@@ -8,7 +8,7 @@ use Rattle.job_queue.specs.Record.{accepted, job_of, accepted_jobs}
 use Rattle.job_queue.specs.declared.job_line.Refused.{Refused}
 use Rattle.job_queue.specs.declared.job_line.Refused.TheVariants.{Closed, Full, LaneSpent}
 use Rattle.job_queue.specs.Line.{GainsEntry, GainsRefusal}
-use Rattle.job_queue.proofs.DeedLemmas.{accepted-push, accepted-full}
+use Rattle.job_queue.proofs.AcceptedLemmas.{accepted-push, accepted-full}
 
 -- an accepted job goes from the front of the list to the end of the lane's jobs
 pub fed_one : (old new : LaneRecord) (number : ℕ) (q : QueuedJob) (rest : List JobData) → GainsEntry old number (Some q) new → accepted_jobs new ++ rest ≡ accepted_jobs old ++ q.job ∷ rest

@@ -1,16 +1,5 @@
-pub mod DeedLemmas
+pub mod AcceptedLemmas
 pub mod FeedLemmas
-pub mod KeepLemmas
-pub mod StepLemmas
-pub mod HistoryLemmas
 pub mod ListLemmas
 pub mod RisingLemmas
-pub mod LockedListLemmas
-pub mod DealLemmas
-pub mod EndLemmas
-pub mod HandleLemmas
-pub mod JoinLemmas
-pub mod DealtLemmas
-pub mod RuledListLemmas
-pub mod EndJoinLemmas
 pub mod LentLemmas

@@ -2,4 +2,3 @@ pub mod Record
 pub mod Line
 pub mod History
 pub mod Run
-pub mod Inner

@@ -2,16 +2,12 @@
 //!
 //! A line has lanes, by which jobs come in, and passes, by which they are taken. An accepted job is
 //! taken at most once and in the order of its lane, and no job enters after the close. `JobLine` is
-//! the contract of every line, in terms of what each lane and each pass is known to have done.
-//! `LockedLine` is the plainest line that meets it.
+//! the contract of every line, in terms of what each lane and each pass is known to have done. Lines
+//! that meet it are crates of their own.
 #![tactic(auto)]
 
 mod job_line;
-mod locked;
 mod record;
-mod ruled;
 
 pub use job_line::{JobLine, Opened, Receipt, Refused, Rest, Sizes, Taken};
-pub use locked::{LockedCloser, LockedEnd, LockedLane, LockedLine, LockedNote, LockedPass};
 pub use record::{Entry, LaneRecord, PassRecord, QueuedJob, Reading};
-pub use ruled::{RuledCloser, RuledEnd, RuledLane, RuledLine, RuledNote, RuledPass};

@@ -1,4 +1,6 @@
-// What may wait in a ring.
+// What may wait in a ring, and that the jobs of a line may.
+use job_queue::QueuedJob;
+use line_gate::Entered;
 
 /// A piece of work that waits in a ring.
 ///
@@ -15,4 +17,16 @@ pub trait Piece: Drop {
     ghost seq: { Self → ℕ };
 
     ghost is_for: { ℕ → Self → Type 0 };
+}
+
+impl Piece for QueuedJob {
+    ghost use Rattle.job_queue.specs.Line.{IsMadeFor};
+
+    type Entry = Entered;
+
+    ghost lane = { λ q. q.id.lane };
+
+    ghost seq = { λ q. q.id.seq };
+
+    ghost is_for = { IsMadeFor };
 }

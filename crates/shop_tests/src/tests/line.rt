@@ -4,11 +4,11 @@ ghost use Rattle.std.specs.Vec.{vec_capacity};
 
 use crate::tests::jobs::{Plan, SUM, job, jobs};
 use crate::tests::members::{Pair, both};
-use job_queue::{
-    JobLine, LockedLine, Opened, QueuedJob, Receipt, Refused, Rest, RuledLine, Sizes, Taken,
-};
+use job_queue::{JobLine, Opened, QueuedJob, Receipt, Refused, Rest, Sizes, Taken};
 use job_types::{Job, JobId};
 use line_run::run;
+use locked_line::LockedLine;
+use ruled_line::RuledLine;
 use std::alloc::{AllocError, Global};
 use std::collections::VecDeque;
 use std::marker::Model;

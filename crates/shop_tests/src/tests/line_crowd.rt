@@ -5,9 +5,11 @@ ghost use Rattle.job_queue.specs.Record.{fresh_lanes, fresh_passes};
 
 use crate::tests::jobs::{Plan, jobs};
 use crate::tests::line::{JOBS, are_new_and_rise};
-use job_queue::{JobLine, LockedLine, Opened, QueuedJob, Refused, Rest, RuledLine, Sizes};
+use job_queue::{JobLine, Opened, QueuedJob, Refused, Rest, Sizes};
 use job_types::Job;
 use line_run::{Door, Naming, drain};
+use locked_line::LockedLine;
+use ruled_line::RuledLine;
 use std::alloc::Global;
 use std::collections::VecDeque;
 use std::marker::Brand;

@@ -1,6 +1,0 @@
-use Rattle.std.proofs.Common.{arith}
-use Rattle.job_queue.proofs.DealLemmas.{deals_pass}
-use Rattle.job_queue.proofs.locked.store_lock.StoreLock.deal_pass.Goals as goal
-
-pub split_seat-requires : goal.split_seat-requires
-split_seat-requires c = (c.requires.table, omega (arith, c.args.self.now.sized.0), deals_pass _ _ _ c.requires.idle.1)

@@ -1,5 +1,0 @@
-use Rattle.job_queue.proofs.EndLemmas.{ends}
-use Rattle.job_queue.proofs.locked.store_lock.StoreLock.end.Goals as goal
-
-pub returns : goal.returns
-returns c = λ number whole. ends _ _ _ number _ _ _ c.close_with-closed.ensures.values.2 whole c.take-store.ensures.value

@@ -1,3 +1,0 @@
--- Definitions that only private contracts and proofs use.
-pub mod Locked
-pub mod Ruled

@@ -1,0 +1,100 @@
+use Rattle.std.proofs.Common.{◌≡◌, ℕ, ◌∷◌, ◌++◌, [], List, Some, None, map, length, get_or, sym, refl, ap, subst, ◌∙◌}
+use Rattle.std.proofs.lemmas.List.{length-map}
+use Rattle.std.specs.List.{AllByRecursion}
+use Rattle.std.proofs.lemmas.List.Elements.{All-from_recursion}
+use Rattle.histories.specs.Sums.{is_at}
+use Rattle.histories.proofs.SumLemmas.{total-map}
+use Rattle.job_queue.specs.declared.job_line.Sizes.{Sizes}
+use Rattle.job_queue.specs.declared.record.LaneRecord.{LaneRecord}
+use Rattle.locked_line.specs.declared.store.Store.{Store}
+use Rattle.locked_line.specs.declared.handle.LockedLane.{LockedLane}
+use Rattle.locked_line.specs.declared.handle.LockedPass.{LockedPass}
+use Rattle.job_queue.specs.Record.{accepted}
+use Rattle.job_queue.specs.Line.{IsMadeFor}
+use Rattle.locked_line.specs.Inner.View.{view, closer_view}
+use Rattle.locked_line.specs.Inner.Step.{Sat}
+use Rattle.locked_line.specs.Inner.Handle.{sizes_of, lane_record, pass_record}
+use Rattle.locked_line.specs.Inner.End.{IsWhole, IsEnd}
+use Rattle.locked_line.proofs.line.LockedLineJobLine.into_rest.Goals as goal
+
+-- the seat has the records of all members
+all_records : (m gathered whole : Sat) (n : ℕ) (lanes : List LockedLane) (passes : List LockedPass) → m ≡ (closer_view m.0.about (Some n), [])
+    → gathered ≡ (view m.0.about (m.0.lanes ++ map lane_record lanes) m.0.passes m.0.closers None, [])
+    → whole ≡ (view gathered.0.about gathered.0.lanes (gathered.0.passes ++ map pass_record passes) gathered.0.closers None, [])
+    → whole ≡ (view m.0.about (map lane_record lanes) (map pass_record passes) (record { closed_at = Some n } ∷ []) None, [])
+all_records m gathered whole n lanes passes closer with_lanes with_passes =
+    let first : gathered ≡ (view m.0.about (map lane_record lanes) [] (record { closed_at = Some n } ∷ []) None, []) =
+    with_lanes ∙ ap (λ (z : Sat). (view m.0.about (z.0.lanes ++ map lane_record lanes) z.0.passes z.0.closers None, [])) closer in
+    with_passes ∙ ap (λ (z : Sat). (view z.0.about z.0.lanes (z.0.passes ++ map pass_record passes) z.0.closers None, [])) first
+
+-- the end, in terms of the handles
+at_end : (S about : Sizes) (m : Sat) (n : ℕ) (lanes : List LockedLane) (passes : List LockedPass) (x : Store) → m ≡ (view about (map lane_record lanes) (map pass_record passes) (record { closed_at = Some n } ∷ []) None, [])
+    → length lanes ≡ S.lanes → length passes ≡ S.passes → (IsWhole S m.0 n → IsEnd S m.0 n x) → IsEnd S (view about (map lane_record lanes) (map pass_record passes) (record { closed_at = Some n } ∷ []) None) n x
+at_end S about m n lanes passes x is all_lanes all_passes ends =
+    let v = view about (map lane_record lanes) (map pass_record passes) (record { closed_at = Some n } ∷ []) None in
+    let whole : IsWhole S v n = record { lanes = length-map lanes lane_record ∙ all_lanes; passes = length-map passes pass_record ∙ all_passes; closers = refl; found = refl } in
+    subst (λ (z : Sat). IsEnd S z.0 n x) is (ends (subst (λ (z : Sat). IsWhole S z.0 n) (sym is) whole))
+
+by_lane : (P : LaneRecord → Type 0) (lanes : List LockedLane) → AllByRecursion P (map lane_record lanes) → AllByRecursion (λ l. P (lane_record l)) lanes
+by_lane P [] all = tt
+by_lane P (l ∷ lanes) all = (all.0, by_lane P lanes all.1)
+
+pub returns-clause-run : goal.returns-clause-run
+returns-clause-run g c =
+    let n = c.args.note.number in
+    let S = sizes_of c.args.self.lock in
+    let lanes = c.args.lanes.items in
+    let passes = c.args.passes.items in
+    let is = all_records c.args.note.seat.me c.gather_lanes.new.seat.me c.gather_passes.new.seat.me n lanes passes c.args.note.known c.gather_lanes.ensures.records c.gather_passes.ensures.records in
+    let end = at_end S c.args.note.seat.me.0.about c.gather_passes.new.seat.me n lanes passes c.end-jobs.result is c.requires.all_lanes c.requires.all_passes (c.end-jobs.ensures n) in
+    end.run
+
+pub returns-clause-numbers : goal.returns-clause-numbers
+returns-clause-numbers g c =
+    let n = c.args.note.number in
+    let S = sizes_of c.args.self.lock in
+    let lanes = c.args.lanes.items in
+    let passes = c.args.passes.items in
+    let is = all_records c.args.note.seat.me c.gather_lanes.new.seat.me c.gather_passes.new.seat.me n lanes passes c.args.note.known c.gather_lanes.ensures.records c.gather_passes.ensures.records in
+    let end = at_end S c.args.note.seat.me.0.about c.gather_passes.new.seat.me n lanes passes c.end-jobs.result is c.requires.all_lanes c.requires.all_passes (c.end-jobs.ensures n) in
+    λ k within. total-map (is_at k) (λ (l : LockedLane). (lane_record l).number) lanes ∙ (sym (total-map (λ (r : LaneRecord). is_at k r.number) lane_record lanes) ∙ end.numbers k within)
+
+pub returns-clause-lane_count : goal.returns-clause-lane_count
+returns-clause-lane_count g c =
+    let n = c.args.note.number in
+    let S = sizes_of c.args.self.lock in
+    let lanes = c.args.lanes.items in
+    let passes = c.args.passes.items in
+    let is = all_records c.args.note.seat.me c.gather_lanes.new.seat.me c.gather_passes.new.seat.me n lanes passes c.args.note.known c.gather_lanes.ensures.records c.gather_passes.ensures.records in
+    let end = at_end S c.args.note.seat.me.0.about c.gather_passes.new.seat.me n lanes passes c.end-jobs.result is c.requires.all_lanes c.requires.all_passes (c.end-jobs.ensures n) in
+    end.lane_count
+
+pub returns-clause-accepted : goal.returns-clause-accepted
+returns-clause-accepted g c =
+    let n = c.args.note.number in
+    let S = sizes_of c.args.self.lock in
+    let lanes = c.args.lanes.items in
+    let passes = c.args.passes.items in
+    let is = all_records c.args.note.seat.me c.gather_lanes.new.seat.me c.gather_passes.new.seat.me n lanes passes c.args.note.known c.gather_lanes.ensures.records c.gather_passes.ensures.records in
+    let end = at_end S c.args.note.seat.me.0.about c.gather_passes.new.seat.me n lanes passes c.end-jobs.result is c.requires.all_lanes c.requires.all_passes (c.end-jobs.ensures n) in
+    All-from_recursion (λ (l : LockedLane). get_or c.end-jobs.result.accepted.items (lane_record l).number 0 ≡ length (accepted (lane_record l).entries)) lanes (by_lane (λ r. get_or c.end-jobs.result.accepted.items r.number 0 ≡ length (accepted r.entries)) lanes end.accepted_by)
+
+pub returns-clause-fits : goal.returns-clause-fits
+returns-clause-fits g c =
+    let n = c.args.note.number in
+    let S = sizes_of c.args.self.lock in
+    let lanes = c.args.lanes.items in
+    let passes = c.args.passes.items in
+    let is = all_records c.args.note.seat.me c.gather_lanes.new.seat.me c.gather_passes.new.seat.me n lanes passes c.args.note.known c.gather_lanes.ensures.records c.gather_passes.ensures.records in
+    let end = at_end S c.args.note.seat.me.0.about c.gather_passes.new.seat.me n lanes passes c.end-jobs.result is c.requires.all_lanes c.requires.all_passes (c.end-jobs.ensures n) in
+    end.fits
+
+pub returns-clause-machine : goal.returns-clause-machine
+returns-clause-machine g c =
+    let n = c.args.note.number in
+    let S = sizes_of c.args.self.lock in
+    let lanes = c.args.lanes.items in
+    let passes = c.args.passes.items in
+    let is = all_records c.args.note.seat.me c.gather_lanes.new.seat.me c.gather_passes.new.seat.me n lanes passes c.args.note.known c.gather_lanes.ensures.records c.gather_passes.ensures.records in
+    let end = at_end S c.args.note.seat.me.0.about c.gather_passes.new.seat.me n lanes passes c.end-jobs.result is c.requires.all_lanes c.requires.all_passes (c.end-jobs.ensures n) in
+    All-from_recursion (IsMadeFor S.machine) c.end-jobs.result.jobs.items end.made_for

@@ -1,0 +1,14 @@
+//! The line of jobs under one lock, the plainest that meets the contract `JobLine`.
+//!
+//! A call takes the line's state, works on it alone, and gives it back.
+#![tactic(auto)]
+
+mod handle;
+mod line;
+mod members;
+mod plays;
+mod store;
+mod store_lock;
+mod view;
+
+pub use line::LockedLine;

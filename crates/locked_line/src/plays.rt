@@ -1,0 +1,87 @@
+// The rule of a locked line's table, and the names of its steps.
+ghost use Rattle.std.specs.Prelude.{◌≡◌};
+ghost use Rattle.locked_line.specs.Inner.View.{first_view, without_lane, lane_alone, without_pass, pass_alone, joined, spent_view};
+ghost use Rattle.locked_line.specs.Inner.Rule.{Keeps};
+ghost use Rattle.locked_line.specs.Inner.Step.{took, after_entry, after_full_entry, after_seen, after_taken, after_reading, after_close};
+
+use crate::store::Store;
+use crate::view::View;
+use atomic_table::{Join, Play, Split, TableRule};
+use job_queue::Sizes;
+
+pub struct LineRule;
+
+impl TableRule<Store, View, Sizes> for LineRule {
+    ghost holds = { Keeps };
+
+    ghost first = { first_view };
+}
+
+pub struct Enter;
+
+impl Play<Store, View> for Enter {
+    ghost then = { took };
+}
+
+pub struct Accept;
+
+impl Play<Store, View> for Accept {
+    ghost then = { λ st before found after. after ≡ after_entry before };
+}
+
+pub struct Fill;
+
+impl Play<Store, View> for Fill {
+    ghost then = { λ st before found after. after ≡ after_full_entry before };
+}
+
+pub struct Refuse;
+
+impl Play<Store, View> for Refuse {
+    ghost then = { λ st before found after. after ≡ after_seen before };
+}
+
+pub struct Hand;
+
+impl Play<Store, View> for Hand {
+    ghost then = { λ st before found after. after ≡ after_taken before };
+}
+
+pub struct Read;
+
+impl Play<Store, View> for Read {
+    ghost then = { λ st before found after. after ≡ after_reading before };
+}
+
+pub struct Shut;
+
+impl Play<Store, View> for Shut {
+    ghost then = { λ st before found after. after ≡ after_close before };
+}
+
+// One lane's record is dealt out.
+pub struct DealLane;
+
+impl Split<View> for DealLane {
+    ghost left = { without_lane };
+
+    ghost right = { lane_alone };
+}
+
+// One pass's record is dealt out.
+pub struct DealPass;
+
+impl Split<View> for DealPass {
+    ghost left = { without_pass };
+
+    ghost right = { pass_alone };
+}
+
+// The records of two seats come together.
+pub struct Gather;
+
+impl Join<View> for Gather {
+    ghost both = { joined };
+
+    ghost spent = { spent_view };
+}

@@ -1,0 +1,4 @@
+pub mod JoinLemmas
+pub mod DealtLemmas
+pub mod ListedLemmas
+pub mod EndJoinLemmas
