@@ -7,7 +7,8 @@ use Rattle.histories.proofs.ViewLemmas.{all_append}
 use Rattle.job_queue.specs.declared.record.QueuedJob.{QueuedJob}
 use Rattle.job_queue.specs.declared.record.Entry.{Entry}
 use Rattle.job_queue.specs.Record.{entry, Ascend}
-use Rattle.job_queue.specs.History.{Deed, comes_out, closed_at, without_first, waiting, with_job, entries_by, taken_in, left_in, AwaitsJob, May}
+use Rattle.histories.specs.Lists.{rest_of}
+use Rattle.job_queue.specs.History.{Deed, comes_out, closed_at, waiting, with_job, entries_by, taken_in, left_in, AwaitsJob, May}
 
 -- ---- entries
 
@@ -50,12 +51,12 @@ drain_all (job ∷ jobs) h = drain_all jobs (comes_out job ∷ h)
 pub drained_legal : (lanes passes : ℕ) (jobs : List QueuedJob) (h : List Deed) → waiting h ≡ jobs → Legal (May lanes passes) h → Legal (May lanes passes) (drain_all jobs h)
 drained_legal lanes passes [] h waits legal = legal
 drained_legal lanes passes (job ∷ jobs) h waits legal =
-    let left : without_first (waiting h) ≡ jobs = ap without_first waits in
+    let left : rest_of (waiting h) ≡ jobs = ap rest_of waits in
     drained_legal lanes passes jobs (comes_out job ∷ h) left (waits ∙ ap (λ (js : List QueuedJob). job ∷ js) (sym left), legal)
 
 pub drained_waiting : (jobs : List QueuedJob) (h : List Deed) → waiting h ≡ jobs → waiting (drain_all jobs h) ≡ []
 drained_waiting [] h waits = waits
-drained_waiting (job ∷ jobs) h waits = drained_waiting jobs (comes_out job ∷ h) (ap without_first waits)
+drained_waiting (job ∷ jobs) h waits = drained_waiting jobs (comes_out job ∷ h) (ap rest_of waits)
 
 pub drained_left : (jobs : List QueuedJob) (h : List Deed) → left_in (drain_all jobs h) ≡ left_in h ++ jobs
 drained_left [] h = sym (append-nil (left_in h))

@@ -2,6 +2,7 @@
 use Rattle.std.specs.Prelude.{◌≡◌, ℕ, ◌+◌, ◌<◌, ◌⊎◌, Option, Some, None, List, [], ◌∷◌, ◌++◌, length, cond, ◌==◌}
 use Rattle.std.specs.List.{AllByRecursion as Each}
 use Rattle.histories.specs.History.{Legal}
+use Rattle.histories.specs.Lists.{rest_of}
 use Rattle.job_queue.specs.declared.record.QueuedJob.{QueuedJob}
 use Rattle.job_queue.specs.declared.record.Entry.{Entry}
 use Rattle.job_queue.specs.declared.record.LaneRecord.{LaneRecord}
@@ -37,18 +38,14 @@ closed_at (takes_first pass job ∷ history) = closed_at history
 closed_at (closes_line number ∷ history) = Some number
 closed_at (comes_out job ∷ history) = closed_at history
 
-abbrev pub without_first : List QueuedJob → List QueuedJob
-without_first [] = []
-without_first (job ∷ jobs) = jobs
-
 -- the jobs that wait, front first
 abbrev pub waiting : List Deed → List QueuedJob
 waiting [] = []
 waiting (enters lane number ∷ history) = waiting history
 waiting (accepts_job lane number job ∷ history) = waiting history ++ job ∷ []
-waiting (takes_first pass job ∷ history) = without_first (waiting history)
+waiting (takes_first pass job ∷ history) = rest_of (waiting history)
 waiting (closes_line number ∷ history) = waiting history
-waiting (comes_out job ∷ history) = without_first (waiting history)
+waiting (comes_out job ∷ history) = rest_of (waiting history)
 
 -- ---- the parts of a history
 
@@ -97,9 +94,9 @@ AwaitsJob number (e ∷ entries) = ((e ≡ entry number None) × Each (λ later.
 abbrev pub May : ℕ → ℕ → List Deed → Deed → Type 0
 May lanes passes history (enters lane number) = (lane < lanes) × (number ≡ entered history) × (closed_at history ≡ None)
 May lanes passes history (accepts_job lane number job) = AwaitsJob number (entries_by history lane) × (job.id ≡ job_id lane (length (accepted (entries_by history lane))))
-May lanes passes history (takes_first pass job) = (pass < passes) × (waiting history ≡ job ∷ without_first (waiting history))
+May lanes passes history (takes_first pass job) = (pass < passes) × (waiting history ≡ job ∷ rest_of (waiting history))
 May lanes passes history (closes_line number) = (number ≡ entered history) × (closed_at history ≡ None)
-May lanes passes history (comes_out job) = waiting history ≡ job ∷ without_first (waiting history)
+May lanes passes history (comes_out job) = waiting history ≡ job ∷ rest_of (waiting history)
 
 -- One legal history, of which the entries of each lane and what each pass took are its own parts. It was
 -- closed at the number of the note, what came out at its end is the rest, and then no job waits.

@@ -1,5 +1,6 @@
 -- The records of lanes and passes at a gate, and what each step makes of them.
-use Rattle.std.specs.Prelude.{◌≡◌, ℕ, zero, suc, ◌+◌, Bool, true, false, Some, None, List, [], ◌∷◌, ◌++◌}
+use Rattle.std.specs.Prelude.{◌≡◌, ℕ, Bool, true, false, Some, None, List, [], ◌∷◌, ◌++◌}
+use Rattle.histories.specs.Lists.{numbered_from}
 use Rattle.line_gate.specs.declared.record.SettledEntry.{SettledEntry}
 use Rattle.line_gate.specs.declared.record.LaneEntries.{LaneEntries}
 use Rattle.line_gate.specs.declared.record.Reading.{Reading}
@@ -20,12 +21,10 @@ fresh_pass number = record { number = number; settled = None; readings = [] }
 
 -- the fresh records of so many lanes, or passes, numbered from the first
 abbrev pub lanes_from : ℕ → ℕ → List LaneEntries
-lanes_from first zero = []
-lanes_from first (suc count) = fresh_lane first ∷ lanes_from (first + 1) count
+lanes_from = numbered_from fresh_lane
 
 abbrev pub passes_from : ℕ → ℕ → List PassReadings
-passes_from first zero = []
-passes_from first (suc count) = fresh_pass first ∷ passes_from (first + 1) count
+passes_from = numbered_from fresh_pass
 
 -- every entry of the lane is settled, and no late entry awaits its undoing
 abbrev pub IsSettled : LaneEntries → Type 0

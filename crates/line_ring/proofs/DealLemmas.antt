@@ -2,21 +2,21 @@
 use Rattle.std.proofs.Common.{◌≡◌, ◌≢◌, ℕ, zero, suc, ◌+◌, ◌<◌, ◌≤◌, ⊎_elim, List, [], ◌∷◌, ◌++◌, length, append_assoc, set, sym, refl, ap, ◌∙◌, subst, arith}
 use Rattle.std.proofs.lemmas.List.{append-nil}
 use Rattle.std.specs.List.{AllByRecursion}
-use mathlib.Core.Logic.{dite}
-use mathlib.Core.Option.{some, some-injective, some-ne-none}
-use native.Mathlib.Decide.{ℕ_discrete}
+use mathlib.Core.Option.{some}
 use lib.ListN.{get_elem?}
 use Rattle.atomic_table.proofs.Lists.{at_set, at_snoc}
 use Rattle.crossbeam_queue.specs.Fifo.{Forks, Merges}
+use Rattle.histories.specs.Lists.{first_of, rest_of}
 use Rattle.histories.specs.Sums.{total, is_at}
-use Rattle.histories.proofs.SumLemmas.{is_at-same, is_at-other}
+use Rattle.histories.proofs.DealLemmas.{only_view, first-tied, one-tied}
 use Rattle.histories.proofs.ViewLemmas.{True, splits, joins, nobody_else}
 use Rattle.cube_shape.specs.declared.limits.TheConstants.{MAX_LANES, MAX_PASSES}
 use Rattle.line_ring.specs.declared.record.LaneRecord.{LaneRecord}
 use Rattle.line_ring.specs.declared.record.PassRecord.{PassRecord}
 use Rattle.line_ring.specs.declared.rule.View.{View}
-use Rattle.line_ring.specs.History.{lane_part, pass_part, rest_of, rest_part}
-use Rattle.line_ring.specs.Inner.View.{view, rest_record, lanes_in, passes_in, rests_in, lane_number, pass_number, rest_number, members, first_of, lanes_from, passes_from, first_view, empty_view, without_lane, lane_alone, without_pass, pass_alone, joined}
+use Rattle.line_ring.specs.Record.{fresh_lane, fresh_pass}
+use Rattle.line_ring.specs.History.{lane_part, pass_part, rest_part}
+use Rattle.line_ring.specs.Inner.View.{view, rest_record, lanes_in, passes_in, rests_in, lane_number, pass_number, rest_number, members, lanes_from, passes_from, first_view, empty_view, without_lane, lane_alone, without_pass, pass_alone, joined}
 use Rattle.line_ring.specs.Inner.Rule.{Keeps}
 use Rattle.line_ring.specs.Inner.Step.{IsWhole}
 use Rattle.line_ring.proofs.ListLemmas.{no_pieces}
@@ -36,45 +36,7 @@ cut-length : {A : Type 0} (xs ys : List A) → length (rest_of xs ++ ys) + lengt
 cut-length [] ys = omega arith
 cut-length (x ∷ xs) ys = omega arith
 
-rest_once : (k : ℕ) → is_at k 0 ≤ 1
-rest_once zero = omega arith
-rest_once (suc k) = omega (arith, is_at-other (suc k) 0 (λ e. omega arith))
-
 -- ---- fresh records
-
-module _ (T : Type 0) where
-  pub lanes_count : (first count : ℕ) → length (lanes_from {T = T} first count) ≡ count
-  lanes_count first zero = refl
-  lanes_count first (suc count) = omega (arith, lanes_count (first + 1) count)
-
-  pub passes_count : (first count : ℕ) → length (passes_from {T = T} first count) ≡ count
-  passes_count first zero = refl
-  passes_count first (suc count) = omega (arith, passes_count (first + 1) count)
-
-  lanes_true : (first count n : ℕ) → first + count ≤ n → AllByRecursion (True lanes_in lane_number n (lane_part {T = T} [])) (lanes_from first count)
-  lanes_true first zero n within = tt
-  lanes_true first (suc count) n within = ((refl, omega arith), lanes_true (first + 1) count n (omega arith))
-
-  passes_true : (first count n : ℕ) → first + count ≤ n → AllByRecursion (True passes_in pass_number n (pass_part {T = T} [])) (passes_from first count)
-  passes_true first zero n within = tt
-  passes_true first (suc count) n within = ((refl, omega arith), passes_true (first + 1) count n (omega arith))
-
-  -- each number is there once at most, and none below the first
-  pub lanes_once : (k first count : ℕ) → (total (λ r. is_at k (lane_number r)) (lanes_from {T = T} first count) ≤ 1) × (k < first → total (λ r. is_at k (lane_number r)) (lanes_from {T = T} first count) ≡ 0)
-  lanes_once k first zero = (omega arith, λ _. refl)
-  lanes_once k first (suc count) =
-      let later = lanes_once k (first + 1) count in
-      dite (ℕ_discrete first k)
-      (λ e. let one : is_at k first ≡ 1 = ap (is_at k) e ∙ is_at-same k in let none_later = later.1 (omega arith) in (omega (arith, one, none_later), λ lower. absurd (omega arith)))
-      (λ ne. let none_here = is_at-other k first ne in (omega (arith, later.0, none_here), λ lower. omega (arith, later.1 (omega arith), none_here)))
-
-  passes_once : (k first count : ℕ) → (total (λ r. is_at k (pass_number r)) (passes_from {T = T} first count) ≤ 1) × (k < first → total (λ r. is_at k (pass_number r)) (passes_from {T = T} first count) ≡ 0)
-  passes_once k first zero = (omega arith, λ _. refl)
-  passes_once k first (suc count) =
-      let later = passes_once k (first + 1) count in
-      dite (ℕ_discrete first k)
-      (λ e. let one : is_at k first ≡ 1 = ap (is_at k) e ∙ is_at-same k in let none_later = later.1 (omega arith) in (omega (arith, one, none_later), λ lower. absurd (omega arith)))
-      (λ ne. let none_here = is_at-other k first ne in (omega (arith, later.0, none_here), λ lower. omega (arith, later.1 (omega arith), none_here)))
 
 module _ {T : Type 0} where
   -- what a fresh record weighs, all fresh records do
@@ -85,10 +47,6 @@ module _ {T : Type 0} where
   pub fresh_passes_weigh : (f : PassRecord T → ℕ) → ((number : ℕ) → f (record { number = number; taken = [] }) ≡ 0) → (first count : ℕ) → total f (passes_from first count) ≡ 0
   fresh_passes_weigh f none first zero = refl
   fresh_passes_weigh f none first (suc count) = omega (arith, none first, fresh_passes_weigh f none (first + 1) count)
-
-  only_view : (P : View T → Type 0) (v : View T) → P v → (id : ℕ) (u : View T) → get_elem? (v ∷ []) id ≡ some u → P u
-  only_view P v holds zero u there = subst P (some-injective v u there) holds
-  only_view P v holds (suc id) u there = absurd (some-ne-none u (sym there))
 
   -- the first view, once it is for the machine
   abbrev pub whole_view : ℕ → View T
@@ -113,18 +71,9 @@ module _ {T : Type 0} (lane_of seq_of : T → ℕ) (is_for : ℕ → T → Type 
     legal = tt;
     waits = refl;
     made_for = tt;
-    lanes = record {
-      each = only_view (λ u. AllByRecursion (True lanes_in lane_number MAX_LANES (lane_part [])) (lanes_in u)) first_view (lanes_true T 0 MAX_LANES MAX_LANES (omega arith));
-      once = λ k. omega (arith, (lanes_once T k 0 MAX_LANES).0);
-    };
-    passes = record {
-      each = only_view (λ u. AllByRecursion (True passes_in pass_number MAX_PASSES (pass_part [])) (passes_in u)) first_view (passes_true T 0 MAX_PASSES MAX_PASSES (omega arith));
-      once = λ k. omega (arith, (passes_once T k 0 MAX_PASSES).0);
-    };
-    rests = record {
-      each = only_view (λ u. AllByRecursion (True rests_in rest_number 1 (rest_part [])) (rests_in u)) first_view ((refl, omega arith), tt);
-      once = λ k. omega (arith, rest_once k);
-    };
+    lanes = first-tied lanes_in lane_number fresh_lane (λ _. refl) MAX_LANES first_view (append-nil (lanes_from 0 MAX_LANES));
+    passes = first-tied passes_in pass_number fresh_pass (λ _. refl) MAX_PASSES first_view (append-nil (passes_from 0 MAX_PASSES));
+    rests = one-tied rests_in rest_number (rest_part []) first_view (rest_record []) refl refl refl;
     about = only_view (λ u. 0 < members u → u.machine ≡ 0) first_view (λ _. refl);
   }
 

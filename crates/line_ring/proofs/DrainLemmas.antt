@@ -7,6 +7,7 @@ use native.Mathlib.Decide.{ℕ_discrete, dec_le}
 use Rattle.crossbeam_queue.specs.Fifo.{Held}
 use Rattle.histories.specs.Sums.{total, is_at}
 use Rattle.histories.proofs.SumLemmas.{total-append}
+use Rattle.histories.proofs.DealLemmas.{fresh-count, fresh-once}
 use Rattle.histories.proofs.ViewLemmas.{all_append, all_weaker}
 use Rattle.cube_shape.specs.declared.limits.TheConstants.{MAX_LANES, MAX_PASSES}
 use Rattle.line_ring.specs.declared.record.LaneRecord.{LaneRecord}
@@ -20,7 +21,7 @@ use Rattle.line_ring.specs.Inner.View.{view, rest_record, lanes_in, passes_in, l
 use Rattle.line_ring.specs.Inner.Step.{drained_in, after_drain, IsEndView, IsWhole, RunsTo, Drains}
 use Rattle.line_ring.proofs.HistoryLemmas.{lane_other, pass_other}
 use Rattle.line_ring.proofs.ListLemmas.{count_pieces, rises-front, rises-both}
-use Rattle.line_ring.proofs.DealLemmas.{fresh_lanes_weigh, fresh_passes_weigh, lanes_count, passes_count, lanes_once}
+use Rattle.line_ring.proofs.DealLemmas.{fresh_lanes_weigh, fresh_passes_weigh}
 
 all_and : {A : Type 0} (P Q : A → Type 0) (xs : List A) → AllByRecursion P xs → AllByRecursion Q xs → AllByRecursion (λ x. P x × Q x) xs
 all_and P Q [] left right = tt
@@ -49,8 +50,8 @@ module _ {T : Type 0} where
   -- as many lanes and passes have come back as were dealt, so the view has all
   pub all_are_here : (lanes passes : ℕ) (v : View T) (out : List T) → IsEndView lanes passes v → length v.lanes ≡ lanes → length v.passes ≡ passes → IsWhole (with_rest v out)
   all_are_here lanes passes v out is lanes_back passes_back = record {
-    lanes = omega (arith, length-append v.spare_lanes v.lanes, ap length is.spare_lanes, lanes_count T lanes (MAX_LANES - lanes), is.few_lanes, lanes_back);
-    passes = omega (arith, length-append v.spare_passes v.passes, ap length is.spare_passes, passes_count T passes (MAX_PASSES - passes), is.few_passes, passes_back);
+    lanes = omega (arith, length-append v.spare_lanes v.lanes, ap length is.spare_lanes, fresh-count (fresh_lane {T = T}) lanes (MAX_LANES - lanes), is.few_lanes, lanes_back);
+    passes = omega (arith, length-append v.spare_passes v.passes, ap length is.spare_passes, fresh-count (fresh_pass {T = T}) passes (MAX_PASSES - passes), is.few_passes, passes_back);
     rests = refl;
   }
 
@@ -192,4 +193,4 @@ module _ {T : Type 0} (lane_of seq_of : T → ℕ) (is_for : ℕ → T → Type 
     pub lanes_there : (k : ℕ) → k < lanes → total (λ l. is_at k l.number) v₀.lanes ≡ 1
     lanes_there k within =
         let number = λ (l : LaneRecord T). is_at k l.number in
-        omega (arith, run.numbers k (omega (arith, within, end.few_lanes)), total-append number v₀.spare_lanes v₀.lanes, ap (total number) end.spare_lanes, (lanes_once T k lanes (MAX_LANES - lanes)).1 within)
+        omega (arith, run.numbers k (omega (arith, within, end.few_lanes)), total-append number v₀.spare_lanes v₀.lanes, ap (total number) end.spare_lanes, (fresh-once (fresh_lane {T = T}) (λ r. r.number) (λ _. refl) k lanes (MAX_LANES - lanes)).1 within)

@@ -13,7 +13,8 @@ use Rattle.line_ring.specs.declared.record.PassRecord.{PassRecord}
 use Rattle.line_ring.specs.declared.record.RestRecord.{RestRecord}
 use Rattle.line_ring.specs.declared.rule.View.{View}
 use Rattle.line_ring.specs.Record.{AreSeqs, Rises}
-use Rattle.line_ring.specs.History.{drains, rest_of, waiting, lane_part, pass_part, rest_part}
+use Rattle.histories.specs.Lists.{rest_of}
+use Rattle.line_ring.specs.History.{drains, waiting, lane_part, pass_part, rest_part}
 use Rattle.line_ring.specs.Inner.View.{view, rest_record, lanes_in, passes_in, rests_in, lane_number, pass_number, rest_number, members}
 use Rattle.line_ring.specs.Inner.Rule.{Keeps}
 use Rattle.line_ring.specs.Inner.Step.{drained_in, IsWhole, RunsTo, Drains}

@@ -10,7 +10,8 @@ use Rattle.cube_shape.specs.declared.limits.TheConstants.{MAX_LANES, MAX_PASSES}
 use Rattle.line_ring.specs.declared.record.LaneRecord.{LaneRecord}
 use Rattle.line_ring.specs.declared.record.PassRecord.{PassRecord}
 use Rattle.line_ring.specs.Record.{AreSeqs, Rises}
-use Rattle.line_ring.specs.History.{Deed, accepts, takes_piece, drains, rest_of, waiting, lane_after, lane_part, pass_after, pass_part, IsLegal, rest_part}
+use Rattle.histories.specs.Lists.{rest_of}
+use Rattle.line_ring.specs.History.{Deed, accepts, takes_piece, drains, waiting, lane_after, lane_part, pass_after, pass_part, IsLegal, rest_part}
 use Rattle.line_ring.proofs.ListLemmas.{all-middle, leaves, seqs-push, Before, rises-push, rises-middle}
 
 module _ {T : Type 0} where

@@ -8,7 +8,8 @@ use Rattle.crossbeam_queue.specs.Fifo.{Pushes, Pops, Learns}
 use Rattle.line_ring.specs.declared.record.LaneRecord.{LaneRecord}
 use Rattle.line_ring.specs.declared.record.PassRecord.{PassRecord}
 use Rattle.line_ring.specs.declared.rule.View.{View}
-use Rattle.line_ring.specs.History.{accepts, takes_piece, rest_of, waiting, lane_part, pass_part, rest_part}
+use Rattle.histories.specs.Lists.{rest_of}
+use Rattle.line_ring.specs.History.{accepts, takes_piece, waiting, lane_part, pass_part, rest_part}
 use Rattle.line_ring.specs.Inner.View.{lane_view, pass_view, lanes_in, passes_in, rests_in, lane_number, pass_number, rest_number, members}
 use Rattle.line_ring.specs.Inner.Rule.{Keeps}
 use Rattle.line_ring.specs.Record.{lane_in, pass_in}

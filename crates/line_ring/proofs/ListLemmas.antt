@@ -4,7 +4,7 @@ use Rattle.std.specs.List.{AllByRecursion}
 use Rattle.histories.specs.Sums.{total}
 use Rattle.histories.proofs.ViewLemmas.{all_append}
 use Rattle.line_ring.specs.Record.{AreSeqs, Rises}
-use Rattle.line_ring.specs.History.{rest_of}
+use Rattle.histories.specs.Lists.{rest_of}
 
 module _ {T : Type 0} where
   pub all-middle : (P : T → Type 0) (xs : List T) (y : T) (ys : List T) → AllByRecursion P (xs ++ y ∷ ys) → AllByRecursion P (xs ++ ys)

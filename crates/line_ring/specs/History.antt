@@ -2,6 +2,7 @@
 -- record.
 use Rattle.std.specs.Prelude.{◌≡◌, ℕ, ◌<◌, Bool, false, List, [], ◌∷◌, ◌++◌, length, ◌==◌}
 use Rattle.histories.specs.History.{part, Legal}
+use Rattle.histories.specs.Lists.{rest_of}
 use Rattle.cube_shape.specs.declared.limits.TheConstants.{MAX_LANES, MAX_PASSES}
 use Rattle.line_ring.specs.declared.record.LaneRecord.{LaneRecord}
 use Rattle.line_ring.specs.declared.record.PassRecord.{PassRecord}
@@ -15,10 +16,6 @@ pub data Deed (T : Type 0) : Type 0 where
   takes_piece : ℕ → T → Deed T
   -- the piece at the front came out at the ring's end
   drains : T → Deed T
-
-abbrev pub rest_of : {T : Type 0} → List T → List T
-rest_of [] = []
-rest_of (x ∷ xs) = xs
 
 -- the pieces that wait, front first
 abbrev pub waiting : {T : Type 0} → List (Deed T) → List T

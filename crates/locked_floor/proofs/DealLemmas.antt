@@ -13,7 +13,8 @@ use Rattle.histories.proofs.ViewLemmas.{True, splits, joins}
 use Rattle.alloc_bits.specs.Allocation.{Allocation, held_in}
 use Rattle.locked_floor.specs.declared.view.Size.{Size}
 use Rattle.locked_floor.specs.declared.view.View.{View}
-use Rattle.locked_floor.specs.Inner.View.{members, out_of, is_out, first_of, rest_of, stations_from, first_view, without_station, station_alone, joined, spent_view}
+use Rattle.histories.specs.Lists.{first_of, rest_of}
+use Rattle.locked_floor.specs.Inner.View.{members, out_of, is_out, stations_from, first_view, without_station, station_alone, joined, spent_view}
 use Rattle.locked_floor.specs.Inner.Deed.{station_part}
 use Rattle.locked_floor.specs.Inner.Rule.{Fits, Keeps}
 use Rattle.locked_floor.proofs.KeepLemmas.{stations_in, station_number}

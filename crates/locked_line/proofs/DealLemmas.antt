@@ -15,7 +15,8 @@ use Rattle.cube_shape.specs.declared.limits.TheConstants.{MAX_LANES}
 use Rattle.job_queue.specs.declared.job_line.Sizes.{Sizes}
 use Rattle.locked_line.specs.declared.store.Store.{Store}
 use Rattle.locked_line.specs.declared.view.View.{View}
-use Rattle.locked_line.specs.Inner.View.{IsEmptyStore, members, out_of, is_out, first_of, rest_of, lanes_from, passes_from, first_view, without_lane, lane_alone, without_pass, pass_alone, joined, spent_view}
+use Rattle.histories.specs.Lists.{first_of, rest_of}
+use Rattle.locked_line.specs.Inner.View.{IsEmptyStore, members, out_of, is_out, lanes_from, passes_from, first_view, without_lane, lane_alone, without_pass, pass_alone, joined, spent_view}
 use Rattle.locked_line.specs.Inner.Deed.{lane_part, pass_part, closer_part}
 use Rattle.locked_line.specs.Inner.Rule.{Fits, Keeps}
 use Rattle.locked_line.proofs.KeepLemmas.{St, lanes_in, passes_in, closers_in, lane_number, pass_number, closer_number}

@@ -14,7 +14,7 @@ use Rattle.job_queue.specs.declared.record.Entry.{Entry}
 use Rattle.job_queue.specs.declared.record.LaneRecord.{LaneRecord}
 use Rattle.job_queue.specs.Record.{entry, accepted_with, accepted}
 use Rattle.job_queue.specs.Line.{IsMadeFor}
-use Rattle.locked_line.specs.Inner.View.{rest_of}
+use Rattle.histories.specs.Lists.{rest_of}
 use Rattle.locked_line.specs.Inner.Deed.{Deed, accepts, fills, finds_closed, takes_job, finds_empty, closes, entered, waiting, is_closed, is_by_lane, lane_after, lane_part, is_by_pass, pass_after, pass_part, closed_at, IsLegal}
 
 -- ---- the part of a member after one more deed

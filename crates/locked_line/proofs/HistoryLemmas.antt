@@ -14,7 +14,8 @@ use Rattle.job_queue.specs.declared.record.Reading.{Reading}
 use Rattle.job_queue.specs.declared.record.LaneRecord.{LaneRecord}
 use Rattle.job_queue.specs.declared.record.PassRecord.{PassRecord}
 use Rattle.job_queue.specs.Record.{entry, accepted, job_id, AreSeqs, Rises}
-use Rattle.locked_line.specs.Inner.View.{reading, rest_of}
+use Rattle.histories.specs.Lists.{rest_of}
+use Rattle.locked_line.specs.Inner.View.{reading}
 use Rattle.locked_line.specs.Inner.Deed.{Deed, accepts, fills, finds_closed, takes_job, finds_empty, closes, entered, waiting, is_closed, lane_after, lane_part, pass_after, pass_part, IsLegal}
 use Rattle.job_queue.proofs.AcceptedLemmas.{accepted-push, accepted-full}
 use Rattle.locked_line.proofs.DeedLemmas.{lane_own, lane_other, pass_own, pass_other}

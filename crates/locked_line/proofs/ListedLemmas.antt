@@ -11,8 +11,8 @@ use Rattle.job_queue.specs.declared.record.Entry.{Entry}
 use Rattle.job_queue.specs.declared.record.LaneRecord.{LaneRecord}
 use Rattle.job_queue.specs.declared.record.PassRecord.{PassRecord}
 use Rattle.job_queue.specs.Record.{job_id, entry, accepted}
-use Rattle.job_queue.specs.History.{Deed as LineDeed, enters, accepts_job, takes_first, closes_line, entered as line_entered, closed_at as line_closed_at, without_first, waiting as line_waiting, with_job, entries_by, taken_in, left_in, AwaitsJob, May as LineMay}
-use Rattle.locked_line.specs.Inner.View.{rest_of}
+use Rattle.job_queue.specs.History.{Deed as LineDeed, enters, accepts_job, takes_first, closes_line, entered as line_entered, closed_at as line_closed_at, waiting as line_waiting, with_job, entries_by, taken_in, left_in, AwaitsJob, May as LineMay}
+use Rattle.histories.specs.Lists.{rest_of}
 use Rattle.locked_line.specs.Inner.Deed.{Deed, accepts, fills, finds_closed, takes_job, finds_empty, closes, entered, waiting, is_closed, lane_after, lane_part, pass_after, pass_part, closed_at, IsLegal}
 use Rattle.job_queue.proofs.AcceptedLemmas.{accepted-full}
 use Rattle.locked_line.proofs.DeedLemmas.{lane_own, lane_other, pass_own, pass_other}
@@ -55,17 +55,12 @@ still_open (takes_job pass job ∷ h) still = still_open h still
 still_open (finds_empty pass count closed ∷ h) still = still_open h still
 still_open (closes number ∷ h) still = absurd (true≢false still)
 
--- two names of one function
-same_rest : (jobs : List QueuedJob) → rest_of jobs ≡ without_first jobs
-same_rest [] = refl
-same_rest (job ∷ jobs) = refl
-
 pub listed_waiting : (h : List Deed) → line_waiting (listed h) ≡ waiting h
 listed_waiting [] = refl
 listed_waiting (accepts lane number job ∷ h) = ap (λ (js : List QueuedJob). js ++ job ∷ []) (listed_waiting h)
 listed_waiting (fills lane number ∷ h) = listed_waiting h
 listed_waiting (finds_closed lane seen ∷ h) = listed_waiting h
-listed_waiting (takes_job pass job ∷ h) = ap without_first (listed_waiting h) ∙ sym (same_rest (waiting h))
+listed_waiting (takes_job pass job ∷ h) = ap rest_of (listed_waiting h)
 listed_waiting (finds_empty pass count closed ∷ h) = listed_waiting h
 listed_waiting (closes number ∷ h) = listed_waiting h
 
@@ -140,6 +135,6 @@ module _ (sizes : Sizes) where
   listed_legal (finds_closed lane seen ∷ h) legal = listed_legal h legal.1
   listed_legal (takes_job pass job ∷ h) legal =
       let waits = listed_waiting h in
-      ((legal.0.0, waits ∙ (legal.0.1 ∙ ap (λ (js : List QueuedJob). job ∷ js) (same_rest (waiting h) ∙ ap without_first (sym waits)))), listed_legal h legal.1)
+      ((legal.0.0, waits ∙ (legal.0.1 ∙ ap (λ (js : List QueuedJob). job ∷ js) (ap rest_of (sym waits)))), listed_legal h legal.1)
   listed_legal (finds_empty pass count closed ∷ h) legal = listed_legal h legal.1
   listed_legal (closes number ∷ h) legal = ((legal.0.1 ∙ sym (listed_entered h), still_open h legal.0.0), listed_legal h legal.1)

@@ -19,7 +19,8 @@ use Rattle.locked_line.specs.declared.view.View.{View}
 use Rattle.locked_line.specs.declared.view.CloserRecord.{CloserRecord}
 use Rattle.job_queue.specs.Record.{entry, accepted}
 use Rattle.job_queue.specs.Line.{IsMadeFor}
-use Rattle.locked_line.specs.Inner.View.{view, lane_view, pass_view, closer_view, holding, members, rest_of}
+use Rattle.histories.specs.Lists.{rest_of}
+use Rattle.locked_line.specs.Inner.View.{view, lane_view, pass_view, closer_view, holding, members}
 use Rattle.locked_line.specs.Inner.Deed.{Deed, accepts, fills, finds_closed, takes_job, finds_empty, closes, waiting, is_by_lane, lane_after, lane_part, is_by_pass, pass_after, pass_part, closed_at, closer_part, May}
 use Rattle.locked_line.specs.Inner.Rule.{Fits, Keeps}
 use Rattle.locked_line.specs.Inner.Step.{Sat, IsIdle, Knows, took, last_of, front_of, after_entry, after_full_entry, after_seen, after_taken, after_reading, after_close, IsLaneOut, IsPassOut, IsCloserOut, Accepts, Fills, Hands, Same, Closes}

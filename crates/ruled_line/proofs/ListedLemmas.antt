@@ -12,12 +12,13 @@ use Rattle.line_gate.specs.declared.record.SettledEntry.{SettledEntry}
 use Rattle.line_gate.specs.History.{Entering, makes, shuts, made, shut_at, numbers_by, AreEntries}
 use Rattle.line_ring.specs.declared.record.LaneRecord.{LaneRecord as RingLaneRecord}
 use Rattle.line_ring.specs.declared.record.PassRecord.{PassRecord as RingPassRecord}
-use Rattle.line_ring.specs.History.{Deed as RingDeed, accepts, takes_piece, drains, rest_of, waiting as ring_waiting, lane_part, pass_part, rest_part, IsLegal}
+use Rattle.line_ring.specs.History.{Deed as RingDeed, accepts, takes_piece, drains, waiting as ring_waiting, lane_part, pass_part, rest_part, IsLegal}
 use Rattle.line_ring.proofs.HistoryLemmas.{lane_own, lane_other, pass_own, pass_other}
 use Rattle.job_queue.specs.declared.record.QueuedJob.{QueuedJob}
 use Rattle.job_queue.specs.declared.record.Entry.{Entry}
 use Rattle.job_queue.specs.Record.{job_id, entry, accepted, Ascend}
-use Rattle.job_queue.specs.History.{Deed, enters, accepts_job, takes_first, closes_line, comes_out, entered, closed_at, without_first, waiting, with_job, entries_by, taken_in, left_in, AwaitsJob, May}
+use Rattle.histories.specs.Lists.{rest_of}
+use Rattle.job_queue.specs.History.{Deed, enters, accepts_job, takes_first, closes_line, comes_out, entered, closed_at, waiting, with_job, entries_by, taken_in, left_in, AwaitsJob, May}
 use Rattle.ruled_line.specs.Inner.Join.{one_if, accepted_count, job_of_entry, jobs_after, with_jobs}
 use Rattle.job_queue.proofs.ListLemmas.{unfilled, unfilled-push, none_has, ascend-push}
 
@@ -191,11 +192,6 @@ put_own lane job h = ap (λ (r : RingLaneRecord QueuedJob). r.accepted) (lane_ow
 put_else : (lane : ℕ) (job : QueuedJob) (h : List (RingDeed QueuedJob)) (k : ℕ) → k ≢ lane → put_by (accepts lane job ∷ h) k ≡ put_by h k
 put_else lane job h k other = ap (λ (r : RingLaneRecord QueuedJob). r.accepted) (lane_other lane job h k other)
 
--- two names of one function
-same_rest : (jobs : List QueuedJob) → rest_of jobs ≡ without_first jobs
-same_rest [] = refl
-same_rest (job ∷ jobs) = refl
-
 module _ (lanes passes : ℕ) (g : List Entering) (es : ℕ → List SettledEntry) where
   abbrev pub listed : List (RingDeed QueuedJob) → List Deed
   listed [] = entries_first g
@@ -212,8 +208,8 @@ module _ (lanes passes : ℕ) (g : List Entering) (es : ℕ → List SettledEntr
   pub listed_waiting : (h : List (RingDeed QueuedJob)) → waiting (listed h) ≡ ring_waiting h
   listed_waiting [] = first_waiting g
   listed_waiting (accepts lane job ∷ h) = ap (λ (js : List QueuedJob). js ++ job ∷ []) (listed_waiting h)
-  listed_waiting (takes_piece pass job ∷ h) = ap without_first (listed_waiting h) ∙ sym (same_rest (ring_waiting h))
-  listed_waiting (drains job ∷ h) = ap without_first (listed_waiting h) ∙ sym (same_rest (ring_waiting h))
+  listed_waiting (takes_piece pass job ∷ h) = ap rest_of (listed_waiting h)
+  listed_waiting (drains job ∷ h) = ap rest_of (listed_waiting h)
 
   pub listed_left : (h : List (RingDeed QueuedJob)) → left_in (listed h) ≡ (rest_part h 0).drained
   listed_left [] = first_left g
@@ -285,10 +281,10 @@ module _ (lanes passes : ℕ) (g : List Entering) (es : ℕ → List SettledEntr
     listed_entries (takes_piece pass job ∷ h) k enough = listed_entries h k enough
     listed_entries (drains job ∷ h) k enough = listed_entries h k enough
 
-    front : (h : List (RingDeed QueuedJob)) (job : QueuedJob) → ring_waiting h ≡ job ∷ rest_of (ring_waiting h) → waiting (listed h) ≡ job ∷ without_first (waiting (listed h))
+    front : (h : List (RingDeed QueuedJob)) (job : QueuedJob) → ring_waiting h ≡ job ∷ rest_of (ring_waiting h) → waiting (listed h) ≡ job ∷ rest_of (waiting (listed h))
     front h job first =
         let waits = listed_waiting h in
-        waits ∙ (first ∙ ap (λ (js : List QueuedJob). job ∷ js) (same_rest (ring_waiting h) ∙ ap without_first (sym waits)))
+        waits ∙ (first ∙ ap (λ (js : List QueuedJob). job ∷ js) (ap rest_of (sym waits)))
 
     pub listed_legal : (h : List (RingDeed QueuedJob)) → IsLegal lane_id seq_id h → Enough h → Few h → Legal (May lanes passes) (listed h)
     listed_legal [] legal enough few = first_legal lanes passes g entries

@@ -1,5 +1,6 @@
 -- What seats of a gate's table know.
 use Rattle.std.specs.Prelude.{ℕ, Option, None, List, [], ◌∷◌, ◌++◌}
+use Rattle.histories.specs.Lists.{first_of, rest_of}
 use Rattle.line_gate.specs.declared.gate.Counts.{Counts}
 use Rattle.line_gate.specs.declared.record.LaneEntries.{LaneEntries}
 use Rattle.line_gate.specs.declared.record.PassReadings.{PassReadings}
@@ -22,14 +23,6 @@ pass_view r = view [] (r ∷ []) []
 
 abbrev pub closer_view : Option ℕ → View
 closer_view closed_at = view [] [] (closer closed_at ∷ [])
-
-abbrev pub first_of : {A : Type 0} → List A → List A
-first_of [] = []
-first_of (x ∷ xs) = x ∷ []
-
-abbrev pub rest_of : {A : Type 0} → List A → List A
-rest_of [] = []
-rest_of (x ∷ xs) = xs
 
 -- ---- views are dealt out, and come together again
 

@@ -1,16 +1,12 @@
 -- What the seats of a ring know.
-use Rattle.std.specs.Prelude.{ℕ, zero, suc, ◌+◌, List, [], ◌∷◌, ◌++◌, length}
+use Rattle.std.specs.Prelude.{ℕ, ◌+◌, List, [], ◌∷◌, ◌++◌, length}
+use Rattle.histories.specs.Lists.{first_of, rest_of, numbered_from}
 use Rattle.cube_shape.specs.declared.limits.TheConstants.{MAX_LANES, MAX_PASSES}
 use Rattle.line_ring.specs.declared.record.LaneRecord.{LaneRecord}
 use Rattle.line_ring.specs.declared.record.PassRecord.{PassRecord}
 use Rattle.line_ring.specs.declared.record.RestRecord.{RestRecord}
 use Rattle.line_ring.specs.declared.rule.View.{View}
 use Rattle.line_ring.specs.Record.{fresh_lane, fresh_pass}
-use Rattle.line_ring.specs.History.{rest_of}
-
-abbrev pub first_of : {A : Type 0} → List A → List A
-first_of [] = []
-first_of (x ∷ xs) = x ∷ []
 
 module _ {T : Type 0} where
   abbrev pub view : ℕ → List (LaneRecord T) → List (LaneRecord T) → List (PassRecord T) → List (PassRecord T) → List (RestRecord T) → View T
@@ -52,12 +48,10 @@ module _ {T : Type 0} where
   -- ---- views are dealt out, and come together again
 
   abbrev pub lanes_from : ℕ → ℕ → List (LaneRecord T)
-  lanes_from first zero = []
-  lanes_from first (suc count) = fresh_lane first ∷ lanes_from (first + 1) count
+  lanes_from = numbered_from fresh_lane
 
   abbrev pub passes_from : ℕ → ℕ → List (PassRecord T)
-  passes_from first zero = []
-  passes_from first (suc count) = fresh_pass first ∷ passes_from (first + 1) count
+  passes_from = numbered_from fresh_pass
 
   -- what the first seat knows: the records of all members, none of which was dealt
   abbrev pub first_view : View T

@@ -1,5 +1,6 @@
 -- What work on the allocation bits does, and what seats know.
 use Rattle.std.specs.Prelude.{◌≡◌, ℕ, zero, suc, ◌+◌, Option, Some, None, List, [], ◌∷◌, ◌++◌, length}
+use Rattle.histories.specs.Lists.{first_of, rest_of}
 use Rattle.cube_shape.specs.declared.region.Region.{Region}
 use Rattle.cube_shape.specs.Machine.{Gives, HasNoFit, TakesBack}
 use Rattle.alloc_bits.specs.Allocation.{Allocation, held_in}
@@ -42,14 +43,6 @@ out_of None = 0
 -- 1 where the seat has taken the slot
 abbrev pub is_out : View → ℕ
 is_out v = out_of v.found
-
-abbrev pub first_of : {A : Type 0} → List A → List A
-first_of [] = []
-first_of (x ∷ xs) = x ∷ []
-
-abbrev pub rest_of : {A : Type 0} → List A → List A
-rest_of [] = []
-rest_of (x ∷ xs) = xs
 
 -- ---- views are dealt out, and come together again
 

@@ -9,7 +9,8 @@ use Rattle.job_queue.specs.declared.record.PassRecord.{PassRecord}
 use Rattle.locked_line.specs.declared.view.CloserRecord.{CloserRecord}
 use Rattle.job_queue.specs.Record.{entry, fresh_lane, fresh_pass, accepted, job_id}
 use Rattle.job_queue.specs.Line.{IsMadeFor}
-use Rattle.locked_line.specs.Inner.View.{reading, rest_of}
+use Rattle.histories.specs.Lists.{rest_of}
+use Rattle.locked_line.specs.Inner.View.{reading}
 
 pub data Deed : Type 0 where
   -- a lane made the entry of this number, and its job came in, or the line was full

@@ -1,5 +1,6 @@
 -- The state of a locked line, what work on it does, and what seats know.
 use Rattle.std.specs.Prelude.{◌≡◌, ℕ, zero, suc, ◌+◌, ◌<◌, ◌≤◌, Bool, true, false, Option, Some, None, Result, Ok, Err, List, [], ◌∷◌, ◌++◌, length, slice_index, slice_set, replicate}
+use Rattle.histories.specs.Lists.{first_of, rest_of}
 use Rattle.job_types.specs.Job.{JobData}
 use Rattle.job_queue.specs.declared.job_line.Sizes.{Sizes}
 use Rattle.job_queue.specs.declared.job_line.Receipt.{Receipt}
@@ -72,14 +73,6 @@ out_of None = 0
 -- 1 where the seat has taken the slot
 abbrev pub is_out : View → ℕ
 is_out v = out_of v.found
-
-abbrev pub first_of : {A : Type 0} → List A → List A
-first_of [] = []
-first_of (x ∷ xs) = x ∷ []
-
-abbrev pub rest_of : {A : Type 0} → List A → List A
-rest_of [] = []
-rest_of (x ∷ xs) = xs
 
 -- ---- views are dealt out, and come together again
 
