@@ -3,7 +3,7 @@ ghost use Rattle.std.specs.Prelude.{◌≡◌, ◌+◌, ◌<◌, ◌++◌, ◌�
 ghost use Rattle.line_gate.specs.Record.{Seals as SealsGate};
 ghost use Rattle.line_gate.specs.declared.record.Reading.{Reading as GateReading};
 ghost use Rattle.line_ring.specs.Inner.Handle.{ring_id, is_lane as IsRingLane, is_pass as IsRingPass, lane_record as ring_record, pass_record as ring_pass};
-ghost use Rattle.job_queue.specs.Line.{IsFor};
+ghost use Rattle.job_queue.specs.Line.{IsFor, IsMadeFor};
 ghost use Rattle.ruled_line.specs.Inner.Join.{Puts};
 
 use job_queue::{QueuedJob, Receipt};
