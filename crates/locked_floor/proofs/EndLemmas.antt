@@ -3,18 +3,19 @@ use Rattle.std.proofs.Common.{◌≡◌, ◌≢◌, ℕ, ◌+◌, ◌<◌, ◌�
 use Rattle.std.specs.List.{AllByRecursion}
 use Rattle.std.proofs.lemmas.Bool.{cases_lt}
 use mathlib.Core.Logic.{dite}
-use mathlib.Core.Option.{some, some-injective}
+use mathlib.Core.Option.{some}
 use native.Mathlib.Decide.{ℕ_discrete}
 use lib.ListN.{get_elem?}
-use Rattle.atomic_table.specs.Table.{Seen, Final}
 use Rattle.histories.specs.Sums.{total, is_at}
-use Rattle.histories.proofs.SumLemmas.{positive_term, is_at-other}
+use Rattle.histories.proofs.SumLemmas.{is_at-other}
 use Rattle.histories.proofs.ViewLemmas.{True, has_everyone, nobody_else}
+use Rattle.locked_cell.specs.Cell.{Leaves}
+use Rattle.locked_cell.proofs.CellLemmas.{at_home}
 use Rattle.alloc_bits.specs.Allocation.{Allocation, held_in}
 use Rattle.locked_floor.specs.declared.view.Size.{Size}
 use Rattle.locked_floor.specs.declared.view.StationRecord.{StationRecord}
 use Rattle.locked_floor.specs.declared.view.View.{View}
-use Rattle.locked_floor.specs.Inner.View.{out_of, is_out}
+use Rattle.locked_floor.specs.Inner.View.{members, found_in}
 use Rattle.locked_floor.specs.Inner.Deed.{station_part, held_after}
 use Rattle.locked_floor.specs.Inner.Rule.{Fits, Keeps}
 use Rattle.locked_floor.specs.Inner.Step.{Sat}
@@ -32,23 +33,8 @@ idle_there recorded n k (r ∷ rs) true idle one =
     (λ ne. idle_there recorded n k rs true.1 idle.1 (omega (arith, is_at-other k r.number ne)))
 
 module _ (size : Size) (s : St) (k : Keeps size s) (id : ℕ) (m : Sat) (me : get_elem? s.views id ≡ some m.0) (whole : IsWhole size m) where
-  -- no seat has taken the slot: it would be a station's, and they are all here
-  nobody_out : total is_out s.views ≡ 0
-  nobody_out =
-      dite (ℕ_discrete (total is_out s.views) 0) (λ none. none)
-      (λ some_out.
-      let t = positive_term is_out s.views (omega arith) in
-      let j = t.0 in let u : View = t.1 in
-      let in_here : is_out m.0 ≡ 0 = ap out_of whole.found in
-      let apart : j ≢ id = λ e. let same : u ≡ m.0 = some-injective u m.0 (sym t.2 ∙ (ap (get_elem? s.views) e ∙ me)) in let none : is_out u ≡ 0 = ap is_out same ∙ in_here in absurd (omega (arith, t.3)) in
-      absurd (omega (
-        arith,
-        k.taken_by j u t.2 t.3,
-        ap length (nobody_else stations_in station_number s.views k.stations id m.0 me whole.stations j u apart t.2),
-      )))
-
-  at_home : (x : Allocation) × (get_elem? s.homes 0 ≡ some (some x)) × Fits size k.history x
-  at_home = k.home (sym k.out ∙ nobody_out)
+  the_value : (x : Allocation) × (get_elem? s.homes 0 ≡ some (some x)) × Fits size k.history x
+  the_value = at_home found_in members s k.cell id m.0 me whole.found (λ j u apart there. ap length (nobody_else stations_in station_number s.views k.stations id m.0 me whole.stations j u apart there))
 
   all_idle : (station : ℕ) → held_after k.history station ≡ None
   all_idle station = elim (cases_lt station size.stations) [
@@ -56,10 +42,9 @@ module _ (size : Size) (s : St) (k : Keeps size s) (id : ℕ) (m : Sat) (me : ge
     | Rattle.std.proofs.Common.inr beyond ↦ held_beyond size k.history station k.legal beyond
   ]
 
--- the slot of a closed table has the bits at the end
-pub ends : (size : Size) (id : ℕ) (m : Sat) (ws : List ℕ) (xs : List Allocation) (x : Allocation) → Final (Seen (Keeps size) id m.0) ws xs → IsWhole size m → get_elem? xs 0 ≡ some x → (x.dim ≡ size.dim) × ((station : ℕ) → held_in x station ≡ None)
-ends size id m ws xs x final whole here =
-    let s = final.0 in let k = final.1.0 in let me = final.1.1 in
-    let t = at_home size s k id m me whole in
-    let same : t.0 ≡ x = some-injective t.0 x (sym (final.4 0 t.0 t.1) ∙ here) in
-    subst (λ (z : Allocation). (z.dim ≡ size.dim) × ((station : ℕ) → held_in z station ≡ None)) same (t.2.dim, λ station. t.2.held station ∙ all_idle size s k id m me whole station)
+-- the bits at the end
+pub ends : (size : Size) (id : ℕ) (m : Sat) (x : Allocation) → Leaves (Keeps size) id m.0 x → IsWhole size m → (x.dim ≡ size.dim) × ((station : ℕ) → held_in x station ≡ None)
+ends size id m x left whole =
+    let s = left.0 in let k = left.1.0 in let me = left.1.1 in
+    let t = the_value size s k id m me whole in
+    subst (λ (z : Allocation). (z.dim ≡ size.dim) × ((station : ℕ) → held_in z station ≡ None)) (left.2 t.0 t.1) (t.2.dim, λ station. t.2.held station ∙ all_idle size s k id m me whole station)

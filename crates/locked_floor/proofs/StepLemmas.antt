@@ -1,16 +1,16 @@
 -- Each step of a seat on a locked floor's table keeps the rule.
 use Rattle.std.proofs.Common.{◌≡◌, ◌≢◌, ℕ, ◌<◌, ◌≤◌, true, false, eqb, eq-eqb, ne_eqb, Option, Some, None, List, [], ◌∷◌, length, get_or, sym, refl, ap, ◌∙◌, subst, arith}
 use mathlib.Core.Logic.{dite}
-use mathlib.Core.Option.{some, none}
+use mathlib.Core.Option.{some}
 use native.Mathlib.Decide.{ℕ_discrete}
 use lib.ListN.{get_elem?}
-use prog.Atomic.{either}
-use Rattle.atomic_table.specs.Table.{Act, keeps, takes, gives, Valid, carried_after, step, stepped, Allows}
-use Rattle.atomic_table.proofs.Lists.{exchanged}
+use Rattle.atomic_table.specs.Table.{keeps, gives, stepped, Allows}
 use Rattle.histories.specs.Sums.{is_at}
 use Rattle.histories.proofs.SumLemmas.{is_at-same, term_le}
 use Rattle.histories.specs.Views.{shares}
 use Rattle.histories.proofs.ViewLemmas.{True, stays, steps, all_weaker}
+use Rattle.locked_cell.specs.Cell.{MayTry}
+use Rattle.locked_cell.proofs.CellLemmas.{changes_nothing, may_try}
 use Rattle.cube_shape.specs.declared.region.Region.{Region}
 use Rattle.cube_shape.specs.Machine.{Gives, TakesBack}
 use Rattle.alloc_bits.specs.Allocation.{Allocation, held_in}
@@ -20,9 +20,9 @@ use Rattle.locked_floor.specs.declared.view.View.{View}
 use Rattle.locked_floor.specs.Inner.View.{view, station_view, holding, members}
 use Rattle.locked_floor.specs.Inner.Deed.{Deed, gets, frees, is_by, station_after, station_part, held_after, May}
 use Rattle.locked_floor.specs.Inner.Rule.{Fits, Keeps}
-use Rattle.locked_floor.specs.Inner.Step.{Sat, IsIdle, Knows, took, granted, after_grant, after_free, after_nothing, IsOut, IsPair, AreHeldApart, AreFirstTwoApart}
+use Rattle.locked_floor.specs.Inner.Step.{Sat, IsIdle, Knows, granted, after_grant, after_free, after_nothing, IsOut, IsPair, AreHeldApart, AreFirstTwoApart}
 use Rattle.locked_floor.proofs.DeedLemmas.{part_own, part_other, lawful}
-use Rattle.locked_floor.proofs.KeepLemmas.{St, stations_in, station_number, takes_slot, changes_nothing, gives_slot}
+use Rattle.locked_floor.proofs.KeepLemmas.{St, stations_in, station_number, takes_slot, gives_slot}
 
 -- ---- the slot is taken
 
@@ -33,24 +33,21 @@ learns size s k id v me x member fits = record {
       (λ r true. fits.held r.number ∙ ap (λ (z : StationRecord). z.holds) (sym true.0)) v.stations (k.stations.each id v me);
 }
 
-pub enters : (size : Size) (n id : ℕ) (m : Sat) → IsIdle m → Allows (Keeps size) n id m 0 (λ y. either (eqb y 0) 1 y) (took (step n 0 0 1 none) m)
-enters size n id m idle s k homes me small =
-    let G : ℕ → Type 0 = λ new. (w : View) × (a : Act Allocation) × Valid s.homes m.1 a × Keeps size (stepped s 0 new id m.1 w a) × took (step n 0 0 1 none) m (get_or s.words 0 0) (w, carried_after m.1 a) in
-    exchanged (get_or s.words 0 0) 0 1 G
-    (λ hit. let t = k.home hit in let x : Allocation = t.0 in (
-      holding m.0 x,
-      takes 0 x,
+pub enters : (size : Size) (n id : ℕ) (m : Sat) → IsIdle m → MayTry holding Knows (Keeps size) n id m
+enters size n id m idle = may_try holding Knows (Keeps size) n id m idle.0
+    (λ s k me free.
+    let t = k.cell.home free in let x : Allocation = t.0 in (
+      x,
       t.1,
-      takes_slot size s k id m.0 me x hit idle.2 idle.1 t.1 t.2,
-      ((λ _. (x, ap (λ (c : List (ℕ × Allocation)). (holding m.0 x, (0, x) ∷ c)) idle.0, learns size s k id m.0 me x idle.2 t.2)), λ miss. absurd (miss hit)),
+      takes_slot size s k id m.0 me x free idle.2 idle.1 t.2,
+      learns size s k id m.0 me x idle.2 t.2,
     ))
-    (λ miss. (m.0, keeps, tt, changes_nothing size s k id m.0 me, ((λ hit. absurd (miss hit)), λ _. refl)))
 
 -- ---- the slot is given back
 
 module _ (size : Size) (s : St) (k : Keeps size s) (id : ℕ) (about : Size) (r : StationRecord) (x y : Allocation) (me : get_elem? s.views id ≡ some (view about (r ∷ []) (Some x))) (one_home : length s.homes ≡ 1) where
   found_fits : Fits size k.history x
-  found_fits = k.found id (view about (r ∷ []) (Some x)) x me refl
+  found_fits = k.cell.taken id (view about (r ∷ []) (Some x)) x me refl
 
   mine : (r ≡ station_part k.history r.number) × (r.number < size.stations)
   mine = (k.stations.each id (view about (r ∷ []) (Some x)) me).0
@@ -163,6 +160,6 @@ compares size n id m a b is = subst (λ (z : Sat). Allows (Keeps size) n id z 0 
       view m.0.about (a ∷ b ∷ []) None,
       keeps,
       tt,
-      changes_nothing size s k id (view m.0.about (a ∷ b ∷ []) None) me,
+      changes_nothing (Keeps size) s k id (view m.0.about (a ∷ b ∷ []) None) me,
       (refl, pair_apart size s k id m.0.about a b me),
     ))

@@ -1,7 +1,6 @@
-// The lock of a floor. Its allocation bits lie in the one slot of a table, and a call takes them by
-// one exchange and gives them back by one store, in which the record of its station gains what the
-// call did.
-ghost use Rattle.std.specs.Prelude.{◌≡◌, ℕ, ◌<◌, ◌≤◌, [], ◌∷◌, true, false, None, IfOk};
+// The lock of a floor. Its allocation bits lie in a cell. A call takes them and gives them back, and as
+// it does so the record of its station gains what the call did.
+ghost use Rattle.std.specs.Prelude.{◌≡◌, ℕ, ◌<◌, ◌≤◌, [], ◌∷◌, None, IfOk};
 ghost use Rattle.cube_shape.specs.declared.region.Region.{Region as HeldRegion};
 ghost use Rattle.cube_shape.specs.Machine.{Gives, TakesBack};
 ghost use Rattle.alloc_bits.specs.Allocation.{Allocation, held_in};
@@ -11,22 +10,19 @@ ghost use Rattle.locked_floor.specs.Inner.Step.{IsIdle, IsPair, AreHeldApart, To
 ghost use Rattle.locked_floor.specs.Inner.End.{IsWhole};
 
 use crate::bits::{allot, withdraw};
-use crate::plays::{Compare, Deal, Enter, FloorRule, Free, Gather, Grant, Leave};
+use crate::plays::{Compare, Deal, FloorRule, Free, Gather, Grant, Leave};
 use crate::view::{Size, View};
 use alloc_bits::AllocBits;
-use atomic_table::{Refused, Table};
-use crossbeam_utils::Backoff;
 use cube_shape::{MAX_DIM, MAX_STATIONS, Region};
+use locked_cell::LockedCell;
 use std::alloc::{AllocError, Global};
-use std::sync::{Mutex, Wait};
+use std::sync::Wait;
 
 pub type Seat = atomic_table::Seat<AllocBits, View>;
 
 #[derive(Drop)]
 pub struct BitsLock {
-    table: Table<AllocBits, View, Size, FloorRule, Global>,
-    door: Mutex<()>,
-    ghost sized: { (table.shared.table_id.words ≡ 1) × (table.shared.table_id.slots ≡ 1) },
+    cell: LockedCell<AllocBits, View, Size, FloorRule>,
 }
 
 impl BitsLock {
@@ -40,20 +36,8 @@ impl BitsLock {
         ensures seat { IfOk result (λ made. made.1.me ≡ (first_view size, [])) }
     {
         let bits = AllocBits::new(alloc, size.dim)?;
-        let mut slots = Vec::new(alloc);
-        slots.push(bits)?;
-        let made = Table::<AllocBits, View, Size, FloorRule, Global>::new(
-            alloc,
-            &[0],
-            slots,
-            &size,
-        );
-        let (table, seat) = match made {
-            Ok(made) => made,
-            Err(Refused { slots: _ }) => return Err(AllocError),
-        };
-        let door = Mutex::new(());
-        Ok((BitsLock { table, door }, seat))
+        let (cell, seat) = LockedCell::<AllocBits, View, Size, FloorRule>::new(alloc, bits, &size)?;
+        Ok((BitsLock { cell }, seat))
     }
 
     // A seat with the record of one station of those that `seat` has, the first.
@@ -65,7 +49,7 @@ impl BitsLock {
         ensures left { seat.new.me ≡ (without_station seat.old.me.0, []) }
         ensures dealt { result.me ≡ (station_alone seat.old.me.0, []) }
     {
-        self.table.shared.split_seat::<Deal>(seat)
+        self.cell.deal::<Deal>(seat)
     }
 
     // Takes in the records of another seat.
@@ -76,7 +60,7 @@ impl BitsLock {
         ensures table { seat.new.table_id ≡ table_of self.now }
         ensures both { seat.new.me ≡ (joined seat.old.me.0 other.me.0, []) }
     {
-        self.table.shared.join_seat::<Gather>(seat, other);
+        self.cell.gather::<Gather>(seat, other);
     }
 
     // The seat has the records of two stations, and learns that their regions are apart.
@@ -87,39 +71,17 @@ impl BitsLock {
         ensures same { seat.new.me ≡ seat.old.me }
         ensures apart { (a b : StationRecord) → IsPair seat.old.me a b → AreHeldApart a b }
     {
-        self.table.shared.load::<Compare>(seat, 0);
+        self.cell.look::<Compare>(seat);
     }
 
-    // Takes the bits, where no other seat has them.
-    fn try_enter(&self, seat: &mut Seat) -> bool
-        requires table { seat.old.table_id ≡ table_of self.now }
-        requires idle { IsIdle seat.old.me }
-        ensures table { seat.new.table_id ≡ table_of self.now }
-        ensures took { result ≡ true → Took seat.old.me seat.new.me }
-        ensures kept { result ≡ false → seat.new.me ≡ seat.old.me }
-    {
-        self.table.shared.compare_exchange::<Enter>(seat, 0, 0, 1) == 0
-    }
-
-    // Takes the bits. The threads that wait for them stand at the door, and the first one tries.
+    // Takes the bits, and waits while another seat has them.
     pub fn enter<R: Wait>(&self, rt: &R, seat: &mut Seat)
         requires table { seat.old.table_id ≡ table_of self.now }
         requires idle { IsIdle seat.old.me }
         ensures table { seat.new.table_id ≡ table_of self.now }
         ensures took { Took seat.old.me seat.new.me }
     {
-        if self.try_enter(seat) {
-            return;
-        }
-        let _door = self.door.lock(rt);
-        let backoff = Backoff::new();
-        for _ in rt.forever() {
-            if self.try_enter(seat) {
-                return;
-            }
-            backoff.snooze();
-        }
-        unreachable!()
+        self.cell.enter(rt, seat);
     }
 
     // Work on the bits that the seat has taken.
@@ -133,7 +95,7 @@ impl BitsLock {
         ensures allotted { (x : Allocation) → seat.old.me.1 ≡ (0, x) ∷ [] → (y : Allocation)
             × (seat.new.me ≡ (seat.old.me.0, (0, y) ∷ [])) × Allots x station k result y }
     {
-        allot(seat.slot_mut(&self.table.shared, 0), station, k)
+        allot(seat.slot_mut(&self.cell.table.shared, 0), station, k)
     }
 
     pub fn withdraw(&self, seat: &mut Seat, station: u32)
@@ -143,7 +105,7 @@ impl BitsLock {
         ensures withdrawn { (x : Allocation) → seat.old.me.1 ≡ (0, x) ∷ [] → (y : Allocation)
             × (seat.new.me ≡ (seat.old.me.0, (0, y) ∷ [])) × Withdraws x station y }
     {
-        withdraw(seat.slot_mut(&self.table.shared, 0), station)
+        withdraw(seat.slot_mut(&self.cell.table.shared, 0), station)
     }
 
     // The bits are given back, and the record of the seat's station gains what the call did.
@@ -156,7 +118,7 @@ impl BitsLock {
         ensures table { seat.new.table_id ≡ table_of self.now }
         ensures gained { seat.new.me ≡ after_grant seat.old.me }
     {
-        self.table.shared.store::<Grant>(seat, 0, 0);
+        self.cell.give_back::<Grant>(seat);
     }
 
     pub fn free(&self, seat: &mut Seat)
@@ -167,7 +129,7 @@ impl BitsLock {
         ensures table { seat.new.table_id ≡ table_of self.now }
         ensures gained { seat.new.me ≡ after_free seat.old.me }
     {
-        self.table.shared.store::<Free>(seat, 0, 0);
+        self.cell.give_back::<Free>(seat);
     }
 
     pub fn leave(&self, seat: &mut Seat)
@@ -176,7 +138,7 @@ impl BitsLock {
         ensures table { seat.new.table_id ≡ table_of self.now }
         ensures same { seat.new.me ≡ after_nothing seat.old.me }
     {
-        self.table.shared.store::<Leave>(seat, 0, 0);
+        self.cell.give_back::<Leave>(seat);
     }
 
     // The bits, once one seat has the records of all stations and none of them holds a region.
@@ -186,10 +148,7 @@ impl BitsLock {
         ensures dim { result.dim ≡ (size_of self).dim }
         ensures free { (s : ℕ) → held_in result s ≡ None }
     {
-        let BitsLock { table, door: _ } = self;
-        let mut closed = table.close_with(seat);
-        let bits = closed.take(0);
-        closed.free();
-        bits
+        let BitsLock { cell } = self;
+        cell.end(seat)
     }
 }

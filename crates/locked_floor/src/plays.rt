@@ -1,12 +1,13 @@
 // The rule of a locked floor's table, and the names of its steps.
 ghost use Rattle.std.specs.Prelude.{◌≡◌};
-ghost use Rattle.locked_floor.specs.Inner.View.{first_view, without_station, station_alone, joined, spent_view};
+ghost use Rattle.locked_floor.specs.Inner.View.{holding, first_view, without_station, station_alone, joined, spent_view};
 ghost use Rattle.locked_floor.specs.Inner.Rule.{Keeps};
-ghost use Rattle.locked_floor.specs.Inner.Step.{took, after_grant, after_free, after_nothing, AreFirstTwoApart};
+ghost use Rattle.locked_floor.specs.Inner.Step.{Knows, after_grant, after_free, after_nothing, AreFirstTwoApart};
 
 use crate::view::{Size, View};
 use alloc_bits::AllocBits;
 use atomic_table::{Join, Play, Split, TableRule};
+use locked_cell::CellRule;
 
 pub struct FloorRule;
 
@@ -16,10 +17,10 @@ impl TableRule<AllocBits, View, Size> for FloorRule {
     ghost first = { first_view };
 }
 
-pub struct Enter;
+impl CellRule<AllocBits, View, Size> for FloorRule {
+    ghost holding = { holding };
 
-impl Play<AllocBits, View> for Enter {
-    ghost then = { took };
+    ghost learns = { Knows };
 }
 
 pub struct Grant;

@@ -1,15 +1,14 @@
 -- Once all members have come together, the state is at home, and their records say what the line did.
 use Rattle.std.proofs.Common.{◌≡◌, ◌≢◌, ℕ, ◌<◌, ◌≤◌, true, Some, List, [], ◌∷◌, ◌++◌, length, get_or, sym, ap, ◌∙◌, subst, arith}
 use Rattle.std.specs.List.{AllByRecursion}
-use mathlib.Core.Logic.{dite}
-use mathlib.Core.Option.{some, some-injective}
-use native.Mathlib.Decide.{ℕ_discrete}
+use mathlib.Core.Option.{some}
 use lib.ListN.{get_elem?}
-use Rattle.atomic_table.specs.Table.{Seen, Final}
 use Rattle.histories.specs.History.{Legal}
 use Rattle.histories.specs.Sums.{total, below}
-use Rattle.histories.proofs.SumLemmas.{positive_term, total-below}
+use Rattle.histories.proofs.SumLemmas.{total-below}
 use Rattle.histories.proofs.ViewLemmas.{True, all_weaker, has_everyone, nobody_else}
+use Rattle.locked_cell.specs.Cell.{Leaves}
+use Rattle.locked_cell.proofs.CellLemmas.{at_home}
 use Rattle.job_queue.specs.declared.job_line.Sizes.{Sizes}
 use Rattle.job_queue.specs.declared.record.QueuedJob.{QueuedJob}
 use Rattle.job_queue.specs.declared.record.Entry.{Entry}
@@ -22,7 +21,7 @@ use Rattle.job_queue.specs.Record.{accepted, AreSeqs, Rises, Seals}
 use Rattle.job_queue.specs.Line.{IsMadeFor}
 use Rattle.job_queue.specs.History.{waiting as line_waiting, entries_by, taken_in, Lists, May as LineMay}
 use Rattle.job_queue.specs.Run.{WholeRun}
-use Rattle.locked_line.specs.Inner.View.{out_of, is_out}
+use Rattle.locked_line.specs.Inner.View.{members, found_in}
 use Rattle.locked_line.specs.Inner.Deed.{entered, waiting, is_closed, lane_part, pass_part, closer_part, closed_at}
 use Rattle.locked_line.specs.Inner.Rule.{Fits, Keeps}
 use Rattle.locked_line.specs.Inner.End.{IsWhole, IsEnd}
@@ -34,25 +33,13 @@ use Rattle.job_queue.proofs.RisingLemmas.{all_ascend}
 use Rattle.locked_line.proofs.KeepLemmas.{St, lanes_in, passes_in, closers_in, lane_number, pass_number, closer_number}
 
 module _ (sizes : Sizes) (s : St) (k : Keeps sizes s) (id : ℕ) (v : View) (me : get_elem? s.views id ≡ some v) (number : ℕ) (whole : IsWhole sizes v number) where
-  -- no seat has taken the slot: it would be a member's, and they are all here
-  nobody_out : total is_out s.views ≡ 0
-  nobody_out =
-      dite (ℕ_discrete (total is_out s.views) 0) (λ none. none)
-      (λ some_out.
-      let t = positive_term is_out s.views (omega arith) in
-      let j = t.0 in let u : View = t.1 in
-      let in_here : is_out v ≡ 0 = ap out_of whole.found in
-      let apart : j ≢ id = λ e. let same : u ≡ v = some-injective u v (sym t.2 ∙ (ap (get_elem? s.views) e ∙ me)) in let none : is_out u ≡ 0 = ap is_out same ∙ in_here in absurd (omega (arith, t.3)) in
-      absurd (omega (
-        arith,
-        k.taken_by j u t.2 t.3,
-        ap length (nobody_else lanes_in lane_number s.views k.lanes id v me whole.lanes j u apart t.2),
-        ap length (nobody_else passes_in pass_number s.views k.passes id v me whole.passes j u apart t.2),
-        ap length (nobody_else closers_in closer_number s.views k.closers id v me (ap length whole.closers) j u apart t.2),
-      )))
-
-  at_home : (x : Store) × (get_elem? s.homes 0 ≡ some (some x)) × Fits sizes k.history x
-  at_home = k.home (sym k.out ∙ nobody_out)
+  the_state : (x : Store) × (get_elem? s.homes 0 ≡ some (some x)) × Fits sizes k.history x
+  the_state = at_home found_in members s k.cell id v me whole.found (λ j u apart there. omega (
+    arith,
+    ap length (nobody_else lanes_in lane_number s.views k.lanes id v me whole.lanes j u apart there),
+    ap length (nobody_else passes_in pass_number s.views k.passes id v me whole.passes j u apart there),
+    ap length (nobody_else closers_in closer_number s.views k.closers id v me (ap length whole.closers) j u apart there),
+  ))
 
   closed_here : closed_at k.history ≡ Some number
   closed_here =
@@ -127,10 +114,9 @@ module _ (sizes : Sizes) (s : St) (k : Keeps sizes s) (id : ℕ) (v : View) (me 
     made_for = subst (AllByRecursion (IsMadeFor sizes.machine)) (sym fits.jobs) (waiting_made_for sizes k.history k.legal);
   }
 
--- the slot of a closed table has the state at the end
-pub ends : (sizes : Sizes) (id : ℕ) (v : View) (number : ℕ) (ws : List ℕ) (xs : List Store) (x : Store) → Final (Seen (Keeps sizes) id v) ws xs → IsWhole sizes v number → get_elem? xs 0 ≡ some x → IsEnd sizes v number x
-ends sizes id v number ws xs x final whole here =
-    let s = final.0 in let k = final.1.0 in let me = final.1.1 in
-    let t = at_home sizes s k id v me number whole in
-    let same : t.0 ≡ x = some-injective t.0 x (sym (final.4 0 t.0 t.1) ∙ here) in
-    subst (IsEnd sizes v number) same (ended sizes s k id v me number whole t.0 t.2)
+-- the state at the end
+pub ends : (sizes : Sizes) (id : ℕ) (v : View) (number : ℕ) (x : Store) → Leaves (Keeps sizes) id v x → IsWhole sizes v number → IsEnd sizes v number x
+ends sizes id v number x left whole =
+    let s = left.0 in let k = left.1.0 in let me = left.1.1 in
+    let t = the_state sizes s k id v me number whole in
+    subst (IsEnd sizes v number) (left.2 t.0 t.1) (ended sizes s k id v me number whole t.0 t.2)

@@ -2,13 +2,13 @@
 use Rattle.std.proofs.Common.{◌≡◌, ◌≢◌, ℕ, zero, suc, ◌+◌, ◌<◌, true, false, eqb, eq-eqb, ne_eqb, Option, Some, None, List, [], ◌∷◌, ◌++◌, length, length-set, get_or, get_or-set_same, get_or-set_other, sym, refl, ap, ◌∙◌, subst, arith}
 use Rattle.std.specs.List.{AllByRecursion}
 use mathlib.Core.Logic.{dite}
-use mathlib.Core.Option.{some, none}
+use mathlib.Core.Option.{some}
 use native.Mathlib.Decide.{ℕ_discrete}
 use lib.ListN.{get_elem?}
-use prog.Atomic.{either}
-use Rattle.atomic_table.specs.Table.{Act, keeps, takes, gives, Valid, carried_after, step, stepped, Allows}
-use Rattle.atomic_table.proofs.Lists.{exchanged}
+use Rattle.atomic_table.specs.Table.{gives, stepped, Allows}
 use Rattle.histories.proofs.ViewLemmas.{True, stays, steps, all_weaker}
+use Rattle.locked_cell.specs.Cell.{MayTry}
+use Rattle.locked_cell.proofs.CellLemmas.{may_try}
 use Rattle.cube_shape.specs.declared.limits.TheConstants.{MAX_ENTRIES}
 use Rattle.job_queue.specs.declared.job_line.Sizes.{Sizes}
 use Rattle.job_queue.specs.declared.record.QueuedJob.{QueuedJob}
@@ -23,10 +23,10 @@ use Rattle.histories.specs.Lists.{rest_of}
 use Rattle.locked_line.specs.Inner.View.{view, lane_view, pass_view, closer_view, holding, members}
 use Rattle.locked_line.specs.Inner.Deed.{Deed, accepts, fills, finds_closed, takes_job, finds_empty, closes, waiting, is_by_lane, lane_after, lane_part, is_by_pass, pass_after, pass_part, closed_at, closer_part, May}
 use Rattle.locked_line.specs.Inner.Rule.{Fits, Keeps}
-use Rattle.locked_line.specs.Inner.Step.{Sat, IsIdle, Knows, took, last_of, front_of, after_entry, after_full_entry, after_seen, after_taken, after_reading, after_close, IsLaneOut, IsPassOut, IsCloserOut, Accepts, Fills, Hands, Same, Closes}
+use Rattle.locked_line.specs.Inner.Step.{Sat, IsIdle, Knows, last_of, front_of, after_entry, after_full_entry, after_seen, after_taken, after_reading, after_close, IsLaneOut, IsPassOut, IsCloserOut, Accepts, Fills, Hands, Same, Closes}
 use Rattle.job_queue.proofs.AcceptedLemmas.{accepted-push, accepted-full}
 use Rattle.locked_line.proofs.DeedLemmas.{lane_own, lane_other, pass_own, pass_other, entered_bounded, waiting_made_for, open_before}
-use Rattle.locked_line.proofs.KeepLemmas.{St, lanes_in, passes_in, closers_in, lane_number, pass_number, closer_number, takes_slot, finds_taken, gives_slot}
+use Rattle.locked_line.proofs.KeepLemmas.{St, lanes_in, passes_in, closers_in, lane_number, pass_number, closer_number, takes_slot, gives_slot}
 
 -- ---- the closer's part
 
@@ -52,18 +52,15 @@ learns sizes s k id v me x member fits =
           (subst (AllByRecursion (IsMadeFor sizes.machine)) (sym fits.jobs) (waiting_made_for sizes k.history k.legal));
     }
 
-pub enters : (sizes : Sizes) (n id : ℕ) (m : Sat) → IsIdle m → Allows (Keeps sizes) n id m 0 (λ y. either (eqb y 0) 1 y) (took (step n 0 0 1 none) m)
-enters sizes n id m idle s k homes me small =
-    let G : ℕ → Type 0 = λ new. (w : View) × (a : Act Store) × Valid s.homes m.1 a × Keeps sizes (stepped s 0 new id m.1 w a) × took (step n 0 0 1 none) m (get_or s.words 0 0) (w, carried_after m.1 a) in
-    exchanged (get_or s.words 0 0) 0 1 G
-    (λ hit. let t = k.home hit in let x : Store = t.0 in (
-      holding m.0 x,
-      takes 0 x,
+pub enters : (sizes : Sizes) (n id : ℕ) (m : Sat) → IsIdle m → MayTry holding Knows (Keeps sizes) n id m
+enters sizes n id m idle = may_try holding Knows (Keeps sizes) n id m idle.0
+    (λ s k me free.
+    let t = k.cell.home free in let x : Store = t.0 in (
+      x,
       t.1,
-      takes_slot sizes s k id m.0 me x hit idle.2 idle.1 t.1 t.2,
-      ((λ _. (x, ap (λ (c : List (ℕ × Store)). (holding m.0 x, (0, x) ∷ c)) idle.0, learns sizes s k id m.0 me x idle.2 t.2)), λ miss. absurd (miss hit)),
+      takes_slot sizes s k id m.0 me x free idle.2 idle.1 t.2,
+      learns sizes s k id m.0 me x idle.2 t.2,
     ))
-    (λ miss. (m.0, keeps, tt, finds_taken sizes s k id m.0 me, ((λ hit. absurd (miss hit)), λ _. refl)))
 
 -- ---- the slot is given back by a lane
 
@@ -74,7 +71,7 @@ last-push (x ∷ y ∷ jobs) job = last-push (y ∷ jobs) job
 
 module _ (sizes : Sizes) (s : St) (k : Keeps sizes s) (id : ℕ) (about : Sizes) (r : LaneRecord) (x y : Store) (me : get_elem? s.views id ≡ some (view about (r ∷ []) [] [] (Some x))) (one_home : length s.homes ≡ 1) where
   lane_fits : Fits sizes k.history x
-  lane_fits = k.found id (view about (r ∷ []) [] [] (Some x)) x me refl
+  lane_fits = k.cell.taken id (view about (r ∷ []) [] [] (Some x)) x me refl
 
   lane_mine : (r ≡ lane_part k.history r.number) × (r.number < sizes.lanes)
   lane_mine = (k.lanes.each id (view about (r ∷ []) [] [] (Some x)) me).0
@@ -190,7 +187,7 @@ refuses_step sizes n one id m r x y is shut a = subst (λ (z : Sat). Allows (Kee
 
 module _ (sizes : Sizes) (s : St) (k : Keeps sizes s) (id : ℕ) (about : Sizes) (r : PassRecord) (x y : Store) (me : get_elem? s.views id ≡ some (view about [] (r ∷ []) [] (Some x))) (one_home : length s.homes ≡ 1) where
   pass_fits : Fits sizes k.history x
-  pass_fits = k.found id (view about [] (r ∷ []) [] (Some x)) x me refl
+  pass_fits = k.cell.taken id (view about [] (r ∷ []) [] (Some x)) x me refl
 
   pass_mine : (r ≡ pass_part k.history r.number) × (r.number < sizes.passes)
   pass_mine = (k.passes.each id (view about [] (r ∷ []) [] (Some x)) me).0
@@ -260,7 +257,7 @@ closes_step sizes n one id m x y is a = subst (λ (z : Sat). Allows (Keeps sizes
     let v : View = view about [] [] (before ∷ []) (Some x) in
     let w : View = closer_view about (Some x.entries) in
     let d : Deed = closes x.entries in
-    let f = k.found id v x me refl in
+    let f = k.cell.taken id v x me refl in
     let open_line : closed_at k.history ≡ None = ap (λ (c : CloserRecord). c.closed_at) (sym (k.closers.each id v me).0.0) in (
       w,
       gives,

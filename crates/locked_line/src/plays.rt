@@ -1,13 +1,14 @@
 // The rule of a locked line's table, and the names of its steps.
 ghost use Rattle.std.specs.Prelude.{◌≡◌};
-ghost use Rattle.locked_line.specs.Inner.View.{first_view, without_lane, lane_alone, without_pass, pass_alone, joined, spent_view};
+ghost use Rattle.locked_line.specs.Inner.View.{holding, first_view, without_lane, lane_alone, without_pass, pass_alone, joined, spent_view};
 ghost use Rattle.locked_line.specs.Inner.Rule.{Keeps};
-ghost use Rattle.locked_line.specs.Inner.Step.{took, after_entry, after_full_entry, after_seen, after_taken, after_reading, after_close};
+ghost use Rattle.locked_line.specs.Inner.Step.{Knows, after_entry, after_full_entry, after_seen, after_taken, after_reading, after_close};
 
 use crate::store::Store;
 use crate::view::View;
 use atomic_table::{Join, Play, Split, TableRule};
 use job_queue::Sizes;
+use locked_cell::CellRule;
 
 pub struct LineRule;
 
@@ -17,10 +18,10 @@ impl TableRule<Store, View, Sizes> for LineRule {
     ghost first = { first_view };
 }
 
-pub struct Enter;
+impl CellRule<Store, View, Sizes> for LineRule {
+    ghost holding = { holding };
 
-impl Play<Store, View> for Enter {
-    ghost then = { took };
+    ghost learns = { Knows };
 }
 
 pub struct Accept;

@@ -1,9 +1,9 @@
-// The lock of a line. Its state lies in the one slot of a table, and a call takes it by one exchange
-// and gives it back by one store, in which the record of its lane or pass gains what the call did.
+// The lock of a line. Its state lies in a cell. A call takes it and gives it back, and as it does so the
+// record of its lane or pass gains what the call did.
 //
 // Only these stores change a record, and those that say that the line was full or empty take the
 // token of the push or pop that found it so.
-ghost use Rattle.std.specs.Prelude.{◌≡◌, ℕ, ◌+◌, ◌<◌, ◌≤◌, ◌^◌, [], ◌∷◌, true, false, IfOk, MatchOption, length, slice_index};
+ghost use Rattle.std.specs.Prelude.{◌≡◌, ℕ, ◌+◌, ◌<◌, ◌≤◌, ◌^◌, [], ◌∷◌, true, IfOk, MatchOption, length, slice_index};
 ghost use Rattle.job_queue.specs.declared.job_line.Sizes.{Sizes as LineSizes};
 ghost use Rattle.locked_line.specs.declared.store.Store.{Store as State};
 ghost use Rattle.job_queue.specs.declared.record.QueuedJob.{QueuedJob as Queued};
@@ -13,30 +13,21 @@ ghost use Rattle.locked_line.specs.Inner.View.{Pushes, Pops, Shuts, first_view, 
 ghost use Rattle.locked_line.specs.Inner.Step.{IsIdle, Took, IsLaneOut, IsPassOut, IsCloserOut, Accepts, Fills, Hands, Same, Closes, after_entry, after_full_entry, after_seen, after_taken, after_reading, after_close};
 ghost use Rattle.locked_line.specs.Inner.End.{IsWhole, IsEnd};
 
-use crate::plays::{
-    Accept, DealLane, DealPass, Enter, Fill, Gather, Hand, LineRule, Read, Refuse, Shut,
-};
+use crate::plays::{Accept, DealLane, DealPass, Fill, Gather, Hand, LineRule, Read, Refuse, Shut};
 use crate::store::{LockedEnd, SawEmpty, SawFull, Store};
 use crate::view::View;
-use atomic_table::{Refused, Table};
 use cube_shape::MAX_LANES;
 use job_queue::{QueuedJob, Receipt, Sizes};
 use job_types::Job;
+use locked_cell::LockedCell;
 use std::alloc::{AllocError, Global};
-use std::hint::spin_loop;
-use std::sync::{Mutex, Wait};
-use std::thread::yield_now;
-
-// How often a call tries to take the state before it goes to the door. Most calls hold it for less time.
-const TRIES: u32 = 30;
+use std::sync::Wait;
 
 pub type Seat = atomic_table::Seat<Store, View>;
 
 #[derive(Drop)]
 pub struct StoreLock {
-    table: Table<Store, View, Sizes, LineRule, Global>,
-    door: Mutex<()>,
-    ghost sized: { (table.shared.table_id.words ≡ 1) × (table.shared.table_id.slots ≡ 1) },
+    cell: LockedCell<Store, View, Sizes, LineRule>,
 }
 
 impl StoreLock {
@@ -50,15 +41,8 @@ impl StoreLock {
         ensures seat { IfOk result (λ made. made.1.me ≡ (first_view sizes, [])) }
     {
         let store = Store::new(alloc, sizes)?;
-        let mut slots = Vec::new(alloc);
-        slots.push(store)?;
-        let made = Table::<Store, View, Sizes, LineRule, Global>::new(alloc, &[0], slots, &sizes);
-        let (table, seat) = match made {
-            Ok(made) => made,
-            Err(Refused { slots: _ }) => return Err(AllocError),
-        };
-        let door = Mutex::new(());
-        Ok((StoreLock { table, door }, seat))
+        let (cell, seat) = LockedCell::<Store, View, Sizes, LineRule>::new(alloc, store, &sizes)?;
+        Ok((StoreLock { cell }, seat))
     }
 
     // A seat with the record of one lane of those that `seat` has, the first.
@@ -70,7 +54,7 @@ impl StoreLock {
         ensures left { seat.new.me ≡ (without_lane seat.old.me.0, []) }
         ensures dealt { result.me ≡ (lane_alone seat.old.me.0, []) }
     {
-        self.table.shared.split_seat::<DealLane>(seat)
+        self.cell.deal::<DealLane>(seat)
     }
 
     // A seat with the record of one pass of those that `seat` has, the first.
@@ -82,7 +66,7 @@ impl StoreLock {
         ensures left { seat.new.me ≡ (without_pass seat.old.me.0, []) }
         ensures dealt { result.me ≡ (pass_alone seat.old.me.0, []) }
     {
-        self.table.shared.split_seat::<DealPass>(seat)
+        self.cell.deal::<DealPass>(seat)
     }
 
     // Takes in the records of another seat.
@@ -93,56 +77,17 @@ impl StoreLock {
         ensures table { seat.new.table_id ≡ table_of self.now }
         ensures both { seat.new.me ≡ (joined seat.old.me.0 other.me.0, []) }
     {
-        self.table.shared.join_seat::<Gather>(seat, other);
+        self.cell.gather::<Gather>(seat, other);
     }
 
-    // Takes the state, where no other seat has it.
-    fn try_enter(&self, seat: &mut Seat) -> bool
-        requires table { seat.old.table_id ≡ table_of self.now }
-        requires idle { IsIdle seat.old.me }
-        ensures table { seat.new.table_id ≡ table_of self.now }
-        ensures took { result ≡ true → Took seat.old.me seat.new.me }
-        ensures kept { result ≡ false → seat.new.me ≡ seat.old.me }
-    {
-        self.table.shared.compare_exchange::<Enter>(seat, 0, 0, 1) == 0
-    }
-
-    // Takes the state, where it comes home within a few tries.
-    fn try_some(&self, seat: &mut Seat) -> bool
-        requires table { seat.old.table_id ≡ table_of self.now }
-        requires idle { IsIdle seat.old.me }
-        ensures table { seat.new.table_id ≡ table_of self.now }
-        ensures took { result ≡ true → Took seat.old.me seat.new.me }
-        ensures kept { result ≡ false → seat.new.me ≡ seat.old.me }
-    {
-        for _ in 0..TRIES {
-            if self.try_enter(seat) {
-                return true;
-            }
-            spin_loop();
-        }
-        false
-    }
-
-    // Takes the state. A thread that has tried some times waits at the door, and the first one there
-    // tries on.
+    // Takes the state, and waits while another seat has it.
     pub fn enter<R: Wait>(&self, rt: &R, seat: &mut Seat)
         requires table { seat.old.table_id ≡ table_of self.now }
         requires idle { IsIdle seat.old.me }
         ensures table { seat.new.table_id ≡ table_of self.now }
         ensures took { Took seat.old.me seat.new.me }
     {
-        if self.try_some(seat) {
-            return;
-        }
-        let _door = self.door.lock(rt);
-        for _ in rt.forever() {
-            if self.try_some(seat) {
-                return;
-            }
-            yield_now();
-        }
-        unreachable!()
+        self.cell.enter(rt, seat);
     }
 
     // Work on the state that the seat has taken.
@@ -155,7 +100,7 @@ impl StoreLock {
         ensures value { (x : State) → seat.old.me.1 ≡ (0, x) ∷ [] → MatchOption result
             (x.closed ≡ false) (λ n. (x.closed ≡ true) × (n ≡ x.entries)) }
     {
-        seat.slot_mut(&self.table.shared, 0).closed_at()
+        seat.slot_mut(&self.cell.table.shared, 0).closed_at()
     }
 
     pub fn find_end(&self, seat: &mut Seat, saw: &SawEmpty) -> Option<LockedEnd>
@@ -166,7 +111,7 @@ impl StoreLock {
         ensures value { (x : State) → seat.old.me.1 ≡ (0, x) ∷ [] → MatchOption result
             (x.closed ≡ false) (λ _. x.closed ≡ true) }
     {
-        seat.slot_mut(&self.table.shared, 0).find_end(saw)
+        seat.slot_mut(&self.cell.table.shared, 0).find_end(saw)
     }
 
     pub fn push(&self, seat: &mut Seat, lane: u32, job: Job) -> Result<Receipt, (Job, SawFull)>
@@ -178,7 +123,7 @@ impl StoreLock {
         ensures pushed { (x : State) → seat.old.me.1 ≡ (0, x) ∷ [] → (y : State)
             × (seat.new.me ≡ (seat.old.me.0, (0, y) ∷ [])) × Pushes x lane job result y }
     {
-        seat.slot_mut(&self.table.shared, 0).push(lane, job)
+        seat.slot_mut(&self.cell.table.shared, 0).push(lane, job)
     }
 
     pub fn pop(&self, seat: &mut Seat) -> Result<QueuedJob, SawEmpty>
@@ -188,7 +133,7 @@ impl StoreLock {
         ensures popped { (x : State) → seat.old.me.1 ≡ (0, x) ∷ [] → (y : State)
             × (seat.new.me ≡ (seat.old.me.0, (0, y) ∷ [])) × Pops x result y }
     {
-        seat.slot_mut(&self.table.shared, 0).pop()
+        seat.slot_mut(&self.cell.table.shared, 0).pop()
     }
 
     pub fn shut(&self, seat: &mut Seat) -> u64
@@ -198,7 +143,7 @@ impl StoreLock {
         ensures shut { (x : State) → seat.old.me.1 ≡ (0, x) ∷ [] → (y : State)
             × (seat.new.me ≡ (seat.old.me.0, (0, y) ∷ [])) × Shuts x result y }
     {
-        seat.slot_mut(&self.table.shared, 0).shut()
+        seat.slot_mut(&self.cell.table.shared, 0).shut()
     }
 
     // The state is given back, and the record of the seat's member gains what the call did.
@@ -210,7 +155,7 @@ impl StoreLock {
         ensures table { seat.new.table_id ≡ table_of self.now }
         ensures gained { seat.new.me ≡ after_entry seat.old.me }
     {
-        self.table.shared.store::<Accept>(seat, 0, 0);
+        self.cell.give_back::<Accept>(seat);
     }
 
     pub fn fill(&self, seat: &mut Seat, saw: SawFull)
@@ -221,7 +166,7 @@ impl StoreLock {
         ensures gained { seat.new.me ≡ after_full_entry seat.old.me }
     {
         saw.spend();
-        self.table.shared.store::<Fill>(seat, 0, 0);
+        self.cell.give_back::<Fill>(seat);
     }
 
     pub fn refuse(&self, seat: &mut Seat)
@@ -231,7 +176,7 @@ impl StoreLock {
         ensures table { seat.new.table_id ≡ table_of self.now }
         ensures gained { seat.new.me ≡ after_seen seat.old.me }
     {
-        self.table.shared.store::<Refuse>(seat, 0, 0);
+        self.cell.give_back::<Refuse>(seat);
     }
 
     pub fn hand_over(&self, seat: &mut Seat)
@@ -241,7 +186,7 @@ impl StoreLock {
         ensures table { seat.new.table_id ≡ table_of self.now }
         ensures gained { seat.new.me ≡ after_taken seat.old.me }
     {
-        self.table.shared.store::<Hand>(seat, 0, 0);
+        self.cell.give_back::<Hand>(seat);
     }
 
     pub fn read(&self, seat: &mut Seat, saw: SawEmpty)
@@ -252,7 +197,7 @@ impl StoreLock {
         ensures gained { seat.new.me ≡ after_reading seat.old.me }
     {
         saw.spend();
-        self.table.shared.store::<Read>(seat, 0, 0);
+        self.cell.give_back::<Read>(seat);
     }
 
     pub fn close(&self, seat: &mut Seat)
@@ -261,7 +206,7 @@ impl StoreLock {
         ensures table { seat.new.table_id ≡ table_of self.now }
         ensures gained { seat.new.me ≡ after_close seat.old.me }
     {
-        self.table.shared.store::<Shut>(seat, 0, 0);
+        self.cell.give_back::<Shut>(seat);
     }
 
     // The state, once one seat has the records of all members.
@@ -272,10 +217,7 @@ impl StoreLock {
         ensures { (number : ℕ) → IsWhole (sizes_of self) seat.me.0 number →
             IsEnd (sizes_of self) seat.me.0 number result }
     {
-        let StoreLock { table, door: _ } = self;
-        let mut closed = table.close_with(seat);
-        let store = closed.take(0);
-        closed.free();
-        store
+        let StoreLock { cell } = self;
+        cell.end(seat)
     }
 }

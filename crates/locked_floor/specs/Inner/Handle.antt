@@ -5,6 +5,7 @@ use Rattle.atomic_table.specs.Seated.{TableId}
 use Rattle.cube_shape.specs.declared.region.Region.{Region}
 use Rattle.cube_shape.specs.Region.{IsAligned}
 use Rattle.alloc_bits.specs.Allocation.{held_in}
+use Rattle.locked_cell.specs.Handle.{table_of as table_of_cell, key_of}
 use Rattle.locked_floor.specs.declared.view.Size.{Size}
 use Rattle.locked_floor.specs.declared.bits_lock.BitsLock.{BitsLock}
 use Rattle.locked_floor.specs.declared.handle.Station.{Station}
@@ -14,10 +15,10 @@ use Rattle.floors.specs.Floor.{FloorId}
 use Rattle.locked_floor.specs.Inner.Step.{Sat, station_in}
 
 abbrev pub table_of : BitsLock → TableId
-table_of lock = lock.table.shared.table_id
+table_of lock = table_of_cell lock.cell
 
 abbrev pub size_of : BitsLock → Size
-size_of lock = lock.table.shared.key
+size_of lock = key_of lock.cell
 
 abbrev pub floor_id : BitsLock → FloorId
 floor_id lock = record { tables = table_of lock ∷ []; dim = (size_of lock).dim; stations = (size_of lock).stations }

@@ -1,14 +1,14 @@
 -- The rule of a locked floor's table. Its one word is 1 while a seat has taken the slot with the bits.
-use Rattle.std.specs.Prelude.{◌≡◌, ℕ, ◌<◌, ◌≤◌, Some, List, length, slice_index}
+use Rattle.std.specs.Prelude.{◌≡◌, ℕ, ◌<◌, List}
 use mathlib.Core.Option.{some}
 use lib.ListN.{get_elem?}
 use Rattle.atomic_table.specs.Table.{State}
-use Rattle.histories.specs.Sums.{total}
 use Rattle.histories.specs.Views.{Tied}
+use Rattle.locked_cell.specs.Cell.{IsCell}
 use Rattle.alloc_bits.specs.Allocation.{Allocation, held_in}
 use Rattle.locked_floor.specs.declared.view.Size.{Size}
 use Rattle.locked_floor.specs.declared.view.View.{View}
-use Rattle.locked_floor.specs.Inner.View.{is_out, members}
+use Rattle.locked_floor.specs.Inner.View.{found_in, members}
 use Rattle.locked_floor.specs.Inner.Deed.{Deed, station_part, held_after, IsLegal}
 
 -- the bits are those that the history leaves
@@ -21,11 +21,5 @@ pub record Keeps (size : Size) (s : State Allocation View) : Type 0 where
   pub legal : IsLegal size history
   pub stations : Tied (λ (v : View). v.stations) (λ r. r.number) size.stations (station_part history) s.views
   pub about : (id : ℕ) (v : View) → get_elem? s.views id ≡ some v → 0 < members v → v.about ≡ size
-  pub words : length s.words ≡ 1
-  pub bit : slice_index s.words 0 ≤ 1
-  -- the word says how many seats have taken the slot; each of them is a station's, and found there
-  -- what the history leaves
-  pub out : total is_out s.views ≡ slice_index s.words 0
-  pub home : slice_index s.words 0 ≡ 0 → (x : Allocation) × (get_elem? s.homes 0 ≡ some (some x)) × Fits size history x
-  pub found : (id : ℕ) (v : View) (x : Allocation) → get_elem? s.views id ≡ some v → v.found ≡ Some x → Fits size history x
-  pub taken_by : (id : ℕ) (v : View) → get_elem? s.views id ≡ some v → 0 < is_out v → 0 < members v
+  -- the bits that are at home, and those that a seat found, are what the history leaves
+  pub cell : IsCell found_in members (Fits size history) s

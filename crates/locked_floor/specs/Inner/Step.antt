@@ -1,36 +1,31 @@
 -- What the steps of a seat on a locked floor's table say: of the step, the seat before, the number found and the seat after.
-use Rattle.std.specs.Prelude.{◌≡◌, ◌≢◌, ℕ, ◌<◌, Option, Some, None, List, [], ◌∷◌, ◌++◌}
+use Rattle.std.specs.Prelude.{◌≡◌, ℕ, ◌<◌, Option, Some, None, List, [], ◌∷◌, ◌++◌}
 use Rattle.std.specs.List.{AllByRecursion as Each}
-use Rattle.atomic_table.specs.Table.{Me, Step}
+use Rattle.atomic_table.specs.Table.{Me}
+use Rattle.locked_cell.specs.Cell.{IsIdle as IsIdleSeat, Took as TookValue}
 use Rattle.cube_shape.specs.declared.limits.TheConstants.{MAX_STATIONS}
 use Rattle.cube_shape.specs.declared.region.Region.{Region}
 use Rattle.cube_shape.specs.Region.{AreApart}
 use Rattle.alloc_bits.specs.Allocation.{Allocation, held_in}
 use Rattle.locked_floor.specs.declared.view.StationRecord.{StationRecord}
 use Rattle.locked_floor.specs.declared.view.View.{View}
-use Rattle.locked_floor.specs.Inner.View.{view, station_view, holding, members, fresh_station}
+use Rattle.locked_floor.specs.Inner.View.{view, station_view, holding, members, found_in, fresh_station}
 
 abbrev pub Sat : Type 0
 Sat = Me Allocation View
 
-abbrev pub Play : Type 1
-Play = Step Allocation → Sat → ℕ → Sat → Type 0
-
 -- a seat of stations that make no call
 abbrev pub IsIdle : Sat → Type 0
-IsIdle m = (m.1 ≡ []) × (m.0.found ≡ None) × (0 < members m.0)
+IsIdle = IsIdleSeat found_in members
 
 -- what a seat learns of the bits that it takes
 pub record Knows (v : View) (x : Allocation) : Type 0 where
   pub dim : x.dim ≡ v.about.dim
   pub held : Each (λ r. held_in x r.number ≡ r.holds) v.stations
 
--- the seat has taken the slot, with the bits x
+-- the seat has taken the slot, with the bits that it found
 abbrev pub Took : Sat → Sat → Type 0
-Took m n = (x : Allocation) × (n ≡ (holding m.0 x, (0, x) ∷ [])) × Knows m.0 x
-
-abbrev pub took : Play
-took st m found n = (found ≡ 0 → Took m n) × (found ≢ 0 → n ≡ m)
+Took = TookValue holding Knows
 
 -- ---- what the seat has, read from its view and its slot
 

@@ -1,6 +1,6 @@
 -- What work on the allocation bits does, and what seats know.
-use Rattle.std.specs.Prelude.{◌≡◌, ℕ, zero, suc, ◌+◌, Option, Some, None, List, [], ◌∷◌, ◌++◌, length}
-use Rattle.histories.specs.Lists.{first_of, rest_of}
+use Rattle.std.specs.Prelude.{◌≡◌, ℕ, Option, Some, None, List, [], ◌∷◌, ◌++◌, length}
+use Rattle.histories.specs.Lists.{first_of, rest_of, numbered_from}
 use Rattle.cube_shape.specs.declared.region.Region.{Region}
 use Rattle.cube_shape.specs.Machine.{Gives, HasNoFit, TakesBack}
 use Rattle.alloc_bits.specs.Allocation.{Allocation, held_in}
@@ -36,13 +36,9 @@ holding v x = view v.about v.stations (Some x)
 abbrev pub members : View → ℕ
 members v = length v.stations
 
-abbrev pub out_of : Option Allocation → ℕ
-out_of (Some x) = 1
-out_of None = 0
-
--- 1 where the seat has taken the slot
-abbrev pub is_out : View → ℕ
-is_out v = out_of v.found
+-- what the seat found where it has taken the slot
+abbrev pub found_in : View → Option Allocation
+found_in v = v.found
 
 -- ---- views are dealt out, and come together again
 
@@ -50,8 +46,7 @@ abbrev pub fresh_station : ℕ → StationRecord
 fresh_station number = record { number = number; grants = []; holds = None }
 
 abbrev pub stations_from : ℕ → ℕ → List StationRecord
-stations_from first zero = []
-stations_from first (suc count) = fresh_station first ∷ stations_from (first + 1) count
+stations_from = numbered_from fresh_station
 
 -- what the first seat knows: the records of all stations
 abbrev pub first_view : Size → View

@@ -1,6 +1,7 @@
 -- A locked line and its handles as plain data.
 use Rattle.std.specs.Prelude.{◌≡◌, ℕ, [], ◌∷◌}
 use Rattle.atomic_table.specs.Seated.{TableId}
+use Rattle.locked_cell.specs.Handle.{table_of as table_of_cell, key_of}
 use Rattle.job_queue.specs.declared.job_line.Sizes.{Sizes}
 use Rattle.job_queue.specs.declared.record.LaneRecord.{LaneRecord}
 use Rattle.job_queue.specs.declared.record.PassRecord.{PassRecord}
@@ -13,10 +14,10 @@ use Rattle.job_queue.specs.Line.{LineId}
 use Rattle.locked_line.specs.Inner.Step.{lane_in, pass_in}
 
 abbrev pub table_of : StoreLock → TableId
-table_of lock = lock.table.shared.table_id
+table_of lock = table_of_cell lock.cell
 
 abbrev pub sizes_of : StoreLock → Sizes
-sizes_of lock = lock.table.shared.key
+sizes_of lock = key_of lock.cell
 
 abbrev pub line_id : StoreLock → LineId
 line_id lock = record { tables = table_of lock ∷ []; sizes = sizes_of lock }

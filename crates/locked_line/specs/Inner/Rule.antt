@@ -1,16 +1,16 @@
 -- The rule of a locked line's table. Its one word is 1 while a seat has taken the slot with the state.
-use Rattle.std.specs.Prelude.{◌≡◌, ℕ, ◌<◌, ◌≤◌, Some, List, length, slice_index}
+use Rattle.std.specs.Prelude.{◌≡◌, ℕ, ◌<◌, ◌≤◌, List, length, slice_index}
 use mathlib.Core.Option.{some}
 use lib.ListN.{get_elem?}
 use Rattle.atomic_table.specs.Table.{State}
-use Rattle.histories.specs.Sums.{total}
 use Rattle.histories.specs.Views.{Tied}
+use Rattle.locked_cell.specs.Cell.{IsCell}
 use Rattle.cube_shape.specs.declared.limits.TheConstants.{MAX_LANES}
 use Rattle.job_queue.specs.declared.job_line.Sizes.{Sizes}
 use Rattle.locked_line.specs.declared.store.Store.{Store}
 use Rattle.locked_line.specs.declared.view.View.{View}
 use Rattle.job_queue.specs.Record.{accepted}
-use Rattle.locked_line.specs.Inner.View.{is_out, members}
+use Rattle.locked_line.specs.Inner.View.{found_in, members}
 use Rattle.locked_line.specs.Inner.Deed.{Deed, entered, waiting, is_closed, lane_part, pass_part, closer_part, IsLegal}
 
 -- the state is the one that the history leaves
@@ -30,11 +30,5 @@ pub record Keeps (sizes : Sizes) (s : State Store View) : Type 0 where
   pub passes : Tied (λ (v : View). v.passes) (λ r. r.number) sizes.passes (pass_part history) s.views
   pub closers : Tied (λ (v : View). v.closers) (λ r. 0) 1 (closer_part history) s.views
   pub about : (id : ℕ) (v : View) → get_elem? s.views id ≡ some v → 0 < members v → v.about ≡ sizes
-  pub words : length s.words ≡ 1
-  pub bit : slice_index s.words 0 ≤ 1
-  -- the word says how many seats have taken the slot; each of them is a member's, and found there
-  -- what the history leaves
-  pub out : total is_out s.views ≡ slice_index s.words 0
-  pub home : slice_index s.words 0 ≡ 0 → (x : Store) × (get_elem? s.homes 0 ≡ some (some x)) × Fits sizes history x
-  pub found : (id : ℕ) (v : View) (x : Store) → get_elem? s.views id ≡ some v → v.found ≡ Some x → Fits sizes history x
-  pub taken_by : (id : ℕ) (v : View) → get_elem? s.views id ≡ some v → 0 < is_out v → 0 < members v
+  -- the state that is at home, and those that a seat found, are what the history leaves
+  pub cell : IsCell found_in members (Fits sizes history) s

@@ -1,7 +1,8 @@
 -- What the steps of a seat on a locked line's table say: of the step, the seat before, the number found and the seat after.
-use Rattle.std.specs.Prelude.{◌≡◌, ◌≢◌, ℕ, ◌+◌, ◌*◌, ◌<◌, ◌≤◌, Bool, true, false, Option, Some, None, List, [], ◌∷◌, ◌++◌, length, slice_index, slice_set}
+use Rattle.std.specs.Prelude.{◌≡◌, ℕ, ◌+◌, ◌*◌, ◌<◌, ◌≤◌, Bool, true, false, Option, Some, None, List, [], ◌∷◌, ◌++◌, length, slice_index, slice_set}
 use Rattle.std.specs.List.{AllByRecursion as Each}
-use Rattle.atomic_table.specs.Table.{Me, Step}
+use Rattle.atomic_table.specs.Table.{Me}
+use Rattle.locked_cell.specs.Cell.{IsIdle as IsIdleSeat, Took as TookValue}
 use Rattle.cube_shape.specs.declared.limits.TheConstants.{MAX_ENTRIES, MAX_LANES}
 use Rattle.job_queue.specs.declared.job_line.Sizes.{Sizes}
 use Rattle.job_queue.specs.declared.record.QueuedJob.{QueuedJob}
@@ -11,17 +12,14 @@ use Rattle.locked_line.specs.declared.store.Store.{Store}
 use Rattle.locked_line.specs.declared.view.View.{View}
 use Rattle.job_queue.specs.Record.{accepted, entry, job_id, fresh_lane, fresh_pass, IsSettled}
 use Rattle.job_queue.specs.Line.{IsMadeFor}
-use Rattle.locked_line.specs.Inner.View.{reading, lane_view, pass_view, closer_view, holding, members, KeepsMark}
+use Rattle.locked_line.specs.Inner.View.{reading, lane_view, pass_view, closer_view, holding, members, found_in, KeepsMark}
 
 abbrev pub Sat : Type 0
 Sat = Me Store View
 
-abbrev pub Play : Type 1
-Play = Step Store → Sat → ℕ → Sat → Type 0
-
 -- a seat of a member that makes no call
 abbrev pub IsIdle : Sat → Type 0
-IsIdle m = (m.1 ≡ []) × (m.0.found ≡ None) × (0 < members m.0)
+IsIdle = IsIdleSeat found_in members
 
 -- what a seat learns of the state that it takes
 pub record Knows (v : View) (x : Store) : Type 0 where
@@ -30,12 +28,9 @@ pub record Knows (v : View) (x : Store) : Type 0 where
   pub lanes : Each (λ r. slice_index x.accepted.items r.number ≡ length (accepted r.entries)) v.lanes
   pub made_for : Each (IsMadeFor v.about.machine) x.jobs.items
 
--- the seat has taken the slot, with the state x
+-- the seat has taken the slot, with the state that it found
 abbrev pub Took : Sat → Sat → Type 0
-Took m n = (x : Store) × (n ≡ (holding m.0 x, (0, x) ∷ [])) × Knows m.0 x
-
-abbrev pub took : Play
-took st m found n = (found ≡ 0 → Took m n) × (found ≢ 0 → n ≡ m)
+Took = TookValue holding Knows
 
 -- ---- what the seat has and found, read from its view and its slot
 

@@ -1,6 +1,6 @@
 -- The state of a locked line, what work on it does, and what seats know.
-use Rattle.std.specs.Prelude.{◌≡◌, ℕ, zero, suc, ◌+◌, ◌<◌, ◌≤◌, Bool, true, false, Option, Some, None, Result, Ok, Err, List, [], ◌∷◌, ◌++◌, length, slice_index, slice_set, replicate}
-use Rattle.histories.specs.Lists.{first_of, rest_of}
+use Rattle.std.specs.Prelude.{◌≡◌, ℕ, ◌+◌, ◌<◌, ◌≤◌, Bool, true, false, Option, Some, None, Result, Ok, Err, List, [], ◌∷◌, ◌++◌, length, slice_index, slice_set, replicate}
+use Rattle.histories.specs.Lists.{first_of, rest_of, numbered_from}
 use Rattle.job_types.specs.Job.{JobData}
 use Rattle.job_queue.specs.declared.job_line.Sizes.{Sizes}
 use Rattle.job_queue.specs.declared.job_line.Receipt.{Receipt}
@@ -66,23 +66,17 @@ holding v x = view v.about v.lanes v.passes v.closers (Some x)
 abbrev pub members : View → ℕ
 members v = length v.lanes + length v.passes + length v.closers
 
-abbrev pub out_of : Option Store → ℕ
-out_of (Some x) = 1
-out_of None = 0
-
--- 1 where the seat has taken the slot
-abbrev pub is_out : View → ℕ
-is_out v = out_of v.found
+-- what the seat found where it has taken the slot
+abbrev pub found_in : View → Option Store
+found_in v = v.found
 
 -- ---- views are dealt out, and come together again
 
 abbrev pub lanes_from : ℕ → ℕ → List LaneRecord
-lanes_from first zero = []
-lanes_from first (suc count) = fresh_lane first ∷ lanes_from (first + 1) count
+lanes_from = numbered_from fresh_lane
 
 abbrev pub passes_from : ℕ → ℕ → List PassRecord
-passes_from first zero = []
-passes_from first (suc count) = fresh_pass first ∷ passes_from (first + 1) count
+passes_from = numbered_from fresh_pass
 
 -- what the first seat knows: the records of all members
 abbrev pub first_view : Sizes → View

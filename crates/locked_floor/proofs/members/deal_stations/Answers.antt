@@ -25,7 +25,7 @@ loop-number-preserved c =
     let before : c.loop-number.seat.me ≡ (view size (stations_from i (suc (c.args.count - (i + 1)))) None, []) = inv.1 ∙ ap (λ (n : ℕ). (view size (stations_from i n) None, [])) one_more in
     let left : c.deal-seat.new.seat.me ≡ (view size (stations_from (i + 1) (c.args.count - (i + 1))) None, []) = c.deal-seat.ensures.left ∙ ap (λ (m : Sat). (without_station m.0, [])) before in
     let dealt : c.deal-seat.result.me ≡ (station_view size (fresh_station i), []) = c.deal-seat.ensures.dealt ∙ ap (λ (m : Sat). (station_alone m.0, [])) before in
-    let table : c.deal-seat.result.table_id ≡ c.args.lock.now.table.shared.table_id = c.deal-seat.ensures.tables.1 in (
+    let table : c.deal-seat.result.table_id ≡ c.args.lock.now.cell.table.shared.table_id = c.deal-seat.ensures.tables.1 in (
       c.deal-seat.ensures.tables.0,
       left,
       All-same (is_seated (floor_id c.args.lock.now)) _ _ c.push_reserved.ensures.items

@@ -28,7 +28,7 @@ loop-number-preserved c =
     let all = λ (n : ℕ). view first.about (lanes_from i n) first.passes first.closers None in
     let left = c.deal_lane-seat.ensures.left ∙ (ap (λ (m : Sat). (without_lane m.0, [])) inv.1 ∙ ap (λ (n : ℕ). (without_lane (all n), [])) one_more) in
     let dealt : c.deal_lane-seat.result.me ≡ (lane_view first.about (fresh_lane i), []) = c.deal_lane-seat.ensures.dealt ∙ (ap (λ (m : Sat). (lane_alone m.0, [])) inv.1 ∙ ap (λ (n : ℕ). (lane_alone (all n), [])) one_more) in
-    let table : c.deal_lane-seat.result.table_id ≡ c.args.lock.now.table.shared.table_id = c.deal_lane-seat.ensures.tables.1 in
+    let table : c.deal_lane-seat.result.table_id ≡ c.args.lock.now.cell.table.shared.table_id = c.deal_lane-seat.ensures.tables.1 in
     let next : suc i ≡ i + 1 = omega arith in (
       c.deal_lane-seat.ensures.tables.0,
       left,

@@ -28,7 +28,7 @@ loop-preserved c =
     let all = λ (n : ℕ). view first.about [] (passes_from i n) first.closers None in
     let left = c.deal_pass-seat.ensures.left ∙ (ap (λ (m : Sat). (without_pass m.0, [])) inv.1 ∙ ap (λ (n : ℕ). (without_pass (all n), [])) one_more) in
     let dealt : c.deal_pass-seat.result.me ≡ (pass_view first.about (fresh_pass i), []) = c.deal_pass-seat.ensures.dealt ∙ (ap (λ (m : Sat). (pass_alone m.0, [])) inv.1 ∙ ap (λ (n : ℕ). (pass_alone (all n), [])) one_more) in
-    let table : c.deal_pass-seat.result.table_id ≡ c.args.lock.now.table.shared.table_id = c.deal_pass-seat.ensures.tables.1 in
+    let table : c.deal_pass-seat.result.table_id ≡ c.args.lock.now.cell.table.shared.table_id = c.deal_pass-seat.ensures.tables.1 in
     let next : suc i ≡ i + 1 = omega arith in (
       c.deal_pass-seat.ensures.tables.0,
       left,

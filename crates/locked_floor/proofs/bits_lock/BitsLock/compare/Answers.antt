@@ -1,10 +1,10 @@
-use Rattle.std.proofs.Common.{arith, subst}
+use Rattle.std.proofs.Common.{subst}
 use Rattle.locked_floor.specs.Inner.Step.{Sat, AreFirstTwoApart}
 use Rattle.locked_floor.proofs.StepLemmas.{compares}
 use Rattle.locked_floor.proofs.bits_lock.BitsLock.compare.Goals as goal
 
-pub load-requires : goal.load-requires
-load-requires c = let t = c.requires.pair in (c.requires.table, omega (arith, c.args.self.now.sized.0), compares _ _ _ _ t.0 t.1 t.2)
+pub look-requires-clause-allows : goal.look-requires-clause-allows
+look-requires-clause-allows c = let t = c.requires.pair in compares _ _ _ _ t.0 t.1 t.2
 
 pub returns-clause-apart : goal.returns-clause-apart
-returns-clause-apart c = λ a b is. subst (λ (m : Sat). AreFirstTwoApart m.0.stations) is c.load.ensures.2.1
+returns-clause-apart c = λ a b is. subst (λ (m : Sat). AreFirstTwoApart m.0.stations) is c.look.ensures.learned.1

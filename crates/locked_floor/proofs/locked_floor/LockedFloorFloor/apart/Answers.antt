@@ -31,7 +31,7 @@ returns-clause-of_floor c =
     let about : c.compare.new.seat.me.0.about ≡ a.seat.me.0.about = ap (λ (z : Sat). z.0.about) (c.compare.ensures.same ∙ c.gather.ensures.both) in
     let first = first_again c.compare.new.seat.me c.deal-own.result.me ra rb compared c.deal-own.ensures.dealt in
     let second = second_again c.compare.new.seat.me c.deal-own.new.seat.me ra rb compared c.deal-own.ensures.left in
-    let tables = λ (t : TableId) (same : t ≡ c.args.self.now.lock.table.shared.table_id). ap (λ (z : TableId). z ∷ []) (sym same) in (
+    let tables = λ (t : TableId) (same : t ≡ c.args.self.now.lock.cell.table.shared.table_id). ap (λ (z : TableId). z ∷ []) (sym same) in (
       (
         of_same_size id a.seat.table_id c.deal-own.result.table_id a.seat.me.0.about c.deal-own.result.me.0.about c.requires.first.0 (tables _ c.deal-own.ensures.tables.1) (first.0 ∙ about),
         same_grants id.dim (held_grants a) _ first.1 c.requires.first.1,

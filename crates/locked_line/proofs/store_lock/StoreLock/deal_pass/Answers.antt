@@ -1,6 +1,5 @@
-use Rattle.std.proofs.Common.{arith}
 use Rattle.locked_line.proofs.DealLemmas.{deals_pass}
 use Rattle.locked_line.proofs.store_lock.StoreLock.deal_pass.Goals as goal
 
-pub split_seat-requires : goal.split_seat-requires
-split_seat-requires c = (c.requires.table, omega (arith, c.args.self.now.sized.0), deals_pass _ _ _ c.requires.idle.1)
+pub deal-requires-clause-cut : goal.deal-requires-clause-cut
+deal-requires-clause-cut c = deals_pass _ _ _ c.requires.idle.1

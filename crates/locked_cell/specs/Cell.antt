@@ -1,0 +1,53 @@
+-- A cell: a value in the one slot of a table with one word, which is 1 while a seat has taken it.
+use Rattle.std.specs.Prelude.{◌≡◌, ◌≢◌, ℕ, ◌<◌, ◌≤◌, Option, Some, None, List, [], ◌∷◌, length, slice_index, ◌==◌}
+use mathlib.Core.Option.{some, none}
+use lib.ListN.{get_elem?}
+use prog.Atomic.{either}
+use Rattle.atomic_table.specs.Table.{State, Me, Step, step, Allows, Seen}
+use Rattle.histories.specs.Sums.{total}
+
+-- 1 where there is a value
+abbrev pub out_of : {S : Type 0} → Option S → ℕ
+out_of (Some x) = 1
+out_of None = 0
+
+-- A view says what its seat found where it has taken the value, and how many members its records are of.
+module _ {S V : Type 0} (found : V → Option S) (members : V → ℕ) where
+  -- 1 where the seat has taken the value
+  abbrev pub is_out : V → ℕ
+  is_out v = out_of (found v)
+
+  -- a seat of members that make no call
+  abbrev pub IsIdle : Me S V → Type 0
+  IsIdle m = (m.1 ≡ []) × (found m.0 ≡ None) × (0 < members m.0)
+
+  -- The word says how many seats have taken the value; each of them is a member's, and found there a value that
+  -- fits. At home it fits too.
+  pub record IsCell (Fits : S → Type 0) (s : State S V) : Type 0 where
+    pub words : length s.words ≡ 1
+    pub bit : slice_index s.words 0 ≤ 1
+    pub out : total is_out s.views ≡ slice_index s.words 0
+    pub home : slice_index s.words 0 ≡ 0 → (x : S) × (get_elem? s.homes 0 ≡ some (some x)) × Fits x
+    pub taken : (id : ℕ) (v : V) (x : S) → get_elem? s.views id ≡ some v → found v ≡ Some x → Fits x
+    pub taken_by : (id : ℕ) (v : V) → get_elem? s.views id ≡ some v → 0 < is_out v → 0 < members v
+
+-- ---- a seat takes the value: its view holds it from then on, and it learns of it
+
+module _ {S V : Type 0} (holding : V → S → V) (Learns : V → S → Type 0) where
+  -- the seat has taken the value x
+  abbrev pub Took : Me S V → Me S V → Type 0
+  Took m n = (x : S) × (n ≡ (holding m.0 x, (0, x) ∷ [])) × Learns m.0 x
+
+  -- the value is taken where the number found is 0, and else nothing changes
+  abbrev pub takes_at_0 : Step S → Me S V → ℕ → Me S V → Type 0
+  takes_at_0 st m number n = (number ≡ 0 → Took m n) × (number ≢ 0 → n ≡ m)
+
+  -- the rule of a table of so many slots allows the seat to try
+  abbrev pub MayTry : (State S V → Type 0) → ℕ → ℕ → Me S V → Type 0
+  MayTry holds slots id m = Allows holds slots id m 0 (λ number. either (number == 0) 1 number) (takes_at_0 (step slots 0 0 1 none) m)
+
+-- ---- the table has ended
+
+-- The rule held in the end of a table in which the seat had this view, and the value is the one that was at home.
+abbrev pub Leaves : {S V : Type 0} → (State S V → Type 0) → ℕ → V → S → Type 0
+Leaves {S} {V} holds id v value = (s : State S V) × Seen holds id v s × ((x : S) → get_elem? s.homes 0 ≡ some (some x) → x ≡ value)
