@@ -8,6 +8,7 @@ use crate::handle::{RingEnd, RingLane, RingPass};
 use crate::piece::Piece;
 use crate::rule::{NextMachine, Put, RingRule, Take, View};
 use crossbeam_queue::RuledArrayQueue;
+use cube_shape::MAX_DIM;
 use std::alloc::{AllocError, Global};
 use std::collections::VecDeque;
 use std::marker::Model;
@@ -80,13 +81,14 @@ impl<T: Piece> Ring<T> {
     ghost use Rattle.line_ring.specs.Inner.Handle.{ring_id, is_lane, is_pass, is_end, lane_record, pass_record, dealt_lanes, dealt_passes, back_lanes, back_passes};
 
     /// Opens a ring for pieces that are for the machine of dimension `machine`, of which it holds
-    /// `capacity` at most. No other call takes memory.
+    /// `capacity` at most. It counts the dimension up in as many steps. No other call takes memory.
     pub fn open(
         alloc: Global,
         machine: u32,
         capacity: usize,
     ) -> Result<(Ring<T>, RingEnd<T>), AllocError>
-        requires { 0 < capacity }
+        requires machine { machine ≤ MAX_DIM }
+        requires capacity { 0 < capacity }
         ensures machine { IfOk result (λ made. (ring_id made.0).machine ≡ machine) }
         ensures capacity { IfOk result (λ made. (ring_id made.0).capacity ≡ capacity) }
         ensures end { IfOk result (λ made. is_end (ring_id made.0) made.1) }

@@ -3,7 +3,7 @@
 //
 // Only these stores change a record, and those that say that the line was full or empty take the
 // token of the push or pop that found it so.
-ghost use Rattle.std.specs.Prelude.{◌≡◌, ℕ, ◌+◌, ◌<◌, ◌≤◌, ◌^◌, [], ◌∷◌, true, IfOk, MatchOption, length, slice_index};
+ghost use Rattle.std.specs.Prelude.{◌≡◌, ℕ, ◌+◌, ◌<◌, ◌≤◌, ◌^◌, [], ◌∷◌, true, false, IfOk, MatchOption, length, slice_index};
 ghost use Rattle.job_queue.specs.declared.job_line.Sizes.{Sizes as LineSizes};
 ghost use Rattle.locked_line.specs.declared.store.Store.{Store as State};
 ghost use Rattle.job_queue.specs.declared.record.QueuedJob.{QueuedJob as Queued};
