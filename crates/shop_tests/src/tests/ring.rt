@@ -5,6 +5,7 @@ ghost use Rattle.std.specs.Vec.{vec_capacity};
 ghost use Rattle.line_ring.specs.Inner.Handle.{ring_id, is_lane, is_pass, is_end, dealt_lanes, dealt_passes, back_lanes, back_passes};
 
 use crate::tests::members::{Pair, both, only, sole};
+use cube_shape::MAX_DIM;
 use line_ring::{Piece, Ring, RingEnd, RingLane, RingPass};
 use std::alloc::{AllocError, Global};
 use std::collections::VecDeque;
@@ -175,6 +176,7 @@ impl Hand {
         lane_count: u32,
         pass_count: u32,
     ) -> Result<Hand, AllocError>
+        requires machine { sizes.0 ≤ MAX_DIM }
         requires some { 0 < sizes.1 }
         requires few { (lane_count ≤ 16) × (pass_count ≤ 16) }
         ensures end { IfOk result (λ h. is_end (ring_id h.ring) h.end) }
@@ -310,7 +312,7 @@ fn an_empty_ring_gives_nothing(rt: HostRuntime) -> Result<(), Fail> {
         end,
         mut lanes,
         mut passes,
-    } = Hand::open(rt.alloc(), (12, 1), 1, 1)?;
+    } = Hand::open(rt.alloc(), (10, 1), 1, 1)?;
     let mut lane = only_lane(&ring, &mut lanes);
     let mut pass = only(&mut passes);
     assert_eq!(rt; take(&rt, &ring, &mut pass), None);
