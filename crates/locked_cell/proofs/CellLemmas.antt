@@ -1,17 +1,16 @@
 -- The rule of a cell, as words, homes and views change.
-use Rattle.std.proofs.Common.{◌≡◌, ◌≢◌, ℕ, ◌<◌, eqb, Option, Some, None, List, [], ◌∷◌, ◌++◌, length, length-set, get_or, get_or-set_same, set, sym, refl, ap, ◌∙◌, subst, arith}
+use Rattle.std.proofs.Common.{◌≡◌, ◌≢◌, ℕ, ◌<◌, Option, Some, None, List, [], ◌∷◌, ◌++◌, length, length-set, get_or, get_or-set_same, set, sym, refl, ap, ◌∙◌, subst, arith}
 use mathlib.Core.Logic.{dite}
 use mathlib.Core.Option.{some, none, some-injective}
 use native.Mathlib.Decide.{ℕ_discrete}
 use lib.ListN.{get_elem?}
 use lib.Seq.{set-get_or}
-use prog.Atomic.{either}
 use Rattle.atomic_table.specs.Table.{State, Me, Act, keeps, takes, gives, Valid, carried_after, step, stepped, opening}
 use Rattle.atomic_table.proofs.Lists.{set_here, set_again, exchanged}
 use Rattle.histories.specs.Sums.{total}
 use Rattle.histories.proofs.SumLemmas.{total-set, total-push, term_le, positive_term}
 use Rattle.histories.proofs.DealLemmas.{only_view, in_changed, in_cut, in_joined}
-use Rattle.locked_cell.specs.Cell.{out_of, is_out, IsIdle, IsCell, takes_at_0, MayTry}
+use Rattle.locked_cell.specs.Cell.{out_of, is_out, IsCell, takes_at_0, MayTry}
 
 -- a step that leaves the word and the view as they are changes nothing
 pub changes_nothing : {S V : Type 0} (holds : State S V → Type 0) (s : State S V) → holds s → (id : ℕ) (v : V) → get_elem? s.views id ≡ some v → holds (stepped s 0 (get_or s.words 0 0) id [] v keeps)

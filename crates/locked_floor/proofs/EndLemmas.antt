@@ -1,5 +1,5 @@
 -- Once all stations have come together and hold nothing, the bits are at home, and wholly free.
-use Rattle.std.proofs.Common.{◌≡◌, ◌≢◌, ℕ, ◌+◌, ◌<◌, ◌≤◌, None, List, [], ◌∷◌, length, sym, ap, ◌∙◌, subst, arith}
+use Rattle.std.proofs.Common.{◌≡◌, ℕ, None, List, [], ◌∷◌, length, sym, ap, ◌∙◌, subst, arith}
 use Rattle.std.specs.List.{AllByRecursion}
 use Rattle.std.proofs.lemmas.Bool.{cases_lt}
 use mathlib.Core.Logic.{dite}
@@ -14,7 +14,6 @@ use Rattle.locked_cell.proofs.CellLemmas.{at_home}
 use Rattle.alloc_bits.specs.Allocation.{Allocation, held_in}
 use Rattle.locked_floor.specs.declared.view.Size.{Size}
 use Rattle.locked_floor.specs.declared.view.StationRecord.{StationRecord}
-use Rattle.locked_floor.specs.declared.view.View.{View}
 use Rattle.locked_floor.specs.Inner.View.{members, found_in}
 use Rattle.locked_floor.specs.Inner.Deed.{station_part, held_after}
 use Rattle.locked_floor.specs.Inner.Rule.{Fits, Keeps}

@@ -1,21 +1,16 @@
 -- The history of a locked line, as the history that its users see.
-use Rattle.std.proofs.Common.{◌≡◌, ℕ, ◌+◌, ◌<◌, Bool, true, false, cond, eqb, eq-eqb, ne_eqb, Option, Some, None, List, [], ◌∷◌, ◌++◌, length, sym, refl, ap, ◌∙◌, subst, arith}
+use Rattle.std.proofs.Common.{◌≡◌, ℕ, ◌+◌, ◌<◌, true, false, cond, eqb, eq-eqb, Some, None, List, [], ◌∷◌, ◌++◌, length, sym, refl, ap, ◌∙◌, subst}
 use Rattle.std.proofs.lemmas.Bool.{true≢false}
 use Rattle.std.specs.List.{AllByRecursion}
-use mathlib.Core.Logic.{dite}
-use native.Mathlib.Decide.{ℕ_discrete}
 use Rattle.histories.specs.History.{Legal}
 use Rattle.job_queue.specs.declared.job_line.Sizes.{Sizes}
 use Rattle.job_queue.specs.declared.record.QueuedJob.{QueuedJob}
 use Rattle.job_queue.specs.declared.record.Entry.{Entry}
-use Rattle.job_queue.specs.declared.record.LaneRecord.{LaneRecord}
-use Rattle.job_queue.specs.declared.record.PassRecord.{PassRecord}
 use Rattle.job_queue.specs.Record.{job_id, entry, accepted}
 use Rattle.job_queue.specs.History.{Deed as LineDeed, enters, accepts_job, takes_first, closes_line, entered as line_entered, closed_at as line_closed_at, waiting as line_waiting, with_job, entries_by, taken_in, left_in, AwaitsJob, May as LineMay}
 use Rattle.histories.specs.Lists.{rest_of}
 use Rattle.locked_line.specs.Inner.Deed.{Deed, accepts, fills, finds_closed, takes_job, finds_empty, closes, entered, waiting, is_closed, lane_after, lane_part, pass_after, pass_part, closed_at, IsLegal}
 use Rattle.job_queue.proofs.AcceptedLemmas.{accepted-full}
-use Rattle.locked_line.proofs.DeedLemmas.{lane_own, lane_other, pass_own, pass_other}
 use Rattle.locked_line.proofs.HistoryLemmas.{entered_before}
 use Rattle.job_queue.proofs.ListLemmas.{fill_last, awaits_last}
 

@@ -1,6 +1,5 @@
 use Rattle.std.proofs.Common.{◌≡◌, ◌∷◌, [], Some, sym, ap, ◌∙◌, subst}
 use Rattle.atomic_table.specs.Seated.{TableId}
-use Rattle.locked_floor.specs.declared.view.Size.{Size}
 use Rattle.locked_floor.specs.Inner.Step.{Sat, IsPair, station_in}
 use Rattle.locked_floor.specs.Inner.Handle.{floor_id, held_grants}
 use Rattle.locked_floor.proofs.HandleLemmas.{pair_of, same_grants, of_same_size, first_again, second_again}
