@@ -9,6 +9,7 @@ use Rattle.status_word.specs.Word.{IsSet}
 use Rattle.std.specs.List.{AllByRecursion}
 use Rattle.histories.specs.Sums.{total, is_at}
 use Rattle.histories.proofs.SumLemmas.{everyone}
+use Rattle.cube_shape.specs.declared.limits.TheConstants.{MAX_STATIONS}
 use Rattle.cube_core.specs.declared.phase.Phase.TheVariants.{Idle}
 use Rattle.tree_steps.specs.declared.view.Entry.{Entry}
 use Rattle.tree_steps.specs.Rule.{times}
@@ -27,7 +28,7 @@ use Rattle.cube_tree.proofs.HandleLemmas.{HasRetired}
 use Rattle.cube_tree.proofs.MovedLemmas.{all_both}
 
 -- the bits of all stations, without those of the roll
-pub missing_bits : (n roll all missing : ℕ) → n ≤ 32 → roll < 2 ^ 64 → all ≡ 2 ^ n - 1 → missing ≡ bit_and all (bit_not w64 roll) → IsMissing n roll missing
+pub missing_bits : (n roll all missing : ℕ) → n ≤ MAX_STATIONS → roll < 2 ^ 64 → all ≡ 2 ^ n - 1 → missing ≡ bit_and all (bit_not w64 roll) → IsMissing n roll missing
 missing_bits n roll all missing few small ones is s = elim (cases_lt s n) [
   | inl below ↦
       let bit = bit_at_not w64 roll s small (omega arith) in let one : bit_at all s ≡ 1 = ap (λ a. bit_at a s) ones ∙ bit_at_ones n s below in let two = bit_at-lt roll s in

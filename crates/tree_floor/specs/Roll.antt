@@ -4,5 +4,5 @@ use Rattle.cube_tree.specs.declared.handles.FreeMachine.{FreeMachine}
 use Rattle.cube_tree.specs.Ends.{IsWhole, machine_words}
 
 -- word 0 of the machine, the roll, has the bit of each station below the count
-abbrev pub HasWholeRoll : ℕ → FreeMachine → Type 0
-HasWholeRoll count machine = IsWhole count (slice_index (machine_words machine) 0)
+abbrev pub IsRollWhole : ℕ → FreeMachine → Type 0
+IsRollWhole count machine = IsWhole count (slice_index (machine_words machine) 0)

@@ -27,7 +27,7 @@ impl Floor for TreeFloor {
     ghost use Rattle.cube_tree.specs.Handles.{held_region as region_of_held};
     ghost use Rattle.cube_tree.specs.Ends.{machine_dim as dim_of_machine, machine_words as words_of_machine};
     ghost use Rattle.tree_floor.specs.Grants.{station_grants, subcube_grants};
-    ghost use Rattle.tree_floor.specs.Roll.{HasWholeRoll};
+    ghost use Rattle.tree_floor.specs.Roll.{IsRollWhole};
     ghost use Rattle.tree_floor.specs.Inner.Handle.{floor_id, IsStation, IsHeld};
 
     ghost id = { λ floor. floor_id floor.cube };
@@ -46,7 +46,7 @@ impl Floor for TreeFloor {
 
     ghost machine_words = { words_of_machine };
 
-    ghost is_closed = { HasWholeRoll };
+    ghost is_closed = { IsRollWhole };
 
     fn open(alloc: Global, n: u32, stations: u32) -> Result<(TreeFloor, Vec<Station>), AllocError>
         requires dim { n ≤ MAX_DIM }
@@ -95,7 +95,7 @@ impl Floor for TreeFloor {
         requires all { length stations.items ≡ (floor_id self.cube).stations }
         ensures granted { All (λ s. All (IsAligned (floor_id self.cube).dim) (station_grants s))
             stations.items }
-        ensures closed { HasWholeRoll (floor_id self.cube).stations result }
+        ensures closed { IsRollWhole (floor_id self.cube).stations result }
         ensures dim { dim_of_machine result ≡ (floor_id self.cube).dim }
         ensures free { IsWhollyFree (floor_id self.cube).dim (words_of_machine result) }
     {

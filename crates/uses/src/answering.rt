@@ -5,7 +5,7 @@ ghost use Rattle.std.specs.List.{All};
 ghost use Rattle.job_queue.specs.Line.{IsFor};
 ghost use Rattle.floors.specs.Floor.{IsWhollyFree};
 ghost use Rattle.cube_tree.specs.Ends.{machine_words};
-ghost use Rattle.tree_floor.specs.Roll.{HasWholeRoll};
+ghost use Rattle.tree_floor.specs.Roll.{IsRollWhole};
 ghost use Rattle.batch.specs.Answers.{AnswersAll};
 ghost use Rattle.uses.specs.Processors.{processors_in};
 
@@ -37,7 +37,7 @@ pub fn answer_and_count<R: Threads + Wait + Sync, T: Runner + Sync>(
         (map (λ replies. replies.items) answered.0.by_worker.items) answered.0.rest.items) }
     ensures free { IfSome result (λ answered.
         IsWhollyFree n (machine_words answered.0.machine)) }
-    ensures roll { IfSome result (λ answered. HasWholeRoll 4 answered.0.machine) }
+    ensures roll { IfSome result (λ answered. IsRollWhole 4 answered.0.machine) }
     ensures processors { IfSome result (λ answered. answered.1
         ≡ processors_in (map (λ replies. replies.items) answered.0.by_worker.items)
         answered.0.rest.items) }

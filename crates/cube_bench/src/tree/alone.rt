@@ -12,7 +12,7 @@ use std::alloc::{AllocError, Global};
 
 // Takes, each with its release: how many were given.
 fn solo_turns(solo: &mut Solo, workload: Workload) -> u64
-    requires { solo_dim solo.old ≡ 10 }
+    requires { solo_dim solo.old ≡ DIM }
 {
     let mut given = 0u64;
     for index in 0..workload.turns {
@@ -57,7 +57,7 @@ pub fn given_by_bits(alloc: Global, workload: Workload) -> Result<u64, AllocErro
 
 // Takes, each with its release: how many were given.
 fn bit_turns(bits: &mut AllocBits, workload: Workload) -> u64
-    requires { bits.old.dim ≡ 10 }
+    requires { bits.old.dim ≡ DIM }
 {
     let mut given = 0u64;
     for index in 0..workload.turns {

@@ -25,7 +25,7 @@ struct Lane {
 // The turns of the station of a lane, which has one before and after.
 fn run(cube: &Cube, workload: Workload, lane: &mut Lane)
     requires station { HasStation cube.now lane.old }
-    requires dim { cube_dim cube.now ≡ 10 }
+    requires dim { cube_dim cube.now ≡ DIM }
     ensures { HasStation cube.now lane.new }
 {
     let station = lane.station.take().unwrap();
@@ -40,7 +40,7 @@ fn run(cube: &Cube, workload: Workload, lane: &mut Lane)
 // The turns of all lanes, each on a thread of its own.
 fn run_all<R: Threads + Sync>(rt: &R, cube: &Cube, workload: Workload, lanes: &mut [Lane])
     requires stations { All (HasStation cube.now) lanes.old }
-    requires dim { cube_dim cube.now ≡ 10 }
+    requires dim { cube_dim cube.now ≡ DIM }
     ensures { All (HasStation cube.now) lanes.new }
 {
     let count = lanes.len().max(1);
@@ -49,7 +49,7 @@ fn run_all<R: Threads + Sync>(rt: &R, cube: &Cube, workload: Workload, lanes: &m
         lanes,
         count,
         &|_, lane|
-            requires { HasStation cube.now lane.now × (cube_dim cube.now ≡ 10) }
+            requires { HasStation cube.now lane.now × (cube_dim cube.now ≡ DIM) }
             ensures { HasStation cube.entry.now lane.exit.now }
         { run(cube, workload, lane) },
     );
@@ -103,7 +103,7 @@ fn last(cube: &Cube, list: &mut Vec<Station>) -> Station
 // The station that has no thread: it takes a half of the machine where the run is beside one.
 fn hold_half(cube: &Cube, station: Station, beside_half: bool) -> Result<Subcube, Station>
     requires cube { IsStationOf cube.now station }
-    requires dim { cube_dim cube.now ≡ 10 }
+    requires dim { cube_dim cube.now ≡ DIM }
     ensures { MatchResult result (IsSubcubeOf cube.now) (IsStationOf cube.now) }
 {
     if !beside_half {

@@ -1,6 +1,7 @@
 //! The turns of one station.
 ghost use Rattle.std.specs.Prelude.{◌≡◌, ◌≤◌};
 ghost use Rattle.cube_tree.specs.Handles.{cube_dim, IsStationOf};
+ghost use Rattle.cube_bench.specs.declared.tree.lanes.TheConstants.{DIM};
 
 use cube_tree::{Cube, Station};
 
@@ -41,7 +42,7 @@ fn turn(cube: &Cube, station: Station, k: u32) -> (Station, bool)
 /// So many turns of a station: how many takes were given.
 pub fn turns(cube: &Cube, station: Station, sizes: Sizes, count: u64) -> (Station, u64)
     requires cube { IsStationOf cube.now station }
-    requires dim { cube_dim cube.now ≡ 10 }
+    requires dim { cube_dim cube.now ≡ DIM }
     ensures { IsStationOf cube.now result.0 }
 {
     let number = station.number();

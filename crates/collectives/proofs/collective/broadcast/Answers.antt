@@ -1,6 +1,7 @@
 use Rattle.std.proofs.Common.{arith, subst, ℕ, ◌+◌, ◌*◌, ◌^◌, ◌<◌, ◌≤◌, ◌≡◌}
 use Rattle.std.proofs.lemmas.Nat.{xor_lt, pow-add}
 use Rattle.std.proofs.Math.Pow.{pow_mono}
+use Rattle.collectives.specs.declared.shape.TheConstants.{DIM_LIMIT}
 use Rattle.collectives.proofs.XorLemmas.{HoldsRoot, HoldsRoot-start, HoldsRoot-round, HoldsRoot-all}
 use Rattle.collectives.proofs.collective.broadcast.Goals as goal
 
@@ -17,7 +18,7 @@ loop-round-init g c = HoldsRoot-start c.args.root c.args.items.now
 pub broadcast_round-requires-clause-half : goal.broadcast_round-requires-clause-half
 broadcast_round-requires-clause-half g c =
     let power = power_below c.loop-round.round c.args.k c.loop-round-test.true in
-    let limit = power_below c.args.k 32 c.requires.dim in
+    let limit = power_below c.args.k DIM_LIMIT c.requires.dim in
     omega (arith, c.distance.ensures, power, limit)
 
 pub broadcast_round-requires-clause-places : goal.broadcast_round-requires-clause-places

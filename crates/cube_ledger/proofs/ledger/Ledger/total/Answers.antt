@@ -1,4 +1,5 @@
-use Rattle.std.proofs.Common.{◌≡◌, ◌<◌, All, sym, ap, ◌∙◌, rules, arith}
+use Rattle.std.proofs.Common.{◌≡◌, ◌+◌, ◌<◌, All, sym, ap, ◌∙◌, rules, arith}
+use Rattle.cube_shape.specs.declared.limits.TheConstants.{MAX_DIM}
 use Rattle.cube_ledger.specs.Ledger.{is_any, processors_of, totals_of}
 use Rattle.cube_ledger.specs.Inner.Group.{HasSmallDim}
 use Rattle.cube_ledger.proofs.TotalLemmas.{sums_by_number}
@@ -16,7 +17,7 @@ pub returns-clause-dims_sum : goal.returns-clause-dims_sum
 returns-clause-dims_sum c =
     let whole : c.sum.result ≡ totals_of is_any c.args.self.now = search rules in
     let small : All HasSmallDim c.args.self.now = search rules in
-    let within : All (λ s. s.region.dim < 11) c.args.self.now = λ k d lt. omega (arith, small k d lt) in (
-      sums_by_number (λ s. s.region.dim) (λ _. 1) 11 c.args.self.now within ∙ sym (ap (λ t. t.jobs) whole),
-      sums_by_number (λ s. s.region.dim) processors_of 11 c.args.self.now within ∙ sym (ap (λ t. t.processors) whole),
+    let within : All (λ s. s.region.dim < MAX_DIM + 1) c.args.self.now = λ k d lt. omega (arith, small k d lt) in (
+      sums_by_number (λ s. s.region.dim) (λ _. 1) (MAX_DIM + 1) c.args.self.now within ∙ sym (ap (λ t. t.jobs) whole),
+      sums_by_number (λ s. s.region.dim) processors_of (MAX_DIM + 1) c.args.self.now within ∙ sym (ap (λ t. t.processors) whole),
     )
