@@ -1,6 +1,6 @@
 use Rattle.std.proofs.Common.{arith}
 use Rattle.dispatcher.specs.Members.{IsWorkerOf, IsEndOf}
-use Rattle.crew.proofs.SlotLemmas.{all_front, all_pushed, longer}
+use Rattle.crew.proofs.SlotLemmas.{all_front, all_last, all_pushed, longer}
 use Rattle.crew.proofs.slots.man_posts.Goals as goal
 
 pub loop-worker-preserved-in-Err : goal.loop-worker-preserved-in-Err
@@ -31,3 +31,6 @@ loop-worker-preserved g c =
       omega (arith, inv.2, c.in_default-push.ensures.len, longer left all c.in-Some.worker popped),
       inv.3,
     )
+
+pub new-requires : goal.new-requires
+new-requires g c = all_last (IsWorkerOf g.J.Naming.shop) c.loop-worker.workers.items c.pop.new.self.items c.in-Some.worker c.in-Some.ensures.items c.loop-worker.invariant.0
