@@ -1,6 +1,5 @@
-use Rattle.std.proofs.Common.{◌++◌, List, map, refl, sym, ap, ◌∙◌}
+use Rattle.std.proofs.Common.{map, refl, sym, ap, ◌∙◌}
 use Rattle.std.proofs.lemmas.List.Elements.{All-push, All-same}
-use Rattle.job_types.specs.Reply.{ReplyData}
 use Rattle.dispatcher.specs.Reply.{answered, region_of, IsRight}
 use Rattle.dispatcher.proofs.WorkLemmas.{gained, kept, at_line, at_floor}
 use Rattle.dispatcher.proofs.dispatching.dispatch.Goals as goal
