@@ -211,6 +211,7 @@ each_flat P (xs ∷ xss) all = each_append P xs (flat_map (λ ys. ys) xss) all.0
 pub whole_batch : (n : ℕ) (jobs : List (List JobData)) (o : Outcome) (unfed : List UnfedJobs) → IsRun n jobs o unfed → AreAllFed unfed → IsWholeBatch n jobs o
 whole_batch n jobs o unfed run empty = record {
   lanes = run.lanes;
+  grants = run.grants;
   note = run.note;
   finished = run.finished;
   fed = all_accepted jobs run.lanes unfed run.fed empty;

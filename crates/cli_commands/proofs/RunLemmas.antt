@@ -46,6 +46,7 @@ run_of : (n : ℕ) (lists : List (List JobData)) (jobs : List JobData) (o : Outc
 unfolding IsRunOf
 run_of n lists jobs o opens whole = record {
   lanes = whole.lanes;
+  grants = whole.grants;
   note = whole.note;
   finished = whole.finished;
   open_lanes = opens.count;

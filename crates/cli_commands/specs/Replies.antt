@@ -2,6 +2,7 @@
 use Rattle.std.specs.Prelude.{◌≡◌, ℕ, ◌<◌, List, map, IsPermutation}
 use Rattle.std.specs.List.{AllByRecursion as Each}
 use Rattle.histories.specs.Sums.{times}
+use Rattle.cube_shape.specs.declared.region.Region.{Region}
 use Rattle.job_types.specs.Job.{JobData}
 use Rattle.job_types.specs.Reply.{ReplyData}
 use Rattle.job_queue.specs.declared.record.LaneRecord.{LaneRecord}
@@ -15,12 +16,14 @@ use Rattle.cli_commands.specs.JobIds.{with_ids}
 use Rattle.cli_commands.specs.OpenLanes.{IsLaneCount}
 
 -- A shop of a machine of dimension n has finished, whose lanes have accepted the jobs of a file, of which
--- `count` are open. With the records of the lanes and the number of the close note:
+-- `count` are open. With the records of the lanes, what each station was granted, and the number of the
+-- close note:
 pub record FileRun (n : ℕ) (jobs : List JobData) (count : ℕ) (o : Outcome) : Type 0 where
   pub lanes : List LaneRecord
+  pub grants : List (List Region)
   pub note : ℕ
   -- the theorem of a finished shop
-  pub finished : FinishedRun n lanes note o
+  pub finished : FinishedRun n lanes grants note o
   -- each open lane is there once, and has accepted the jobs of the file that are its own, in file order
   pub open_lanes : IsLaneCount jobs count
   pub numbers : (k : ℕ) → k < count → times k (map (λ l. l.number) lanes) ≡ 1

@@ -2,11 +2,10 @@
 use Rattle.std.proofs.Common.{◌≡◌, ℕ, zero, suc, ◌+◌, ◌++◌, ◌∷◌, [], List, Option, map, length, get_or, length-append, append_assoc, refl, sym, ap, ◌∙◌, arith}
 use Rattle.std.specs.List.{All, AllZip}
 use Rattle.std.proofs.lemmas.List.{length-map}
-use Rattle.std.proofs.lemmas.List.Elements.{All-nil, All-cons, All-head, All-tail, All-push}
+use Rattle.std.proofs.lemmas.List.Elements.{All-nil, All-cons, All-head, All-tail}
 use Rattle.job_types.specs.Job.{JobData}
 use Rattle.job_queue.specs.declared.record.LaneRecord.{LaneRecord}
-use Rattle.job_queue.specs.declared.record.PassRecord.{PassRecord}
-use Rattle.job_queue.specs.Record.{fresh_lane, fresh_lanes, fresh_pass, fresh_passes, accepted, job_of, accepted_jobs}
+use Rattle.job_queue.specs.Record.{fresh_lane, fresh_lanes, accepted, job_of, accepted_jobs}
 use Rattle.dispatcher.specs.declared.feeding.FeedStop.{FeedStop}
 use Rattle.crew.specs.Run.{UnfedJobs, unfed_by, IsStopOf}
 
@@ -33,11 +32,6 @@ all_stopped lane_of record_of left stop [] all = tt
 all_stopped {A} lane_of record_of left stop (x ∷ xs) all =
     let Own : A → Type 0 = λ y. IsStopOf (record_of (lane_of y)) (left y) (stop y) in
     (All-head Own x xs all, all_stopped lane_of record_of left stop xs (All-tail Own x xs all))
-
--- fresh passes have taken nothing
-pub none_taken : (count : ℕ) → All (λ (r : PassRecord). r.taken ≡ []) (fresh_passes count)
-none_taken zero = All-nil (λ (r : PassRecord). r.taken ≡ [])
-none_taken (suc count) = All-push (λ (r : PassRecord). r.taken ≡ []) (fresh_passes count) (fresh_pass count) (none_taken count) refl
 
 -- as many jobs as were accepted and were not handed in, for each lane
 pub all_counted : {A N : Type 0} (lane_of : A → N) (record_of : N → LaneRecord) (back left : A → List JobData) (stop : A → Option FeedStop) (jobs : ℕ → List JobData) (counts : List ℕ) (xs : List A)

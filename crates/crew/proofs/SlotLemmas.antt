@@ -13,6 +13,9 @@ use Rattle.job_queue.specs.Record.{fresh_lane, fresh_lanes}
 pub all_front : {A : Type 0} (P : A → Type 0) (xs ys : List A) (y : A) → xs ≡ ys ++ y ∷ [] → All P xs → All P ys
 all_front P xs ys y popped all = (All-pop P xs ys (Some y) popped all).0
 
+pub all_last : {A : Type 0} (P : A → Type 0) (xs ys : List A) (y : A) → xs ≡ ys ++ y ∷ [] → All P xs → P y
+all_last P xs ys y popped all = (All-pop P xs ys (Some y) popped all).1
+
 pub all_pushed : {A : Type 0} (P : A → Type 0) (xs ys : List A) (y : A) → ys ≡ xs ++ y ∷ [] → All P xs → P y → All P ys
 all_pushed P xs ys y pushed all own = All-same P ys (xs ++ y ∷ []) pushed (All-push P xs y all own)
 

@@ -2,6 +2,7 @@
 use Rattle.std.specs.Prelude.{◌≡◌, ℕ, ◌+◌, ◌<◌, ◌≤◌, ◌++◌, [], List, Option, Some, None, map, length, slice_index, slice_index_or}
 use Rattle.std.specs.List.{All, AllZip}
 use Rattle.histories.specs.Sums.{times}
+use Rattle.cube_shape.specs.declared.region.Region.{Region}
 use Rattle.job_types.specs.Job.{JobData}
 use Rattle.cube_shape.specs.declared.limits.TheConstants.{MAX_ENTRIES}
 use Rattle.job_queue.specs.declared.record.LaneRecord.{LaneRecord}
@@ -30,12 +31,13 @@ IsStopOf lane jobs (Some (Closed seen)) = EndsWith lane.seen seen
 IsStopOf lane jobs (Some LaneSpent) = MAX_ENTRIES ≤ length lane.entries
 
 -- The jobs of each lane, what the finished shop answers, and what the lanes did not hand in. With the
--- records of the lanes and the number of the close note:
+-- records of the lanes, what each station was granted, and the number of the close note:
 pub record IsRun (n : ℕ) (jobs : List (List JobData)) (o : Outcome) (unfed : List UnfedJobs) : Type 0 where
   pub lanes : List LaneRecord
+  pub grants : List (List Region)
   pub note : ℕ
   -- the theorem of a finished shop
-  pub finished : FinishedRun n lanes note o
+  pub finished : FinishedRun n lanes grants note o
   -- what a lane accepted, followed by what it did not hand in, are its jobs
   pub fed : AllZip (λ l u. (u.lane ≡ l.number) × (accepted_jobs l ++ u.jobs ≡ slice_index_or jobs l.number [])) lanes unfed
   -- each feed stopped as it says

@@ -1,11 +1,10 @@
 // What a thread has: a lane with its jobs, a worker, or the right to close. The type says what is known
 // of it, so it may lie under a lock, and no thread that was not started takes it along.
-ghost use Rattle.std.specs.Prelude.{◌≡◌, ◌≢◌, ℕ, ◌++◌, [], List, None, Some, true, false, IsSome, map, MatchOption};
+ghost use Rattle.std.specs.Prelude.{◌≡◌, ◌≢◌, ℕ, ◌++◌, [], List, None, Some, true, false, IsSome, MatchOption};
 ghost use Rattle.std.specs.List.{All};
 ghost use Rattle.job_queue.specs.Record.{accepted_jobs};
 ghost use Rattle.job_queue.specs.Line.{IsFor};
-ghost use Rattle.dispatcher.specs.Reply.{answered, region_of, IsRight};
-ghost use Rattle.dispatcher.specs.Shop.{room_for};
+ghost use Rattle.dispatcher.specs.Members.{IsWorkerOf, IsEndOf, IsCloserOf, IsNoteOf, stop_of};
 ghost use Rattle.dispatcher.specs.Stop.{given_back};
 ghost use Rattle.crew.specs.Run.{IsStopOf};
 
@@ -144,33 +143,25 @@ pub struct Post<J: Naming, L: JobLine, F: Floor> {
 }
 
 impl<J: Naming, L: JobLine, F: Floor> Model for Post<J, L, F> {
-    ghost use Rattle.std.specs.Prelude.{◌≡◌, ◌≢◌, [], Option, None, map, MatchOption};
+    ghost use Rattle.std.specs.Prelude.{◌≡◌, ◌≢◌, Option, None, MatchOption};
     ghost use Rattle.std.specs.Option.{option_map};
-    ghost use Rattle.std.specs.List.{All};
-    ghost use Rattle.dispatcher.specs.Reply.{answered, region_of, IsRight};
-    ghost use Rattle.dispatcher.specs.declared.shop.Stop.{Stop as StopData};
-    ghost use Rattle.dispatcher.specs.declared.shop.Stop.TheVariants.{NotRun};
+    ghost use Rattle.dispatcher.specs.Members.{IsWorkerOf, IsEndOf, stop_of};
+    ghost use Rattle.dispatcher.specs.declared.stop.Stop.{Stop as StopData};
+    ghost use Rattle.dispatcher.specs.declared.stop.Stop.TheVariants.{NotRun};
 
     // Why it has stopped, or `None` where it was not run.
     ghost Value = { Option StopData };
 
-    ghost view = { λ p. option_map (λ e. e.stop) p.end };
+    ghost view = { λ p. option_map stop_of p.end };
 
     ghost invariant = { λ p. MatchOption p.worker
-        (MatchOption p.end ⊥ (λ e. L.is_pass J.shop.line e.pass × F.is_station J.shop.floor e.station
-        × ((L.pass_record e.pass).taken ≡ map answered e.replies.items)
-        × (F.grants e.station ≡ map region_of e.replies.items)
-        × All (IsRight J.shop.floor.dim) e.replies.items × (e.stop ≢ NotRun)))
-        (λ w. L.is_pass J.shop.line w.pass × F.is_station J.shop.floor w.station
-        × ((L.pass_record w.pass).taken ≡ []) × (F.grants w.station ≡ []) × (p.end ≡ None)) };
+        (MatchOption p.end ⊥ (λ e. IsEndOf J.shop e × (stop_of e ≢ NotRun)))
+        (λ w. IsWorkerOf J.shop w × (p.end ≡ None)) };
 }
 
 impl<J: Naming, L: JobLine, F: Floor> Post<J, L, F> {
     pub fn new(worker: Worker<L, F>) -> Post<J, L, F>
-        requires pass { L.is_pass J.shop.line worker.pass }
-        requires station { F.is_station J.shop.floor worker.station }
-        requires fresh { (L.pass_record worker.pass).taken ≡ [] }
-        requires no_grants { F.grants worker.station ≡ [] }
+        requires { IsWorkerOf J.shop worker }
         ensures { result ≡ None }
     {
         Post {
@@ -198,7 +189,7 @@ impl<J: Naming, L: JobLine, F: Floor> Post<J, L, F> {
             return false;
         };
         let end = dispatch(rt, alloc, shop, worker, runner);
-        let spent = end.stop == Stop::OutOfMemory;
+        let spent = end.stop() == Stop::OutOfMemory;
         match self.end.replace(end) {
             None => {}
             Some(_end) => unreachable!(),
@@ -207,13 +198,10 @@ impl<J: Naming, L: JobLine, F: Floor> Post<J, L, F> {
     }
 
     pub fn into_end(self, alloc: Global) -> WorkerEnd<L, F>
-        ensures pass { L.is_pass J.shop.line result.pass }
-        ensures station { F.is_station J.shop.floor result.station }
-        ensures replies { (L.pass_record result.pass).taken ≡ map answered result.replies.items }
-        ensures grants { F.grants result.station ≡ map region_of result.replies.items }
-        ensures right { All (IsRight J.shop.floor.dim) result.replies.items }
-        ensures stop { MatchOption self (result.stop ≡ Stop.NotRun) (λ stop. result.stop ≡ stop) }
-        ensures has_run { IsSome self → result.stop ≢ Stop.NotRun }
+        ensures of_shop { IsEndOf J.shop result }
+        ensures stop { MatchOption self (stop_of result ≡ Stop.NotRun)
+            (λ stop. stop_of result ≡ stop) }
+        ensures has_run { IsSome self → stop_of result ≢ Stop.NotRun }
     {
         let Post { worker, end, of: _ } = self;
         match (worker, end) {
@@ -234,7 +222,7 @@ pub struct Door<J: Naming, L: JobLine, F: Floor> {
 
 impl<J: Naming, L: JobLine, F: Floor> Model for Door<J, L, F> {
     ghost use Rattle.std.specs.Prelude.{◌≡◌, Bool, is_some, None, MatchOption};
-    ghost use Rattle.dispatcher.specs.Shop.{room_for};
+    ghost use Rattle.dispatcher.specs.Members.{IsCloserOf, IsNoteOf};
 
     // Whether the shop was closed.
     ghost Value = { Bool };
@@ -242,14 +230,13 @@ impl<J: Naming, L: JobLine, F: Floor> Model for Door<J, L, F> {
     ghost view = { λ d. is_some d.note };
 
     ghost invariant = { λ d. MatchOption d.closer
-        (MatchOption d.note ⊥ (λ n. L.is_note J.shop.line n.line × (n.room ≡ room_for J.shop)))
-        (λ c. L.is_closer J.shop.line c.line × (c.room ≡ room_for J.shop) × (d.note ≡ None)) };
+        (MatchOption d.note ⊥ (IsNoteOf L.JobLine J.shop))
+        (λ c. IsCloserOf L.JobLine J.shop c × (d.note ≡ None)) };
 }
 
 impl<J: Naming, L: JobLine, F: Floor> Door<J, L, F> {
     pub fn new(closer: Closer<L, F>) -> Door<J, L, F>
-        requires closer { L.is_closer J.shop.line closer.line }
-        requires room { closer.room ≡ room_for J.shop }
+        requires { IsCloserOf L.JobLine J.shop closer }
         ensures { result ≡ false }
     {
         Door {
@@ -274,8 +261,7 @@ impl<J: Naming, L: JobLine, F: Floor> Door<J, L, F> {
 
     pub fn into_note<R: Wait>(self, rt: &R, shop: &Shop<L, F>) -> CloseNote<L, F>
         requires { shop.now ≡ J.shop }
-        ensures note { L.is_note J.shop.line result.line }
-        ensures room { result.room ≡ room_for J.shop }
+        ensures { IsNoteOf L.JobLine J.shop result }
     {
         let Door {
             closer,

@@ -6,7 +6,7 @@ ghost use Rattle.job_types.specs.Job.{JobData};
 ghost use Rattle.job_queue.specs.Record.{fresh_lanes};
 ghost use Rattle.job_queue.specs.Line.{IsFor};
 ghost use Rattle.dispatcher.specs.Opening.{refusal_of};
-ghost use Rattle.dispatcher.specs.Shop.{room_for};
+ghost use Rattle.dispatcher.specs.Members.{IsWorkerOf, IsCloserOf};
 ghost use Rattle.dispatcher.specs.Stop.{given_back};
 ghost use Rattle.dispatcher.specs.Finished.{outcome};
 ghost use Rattle.crew.specs.Run.{unfed_by, AreCounts, IsRun};
@@ -158,13 +158,9 @@ where
     requires lanes { All (L.is_lane opened.shop.line) opened.lanes.items }
     requires fresh_lanes { map L.lane_record opened.lanes.items ≡ fresh_lanes (length jobs.items) }
     requires all_lanes { opened.shop.line.sizes.lanes ≡ length jobs.items }
-    requires passes { All (λ w. L.is_pass opened.shop.line w.pass) opened.workers.items }
-    requires fresh { All (λ w. (L.pass_record w.pass).taken ≡ []) opened.workers.items }
-    requires stations { All (λ w. F.is_station opened.shop.floor w.station) opened.workers.items }
-    requires no_grants { All (λ w. F.grants w.station ≡ []) opened.workers.items }
+    requires workers { All (IsWorkerOf opened.shop) opened.workers.items }
     requires all_workers { length opened.workers.items ≡ opened.shop.line.sizes.passes }
-    requires closer { L.is_closer opened.shop.line opened.closer.line }
-    requires closer_room { opened.closer.room ≡ room_for opened.shop }
+    requires closer { IsCloserOf L.JobLine opened.shop opened.closer }
     requires ends { (room.ends.items ≡ [])
         × (length opened.workers.items ≤ vec_capacity room.ends) }
     requires fed { (room.fed.items ≡ []) × (length opened.lanes.items ≤ vec_capacity room.fed) }

@@ -4,7 +4,7 @@ ghost use Rattle.std.specs.List.{All};
 ghost use Rattle.std.specs.Vec.{vec_capacity};
 ghost use Rattle.job_queue.specs.Record.{accepted_jobs, fresh_lanes};
 ghost use Rattle.job_queue.specs.Line.{IsFor};
-ghost use Rattle.dispatcher.specs.Reply.{answered, IsRight};
+ghost use Rattle.dispatcher.specs.Members.{IsWorkerOf, IsEndOf};
 ghost use Rattle.dispatcher.specs.Stop.{given_back};
 ghost use Rattle.crew.specs.Run.{IsStopOf};
 
@@ -23,18 +23,11 @@ pub fn man_posts<J: Naming, L: JobLine, F: Floor>(
     mut workers: Vec<Worker<L, F>>,
     ends: &mut Vec<WorkerEnd<L, F>>,
 ) -> Vec<Mutex<Post<J, L, F>>>
-    requires passes { All (λ w. L.is_pass J.shop.line w.pass) workers.items }
-    requires stations { All (λ w. F.is_station J.shop.floor w.station) workers.items }
-    requires fresh { All (λ w. (L.pass_record w.pass).taken ≡ []) workers.items }
-    requires no_grants { All (λ w. F.grants w.station ≡ []) workers.items }
+    requires workers { All (IsWorkerOf J.shop) workers.items }
     requires empty { ends.old.items ≡ [] }
     requires room { length workers.items ≤ vec_capacity ends.old }
     ensures count { length result.items + length ends.new.items ≡ length workers.items }
-    ensures passes { All (λ e. L.is_pass J.shop.line e.pass) ends.new.items }
-    ensures stations { All (λ e. F.is_station J.shop.floor e.station) ends.new.items }
-    ensures replies { All (λ e. (L.pass_record e.pass).taken ≡ map answered e.replies.items)
-        ends.new.items }
-    ensures right { All (λ e. All (IsRight J.shop.floor.dim) e.replies.items) ends.new.items }
+    ensures ends { All (IsEndOf J.shop) ends.new.items }
     ensures room { length workers.items ≤ vec_capacity ends.new }
 {
     let mut posts = Vec::new(alloc);
@@ -54,17 +47,9 @@ pub fn relieve_posts<J: Naming, L: JobLine, F: Floor>(
     ends: &mut Vec<WorkerEnd<L, F>>,
 )
     requires room { length posts.items + length ends.old.items ≤ vec_capacity ends.old }
-    requires passes { All (λ e. L.is_pass J.shop.line e.pass) ends.old.items }
-    requires stations { All (λ e. F.is_station J.shop.floor e.station) ends.old.items }
-    requires replies { All (λ e. (L.pass_record e.pass).taken ≡ map answered e.replies.items)
-        ends.old.items }
-    requires right { All (λ e. All (IsRight J.shop.floor.dim) e.replies.items) ends.old.items }
+    requires ends { All (IsEndOf J.shop) ends.old.items }
     ensures count { length ends.new.items ≡ length posts.items + length ends.old.items }
-    ensures passes { All (λ e. L.is_pass J.shop.line e.pass) ends.new.items }
-    ensures stations { All (λ e. F.is_station J.shop.floor e.station) ends.new.items }
-    ensures replies { All (λ e. (L.pass_record e.pass).taken ≡ map answered e.replies.items)
-        ends.new.items }
-    ensures right { All (λ e. All (IsRight J.shop.floor.dim) e.replies.items) ends.new.items }
+    ensures ends { All (IsEndOf J.shop) ends.new.items }
 {
     while let Some(post) = posts.pop() {
         ends.push_reserved(post.into_inner().into_end(alloc));

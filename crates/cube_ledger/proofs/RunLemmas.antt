@@ -2,6 +2,7 @@
 use Rattle.std.proofs.Common.{◌≡◌, ℕ, List, [], ◌∷◌, refl, arith}
 use Rattle.std.specs.List.{AllByRecursion as Each}
 use Rattle.histories.specs.Sums.{total}
+use Rattle.cube_shape.specs.declared.region.Region.{Region}
 use Rattle.job_types.specs.Reply.{ReplyData}
 use Rattle.job_queue.specs.declared.record.QueuedJob.{QueuedJob}
 use Rattle.job_queue.specs.declared.record.LaneRecord.{LaneRecord}
@@ -21,8 +22,8 @@ module _ (n : ℕ) (weight : Slip → ℕ) (job_weight : QueuedJob → ℕ) (sam
   of_workers [] right = refl
   of_workers (replies ∷ by_worker) right = omega (arith, of_replies replies right.0, of_workers by_worker right.1)
 
-  pub slips_of_run : (lanes : List LaneRecord) (note : ℕ) (o : Outcome) (slips : List Slip) → FinishedRun n lanes note o → HasAllSlips o.by_worker o.rest slips → total weight slips ≡ total (λ l. total job_weight (accepted l.entries)) lanes
-  slips_of_run lanes note o slips run all = omega (
+  pub slips_of_run : (lanes : List LaneRecord) (grants : List (List Region)) (note : ℕ) (o : Outcome) (slips : List Slip) → FinishedRun n lanes grants note o → HasAllSlips o.by_worker o.rest slips → total weight slips ≡ total (λ l. total job_weight (accepted l.entries)) lanes
+  slips_of_run lanes grants note o slips run all = omega (
     arith,
     all weight,
     of_workers o.by_worker run.right,

@@ -2,3 +2,4 @@ pub mod WorkLemmas
 pub mod OpenLemmas
 pub mod FinishLemmas
 pub mod OnceLemmas
+pub mod GrantLemmas

@@ -1,7 +1,9 @@
 -- Facts of the parts of members, as facts of the members.
-use Rattle.std.proofs.Common.{◌≡◌, ◌∷◌, [], List, map, length, ℕ, zero, suc, length-append, refl, ap, ◌∙◌, arith}
+use Rattle.std.proofs.Common.{◌≡◌, ◌++◌, ◌∷◌, [], List, map, length, ℕ, zero, suc, length-append, append_assoc, refl, sym, ap, ◌∙◌, arith}
+use Rattle.std.proofs.lemmas.List.{map-append}
 use Rattle.std.specs.List.{All}
-use Rattle.std.proofs.lemmas.List.Elements.{All-nil, All-cons, All-head, All-tail, All-same}
+use Rattle.std.proofs.lemmas.List.Elements.{All-nil, All-cons, All-head, All-tail, All-same, All-push}
+use Rattle.job_queue.specs.declared.record.PassRecord.{PassRecord}
 use Rattle.job_queue.specs.Record.{fresh_pass, fresh_passes}
 
 -- what holds of each part holds of the part of each
@@ -20,3 +22,23 @@ map_twice {A} {B} {C} f g (x ∷ xs) = ap (λ (ys : List C). g (f x) ∷ ys) (ma
 pub passes_count : (count : ℕ) → length (fresh_passes count) ≡ count
 passes_count zero = refl
 passes_count (suc count) = length-append (fresh_passes count) (fresh_pass count ∷ []) ∙ omega (arith, passes_count count)
+
+-- what holds where two parts each have a fact of their own
+pub of_two_parts : {A B C : Type 0} (P : B → Type 0) (Q : C → Type 0) (R : A → Type 0) (f : A → B) (g : A → C) → ((x : A) → P (f x) → Q (g x) → R x) → (xs : List A) (ys : List B) (zs : List C) → map f xs ≡ ys → map g xs ≡ zs → All P ys → All Q zs → All R xs
+of_two_parts {A} {B} {C} P Q R f g both xs ys zs first second all_first all_second = joined xs (of_their_parts P f xs ys first all_first) (of_their_parts Q g xs zs second all_second)
+  where
+    joined : (ws : List A) → All (λ w. P (f w)) ws → All (λ w. Q (g w)) ws → All R ws
+    joined [] ps qs = All-nil R
+    joined (w ∷ ws) ps qs = All-cons R w ws (both w (All-head (λ v. P (f v)) w ws ps) (All-head (λ v. Q (g v)) w ws qs)) (joined ws (All-tail (λ v. P (f v)) w ws ps) (All-tail (λ v. Q (g v)) w ws qs))
+
+-- fresh passes have taken nothing
+pub none_taken : (count : ℕ) → All (λ (r : PassRecord). r.taken ≡ []) (fresh_passes count)
+none_taken zero = All-nil (λ (r : PassRecord). r.taken ≡ [])
+none_taken (suc count) = All-push (λ (r : PassRecord). r.taken ≡ []) (fresh_passes count) (fresh_pass count) (none_taken count) refl
+
+-- the part of one more member is no longer among the parts that are left
+pub moved : {A B : Type 0} (f : A → B) (all left rest : List B) (old new : List A) (x : A) → map f old ++ left ≡ all → left ≡ f x ∷ rest → new ≡ old ++ x ∷ [] → map f new ++ rest ≡ all
+moved {A} {B} f all left rest old new x start popped pushed =
+    ap (λ (xs : List A). map f xs ++ rest) pushed
+    ∙ (ap (λ (ys : List B). ys ++ rest) (map-append f old (x ∷ []))
+    ∙ (append_assoc (map f old) (f x ∷ []) rest ∙ (ap (λ (ys : List B). map f old ++ ys) (sym popped) ∙ start)))

@@ -1,13 +1,14 @@
 -- What a shop says once it has finished: the theorem on all of its jobs, replies and words.
-use Rattle.std.specs.Prelude.{◌≡◌, ℕ, ◌+◌, ◌*◌, ◌<◌, ◌≤◌, List, ◌++◌, map, length, slice_index}
+use Rattle.std.specs.Prelude.{◌≡◌, ℕ, ◌+◌, ◌*◌, ◌<◌, ◌≤◌, List, [], ◌∷◌, ◌++◌, map, length, slice_index}
 use Rattle.std.specs.List.{AllByRecursion as Each}
 use Rattle.histories.specs.Sums.{total, is_at}
+use Rattle.cube_shape.specs.declared.region.Region.{Region}
 use Rattle.job_types.specs.Reply.{ReplyData}
 use Rattle.job_queue.specs.declared.record.QueuedJob.{QueuedJob}
 use Rattle.job_queue.specs.declared.record.LaneRecord.{LaneRecord}
 use Rattle.job_queue.specs.Record.{accepted, AreSeqs, Rises}
 use Rattle.floors.specs.Floor.{IsWhollyFree}
-use Rattle.dispatcher.specs.Reply.{answered, IsRight}
+use Rattle.dispatcher.specs.Reply.{answered, region_of, IsRight}
 use Rattle.dispatcher.specs.declared.finishing.Finished.{Finished}
 
 -- what `finish` answers: the replies of each worker and those to the jobs that no worker took, the number
@@ -38,9 +39,15 @@ is_to lane seq reply = is_at lane reply.id.lane * is_at seq reply.id.seq
 abbrev pub replies_to : ℕ → ℕ → Outcome → ℕ
 replies_to lane seq o = total (total (is_to lane seq)) o.by_worker + total (is_to lane seq) o.rest
 
--- The theorem, for the machine's dimension, the records of all lanes, the number of the close note and
--- what `finish` answers.
-pub record FinishedRun (n : ℕ) (lanes : List LaneRecord) (note : ℕ) (o : Outcome) : Type 0 where
+-- the lists, with these members behind those of the last one
+abbrev pub with_last : {A : Type 0} → List (List A) → List A → List (List A)
+with_last [] more = []
+with_last (xs ∷ []) more = (xs ++ more) ∷ []
+with_last (xs ∷ ys ∷ lists) more = xs ∷ with_last (ys ∷ lists) more
+
+-- The theorem, for the machine's dimension, the records of all lanes, the regions that each station was
+-- granted, the number of the close note and what `finish` answers.
+pub record FinishedRun (n : ℕ) (lanes : List LaneRecord) (grants : List (List Region)) (note : ℕ) (o : Outcome) : Type 0 where
   -- However the jobs are weighed, those that were accepted weigh what was answered: an accepted job was
   -- taken at most once, and each has exactly one reply, with the id and the job of its acceptance.
   pub balance : (weight : QueuedJob → ℕ) → total (λ l. total weight (accepted l.entries)) lanes ≡ total (weight_of weight) o.by_worker + weight_of weight o.rest
@@ -55,6 +62,11 @@ pub record FinishedRun (n : ℕ) (lanes : List LaneRecord) (note : ℕ) (o : Out
   pub rest_rises : Rises (map answered o.rest)
   -- none that entered after the close: each entry's number is below the note's
   pub entered_before : Each (λ l. Each (λ e. e.number < note) l.entries) lanes
+  -- the close number is the count of all entries
+  pub close_number : note ≡ total (λ l. length l.entries) lanes
+  -- ran on a subcube that was granted: the regions of each worker's replies, and behind those of the last
+  -- worker the ones of the rest, are in order all that its station was granted
+  pub granted : grants ≡ with_last (map (map region_of) o.by_worker) (map region_of o.rest)
   -- each reply is right
   pub right : Each (Each (IsRight n)) o.by_worker
   pub rest_right : Each (IsRight n) o.rest

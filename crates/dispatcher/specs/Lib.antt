@@ -4,3 +4,4 @@ pub mod Stop
 pub mod Opening
 pub mod Finished
 pub mod InnerShop
+pub mod Members

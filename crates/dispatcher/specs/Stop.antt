@@ -1,6 +1,7 @@
 -- What a worker or a feeder found last.
 use Rattle.std.specs.Prelude.{◌≡◌, ◌++◌, [], ◌∷◌, List, Option, Some, None}
 use Rattle.job_types.specs.Job.{JobData}
+use Rattle.job_queue.specs.declared.record.PassRecord.{PassRecord}
 use Rattle.job_queue.specs.declared.record.Reading.{Reading}
 use Rattle.job_queue.specs.Record.{Seals}
 
@@ -8,9 +9,11 @@ use Rattle.job_queue.specs.Record.{Seals}
 abbrev pub EndsWith : {A : Type 0} → List A → A → Type 0
 EndsWith {A} xs x = (before : List A) × (xs ≡ before ++ x ∷ [])
 
--- the last reading shows the line closed and every entry settled
-abbrev pub EndsWithSeal : List Reading → Type 0
-EndsWithSeal readings = (r : Reading) × EndsWith readings r × Seals r
+-- From one record of a pass to the next one the pass took no job, and read that the line is closed and
+-- every entry settled.
+pub record FindsTheEnd (before after : PassRecord) : Type 0 where
+  pub none_taken : after.taken ≡ before.taken
+  pub seal : (r : Reading) × (after.readings ≡ before.readings ++ r ∷ []) × Seals r
 
 -- the job that came back, if one did
 abbrev pub given_back : Option JobData → List JobData

@@ -1,14 +1,14 @@
 //! What a worker does.
-ghost use Rattle.std.specs.Prelude.{◌≡◌, ◌≤◌, ◌++◌, [], map, length};
-ghost use Rattle.std.specs.List.{All};
-ghost use Rattle.std.specs.Vec.{vec_capacity};
-ghost use Rattle.dispatcher.specs.Reply.{answered, region_of, IsRight};
-ghost use Rattle.dispatcher.specs.Stop.{EndsWithSeal};
+ghost use Rattle.std.specs.Prelude.{◌≡◌, ◌≢◌};
+ghost use Rattle.dispatcher.specs.Members.{IsWorkerOf, IsEndOf, stop_of, end_record};
+ghost use Rattle.dispatcher.specs.Stop.{FindsTheEnd};
 
 use crate::pause::Pause;
 use crate::runner::Runner;
 use crate::serving::serve;
-use crate::shop::{Shop, Stop, Worker, WorkerEnd};
+use crate::shop::Shop;
+use crate::stop::Stop;
+use crate::worker::{Worker, WorkerEnd};
 use floors::Floor;
 use job_queue::{JobLine, Taken};
 use std::alloc::Global;
@@ -16,9 +16,9 @@ use std::sync::Wait;
 
 /// Takes jobs and answers each on a subcube of its own, until the line has ended.
 ///
-/// Its replies are those to the jobs that its pass has taken in this call, in that order, and the
-/// regions of these are what its station was granted. Room for a reply is reserved before its job is
-/// taken: where that is refused the worker stops with `OutOfMemory`, and no taken job is lost.
+/// Room for a reply is reserved before its job is taken: where that is refused the worker stops with
+/// `OutOfMemory`, and no taken job is lost. It stops with `Ended` where its last take found the line
+/// ended. What its replies are is said by the type `WorkerEnd`.
 pub fn dispatch<R: Wait, L: JobLine, F: Floor, T: Runner>(
     rt: &R,
     alloc: Global,
@@ -26,20 +26,11 @@ pub fn dispatch<R: Wait, L: JobLine, F: Floor, T: Runner>(
     worker: Worker<L, F>,
     runner: &T,
 ) -> WorkerEnd<L, F>
-    requires pass { L.is_pass shop.now.line worker.pass }
-    requires station { F.is_station shop.now.floor worker.station }
-    ensures pass { L.is_pass shop.now.line result.pass }
-    ensures station { F.is_station shop.now.floor result.station }
-    ensures replies { (L.pass_record result.pass).taken
-        ≡ (L.pass_record worker.pass).taken ++ map answered result.replies.items }
-    ensures granted { F.grants result.station
-        ≡ F.grants worker.station ++ map region_of result.replies.items }
-    ensures right { All (IsRight shop.now.floor.dim) result.replies.items }
-    ensures ended { result.stop ≡ Stop.Ended →
-        EndsWithSeal (L.pass_record result.pass).readings }
-    ensures no_room { result.stop ≡ Stop.OutOfMemory →
-        vec_capacity result.replies ≤ length result.replies.items }
-    ensures stop { result.stop ≡ Stop.NotRun → ⊥ }
+    requires { IsWorkerOf shop.now worker }
+    ensures of_shop { IsEndOf shop.now result }
+    ensures ended { stop_of result ≡ Stop.Ended → (before : L.Pass) ×
+        L.is_pass shop.now.line before × FindsTheEnd (L.pass_record before) (end_record result) }
+    ensures has_run { stop_of result ≢ Stop.NotRun }
 {
     let Worker {
         mut pass,

@@ -1,17 +1,19 @@
 //! The end of a shop.
-ghost use Rattle.std.specs.Prelude.{◌≡◌, ℕ, ◌<◌, ◌≤◌, [], map, length};
+ghost use Rattle.std.specs.Prelude.{◌≡◌, ℕ, ◌<◌, ◌≤◌, List, [], map, length};
 ghost use Rattle.std.specs.List.{All};
 ghost use Rattle.std.specs.Vec.{vec_capacity};
 ghost use Rattle.histories.specs.Sums.{times};
 ghost use Rattle.job_queue.specs.Line.{IsMadeFor};
-ghost use Rattle.dispatcher.specs.Shop.{room_for};
-ghost use Rattle.dispatcher.specs.Reply.{answered, IsRight};
-ghost use Rattle.dispatcher.specs.Finished.{outcome, FinishedRun};
+ghost use Rattle.dispatcher.specs.Reply.{answered, region_of, IsRight};
+ghost use Rattle.dispatcher.specs.Members.{IsEndOf, IsNoteOf, replies_of, close_number_of};
+ghost use Rattle.dispatcher.specs.Finished.{with_last, outcome, FinishedRun};
 
+use crate::closing::CloseNote;
 use crate::room::Gathered;
 use crate::runner::Runner;
 use crate::serving::serve;
-use crate::shop::{CloseNote, Shop, WorkerEnd};
+use crate::shop::Shop;
+use crate::worker::WorkerEnd;
 use floors::Floor;
 use job_queue::{JobLine, QueuedJob, Rest};
 use job_types::Reply;
@@ -48,6 +50,8 @@ fn answer_rest<R: Wait, F: Floor, T: Runner>(
     ensures count { length result.0.items ≡ length stations.items }
     ensures stations { All (F.is_station (F.id floor.now)) result.0.items }
     ensures answers { map answered result.1.items ≡ jobs.items }
+    ensures granted { map F.grants result.0.items
+        ≡ with_last (map F.grants stations.items) (map region_of result.1.items) }
     ensures right { All (IsRight (F.id floor.now).dim) result.1.items }
 {
     let Some(mut station) = stations.pop() else {
@@ -79,18 +83,15 @@ impl<L: JobLine, F: Floor> Shop<L, F> {
     ) -> Finished<F::Machine>
         requires lanes { All (L.is_lane self.line) lanes.items }
         requires all_lanes { length lanes.items ≡ self.line.sizes.lanes }
-        requires passes { All (λ e. L.is_pass self.line e.pass) ends.items }
-        requires stations { All (λ e. F.is_station self.floor e.station) ends.items }
+        requires workers { All (IsEndOf self) ends.items }
         requires all_workers { length ends.items ≡ self.line.sizes.passes }
-        requires replies { All (λ e.
-            (L.pass_record e.pass).taken ≡ map answered e.replies.items) ends.items }
-        requires right { All (λ e. All (IsRight self.floor.dim) e.replies.items) ends.items }
-        requires note { L.is_note self.line note.line }
-        requires room { note.room ≡ room_for self }
-        ensures finished { FinishedRun self.floor.dim (map L.lane_record lanes.items)
-            (L.note_number note.line) (outcome F.machine_words result) }
+        requires note { IsNoteOf L.JobLine self note }
+        ensures finished { (stations : List F.Station) × All (F.is_station self.floor) stations
+            × (length stations ≡ self.floor.stations)
+            × FinishedRun self.floor.dim (map L.lane_record lanes.items) (map F.grants stations)
+            (close_number_of L.JobLine note) (outcome F.machine_words result) }
         ensures by_worker { map (λ replies. replies.items) result.by_worker.items
-            ≡ map (λ e. e.replies.items) ends.items }
+            ≡ map replies_of ends.items }
         ensures lane_numbers { (k : ℕ) → k < self.line.sizes.lanes →
             times k (map (λ l. (L.lane_record l).number) lanes.items) ≡ 1 }
         ensures lane_count { length result.accepted.items ≡ self.line.sizes.lanes }

@@ -6,6 +6,7 @@
 //! line, any floor and any runner, from their traits alone.
 #![tactic(auto)]
 
+mod closing;
 mod dispatching;
 mod feeding;
 mod finishing;
@@ -15,11 +16,15 @@ mod room;
 mod runner;
 mod serving;
 mod shop;
+mod stop;
+mod worker;
 
+pub use closing::{CloseNote, Closer};
 pub use dispatching::dispatch;
 pub use feeding::{FeedEnd, FeedStop, feed};
 pub use finishing::Finished;
 pub use opening::{Opened, ShopRefused, refusal};
-pub use room::Room;
 pub use runner::{Plain, Runner};
-pub use shop::{CloseNote, Closer, Shop, Stop, Worker, WorkerEnd};
+pub use shop::Shop;
+pub use stop::Stop;
+pub use worker::{Worker, WorkerEnd};

@@ -4,10 +4,13 @@ ghost use Rattle.std.specs.List.{All};
 ghost use Rattle.std.specs.Vec.{vec_capacity};
 ghost use Rattle.job_queue.specs.Record.{fresh_lanes, fresh_passes};
 ghost use Rattle.dispatcher.specs.Opening.{refusal_of};
-ghost use Rattle.dispatcher.specs.Shop.{HasSizes, room_for};
+ghost use Rattle.dispatcher.specs.Shop.{HasSizes};
+ghost use Rattle.dispatcher.specs.Members.{IsWorkerOf, IsCloserOf, worker_record};
 
+use crate::closing::Closer;
 use crate::room::Room;
-use crate::shop::{Closer, Shop, Worker};
+use crate::shop::Shop;
+use crate::worker::Worker;
 use cube_shape::{MAX_CAPACITY, MAX_DIM, MAX_DISPATCHERS, MAX_LANES};
 use floors::Floor;
 use job_queue::{JobLine, Sizes};
@@ -72,6 +75,8 @@ fn pair_up<L: JobLine, F: Floor>(
     mut workers: Vec<Worker<L, F>>,
 ) -> Vec<Worker<L, F>>
     requires beside { length passes.items ≡ length stations.items }
+    requires none_taken { All (λ p. (L.pass_record p).taken ≡ []) passes.items }
+    requires none_granted { All (λ s. F.grants s ≡ []) stations.items }
     requires empty { workers.items ≡ [] }
     requires room { length passes.items ≤ vec_capacity workers }
     ensures passes { map (λ w. w.pass) result.items ≡ passes.items }
@@ -115,16 +120,10 @@ impl<L: JobLine, F: Floor> Shop<L, F> {
         ensures lanes { IfOk result (λ made. All (L.is_lane made.shop.line) made.lanes.items) }
         ensures fresh_lanes { IfOk result (λ made.
             map L.lane_record made.lanes.items ≡ fresh_lanes lanes) }
-        ensures passes { IfOk result (λ made.
-            All (λ w. L.is_pass made.shop.line w.pass) made.workers.items) }
+        ensures workers { IfOk result (λ made. All (IsWorkerOf made.shop) made.workers.items) }
         ensures fresh_passes { IfOk result (λ made.
-            map (λ w. L.pass_record w.pass) made.workers.items ≡ fresh_passes dispatchers) }
-        ensures stations { IfOk result (λ made.
-            All (λ w. F.is_station made.shop.floor w.station) made.workers.items) }
-        ensures no_grants { IfOk result (λ made.
-            All (λ w. F.grants w.station ≡ []) made.workers.items) }
-        ensures closer { IfOk result (λ made. L.is_closer made.shop.line made.closer.line) }
-        ensures room { IfOk result (λ made. made.closer.room ≡ room_for made.shop) }
+            map worker_record made.workers.items ≡ fresh_passes dispatchers) }
+        ensures closer { IfOk result (λ made. IsCloserOf L.JobLine made.shop made.closer) }
     {
         if let Some(refused) = refusal(n, lanes, dispatchers, capacity) {
             return Err(refused);

@@ -2,7 +2,7 @@
 ghost use Rattle.std.specs.Prelude.{◌≡◌, ◌≤◌, [], IfOk, map, length};
 ghost use Rattle.std.specs.Vec.{vec_capacity};
 
-use crate::shop::WorkerEnd;
+use crate::worker::WorkerEnd;
 use floors::Floor;
 use job_queue::JobLine;
 use job_types::Reply;

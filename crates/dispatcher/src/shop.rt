@@ -1,14 +1,14 @@
-//! The shop: a line of jobs and the floor of their machine, and those who work in it.
-ghost use Rattle.std.specs.Prelude.{◌≡◌, ℕ, ◌≤◌, [], Some, Err, IfOk, IfErr, length};
+//! The shop: a line of jobs and the floor of their machine.
+ghost use Rattle.std.specs.Prelude.{◌≡◌, ◌≤◌, Some, Err, IfOk, IfErr, length};
 ghost use Rattle.job_queue.specs.Record.{queued, IsSettled};
 ghost use Rattle.job_queue.specs.Line.{next_id, GainsEntry, GainsRefusal};
+ghost use Rattle.dispatcher.specs.Members.{IsCloserOf, IsNoteOf};
 
-use crate::room::Room;
+use crate::closing::{CloseNote, Closer};
 use cube_shape::MAX_ENTRIES;
 use floors::Floor;
 use job_queue::{JobLine, Receipt, Refused};
-use job_types::{Job, Reply};
-use std::alloc::Global;
+use job_types::Job;
 use std::marker::Model;
 use std::sync::Wait;
 
@@ -27,80 +27,6 @@ impl<L: JobLine, F: Floor> Model for Shop<L, F> {
     ghost view = { λ s. record { line = L.id s.line; floor = F.id s.floor } };
 
     ghost invariant = { λ s. IsOneMachine (L.id s.line) (F.id s.floor) };
-}
-
-/// One who takes jobs and answers them: a pass of the line and a station of the floor.
-pub struct Worker<L: JobLine, F: Floor> {
-    /// By which it takes jobs.
-    pub pass: L::Pass,
-    /// By which it takes subcubes.
-    pub station: F::Station,
-}
-
-/// Why a worker has stopped.
-#[derive(Clone, Copy, Debug, PartialEq, Eq, Hash)]
-pub enum Stop {
-    /// The line has ended: it is closed and no job is left in it.
-    Ended,
-    /// There was no memory for one more reply. No job was taken for it.
-    OutOfMemory,
-    /// It was never run.
-    NotRun,
-}
-
-/// A worker that has stopped, with its replies.
-pub struct WorkerEnd<L: JobLine, F: Floor> {
-    /// Its pass.
-    pub pass: L::Pass,
-    /// Its station, which holds nothing.
-    pub station: F::Station,
-    /// Its replies, in the order in which it took their jobs.
-    pub replies: Vec<Reply>,
-    /// Why it has stopped.
-    pub stop: Stop,
-}
-
-/// The right to close the shop.
-pub struct Closer<L: JobLine, F: Floor> {
-    /// The right to close the line.
-    pub line: L::Closer,
-    /// The room for what `finish` answers.
-    pub room: Room<L, F>,
-}
-
-/// Shows that the shop is closed.
-pub struct CloseNote<L: JobLine, F: Floor> {
-    /// Shows that the line is closed.
-    pub line: L::Note,
-    /// The room for what `finish` answers.
-    pub room: Room<L, F>,
-}
-
-impl<L: JobLine, F: Floor> Worker<L, F> {
-    /// Ends a worker that is not to run.
-    pub fn stand_down(self, alloc: Global) -> WorkerEnd<L, F>
-        ensures pass { result.pass ≡ self.pass }
-        ensures station { result.station ≡ self.station }
-        ensures replies { result.replies.items ≡ [] }
-        ensures stop { result.stop ≡ Stop.NotRun }
-    {
-        let Worker { pass, station } = self;
-        WorkerEnd {
-            pass,
-            station,
-            replies: Vec::new(alloc),
-            stop: Stop::NotRun,
-        }
-    }
-}
-
-impl<L: JobLine, F: Floor> CloseNote<L, F> {
-    /// The close number: how many entries came before the close.
-    pub fn number(&self) -> u64
-        ensures { result ≡ L.note_number self.now.line }
-    {
-        L::close_number(&self.line)
-    }
 }
 
 impl<L: JobLine, F: Floor> Shop<L, F> {
@@ -132,9 +58,8 @@ impl<L: JobLine, F: Floor> Shop<L, F> {
 
     /// Closes the shop: no job enters its line after this.
     pub fn close<R: Wait>(&self, rt: &R, closer: Closer<L, F>) -> CloseNote<L, F>
-        requires { L.is_closer self.now.line closer.line }
-        ensures note { L.is_note self.now.line result.line }
-        ensures room { result.room ≡ closer.room }
+        requires { IsCloserOf L.JobLine self.now closer }
+        ensures { IsNoteOf L.JobLine self.now result }
     {
         let Closer { line, room } = closer;
         CloseNote {

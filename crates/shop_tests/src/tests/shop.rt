@@ -237,7 +237,7 @@ fn feed_and_dispatch<R: Wait, L: JobLine, F: Floor>(
     let note = shop.close(rt, closer);
     let late = feed_lane(rt, &shop, &mut lane, late_jobs);
     let end = dispatch(rt, alloc, &shop, worker, &Plain);
-    let stop = end.stop;
+    let stop = end.stop();
     Run {
         fed,
         late,

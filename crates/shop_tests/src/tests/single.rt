@@ -1,9 +1,7 @@
 //! A shop of one lane and one worker, whose members are out of their lists.
-ghost use Rattle.std.specs.Prelude.{◌≡◌, ◌≤◌, [], IfOk, map};
-ghost use Rattle.std.specs.List.{All};
+ghost use Rattle.std.specs.Prelude.{◌≡◌, ◌≤◌, [], IfOk};
 ghost use Rattle.std.specs.Vec.{vec_capacity};
-ghost use Rattle.dispatcher.specs.Reply.{answered, IsRight};
-ghost use Rattle.dispatcher.specs.Shop.{room_for};
+ghost use Rattle.dispatcher.specs.Members.{IsEndOf, IsNoteOf};
 
 use crate::tests::members::{only, sole};
 use dispatcher::{
@@ -28,18 +26,18 @@ pub struct Single<L: JobLine, F: Floor> {
 impl<L: JobLine, F: Floor> Model for Single<L, F> {
     ghost use Rattle.std.specs.Prelude.{◌≡◌, ◌≤◌, []};
     ghost use Rattle.std.specs.Vec.{vec_capacity};
-    ghost use Rattle.job_queue.specs.Record.{fresh_lane, fresh_pass};
-    ghost use Rattle.dispatcher.specs.Shop.{ShopId, room_for};
+    ghost use Rattle.job_queue.specs.Record.{fresh_lane};
+    ghost use Rattle.dispatcher.specs.Shop.{ShopId};
+    ghost use Rattle.dispatcher.specs.Members.{IsWorkerOf, IsCloserOf};
 
     ghost Value = { ShopId };
 
     ghost view = { λ s. s.shop };
 
     ghost invariant = { λ s. L.is_lane s.shop.line s.lane × (L.lane_record s.lane ≡ fresh_lane 0)
-        × L.is_pass s.shop.line s.worker.pass × (L.pass_record s.worker.pass ≡ fresh_pass 0)
-        × F.is_station s.shop.floor s.worker.station
+        × IsWorkerOf s.shop s.worker
         × (s.shop.line.sizes.lanes ≡ 1) × (s.shop.line.sizes.passes ≡ 1)
-        × L.is_closer s.shop.line s.closer.line × (s.closer.room ≡ room_for s.shop)
+        × IsCloserOf L.JobLine s.shop s.closer
         × (s.lanes.items ≡ []) × (1 ≤ vec_capacity s.lanes)
         × (s.ends.items ≡ []) × (1 ≤ vec_capacity s.ends) };
 }
@@ -91,14 +89,10 @@ pub fn finish<R: Wait, L: JobLine, F: Floor>(
     requires lane { L.is_lane shop.line lane.0 }
     requires one_lane { shop.line.sizes.lanes ≡ 1 }
     requires lane_room { (lane.1.items ≡ []) × (1 ≤ vec_capacity lane.1) }
-    requires pass { L.is_pass shop.line end.0.pass }
-    requires station { F.is_station shop.floor end.0.station }
+    requires worker { IsEndOf shop end.0 }
     requires one_worker { shop.line.sizes.passes ≡ 1 }
-    requires replies { (L.pass_record end.0.pass).taken ≡ map answered end.0.replies.items }
-    requires right { All (IsRight shop.floor.dim) end.0.replies.items }
     requires end_room { (end.1.items ≡ []) × (1 ≤ vec_capacity end.1) }
-    requires note { L.is_note shop.line note.line }
-    requires room { note.room ≡ room_for shop }
+    requires note { IsNoteOf L.JobLine shop note }
 {
     let (lane, lanes) = lane;
     let (end, ends) = end;

@@ -1,27 +1,23 @@
-use Rattle.std.proofs.Common.{◌≡◌, ℕ, [], map, length, slice_index_or, sym, ap, subst, ◌∙◌, arith}
+use Rattle.std.proofs.Common.{ℕ, [], map, length, slice_index_or, sym, ap, subst, ◌∙◌, arith}
 use Rattle.std.specs.List.{All}
 use Rattle.std.proofs.lemmas.List.{length-map}
-use Rattle.job_queue.specs.declared.record.PassRecord.{PassRecord}
 use Rattle.job_queue.specs.Line.{IsFor}
-use Rattle.dispatcher.proofs.OpenLemmas.{of_their_parts, passes_count}
-use Rattle.crew.proofs.RunLemmas.{lanes_count, none_taken}
+use Rattle.dispatcher.specs.Members.{worker_record}
+use Rattle.dispatcher.proofs.OpenLemmas.{passes_count}
+use Rattle.crew.proofs.RunLemmas.{lanes_count}
 use Rattle.crew.proofs.running.run.Goals as goal
 
 pub run_named-requires-clause-made_for : goal.run_named-requires-clause-made_for
 run_named-requires-clause-made_for g c κs within = λ k below.
     subst (λ (m : ℕ). All (IsFor m k) (slice_index_or (map (λ js. js.items) c.args.jobs.items) k [])) (sym c.in-Ok-open.ensures.sizes.machine) (c.requires.made_for k below)
 
-pub run_named-requires-clause-fresh : goal.run_named-requires-clause-fresh
-run_named-requires-clause-fresh g c κs within =
-    of_their_parts (λ (r : PassRecord). r.taken ≡ []) (λ w. g.L.JobLine.pass_record w.pass) c.in-Ok-open.opened.workers.items _ c.in-Ok-open.ensures.fresh_passes (none_taken c.args.dispatchers)
-
 pub run_named-requires-clause-all_workers : goal.run_named-requires-clause-all_workers
 run_named-requires-clause-all_workers g c κs within =
-    sym (length-map c.in-Ok-open.opened.workers.items (λ w. g.L.JobLine.pass_record w.pass)) ∙ (ap length c.in-Ok-open.ensures.fresh_passes ∙ (passes_count c.args.dispatchers ∙ sym c.in-Ok-open.ensures.sizes.workers))
+    sym (length-map c.in-Ok-open.opened.workers.items worker_record) ∙ (ap length c.in-Ok-open.ensures.fresh_passes ∙ (passes_count c.args.dispatchers ∙ sym c.in-Ok-open.ensures.sizes.workers))
 
 pub run_named-requires-clause-ends : goal.run_named-requires-clause-ends
 run_named-requires-clause-ends g c κs within =
-    let count = sym (length-map c.in-Ok-open.opened.workers.items (λ w. g.L.JobLine.pass_record w.pass)) ∙ (ap length c.in-Ok-open.ensures.fresh_passes ∙ passes_count c.args.dispatchers) in
+    let count = sym (length-map c.in-Ok-open.opened.workers.items worker_record) ∙ (ap length c.in-Ok-open.ensures.fresh_passes ∙ passes_count c.args.dispatchers) in
     (c.in-Ok.ensures.ends.0, omega (arith, count, c.in-Ok.ensures.ends.1))
 
 pub run_named-requires-clause-fed : goal.run_named-requires-clause-fed

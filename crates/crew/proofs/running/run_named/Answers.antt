@@ -6,7 +6,7 @@ use Rattle.histories.specs.Sums.{times}
 use Rattle.job_queue.specs.declared.record.LaneRecord.{LaneRecord}
 use Rattle.job_queue.specs.Record.{accepted, accepted_jobs}
 use Rattle.dispatcher.specs.Shop.{ShopId}
-use Rattle.dispatcher.specs.Reply.{IsRight}
+use Rattle.dispatcher.specs.Members.{IsWorkerOf, IsEndOf, replies_of}
 use Rattle.dispatcher.specs.Stop.{given_back}
 use Rattle.dispatcher.specs.Finished.{FinishedRun, outcome}
 use Rattle.dispatcher.proofs.WorkLemmas.{at_line, at_floor}
@@ -15,11 +15,8 @@ use Rattle.crew.specs.Run.{UnfedJobs, unfed_by, IsStopOf}
 use Rattle.crew.proofs.RunLemmas.{lanes_count, all_fed, all_stopped, all_counted}
 use Rattle.crew.proofs.running.run_named.Goals as goal
 
-pub man_posts-posts-requires-clause-passes : goal.man_posts-posts-requires-clause-passes
-man_posts-posts-requires-clause-passes g c = at_line (λ i. All (λ w. g.L.JobLine.is_pass i w.pass) c.args.opened.workers.items) _ _ c.requires.shop c.requires.passes
-
-pub man_posts-posts-requires-clause-stations : goal.man_posts-posts-requires-clause-stations
-man_posts-posts-requires-clause-stations g c = at_floor (λ i. All (λ w. g.F.Floor.is_station i w.station) c.args.opened.workers.items) _ _ c.requires.shop c.requires.stations
+pub man_posts-posts-requires-clause-workers : goal.man_posts-posts-requires-clause-workers
+man_posts-posts-requires-clause-workers g c = subst (λ (s : ShopId). All (IsWorkerOf s) c.args.opened.workers.items) c.requires.shop c.requires.workers
 
 pub man_feeders-feeders-requires-clause-lanes : goal.man_feeders-feeders-requires-clause-lanes
 man_feeders-feeders-requires-clause-lanes g c = at_line (λ i. All (g.L.JobLine.is_lane i) c.args.opened.lanes.items) _ _ c.requires.shop c.requires.lanes
@@ -40,14 +37,8 @@ finish-requires-clause-all_lanes g c =
     let given = sym (length-map opened g.L.JobLine.lane_record) ∙ (ap length c.requires.fresh_lanes ∙ lanes_count (length c.args.jobs.items)) in
     ap length c.part-lanes.ensures.lanes ∙ (length-map c.relieve_feeders.new.fed.items (λ f. f.lane) ∙ (c.relieve_feeders.ensures.count ∙ (c.man_feeders-feeders.ensures.count ∙ (given ∙ sym c.requires.all_lanes))))
 
-pub finish-requires-clause-passes : goal.finish-requires-clause-passes
-finish-requires-clause-passes g c = at_line (λ i. All (λ e. g.L.JobLine.is_pass i e.pass) c.relieve_posts.new.ends.items) _ _ (sym c.requires.shop) c.relieve_posts.ensures.passes
-
-pub finish-requires-clause-stations : goal.finish-requires-clause-stations
-finish-requires-clause-stations g c = at_floor (λ i. All (λ e. g.F.Floor.is_station i e.station) c.relieve_posts.new.ends.items) _ _ (sym c.requires.shop) c.relieve_posts.ensures.stations
-
-pub finish-requires-clause-right : goal.finish-requires-clause-right
-finish-requires-clause-right g c = at_floor (λ i. All (λ e. All (IsRight i.dim) e.replies.items) c.relieve_posts.new.ends.items) _ _ (sym c.requires.shop) c.relieve_posts.ensures.right
+pub finish-requires-clause-workers : goal.finish-requires-clause-workers
+finish-requires-clause-workers g c = subst (λ (s : ShopId). All (IsEndOf s) c.relieve_posts.new.ends.items) (sym c.requires.shop) c.relieve_posts.ensures.ends
 
 pub returns-clause-run : goal.returns-clause-run
 returns-clause-run g c =
@@ -62,8 +53,9 @@ returns-clause-run g c =
     let by_lane = subst (λ ls. AllZip Own (map line.lane_record ls) (map (λ f. unfed_by (line.lane_record f.lane).number (given_back f.back ++ f.left.items) f.stop) fed)) (sym c.part-lanes.ensures.lanes) together in
     record {
       lanes = map line.lane_record lanes;
+      grants = map g.F.Floor.grants c.finish.ensures.finished.0;
       note = line.note_number c.into_note-note.result.line;
-      finished = at_floor (λ i. FinishedRun i.dim (map line.lane_record lanes) (line.note_number c.into_note-note.result.line) (outcome g.F.Floor.machine_words c.finish.result)) _ _ c.requires.shop c.finish.ensures.finished;
+      finished = at_floor (λ i. FinishedRun i.dim (map line.lane_record lanes) (map g.F.Floor.grants c.finish.ensures.finished.0) (line.note_number c.into_note-note.result.line) (outcome g.F.Floor.machine_words c.finish.result)) _ _ c.requires.shop c.finish.ensures.finished.3;
       fed = subst (λ us. AllZip Own (map line.lane_record lanes) us) (sym c.part-lanes.ensures.unfed) by_lane;
       stops = subst (λ us. AllZip (λ (l : LaneRecord) (u : UnfedJobs). IsStopOf l u.jobs u.stop) (map line.lane_record lanes) us) (sym c.part-lanes.ensures.unfed)
           (subst (λ ls. AllZip (λ (l : LaneRecord) (u : UnfedJobs). IsStopOf l u.jobs u.stop) (map line.lane_record ls) (map (λ f. unfed_by (line.lane_record f.lane).number (given_back f.back ++ f.left.items) f.stop) fed)) (sym c.part-lanes.ensures.lanes)
@@ -75,7 +67,7 @@ pub returns-clause-workers : goal.returns-clause-workers
 returns-clause-workers g c =
     let ends = c.relieve_posts.new.ends.items in
     let passes = ap (λ (shop : ShopId). shop.line.sizes.passes) c.requires.shop in
-    omega (arith, sym (length-map c.finish.result.by_worker.items (λ v. v.items)), ap length c.finish.ensures.by_worker, length-map ends (λ e. e.replies.items), c.relieve_posts.ensures.count, c.man_posts-posts.ensures.count, c.requires.all_workers, passes)
+    omega (arith, sym (length-map c.finish.result.by_worker.items (λ v. v.items)), ap length c.finish.ensures.by_worker, length-map ends replies_of, c.relieve_posts.ensures.count, c.man_posts-posts.ensures.count, c.requires.all_workers, passes)
 
 pub returns-clause-started : goal.returns-clause-started
 returns-clause-started g c = (rw c.deref.ensures.value at c.were_all_run-all_started.ensures)
@@ -90,7 +82,7 @@ returns-clause-counts g c =
     let Sums : UnfedJobs → Type 0 = λ u. get_or counts u.lane 0 + length u.jobs ≡ length (get_or jobs u.lane []) in
     let own = All-weaker (λ f. accepted_jobs (line.lane_record f.lane) ++ given_back f.back ++ f.left.items ≡ g.J.Naming.jobs (line.lane_record f.lane).number) (λ f. accepted_jobs (line.lane_record f.lane) ++ given_back f.back ++ f.left.items ≡ get_or jobs (line.lane_record f.lane).number [])
     (λ f own. own ∙ sym (c.requires.jobs (line.lane_record f.lane).number)) fed c.relieve_feeders.ensures.jobs in
-    let counted = subst (All (λ l. get_or counts (line.lane_record l).number 0 ≡ length (accepted (line.lane_record l).entries))) c.part-lanes.ensures.lanes (of_parts Counted line.lane_record c.part-lanes.result.0.items (All-from_recursion Counted _ c.finish.ensures.finished.counts)) in
+    let counted = subst (All (λ l. get_or counts (line.lane_record l).number 0 ≡ length (accepted (line.lane_record l).entries))) c.part-lanes.ensures.lanes (of_parts Counted line.lane_record c.part-lanes.result.0.items (All-from_recursion Counted _ c.finish.ensures.finished.3.counts)) in
     record {
       lanes = c.finish.ensures.lane_count ∙ (c.requires.all_lanes ∙ sym (length-map c.args.jobs.items (λ js. js.items)));
       sums = subst (All Sums) (sym c.part-lanes.ensures.unfed) (all_counted (λ f. f.lane) line.lane_record (λ f. given_back f.back) (λ f. f.left.items) (λ f. f.stop) (λ k. get_or jobs k []) counts fed own counted);

@@ -1,12 +1,8 @@
-use Rattle.std.proofs.Common.{◌++◌, List, map, refl, sym, ap, ◌∙◌}
+use Rattle.std.proofs.Common.{map, refl, sym, ap, ◌∙◌}
 use Rattle.std.proofs.lemmas.List.Elements.{All-push, All-same}
-use Rattle.job_types.specs.Reply.{ReplyData}
 use Rattle.dispatcher.specs.Reply.{answered, region_of, IsRight}
 use Rattle.dispatcher.proofs.WorkLemmas.{gained, kept, at_line, at_floor}
 use Rattle.dispatcher.proofs.dispatching.dispatch.Goals as goal
-
-pub returns-in_default-clause-right : goal.returns-in_default-clause-right
-returns-in_default-clause-right g c = All-same (IsRight c.args.shop.now.floor.dim) _ _ c.reserve.ensures.items c.loop.invariant.4
 
 pub loop-preserved-in-Job : goal.loop-preserved-in-Job
 loop-preserved-in-Job g c =
@@ -17,8 +13,8 @@ loop-preserved-in-Job g c =
     let right = All-push P c.reserve.new.self.items c.serve-back.result.1 (All-same P _ _ reserved inv.4) (at_floor (λ i. IsRight i.dim c.serve-back.result.1) _ _ c.shop.view_is c.serve-back.ensures.right) in (
       at_line (λ i. g.L.JobLine.is_pass i c.take.new.pass) _ _ c.shop.view_is c.in-Job.ensures.pass,
       at_floor (λ i. g.F.Floor.is_station i c.serve-back.result.0) _ _ c.shop.view_is c.serve-back.ensures.station,
-      gained answered _ _ _ _ _ _ _ _ inv.2 c.in-Job.ensures.taken c.serve-back.ensures.answers reserved pushed,
-      gained region_of _ _ _ _ _ _ _ _ inv.3 c.serve-back.ensures.granted refl reserved pushed,
+      gained answered _ _ _ _ _ _ _ inv.2 c.in-Job.ensures.taken c.serve-back.ensures.answers reserved pushed,
+      gained region_of _ _ _ _ _ _ _ inv.3 c.serve-back.ensures.granted refl reserved pushed,
       All-same P _ _ pushed right,
     )
 
@@ -28,10 +24,21 @@ loop-preserved g c =
     let reserved = c.reserve.ensures.items in (
       at_line (λ i. g.L.JobLine.is_pass i c.take.new.pass) _ _ c.shop.view_is c.in-EmptyNow.ensures.pass,
       inv.1,
-      kept answered _ _ _ _ _ inv.2 c.in-EmptyNow.ensures.taken reserved,
-      inv.3 ∙ ap (λ (rs : List ReplyData). g.F.Floor.grants c.args.worker.station ++ map region_of rs) (sym reserved),
+      kept answered _ _ _ _ inv.2 c.in-EmptyNow.ensures.taken reserved,
+      inv.3 ∙ ap (map region_of) (sym reserved),
       All-same (IsRight c.args.shop.now.floor.dim) _ _ reserved inv.4,
     )
 
-pub returns-in-Ended-clause-right : goal.returns-in-Ended-clause-right
-returns-in-Ended-clause-right g c = All-same (IsRight c.args.shop.now.floor.dim) _ _ c.reserve.ensures.items c.loop.invariant.4
+pub returns-in_default-clause-of_shop : goal.returns-in_default-clause-of_shop
+returns-in_default-clause-of_shop g c =
+    let inv = c.loop.invariant in
+    record { pass = inv.0; station = inv.1; right = All-same (IsRight c.args.shop.now.floor.dim) _ _ c.reserve.ensures.items inv.4 }
+
+pub returns-in-Ended-clause-of_shop : goal.returns-in-Ended-clause-of_shop
+returns-in-Ended-clause-of_shop g c =
+    let inv = c.loop.invariant in
+    record {
+      pass = at_line (λ i. g.L.JobLine.is_pass i c.take.new.pass) _ _ c.shop.view_is c.in-Ended.ensures.pass;
+      station = inv.1;
+      right = All-same (IsRight c.args.shop.now.floor.dim) _ _ c.reserve.ensures.items inv.4;
+    }

@@ -1,4 +1,4 @@
-use Rattle.std.proofs.Common.{◌≡◌, ◌++◌, map}
+use Rattle.std.proofs.Common.{◌≡◌, map}
 use Rattle.std.specs.List.{All}
 use Rattle.dispatcher.specs.Reply.{answered, region_of, IsRight}
 use Rattle.dispatcher.proofs.dispatching.dispatch.Given as goal
@@ -6,6 +6,6 @@ use Rattle.dispatcher.proofs.dispatching.dispatch.Given as goal
 abbrev pub invariant-loop : goal.invariant-loop
 invariant-loop g l = let line = g.L.JobLine in let floor = g.F.Floor in
     line.is_pass l.fn.shop.line l.pass × floor.is_station l.fn.shop.floor l.station
-    × ((line.pass_record l.pass).taken ≡ (line.pass_record l.fn.worker.pass).taken ++ map answered l.replies.items)
-    × (floor.grants l.station ≡ floor.grants l.fn.worker.station ++ map region_of l.replies.items)
+    × ((line.pass_record l.pass).taken ≡ map answered l.replies.items)
+    × (floor.grants l.station ≡ map region_of l.replies.items)
     × All (IsRight l.fn.shop.floor.dim) l.replies.items

@@ -1,15 +1,19 @@
 use Rattle.std.proofs.Common.{◌≡◌, ◌<◌, ℕ, map, length, get_or, sym, ap, subst, ◌∙◌}
 use Rattle.std.specs.List.{All, AllByRecursion}
-use Rattle.std.proofs.lemmas.List.Elements.{All-map, All-same}
+use Rattle.std.proofs.lemmas.List.Elements.{All-map, All-same, All-weaker}
+use Rattle.std.proofs.lemmas.List.{length-map}
 use Rattle.floors.specs.Floor.{IsWhollyFree}
 use Rattle.histories.specs.Sums.{times}
 use Rattle.job_queue.specs.declared.record.LaneRecord.{LaneRecord}
 use Rattle.job_queue.specs.Record.{accepted}
 use Rattle.job_queue.specs.Line.{IsMadeFor}
-use Rattle.dispatcher.specs.Reply.{answered, IsRight}
+use Rattle.dispatcher.specs.Reply.{answered, region_of, IsRight}
+use Rattle.dispatcher.specs.Members.{IsEndOf}
+use Rattle.dispatcher.specs.Finished.{with_last}
 use Rattle.dispatcher.proofs.WorkLemmas.{at_line, at_floor}
 use Rattle.dispatcher.proofs.OpenLemmas.{map_twice}
 use Rattle.dispatcher.proofs.FinishLemmas.{each_of, taken_answered, replies_right, finished}
+use Rattle.dispatcher.proofs.GrantLemmas.{all_granted}
 use Rattle.dispatcher.proofs.shop.Shop.finish.Goals as goal
 
 pub into_rest-jobs-requires-clause-lanes : goal.into_rest-jobs-requires-clause-lanes
@@ -19,16 +23,18 @@ into_rest-jobs-requires-clause-lanes g c =
 pub into_rest-jobs-requires-clause-passes : goal.into_rest-jobs-requires-clause-passes
 into_rest-jobs-requires-clause-passes g c =
     let passes = c.gather-passes.result.passes.items in
+    let ends = c.args.ends.items in
     let P = g.L.JobLine.is_pass c.args.self.line in
     at_line (λ i. All (g.L.JobLine.is_pass i) passes) _ _ (sym c.self.view_is)
-    (All-same P passes _ c.gather-passes.ensures.passes (All-map P (λ e. e.pass) c.args.ends.items c.requires.passes))
+    (All-same P passes _ c.gather-passes.ensures.passes (All-map P (λ e. e.pass) ends (All-weaker (IsEndOf c.args.self) (λ e. P e.pass) (λ e is. is.pass) ends c.requires.workers)))
 
 pub answer_rest-stations-requires-clause-stations : goal.answer_rest-stations-requires-clause-stations
 answer_rest-stations-requires-clause-stations g c =
     let stations = c.gather-passes.result.stations.items in
+    let ends = c.args.ends.items in
     let P = g.F.Floor.is_station c.args.self.floor in
     at_floor (λ i. All (g.F.Floor.is_station i) stations) _ _ (sym c.self.view_is)
-    (All-same P stations _ c.gather-passes.ensures.stations (All-map P (λ e. e.station) c.args.ends.items c.requires.stations))
+    (All-same P stations _ c.gather-passes.ensures.stations (All-map P (λ e. e.station) ends (All-weaker (IsEndOf c.args.self) (λ e. P e.station) (λ e is. is.station) ends c.requires.workers)))
 
 pub answer_rest-stations-requires-clause-made_for : goal.answer_rest-stations-requires-clause-made_for
 answer_rest-stations-requires-clause-made_for g c =
@@ -37,24 +43,39 @@ answer_rest-stations-requires-clause-made_for g c =
 pub returns-clause-finished : goal.returns-clause-finished
 returns-clause-finished g c =
     let line = g.L.JobLine in
+    let floor = g.F.Floor in
     let lanes = c.args.lanes.items in
     let ends = c.args.ends.items in
     let dim = c.args.self.floor.dim in
     let passes = c.gather-passes.result.passes.items in
+    let stations = c.answer_rest-stations.result.0.items in
     let rest = c.answer_rest-stations.result.1.items in
     let counts = c.into_rest-jobs.result.accepted.items in
-    finished dim (line.id c.self.inside.line).sizes.lanes (map line.lane_record lanes) (map line.pass_record passes) c.into_rest-jobs.result.jobs.items (line.note_number c.args.note.line) _
-    c.into_rest-jobs.ensures.run
-    (ap (λ ps. map (λ p. p.taken) (map line.pass_record ps)) c.gather-passes.ensures.passes
-    ∙ (taken_answered (λ e. e.pass) line.pass_record (λ e. e.replies) (λ v. v.items) ends c.requires.replies
-    ∙ ap (λ vs. map (map answered) (map (λ v. v.items) vs)) (sym c.gather-passes.ensures.replies)))
-    c.answer_rest-stations.ensures.answers
-    (subst (λ vs. AllByRecursion (AllByRecursion (IsRight dim)) (map (λ v. v.items) vs)) (sym c.gather-passes.ensures.replies) (replies_right (λ e. e.pass) line.pass_record (λ e. e.replies) (λ v. v.items) dim ends c.requires.right))
-    (each_of (IsRight dim) rest (at_floor (λ i. All (IsRight i.dim) rest) _ _ c.self.view_is c.answer_rest-stations.ensures.right))
-    c.into_rest-jobs.ensures.lane_count
-    (λ k below. ap (times k) (map_twice line.lane_record (λ (l : LaneRecord). l.number) lanes) ∙ c.into_rest-jobs.ensures.numbers k below)
-    (each_of (λ (l : LaneRecord). get_or counts l.number 0 ≡ length (accepted l.entries)) (map line.lane_record lanes) (All-map (λ (l : LaneRecord). get_or counts l.number 0 ≡ length (accepted l.entries)) line.lane_record lanes c.into_rest-jobs.ensures.accepted))
-    (at_floor (λ i. IsWhollyFree i.dim (g.F.Floor.machine_words c.close.result)) _ _ c.self.view_is c.close.ensures.free)
+    let Right = All-weaker (IsEndOf c.args.self) (λ e. All (IsRight dim) e.replies.items) (λ e is. is.right) ends c.requires.workers in (
+      stations,
+      at_floor (λ i. All (floor.is_station i) stations) _ _ c.self.view_is c.answer_rest-stations.ensures.stations,
+      c.answer_rest-stations.ensures.count
+          ∙ (ap length c.gather-passes.ensures.stations
+          ∙ (length-map ends (λ e. e.station)
+          ∙ (c.requires.all_workers
+          ∙ at_line (λ i. i.sizes.passes ≡ c.args.self.floor.stations) _ _ c.self.view_is (at_floor (λ i. (line.id c.self.inside.line).sizes.passes ≡ i.stations) _ _ c.self.view_is c.self.invariant.stations)))),
+      finished dim (line.id c.self.inside.line).sizes.lanes (map line.lane_record lanes) (map line.pass_record passes) c.into_rest-jobs.result.jobs.items (map floor.grants stations) (line.note_number c.args.note.line) _
+          c.into_rest-jobs.ensures.run
+          (ap (λ ps. map (λ p. p.taken) (map line.pass_record ps)) c.gather-passes.ensures.passes
+          ∙ (taken_answered (λ e. e.pass) line.pass_record (λ e. e.replies) (λ v. v.items) (λ e. e.answers) ends
+          ∙ ap (λ vs. map (map answered) (map (λ v. v.items) vs)) (sym c.gather-passes.ensures.replies)))
+          c.answer_rest-stations.ensures.answers
+          (subst (λ vs. AllByRecursion (AllByRecursion (IsRight dim)) (map (λ v. v.items) vs)) (sym c.gather-passes.ensures.replies) (replies_right (λ e. e.pass) line.pass_record (λ e. e.replies) (λ v. v.items) dim ends Right))
+          (each_of (IsRight dim) rest (at_floor (λ i. All (IsRight i.dim) rest) _ _ c.self.view_is c.answer_rest-stations.ensures.right))
+          c.into_rest-jobs.ensures.lane_count
+          (λ k below. ap (times k) (map_twice line.lane_record (λ (l : LaneRecord). l.number) lanes) ∙ c.into_rest-jobs.ensures.numbers k below)
+          (each_of (λ (l : LaneRecord). get_or counts l.number 0 ≡ length (accepted l.entries)) (map line.lane_record lanes) (All-map (λ (l : LaneRecord). get_or counts l.number 0 ≡ length (accepted l.entries)) line.lane_record lanes c.into_rest-jobs.ensures.accepted))
+          (c.answer_rest-stations.ensures.granted
+          ∙ ap (λ gs. with_last gs (map region_of rest)) (ap (map floor.grants) c.gather-passes.ensures.stations
+          ∙ (all_granted floor.grants region_of (λ e. e.station) (λ e. e.replies) (λ v. v.items) (λ e. e.regions) ends
+          ∙ ap (λ vs. map (map region_of) (map (λ v. v.items) vs)) (sym c.gather-passes.ensures.replies))))
+          (at_floor (λ i. IsWhollyFree i.dim (floor.machine_words c.close.result)) _ _ c.self.view_is c.close.ensures.free),
+    )
 
 pub returns-clause-by_worker : goal.returns-clause-by_worker
 returns-clause-by_worker g c = ap (map (λ v. v.items)) c.gather-passes.ensures.replies ∙ map_twice (λ e. e.replies) (λ v. v.items) c.args.ends.items

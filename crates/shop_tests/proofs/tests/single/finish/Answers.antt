@@ -1,11 +1,9 @@
 use Rattle.std.proofs.Common.{◌∷◌, []}
-use Rattle.std.specs.List.{All}
 use Rattle.std.proofs.lemmas.List.Elements.{All-same, All-from_recursion}
-use Rattle.dispatcher.specs.Reply.{IsRight}
+use Rattle.dispatcher.specs.Members.{IsEndOf}
 use Rattle.shop_tests.proofs.tests.single.finish.Goals as goal
 
-pub finish-requires-clause-right : goal.finish-requires-clause-right
-finish-requires-clause-right g c =
-    let end = c.args.end.0 in
-    All-same (λ e. All (IsRight c.args.shop.floor.dim) e.replies.items) c.sole-ends.result.items (end ∷ []) c.sole-ends.ensures
-    (All-from_recursion (λ e. All (IsRight c.args.shop.floor.dim) e.replies.items) (end ∷ []) (c.requires.right, tt))
+pub finish-requires-clause-workers : goal.finish-requires-clause-workers
+finish-requires-clause-workers g c =
+    let own = IsEndOf c.args.shop in
+    All-same own c.sole-ends.result.items (c.args.end.0 ∷ []) c.sole-ends.ensures (All-from_recursion own (c.args.end.0 ∷ []) (c.requires.worker, tt))
