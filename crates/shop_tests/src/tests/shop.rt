@@ -6,7 +6,7 @@ ghost use Rattle.dispatcher.specs.Opening.{refusal_of};
 
 use crate::tests::floor_calls::{is_locked_free, is_wholly_free};
 use crate::tests::jobs::{Row, SUM, job, listed};
-use crate::tests::single::{Single, finish};
+use crate::tests::single::{Single, finish, stand_down};
 use dispatcher::{FeedEnd, FeedStop, Finished, Plain, Shop, ShopRefused, Stop, dispatch, feed};
 use floors::Floor;
 use job_queue::{JobLine, Receipt, Refused};
@@ -80,7 +80,7 @@ fn play<R: Wait, L: JobLine, F: Floor>(
     let note = shop.close(rt, closer);
     let close_number = note.number();
     let third = shop.submit(rt, &mut lane, third);
-    let end = worker.stand_down(alloc);
+    let end = stand_down(alloc, &shop, worker);
     Script {
         first,
         second,

@@ -1,7 +1,7 @@
 //! A shop of one lane and one worker, whose members are out of their lists.
 ghost use Rattle.std.specs.Prelude.{◌≡◌, ◌≤◌, [], IfOk};
 ghost use Rattle.std.specs.Vec.{vec_capacity};
-ghost use Rattle.dispatcher.specs.Members.{IsEndOf, IsNoteOf};
+ghost use Rattle.dispatcher.specs.Members.{IsEndOf, IsNoteOf, IsWorkerOf};
 
 use crate::tests::members::{only, sole};
 use dispatcher::{
@@ -76,6 +76,19 @@ impl<L: JobLine, F: Floor> Single<L, F> {
             closer,
         })
     }
+}
+
+// The end of its worker, which is not to run.
+pub fn stand_down<L: JobLine, F: Floor>(
+    alloc: Global,
+    shop: &Shop<L, F>,
+    worker: Worker<L, F>,
+) -> WorkerEnd<L, F>
+    requires { IsWorkerOf shop.now worker }
+    ensures { IsEndOf shop.now result }
+{
+    let _shop = shop;
+    worker.stand_down(alloc)
 }
 
 // The end of such a shop, given its lane and its worker with the emptied lists of each.
