@@ -2,3 +2,4 @@ pub mod Record
 pub mod History
 pub mod Run
 pub mod Inner
+pub use Rattle.histories.specs.Sums.{is_at, total}
