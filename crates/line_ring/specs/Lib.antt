@@ -1,4 +1,5 @@
 pub mod Record
+pub mod Ring
 pub mod History
 pub mod Run
 pub mod Inner
