@@ -3,3 +3,6 @@ pub mod OpenLemmas
 pub mod FinishLemmas
 pub mod OnceLemmas
 pub mod GrantLemmas
+pub mod SameJobLemmas
+pub mod PermutationLemmas
+mod OrderLemmas

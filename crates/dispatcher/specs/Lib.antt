@@ -3,5 +3,7 @@ pub mod Shop
 pub mod Stop
 pub mod Opening
 pub mod Finished
+pub mod Answers
+pub mod Order
 pub mod InnerShop
 pub mod Members

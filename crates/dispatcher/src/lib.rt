@@ -16,6 +16,7 @@ mod room;
 mod runner;
 mod serving;
 mod shop;
+mod sorting;
 mod stop;
 mod worker;
 
@@ -26,5 +27,6 @@ pub use finishing::Finished;
 pub use opening::{Opened, ShopRefused, refusal};
 pub use runner::{Plain, Runner};
 pub use shop::Shop;
+pub use sorting::sorted_replies;
 pub use stop::Stop;
 pub use worker::{Worker, WorkerEnd};
