@@ -10,7 +10,7 @@ ghost use Rattle.cli_commands.specs.Inner.Shop.{AnswersFile, kind_of_stop};
 
 use crate::lanes::open_lanes;
 use crate::progress::{Progress, RecordProgress, ReplyProgress};
-use batch::{StopReason, Stopped, answer_all};
+use crew::{StopReason, Stopped, answer_all};
 use cli_words::ShopOptions;
 use cube_shape::MAX_DIM;
 use dispatcher::{Finished, Runner};
