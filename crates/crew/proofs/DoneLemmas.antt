@@ -14,7 +14,7 @@ use Rattle.job_types.specs.Job.{JobData}
 use Rattle.dispatcher.specs.declared.feeding.FeedStop.{FeedStop}
 use Rattle.dispatcher.specs.declared.feeding.FeedStop.TheVariants.{Done}
 use Rattle.dispatcher.specs.declared.stop.Stop.{Stop}
-use Rattle.dispatcher.specs.declared.stop.Stop.TheVariants.{Ended, OutOfMemory, NotRun}
+use Rattle.dispatcher.specs.declared.stop.Stop.TheVariants.{Ended, OutOfMemory, NotRun, Enough}
 use Rattle.dispatcher.specs.Answers.{AnswersAll}
 use Rattle.crew.specs.declared.running.LaneEnd.{LaneEnd}
 use Rattle.crew.specs.declared.running.RunEnd.{RunEnd}
@@ -35,11 +35,13 @@ was_run : (stop : Stop) → is_idle stop ≡ false → stop ≢ NotRun
 was_run Ended not_idle = λ e. cc (e)
 was_run OutOfMemory not_idle = λ e. cc (e)
 was_run NotRun not_idle = absurd (true≢false not_idle)
+was_run Enough not_idle = λ e. cc (e)
 
 not_idle : (stop : Stop) → stop ≢ NotRun → is_idle stop ≡ false
 not_idle Ended run = refl
 not_idle OutOfMemory run = refl
 not_idle NotRun run = absurd (run refl)
+not_idle Enough run = refl
 
 pub all_run : (stops : List Stop) → list_any is_idle stops ≡ false → All (λ (stop : Stop). stop ≢ NotRun) stops
 all_run [] none = All-nil (λ (stop : Stop). stop ≢ NotRun)

@@ -9,7 +9,7 @@ use Rattle.job_types.specs.Job.{JobData}
 use Rattle.cube_shape.specs.declared.limits.TheConstants.{MAX_ENTRIES}
 use Rattle.job_queue.specs.declared.record.LaneRecord.{LaneRecord}
 use Rattle.dispatcher.specs.declared.feeding.FeedStop.{FeedStop}
-use Rattle.dispatcher.specs.declared.feeding.FeedStop.TheVariants.{Done, Closed, LaneSpent}
+use Rattle.dispatcher.specs.declared.feeding.FeedStop.TheVariants.{Done, Closed, LaneSpent, Turns}
 use Rattle.dispatcher.specs.Stop.{given_back, EndsWith}
 use Rattle.crew.specs.InnerStop.{StopsBy}
 
@@ -28,11 +28,12 @@ pub still : (accepted before : List JobData) (back_before back : Option JobData)
 still accepted before back_before back given left all none fed start = fed ∙ (sym (ap (λ (js : List JobData). js ++ given) (append-nil before)) ∙ (ap (λ (js : List JobData). before ++ js ++ given) (sym none) ∙ start))
 
 -- why a feed stopped, from what it says of each answer
-pub stop_of : (lane : LaneRecord) (back : Option JobData) (left : List JobData) (stop : FeedStop) → (stop ≡ Done → given_back back ++ left ≡ []) → (stop ≢ Done → IsSome back) → ((seen : ℕ) → stop ≡ Closed seen → EndsWith lane.seen seen) → (stop ≡ LaneSpent → MAX_ENTRIES ≤ length lane.entries)
+pub stop_of : (lane : LaneRecord) (back : Option JobData) (left : List JobData) (stop : FeedStop) → (stop ≡ Done → given_back back ++ left ≡ []) → (stop ≢ Done → IsSome back) → ((seen : ℕ) → stop ≡ Closed seen → EndsWith lane.seen seen) → (stop ≡ LaneSpent → MAX_ENTRIES ≤ length lane.entries) → stop ≢ Turns
     → StopsBy lane back left (Some stop)
-stop_of lane back left Done done refused closed spent = done refl
-stop_of lane back left (Closed seen) done refused closed spent = (refused (λ is. cc (is)), closed seen refl)
-stop_of lane back left LaneSpent done refused closed spent = (refused (λ is. cc (is)), spent refl)
+stop_of lane back left Done done refused closed spent no_limit = done refl
+stop_of lane back left (Closed seen) done refused closed spent no_limit = (refused (λ is. cc (is)), closed seen refl)
+stop_of lane back left LaneSpent done refused closed spent no_limit = (refused (λ is. cc (is)), spent refl)
+stop_of lane back left Turns done refused closed spent no_limit = absurd (no_limit refl)
 
 -- a worker that has ended is one that ended so
 pub ended : {W E : Type 0} (worker : Option W) (end : Option E) (e : E) (IsEnd : E → Type 0) (IsWorker : W → Type 0) → worker ≡ None → end ≡ Some e → IsEnd e → MatchOption worker (MatchOption end ⊥ IsEnd) IsWorker

@@ -16,7 +16,7 @@ use Rattle.job_queue.specs.declared.record.QueuedJob.{QueuedJob}
 use Rattle.job_queue.specs.declared.record.LaneRecord.{LaneRecord}
 use Rattle.job_queue.specs.Record.{fresh_lane, fresh_lanes, accepted_with, accepted, job_of, accepted_jobs}
 use Rattle.dispatcher.specs.declared.feeding.FeedStop.{FeedStop}
-use Rattle.dispatcher.specs.declared.feeding.FeedStop.TheVariants.{Done, Closed, LaneSpent}
+use Rattle.dispatcher.specs.declared.feeding.FeedStop.TheVariants.{Done, Closed, LaneSpent, Turns}
 use Rattle.dispatcher.specs.declared.stop.Stop.{Stop}
 use Rattle.dispatcher.specs.declared.stop.Stop.TheVariants.{NotRun}
 use Rattle.dispatcher.specs.Stop.{given_back}
@@ -58,6 +58,7 @@ stop_as close_number lane end None entries seen by = (entries ∙ ap length by.0
 stop_as close_number lane end (Some Done) entries seen by = by
 stop_as close_number lane end (Some (Closed count)) entries seen by = (by.0, of_last (λ c. close_number ≤ c) lane.seen by.1.0 count by.1.1 seen)
 stop_as close_number lane end (Some LaneSpent) entries seen by = (by.0, omega (arith, by.1, entries))
+stop_as close_number lane end (Some Turns) entries seen by = absurd by
 
 -- ---- all lanes
 

@@ -4,7 +4,7 @@ use Rattle.job_types.specs.Job.{JobData}
 use Rattle.cube_shape.specs.declared.limits.TheConstants.{MAX_ENTRIES}
 use Rattle.job_queue.specs.declared.record.LaneRecord.{LaneRecord}
 use Rattle.dispatcher.specs.declared.feeding.FeedStop.{FeedStop}
-use Rattle.dispatcher.specs.declared.feeding.FeedStop.TheVariants.{Done, Closed, LaneSpent}
+use Rattle.dispatcher.specs.declared.feeding.FeedStop.TheVariants.{Done, Closed, LaneSpent, Turns}
 use Rattle.dispatcher.specs.Stop.{given_back, EndsWith}
 
 -- The lane, the job that came back, those that are left, and why the feed has stopped: `IsStopOf` of the record, in
@@ -14,3 +14,4 @@ StopsBy lane back left None = (lane.entries ≡ []) × (back ≡ None)
 StopsBy lane back left (Some Done) = given_back back ++ left ≡ []
 StopsBy lane back left (Some (Closed seen)) = IsSome back × EndsWith lane.seen seen
 StopsBy lane back left (Some LaneSpent) = IsSome back × (MAX_ENTRIES ≤ length lane.entries)
+StopsBy lane back left (Some Turns) = ⊥

@@ -8,7 +8,7 @@ use Rattle.job_types.specs.Reply.{ReplyData}
 use Rattle.job_queue.specs.Record.{Rises}
 use Rattle.floors.specs.Floor.{IsWhollyFree}
 use Rattle.dispatcher.specs.declared.feeding.FeedStop.{FeedStop}
-use Rattle.dispatcher.specs.declared.feeding.FeedStop.TheVariants.{Done, Closed, LaneSpent}
+use Rattle.dispatcher.specs.declared.feeding.FeedStop.TheVariants.{Done, Closed, LaneSpent, Turns}
 use Rattle.dispatcher.specs.declared.stop.Stop.TheVariants.{NotRun}
 use Rattle.dispatcher.specs.Reply.{answered}
 use Rattle.dispatcher.specs.Stop.{given_back}
@@ -22,12 +22,14 @@ unfed_jobs end = given_back end.back ++ end.left.items
 
 -- Why the feed of a lane has stopped is as the lane's end says. One that was never run has made no entry. One that
 -- is done has nothing left. One that found the line closed has a job back, and saw at least as many entries as
--- came before the close. One that was spent has a job back, and has made as many entries as a lane may.
+-- came before the close. One that was spent has a job back, and has made as many entries as a lane may. None has
+-- a limit of its tries.
 abbrev pub IsStopOf : ℕ → LaneEnd → Option FeedStop → Type 0
 IsStopOf close_number end None = (end.entries ≡ 0) × (end.back ≡ None)
 IsStopOf close_number end (Some Done) = unfed_jobs end ≡ []
 IsStopOf close_number end (Some (Closed seen)) = IsSome end.back × (close_number ≤ seen)
 IsStopOf close_number end (Some LaneSpent) = IsSome end.back × (MAX_ENTRIES ≤ end.entries)
+IsStopOf close_number end (Some Turns) = ⊥
 
 -- The end of a lane, by the jobs of all lanes, the accepted jobs of each as they are counted, and the close number.
 pub record IsLaneEnd (jobs : List (List JobData)) (counts : List ℕ) (close_number : ℕ) (end : LaneEnd) : Type 0 where

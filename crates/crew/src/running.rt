@@ -14,9 +14,7 @@ use crate::gang::Gang;
 use crate::member::{Door, Fed, Naming};
 use crate::slots::{man_feeders, man_posts, relieve_feeders, relieve_posts};
 use crate::threads::run_threads;
-use dispatcher::{
-    FeedStop, Finished, Opened, Runner, Shop, ShopRefused, Stop, WorkerEnd, refusal,
-};
+use dispatcher::{FeedStop, Finished, Opened, Runner, Shop, ShopRefused, Stop, WorkerEnd, refusal};
 use floors::Floor;
 use job_queue::JobLine;
 use job_types::Job;

@@ -1,4 +1,5 @@
 pub mod WorkLemmas
+pub mod EntryLemmas
 pub mod OpenLemmas
 pub mod FinishLemmas
 pub mod OnceLemmas

@@ -1,5 +1,5 @@
 -- Two jobs with their ids are the same or not.
-use Rattle.std.proofs.Common.{◌≡◌, ℕ, zero, suc, List, [], ◌∷◌, refl, sym, ap, ◌∙◌}
+use Rattle.std.proofs.Common.{◌≡◌, ℕ, zero, suc, List, ◌∷◌, refl, sym, ap, ◌∙◌}
 use mathlib.Core.HLevel.{Discrete}
 use mathlib.Core.List.{List-discrete}
 use native.Mathlib.Decide.{ℕ_discrete}

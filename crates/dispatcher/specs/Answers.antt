@@ -1,5 +1,5 @@
 -- The jobs of all lanes with their ids, and replies that answer them.
-use Rattle.std.specs.Prelude.{◌≡◌, ℕ, ◌+◌, List, [], ◌∷◌, ◌++◌, map, length, flat_map, IsPermutation}
+use Rattle.std.specs.Prelude.{ℕ, ◌+◌, List, [], ◌∷◌, ◌++◌, map, flat_map, IsPermutation}
 use Rattle.std.specs.List.{All}
 use Rattle.job_types.specs.Job.{JobData}
 use Rattle.job_types.specs.Reply.{ReplyData}

@@ -1,6 +1,7 @@
 pub mod Reply
 pub mod Shop
 pub mod Stop
+pub mod Feed
 pub mod Opening
 pub mod Finished
 pub mod Answers

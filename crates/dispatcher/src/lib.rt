@@ -10,6 +10,7 @@ mod closing;
 mod dispatching;
 mod feeding;
 mod finishing;
+mod limit;
 mod opening;
 mod pause;
 mod room;
@@ -21,8 +22,8 @@ mod stop;
 mod worker;
 
 pub use closing::{CloseNote, Closer};
-pub use dispatching::dispatch;
-pub use feeding::{FeedEnd, FeedStop, feed};
+pub use dispatching::{dispatch, dispatch_some};
+pub use feeding::{FeedEnd, FeedStop, feed, feed_for};
 pub use finishing::Finished;
 pub use opening::{Opened, ShopRefused, refusal};
 pub use runner::{Plain, Runner};
