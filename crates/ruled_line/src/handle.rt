@@ -32,7 +32,7 @@ pub struct RuledNote {
 }
 
 impl RuledLane {
-    ghost use Rattle.std.specs.Prelude.{◌≡◌};
+    ghost use Rattle.std.specs.Prelude.{◌≡◌, length};
     ghost use Rattle.ruled_line.specs.Inner.Handle.{lane_record};
 
     /// The lane's number.
@@ -40,6 +40,13 @@ impl RuledLane {
         ensures { result ≡ (lane_record self.now).number }
     {
         self.ring.number()
+    }
+
+    /// How many entries the lane has made.
+    pub fn entry_count(&self) -> u64
+        ensures { result ≡ length (lane_record self.now).entries }
+    {
+        self.entries
     }
 }
 
