@@ -169,7 +169,10 @@ fn fails_to_write(
     let answer = answer(rt, command, &mut reader, &mut writer);
     let wanted = good_answer(command);
     let beginning = wanted.len().min(calls.saturating_mul(7) as usize);
-    assert!(rt; writer.get_ref().device.as_slice() == &wanted[..beginning], "at call {calls}");
+    assert!(rt;
+        writer.get_ref().device.as_slice() == &wanted[..beginning],
+        "at call {calls}"
+    );
     if writer.failures() == 0 {
         assert!(rt; answer == Ok(()));
         return false;
@@ -196,10 +199,7 @@ fn writes_of(
 }
 
 // Each of these commands makes so many writes, and then a flush.
-fn expect_writes(
-    rt: &(impl AllocGlobal + Abort + Threads + Wait + Sync),
-    rows: &[(Command, u64)],
-) {
+fn expect_writes(rt: &(impl AllocGlobal + Abort + Threads + Wait + Sync), rows: &[(Command, u64)]) {
     for (command, writes) in rows {
         assert!(rt; writes_of(rt, *command, true) == *writes);
         assert!(rt; writes_of(rt, *command, false) == writes.wrapping_add(1));
