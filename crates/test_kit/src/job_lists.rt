@@ -83,8 +83,13 @@ pub enum Plan {
     Same(u32),
     /// So many sums: of the lane's number and 0, of it and 1, and so on.
     Sums(u32),
-    /// So many sums on the first lane, and one on each other.
-    FirstHas(u32),
+    /// So many sums on one lane, and one on each other.
+    OneHas {
+        /// The lane.
+        lane: u32,
+        /// How many it has.
+        count: u32,
+    },
     /// So many sums, of 1, 2, 4, 8 or 16 numbers in turn; the first lane begins with 1 number, the next one
     /// with 2, and so on.
     Sizes(u32),
@@ -113,7 +118,7 @@ fn kinds(alloc: Global, machine: u32, lane: u32) -> Result<VecDeque<Job>, JobRef
 fn count_of(plan: Plan, lane: u32) -> u32 {
     match plan {
         Plan::Kinds => 0,
-        Plan::FirstHas(count) => { if lane == 0 { count } else { 1 } }
+        Plan::OneHas { lane: one, count } => { if lane == one { count } else { 1 } }
         Plan::Same(count) | Plan::Sums(count) | Plan::Sizes(count) => count,
     }
 }
@@ -136,7 +141,7 @@ fn numbers_of(alloc: Global, plan: Plan, lane: u32, seq: u32) -> Result<Vec<u64>
     match plan {
         Plan::Sums(_) => Vec::from_slice(alloc, &[u64::from(lane), u64::from(seq)]),
         Plan::Sizes(_) => first_numbers(alloc, (lane + seq % 5) % 5),
-        Plan::Kinds | Plan::Same(_) | Plan::FirstHas(_) => Vec::from_slice(alloc, &[1, 2]),
+        Plan::Kinds | Plan::Same(_) | Plan::OneHas { .. } => Vec::from_slice(alloc, &[1, 2]),
     }
 }
 

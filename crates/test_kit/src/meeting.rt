@@ -48,26 +48,28 @@ impl Runner for Meeting {
     }
 }
 
-/// A runner that keeps each job of lane 0 until one of another lane has come in, or until it has looked
+/// A runner that keeps each job of one lane until one of another lane has come in, or until it has looked
 /// so often.
 #[derive(Drop)]
 pub struct Keeper {
+    lane: u32,
     turns: u32,
     others: AtomicU64,
     before: AtomicU64,
 }
 
 impl Keeper {
-    /// A runner whose jobs of lane 0 look so often.
-    pub fn new(turns: u32) -> Keeper {
+    /// A runner that keeps the jobs of this lane, which look so often.
+    pub fn new(lane: u32, turns: u32) -> Keeper {
         Keeper {
+            lane,
             turns,
             others: AtomicU64::new(0),
             before: AtomicU64::new(0),
         }
     }
 
-    /// How many jobs of lane 0 came in before each job of another lane.
+    /// How many jobs of the lane came in before each job of another lane.
     pub fn before(&self) -> u64 {
         self.before.load(SeqCst)
     }
@@ -80,7 +82,7 @@ impl Keeper {
 
 impl Runner for Keeper {
     fn run<R: Wait>(&self, _rt: &R, id: JobId, region: Region, job: Job) -> Reply {
-        if id.lane > 0 {
+        if id.lane != self.lane {
             self.others.fetch_add(1, SeqCst);
         } else if !wait_for(&self.others, 1, 1) {
             self.before.fetch_add(1, SeqCst);

@@ -3,7 +3,6 @@ ghost use Rattle.std.specs.Prelude.{◌≡◌, ◌<◌, ◌≤◌, map};
 ghost use Rattle.std.specs.List.{All};
 ghost use Rattle.job_queue.specs.Record.{fresh_lanes, fresh_passes};
 
-use crate::tests::jobs::{Plan, jobs};
 use crate::tests::line::{JOBS, are_new_and_rise};
 use job_queue::{JobLine, Opened, QueuedJob, Refused, Rest, Sizes};
 use job_types::Job;
@@ -19,6 +18,7 @@ use std::sync::atomic::Ordering::SeqCst;
 use std::sync::{Mutex, Wait};
 use std::test::Fail;
 use std::thread::{Threads, for_each_mut, join_mut, yield_now};
+use test_kit::{Plan, jobs};
 
 // What the lanes of a run found.
 #[derive(Drop)]
