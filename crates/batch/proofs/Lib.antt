@@ -1,4 +1,2 @@
-pub mod PermutationLemmas
 mod AnswerLemmas
 mod UnfedLemmas
-mod OrderLemmas

@@ -6,7 +6,8 @@ ghost use Rattle.dispatcher.specs.Opening.{refusal_of};
 ghost use Rattle.dispatcher.specs.Stop.{given_back};
 ghost use Rattle.dispatcher.specs.Finished.{outcome};
 ghost use Rattle.crew.specs.Run.{unfed_by, IsRun};
-ghost use Rattle.batch.specs.Answers.{AnswersAll, IsWholeBatch};
+ghost use Rattle.dispatcher.specs.Answers.{AnswersAll};
+ghost use Rattle.batch.specs.Answers.{IsWholeBatch};
 ghost use Rattle.batch.specs.Stop.{is_closed, is_spent, reason_of, AreAllFed};
 ghost use Rattle.batch.specs.Stopped.{MatchStopped};
 

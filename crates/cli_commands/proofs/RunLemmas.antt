@@ -13,8 +13,9 @@ use Rattle.job_queue.specs.Record.{accepted_jobs}
 use Rattle.dispatcher.specs.Reply.{answered}
 use Rattle.dispatcher.specs.Finished.{Outcome, outcome}
 use Rattle.dispatcher.specs.declared.finishing.Finished.{Finished}
-use Rattle.batch.specs.Answers.{AnswersAll, IsWholeBatch}
-use Rattle.batch.specs.Order.{AreSorted}
+use Rattle.dispatcher.specs.Answers.{AnswersAll}
+use Rattle.batch.specs.Answers.{IsWholeBatch}
+use Rattle.dispatcher.specs.Order.{AreSorted}
 use Rattle.jobs_csv.specs.declared.fault.Fault.{Fault}
 use Rattle.jobs_csv.specs.declared.fault.FaultKind.TheVariants as what
 use Rattle.jobs_csv.specs.Fault.{attribute, has_failed, is_refusal}

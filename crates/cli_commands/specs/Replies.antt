@@ -9,8 +9,8 @@ use Rattle.job_queue.specs.declared.record.LaneRecord.{LaneRecord}
 use Rattle.job_queue.specs.Record.{accepted_jobs}
 use Rattle.dispatcher.specs.Reply.{answered}
 use Rattle.dispatcher.specs.Finished.{Outcome, FinishedRun}
-use Rattle.batch.specs.Answers.{all_replies}
-use Rattle.batch.specs.Order.{AreSorted}
+use Rattle.dispatcher.specs.Answers.{all_replies}
+use Rattle.dispatcher.specs.Order.{AreSorted}
 use Rattle.jobs_csv.specs.Lanes.{in_lane}
 use Rattle.cli_commands.specs.JobIds.{with_ids}
 use Rattle.cli_commands.specs.OpenLanes.{IsLaneCount}

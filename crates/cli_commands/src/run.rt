@@ -6,10 +6,9 @@ ghost use Rattle.cli_commands.specs.Answer.{IsMetBeforeWriting, IsRunFault};
 ghost use Rattle.cli_commands.specs.Program.{IsAnswerTo};
 
 use crate::shop::answer_file;
-use batch::sorted_replies;
 use cli_words::ShopOptions;
 use cube_shape::MAX_DIM;
-use dispatcher::Runner;
+use dispatcher::{Runner, sorted_replies};
 use jobs_csv::{Device, Fault};
 use ruled_line::RuledLine;
 use std::alloc::Global;

@@ -1,7 +1,10 @@
 pub mod Reply
 pub mod Shop
 pub mod Stop
+pub mod Feed
 pub mod Opening
 pub mod Finished
+pub mod Answers
+pub mod Order
 pub mod InnerShop
 pub mod Members

@@ -6,7 +6,7 @@ ghost use Rattle.job_queue.specs.Line.{IsFor};
 ghost use Rattle.floors.specs.Floor.{IsWhollyFree};
 ghost use Rattle.cube_tree.specs.Ends.{machine_words};
 ghost use Rattle.tree_floor.specs.Roll.{IsRollWhole};
-ghost use Rattle.batch.specs.Answers.{AnswersAll};
+ghost use Rattle.dispatcher.specs.Answers.{AnswersAll};
 ghost use Rattle.uses.specs.Processors.{processors_in};
 
 use batch::answer_all;

@@ -5,7 +5,7 @@ use Rattle.job_types.specs.Reply.{ReplyData}
 use Rattle.dispatcher.specs.Reply.{answered, IsRight}
 use Rattle.dispatcher.specs.Finished.{outcome}
 use Rattle.dispatcher.specs.declared.finishing.Finished.{Finished}
-use Rattle.batch.specs.Answers.{all_replies}
+use Rattle.dispatcher.specs.Answers.{all_replies}
 use Rattle.batch.specs.declared.answering.StopReason.{StopReason}
 use Rattle.batch.specs.declared.answering.StopReason.TheVariants as why
 use Rattle.batch.specs.declared.answering.Stopped.{Stopped}

@@ -2,9 +2,9 @@
 ghost use Rattle.std.specs.Prelude.{◌≤◌};
 
 use crate::tests::at_rest::AtRest;
-use batch::{Stopped, answer_all, sorted_replies};
+use batch::{Stopped, answer_all};
 use cube_shape::MAX_LANES;
-use dispatcher::{Finished, Plain, Runner, ShopRefused};
+use dispatcher::{Finished, Plain, Runner, ShopRefused, sorted_replies};
 use floors::Floor;
 use job_queue::JobLine;
 use job_types::{JobId, Reply};

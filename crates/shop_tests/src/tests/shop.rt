@@ -171,7 +171,7 @@ where
     };
     stage.feed(rt, jobs);
     stage.close(rt);
-    let stop = stage.dispatch(rt, alloc, &Plain);
+    let stop = stage.dispatch(rt, alloc, &Plain, None);
     let finished = stage.finish(rt, alloc, &Plain);
     assert!(rt; keeps_all(stop, &finished));
 }
@@ -226,7 +226,7 @@ where
     let fed = stage.feed_rows(rt, alloc, &THREE_JOBS);
     stage.close(rt);
     let late = stage.feed_rows(rt, alloc, &THREE_JOBS);
-    let stop = stage.dispatch(rt, alloc, &Plain);
+    let stop = stage.dispatch(rt, alloc, &Plain, None);
     let finished = stage.finish(rt, alloc, &Plain);
     assert!(rt; is_done(&fed) && stops_at_the_close(&late));
     assert_eq!(rt; stop, Stop::Ended);
@@ -271,4 +271,76 @@ fn rest_is_answered_by_the_runner_lent_with_no_lock(rt: HostRuntime) {
 #[test]
 fn rest_is_answered_by_the_runner_lent_under_locks(rt: HostRuntime) {
     rest_is_answered_by_the_runner_lent::<_, LockedLine, LockedFloor>(&rt, rt.alloc());
+}
+
+// Three sums of 1 and 2.
+const THREE_SUMS: [Row<'static>; 3] = [(SUM, &[1, 2]), (SUM, &[1, 2]), (SUM, &[1, 2])];
+
+// How many jobs came back and how many are left, where the feed has stopped for its turns.
+fn left_by_turns(fed: &FeedEnd) -> Option<(usize, usize)> {
+    if fed.stop == FeedStop::Turns {
+        Some((usize::from(fed.back.is_some()), fed.left.len()))
+    } else {
+        None
+    }
+}
+
+// A feed with no turn hands in nothing. One with five into room for one job makes six entries.
+fn feed_stops_after_its_turns<R: Wait + Abort, L: JobLine, F: Floor>(rt: &R, alloc: Global)
+where
+    F::Machine: Drop,
+{
+    let mut stage = Stage::<L, F>::open(alloc, 1).expect(rt, "no memory");
+    let none = stage.feed_for(rt, alloc, &THREE_SUMS, 0);
+    let fed = stage.feed_for(rt, alloc, &THREE_SUMS, 5);
+    let close_number = stage.close(rt);
+    let finished = stage.finish(rt, alloc, &Plain);
+    assert_eq!(rt; left_by_turns(&none), Some((0, 3)));
+    assert_eq!(rt; left_by_turns(&fed), Some((1, 1)));
+    assert_eq!(rt; close_number, 6);
+    assert!(rt; finished.rest.len() == 1 && finished.accepted.as_slice() == [1].as_slice());
+}
+
+#[test]
+fn feed_stops_after_its_turns_with_no_lock(rt: HostRuntime) {
+    feed_stops_after_its_turns::<_, RuledLine, TreeFloor>(&rt, rt.alloc());
+}
+
+#[test]
+fn feed_stops_after_its_turns_under_locks(rt: HostRuntime) {
+    feed_stops_after_its_turns::<_, LockedLine, LockedFloor>(&rt, rt.alloc());
+}
+
+// A worker that is to answer two of three jobs leaves one to the end, and one that is to answer none leaves
+// all of them. Each job is answered by the runner that is lent at that moment.
+fn worker_stops_when_it_is_enough<R: Wait + Abort, L: JobLine, F: Floor>(rt: &R, alloc: Global)
+where
+    F::Machine: Drop,
+{
+    for (most, answered) in [(2, 2), (0, 0)] {
+        let mut stage = Stage::<L, F>::open(alloc, 4).expect(rt, "no memory");
+        let fed = stage.feed_rows(rt, alloc, &THREE_SUMS);
+        let close_number = stage.close(rt);
+        let (runner, last) = (Counting::new(Plain), Counting::new(Plain));
+        let stop = stage.dispatch(rt, alloc, &runner, Some(most));
+        let finished = stage.finish(rt, alloc, &last);
+        assert!(rt; is_done(&fed) && close_number == 3 && stop == Stop::Enough);
+        assert!(rt; finished.accepted.as_slice() == [3].as_slice());
+        assert!(rt; finished.by_worker.len() == 1);
+        assert!(rt; are_three_seqs(&finished.by_worker[0], &finished.rest));
+        assert_eq!(rt;
+            (runner.answered(), last.answered()),
+            (answered, 3 - answered)
+        );
+    }
+}
+
+#[test]
+fn worker_stops_when_it_is_enough_with_no_lock(rt: HostRuntime) {
+    worker_stops_when_it_is_enough::<_, RuledLine, TreeFloor>(&rt, rt.alloc());
+}
+
+#[test]
+fn worker_stops_when_it_is_enough_under_locks(rt: HostRuntime) {
+    worker_stops_when_it_is_enough::<_, LockedLine, LockedFloor>(&rt, rt.alloc());
 }

@@ -9,7 +9,7 @@ ghost use Rattle.dispatcher.specs.Members.{IsCloserOf, IsEndOf, IsNoteOf, IsWork
 use crate::tests::members::{only, sole};
 use dispatcher::{
     CloseNote, Closer, FeedEnd, Finished, Opened, Runner, Shop, ShopRefused, Stop, Worker,
-    WorkerEnd, dispatch, feed,
+    WorkerEnd, dispatch, dispatch_some, feed, feed_for,
 };
 use floors::Floor;
 use job_queue::{JobLine, Receipt, Refused};
@@ -117,6 +117,18 @@ impl<L: JobLine, F: Floor> Stage<L, F> {
         self.feed(rt, jobs)
     }
 
+    // Feeds these jobs, and gives up once the line was full so often.
+    pub fn feed_for<R: Wait + Abort>(
+        &mut self,
+        rt: &R,
+        alloc: Global,
+        rows: &[Row],
+        turns: u32,
+    ) -> FeedEnd {
+        let jobs = listed(alloc, 2, 0, rows).expect(rt, "no memory");
+        feed_for(rt, &self.shop, &mut self.lane, jobs, turns)
+    }
+
     // Closes the shop, where that was not done before: the close number.
     pub fn close<R: Wait>(&mut self, rt: &R) -> u64 {
         if let Some(closer) = self.closer.take() {
@@ -131,12 +143,19 @@ impl<L: JobLine, F: Floor> Stage<L, F> {
         }
     }
 
-    // Lets the worker run, where that was not done before: why it has stopped.
-    pub fn dispatch<R: Wait, T: Runner>(&mut self, rt: &R, alloc: Global, runner: &T) -> Stop {
+    // Lets the worker run, where that was not done before, for so many replies at most if that is asked: why it
+    // has stopped.
+    pub fn dispatch<R: Wait, T: Runner>(
+        &mut self,
+        rt: &R,
+        alloc: Global,
+        runner: &T,
+        most: Option<u32>,
+    ) -> Stop {
         if let Some(worker) = self.worker.take() {
             match self
                 .end
-                .replace(dispatch(rt, alloc, &self.shop, worker, runner))
+                .replace(run_worker(rt, alloc, &self.shop, worker, runner, most))
             {
                 None => {}
                 Some(_end) => unreachable!(),
@@ -170,6 +189,24 @@ impl<L: JobLine, F: Floor> Stage<L, F> {
         let lanes = sole(lanes, lane);
         let ends = sole(ends, end);
         shop.finish(rt, runner, lanes, ends, note)
+    }
+}
+
+// Runs a worker, for so many replies at most if that is asked.
+fn run_worker<R: Wait, L: JobLine, F: Floor, T: Runner>(
+    rt: &R,
+    alloc: Global,
+    shop: &Shop<L, F>,
+    worker: Worker<L, F>,
+    runner: &T,
+    most: Option<u32>,
+) -> WorkerEnd<L, F>
+    requires { IsWorkerOf shop.now worker }
+    ensures { IsEndOf shop.now result }
+{
+    match most {
+        Some(most) => dispatch_some(rt, alloc, shop, worker, runner, most),
+        None => dispatch(rt, alloc, shop, worker, runner),
     }
 }
 

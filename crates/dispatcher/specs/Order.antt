@@ -6,7 +6,7 @@ use Rattle.std.specs.declared.cmp.Ordering.{Ordering}
 use Rattle.job_types.specs.Job.{JobData}
 use Rattle.job_types.specs.Reply.{ReplyData}
 use Rattle.dispatcher.specs.Reply.{answered, IsRight}
-use Rattle.batch.specs.Answers.{jobs_with_ids}
+use Rattle.dispatcher.specs.Answers.{jobs_with_ids}
 
 -- by lane, and in a lane by number
 abbrev pub by_id : ReplyData → ReplyData → Ordering

@@ -1,7 +1,7 @@
 use Rattle.std.proofs.Common.{map, subst}
 use Rattle.std.specs.List.Sorted.{IsPermutation}
-use Rattle.batch.proofs.OrderLemmas.{sorted_answers}
-use Rattle.batch.proofs.sorting.sorted_replies.Goals as goal
+use Rattle.dispatcher.proofs.OrderLemmas.{sorted_answers}
+use Rattle.dispatcher.proofs.sorting.sorted_replies.Goals as goal
 
 pub returns-clause-in_order : goal.returns-clause-in_order
 returns-clause-in_order g c = λ n jobs all.

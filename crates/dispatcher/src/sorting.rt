@@ -1,11 +1,11 @@
-//! The replies of a batch, sorted by id.
+//! The replies of a finished shop, sorted by id.
 ghost use Rattle.std.specs.Prelude.{◌≡◌, ℕ, List, ◌+◌, ◌≤◌, ◌++◌, [], IfOk, IfErr, IfSome, map, length, IsPermutation};
 ghost use Rattle.std.specs.Vec.{vec_capacity};
 ghost use Rattle.job_types.specs.Job.{JobData};
-ghost use Rattle.batch.specs.Answers.{all_replies, AnswersAll};
-ghost use Rattle.batch.specs.Order.{AreSorted, AreInOrder};
+ghost use Rattle.dispatcher.specs.Answers.{all_replies, AnswersAll};
+ghost use Rattle.dispatcher.specs.Order.{AreSorted, AreInOrder};
 
-use dispatcher::Finished;
+use crate::finishing::Finished;
 use job_types::Reply;
 use std::alloc::{AllocError, Global};
 use std::collections::VecDeque;
@@ -57,8 +57,9 @@ fn sort(replies: &mut Vec<Reply>)
     replies.sort_unstable_by_key(|reply| reply.id());
 }
 
-/// All replies, sorted by lane and in a lane by number: those of a batch are then the answers to its jobs,
-/// lane by lane. Where there is no memory for them the replies and the machine come back as they were.
+/// All replies, sorted by lane and in a lane by number. Where they answer lists of jobs, one for each lane,
+/// they are then the answers to these jobs lane by lane. Where there is no memory for them the replies and
+/// the machine come back as they were.
 pub fn sorted_replies<M: Drop>(
     alloc: Global,
     finished: Finished<M>,

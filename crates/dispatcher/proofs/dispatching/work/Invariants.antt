@@ -1,7 +1,7 @@
-use Rattle.std.proofs.Common.{◌≡◌, map}
+use Rattle.std.proofs.Common.{◌≡◌, ◌≤◌, ℕ, Some, map, length}
 use Rattle.std.specs.List.{All}
 use Rattle.dispatcher.specs.Reply.{answered, region_of, IsRight}
-use Rattle.dispatcher.proofs.dispatching.dispatch.Given as goal
+use Rattle.dispatcher.proofs.dispatching.work.Given as goal
 
 abbrev pub invariant-loop : goal.invariant-loop
 invariant-loop g l = let line = g.L.JobLine in let floor = g.F.Floor in
@@ -9,3 +9,5 @@ invariant-loop g l = let line = g.L.JobLine in let floor = g.F.Floor in
     × ((line.pass_record l.pass).taken ≡ map answered l.replies.items)
     × (floor.grants l.station ≡ map region_of l.replies.items)
     × All (IsRight l.fn.shop.floor.dim) l.replies.items
+    × ((most : ℕ) → l.fn.limit ≡ Some most → length l.replies.items ≤ most)
+    × (l.fn.limit ≡ Some 0 → line.pass_record l.pass ≡ line.pass_record l.fn.worker.pass)

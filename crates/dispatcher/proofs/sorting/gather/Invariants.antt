@@ -1,7 +1,7 @@
 use Rattle.std.proofs.Common.{◌≡◌, ◌++◌, length, map}
 use Rattle.std.specs.Vec.{vec_capacity}
-use Rattle.batch.specs.Answers.{all_replies}
-use Rattle.batch.proofs.sorting.gather.Given as goal
+use Rattle.dispatcher.specs.Answers.{all_replies}
+use Rattle.dispatcher.proofs.sorting.gather.Given as goal
 
 abbrev pub invariant-loop-replies : goal.invariant-loop-replies
 invariant-loop-replies l =

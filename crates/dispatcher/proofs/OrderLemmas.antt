@@ -15,10 +15,10 @@ use Rattle.job_types.specs.declared.reply.JobId.{JobId}
 use Rattle.job_queue.specs.declared.record.QueuedJob.{QueuedJob}
 use Rattle.job_queue.specs.Record.{job_id, queued}
 use Rattle.dispatcher.specs.Reply.{answered, IsRight}
-use Rattle.batch.specs.Answers.{with_ids_from, lanes_with_ids, jobs_with_ids, all_replies, AnswersAll}
-use Rattle.batch.specs.Order.{by_id, AreSorted, AreInOrder}
-use Rattle.batch.proofs.AnswerLemmas.{same_job}
-use Rattle.batch.proofs.PermutationLemmas.{Rises, NeverFalls, in_order, total-IsPermutation}
+use Rattle.dispatcher.specs.Answers.{with_ids_from, lanes_with_ids, jobs_with_ids, all_replies, AnswersAll}
+use Rattle.dispatcher.specs.Order.{by_id, AreSorted, AreInOrder}
+use Rattle.dispatcher.proofs.SameJobLemmas.{same_job}
+use Rattle.dispatcher.proofs.PermutationLemmas.{Rises, NeverFalls, in_order, total-IsPermutation}
 
 -- a stands before b
 abbrev IsBefore : JobId → JobId → Type 0
@@ -111,7 +111,7 @@ never_falls (x ∷ xs) sorted = (none_before xs (all_after x xs sorted), never_f
     none_before [] after = tt
     none_before (y ∷ ys) after = (not_before x.id y.id after.0, none_before ys after.1)
 
--- ---- the sorted replies of a batch
+-- ---- sorted replies that answer all jobs
 
 pub sorted_answers : (n : ℕ) (jobs : List (List JobData)) (by_worker : List (List ReplyData)) (rest replies : List ReplyData) → IsPermutation (all_replies by_worker rest) replies → AreSorted replies → AnswersAll n jobs by_worker rest → AreInOrder n jobs replies
 sorted_answers n jobs by_worker rest replies same sorted all =
