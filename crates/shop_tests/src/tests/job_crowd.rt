@@ -339,10 +339,12 @@ fn keep_lane<L: JobLine, F: Floor>(
     fed: Option<FeedEnd>,
 )
     requires lanes { All (L.is_lane shop.now.line) parts.old.lanes.items }
+    requires ends { All (IsEndOf shop.now) parts.old.ends.items }
+    requires note { IfSome parts.old.note (IsNoteOf L.JobLine shop.now) }
     requires lane { IfSome lane (L.is_lane shop.now.line) }
     ensures lanes { All (L.is_lane shop.now.line) parts.new.lanes.items }
-    ensures ends { parts.new.ends.items ≡ parts.old.ends.items }
-    ensures note { parts.new.note ≡ parts.old.note }
+    ensures ends { All (IsEndOf shop.now) parts.new.ends.items }
+    ensures note { IfSome parts.new.note (IsNoteOf L.JobLine shop.now) }
 {
     if let Some(lane) = lane {
         count_unfed(&mut parts.unfed, L::lane_number(&lane), fed);
@@ -356,11 +358,13 @@ fn keep_end<L: JobLine, F: Floor>(
     parts: &mut Parts<L, F>,
     end: Option<WorkerEnd<L, F>>,
 )
+    requires lanes { All (L.is_lane shop.now.line) parts.old.lanes.items }
     requires ends { All (IsEndOf shop.now) parts.old.ends.items }
+    requires note { IfSome parts.old.note (IsNoteOf L.JobLine shop.now) }
     requires end { IfSome end (IsEndOf shop.now) }
+    ensures lanes { All (L.is_lane shop.now.line) parts.new.lanes.items }
     ensures ends { All (IsEndOf shop.now) parts.new.ends.items }
-    ensures lanes { parts.new.lanes.items ≡ parts.old.lanes.items }
-    ensures note { parts.new.note ≡ parts.old.note }
+    ensures note { IfSome parts.new.note (IsNoteOf L.JobLine shop.now) }
 {
     if let Some(end) = end {
         add(rt, &mut parts.ends, end);
@@ -373,11 +377,13 @@ fn keep_note<L: JobLine, F: Floor>(
     parts: &mut Parts<L, F>,
     note: Option<CloseNote<L, F>>,
 )
+    requires lanes { All (L.is_lane shop.now.line) parts.old.lanes.items }
+    requires ends { All (IsEndOf shop.now) parts.old.ends.items }
     requires note { IfSome parts.old.note (IsNoteOf L.JobLine shop.now) }
     requires one { IfSome note (IsNoteOf L.JobLine shop.now) }
+    ensures lanes { All (L.is_lane shop.now.line) parts.new.lanes.items }
+    ensures ends { All (IsEndOf shop.now) parts.new.ends.items }
     ensures note { IfSome parts.new.note (IsNoteOf L.JobLine shop.now) }
-    ensures lanes { parts.new.lanes.items ≡ parts.old.lanes.items }
-    ensures ends { parts.new.ends.items ≡ parts.old.ends.items }
 {
     if let Some(note) = note {
         match replace(&mut parts.note, Some(note)) {
@@ -468,9 +474,9 @@ where
     requires shop { opened.shop ≡ J.shop }
     requires machine { J.shop.line.sizes.machine ≡ DIM }
     requires sizes { (J.shop.line.sizes.lanes ≡ LANES) × (J.shop.line.sizes.passes ≡ WORKERS) }
-    requires lanes { All (L.is_lane opened.shop.line) opened.lanes.items }
-    requires workers { All (IsWorkerOf opened.shop) opened.workers.items }
-    requires closer { IsCloserOf L.JobLine opened.shop opened.closer }
+    requires lanes { All (L.is_lane J.shop.line) opened.lanes.items }
+    requires workers { All (IsWorkerOf J.shop) opened.workers.items }
+    requires closer { IsCloserOf L.JobLine J.shop opened.closer }
 {
     let Opened {
         shop,

@@ -195,7 +195,7 @@ where
             panic!(rt; "no memory");
         };
         assert!(rt; is_whole && reply_count(&finished) == MANY as usize + 1);
-        assert!(rt; runner.others() == 1 && runner.before() + 1 < u64::from(MANY));
+        assert!(rt; runner.others() == 1 && runner.before() < u64::from(MANY - 1));
     }
 }
 
