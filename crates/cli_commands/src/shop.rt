@@ -10,8 +10,8 @@ ghost use Rattle.cli_commands.specs.Inner.Shop.{AnswersFile, kind_of_stop};
 
 use crate::lanes::open_lanes;
 use crate::progress::{Progress, RecordProgress, ReplyProgress};
-use batch::{StopReason, Stopped, answer_all};
 use cli_words::ShopOptions;
+use crew::{StopReason, Stopped, answer_all};
 use cube_shape::MAX_DIM;
 use dispatcher::{Finished, Runner};
 use floors::Floor;

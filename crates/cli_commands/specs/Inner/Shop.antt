@@ -6,10 +6,10 @@ use Rattle.dispatcher.specs.Reply.{answered, IsRight}
 use Rattle.dispatcher.specs.Finished.{outcome}
 use Rattle.dispatcher.specs.declared.finishing.Finished.{Finished}
 use Rattle.dispatcher.specs.Answers.{all_replies}
-use Rattle.batch.specs.declared.answering.StopReason.{StopReason}
-use Rattle.batch.specs.declared.answering.StopReason.TheVariants as why
-use Rattle.batch.specs.declared.answering.Stopped.{Stopped}
-use Rattle.batch.specs.declared.answering.Stopped.TheVariants as stopped
+use Rattle.crew.specs.declared.answering.StopReason.{StopReason}
+use Rattle.crew.specs.declared.answering.StopReason.TheVariants as why
+use Rattle.crew.specs.declared.answering.Stopped.{Stopped}
+use Rattle.crew.specs.declared.answering.Stopped.TheVariants as stopped
 use Rattle.jobs_csv.specs.declared.fault.FaultKind.{FaultKind}
 use Rattle.jobs_csv.specs.declared.fault.FaultKind.TheVariants as what
 use Rattle.cli_commands.specs.JobIds.{with_ids}

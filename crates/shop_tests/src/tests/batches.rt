@@ -2,7 +2,7 @@
 ghost use Rattle.std.specs.Prelude.{◌≤◌};
 
 use crate::tests::at_rest::AtRest;
-use batch::{Stopped, answer_all};
+use crew::{RunEnd, Stopped, answer_all};
 use cube_shape::MAX_LANES;
 use dispatcher::{Finished, Plain, Runner, ShopRefused, sorted_replies};
 use floors::Floor;
@@ -47,7 +47,7 @@ where
 {
     let jobs = lists(alloc, DIM, lanes, plan).expect(rt, "no memory");
     match answer_all::<R, L, F, T>(rt, alloc, DIM, workers, capacity, runner, jobs) {
-        Ok(finished) => Ok(finished),
+        Ok(RunEnd { finished, .. }) => Ok(finished),
         Err(Stopped::Refused { why, jobs }) => Err((why, jobs.len())),
         Err(Stopped::Unfinished { .. }) => panic!(rt; "no memory, or no thread"),
     }

@@ -2,9 +2,9 @@
 ghost use Rattle.std.specs.Prelude.{◌≤◌};
 
 use crate::tests::at_rest::AtRest;
-use crew::{RunEnd, run};
+use crew::{LaneEnd, RunEnd, run};
 use cube_shape::{MAX_DIM, MAX_LANES};
-use dispatcher::{Finished, Plain, Runner, ShopRefused};
+use dispatcher::{FeedStop, Finished, Plain, Runner, ShopRefused, Stop};
 use floors::Floor;
 use job_queue::JobLine;
 use job_types::Reply;
@@ -23,18 +23,28 @@ use uses::Counting;
 #[derive(Drop)]
 struct Ran<M> {
     finished: Finished<M>,
-    // Whether all was started, and each lane has handed in all of its jobs.
+    // Whether all jobs were handed in, and each worker has found the line ended.
     is_whole: bool,
 }
 
-// Whether all was started, and each lane has handed in all of its jobs.
+// Whether the lane has handed in all of its jobs.
+fn is_fed(lane: &LaneEnd) -> bool {
+    lane.stop == Some(FeedStop::Done) && lane.back.is_none() && lane.left.is_empty()
+}
+
+// Whether there are so many lanes and each has handed in all of its jobs, each worker has found the line
+// ended, and the close number is the count of all entries.
 fn is_whole<M>(end: &RunEnd<M>, lanes: usize) -> bool {
-    end.all_started
-        && end.unfed.len() == lanes
-        && end
-            .unfed
-            .iter()
-            .all(|unfed| unfed.back.is_none() && unfed.left.is_empty())
+    let mut entries = 0u64;
+    for lane in &end.lanes {
+        entries = entries.wrapping_add(lane.entries);
+        if !is_fed(lane) {
+            return false;
+        }
+    }
+    end.lanes.len() == lanes
+        && end.close_number == entries
+        && end.stops.iter().all(|stop| *stop == Stop::Ended)
 }
 
 // The sizes of a shop: the dimension, the workers, and the capacity.
