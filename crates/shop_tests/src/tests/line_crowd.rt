@@ -4,6 +4,7 @@ ghost use Rattle.std.specs.List.{All};
 ghost use Rattle.job_queue.specs.Record.{fresh_lanes, fresh_passes};
 
 use crate::tests::line::{JOBS, are_new_and_rise};
+use cube_shape::MAX_LANES;
 use job_queue::{JobLine, Opened, QueuedJob, Refused, Rest, Sizes};
 use job_types::Job;
 use line_run::{Door, Naming, drain};
@@ -75,7 +76,7 @@ impl Found {
 
 // The jobs of so many lanes, so many of each, at the lane's number.
 fn jobs_of_all(alloc: Global, lanes: u32, count: u32) -> Result<Vec<Mutex<VecDeque<Job>>>, Fail>
-    requires { lanes ≤ 16 }
+    requires { lanes ≤ MAX_LANES }
 {
     let mut all = Vec::new(alloc);
     for lane in 0..lanes {
