@@ -1,13 +1,13 @@
 //! The jobs of two lanes, answered on the tree; the results are worked out by hand.
-use crate::tests::floor_calls::is_wholly_free;
-use crate::tests::jobs::{Plan, lists};
+use crate::tests::at_rest::AtRest;
 use dispatcher::{Finished, Plain};
 use job_types::{JobId, JobRefused, Reply};
 use std::alloc::Global;
 use std::sync::Wait;
 use std::test::Fail;
 use std::thread::Threads;
-use tree_floor::{FreeMachine, TreeFloor};
+use test_kit::{Plan, lists};
+use tree_floor::FreeMachine;
 use uses::{Counting, answer_and_count};
 
 // The replies to the jobs of two lanes, and how many processors these had together.
@@ -60,6 +60,6 @@ fn each_job_is_answered_once(rt: HostRuntime) -> Result<(), Fail> {
     assert!(rt; is_once(&finished, 0, 0, Some(2), Some(9)));
     assert!(rt; is_once(&finished, 1, 0, Some(3), Some(3)));
     assert!(rt; is_once(&finished, 1, 1, None, Some(9)));
-    assert!(rt; is_wholly_free::<TreeFloor>(&finished.machine, 3, 16));
+    assert!(rt; finished.machine.is_at_rest(3));
     Ok(())
 }

@@ -2,14 +2,14 @@
 ghost use Rattle.std.specs.Prelude.{◌≡◌, ◌<◌, ◌≤◌, length};
 ghost use Rattle.std.specs.List.{All};
 
+use crate::tests::at_rest::AtRest;
 use crate::tests::members::{Pair, both, only, sole};
 use cube_shape::{MAX_DIM, MAX_STATIONS, Region};
 use floors::Floor;
-use locked_floor::{FreeMachine, LockedFloor};
+use locked_floor::LockedFloor;
 use std::alloc::Global;
 use std::process::Abort;
 use std::sync::Wait;
-use std::test::Fail;
 use tree_floor::TreeFloor;
 use uses::hold_pair;
 
@@ -29,19 +29,6 @@ pub fn opened<F: Floor>(
     ensures of_floor { All (F.is_station (F.id result.0)) result.1.items }
 {
     F::open(alloc, n, stations).expect(rt, "no memory")
-}
-
-// Whether the machine has this dimension and so many words, and those of all nodes are 0.
-pub fn is_wholly_free<F: Floor>(machine: &F::Machine, n: u32, words: usize) -> bool {
-    let all = F::words(machine);
-    F::dim(machine) == n && all.len() == words && all.iter().skip(1).all(|word| *word == 0)
-}
-
-// Whether its bits say so too, and word 0 is 0.
-pub fn is_locked_free(machine: &FreeMachine, n: u32, words: usize) -> bool {
-    is_wholly_free::<LockedFloor>(machine, n, words)
-        && machine.bits().is_wholly_free()
-        && matches!(LockedFloor::words(machine).first(), Some(0))
 }
 
 // Three takes and as many releases by two stations, and the end of the floor, to which the stations
@@ -91,83 +78,101 @@ fn are_first_regions(regions: &[Region; 3]) -> bool {
         && regions[2] == Region { base: 0, dim: 0 }
 }
 
-#[test]
-fn each_call_once(rt: HostRuntime) -> Result<(), Fail> {
-    let (floor, stations) = LockedFloor::open(rt.alloc(), 2, 2)?;
-    let (regions, machine) = play(&rt, floor, stations, false);
-    assert!(rt; are_first_regions(&regions));
-    assert!(rt; is_locked_free(&machine, 2, 8));
-    let (floor, stations) = TreeFloor::open(rt.alloc(), 2, 2)?;
-    let (regions, machine) = play(&rt, floor, stations, true);
-    assert!(rt; are_first_regions(&regions));
-    assert!(rt; is_wholly_free::<TreeFloor>(&machine, 2, 8));
-    Ok(())
+// The stations come back in their order, and turned round.
+fn each_call_once<R: Abort + Wait, F: Floor>(rt: &R, alloc: Global)
+where
+    F::Machine: Drop + AtRest,
+{
+    let (floor, stations) = opened::<F>(rt, alloc, 2, 2);
+    let (regions, machine) = play(rt, floor, stations, false);
+    assert!(rt; are_first_regions(&regions) && machine.is_at_rest(2));
+    let (floor, stations) = opened::<F>(rt, alloc, 2, 2);
+    let (regions, machine) = play(rt, floor, stations, true);
+    assert!(rt; are_first_regions(&regions) && machine.is_at_rest(2));
 }
 
-// Two floors of one station each, which holds the whole machine at the same moment: the regions, and
-// the machines.
-fn play_both<R: Abort + Wait, F: Floor>(
-    rt: &R,
-    alloc: Global,
-) -> ((Region, F::Machine), (Region, F::Machine)) {
+#[test]
+fn each_call_once_with_no_lock(rt: HostRuntime) {
+    each_call_once::<_, TreeFloor>(&rt, rt.alloc());
+}
+
+#[test]
+fn each_call_once_under_a_lock(rt: HostRuntime) {
+    each_call_once::<_, LockedFloor>(&rt, rt.alloc());
+}
+
+// Two floors of one station each, which holds the whole machine at the same moment.
+fn two_floors_share_nothing<R: Abort + Wait, F: Floor>(rt: &R, alloc: Global)
+where
+    F::Machine: Drop + AtRest,
+{
     let (floor, mut stations) = opened::<F>(rt, alloc, 3, 1);
     let (other, mut others) = opened::<F>(rt, alloc, 3, 1);
     let held = floor.take(rt, only(&mut stations), 3);
     let also_held = other.take(rt, only(&mut others), 3);
-    let regions = (F::region(&held), F::region(&also_held));
+    let regions = [F::region(&held), F::region(&also_held)];
     let stations = sole(stations, floor.release(rt, held));
     let others = sole(others, other.release(rt, also_held));
-    (
-        (regions.0, floor.close(stations)),
-        (regions.1, other.close(others)),
-    )
+    let machine = floor.close(stations);
+    let other = other.close(others);
+    assert_eq!(rt; regions, [Region { base: 0, dim: 3 }; 2]);
+    assert!(rt; machine.is_at_rest(3) && other.is_at_rest(3));
 }
 
 #[test]
-fn two_floors_share_nothing(rt: HostRuntime) {
-    let (one, other) = play_both::<_, LockedFloor>(&rt, rt.alloc());
-    for (region, machine) in [one, other] {
-        assert_eq!(rt; region, Region { base: 0, dim: 3 });
-        assert!(rt; is_locked_free(&machine, 3, 16));
-    }
+fn two_floors_share_nothing_with_no_lock(rt: HostRuntime) {
+    two_floors_share_nothing::<_, TreeFloor>(&rt, rt.alloc());
 }
 
-// The smallest floor and the largest, at their ends: the machines, and how many stations the largest
-// one has.
-fn extremes<F: Floor>(rt: &impl Abort, alloc: Global) -> (F::Machine, usize, F::Machine) {
+#[test]
+fn two_floors_share_nothing_under_a_lock(rt: HostRuntime) {
+    two_floors_share_nothing::<_, LockedFloor>(&rt, rt.alloc());
+}
+
+// The smallest floor and the largest, at their ends.
+fn smallest_floor_and_largest<R: Abort, F: Floor>(rt: &R, alloc: Global)
+where
+    F::Machine: Drop + AtRest,
+{
     let (smallest, stations) = opened::<F>(rt, alloc, 0, 1);
     let small = smallest.close(stations);
     let (largest, stations) = opened::<F>(rt, alloc, MAX_DIM, MAX_STATIONS);
     let count = stations.len();
-    (small, count, largest.close(stations))
+    let large = largest.close(stations);
+    assert_eq!(rt; count, 32);
+    assert!(rt; small.is_at_rest(0) && large.is_at_rest(10));
 }
 
 #[test]
-fn smallest_floor_and_largest(rt: HostRuntime) {
-    let (small, count, large) = extremes::<LockedFloor>(&rt, rt.alloc());
-    assert!(rt; is_locked_free(&small, 0, 2));
-    assert_eq!(rt; count, 32);
-    assert!(rt; is_locked_free(&large, 10, 2048));
-    let (small, count, large) = extremes::<TreeFloor>(&rt, rt.alloc());
-    assert!(rt; is_wholly_free::<TreeFloor>(&small, 0, 2));
-    assert_eq!(rt; count, 32);
-    assert!(rt; is_wholly_free::<TreeFloor>(&large, 10, 2048));
+fn smallest_floor_and_largest_with_no_lock(rt: HostRuntime) {
+    smallest_floor_and_largest::<_, TreeFloor>(&rt, rt.alloc());
 }
 
-// Whether two stations of a machine of dimension 3 were given its first two regions of two processors
-// each, and the machine was wholly free then.
-fn gives_first_two<R: Abort + Wait, F: Floor>(rt: &R, alloc: Global) -> bool
+#[test]
+fn smallest_floor_and_largest_under_a_lock(rt: HostRuntime) {
+    smallest_floor_and_largest::<_, LockedFloor>(&rt, rt.alloc());
+}
+
+// Two stations of a machine of dimension 3 are given its first two regions of two processors each, and the
+// machine is wholly free then.
+fn a_pair_holds_the_first_regions<R: Abort + Wait, F: Floor>(rt: &R, alloc: Global)
 where
-    F::Machine: Drop,
+    F::Machine: Drop + AtRest,
 {
     let (one, other, machine) = hold_pair::<R, F>(rt, alloc, 3, 1).expect(rt, "no memory");
-    one == Region { base: 0, dim: 1 }
-        && other == Region { base: 2, dim: 1 }
-        && is_wholly_free::<F>(&machine, 3, 16)
+    assert_eq!(rt;
+        [one, other],
+        [Region { base: 0, dim: 1 }, Region { base: 2, dim: 1 }]
+    );
+    assert!(rt; machine.is_at_rest(3));
 }
 
 #[test]
-fn a_pair_on_each_floor(rt: HostRuntime) {
-    assert!(rt; gives_first_two::<_, LockedFloor>(&rt, rt.alloc()));
-    assert!(rt; gives_first_two::<_, TreeFloor>(&rt, rt.alloc()));
+fn a_pair_holds_the_first_regions_with_no_lock(rt: HostRuntime) {
+    a_pair_holds_the_first_regions::<_, TreeFloor>(&rt, rt.alloc());
+}
+
+#[test]
+fn a_pair_holds_the_first_regions_under_a_lock(rt: HostRuntime) {
+    a_pair_holds_the_first_regions::<_, LockedFloor>(&rt, rt.alloc());
 }

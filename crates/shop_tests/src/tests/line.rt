@@ -2,7 +2,6 @@
 ghost use Rattle.std.specs.Prelude.{◌≡◌, ◌<◌, ◌≤◌, [], IfOk};
 ghost use Rattle.std.specs.Vec.{vec_capacity};
 
-use crate::tests::jobs::{Plan, SUM, job, jobs};
 use crate::tests::members::{Pair, both};
 use job_queue::{JobLine, Opened, QueuedJob, Receipt, Refused, Rest, Sizes, Taken};
 use job_types::{Job, JobId};
@@ -16,6 +15,7 @@ use std::process::Abort;
 use std::sync::Wait;
 use std::test::Fail;
 use std::thread::Threads;
+use test_kit::{Plan, SUM, job, jobs};
 
 pub const JOBS: usize = 100;
 

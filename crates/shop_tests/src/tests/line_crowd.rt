@@ -3,8 +3,8 @@ ghost use Rattle.std.specs.Prelude.{◌≡◌, ◌<◌, ◌≤◌, map};
 ghost use Rattle.std.specs.List.{All};
 ghost use Rattle.job_queue.specs.Record.{fresh_lanes, fresh_passes};
 
-use crate::tests::jobs::{Plan, jobs};
 use crate::tests::line::{JOBS, are_new_and_rise};
+use cube_shape::MAX_LANES;
 use job_queue::{JobLine, Opened, QueuedJob, Refused, Rest, Sizes};
 use job_types::Job;
 use line_run::{Door, Naming, drain};
@@ -19,6 +19,7 @@ use std::sync::atomic::Ordering::SeqCst;
 use std::sync::{Mutex, Wait};
 use std::test::Fail;
 use std::thread::{Threads, for_each_mut, join_mut, yield_now};
+use test_kit::{Plan, jobs};
 
 // What the lanes of a run found.
 #[derive(Drop)]
@@ -75,7 +76,7 @@ impl Found {
 
 // The jobs of so many lanes, so many of each, at the lane's number.
 fn jobs_of_all(alloc: Global, lanes: u32, count: u32) -> Result<Vec<Mutex<VecDeque<Job>>>, Fail>
-    requires { lanes ≤ 16 }
+    requires { lanes ≤ MAX_LANES }
 {
     let mut all = Vec::new(alloc);
     for lane in 0..lanes {

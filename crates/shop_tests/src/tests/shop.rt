@@ -1,114 +1,70 @@
-//! A shop of one lane and one worker: over the locked line and the locked floor, and with no lock.
-ghost use Rattle.std.specs.Prelude.{◌≡◌, ◌≢◌, None, IfOk};
-ghost use Rattle.std.specs.List.{All};
-ghost use Rattle.job_queue.specs.Line.{IsFor};
-ghost use Rattle.dispatcher.specs.Opening.{refusal_of};
-
-use crate::tests::floor_calls::{is_locked_free, is_wholly_free};
-use crate::tests::jobs::{Row, SUM, job, listed};
-use crate::tests::single::{Single, finish, stand_down};
-use dispatcher::{FeedEnd, FeedStop, Finished, Plain, Shop, ShopRefused, Stop, dispatch, feed};
+//! A shop of one lane and one worker: over the line and the floor with no lock, and over the two locks.
+use crate::tests::at_rest::AtRest;
+use crate::tests::stage::{Back, Stage};
+use dispatcher::{FeedEnd, FeedStop, Finished, Plain, Shop, ShopRefused, Stop, refusal};
 use floors::Floor;
 use job_queue::{JobLine, Receipt, Refused};
-use job_types::{Job, JobId, Region, Reply};
+use job_types::{JobId, Region, Reply};
 use locked_floor::LockedFloor;
 use locked_line::LockedLine;
 use ruled_line::RuledLine;
 use std::alloc::Global;
-use std::collections::VecDeque;
 use std::process::Abort;
 use std::sync::Wait;
-use std::test::Fail;
+use test_kit::{Row, SUM, listed};
 use tree_floor::TreeFloor;
-use uses::Tallied;
+use uses::{Counting, Tallied};
 
-// Why a shop of these sizes is refused.
-fn refused(alloc: Global, n: u32, lanes: u32, dispatchers: u32, capacity: usize) -> ShopRefused
-    requires { refusal_of n lanes dispatchers capacity ≢ None }
-{
-    match Shop::<LockedLine, LockedFloor>::open(alloc, n, lanes, dispatchers, capacity) {
-        Err(refused) => refused,
-        Ok(_opened) => unreachable!(),
-    }
-}
+// The sizes of a shop, from its dimension to its capacity, and why it is refused.
+type Refusal = (u32, u32, u32, usize, ShopRefused);
 
-#[test]
-fn first_bad_size_is_the_refusal(rt: HostRuntime) {
-    let alloc = rt.alloc();
-    assert_eq!(rt; refused(alloc, 11, 0, 0, 0), ShopRefused::BadDimension);
-    assert_eq!(rt; refused(alloc, 3, 17, 1, 1), ShopRefused::BadLanes);
-    assert_eq!(rt; refused(alloc, 3, 0, 0, 0), ShopRefused::BadLanes);
-    assert_eq!(rt; refused(alloc, 3, 1, 17, 1), ShopRefused::BadDispatchers);
-    assert_eq!(rt; refused(alloc, 3, 1, 0, 0), ShopRefused::BadDispatchers);
-    assert_eq!(rt; refused(alloc, 3, 1, 1, 1025), ShopRefused::BadCapacity);
-    assert_eq!(rt; refused(alloc, 3, 1, 1, 0), ShopRefused::BadCapacity);
-}
-
-// A job that was given back, and why.
-type Back = (Job, Refused);
-
-// What became of three submits by one lane, with a close before the third, and of the shop.
-#[derive(Drop)]
-struct Script<M> {
-    first: Result<Receipt, Back>,
-    second: Result<Receipt, Back>,
-    third: Result<Receipt, Back>,
-    close_number: u64,
-    finished: Finished<M>,
-}
-
-fn play<R: Wait, L: JobLine, F: Floor>(
-    rt: &R,
-    alloc: Global,
-    single: Single<L, F>,
-    jobs: (Job, Job, Job),
-) -> Script<F::Machine>
-    requires machine { single.line.sizes.machine ≡ 2 }
-    requires jobs { IsFor 2 0 jobs.0 × IsFor 2 0 jobs.1 × IsFor 2 0 jobs.2 }
-{
-    let Single {
-        shop,
-        mut lane,
-        lanes,
-        worker,
-        ends,
-        closer,
-    } = single;
-    let (first, second, third) = jobs;
-    let first = shop.submit(rt, &mut lane, first);
-    let second = shop.submit(rt, &mut lane, second);
-    let note = shop.close(rt, closer);
-    let close_number = note.number();
-    let third = shop.submit(rt, &mut lane, third);
-    let end = stand_down(alloc, &shop, worker);
-    Script {
-        first,
-        second,
-        third,
-        close_number,
-        finished: finish(rt, shop, (lane, lanes), (end, ends), note),
-    }
-}
-
-// A sum of two numbers, of two others and of two more, handed in to a shop with room for one.
-fn run_script<R: Wait, L: JobLine, F: Floor>(
-    rt: &R,
-    alloc: Global,
-) -> Result<Script<F::Machine>, ShopRefused>
+// Whether a shop of each of these sizes is refused for its reason.
+fn are_refused<L: JobLine, F: Floor>(alloc: Global, rows: &[Refusal]) -> bool
 where
     F::Machine: Drop,
 {
-    let Ok(first) = job(alloc, 2, 0, SUM, &[1, 2]) else {
-        return Err(ShopRefused::OutOfMemory);
-    };
-    let Ok(second) = job(alloc, 2, 0, SUM, &[3, 4]) else {
-        return Err(ShopRefused::OutOfMemory);
-    };
-    let Ok(third) = job(alloc, 2, 0, SUM, &[5, 6]) else {
-        return Err(ShopRefused::OutOfMemory);
-    };
-    let single = Single::<L, F>::open(alloc, 2, 1)?;
-    Ok(play(rt, alloc, single, (first, second, third)))
+    for (n, lanes, dispatchers, capacity, why) in rows {
+        if refusal(*n, *lanes, *dispatchers, *capacity).is_none() {
+            return false;
+        }
+        match Shop::<L, F>::open(alloc, *n, *lanes, *dispatchers, *capacity) {
+            Err(refused) => {
+                if refused != *why {
+                    return false;
+                }
+            }
+            Ok(_opened) => unreachable!(),
+        }
+    }
+    true
+}
+
+fn first_bad_size_is_the_refusal<L: JobLine, F: Floor>(alloc: Global) -> bool
+where
+    F::Machine: Drop,
+{
+    are_refused::<L, F>(
+        alloc,
+        &[
+            (11, 0, 0, 0, ShopRefused::BadDimension),
+            (3, 17, 1, 1, ShopRefused::BadLanes),
+            (3, 0, 0, 0, ShopRefused::BadLanes),
+            (3, 1, 17, 1, ShopRefused::BadDispatchers),
+            (3, 1, 0, 0, ShopRefused::BadDispatchers),
+            (3, 1, 1, 1025, ShopRefused::BadCapacity),
+            (3, 1, 1, 0, ShopRefused::BadCapacity),
+        ],
+    )
+}
+
+#[test]
+fn first_bad_size_is_the_refusal_with_no_lock(rt: HostRuntime) {
+    assert!(rt; first_bad_size_is_the_refusal::<RuledLine, TreeFloor>(rt.alloc()));
+}
+
+#[test]
+fn first_bad_size_is_the_refusal_under_locks(rt: HostRuntime) {
+    assert!(rt; first_bad_size_is_the_refusal::<LockedLine, LockedFloor>(rt.alloc()));
 }
 
 // Whether this is a refusal for this reason, with a job of these numbers.
@@ -117,15 +73,6 @@ fn gives_back(outcome: &Result<Receipt, Back>, why: Refused, numbers: &[u64]) ->
         Ok(_) => false,
         Err((job, refused)) => *refused == why && job.items() == numbers,
     }
-}
-
-// Whether the first job is accepted, the line is full for the second, and closed for the third.
-fn has_outcomes<M>(script: &Script<M>) -> bool {
-    let id = JobId { lane: 0, seq: 0 };
-    matches!(&script.first, Ok(receipt) if *receipt == Receipt { id, number: 0 })
-        && gives_back(&script.second, Refused::Full, &[3, 4])
-        && script.close_number == 2
-        && gives_back(&script.third, Refused::Closed { seen: 2 }, &[5, 6])
 }
 
 // Whether this is the reply to the lane's first job, of the numbers 1 and 2.
@@ -137,114 +84,46 @@ fn answers_the_first(reply: &Reply) -> bool {
 }
 
 // Whether the worker answered nothing, and the only accepted job is answered at the end.
-fn has_rest<M>(finished: &Finished<M>) -> bool {
+fn has_rest<M: AtRest>(finished: &Finished<M>) -> bool {
     finished.by_worker.len() == 1
         && finished.by_worker[0].is_empty()
         && finished.rest.len() == 1
         && answers_the_first(&finished.rest[0])
         && finished.accepted.as_slice() == [1].as_slice()
+        && finished.machine.is_at_rest(2)
+}
+
+// Three submits to a shop with room for one job, and a close before the third. The worker does not run.
+fn close_against_submit<R: Wait + Abort, L: JobLine, F: Floor>(rt: &R, alloc: Global)
+where
+    F::Machine: Drop + AtRest,
+{
+    let mut stage = Stage::<L, F>::open(alloc, 1).expect(rt, "no memory");
+    let first = stage.submit(rt, alloc, &[1, 2]);
+    let second = stage.submit(rt, alloc, &[3, 4]);
+    let close_number = stage.close(rt);
+    let third = stage.submit(rt, alloc, &[5, 6]);
+    let finished = stage.finish(rt, alloc, &Plain);
+    let id = JobId { lane: 0, seq: 0 };
+    assert!(rt; matches!(first, Ok(receipt) if receipt == Receipt { id, number: 0 }));
+    assert!(rt; gives_back(&second, Refused::Full, &[3, 4]));
+    assert_eq!(rt; close_number, 2);
+    assert!(rt; gives_back(&third, Refused::Closed { seen: 2 }, &[5, 6]));
+    assert!(rt; has_rest(&finished));
 }
 
 #[test]
-fn close_against_submit(rt: HostRuntime) -> Result<(), Fail> {
-    let script = run_script::<_, LockedLine, LockedFloor>(&rt, rt.alloc())?;
-    assert!(rt; has_outcomes(&script));
-    assert!(rt; has_rest(&script.finished));
-    assert!(rt; is_locked_free(&script.finished.machine, 2, 8));
-    Ok(())
+fn close_against_submit_with_no_lock(rt: HostRuntime) {
+    close_against_submit::<_, RuledLine, TreeFloor>(&rt, rt.alloc());
 }
 
 #[test]
-fn close_against_submit_with_no_lock(rt: HostRuntime) -> Result<(), Fail> {
-    let script = run_script::<_, RuledLine, TreeFloor>(&rt, rt.alloc())?;
-    assert!(rt; has_outcomes(&script));
-    assert!(rt; has_rest(&script.finished));
-    assert!(rt; is_wholly_free::<TreeFloor>(&script.finished.machine, 2, 8));
-    Ok(())
+fn close_against_submit_under_locks(rt: HostRuntime) {
+    close_against_submit::<_, LockedLine, LockedFloor>(&rt, rt.alloc());
 }
 
-// Three jobs, of one, two and four numbers.
-fn three_jobs(alloc: Global) -> Result<VecDeque<Job>, ShopRefused>
-    ensures { IfOk result (λ jobs. All (IsFor 2 0) jobs.items) }
-{
-    let rows = [
-        Row {
-            kind: SUM,
-            numbers: &[5],
-        },
-        Row {
-            kind: SUM,
-            numbers: &[1, 2],
-        },
-        Row {
-            kind: SUM,
-            numbers: &[1, 2, 3, 4],
-        },
-    ];
-    let Ok(jobs) = listed(alloc, 2, 0, &rows) else {
-        return Err(ShopRefused::OutOfMemory);
-    };
-    Ok(jobs)
-}
-
-// What became of jobs that came before the close and of some that came after it.
-#[derive(Drop)]
-struct Run<M> {
-    fed: FeedEnd,
-    late: FeedEnd,
-    stop: Stop,
-    finished: Finished<M>,
-}
-
-// Feeds jobs of lane 0 by it.
-fn feed_lane<R: Wait, L: JobLine, F: Floor>(
-    rt: &R,
-    shop: &Shop<L, F>,
-    lane: &mut L::Lane,
-    jobs: VecDeque<Job>,
-) -> FeedEnd
-    requires machine { shop.now.line.sizes.machine ≡ 2 }
-    requires lane { L.is_lane shop.now.line lane.old }
-    requires number { (L.lane_record lane.old).number ≡ 0 }
-    requires jobs { All (IsFor 2 0) jobs.items }
-    ensures lane { L.is_lane shop.now.line lane.new }
-    ensures number { (L.lane_record lane.new).number ≡ 0 }
-{
-    feed(rt, shop, lane, jobs)
-}
-
-// Feeds the first jobs, closes, feeds the others, and lets the worker run to its end.
-fn feed_and_dispatch<R: Wait, L: JobLine, F: Floor>(
-    rt: &R,
-    alloc: Global,
-    single: Single<L, F>,
-    jobs: VecDeque<Job>,
-    late_jobs: VecDeque<Job>,
-) -> Run<F::Machine>
-    requires machine { single.line.sizes.machine ≡ 2 }
-    requires jobs { All (IsFor 2 0) jobs.items }
-    requires late_jobs { All (IsFor 2 0) late_jobs.items }
-{
-    let Single {
-        shop,
-        mut lane,
-        lanes,
-        worker,
-        ends,
-        closer,
-    } = single;
-    let fed = feed_lane(rt, &shop, &mut lane, jobs);
-    let note = shop.close(rt, closer);
-    let late = feed_lane(rt, &shop, &mut lane, late_jobs);
-    let end = dispatch(rt, alloc, &shop, worker, &Plain);
-    let stop = end.stop();
-    Run {
-        fed,
-        late,
-        stop,
-        finished: finish(rt, shop, (lane, lanes), (end, ends), note),
-    }
-}
+// Jobs of one, two and four numbers.
+const THREE_JOBS: [Row<'static>; 3] = [(SUM, &[5]), (SUM, &[1, 2]), (SUM, &[1, 2, 3, 4])];
 
 // Whether these are the replies to lane 0's jobs from this seq on, in order.
 fn are_seqs_from(seq: u64, replies: &[Reply]) -> bool {
@@ -270,27 +149,41 @@ fn are_three_seqs(first: &[Reply], rest: &[Reply]) -> bool {
 }
 
 // Whether each of the three jobs has its reply, and the worker had no memory where it left one to the end.
-fn keeps_all<M>(run: &Run<M>) -> bool {
-    let by_worker = &run.finished.by_worker;
-    let rest = &run.finished.rest;
+fn keeps_all<M>(stop: Stop, finished: &Finished<M>) -> bool {
+    let by_worker = &finished.by_worker;
+    let rest = &finished.rest;
     by_worker.len() == 1
         && are_three_seqs(&by_worker[0], rest)
-        && (run.stop == Stop::Ended || run.stop == Stop::OutOfMemory && !rest.is_empty())
+        && (stop == Stop::Ended || stop == Stop::OutOfMemory && !rest.is_empty())
 }
 
 // With no memory the jobs are not made or the shop is not opened. Once it is open, a worker that gets
 // none for its replies leaves the jobs to the end.
+fn replies_outlive_any_refused_growth<R: Wait + Abort, L: JobLine, F: Floor>(rt: &R, alloc: Global)
+where
+    F::Machine: Drop,
+{
+    let Ok(jobs) = listed(alloc, 2, 0, &THREE_JOBS) else {
+        return;
+    };
+    let Ok(mut stage) = Stage::<L, F>::open(alloc, 4) else {
+        return;
+    };
+    stage.feed(rt, jobs);
+    stage.close(rt);
+    let stop = stage.dispatch(rt, alloc, &Plain, None);
+    let finished = stage.finish(rt, alloc, &Plain);
+    assert!(rt; keeps_all(stop, &finished));
+}
+
 #[test]
-fn replies_outlive_any_refused_growth(rt: HostRuntime) {
-    let Ok(jobs) = three_jobs(rt.alloc()) else {
-        return;
-    };
-    let Ok(single) = Single::<LockedLine, LockedFloor>::open(rt.alloc(), 2, 4) else {
-        return;
-    };
-    let none = VecDeque::new(rt.alloc());
-    let run = feed_and_dispatch(&rt, rt.alloc(), single, jobs, none);
-    assert!(rt; keeps_all(&run));
+fn replies_outlive_any_refused_growth_with_no_lock(rt: HostRuntime) {
+    replies_outlive_any_refused_growth::<_, RuledLine, TreeFloor>(&rt, rt.alloc());
+}
+
+#[test]
+fn replies_outlive_any_refused_growth_under_locks(rt: HostRuntime) {
+    replies_outlive_any_refused_growth::<_, LockedLine, LockedFloor>(&rt, rt.alloc());
 }
 
 // Whether all was handed in.
@@ -324,29 +217,130 @@ fn have_first_regions(replies: &[Reply]) -> bool {
     true
 }
 
-// A shop over the line and the locked floor, which closes between two feeds.
-fn feeds_until_the_close<R: Wait + Abort, L: JobLine>(rt: &R, alloc: Global) -> Result<(), Fail> {
-    let jobs = three_jobs(alloc)?;
-    let late_jobs = three_jobs(alloc)?;
-    let single = Single::<L, LockedFloor>::open(alloc, 2, 4)?;
-    let run = feed_and_dispatch(rt, alloc, single, jobs, late_jobs);
-    assert!(rt; is_done(&run.fed));
-    assert!(rt; stops_at_the_close(&run.late));
-    assert_eq!(rt; run.stop, Stop::Ended);
-    let finished = &run.finished;
+// The close comes between two feeds, and then the worker runs to its end.
+fn feed_stops_at_the_close<R: Wait + Abort, L: JobLine, F: Floor>(rt: &R, alloc: Global)
+where
+    F::Machine: Drop + AtRest,
+{
+    let mut stage = Stage::<L, F>::open(alloc, 4).expect(rt, "no memory");
+    let fed = stage.feed_rows(rt, alloc, &THREE_JOBS);
+    stage.close(rt);
+    let late = stage.feed_rows(rt, alloc, &THREE_JOBS);
+    let stop = stage.dispatch(rt, alloc, &Plain, None);
+    let finished = stage.finish(rt, alloc, &Plain);
+    assert!(rt; is_done(&fed) && stops_at_the_close(&late));
+    assert_eq!(rt; stop, Stop::Ended);
     assert!(rt; finished.by_worker.len() == 1 && finished.rest.is_empty());
     assert!(rt; have_first_regions(&finished.by_worker[0]));
-    assert!(rt; finished.accepted.as_slice() == [3].as_slice());
-    assert!(rt; is_locked_free(&finished.machine, 2, 8));
-    Ok(())
+    assert!(rt; finished.accepted.as_slice() == [3].as_slice() && finished.machine.is_at_rest(2));
 }
 
 #[test]
-fn feed_stops_at_the_close(rt: HostRuntime) -> Result<(), Fail> {
-    feeds_until_the_close::<_, LockedLine>(&rt, rt.alloc())
+fn feed_stops_at_the_close_with_no_lock(rt: HostRuntime) {
+    feed_stops_at_the_close::<_, RuledLine, TreeFloor>(&rt, rt.alloc());
 }
 
 #[test]
-fn feed_stops_at_the_close_of_a_strangers_line(rt: HostRuntime) -> Result<(), Fail> {
-    feeds_until_the_close::<_, Tallied<RuledLine>>(&rt, rt.alloc())
+fn feed_stops_at_the_close_under_locks(rt: HostRuntime) {
+    feed_stops_at_the_close::<_, LockedLine, LockedFloor>(&rt, rt.alloc());
+}
+
+#[test]
+fn feed_stops_at_the_close_of_a_strangers_line(rt: HostRuntime) {
+    feed_stops_at_the_close::<_, Tallied<RuledLine>, LockedFloor>(&rt, rt.alloc());
+}
+
+// What no worker took is answered by the runner that is lent to the end.
+fn rest_is_answered_by_the_runner_lent<R: Wait + Abort, L: JobLine, F: Floor>(rt: &R, alloc: Global)
+where
+    F::Machine: Drop,
+{
+    let mut stage = Stage::<L, F>::open(alloc, 4).expect(rt, "no memory");
+    stage.feed_rows(rt, alloc, &THREE_JOBS);
+    let runner = Counting::new(Plain);
+    let finished = stage.finish(rt, alloc, &runner);
+    assert!(rt; finished.rest.len() == 3 && are_seqs_from(0, &finished.rest));
+    assert_eq!(rt; runner.answered(), 3);
+}
+
+#[test]
+fn rest_is_answered_by_the_runner_lent_with_no_lock(rt: HostRuntime) {
+    rest_is_answered_by_the_runner_lent::<_, RuledLine, TreeFloor>(&rt, rt.alloc());
+}
+
+#[test]
+fn rest_is_answered_by_the_runner_lent_under_locks(rt: HostRuntime) {
+    rest_is_answered_by_the_runner_lent::<_, LockedLine, LockedFloor>(&rt, rt.alloc());
+}
+
+// Three sums of 1 and 2.
+const THREE_SUMS: [Row<'static>; 3] = [(SUM, &[1, 2]), (SUM, &[1, 2]), (SUM, &[1, 2])];
+
+// How many jobs came back and how many are left, where the feed has stopped for its turns.
+fn left_by_turns(fed: &FeedEnd) -> Option<(usize, usize)> {
+    if fed.stop == FeedStop::Turns {
+        Some((usize::from(fed.back.is_some()), fed.left.len()))
+    } else {
+        None
+    }
+}
+
+// A feed with no turn hands in nothing. One with five into room for one job makes six entries.
+fn feed_stops_after_its_turns<R: Wait + Abort, L: JobLine, F: Floor>(rt: &R, alloc: Global)
+where
+    F::Machine: Drop,
+{
+    let mut stage = Stage::<L, F>::open(alloc, 1).expect(rt, "no memory");
+    let none = stage.feed_for(rt, alloc, &THREE_SUMS, 0);
+    let fed = stage.feed_for(rt, alloc, &THREE_SUMS, 5);
+    let close_number = stage.close(rt);
+    let finished = stage.finish(rt, alloc, &Plain);
+    assert_eq!(rt; left_by_turns(&none), Some((0, 3)));
+    assert_eq!(rt; left_by_turns(&fed), Some((1, 1)));
+    assert_eq!(rt; close_number, 6);
+    assert!(rt; finished.rest.len() == 1 && finished.accepted.as_slice() == [1].as_slice());
+}
+
+#[test]
+fn feed_stops_after_its_turns_with_no_lock(rt: HostRuntime) {
+    feed_stops_after_its_turns::<_, RuledLine, TreeFloor>(&rt, rt.alloc());
+}
+
+#[test]
+fn feed_stops_after_its_turns_under_locks(rt: HostRuntime) {
+    feed_stops_after_its_turns::<_, LockedLine, LockedFloor>(&rt, rt.alloc());
+}
+
+// A worker that is to answer two of three jobs leaves one to the end, and one that is to answer none leaves
+// all of them. Each job is answered by the runner that is lent at that moment.
+fn worker_stops_when_it_is_enough<R: Wait + Abort, L: JobLine, F: Floor>(rt: &R, alloc: Global)
+where
+    F::Machine: Drop,
+{
+    for (most, answered) in [(2, 2), (0, 0)] {
+        let mut stage = Stage::<L, F>::open(alloc, 4).expect(rt, "no memory");
+        let fed = stage.feed_rows(rt, alloc, &THREE_SUMS);
+        let close_number = stage.close(rt);
+        let (runner, last) = (Counting::new(Plain), Counting::new(Plain));
+        let stop = stage.dispatch(rt, alloc, &runner, Some(most));
+        let finished = stage.finish(rt, alloc, &last);
+        assert!(rt; is_done(&fed) && close_number == 3 && stop == Stop::Enough);
+        assert!(rt; finished.accepted.as_slice() == [3].as_slice());
+        assert!(rt; finished.by_worker.len() == 1);
+        assert!(rt; are_three_seqs(&finished.by_worker[0], &finished.rest));
+        assert_eq!(rt;
+            (runner.answered(), last.answered()),
+            (answered, 3 - answered)
+        );
+    }
+}
+
+#[test]
+fn worker_stops_when_it_is_enough_with_no_lock(rt: HostRuntime) {
+    worker_stops_when_it_is_enough::<_, RuledLine, TreeFloor>(&rt, rt.alloc());
+}
+
+#[test]
+fn worker_stops_when_it_is_enough_under_locks(rt: HostRuntime) {
+    worker_stops_when_it_is_enough::<_, LockedLine, LockedFloor>(&rt, rt.alloc());
 }

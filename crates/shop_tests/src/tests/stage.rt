@@ -1,0 +1,250 @@
+//! A shop of one lane and one worker for a machine of four processors, and what is done to it, one call
+//! after the other.
+ghost use Rattle.std.specs.Prelude.{◌≡◌, ◌≤◌, [], None, MatchOption};
+ghost use Rattle.std.specs.List.{All};
+ghost use Rattle.std.specs.Vec.{vec_capacity};
+ghost use Rattle.job_queue.specs.Line.{IsFor};
+ghost use Rattle.dispatcher.specs.Members.{IsCloserOf, IsEndOf, IsNoteOf, IsWorkerOf};
+
+use crate::tests::members::{only, sole};
+use dispatcher::{
+    CloseNote, Closer, FeedEnd, Finished, Opened, Runner, Shop, ShopRefused, Stop, Worker,
+    WorkerEnd, dispatch, dispatch_some, feed, feed_for,
+};
+use floors::Floor;
+use job_queue::{JobLine, Receipt, Refused};
+use job_types::Job;
+use std::alloc::Global;
+use std::collections::VecDeque;
+use std::marker::Model;
+use std::process::Abort;
+use std::sync::Wait;
+use test_kit::{Row, SUM, job, listed};
+
+// Such a shop. Its worker stands in one of two places, before it runs and after that, and so does the
+// right to close.
+pub struct Stage<L: JobLine, F: Floor> {
+    shop: Shop<L, F>,
+    lane: L::Lane,
+    lanes: Vec<L::Lane>,
+    worker: Option<Worker<L, F>>,
+    end: Option<WorkerEnd<L, F>>,
+    ends: Vec<WorkerEnd<L, F>>,
+    closer: Option<Closer<L, F>>,
+    note: Option<CloseNote<L, F>>,
+}
+
+impl<L: JobLine, F: Floor> Model for Stage<L, F> {
+    ghost use Rattle.std.specs.Prelude.{◌≡◌, ◌≤◌, [], None, MatchOption};
+    ghost use Rattle.std.specs.Vec.{vec_capacity};
+    ghost use Rattle.dispatcher.specs.Shop.{ShopId};
+    ghost use Rattle.dispatcher.specs.Members.{IsCloserOf, IsEndOf, IsNoteOf, IsWorkerOf};
+
+    ghost Value = { ShopId };
+
+    ghost view = { λ s. s.shop };
+
+    ghost invariant = { λ s. (s.shop.line.sizes.machine ≡ 2)
+        × (s.shop.line.sizes.lanes ≡ 1) × (s.shop.line.sizes.passes ≡ 1)
+        × L.is_lane s.shop.line s.lane × ((L.lane_record s.lane).number ≡ 0)
+        × MatchOption s.worker (MatchOption s.end ⊥ (IsEndOf s.shop))
+        (λ w. IsWorkerOf s.shop w × (s.end ≡ None))
+        × MatchOption s.closer (MatchOption s.note ⊥ (IsNoteOf L.JobLine s.shop))
+        (λ c. IsCloserOf L.JobLine s.shop c × (s.note ≡ None))
+        × (s.lanes.items ≡ []) × (1 ≤ vec_capacity s.lanes)
+        × (s.ends.items ≡ []) × (1 ≤ vec_capacity s.ends) };
+}
+
+// A job that was given back, and why.
+pub type Back = (Job, Refused);
+
+impl<L: JobLine, F: Floor> Stage<L, F> {
+    pub fn open(alloc: Global, capacity: usize) -> Result<Self, ShopRefused>
+    where
+        F::Machine: Drop,
+    {
+        let Ok(ends) = Vec::with_capacity(alloc, 1) else {
+            return Err(ShopRefused::OutOfMemory);
+        };
+        let opened = match Shop::open(alloc, 2, 1, 1, capacity) {
+            Ok(opened) => opened,
+            Err(refused) => {
+                ends.destroy_empty();
+                return Err(refused);
+            }
+        };
+        let Opened {
+            shop,
+            mut lanes,
+            mut workers,
+            closer,
+        } = opened;
+        let lane = only(&mut lanes);
+        let worker = only(&mut workers);
+        workers.destroy_empty();
+        Ok(Stage {
+            shop,
+            lane,
+            lanes,
+            worker: Some(worker),
+            end: None,
+            ends,
+            closer: Some(closer),
+            note: None,
+        })
+    }
+
+    // Hands in a sum of these numbers.
+    pub fn submit<R: Wait + Abort>(
+        &mut self,
+        rt: &R,
+        alloc: Global,
+        numbers: &[u64],
+    ) -> Result<Receipt, Back> {
+        let job = job(alloc, 2, 0, SUM, numbers).expect(rt, "no memory");
+        self.shop.submit(rt, &mut self.lane, job)
+    }
+
+    pub fn feed<R: Wait>(&mut self, rt: &R, jobs: VecDeque<Job>) -> FeedEnd
+        requires { All (IsFor 2 0) jobs.items }
+    {
+        feed(rt, &self.shop, &mut self.lane, jobs)
+    }
+
+    // Feeds these jobs.
+    pub fn feed_rows<R: Wait + Abort>(&mut self, rt: &R, alloc: Global, rows: &[Row]) -> FeedEnd {
+        let jobs = listed(alloc, 2, 0, rows).expect(rt, "no memory");
+        self.feed(rt, jobs)
+    }
+
+    // Feeds these jobs, and gives up once the line was full so often.
+    pub fn feed_for<R: Wait + Abort>(
+        &mut self,
+        rt: &R,
+        alloc: Global,
+        rows: &[Row],
+        turns: u32,
+    ) -> FeedEnd {
+        let jobs = listed(alloc, 2, 0, rows).expect(rt, "no memory");
+        feed_for(rt, &self.shop, &mut self.lane, jobs, turns)
+    }
+
+    // Closes the shop, where that was not done before: the close number.
+    pub fn close<R: Wait>(&mut self, rt: &R) -> u64 {
+        if let Some(closer) = self.closer.take() {
+            match self.note.replace(self.shop.close(rt, closer)) {
+                None => {}
+                Some(_note) => unreachable!(),
+            }
+        }
+        match &self.note {
+            Some(note) => note.number(),
+            None => unreachable!(),
+        }
+    }
+
+    // Lets the worker run, where that was not done before, for so many replies at most if that is asked: why it
+    // has stopped.
+    pub fn dispatch<R: Wait, T: Runner>(
+        &mut self,
+        rt: &R,
+        alloc: Global,
+        runner: &T,
+        most: Option<u32>,
+    ) -> Stop {
+        if let Some(worker) = self.worker.take() {
+            match self
+                .end
+                .replace(run_worker(rt, alloc, &self.shop, worker, runner, most))
+            {
+                None => {}
+                Some(_end) => unreachable!(),
+            }
+        }
+        match &self.end {
+            Some(end) => end.stop(),
+            None => unreachable!(),
+        }
+    }
+
+    // Ends the shop, which is closed now at the latest. A worker that has not run stands down.
+    pub fn finish<R: Wait, T: Runner>(
+        self,
+        rt: &R,
+        alloc: Global,
+        runner: &T,
+    ) -> Finished<F::Machine> {
+        let Stage {
+            shop,
+            lane,
+            lanes,
+            worker,
+            end,
+            ends,
+            closer,
+            note,
+        } = self;
+        let note = note_of(rt, &shop, closer, note);
+        let end = end_of(alloc, &shop, worker, end);
+        let lanes = sole(lanes, lane);
+        let ends = sole(ends, end);
+        shop.finish(rt, runner, lanes, ends, note)
+    }
+}
+
+// Runs a worker, for so many replies at most if that is asked.
+fn run_worker<R: Wait, L: JobLine, F: Floor, T: Runner>(
+    rt: &R,
+    alloc: Global,
+    shop: &Shop<L, F>,
+    worker: Worker<L, F>,
+    runner: &T,
+    most: Option<u32>,
+) -> WorkerEnd<L, F>
+    requires { IsWorkerOf shop.now worker }
+    ensures { IsEndOf shop.now result }
+{
+    match most {
+        Some(most) => dispatch_some(rt, alloc, shop, worker, runner, most),
+        None => dispatch(rt, alloc, shop, worker, runner),
+    }
+}
+
+// The note of the close.
+fn note_of<R: Wait, L: JobLine, F: Floor>(
+    rt: &R,
+    shop: &Shop<L, F>,
+    closer: Option<Closer<L, F>>,
+    note: Option<CloseNote<L, F>>,
+) -> CloseNote<L, F>
+    requires { MatchOption closer (MatchOption note ⊥ (IsNoteOf L.JobLine shop.now))
+        (λ c. IsCloserOf L.JobLine shop.now c × (note ≡ None)) }
+    ensures { IsNoteOf L.JobLine shop.now result }
+{
+    match (closer, note) {
+        (Some(closer), None) => shop.close(rt, closer),
+        (None, Some(note)) => note,
+        (Some(_closer), Some(_note)) => unreachable!(),
+        (None, None) => unreachable!(),
+    }
+}
+
+// The worker that has stopped.
+fn end_of<L: JobLine, F: Floor>(
+    alloc: Global,
+    shop: &Shop<L, F>,
+    worker: Option<Worker<L, F>>,
+    end: Option<WorkerEnd<L, F>>,
+) -> WorkerEnd<L, F>
+    requires { MatchOption worker (MatchOption end ⊥ (IsEndOf shop.now))
+        (λ w. IsWorkerOf shop.now w × (end ≡ None)) }
+    ensures { IsEndOf shop.now result }
+{
+    let _shop = shop;
+    match (worker, end) {
+        (Some(worker), None) => worker.stand_down(alloc),
+        (None, Some(end)) => end,
+        (Some(_worker), Some(_end)) => unreachable!(),
+        (None, None) => unreachable!(),
+    }
+}

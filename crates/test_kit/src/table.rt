@@ -1,0 +1,100 @@
+//! Which processors are in use at one moment.
+use dispatcher::Runner;
+use job_types::{Job, JobId, Region, Reply};
+use std::alloc::{AllocError, Global};
+use std::sync::Wait;
+use std::sync::atomic::AtomicU64;
+use std::sync::atomic::Ordering::SeqCst;
+
+/// A counter for each processor of a machine, which is up while its region is in use. Threads may share
+/// it.
+#[derive(Drop)]
+pub struct Table {
+    counts: Vec<AtomicU64>,
+    clashes: AtomicU64,
+}
+
+// Whether the processor is one of the region's. No dimension is above 10.
+fn is_in(region: Region, processor: u64) -> bool {
+    region.base <= processor && processor - region.base < 1 << region.dim.min(10)
+}
+
+impl Table {
+    /// A table of so many processors, of which none is in use.
+    pub fn new(alloc: Global, processors: usize) -> Result<Table, AllocError> {
+        let mut counts = Vec::new(alloc);
+        for _ in 0..processors {
+            counts.push(AtomicU64::new(0))?;
+        }
+        Ok(Table {
+            counts,
+            clashes: AtomicU64::new(0),
+        })
+    }
+
+    /// Counts up on the processors of a region that is held. It is a clash where one of them was in use.
+    pub fn enter(&self, region: Region) {
+        let mut found = 0u64;
+        for (processor, count) in self.counts.iter().enumerate() {
+            if is_in(region, processor as u64) {
+                found |= count.fetch_add(1, SeqCst);
+            }
+        }
+        if found > 0 {
+            self.clashes.fetch_add(1, SeqCst);
+        }
+    }
+
+    /// Counts down again.
+    pub fn leave(&self, region: Region) {
+        for (processor, count) in self.counts.iter().enumerate() {
+            if is_in(region, processor as u64) {
+                count.fetch_sub(1, SeqCst);
+            }
+        }
+    }
+
+    /// How many regions were entered of which a processor was in use.
+    pub fn clashes(&self) -> u64 {
+        self.clashes.load(SeqCst)
+    }
+}
+
+/// A runner that answers jobs by another one, and counts up on a job's processors while it is inside.
+#[derive(Drop)]
+pub struct Tabled<T> {
+    runner: T,
+    table: Table,
+}
+
+impl<T> Tabled<T> {
+    /// Such a runner for a machine of so many processors.
+    pub fn new(alloc: Global, processors: usize, runner: T) -> Result<Tabled<T>, AllocError>
+    where
+        T: Drop,
+    {
+        Ok(Tabled {
+            runner,
+            table: Table::new(alloc, processors)?,
+        })
+    }
+
+    /// The other runner.
+    pub fn runner(&self) -> &T {
+        &self.runner
+    }
+
+    /// How many jobs came in on a region of which a processor was in use.
+    pub fn clashes(&self) -> u64 {
+        self.table.clashes()
+    }
+}
+
+impl<T: Runner> Runner for Tabled<T> {
+    fn run<R: Wait>(&self, rt: &R, id: JobId, region: Region, job: Job) -> Reply {
+        self.table.enter(region);
+        let reply = self.runner.run(rt, id, region, job);
+        self.table.leave(region);
+        reply
+    }
+}
