@@ -1,4 +1,5 @@
 //! Which processors are in use at one moment.
+use cube_shape::MAX_DIM;
 use dispatcher::Runner;
 use job_types::{Job, JobId, Region, Reply};
 use std::alloc::{AllocError, Global};
@@ -14,9 +15,9 @@ pub struct Table {
     clashes: AtomicU64,
 }
 
-// Whether the processor is one of the region's. No dimension is above 10.
+// Whether the processor is one of the region's. No dimension is above the largest one.
 fn is_in(region: Region, processor: u64) -> bool {
-    region.base <= processor && processor - region.base < 1 << region.dim.min(10)
+    region.base <= processor && processor - region.base < 1 << region.dim.min(MAX_DIM)
 }
 
 impl Table {
