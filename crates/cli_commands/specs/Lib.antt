@@ -1,6 +1,7 @@
 pub mod JobIds
 pub mod OpenLanes
 pub mod Replies
+pub mod FileRun
 pub mod Report
 pub mod Answer
 pub mod Trace
