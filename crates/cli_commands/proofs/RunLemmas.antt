@@ -14,7 +14,7 @@ use Rattle.dispatcher.specs.Answers.{AnswersAll}
 use Rattle.dispatcher.specs.Order.{AreSorted}
 use Rattle.dispatcher.specs.Reply.{answered, IsRight}
 use Rattle.dispatcher.specs.declared.feeding.FeedStop.{FeedStop}
-use Rattle.dispatcher.specs.declared.feeding.FeedStop.TheVariants.{Done, Closed, LaneSpent}
+use Rattle.dispatcher.specs.declared.feeding.FeedStop.TheVariants.{Done, Closed, LaneSpent, Turns}
 use Rattle.dispatcher.specs.declared.finishing.Finished.{Finished}
 use Rattle.crew.specs.Done.{is_cut_off, is_idle, is_spent, reason_of}
 use Rattle.crew.specs.Run.{by_worker_of, IsLaneEnd, IsRun, IsStopOf}
@@ -92,6 +92,7 @@ entries_of_spent close_number end None spent is = absurd (true≢false (sym spen
 entries_of_spent close_number end (Some Done) spent is = absurd (true≢false (sym spent))
 entries_of_spent close_number end (Some (Closed seen)) spent is = absurd (true≢false (sym spent))
 entries_of_spent close_number end (Some LaneSpent) spent is = is.1
+entries_of_spent close_number end (Some Turns) spent is = absurd (true≢false (sym spent))
 
 some_spent : {M : Type 0} (words_of : M → List ℕ) (n : ℕ) (lists : List (List JobData)) (end : RunEnd M) → why.Spent ≡ reason_of end → IsRun words_of n lists end → HasSpentLane (Some end)
 some_spent words_of n lists end is run =

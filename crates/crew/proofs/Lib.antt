@@ -1,3 +1,5 @@
 mod MemberLemmas
 pub mod SlotLemmas
-mod RunLemmas
+pub mod AnswerLemmas
+pub mod RunLemmas
+pub mod DoneLemmas

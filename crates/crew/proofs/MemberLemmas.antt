@@ -1,7 +1,7 @@
 -- What a feeder keeps.
-use Rattle.std.proofs.Common.{◌≡◌, ℕ, ◌≤◌, length, ◌++◌, ◌∷◌, [], List, Option, Some, None, false, refl, ap, sym, subst, ◌∙◌}
+use Rattle.std.proofs.Common.{◌≡◌, ◌≢◌, ℕ, ◌≤◌, length, ◌++◌, ◌∷◌, [], List, Option, Some, None, false, refl, ap, sym, subst, ◌∙◌}
 use Rattle.std.specs.List.{All}
-use Rattle.std.specs.Option.{is_some, MatchOption}
+use Rattle.std.specs.Option.{is_some, IsSome, MatchOption}
 use Rattle.std.proofs.lemmas.Bool.{true≢false}
 use Rattle.std.proofs.lemmas.List.{append-nil}
 use Rattle.std.proofs.lemmas.List.Elements.{All-tail}
@@ -9,9 +9,9 @@ use Rattle.job_types.specs.Job.{JobData}
 use Rattle.cube_shape.specs.declared.limits.TheConstants.{MAX_ENTRIES}
 use Rattle.job_queue.specs.declared.record.LaneRecord.{LaneRecord}
 use Rattle.dispatcher.specs.declared.feeding.FeedStop.{FeedStop}
-use Rattle.dispatcher.specs.declared.feeding.FeedStop.TheVariants.{Done, Closed, LaneSpent}
+use Rattle.dispatcher.specs.declared.feeding.FeedStop.TheVariants.{Done, Closed, LaneSpent, Turns}
 use Rattle.dispatcher.specs.Stop.{given_back, EndsWith}
-use Rattle.crew.specs.Run.{IsStopOf}
+use Rattle.crew.specs.InnerStop.{StopsBy}
 
 pub all_after : {A : Type 0} (P : A → Type 0) (xs ys : List A) → All P (xs ++ ys) → All P ys
 all_after P [] ys all = all
@@ -28,10 +28,12 @@ pub still : (accepted before : List JobData) (back_before back : Option JobData)
 still accepted before back_before back given left all none fed start = fed ∙ (sym (ap (λ (js : List JobData). js ++ given) (append-nil before)) ∙ (ap (λ (js : List JobData). before ++ js ++ given) (sym none) ∙ start))
 
 -- why a feed stopped, from what it says of each answer
-pub stop_of : (lane : LaneRecord) (left : List JobData) (stop : FeedStop) → (stop ≡ Done → left ≡ []) → ((seen : ℕ) → stop ≡ Closed seen → EndsWith lane.seen seen) → (stop ≡ LaneSpent → MAX_ENTRIES ≤ length lane.entries) → IsStopOf lane left (Some stop)
-stop_of lane left Done done closed spent = done refl
-stop_of lane left (Closed seen) done closed spent = closed seen refl
-stop_of lane left LaneSpent done closed spent = spent refl
+pub stop_of : (lane : LaneRecord) (back : Option JobData) (left : List JobData) (stop : FeedStop) → (stop ≡ Done → given_back back ++ left ≡ []) → (stop ≢ Done → IsSome back) → ((seen : ℕ) → stop ≡ Closed seen → EndsWith lane.seen seen) → (stop ≡ LaneSpent → MAX_ENTRIES ≤ length lane.entries) → stop ≢ Turns
+    → StopsBy lane back left (Some stop)
+stop_of lane back left Done done refused closed spent no_limit = done refl
+stop_of lane back left (Closed seen) done refused closed spent no_limit = (refused (λ is. cc (is)), closed seen refl)
+stop_of lane back left LaneSpent done refused closed spent no_limit = (refused (λ is. cc (is)), spent refl)
+stop_of lane back left Turns done refused closed spent no_limit = absurd (no_limit refl)
 
 -- a worker that has ended is one that ended so
 pub ended : {W E : Type 0} (worker : Option W) (end : Option E) (e : E) (IsEnd : E → Type 0) (IsWorker : W → Type 0) → worker ≡ None → end ≡ Some e → IsEnd e → MatchOption worker (MatchOption end ⊥ IsEnd) IsWorker

@@ -1,52 +1,180 @@
 -- What the members of a run say together.
-use Rattle.std.proofs.Common.{◌≡◌, ℕ, zero, suc, ◌+◌, ◌++◌, ◌∷◌, [], List, Option, map, length, get_or, length-append, append_assoc, refl, sym, ap, ◌∙◌, arith}
-use Rattle.std.specs.List.{All, AllZip}
+use Rattle.std.proofs.Common.{◌≡◌, ℕ, zero, suc, ◌+◌, ◌<◌, ◌≤◌, ◌++◌, ◌∷◌, [], List, Option, Some, None, map, length, take, drop, get_or, length-append, append_assoc, refl, sym, ap, subst, ◌∙◌, arith}
+use Rattle.std.specs.List.{All, AllByRecursion, AllZip}
+use Rattle.std.specs.declared.alloc.Global.{Global}
+use Rattle.std.specs.declared.collections.VecDeque.{VecDeque}
+use Rattle.std.proofs.Math.Seq.{take-append_seam, drop-append_seam}
 use Rattle.std.proofs.lemmas.List.{length-map}
 use Rattle.std.proofs.lemmas.List.Elements.{All-nil, All-cons, All-head, All-tail}
+use Rattle.histories.specs.Sums.{total, times}
+use Rattle.histories.proofs.SumLemmas.{total-map}
+use Rattle.cube_shape.specs.declared.region.Region.{Region}
 use Rattle.job_types.specs.Job.{JobData}
+use Rattle.job_types.specs.Reply.{ReplyData}
+use Rattle.job_queue.specs.declared.record.Entry.{Entry}
+use Rattle.job_queue.specs.declared.record.QueuedJob.{QueuedJob}
 use Rattle.job_queue.specs.declared.record.LaneRecord.{LaneRecord}
-use Rattle.job_queue.specs.Record.{fresh_lane, fresh_lanes, accepted, job_of, accepted_jobs}
+use Rattle.job_queue.specs.Record.{fresh_lane, fresh_lanes, accepted_with, accepted, job_of, accepted_jobs}
 use Rattle.dispatcher.specs.declared.feeding.FeedStop.{FeedStop}
-use Rattle.crew.specs.Run.{UnfedJobs, unfed_by, IsStopOf}
+use Rattle.dispatcher.specs.declared.feeding.FeedStop.TheVariants.{Done, Closed, LaneSpent, Turns}
+use Rattle.dispatcher.specs.declared.stop.Stop.{Stop}
+use Rattle.dispatcher.specs.declared.stop.Stop.TheVariants.{NotRun}
+use Rattle.dispatcher.specs.Stop.{given_back}
+use Rattle.dispatcher.specs.Finished.{FinishedRun, outcome}
+use Rattle.dispatcher.proofs.OpenLemmas.{map_twice}
+use Rattle.crew.specs.declared.running.LaneEnd.{LaneEnd}
+use Rattle.crew.specs.declared.running.RunEnd.{RunEnd}
+use Rattle.crew.specs.InnerStop.{StopsBy}
+use Rattle.crew.specs.InnerEnd.{unfed_of, counted_end}
+use Rattle.crew.specs.Run.{IsStopOf, IsLaneEnd, accepted_of, by_worker_of, IsRun}
+use Rattle.crew.proofs.AnswerLemmas.{IsFed, answers_all}
 
 pub lanes_count : (count : ℕ) → length (fresh_lanes count) ≡ count
 lanes_count zero = refl
 lanes_count (suc count) = length-append (fresh_lanes count) (fresh_lane count ∷ []) ∙ omega (arith, lanes_count count)
 
--- each lane's accepted jobs with what it did not hand in, side by side
-pub all_fed : {A N : Type 0} (lane_of : A → N) (record_of : N → LaneRecord) (back left : A → List JobData) (stop : A → Option FeedStop) (jobs : ℕ → List JobData) (xs : List A)
-    → All (λ x. accepted_jobs (record_of (lane_of x)) ++ back x ++ left x ≡ jobs (record_of (lane_of x)).number) xs
-    → AllZip (λ (l : LaneRecord) (u : UnfedJobs). (u.lane ≡ l.number) × (accepted_jobs l ++ u.jobs ≡ jobs l.number)) (map record_of (map lane_of xs)) (map (λ x. unfed_by (record_of (lane_of x)).number (back x ++ left x) (stop x)) xs)
-all_fed lane_of record_of back left stop jobs [] all = tt
-all_fed {A} lane_of record_of back left stop jobs (x ∷ xs) all =
-    let Own : A → Type 0 = λ y. accepted_jobs (record_of (lane_of y)) ++ back y ++ left y ≡ jobs (record_of (lane_of y)).number in (
-      (refl, sym (append_assoc (accepted_jobs (record_of (lane_of x))) (back x) (left x)) ∙ All-head Own x xs all),
-      all_fed lane_of record_of back left stop jobs xs (All-tail Own x xs all),
-    )
+-- ---- one lane
 
--- each lane and why its feed stopped, side by side
-pub all_stopped : {A N : Type 0} (lane_of : A → N) (record_of : N → LaneRecord) (left : A → List JobData) (stop : A → Option FeedStop) (xs : List A)
-    → All (λ x. IsStopOf (record_of (lane_of x)) (left x) (stop x)) xs
-    → AllZip (λ (l : LaneRecord) (u : UnfedJobs). IsStopOf l u.jobs u.stop) (map record_of (map lane_of xs)) (map (λ x. unfed_by (record_of (lane_of x)).number (left x) (stop x)) xs)
-all_stopped lane_of record_of left stop [] all = tt
-all_stopped {A} lane_of record_of left stop (x ∷ xs) all =
-    let Own : A → Type 0 = λ y. IsStopOf (record_of (lane_of y)) (left y) (stop y) in
-    (All-head Own x xs all, all_stopped lane_of record_of left stop xs (All-tail Own x xs all))
+-- at most as many jobs as entries
+one_more : (job : Option QueuedJob) (jobs : List QueuedJob) (bound : ℕ) → length jobs ≤ bound → length (accepted_with job jobs) ≤ suc bound
+one_more None jobs bound few = omega (arith, few)
+one_more (Some job) jobs bound few = omega (arith, few)
 
--- as many jobs as were accepted and were not handed in, for each lane
-pub all_counted : {A N : Type 0} (lane_of : A → N) (record_of : N → LaneRecord) (back left : A → List JobData) (stop : A → Option FeedStop) (jobs : ℕ → List JobData) (counts : List ℕ) (xs : List A)
-    → All (λ x. accepted_jobs (record_of (lane_of x)) ++ back x ++ left x ≡ jobs (record_of (lane_of x)).number) xs
-    → All (λ l. get_or counts (record_of l).number 0 ≡ length (accepted (record_of l).entries)) (map lane_of xs)
-    → All (λ (u : UnfedJobs). get_or counts u.lane 0 + length u.jobs ≡ length (jobs u.lane)) (map (λ x. unfed_by (record_of (lane_of x)).number (back x ++ left x) (stop x)) xs)
-all_counted lane_of record_of back left stop jobs counts [] fed counted = All-nil (λ (u : UnfedJobs). get_or counts u.lane 0 + length u.jobs ≡ length (jobs u.lane))
-all_counted {A} {N} lane_of record_of back left stop jobs counts (x ∷ xs) fed counted =
-    let Own : A → Type 0 = λ y. accepted_jobs (record_of (lane_of y)) ++ back y ++ left y ≡ jobs (record_of (lane_of y)).number in
-    let Counted : N → Type 0 = λ l. get_or counts (record_of l).number 0 ≡ length (accepted (record_of l).entries) in
-    let own : LaneRecord = record_of (lane_of x) in
-    let size : length (accepted_jobs own) ≡ length (accepted own.entries) = length-map (accepted own.entries) job_of in
-    let whole : length (accepted_jobs own ++ back x ++ left x) ≡ length (jobs own.number) = ap length (All-head Own x xs fed) in
-    let count : get_or counts own.number 0 ≡ length (accepted own.entries) = All-head Counted (lane_of x) (map lane_of xs) counted in
-    let sum : get_or counts own.number 0 + length (back x ++ left x) ≡ length (jobs own.number) =
-    omega (arith, size, whole, count, length-append (accepted_jobs own ++ back x) (left x), length-append (accepted_jobs own) (back x), length-append (back x) (left x)) in
-    All-cons (λ (u : UnfedJobs). get_or counts u.lane 0 + length u.jobs ≡ length (jobs u.lane)) (unfed_by own.number (back x ++ left x) (stop x)) _ sum
-    (all_counted lane_of record_of back left stop jobs counts xs (All-tail Own x xs fed) (All-tail Counted (lane_of x) (map lane_of xs) counted))
+few_accepted : (entries : List Entry) → length (accepted entries) ≤ length entries
+few_accepted [] = omega arith
+few_accepted (e ∷ entries) = one_more e.job (accepted entries) (length entries) (few_accepted entries)
+
+-- what holds of each holds of the last
+of_last : (P : ℕ → Type 0) (xs before : List ℕ) (x : ℕ) → xs ≡ before ++ x ∷ [] → AllByRecursion P xs → P x
+of_last P xs before x ends all = last before (subst (AllByRecursion P) ends all)
+  where
+    last : (before : List ℕ) → AllByRecursion P (before ++ x ∷ []) → P x
+    last [] all = all.0
+    last (y ∷ before) all = last before all.1
+
+-- why a feed has stopped, by the record of its lane and by the values of its end
+stop_as : (close_number : ℕ) (lane : LaneRecord) (end : LaneEnd) (stop : Option FeedStop) → end.entries ≡ length lane.entries → AllByRecursion (λ count. close_number ≤ count) lane.seen → StopsBy lane end.back end.left.items stop → IsStopOf close_number end stop
+stop_as close_number lane end None entries seen by = (entries ∙ ap length by.0, by.1)
+stop_as close_number lane end (Some Done) entries seen by = by
+stop_as close_number lane end (Some (Closed count)) entries seen by = (by.0, of_last (λ c. close_number ≤ c) lane.seen by.1.0 count by.1.1 seen)
+stop_as close_number lane end (Some LaneSpent) entries seen by = (by.0, omega (arith, by.1, entries))
+stop_as close_number lane end (Some Turns) entries seen by = absurd by
+
+-- ---- all lanes
+
+module _ {A : Type 0} (record_of : A → LaneRecord) (back : A → Option JobData) (left : A → VecDeque JobData Global) (stop : A → Option FeedStop) (counts : List ℕ) where
+  abbrev pub end_of : A → LaneEnd
+  end_of x = counted_end counts (unfed_of (record_of x) (back x) (left x) (stop x))
+
+  -- what the lane has accepted, and what it did not hand in, are its jobs
+  abbrev pub HasFed : (ℕ → List JobData) → A → Type 0
+  HasFed jobs x = accepted_jobs (record_of x) ++ given_back (back x) ++ (left x).items ≡ jobs (record_of x).number
+
+  abbrev pub HasStopped : A → Type 0
+  HasStopped x = StopsBy (record_of x) (back x) (left x).items (stop x)
+
+  abbrev pub Counted : LaneRecord → Type 0
+  Counted l = get_or counts l.number 0 ≡ length (accepted l.entries)
+
+  abbrev pub Seen : ℕ → LaneRecord → Type 0
+  Seen close_number l = AllByRecursion (λ count. close_number ≤ count) l.seen
+
+  counted_jobs : (x : A) → Counted (record_of x) → get_or counts (record_of x).number 0 ≡ length (accepted_jobs (record_of x))
+  counted_jobs x counted = counted ∙ sym (length-map (accepted (record_of x).entries) job_of)
+
+  one_end : (jobs : List (List JobData)) (close_number : ℕ) (x : A) → HasFed (λ k. get_or jobs k []) x → HasStopped x → Counted (record_of x) → Seen close_number (record_of x) → IsLaneEnd jobs counts close_number (end_of x)
+  one_end jobs close_number x fed stopped counted seen =
+      let l : LaneRecord = record_of x in
+      let own : List JobData = accepted_jobs l in
+      let others : List JobData = given_back (back x) ++ (left x).items in
+      let whole : own ++ others ≡ get_or jobs l.number [] = sym (append_assoc own (given_back (back x)) (left x).items) ∙ fed in
+      let count : get_or counts l.number 0 ≡ length own = counted_jobs x counted in
+      record {
+        counted = refl;
+        within = omega (arith, count, ap length whole, length-append own others);
+        unfed = sym (drop-append_seam own others) ∙ (ap (drop (length own)) whole ∙ ap (λ (k : ℕ). drop k (get_or jobs l.number [])) (sym count));
+        entries = omega (arith, counted, few_accepted l.entries);
+        stopped = stop_as close_number l (end_of x) (stop x) refl seen stopped;
+      }
+
+  all_ends : (jobs : List (List JobData)) (close_number : ℕ) (xs : List A) → All (HasFed (λ k. get_or jobs k [])) xs → All HasStopped xs → AllByRecursion Counted (map record_of xs) → AllByRecursion (Seen close_number) (map record_of xs) → All (IsLaneEnd jobs counts close_number) (map end_of xs)
+  all_ends jobs close_number [] fed stopped counted seen = All-nil (IsLaneEnd jobs counts close_number)
+  all_ends jobs close_number (x ∷ xs) fed stopped counted seen =
+      All-cons (IsLaneEnd jobs counts close_number) (end_of x) (map end_of xs)
+      (one_end jobs close_number x (All-head (HasFed (λ k. get_or jobs k [])) x xs fed) (All-head HasStopped x xs stopped) counted.0 seen.0)
+      (all_ends jobs close_number xs (All-tail (HasFed (λ k. get_or jobs k [])) x xs fed) (All-tail HasStopped x xs stopped) counted.1 seen.1)
+
+  -- the accepted jobs of each lane are the first ones of its list
+  accepted_at : (jobs : List (List JobData)) (ns : List ℕ) (k : ℕ) → length ns ≡ length jobs → get_or (accepted_of jobs ns) k [] ≡ take (get_or ns k 0) (get_or jobs k [])
+  accepted_at [] [] k same = refl
+  accepted_at [] (n ∷ ns) k same = absurd (omega (arith, same))
+  accepted_at (js ∷ jobs) [] k same = absurd (omega (arith, same))
+  accepted_at (js ∷ jobs) (n ∷ ns) zero same = refl
+  accepted_at (js ∷ jobs) (n ∷ ns) (suc k) same = accepted_at jobs ns k (omega (arith, same))
+
+  accepted_count : (jobs : List (List JobData)) (ns : List ℕ) → length ns ≡ length jobs → length (accepted_of jobs ns) ≡ length jobs
+  accepted_count [] ns same = refl
+  accepted_count (js ∷ jobs) [] same = absurd (omega (arith, same))
+  accepted_count (js ∷ jobs) (n ∷ ns) same = omega (arith, accepted_count jobs ns (omega (arith, same)))
+
+  all_accepted : (jobs : List (List JobData)) (xs : List A) → length counts ≡ length jobs → All (HasFed (λ k. get_or jobs k [])) xs → AllByRecursion Counted (map record_of xs) → AllByRecursion (IsFed (accepted_of jobs counts)) (map record_of xs)
+  all_accepted jobs [] same fed counted = tt
+  all_accepted jobs (x ∷ xs) same fed counted =
+      let l : LaneRecord = record_of x in
+      let own : List JobData = accepted_jobs l in
+      let others : List JobData = given_back (back x) ++ (left x).items in
+      let whole : own ++ others ≡ get_or jobs l.number [] = sym (append_assoc own (given_back (back x)) (left x).items) ∙ All-head (HasFed (λ k. get_or jobs k [])) x xs fed in (
+        sym (take-append_seam own others)
+            ∙ (ap (take (length own)) whole
+            ∙ (ap (λ (k : ℕ). take k (get_or jobs l.number [])) (sym (counted_jobs x counted.0)) ∙ sym (accepted_at jobs counts l.number same))),
+        all_accepted jobs xs same (All-tail (HasFed (λ k. get_or jobs k [])) x xs fed) counted.1,
+      )
+
+-- there is a reason for each worker's stop
+pub all_stopped : {E : Type 0} (stop : E → Stop) (replies : E → List ReplyData) → ((e : E) → stop e ≡ NotRun → replies e ≡ []) → (es : List E) → AllZip (λ s rs. s ≡ NotRun → rs ≡ []) (map stop es) (map replies es)
+all_stopped stop replies own [] = tt
+all_stopped stop replies own (e ∷ es) = (own e, all_stopped stop replies own es)
+
+-- a part of each end is that part of its lane
+pub parts_told : {A N V E : Type 0} (lane_of : A → N) (of_lane : N → V) (of_end : E → V) (to_end : A → E) (xs : List A) (lanes : List N) (ends : List E) → lanes ≡ map lane_of xs → ends ≡ map to_end xs → ((x : A) → of_end (to_end x) ≡ of_lane (lane_of x)) → map of_end ends ≡ map of_lane lanes
+parts_told {A} {N} {V} {E} lane_of of_lane of_end to_end xs lanes ends are told same =
+    ap (map of_end) told ∙ (map_twice to_end of_end xs ∙ (each xs ∙ (sym (map_twice lane_of of_lane xs) ∙ sym (ap (map of_lane) are))))
+  where
+    each : (xs : List A) → map (λ x. of_end (to_end x)) xs ≡ map (λ x. of_lane (lane_of x)) xs
+    each [] = refl
+    each (x ∷ xs) = ap (λ (v : V). v ∷ map (λ y. of_end (to_end y)) xs) (same x) ∙ ap (λ (vs : List V). of_lane (lane_of x) ∷ vs) (each xs)
+
+-- the record of a run, from the theorem of its shop
+pub run_of : {A M : Type 0} (record_of : A → LaneRecord) (back : A → Option JobData) (left : A → VecDeque JobData Global) (stop : A → Option FeedStop)
+    (words_of : M → List ℕ) (n : ℕ) (jobs : List (List JobData)) (xs : List A) (grants : List (List Region)) (note : ℕ) (end : RunEnd M)
+    → FinishedRun n (map record_of xs) grants note (outcome words_of end.finished)
+    → end.lanes.items ≡ map (end_of record_of back left stop end.finished.accepted.items) xs
+    → end.close_number ≡ note
+    → All (HasFed record_of back left stop end.finished.accepted.items (λ k. get_or jobs k [])) xs
+    → All (HasStopped record_of back left stop end.finished.accepted.items) xs
+    → ((k : ℕ) → k < length jobs → times k (map (λ l. l.number) (map record_of xs)) ≡ 1)
+    → length xs ≡ length jobs → length end.finished.accepted.items ≡ length jobs
+    → AllZip (λ s rs. s ≡ NotRun → rs ≡ []) end.stops.items (by_worker_of end)
+    → IsRun words_of n jobs end
+run_of {A} record_of back left stop words_of n jobs xs grants note end finished lanes close fed stopped numbers size count stops =
+    let counts : List ℕ = end.finished.accepted.items in
+    let to_end : A → LaneEnd = end_of record_of back left stop counts in
+    let sums : total (λ (l : LaneEnd). l.entries) (map to_end xs) ≡ total (λ (l : LaneRecord). length l.entries) (map record_of xs) =
+    total-map (λ (l : LaneEnd). l.entries) to_end xs ∙ sym (total-map (λ (l : LaneRecord). length l.entries) record_of xs) in
+    let names : map (λ (l : LaneEnd). l.lane) (map to_end xs) ≡ map (λ (l : LaneRecord). l.number) (map record_of xs) =
+    map_twice to_end (λ (l : LaneEnd). l.lane) xs ∙ sym (map_twice record_of (λ (l : LaneRecord). l.number) xs) in
+    record {
+      lane_count = ap length lanes ∙ (length-map xs to_end ∙ size);
+      lanes = λ k below. ap (times k) (ap (map (λ (l : LaneEnd). l.lane)) lanes ∙ names) ∙ numbers k below;
+      counts = count;
+      ends = subst (All (IsLaneEnd jobs counts end.close_number)) (sym lanes)
+          (subst (λ (c : ℕ). All (IsLaneEnd jobs counts c) (map to_end xs)) (sym close)
+          (all_ends record_of back left stop counts jobs note xs fed stopped finished.counts finished.seen));
+      close_number = close ∙ (finished.close_number ∙ (sym sums ∙ sym (ap (total (λ (l : LaneEnd). l.entries)) lanes)));
+      answers = answers_all n (accepted_of jobs counts) (map record_of xs) grants note (outcome words_of end.finished) finished (all_accepted record_of back left stop counts jobs xs count fed finished.counts)
+          (λ k below. numbers k (omega (arith, below, accepted_count record_of back left stop counts jobs counts count)));
+      rises = finished.rises;
+      rest_rises = finished.rest_rises;
+      stops = stops;
+      free = finished.free;
+    }

@@ -1,2 +1,10 @@
 pub mod InnerNaming
+pub mod InnerStop
+pub mod InnerEnd
 pub mod Run
+pub mod Done
+pub mod Members
+pub mod Stopped
+pub use Rattle.job_queue.specs.Line.{IsFor}
+pub use Rattle.dispatcher.specs.Answers.{AnswersAll}
+pub use Rattle.dispatcher.specs.Opening.{refusal_of}

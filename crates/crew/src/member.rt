@@ -6,7 +6,7 @@ ghost use Rattle.job_queue.specs.Record.{accepted_jobs};
 ghost use Rattle.job_queue.specs.Line.{IsFor};
 ghost use Rattle.dispatcher.specs.Members.{IsWorkerOf, IsEndOf, IsCloserOf, IsNoteOf, stop_of};
 ghost use Rattle.dispatcher.specs.Stop.{given_back};
-ghost use Rattle.crew.specs.Run.{IsStopOf};
+ghost use Rattle.crew.specs.InnerStop.{StopsBy};
 
 use dispatcher::{
     CloseNote, Closer, FeedEnd, FeedStop, Runner, Shop, Stop, Worker, WorkerEnd, dispatch, feed,
@@ -55,7 +55,7 @@ impl<J: Naming, L: JobLine> Model for Feeder<J, L> {
     ghost use Rattle.job_queue.specs.Record.{accepted_jobs};
     ghost use Rattle.job_queue.specs.Line.{IsFor};
     ghost use Rattle.dispatcher.specs.Stop.{given_back};
-    ghost use Rattle.crew.specs.Run.{IsStopOf};
+    ghost use Rattle.crew.specs.InnerStop.{StopsBy};
 
     ghost Value = { Unit {0} };
 
@@ -65,7 +65,7 @@ impl<J: Naming, L: JobLine> Model for Feeder<J, L> {
         × All (IsFor J.shop.line.sizes.machine (L.lane_record f.lane).number) f.left.items
         × (accepted_jobs (L.lane_record f.lane) ++ given_back f.back ++ f.left.items
         ≡ J.jobs (L.lane_record f.lane).number)
-        × IsStopOf (L.lane_record f.lane) (given_back f.back ++ f.left.items) f.stop };
+        × StopsBy (L.lane_record f.lane) f.back f.left.items f.stop };
 }
 
 /// What became of a feeder.
@@ -116,8 +116,8 @@ impl<J: Naming, L: JobLine> Feeder<J, L> {
         ensures lane { L.is_lane J.shop.line result.lane }
         ensures jobs { accepted_jobs (L.lane_record result.lane) ++ given_back result.back
             ++ result.left.items ≡ J.jobs (L.lane_record result.lane).number }
-        ensures stop { IsStopOf (L.lane_record result.lane)
-            (given_back result.back ++ result.left.items) result.stop }
+        ensures stop { StopsBy (L.lane_record result.lane) result.back result.left.items
+            result.stop }
     {
         let Feeder {
             lane,

@@ -1,21 +1,20 @@
 //! A whole run of a shop on threads.
-ghost use Rattle.std.specs.Prelude.{◌≡◌, ◌≢◌, ℕ, ◌^◌, ◌<◌, ◌≤◌, ◌++◌, [], List, true, None, Some, IsSome, IfOk, IfErr, map, length, slice_index_or};
+ghost use Rattle.std.specs.Prelude.{◌≡◌, ◌≢◌, ℕ, ◌^◌, ◌<◌, ◌≤◌, [], None, Some, IfOk, IfErr, map, length, slice_index, slice_index_or};
 ghost use Rattle.std.specs.List.{All};
 ghost use Rattle.std.specs.Vec.{vec_capacity};
-ghost use Rattle.job_types.specs.Job.{JobData};
 ghost use Rattle.job_queue.specs.Record.{fresh_lanes};
 ghost use Rattle.job_queue.specs.Line.{IsFor};
 ghost use Rattle.dispatcher.specs.Opening.{refusal_of};
-ghost use Rattle.dispatcher.specs.Members.{IsWorkerOf, IsCloserOf};
-ghost use Rattle.dispatcher.specs.Stop.{given_back};
-ghost use Rattle.dispatcher.specs.Finished.{outcome};
-ghost use Rattle.crew.specs.Run.{unfed_by, AreCounts, IsRun};
+ghost use Rattle.dispatcher.specs.Members.{IsWorkerOf, IsCloserOf, stop_of};
+ghost use Rattle.crew.specs.InnerEnd.{unfed_of, counted_end};
+ghost use Rattle.crew.specs.Run.{IsRun};
+ghost use Rattle.crew.specs.Members.{RanIn};
 
 use crate::gang::Gang;
 use crate::member::{Door, Fed, Naming};
 use crate::slots::{man_feeders, man_posts, relieve_feeders, relieve_posts};
 use crate::threads::run_threads;
-use dispatcher::{FeedStop, Finished, Opened, Runner, Shop, ShopRefused, WorkerEnd, refusal};
+use dispatcher::{FeedStop, Finished, Opened, Runner, Shop, ShopRefused, Stop, WorkerEnd, refusal};
 use floors::Floor;
 use job_queue::JobLine;
 use job_types::Job;
@@ -25,11 +24,15 @@ use std::marker::Brand;
 use std::sync::{Mutex, Wait};
 use std::thread::Threads;
 
-/// What a lane did not hand in.
+/// What became of a lane.
 #[derive(Debug, Drop)]
-pub struct Unfed {
+pub struct LaneEnd {
     /// The lane's number.
     pub lane: u32,
+    /// How many of its jobs were accepted: the first ones of its list.
+    pub accepted: u64,
+    /// How many entries it has made: one for each accepted job, and one each time the line was full.
+    pub entries: u64,
     /// The job that the line refused for good, if it did.
     pub back: Option<Job>,
     /// The jobs after it, in order.
@@ -43,10 +46,22 @@ pub struct Unfed {
 pub struct RunEnd<M> {
     /// All replies, and the machine.
     pub finished: Finished<M>,
-    /// What each lane did not hand in.
-    pub unfed: Vec<Unfed>,
-    /// Whether every worker and every feeder had a thread.
-    pub all_started: bool,
+    /// The end of each lane, in any order.
+    pub lanes: Vec<LaneEnd>,
+    /// The close number: how many entries came before the close.
+    pub close_number: u64,
+    /// Why each worker has stopped, in the order of their replies.
+    pub stops: Vec<Stop>,
+}
+
+// What became of a lane, before its accepted jobs are counted.
+#[derive(Drop)]
+struct Unfed {
+    lane: u32,
+    entries: u64,
+    back: Option<Job>,
+    left: VecDeque<Job>,
+    stop: Option<FeedStop>,
 }
 
 // Room for the members of a run, when they come out of their slots.
@@ -54,24 +69,38 @@ struct MemberRoom<L: JobLine, F: Floor> {
     ends: Vec<WorkerEnd<L, F>>,
     fed: Vec<Fed<L>>,
     unfed: Vec<Unfed>,
+    lanes: Vec<LaneEnd>,
+    stops: Vec<Stop>,
 }
 
 impl<L: JobLine, F: Floor> MemberRoom<L, F> {
     fn new(alloc: Global, workers: usize, lanes: usize) -> Result<Self, AllocError>
         ensures ends { IfOk result (λ room.
             (room.ends.items ≡ []) × (workers ≤ vec_capacity room.ends)) }
+        ensures stops { IfOk result (λ room.
+            (room.stops.items ≡ []) × (workers ≤ vec_capacity room.stops)) }
         ensures fed { IfOk result (λ room.
             (room.fed.items ≡ []) × (lanes ≤ vec_capacity room.fed)) }
         ensures unfed { IfOk result (λ room.
             (room.unfed.items ≡ []) × (lanes ≤ vec_capacity room.unfed)) }
+        ensures lanes { IfOk result (λ room.
+            (room.lanes.items ≡ []) × (lanes ≤ vec_capacity room.lanes)) }
     {
         let unfed = Vec::with_capacity(alloc, lanes)?;
+        let lane_ends = Vec::with_capacity(alloc, lanes)?;
+        let stops = Vec::with_capacity(alloc, workers)?;
         let ends = Vec::with_capacity(alloc, workers)?;
         let Ok(fed) = Vec::with_capacity(alloc, lanes) else {
             ends.destroy_empty();
             return Err(AllocError);
         };
-        Ok(MemberRoom { ends, fed, unfed })
+        Ok(MemberRoom {
+            ends,
+            fed,
+            unfed,
+            lanes: lane_ends,
+            stops,
+        })
     }
 
     fn let_go(self)
@@ -81,13 +110,28 @@ impl<L: JobLine, F: Floor> MemberRoom<L, F> {
             ends,
             fed,
             unfed: _,
+            lanes: _,
+            stops: _,
         } = self;
         ends.destroy_empty();
         fed.destroy_empty();
     }
 }
 
-// The lanes, and what each did not hand in.
+// Why each worker has stopped.
+fn stops_of<L: JobLine, F: Floor>(ends: &[WorkerEnd<L, F>], stops: Vec<Stop>) -> Vec<Stop>
+    requires empty { stops.items ≡ [] }
+    requires room { length ends.now ≤ vec_capacity stops }
+    ensures { result.items ≡ map stop_of ends.now }
+{
+    let mut stops = stops;
+    for end in ends {
+        stops.push_reserved(end.stop());
+    }
+    stops
+}
+
+// The lanes, and what became of each.
 fn part<L: JobLine>(
     fed: Vec<Fed<L>>,
     mut lanes: Vec<L::Lane>,
@@ -97,9 +141,8 @@ fn part<L: JobLine>(
     requires lane_room { length fed.items ≤ vec_capacity lanes }
     requires room { length fed.items ≤ vec_capacity unfed }
     ensures lanes { result.0.items ≡ map (λ f. f.lane) fed.items }
-    ensures unfed { map (λ u. unfed_by u.lane (given_back u.back ++ u.left.items) u.stop)
-        result.1.items ≡ map (λ f. unfed_by (L.lane_record f.lane).number
-        (given_back f.back ++ f.left.items) f.stop) fed.items }
+    ensures unfed { result.1.items
+        ≡ map (λ f. unfed_of (L.lane_record f.lane) f.back f.left f.stop) fed.items }
 {
     let mut fed = VecDeque::from_vec(fed);
     while let Some(one) = fed.pop_front() {
@@ -111,6 +154,7 @@ fn part<L: JobLine>(
         } = one;
         unfed.push_reserved(Unfed {
             lane: L::lane_number(&lane),
+            entries: L::entry_count(&lane),
             back,
             left,
             stop,
@@ -121,11 +165,41 @@ fn part<L: JobLine>(
     (lanes, unfed)
 }
 
-// Whether all were started, and so the feed of each lane was run.
-fn were_all_run(started: bool, unfed: &[Unfed]) -> bool
-    ensures { result ≡ true → All (λ u. IsSome u.stop) unfed.now }
+// The number at the lane's place, or 0 where there is none.
+fn count_at(counts: &[u64], lane: u32) -> u64
+    ensures { result ≡ slice_index counts.now lane }
 {
-    started && unfed.iter().all(|one| one.stop.is_some())
+    match counts.get(lane as usize) {
+        Some(count) => *count,
+        None => 0,
+    }
+}
+
+// The end of each lane, with the number of its accepted jobs.
+fn count_accepted(unfed: Vec<Unfed>, accepted: &[u64], mut lanes: Vec<LaneEnd>) -> Vec<LaneEnd>
+    requires empty { lanes.items ≡ [] }
+    requires room { length unfed.items ≤ vec_capacity lanes }
+    ensures { result.items ≡ map (counted_end accepted.now) unfed.items }
+{
+    let mut unfed = VecDeque::from_vec(unfed);
+    while let Some(one) = unfed.pop_front() {
+        let Unfed {
+            lane,
+            entries,
+            back,
+            left,
+            stop,
+        } = one;
+        lanes.push_reserved(LaneEnd {
+            lane,
+            accepted: count_at(accepted, lane),
+            entries,
+            back,
+            left,
+            stop,
+        });
+    }
+    lanes
 }
 
 // The same as `run`, once the shop is open and the run has a name.
@@ -151,6 +225,7 @@ where
     L::Note: Send,
     F::Station: Send,
     requires shop { opened.shop ≡ J.shop }
+    requires machine { J.shop.line.sizes.machine ≡ J.shop.floor.dim }
     requires jobs { (k : ℕ) →
         slice_index_or (map (λ js. js.items) jobs.items) k [] ≡ J.jobs k }
     requires made_for { (k : ℕ) → k < length jobs.items →
@@ -166,13 +241,14 @@ where
     requires fed { (room.fed.items ≡ []) × (length opened.lanes.items ≤ vec_capacity room.fed) }
     requires unfed { (room.unfed.items ≡ [])
         × (length opened.lanes.items ≤ vec_capacity room.unfed) }
-    ensures run { IsRun J.shop.floor.dim (map (λ js. js.items) jobs.items)
-        (outcome F.machine_words result.finished)
-        (map (λ u. unfed_by u.lane (given_back u.back ++ u.left.items) u.stop) result.unfed.items) }
+    requires lane_ends { (room.lanes.items ≡ [])
+        × (length opened.lanes.items ≤ vec_capacity room.lanes) }
+    requires stops { (room.stops.items ≡ [])
+        × (length opened.workers.items ≤ vec_capacity room.stops) }
+    ensures run { IsRun F.machine_words J.shop.floor.dim (map (λ js. js.items) jobs.items) result }
+    ensures ran_in { RanIn L.JobLine F.Floor J.shop.floor.dim J.shop.line.sizes.lanes
+        J.shop.line.sizes.passes J.shop.line.sizes.capacity result }
     ensures workers { length result.finished.by_worker.items ≡ J.shop.line.sizes.passes }
-    ensures started { result.all_started ≡ true → All (λ u. IsSome u.stop) result.unfed.items }
-    ensures counts { AreCounts (map (λ js. js.items) jobs.items) result.finished.accepted.items
-        (map (λ u. unfed_by u.lane (given_back u.back ++ u.left.items) u.stop) result.unfed.items) }
     ensures dim { F.machine_dim result.finished.machine ≡ J.shop.floor.dim }
     ensures closed { F.is_closed J.shop.line.sizes.passes result.finished.machine }
 {
@@ -186,6 +262,8 @@ where
         mut ends,
         mut fed,
         unfed,
+        lanes: lane_ends,
+        stops,
     } = room;
     let posts = man_posts(alloc, workers, &mut ends);
     let (feeders, lanes) = man_feeders(alloc, lanes, jobs, &mut fed);
@@ -198,7 +276,9 @@ where
         feeders,
         door: Mutex::new(Door::new(closer)),
     };
-    let started = all_have_slots && run_threads(rt, &gang);
+    if all_have_slots {
+        run_threads(rt, &gang);
+    }
     let Gang {
         shop: _,
         runner: _,
@@ -210,12 +290,16 @@ where
     relieve_posts(alloc, posts, &mut ends);
     relieve_feeders(feeders, &mut fed);
     let note = door.into_inner().into_note(rt, &shop);
+    let close_number = note.number();
+    let stops = stops_of(&ends, stops);
     let (lanes, unfed) = part(fed, lanes, unfed);
-    let all_started = were_all_run(started, &unfed);
+    let finished = shop.finish(rt, runner, lanes, ends, note);
+    let lanes = count_accepted(unfed, &finished.accepted, lane_ends);
     RunEnd {
-        finished: shop.finish(rt, runner, lanes, ends, note),
-        unfed,
-        all_started,
+        finished,
+        lanes,
+        close_number,
+        stops,
     }
 }
 
@@ -224,8 +308,9 @@ where
 ///
 /// Each accepted job has one right reply in the end, and what a lane has accepted, followed by what it
 /// did not hand in, is its list. Nothing is lost where a thread cannot be started or there is no memory
-/// for one more reply: the shop closes early, and some jobs may not be handed in. An error gives the
-/// jobs back; it is the first size that is not within its limits, or `OutOfMemory`.
+/// for one more reply: the shop closes early, and some jobs may not be handed in. A worker without a
+/// thread has stopped as `NotRun`, and a lane without one has no stop. An error gives the jobs back; it
+/// is the first size that is not within its limits, or `OutOfMemory`.
 pub fn run<R: Threads + Wait + Sync, L: JobLine + Sync, F: Floor + Sync, T: Runner + Sync>(
     rt: &R,
     alloc: Global,
@@ -246,15 +331,10 @@ where
     requires lanes { length jobs.items < 2 ^ 32 }
     requires made_for { (k : ℕ) → k < length jobs.items →
         All (IsFor n k) (slice_index_or (map (λ js. js.items) jobs.items) k []) }
-    ensures run { IfOk result (λ end. IsRun n (map (λ js. js.items) jobs.items)
-        (outcome F.machine_words end.finished)
-        (map (λ u. unfed_by u.lane (given_back u.back ++ u.left.items) u.stop) end.unfed.items)) }
+    ensures run { IfOk result (IsRun F.machine_words n (map (λ js. js.items) jobs.items)) }
+    ensures ran_in { IfOk result
+        (RanIn L.JobLine F.Floor n (length jobs.items) dispatchers capacity) }
     ensures workers { IfOk result (λ end. length end.finished.by_worker.items ≡ dispatchers) }
-    ensures started { IfOk result (λ end.
-        end.all_started ≡ true → All (λ u. IsSome u.stop) end.unfed.items) }
-    ensures counts { IfOk result (λ end. AreCounts (map (λ js. js.items) jobs.items)
-        end.finished.accepted.items
-        (map (λ u. unfed_by u.lane (given_back u.back ++ u.left.items) u.stop) end.unfed.items)) }
     ensures dim { IfOk result (λ end. F.machine_dim end.finished.machine ≡ n) }
     ensures closed { IfOk result (λ end. F.is_closed dispatchers end.finished.machine) }
     ensures accepted { IfOk result (λ end.

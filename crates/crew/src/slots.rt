@@ -6,7 +6,7 @@ ghost use Rattle.job_queue.specs.Record.{accepted_jobs, fresh_lanes};
 ghost use Rattle.job_queue.specs.Line.{IsFor};
 ghost use Rattle.dispatcher.specs.Members.{IsWorkerOf, IsEndOf};
 ghost use Rattle.dispatcher.specs.Stop.{given_back};
-ghost use Rattle.crew.specs.Run.{IsStopOf};
+ghost use Rattle.crew.specs.InnerStop.{StopsBy};
 
 use crate::member::{Fed, Feeder, Naming, Post};
 use dispatcher::{Worker, WorkerEnd};
@@ -77,8 +77,8 @@ pub fn man_feeders<J: Naming, L: JobLine>(
     ensures jobs { All (λ f.
         accepted_jobs (L.lane_record f.lane) ++ given_back f.back ++ f.left.items
         ≡ J.jobs (L.lane_record f.lane).number) fed.new.items }
-    ensures stops { All (λ f. IsStopOf (L.lane_record f.lane) (given_back f.back ++ f.left.items)
-        f.stop) fed.new.items }
+    ensures stops { All (λ f.
+        StopsBy (L.lane_record f.lane) f.back f.left.items f.stop) fed.new.items }
     ensures room { length lanes.items ≤ vec_capacity fed.new }
     ensures lane_room { (result.1.items ≡ []) × (length lanes.items ≤ vec_capacity result.1) }
 {
@@ -104,15 +104,15 @@ pub fn relieve_feeders<J: Naming, L: JobLine>(
     requires jobs { All (λ f.
         accepted_jobs (L.lane_record f.lane) ++ given_back f.back ++ f.left.items
         ≡ J.jobs (L.lane_record f.lane).number) fed.old.items }
-    requires stops { All (λ f. IsStopOf (L.lane_record f.lane) (given_back f.back ++ f.left.items)
-        f.stop) fed.old.items }
+    requires stops { All (λ f.
+        StopsBy (L.lane_record f.lane) f.back f.left.items f.stop) fed.old.items }
     ensures count { length fed.new.items ≡ length feeders.items + length fed.old.items }
     ensures lanes { All (λ f. L.is_lane J.shop.line f.lane) fed.new.items }
     ensures jobs { All (λ f.
         accepted_jobs (L.lane_record f.lane) ++ given_back f.back ++ f.left.items
         ≡ J.jobs (L.lane_record f.lane).number) fed.new.items }
-    ensures stops { All (λ f. IsStopOf (L.lane_record f.lane) (given_back f.back ++ f.left.items)
-        f.stop) fed.new.items }
+    ensures stops { All (λ f.
+        StopsBy (L.lane_record f.lane) f.back f.left.items f.stop) fed.new.items }
 {
     while let Some(feeder) = feeders.pop() {
         fed.push_reserved(feeder.into_inner().into_parts());

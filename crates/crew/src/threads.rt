@@ -27,9 +27,8 @@ pub trait Crew {
 }
 
 // Starts a thread for each worker, and then one for each feeder; closes the shop once all feeders have
-// ended, and waits for the workers. Where a thread cannot be started no other one is, and the answer is
-// false.
-pub fn run_threads<R: Threads + Wait + Sync, C: Crew + Sync>(rt: &R, crew: &C) -> bool
+// ended, and waits for the workers. Where a thread cannot be started no other one is.
+pub fn run_threads<R: Threads + Wait + Sync, C: Crew + Sync>(rt: &R, crew: &C)
     requires { C.is_ready crew.now }
 {
     thread::scope(
@@ -51,17 +50,16 @@ pub fn run_threads<R: Threads + Wait + Sync, C: Crew + Sync>(rt: &R, crew: &C) -
                 }
             }
             if started {
-                started = feed_on_threads(rt, crew);
+                feed_on_threads(rt, crew);
             }
             crew.close(rt);
-            started
         },
-    )
+    );
 }
 
 // Starts a thread for each feeder, and waits for them. Where one cannot be started the shop is closed at
 // once, so that the others do not hand in what is not going to be a whole run.
-fn feed_on_threads<R: Threads + Wait + Sync, C: Crew + Sync>(rt: &R, crew: &C) -> bool
+fn feed_on_threads<R: Threads + Wait + Sync, C: Crew + Sync>(rt: &R, crew: &C)
     requires { C.is_ready crew.now }
 {
     thread::scope(
@@ -85,7 +83,6 @@ fn feed_on_threads<R: Threads + Wait + Sync, C: Crew + Sync>(rt: &R, crew: &C) -
             if !started {
                 crew.close(rt);
             }
-            started
         },
-    )
+    );
 }

@@ -11,8 +11,8 @@ use Rattle.histories.proofs.SumLemmas.{total-append, total-map}
 use Rattle.job_types.specs.Reply.{ReplyData}
 use Rattle.job_queue.specs.declared.record.QueuedJob.{QueuedJob}
 use Rattle.dispatcher.specs.Reply.{answered, IsRight}
-use Rattle.batch.specs.Answers.{all_replies}
-use Rattle.batch.proofs.PermutationLemmas.{total-IsPermutation}
+use Rattle.dispatcher.specs.Answers.{all_replies}
+use Rattle.dispatcher.proofs.PermutationLemmas.{total-IsPermutation}
 use Rattle.jobs_csv.specs.declared.report_rows.ReportRow.{ReportRow}
 use Rattle.jobs_csv.specs.declared.report_rows.ReportRow.TheVariants as row
 use Rattle.cube_ledger.specs.declared.slip.Slip.{Slip}

@@ -5,7 +5,7 @@ ghost use Rattle.floors.specs.Floor.{IsWhollyFree};
 ghost use Rattle.cube_shape.specs.declared.limits.TheConstants.{MAX_LANES};
 ghost use Rattle.job_queue.specs.declared.record.QueuedJob.{QueuedJob};
 ghost use Rattle.dispatcher.specs.Reply.{answered, IsRight};
-ghost use Rattle.batch.specs.Answers.{all_replies};
+ghost use Rattle.dispatcher.specs.Answers.{all_replies};
 ghost use Rattle.cube_ledger.specs.Occupancy.{IsEmptyMachine};
 ghost use Rattle.cube_report.specs.Report.{free_row, rows_of};
 ghost use Rattle.cube_report.specs.InnerRows.{dim_row_in, lane_row_in, total_row_in};

@@ -82,6 +82,7 @@ finished n count lanes passes jobs grants note o run taken left right rest_right
       rest_rises = subst Rises (sym left) run.rest_rises;
       entered_before = run.entered_before;
       close_number = all_entries lanes note run.entries;
+      seen = run.seen;
       granted = granted;
       right = right;
       rest_right = rest_right;

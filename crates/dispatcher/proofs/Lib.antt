@@ -1,5 +1,9 @@
 pub mod WorkLemmas
+pub mod EntryLemmas
 pub mod OpenLemmas
 pub mod FinishLemmas
 pub mod OnceLemmas
 pub mod GrantLemmas
+pub mod SameJobLemmas
+pub mod PermutationLemmas
+mod OrderLemmas

@@ -1,5 +1,6 @@
 -- Lists that grow by one, and facts of a shop's line and floor.
-use Rattle.std.proofs.Common.{◌≡◌, ◌++◌, ◌∷◌, [], List, map, sym, ap, subst, ◌∙◌}
+use Rattle.std.proofs.Common.{◌≡◌, ℕ, ◌<◌, ◌≤◌, ⊎_elim, ◌++◌, ◌∷◌, [], List, Option, Some, map, sym, ap, subst, ◌∙◌, arith}
+use Rattle.std.proofs.lemmas.Bool.{cases_lt}
 use Rattle.std.proofs.lemmas.List.{map-append, append-nil}
 use Rattle.job_queue.specs.Line.{LineId}
 use Rattle.floors.specs.Floor.{FloorId}
@@ -24,3 +25,10 @@ at_line P within seen same fact = subst (λ (s : ShopId). P s.line) same fact
 
 pub at_floor : (P : FloorId → Type 0) (within seen : ShopId) → within ≡ seen → P within.floor → P seen.floor
 at_floor P within seen same fact = subst (λ (s : ShopId). P s.floor) same fact
+
+-- a count that is within the limit and not at it is below it
+pub below_limit : (limit : Option ℕ) (count : ℕ) → ((most : ℕ) → limit ≡ Some most → count ≤ most) → (limit ≡ Some count → ⊥) → (most : ℕ) → limit ≡ Some most → count < most
+below_limit limit count within other most is = ⊎_elim
+    (λ (lt : count < most). lt)
+    (λ (ge : most ≤ count). absurd (other (is ∙ ap Some (omega (arith, ge, within most is)))))
+    (cases_lt count most)

@@ -64,6 +64,8 @@ pub record FinishedRun (n : ℕ) (lanes : List LaneRecord) (grants : List (List 
   pub entered_before : Each (λ l. Each (λ e. e.number < note) l.entries) lanes
   -- the close number is the count of all entries
   pub close_number : note ≡ total (λ l. length l.entries) lanes
+  -- a count of entries that a lane found beside the closed mark is at least the close number
+  pub seen : Each (λ l. Each (λ count. note ≤ count) l.seen) lanes
   -- ran on a subcube that was granted: the regions of each worker's replies, and behind those of the last
   -- worker the ones of the rest, are in order all that its station was granted
   pub granted : grants ≡ with_last (map (map region_of) o.by_worker) (map region_of o.rest)

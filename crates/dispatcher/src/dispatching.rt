@@ -1,8 +1,10 @@
 //! What a worker does.
-ghost use Rattle.std.specs.Prelude.{◌≡◌, ◌≢◌};
-ghost use Rattle.dispatcher.specs.Members.{IsWorkerOf, IsEndOf, stop_of, end_record};
+ghost use Rattle.std.specs.Prelude.{◌≡◌, ◌≢◌, ℕ, ◌<◌, ◌≤◌, ◌⊎◌, Some, None, IfSome, length};
+ghost use Rattle.std.specs.Vec.{vec_capacity};
+ghost use Rattle.dispatcher.specs.Members.{IsWorkerOf, IsEndOf, worker_record, stop_of, replies_of, end_record};
 ghost use Rattle.dispatcher.specs.Stop.{FindsTheEnd};
 
+use crate::limit::is_reached;
 use crate::pause::Pause;
 use crate::runner::Runner;
 use crate::serving::serve;
@@ -11,26 +13,48 @@ use crate::stop::Stop;
 use crate::worker::{Worker, WorkerEnd};
 use floors::Floor;
 use job_queue::{JobLine, Taken};
+use job_types::Reply;
 use std::alloc::Global;
 use std::sync::Wait;
 
-/// Takes jobs and answers each on a subcube of its own, until the line has ended.
-///
-/// Room for a reply is reserved before its job is taken: where that is refused the worker stops with
-/// `OutOfMemory`, and no taken job is lost. It stops with `Ended` where its last take found the line
-/// ended. What its replies are is said by the type `WorkerEnd`.
-pub fn dispatch<R: Wait, L: JobLine, F: Floor, T: Runner>(
+// Why the worker takes no further job: its replies are as many as the limit, or there is no room for one
+// more. With `None` there is room.
+fn make_room(replies: &mut Vec<Reply>, limit: Option<u32>) -> Option<Stop>
+    ensures items { replies.new.items ≡ replies.old.items }
+    ensures room { result ≡ None → length replies.new.items < vec_capacity replies.new }
+    ensures stop { IfSome result (λ stop. (stop ≡ Stop.Enough) ⊎ (stop ≡ Stop.OutOfMemory)) }
+    ensures enough { result ≡ Some Stop.Enough → limit ≡ Some (length replies.new.items) }
+    ensures no_room { result ≡ Some Stop.OutOfMemory →
+        vec_capacity replies.new ≤ length replies.new.items }
+    ensures fewer { result ≢ Some Stop.Enough → limit ≢ Some (length replies.new.items) }
+{
+    if is_reached(limit, replies.len()) {
+        return Some(Stop::Enough);
+    }
+    let Ok(()) = replies.reserve(1) else {
+        return Some(Stop::OutOfMemory);
+    };
+    None
+}
+
+// Takes jobs and answers each, until the line has ended or there are as many replies as the limit says.
+fn work<R: Wait, L: JobLine, F: Floor, T: Runner>(
     rt: &R,
     alloc: Global,
     shop: &Shop<L, F>,
     worker: Worker<L, F>,
     runner: &T,
+    limit: Option<u32>,
 ) -> WorkerEnd<L, F>
     requires { IsWorkerOf shop.now worker }
     ensures of_shop { IsEndOf shop.now result }
     ensures ended { stop_of result ≡ Stop.Ended → (before : L.Pass) ×
         L.is_pass shop.now.line before × FindsTheEnd (L.pass_record before) (end_record result) }
     ensures has_run { stop_of result ≢ Stop.NotRun }
+    ensures enough { stop_of result ≡ Stop.Enough → limit ≡ Some (length (replies_of result)) }
+    ensures fewer { (most : ℕ) → limit ≡ Some most → stop_of result ≢ Stop.Enough →
+        length (replies_of result) < most }
+    ensures at_once { limit ≡ Some 0 → end_record result ≡ worker_record worker }
 {
     let Worker {
         mut pass,
@@ -39,14 +63,14 @@ pub fn dispatch<R: Wait, L: JobLine, F: Floor, T: Runner>(
     let mut replies = Vec::new(alloc);
     let mut pause = Pause::new();
     for _ in rt.forever() {
-        let Ok(()) = replies.reserve(1) else {
+        if let Some(stop) = make_room(&mut replies, limit) {
             return WorkerEnd {
                 pass,
                 station,
                 replies,
-                stop: Stop::OutOfMemory,
+                stop,
             };
-        };
+        }
         match shop.line.take(rt, &mut pass) {
             Taken::Job(id, job) => {
                 let (back, reply) = serve(rt, &shop.floor, runner, station, id, job);
@@ -66,4 +90,49 @@ pub fn dispatch<R: Wait, L: JobLine, F: Floor, T: Runner>(
         }
     }
     unreachable!()
+}
+
+/// Takes jobs and answers each on a subcube of its own, until the line has ended.
+///
+/// Room for a reply is reserved before its job is taken: where that is refused the worker stops with
+/// `OutOfMemory`, and no taken job is lost. It stops with `Ended` where its last take found the line
+/// ended. What its replies are is said by the type `WorkerEnd`.
+pub fn dispatch<R: Wait, L: JobLine, F: Floor, T: Runner>(
+    rt: &R,
+    alloc: Global,
+    shop: &Shop<L, F>,
+    worker: Worker<L, F>,
+    runner: &T,
+) -> WorkerEnd<L, F>
+    requires { IsWorkerOf shop.now worker }
+    ensures of_shop { IsEndOf shop.now result }
+    ensures ended { stop_of result ≡ Stop.Ended → (before : L.Pass) ×
+        L.is_pass shop.now.line before × FindsTheEnd (L.pass_record before) (end_record result) }
+    ensures has_run { stop_of result ≢ Stop.NotRun }
+    ensures no_limit { stop_of result ≢ Stop.Enough }
+{
+    work(rt, alloc, shop, worker, runner, None)
+}
+
+/// Takes jobs and answers them as `dispatch` does, and stops with `Enough` once there are `most` replies.
+///
+/// With `most` 0 it takes nothing. Where it stops otherwise there are fewer replies.
+pub fn dispatch_some<R: Wait, L: JobLine, F: Floor, T: Runner>(
+    rt: &R,
+    alloc: Global,
+    shop: &Shop<L, F>,
+    worker: Worker<L, F>,
+    runner: &T,
+    most: u32,
+) -> WorkerEnd<L, F>
+    requires { IsWorkerOf shop.now worker }
+    ensures of_shop { IsEndOf shop.now result }
+    ensures ended { stop_of result ≡ Stop.Ended → (before : L.Pass) ×
+        L.is_pass shop.now.line before × FindsTheEnd (L.pass_record before) (end_record result) }
+    ensures has_run { stop_of result ≢ Stop.NotRun }
+    ensures enough { stop_of result ≡ Stop.Enough → length (replies_of result) ≡ most }
+    ensures fewer { stop_of result ≢ Stop.Enough → length (replies_of result) < most }
+    ensures at_once { most ≡ 0 → end_record result ≡ worker_record worker }
+{
+    work(rt, alloc, shop, worker, runner, Some(most))
 }

@@ -1,11 +1,13 @@
 //! What a feeder does.
-ghost use Rattle.std.specs.Prelude.{◌≡◌, ◌≢◌, ℕ, ◌≤◌, ◌++◌, [], ◌∷◌, List, None, Some, length};
+ghost use Rattle.std.specs.Prelude.{◌≡◌, ◌≢◌, ℕ, ◌<◌, ◌≤◌, ◌++◌, [], ◌∷◌, List, None, Some, length};
 ghost use Rattle.std.specs.Option.{IsSome};
 ghost use Rattle.std.specs.List.{All};
-ghost use Rattle.job_queue.specs.Record.{accepted_jobs, IsSettled};
+ghost use Rattle.job_queue.specs.Record.{accepted_jobs};
 ghost use Rattle.job_queue.specs.Line.{IsFor};
 ghost use Rattle.dispatcher.specs.Stop.{given_back, EndsWith};
+ghost use Rattle.dispatcher.specs.Feed.{HandsIn, full_since};
 
+use crate::limit::is_reached;
 use crate::pause::Pause;
 use crate::shop::Shop;
 use cube_shape::MAX_ENTRIES;
@@ -27,12 +29,14 @@ pub enum FeedStop {
     },
     /// The lane has made as many entries as a lane may.
     LaneSpent,
+    /// The line was full as often as the feed was to try. Only `feed_for` stops so.
+    Turns,
 }
 
 /// A feed that has stopped, with the jobs that were not accepted.
 #[derive(Debug, Drop)]
 pub struct FeedEnd {
-    /// The job that the line refused for good, if it did.
+    /// The job that the last try gave back, if it gave one back.
     pub back: Option<Job>,
     /// The jobs after it, in order.
     pub left: VecDeque<Job>,
@@ -40,33 +44,37 @@ pub struct FeedEnd {
     pub stop: FeedStop,
 }
 
-/// Hands in the jobs by one lane, from the front, and tries again where the line is full.
-///
-/// What the lane has accepted in this call, followed by the job that came back and those that are
-/// left, is what was handed in. All jobs must be for the line's machine and for this lane.
-pub fn feed<R: Wait, L: JobLine, F: Floor>(
+// Hands in the jobs, until one is refused for good or the line was full as often as the limit says.
+fn hand_in<R: Wait, L: JobLine, F: Floor>(
     rt: &R,
     shop: &Shop<L, F>,
     lane: &mut L::Lane,
     jobs: VecDeque<Job>,
+    limit: Option<u32>,
 ) -> FeedEnd
     requires lane { L.is_lane shop.now.line lane.old }
     requires jobs { All (IsFor shop.now.line.sizes.machine (L.lane_record lane.old).number)
         jobs.items }
+    requires limit { limit ≢ Some 0 }
     ensures lane { L.is_lane shop.now.line lane.new }
     ensures number { (L.lane_record lane.new).number ≡ (L.lane_record lane.old).number }
-    ensures fed { accepted_jobs (L.lane_record lane.new) ++ given_back result.back
-        ++ result.left.items ≡ accepted_jobs (L.lane_record lane.old) ++ jobs.items }
     ensures jobs { All (IsFor shop.now.line.sizes.machine (L.lane_record lane.new).number)
         (given_back result.back ++ result.left.items) }
+    ensures entries { HandsIn jobs.items (given_back result.back ++ result.left.items)
+        result.stop (L.lane_record lane.old) (L.lane_record lane.new) }
     ensures done { result.stop ≡ FeedStop.Done → given_back result.back ++ result.left.items ≡ [] }
     ensures refused { result.stop ≢ FeedStop.Done → IsSome result.back }
     ensures closed { (seen : ℕ) → result.stop ≡ FeedStop.Closed seen →
         EndsWith (L.lane_record lane.new).seen seen }
     ensures spent { result.stop ≡ FeedStop.LaneSpent →
         MAX_ENTRIES ≤ length (L.lane_record lane.new).entries }
+    ensures turns { result.stop ≡ FeedStop.Turns →
+        limit ≡ Some (full_since (L.lane_record lane.old) (L.lane_record lane.new)) }
+    ensures fewer { (turns : ℕ) → limit ≡ Some turns → result.stop ≢ FeedStop.Turns →
+        full_since (L.lane_record lane.old) (L.lane_record lane.new) < turns }
 {
     let mut left = jobs;
+    let mut full = 0usize;
     let mut pause = Pause::new();
     for _ in rt.forever() {
         let Some(job) = left.pop_front() else {
@@ -82,9 +90,14 @@ pub fn feed<R: Wait, L: JobLine, F: Floor>(
         };
         let stop = match refused {
             Refused::Full => {
-                left.push_front_reserved(job);
-                pause.wait(rt);
-                continue;
+                full = full.saturating_add(1);
+                if is_reached(limit, full) {
+                    FeedStop::Turns
+                } else {
+                    left.push_front_reserved(job);
+                    pause.wait(rt);
+                    continue;
+                }
             }
             Refused::Closed { seen } => FeedStop::Closed { seen },
             Refused::LaneSpent => FeedStop::LaneSpent,
@@ -96,4 +109,85 @@ pub fn feed<R: Wait, L: JobLine, F: Floor>(
         };
     }
     unreachable!()
+}
+
+/// Hands in the jobs by one lane, from the front, and tries again where the line is full.
+///
+/// What the lane has accepted in this call, followed by the job that came back and those that are
+/// left, is what was handed in. Each accepted job cost the lane an entry, and so did each try that found
+/// the line full; it made no other. All jobs must be for the line's machine and for this lane.
+pub fn feed<R: Wait, L: JobLine, F: Floor>(
+    rt: &R,
+    shop: &Shop<L, F>,
+    lane: &mut L::Lane,
+    jobs: VecDeque<Job>,
+) -> FeedEnd
+    requires lane { L.is_lane shop.now.line lane.old }
+    requires jobs { All (IsFor shop.now.line.sizes.machine (L.lane_record lane.old).number)
+        jobs.items }
+    ensures lane { L.is_lane shop.now.line lane.new }
+    ensures number { (L.lane_record lane.new).number ≡ (L.lane_record lane.old).number }
+    ensures fed { accepted_jobs (L.lane_record lane.new) ++ given_back result.back
+        ++ result.left.items ≡ accepted_jobs (L.lane_record lane.old) ++ jobs.items }
+    ensures jobs { All (IsFor shop.now.line.sizes.machine (L.lane_record lane.new).number)
+        (given_back result.back ++ result.left.items) }
+    ensures entries { HandsIn jobs.items (given_back result.back ++ result.left.items)
+        result.stop (L.lane_record lane.old) (L.lane_record lane.new) }
+    ensures done { result.stop ≡ FeedStop.Done → given_back result.back ++ result.left.items ≡ [] }
+    ensures refused { result.stop ≢ FeedStop.Done → IsSome result.back }
+    ensures closed { (seen : ℕ) → result.stop ≡ FeedStop.Closed seen →
+        EndsWith (L.lane_record lane.new).seen seen }
+    ensures spent { result.stop ≡ FeedStop.LaneSpent →
+        MAX_ENTRIES ≤ length (L.lane_record lane.new).entries }
+    ensures no_limit { result.stop ≢ FeedStop.Turns }
+{
+    hand_in(rt, shop, lane, jobs, None)
+}
+
+/// Hands in the jobs by one lane as `feed` does, and stops with `Turns` once the line was full at `turns` tries
+/// of this call. The job of the last try is then the one that came back.
+///
+/// With `turns` 0 it makes no try, and all jobs are left.
+pub fn feed_for<R: Wait, L: JobLine, F: Floor>(
+    rt: &R,
+    shop: &Shop<L, F>,
+    lane: &mut L::Lane,
+    jobs: VecDeque<Job>,
+    turns: u32,
+) -> FeedEnd
+    requires lane { L.is_lane shop.now.line lane.old }
+    requires jobs { All (IsFor shop.now.line.sizes.machine (L.lane_record lane.old).number)
+        jobs.items }
+    ensures lane { L.is_lane shop.now.line lane.new }
+    ensures number { (L.lane_record lane.new).number ≡ (L.lane_record lane.old).number }
+    ensures fed { accepted_jobs (L.lane_record lane.new) ++ given_back result.back
+        ++ result.left.items ≡ accepted_jobs (L.lane_record lane.old) ++ jobs.items }
+    ensures jobs { All (IsFor shop.now.line.sizes.machine (L.lane_record lane.new).number)
+        (given_back result.back ++ result.left.items) }
+    ensures entries { HandsIn jobs.items (given_back result.back ++ result.left.items)
+        result.stop (L.lane_record lane.old) (L.lane_record lane.new) }
+    ensures turns { result.stop ≡ FeedStop.Turns →
+        full_since (L.lane_record lane.old) (L.lane_record lane.new) ≡ turns }
+    ensures fewer { result.stop ≢ FeedStop.Turns →
+        full_since (L.lane_record lane.old) (L.lane_record lane.new) < turns }
+    ensures done { result.stop ≡ FeedStop.Done → given_back result.back ++ result.left.items ≡ [] }
+    ensures refused { result.stop ≢ FeedStop.Done → result.stop ≢ FeedStop.Turns →
+        IsSome result.back }
+    ensures last_try { result.stop ≡ FeedStop.Turns → 0 < turns → IsSome result.back }
+    ensures at_once { turns ≡ 0 →
+        result ≡ record { back = None; left = jobs; stop = FeedStop.Turns } }
+    ensures untouched { turns ≡ 0 → lane.new ≡ lane.old }
+    ensures closed { (seen : ℕ) → result.stop ≡ FeedStop.Closed seen →
+        EndsWith (L.lane_record lane.new).seen seen }
+    ensures spent { result.stop ≡ FeedStop.LaneSpent →
+        MAX_ENTRIES ≤ length (L.lane_record lane.new).entries }
+{
+    if turns == 0 {
+        return FeedEnd {
+            back: None,
+            left: jobs,
+            stop: FeedStop::Turns,
+        };
+    }
+    hand_in(rt, shop, lane, jobs, Some(turns))
 }

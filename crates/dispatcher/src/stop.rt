@@ -7,6 +7,8 @@ pub enum Stop {
     Ended,
     /// There was no memory for one more reply. No job was taken for it.
     OutOfMemory,
+    /// It has as many replies as it was to make. Only `dispatch_some` stops so.
+    Enough,
     /// It was never run.
     NotRun,
 }

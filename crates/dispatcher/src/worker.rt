@@ -24,7 +24,7 @@ pub struct Worker<L: JobLine, F: Floor> {
 /// A worker that has stopped, with its replies. These are to the jobs that its pass took, and ran on the
 /// regions that its station was granted, both in order and from the opening of the shop on.
 ///
-/// Only `dispatch` and `Worker::stand_down` make one.
+/// Only `dispatch`, `dispatch_some` and `Worker::stand_down` make one.
 pub struct WorkerEnd<L: JobLine, F: Floor> {
     // Its pass.
     pub(crate) pass: L::Pass,

@@ -140,6 +140,10 @@ pub trait JobLine {
     fn lane_number(lane: &Self::Lane) -> u32
         ensures { result ≡ (lane_record lane.now).number };
 
+    /// How many entries the lane has made.
+    fn entry_count(lane: &Self::Lane) -> u64
+        ensures { result ≡ length (lane_record lane.now).entries };
+
     /// The close number: how many entries came before the close.
     fn close_number(note: &Self::Note) -> u64
         ensures { result ≡ note_number note.now };

@@ -1,5 +1,5 @@
 -- Views are dealt out of the first, and come together again.
-use Rattle.std.proofs.Common.{◌≡◌, ◌≢◌, ℕ, zero, suc, ◌+◌, ◌<◌, ◌≤◌, ⊎_elim, List, [], ◌∷◌, ◌++◌, length, append_assoc, set, sym, refl, ap, ◌∙◌, subst, arith}
+use Rattle.std.proofs.Common.{◌≡◌, ◌≢◌, ℕ, zero, suc, ◌+◌, ◌-◌, ◌<◌, ⊎_elim, List, [], ◌∷◌, ◌++◌, length, append_assoc, set, sym, refl, ap, ◌∙◌, subst, arith}
 use Rattle.std.proofs.lemmas.List.{append-nil}
 use Rattle.std.specs.List.{AllByRecursion}
 use mathlib.Core.Option.{some}
@@ -8,7 +8,7 @@ use Rattle.atomic_table.proofs.Lists.{at_set, at_snoc}
 use Rattle.crossbeam_queue.specs.Fifo.{Forks, Merges}
 use Rattle.histories.specs.Lists.{first_of, rest_of}
 use Rattle.histories.specs.Sums.{total, is_at}
-use Rattle.histories.proofs.DealLemmas.{only_view, first-tied, one-tied}
+use Rattle.histories.proofs.DealLemmas.{only_view, in_cut, in_joined, first-tied, one-tied}
 use Rattle.histories.proofs.ViewLemmas.{True, splits, joins, nobody_else}
 use Rattle.cube_shape.specs.declared.limits.TheConstants.{MAX_LANES, MAX_PASSES}
 use Rattle.line_ring.specs.declared.record.LaneRecord.{LaneRecord}
@@ -18,7 +18,7 @@ use Rattle.line_ring.specs.Record.{fresh_lane, fresh_pass}
 use Rattle.line_ring.specs.History.{lane_part, pass_part, rest_part}
 use Rattle.line_ring.specs.Inner.View.{view, rest_record, lanes_in, passes_in, rests_in, lane_number, pass_number, rest_number, members, lanes_from, passes_from, first_view, empty_view, without_lane, lane_alone, without_pass, pass_alone, joined}
 use Rattle.line_ring.specs.Inner.Rule.{Keeps}
-use Rattle.line_ring.specs.Inner.Step.{IsWhole}
+use Rattle.line_ring.specs.Inner.Step.{IsEndView, IsWhole}
 use Rattle.line_ring.proofs.ListLemmas.{no_pieces}
 use Rattle.line_ring.proofs.EndLemmas.{runs_to}
 
@@ -54,6 +54,29 @@ module _ {T : Type 0} where
 
   is_whole : (machine : ℕ) → IsWhole (whole_view machine)
   is_whole machine = record { lanes = refl; passes = refl; rests = refl }
+
+  -- one lane more is dealt, or one pass
+  pub lane_dealt : (lanes passes : ℕ) (v w : View T) → IsEndView lanes passes v → lanes < MAX_LANES → w ≡ without_lane v → IsEndView (lanes + 1) passes w
+  lane_dealt lanes passes v w is few dealt =
+      let one_more : MAX_LANES - lanes ≡ suc (MAX_LANES - (lanes + 1)) = omega (arith, few) in
+      subst (IsEndView (lanes + 1) passes) (sym dealt) (record {
+        few_lanes = omega (arith, few);
+        few_passes = is.few_passes;
+        spare_lanes = ap rest_of is.spare_lanes ∙ ap (λ (n : ℕ). rest_of (lanes_from lanes n)) one_more;
+        spare_passes = is.spare_passes;
+        rests = is.rests;
+      })
+
+  pub pass_dealt : (lanes passes : ℕ) (v w : View T) → IsEndView lanes passes v → passes < MAX_PASSES → w ≡ without_pass v → IsEndView lanes (passes + 1) w
+  pass_dealt lanes passes v w is few dealt =
+      let one_more : MAX_PASSES - passes ≡ suc (MAX_PASSES - (passes + 1)) = omega (arith, few) in
+      subst (IsEndView lanes (passes + 1)) (sym dealt) (record {
+        few_lanes = is.few_lanes;
+        few_passes = omega (arith, few);
+        spare_lanes = is.spare_lanes;
+        spare_passes = ap rest_of is.spare_passes ∙ ap (λ (n : ℕ). rest_of (passes_from passes n)) one_more;
+        rests = is.rests;
+      })
 
   nobody : (u : View T) → lanes_in u ≡ [] → passes_in u ≡ [] → rests_in u ≡ [] → members u ≡ 0
   nobody u lanes passes rests = omega (arith, ap length lanes, ap length passes, ap length rests)
@@ -100,13 +123,8 @@ module _ {T : Type 0} (lane_of seq_of : T → ℕ) (is_for : ℕ → T → Type 
           passes = splits passes_in pass_number views k.passes id v me left right passes pass_sums;
           rests = splits rests_in rest_number views k.rests id v me left right (λ all. (subst (AllByRecursion rests_true) (sym left_rests) all, subst (AllByRecursion rests_true) (sym right_rests) tt))
               (λ n. omega (arith, ap (total (λ r. is_at n (rest_number r))) left_rests, ap (total (λ r. is_at n (rest_number r))) right_rests));
-          about = λ j u there has. ⊎_elim
-              (λ (q : get_elem? (set views id left) j ≡ some u). ⊎_elim
-              (λ (p : (j ≡ id) × (left ≡ u)). ap (λ (y : View T). y.machine) (sym p.1) ∙ (left_machine ∙ k.about id v me (omega (arith, has, ap members p.1, sums))))
-              (λ (p : (j ≢ id) × (get_elem? views j ≡ some u)). k.about j u p.1 has)
-              (at_set views id j left u q))
-              (λ (q : right ≡ u). ap (λ (y : View T). y.machine) (sym q) ∙ (right_machine ∙ k.about id v me (omega (arith, has, ap members q, sums))))
-              (at_snoc (set views id left) right u j there);
+          about = in_cut (λ u. 0 < members u → u.machine ≡ k.machine) views id left right
+              (λ has. left_machine ∙ k.about id v me (omega (arith, has, sums))) (λ has. right_machine ∙ k.about id v me (omega (arith, has, sums))) k.about;
         }
 
   pub deals_lane : (id : ℕ) (v : View T) → Forks K id v (without_lane v) (lane_alone v)
@@ -123,8 +141,8 @@ module _ {T : Type 0} (lane_of seq_of : T → ℕ) (is_for : ℕ → T → Type 
 
   pub next_machine : (id m : ℕ) → Forks K id (whole_view m) (whole_view (m + 1)) empty_view
   next_machine id m items views k me =
-      let v = whole_view m in
-      let left = whole_view (m + 1) in
+      let v : View T = whole_view m in
+      let left : View T = whole_view (m + 1) in
       let alone : (j : ℕ) (u : View T) → j ≢ id → get_elem? views j ≡ some u → members u ≡ 0 = λ j u apart there. nobody u
       (nobody_else lanes_in lane_number views k.lanes id v me refl j u apart there)
       (nobody_else passes_in pass_number views k.passes id v me refl j u apart there)
@@ -164,13 +182,7 @@ module _ {T : Type 0} (lane_of seq_of : T → ℕ) (is_for : ℕ → T → Type 
         lanes = joins lanes_in lane_number views k.lanes id v me other w both empty_view apart there (sym (append_assoc v.spare_lanes v.lanes ls)) refl;
         passes = joins passes_in pass_number views k.passes id v me other w both empty_view apart there (sym (append_assoc v.spare_passes v.passes ps)) refl;
         rests = joins rests_in rest_number views k.rests id v me other w both empty_view apart there (sym (append-nil v.rests)) refl;
-        about = λ j u at_j has. ⊎_elim
-            (λ (q : (j ≡ other) × (empty_view ≡ u)). absurd (omega (arith, has, ap members q.1)))
-            (λ (q : (j ≢ other) × (get_elem? (set views id both) j ≡ some u)). ⊎_elim
-            (λ (p : (j ≡ id) × (both ≡ u)). ap (λ (y : View T). y.machine) (sym p.1) ∙ k.about id v me member)
-            (λ (p : (j ≢ id) × (get_elem? views j ≡ some u)). k.about j u p.1 has)
-            (at_set views id j both u q.1))
-            (at_set (set views id both) other j empty_view u at_j);
+        about = in_joined (λ u. 0 < members u → u.machine ≡ k.machine) views id other both empty_view (λ _. k.about id v me member) (λ has. absurd (omega (arith, has))) k.about;
       }
 
   pub gathers : (id : ℕ) (v : View T) (other : ℕ) (w : View T) → 0 < members v → w ≡ view w.machine [] w.lanes [] w.passes [] → Merges K id v other w (joined v w) empty_view

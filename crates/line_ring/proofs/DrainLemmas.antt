@@ -17,6 +17,8 @@ use Rattle.line_ring.specs.declared.rule.View.{View}
 use Rattle.line_ring.specs.Record.{fresh_lane, fresh_pass, AreSeqs, Rises}
 use Rattle.line_ring.specs.History.{Deed, accepts, takes_piece, drains, lane_part, pass_part, IsLegal}
 use Rattle.line_ring.specs.Run.{RingRun}
+use Rattle.line_ring.specs.Ring.{RingId, EndOf}
+use Rattle.line_ring.specs.Inner.Seat.{end_of}
 use Rattle.line_ring.specs.Inner.View.{view, rest_record, lanes_in, passes_in, lanes_from, passes_from}
 use Rattle.line_ring.specs.Inner.Step.{drained_in, after_drain, IsEndView, IsWhole, RunsTo, Drains}
 use Rattle.line_ring.proofs.HistoryLemmas.{lane_other, pass_other}
@@ -55,6 +57,32 @@ module _ {T : Type 0} where
     rests = refl;
   }
 
+  -- The view of the end, to which all lanes and passes have come back, beside what contracts see of the end.
+  pub record IsLast (end : EndOf T) (v : View T) : Type 0 where
+    pub known : IsEndView end.dealt_lanes end.dealt_passes v
+    pub machine : v.machine ≡ end.ring.machine
+    pub lanes : v.lanes ≡ end.back_lanes
+    pub passes : v.passes ≡ end.back_passes
+    pub all_lanes : length v.lanes ≡ end.dealt_lanes
+    pub all_passes : length v.passes ≡ end.dealt_passes
+
+  pub is_last : (ring : RingId) (lanes passes : ℕ) (v u : View T) (end : EndOf T) → end_of ring lanes passes v ≡ end → v.machine ≡ ring.machine → u ≡ v → IsEndView lanes passes v
+      → length end.back_lanes ≡ end.dealt_lanes → length end.back_passes ≡ end.dealt_passes → IsLast end u
+  is_last ring lanes passes v u end is machine same known all_lanes all_passes =
+      let back : v.lanes ≡ end.back_lanes = ap (λ (e : EndOf T). e.back_lanes) is in
+      let back_passes : v.passes ≡ end.back_passes = ap (λ (e : EndOf T). e.back_passes) is in
+      subst (IsLast end) (sym same) (record {
+        known = subst (λ (e : EndOf T). IsEndView e.dealt_lanes e.dealt_passes v) is known;
+        machine = machine ∙ ap (λ (e : EndOf T). e.ring.machine) is;
+        lanes = back;
+        passes = back_passes;
+        all_lanes = ap length back ∙ all_lanes;
+        all_passes = ap length back_passes ∙ all_passes;
+      })
+
+  pub all_in : (end : EndOf T) (v u : View T) (out : List T) → IsLast end v → u ≡ with_rest v out → IsWhole u
+  all_in end v u out last is = subst IsWhole (sym is) (all_are_here end.dealt_lanes end.dealt_passes v out last.known last.all_lanes last.all_passes)
+
   -- how many pieces the lanes put in, and how many the passes took
   abbrev put_in : View T → ℕ
   put_in v = total (λ l. total (λ (x : T). 1) l.accepted) (lanes_in v)
@@ -84,9 +112,9 @@ module _ {T : Type 0} (lane_of seq_of : T → ℕ) (is_for : ℕ → T → Type 
         made_for = tt;
       }
 
-  pub begins : (capacity count : ℕ) (v₀ v : View T) (out : List T) → v₀ ≡ with_rest v₀ [] → v ≡ v₀ → out ≡ [] → count ≤ capacity → Held count (RunsTo lane_of seq_of v₀) → Drained capacity v₀ v out
-  begins capacity count v₀ v out fresh same none few held =
-      subst (λ (xs : List T). Drained capacity v₀ v xs) (sym none) (subst (λ (u : View T). Drained capacity v₀ u []) (sym same) (begins_here capacity count v₀ fresh few held))
+  pub begins : (capacity count : ℕ) (u v : View T) (out : List T) → v ≡ with_rest v [] → v ≡ u → out ≡ [] → count ≤ capacity → Held count (RunsTo lane_of seq_of u) → Drained capacity v v out
+  begins capacity count u v out fresh same none few held =
+      subst (λ (xs : List T). Drained capacity v v xs) (sym none) (begins_here capacity count v fresh few (subst (λ (z : View T). Held count (RunsTo lane_of seq_of z)) (sym same) held))
 
   -- what was at the front when this piece came out
   drained_run : (capacity : ℕ) (v₀ v w : View T) (out : List T) (x : T) → Drained capacity v₀ v out → Drains lane_of seq_of is_for v x w → (items : List T) × RunsTo lane_of seq_of (with_rest v₀ out) (x ∷ items)
@@ -172,7 +200,7 @@ module _ {T : Type 0} (lane_of seq_of : T → ℕ) (is_for : ℕ → T → Type 
     passes_weigh : (f : PassRecord T → ℕ) → ((number : ℕ) → f (record { number = number; taken = [] }) ≡ 0) → total f (passes_in v₀) ≡ total f v₀.passes
     passes_weigh f none = omega (arith, total-append f v₀.spare_passes v₀.passes, ap (total f) end.spare_passes, fresh_passes_weigh f none passes (MAX_PASSES - passes))
 
-    pub ring_run : length v₀.lanes ≡ lanes → length v₀.passes ≡ passes → RingRun lane_of seq_of v₀.lanes v₀.passes out
+    ring_run : length v₀.lanes ≡ lanes → length v₀.passes ≡ passes → RingRun lane_of seq_of v₀.lanes v₀.passes out
     ring_run all_lanes all_passes = record {
       balance = λ weight. omega (arith, run.balance weight, lanes_weigh (λ l. total weight l.accepted) (λ _. refl), passes_weigh (λ p. total weight p.taken) (λ _. refl));
       seqs = all_back (λ l. AreSeqs lane_of seq_of l.number 0 l.accepted) v₀.spare_lanes v₀.lanes run.seqs;
@@ -190,7 +218,18 @@ module _ {T : Type 0} (lane_of seq_of : T → ℕ) (is_for : ℕ → T → Type 
       no_other_pass = λ k high. no_other_pass run.listed.history passes v₀.spare_passes end.spare_passes end.few_passes run.listed.legal (all_front (λ p. p ≡ pass_part run.listed.history p.number) v₀.spare_passes v₀.passes run.listed.each_pass) k (omega (arith, high, all_passes));
     }
 
-    pub lanes_there : (k : ℕ) → k < lanes → total (λ l. is_at k l.number) v₀.lanes ≡ 1
+    lanes_there : (k : ℕ) → k < lanes → total (λ l. is_at k l.number) v₀.lanes ≡ 1
     lanes_there k within =
         let number = λ (l : LaneRecord T). is_at k l.number in
         omega (arith, run.numbers k (omega (arith, within, end.few_lanes)), total-append number v₀.spare_lanes v₀.lanes, ap (total number) end.spare_lanes, (fresh-once (fresh_lane {T = T}) (λ r. r.number) (λ _. refl) k lanes (MAX_LANES - lanes)).1 within)
+
+  -- what contracts see of the end says so
+  module _ (capacity : ℕ) (end : EndOf T) (v₀ v : View T) (out : List T) (last : IsLast end v₀) (drained : Drained capacity v₀ v out) (held : Held 0 (RunsTo lane_of seq_of v)) where
+    pub ring_ends : RingRun lane_of seq_of end.back_lanes end.back_passes out
+    ring_ends =
+        let run = ring_run capacity end.dealt_lanes end.dealt_passes v₀ v out last.known drained held last.all_lanes last.all_passes in
+        subst (λ (ps : List (PassRecord T)). RingRun lane_of seq_of end.back_lanes ps out) last.passes (subst (λ (ls : List (LaneRecord T)). RingRun lane_of seq_of ls v₀.passes out) last.lanes run)
+
+    pub lanes_back : (k : ℕ) → k < end.dealt_lanes → total (λ l. is_at k l.number) end.back_lanes ≡ 1
+    lanes_back k within =
+        ap (total (λ (l : LaneRecord T). is_at k l.number)) (sym last.lanes) ∙ lanes_there capacity end.dealt_lanes end.dealt_passes v₀ v out last.known drained held k within

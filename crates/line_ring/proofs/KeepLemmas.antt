@@ -1,8 +1,8 @@
 -- The rule of a ring, as pieces come in and go out.
-use Rattle.std.proofs.Common.{◌≡◌, ◌≢◌, ℕ, ◌<◌, ⊎_elim, List, [], ◌∷◌, ◌++◌, length, set, sym, refl, ap, ◌∙◌, subst, arith}
+use Rattle.std.proofs.Common.{◌≡◌, ℕ, ◌<◌, List, [], ◌∷◌, ◌++◌, length, set, sym, refl, ap, ◌∙◌, subst, arith}
 use mathlib.Core.Option.{some}
 use lib.ListN.{get_elem?}
-use Rattle.atomic_table.proofs.Lists.{at_set}
+use Rattle.histories.proofs.DealLemmas.{in_changed}
 use Rattle.histories.proofs.ViewLemmas.{all_append, steps, stays}
 use Rattle.crossbeam_queue.specs.Fifo.{Pushes, Pops, Learns}
 use Rattle.line_ring.specs.declared.record.LaneRecord.{LaneRecord}
@@ -10,9 +10,8 @@ use Rattle.line_ring.specs.declared.record.PassRecord.{PassRecord}
 use Rattle.line_ring.specs.declared.rule.View.{View}
 use Rattle.histories.specs.Lists.{rest_of}
 use Rattle.line_ring.specs.History.{accepts, takes_piece, waiting, lane_part, pass_part, rest_part}
-use Rattle.line_ring.specs.Inner.View.{lane_view, pass_view, lanes_in, passes_in, rests_in, lane_number, pass_number, rest_number, members}
+use Rattle.line_ring.specs.Inner.View.{lane_in, pass_in, lane_view, pass_view, lanes_in, passes_in, rests_in, lane_number, pass_number, rest_number, members}
 use Rattle.line_ring.specs.Inner.Rule.{Keeps}
-use Rattle.line_ring.specs.Record.{lane_in, pass_in}
 use Rattle.line_ring.specs.Inner.Step.{after_push, IsLaneView, IsPassView, LaneLearns, PassLearns, Takes}
 use Rattle.line_ring.proofs.HistoryLemmas.{lane_own, lane_other, pass_own, pass_other}
 
@@ -23,10 +22,7 @@ module _ {T : Type 0} (lane_of seq_of : T → ℕ) (is_for : ℕ → T → Type 
   -- the seat's new view is for the same machine
   pub about_set : {items : List T} (views : List (View T)) (k : K items views) (id : ℕ) (v w : View T) → get_elem? views id ≡ some v → 0 < members v → w.machine ≡ v.machine
       → (j : ℕ) (u : View T) → get_elem? (set views id w) j ≡ some u → 0 < members u → u.machine ≡ k.machine
-  about_set views k id v w me member same j u there has = ⊎_elim
-      (λ (q : (j ≡ id) × (w ≡ u)). ap (λ (y : View T). y.machine) (sym q.1) ∙ (same ∙ k.about id v me member))
-      (λ (q : (j ≢ id) × (get_elem? views j ≡ some u)). k.about j u q.1 has)
-      (at_set views id j w u there)
+  about_set views k id v w me member same = in_changed (λ u. 0 < members u → u.machine ≡ k.machine) views id w (λ _. same ∙ k.about id v me member) k.about
 
   -- ---- a lane puts a piece in
 

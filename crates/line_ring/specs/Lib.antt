@@ -1,4 +1,6 @@
 pub mod Record
+pub mod Ring
 pub mod History
 pub mod Run
 pub mod Inner
+pub use Rattle.histories.specs.Sums.{is_at, total}

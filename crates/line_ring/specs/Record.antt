@@ -11,15 +11,6 @@ fresh_lane number = record { number = number; accepted = [] }
 abbrev pub fresh_pass : {T : Type 0} → ℕ → PassRecord T
 fresh_pass number = record { number = number; taken = [] }
 
--- the record that stands alone in a list
-abbrev pub lane_in : {T : Type 0} → List (LaneRecord T) → LaneRecord T
-lane_in [] = fresh_lane 0
-lane_in (r ∷ rs) = r
-
-abbrev pub pass_in : {T : Type 0} → List (PassRecord T) → PassRecord T
-pass_in [] = fresh_pass 0
-pass_in (r ∷ rs) = r
-
 -- the pieces are those of the lane from seq on, in order
 abbrev pub AreSeqs : {T : Type 0} → (T → ℕ) → (T → ℕ) → ℕ → ℕ → List T → Type 0
 AreSeqs lane_of seq_of lane seq [] = Unit {0}

@@ -3,7 +3,6 @@ ghost use Rattle.std.specs.Prelude.{◌≡◌, ℕ, ◌<◌, ◌≤◌, length};
 ghost use Rattle.std.specs.List.{All};
 ghost use Rattle.histories.specs.Sums.{total, is_at};
 ghost use Rattle.line_ring.specs.Run.{RingRun};
-ghost use Rattle.line_ring.specs.Inner.Handle.{ring_id, is_end, dealt_lanes, dealt_passes, back_lanes, back_passes};
 
 use crate::handle::RingEnd;
 use crate::piece::Piece;
@@ -16,14 +15,14 @@ impl<T: Piece> Ring<T> {
     /// Ends the ring, once as many lanes and passes have come back as were dealt, so that these are
     /// all of them. It answers what no pass took, front first.
     pub fn into_rest<R: Wait>(self, rt: &R, end: RingEnd<T>) -> VecDeque<T>
-        requires end { is_end (ring_id self) end }
-        requires lanes { length (back_lanes end) ≡ dealt_lanes end }
-        requires passes { length (back_passes end) ≡ dealt_passes end }
-        ensures run { RingRun T.lane T.seq (back_lanes end) (back_passes end) result.items }
-        ensures numbers { (k : ℕ) → k < dealt_lanes end →
-            total (λ l. is_at k l.number) (back_lanes end) ≡ 1 }
-        ensures fits { length result.items ≤ (ring_id self).capacity }
-        ensures machine { All (T.is_for (ring_id self).machine) result.items }
+        requires end { end.ring ≡ self.id }
+        requires lanes { length end.back_lanes ≡ end.dealt_lanes }
+        requires passes { length end.back_passes ≡ end.dealt_passes }
+        ensures run { RingRun T.lane T.seq end.back_lanes end.back_passes result.items }
+        ensures numbers { (k : ℕ) → k < end.dealt_lanes →
+            total (λ l. is_at k l.number) end.back_lanes ≡ 1 }
+        ensures fits { length result.items ≤ self.capacity }
+        ensures machine { All (T.is_for self.id.machine) result.items }
     {
         let Ring {
             queue,

@@ -1,25 +1,44 @@
 // What the callers of a ring hold. None of it has a `Drop`: it is spent at the ring's end.
-ghost use Rattle.std.specs.Prelude.{◌≡◌, [], length};
-ghost use Rattle.crossbeam_queue.specs.Passes.{view};
-ghost use Rattle.line_ring.specs.Inner.Step.{IsLaneView, IsPassView, IsEndView};
-
 use crate::rule::View;
 use crossbeam_queue::Pass;
+use std::marker::Model;
 
 /// The right to put pieces into a ring by one lane.
 pub struct RingLane<T> {
     pub(crate) seat: Pass<T, View<T>>,
     pub(crate) number: u32,
     pub(crate) accepted: u64,
-    ghost none_out: { seat.me.1 ≡ [] },
-    ghost known: { IsLaneView number accepted (view seat) },
+}
+
+impl<T> Model for RingLane<T> {
+    ghost use Rattle.crossbeam_queue.specs.Passes.{view as known_by};
+    ghost use Rattle.line_ring.specs.Ring.{LaneOf};
+    ghost use Rattle.line_ring.specs.Inner.View.{lane_in};
+    ghost use Rattle.line_ring.specs.Inner.Seat.{ring_of, IsLaneSeat};
+
+    ghost Value = { LaneOf T };
+
+    ghost view = { λ l. record { ring = ring_of l.seat; known = lane_in (known_by l.seat).lanes } };
+
+    ghost invariant = { λ l. IsLaneSeat l.number l.accepted l.seat };
 }
 
 /// The right to take pieces out of a ring.
 pub struct RingPass<T> {
     pub(crate) seat: Pass<T, View<T>>,
-    ghost none_out: { seat.me.1 ≡ [] },
-    ghost known: { IsPassView (view seat) },
+}
+
+impl<T> Model for RingPass<T> {
+    ghost use Rattle.crossbeam_queue.specs.Passes.{view as known_by};
+    ghost use Rattle.line_ring.specs.Ring.{PassOf};
+    ghost use Rattle.line_ring.specs.Inner.View.{pass_in};
+    ghost use Rattle.line_ring.specs.Inner.Seat.{ring_of, IsPassSeat};
+
+    ghost Value = { PassOf T };
+
+    ghost view = { λ p. record { ring = ring_of p.seat; known = pass_in (known_by p.seat).passes } };
+
+    ghost invariant = { λ p. IsPassSeat p.seat };
 }
 
 /// The right to end a ring. There is one. Lanes and passes are dealt out of it and come back to it.
@@ -27,23 +46,33 @@ pub struct RingEnd<T> {
     pub(crate) seat: Pass<T, View<T>>,
     pub(crate) lanes: u32,
     pub(crate) passes: u32,
-    ghost none_out: { seat.me.1 ≡ [] },
-    ghost known: { IsEndView lanes passes (view seat) },
+}
+
+impl<T> Model for RingEnd<T> {
+    ghost use Rattle.crossbeam_queue.specs.Passes.{view as known_by};
+    ghost use Rattle.line_ring.specs.Ring.{EndOf};
+    ghost use Rattle.line_ring.specs.Inner.Seat.{ring_of, end_of, IsEndSeat};
+
+    ghost Value = { EndOf T };
+
+    ghost view = { λ e. end_of (ring_of e.seat) e.lanes e.passes (known_by e.seat) };
+
+    ghost invariant = { λ e. IsEndSeat e.lanes e.passes e.seat };
 }
 
 impl<T> RingLane<T> {
-    ghost use Rattle.line_ring.specs.Inner.Handle.{lane_record};
+    ghost use Rattle.std.specs.Prelude.{◌≡◌, length};
 
     /// The lane's number.
     pub fn number(&self) -> u32
-        ensures { result ≡ (lane_record self.now).number }
+        ensures { result ≡ self.now.known.number }
     {
         self.number
     }
 
     /// How many pieces the lane has put in, which is the seq of its next one.
     pub fn accepted(&self) -> u64
-        ensures { result ≡ length (lane_record self.now).accepted }
+        ensures { result ≡ length self.now.known.accepted }
     {
         self.accepted
     }

@@ -1,7 +1,5 @@
 // The ring.
 ghost use Rattle.std.specs.Prelude.{◌≡◌, ◌+◌, ◌<◌, ◌≤◌, ◌^◌, [], ◌∷◌, ◌++◌, IfOk, IfErr, length};
-ghost use Rattle.std.specs.VecDeque.{deque_capacity};
-ghost use Rattle.crossbeam_queue.specs.Passes.{ruled_capacity};
 ghost use Rattle.line_ring.specs.History.{HeldBesideLane, HeldBesidePass};
 
 use crate::handle::{RingEnd, RingLane, RingPass};
@@ -19,8 +17,24 @@ pub struct Ring<T: Piece> {
     pub(crate) queue: RuledArrayQueue<T, View<T>, RingRule<T>>,
     pub(crate) machine: u32,
     pub(crate) room: VecDeque<T>,
-    ghost empty: { room.items ≡ [] },
-    ghost reserved: { ruled_capacity queue ≤ deque_capacity room },
+}
+
+impl<T: Piece> Model for Ring<T> {
+    ghost use Rattle.std.specs.Prelude.{◌≡◌, ◌≤◌, []};
+    ghost use Rattle.std.specs.VecDeque.{deque_capacity};
+    ghost use Rattle.crossbeam_queue.specs.Passes.{ruled_capacity};
+    ghost use Rattle.line_ring.specs.Ring.{RingOf};
+    ghost use Rattle.line_ring.specs.Inner.Seat.{ring_id};
+
+    ghost Value = { RingOf };
+
+    ghost view = { λ r. record {
+      id = ring_id r.queue.table.shared.table_id r.machine;
+      capacity = ruled_capacity r.queue;
+    } };
+
+    ghost invariant = { λ r. (r.room.items ≡ [])
+        × (ruled_capacity r.queue ≤ deque_capacity r.room) };
 }
 
 /// A push of this call put a piece in. It has the entry that the piece came in by, which is what
@@ -78,8 +92,6 @@ impl SawEmpty {
 }
 
 impl<T: Piece> Ring<T> {
-    ghost use Rattle.line_ring.specs.Inner.Handle.{ring_id, is_lane, is_pass, is_end, lane_record, pass_record, dealt_lanes, dealt_passes, back_lanes, back_passes};
-
     /// Opens a ring for pieces that are for the machine of dimension `machine`, of which it holds
     /// `capacity` at most. It counts the dimension up in as many steps. No other call takes memory.
     pub fn open(
@@ -89,13 +101,13 @@ impl<T: Piece> Ring<T> {
     ) -> Result<(Ring<T>, RingEnd<T>), AllocError>
         requires machine { machine ≤ MAX_DIM }
         requires capacity { 0 < capacity }
-        ensures machine { IfOk result (λ made. (ring_id made.0).machine ≡ machine) }
-        ensures capacity { IfOk result (λ made. (ring_id made.0).capacity ≡ capacity) }
-        ensures end { IfOk result (λ made. is_end (ring_id made.0) made.1) }
+        ensures machine { IfOk result (λ made. made.0.id.machine ≡ machine) }
+        ensures capacity { IfOk result (λ made. made.0.capacity ≡ capacity) }
+        ensures end { IfOk result (λ made. made.1.ring ≡ made.0.id) }
         ensures none_dealt { IfOk result (λ made.
-            (dealt_lanes made.1 ≡ 0) × (dealt_passes made.1 ≡ 0)) }
+            (made.1.dealt_lanes ≡ 0) × (made.1.dealt_passes ≡ 0)) }
         ensures none_back { IfOk result (λ made.
-            (back_lanes made.1 ≡ []) × (back_passes made.1 ≡ [])) }
+            (made.1.back_lanes ≡ []) × (made.1.back_passes ≡ [])) }
     {
         let room = VecDeque::with_capacity(alloc, capacity)?;
         let (queue, mut seat) = RuledArrayQueue::<T, View<T>, RingRule<T>>::ruled(alloc, capacity)?;
@@ -124,20 +136,20 @@ impl<T: Piece> Ring<T> {
         piece: T,
         entry: T::Entry,
     ) -> Result<DidPut<T::Entry>, (T, SawFull<T::Entry>)>
-        requires lane { is_lane (ring_id self.now) lane.old }
-        requires machine { T.is_for (ring_id self.now).machine piece }
-        requires from_lane { T.lane piece ≡ (lane_record lane.old).number }
-        requires seq { T.seq piece ≡ length (lane_record lane.old).accepted }
-        requires count { length (lane_record lane.old).accepted + 1 < 2 ^ 64 }
-        ensures lane { is_lane (ring_id self.now) lane.new }
-        ensures number { (lane_record lane.new).number ≡ (lane_record lane.old).number }
-        ensures accepted { IfOk result (λ _. (lane_record lane.new).accepted
-            ≡ (lane_record lane.old).accepted ++ piece ∷ []) }
+        requires lane { lane.old.ring ≡ self.now.id }
+        requires machine { T.is_for self.now.id.machine piece }
+        requires from_lane { T.lane piece ≡ lane.old.known.number }
+        requires seq { T.seq piece ≡ length lane.old.known.accepted }
+        requires count { length lane.old.known.accepted + 1 < 2 ^ 64 }
+        ensures lane { lane.new.ring ≡ self.now.id }
+        ensures number { lane.new.known.number ≡ lane.old.known.number }
+        ensures accepted { IfOk result (λ _. lane.new.known.accepted
+            ≡ lane.old.known.accepted ++ piece ∷ []) }
         ensures entry { IfOk result (λ put. put ≡ entry) }
         ensures gives_back { IfErr result (λ refused. (refused.0 ≡ piece) × (refused.1 ≡ entry)) }
-        ensures unchanged { IfErr result (λ _. lane_record lane.new ≡ lane_record lane.old) }
-        ensures full { IfErr result (λ _. HeldBesideLane T.lane T.seq (lane_record lane.old)
-            (ring_id self.now).capacity) }
+        ensures unchanged { IfErr result (λ _. lane.new.known ≡ lane.old.known) }
+        ensures full { IfErr result (λ _. HeldBesideLane T.lane T.seq lane.old.known
+            self.now.capacity) }
     {
         match self.queue.push_as::<Put, R>(rt, &mut lane.seat, piece) {
             Ok(()) => {
@@ -150,14 +162,14 @@ impl<T: Piece> Ring<T> {
 
     /// Takes the piece at the front, if there is one.
     pub fn pop<R: Wait>(&self, rt: &R, pass: &mut RingPass<T>) -> Result<T, SawEmpty>
-        requires { is_pass (ring_id self.now) pass.old }
-        ensures pass { is_pass (ring_id self.now) pass.new }
-        ensures number { (pass_record pass.new).number ≡ (pass_record pass.old).number }
-        ensures taken { IfOk result (λ piece. (pass_record pass.new).taken
-            ≡ (pass_record pass.old).taken ++ piece ∷ []) }
-        ensures machine { IfOk result (λ piece. T.is_for (ring_id self.now).machine piece) }
-        ensures unchanged { IfErr result (λ _. pass_record pass.new ≡ pass_record pass.old) }
-        ensures empty { IfErr result (λ _. HeldBesidePass T.lane T.seq (pass_record pass.old) 0) }
+        requires { pass.old.ring ≡ self.now.id }
+        ensures pass { pass.new.ring ≡ self.now.id }
+        ensures number { pass.new.known.number ≡ pass.old.known.number }
+        ensures taken { IfOk result (λ piece. pass.new.known.taken
+            ≡ pass.old.known.taken ++ piece ∷ []) }
+        ensures machine { IfOk result (λ piece. T.is_for self.now.id.machine piece) }
+        ensures unchanged { IfErr result (λ _. pass.new.known ≡ pass.old.known) }
+        ensures empty { IfErr result (λ _. HeldBesidePass T.lane T.seq pass.old.known 0) }
     {
         match self.queue.pop_as::<Take, R>(rt, &mut pass.seat) {
             Some(piece) => Ok(piece),
@@ -167,11 +179,11 @@ impl<T: Piece> Ring<T> {
 
     /// How many pieces the ring holds at one moment of the call.
     pub fn len<R: Wait>(&self, rt: &R, pass: &mut RingPass<T>) -> usize
-        requires { is_pass (ring_id self.now) pass.old }
-        ensures pass { is_pass (ring_id self.now) pass.new }
-        ensures unchanged { pass_record pass.new ≡ pass_record pass.old }
-        ensures few { result ≤ (ring_id self.now).capacity }
-        ensures held { HeldBesidePass T.lane T.seq (pass_record pass.old) result }
+        requires { pass.old.ring ≡ self.now.id }
+        ensures pass { pass.new.ring ≡ self.now.id }
+        ensures unchanged { pass.new.known ≡ pass.old.known }
+        ensures few { result ≤ self.now.capacity }
+        ensures held { HeldBesidePass T.lane T.seq pass.old.known result }
     {
         self.queue.len_as::<Take, R>(rt, &mut pass.seat)
     }

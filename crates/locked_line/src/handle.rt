@@ -1,5 +1,5 @@
 // What the callers of a locked line hold. None of it has a `Drop`: it is spent in the line's end.
-ghost use Rattle.std.specs.Prelude.{◌≡◌, ℕ, [], ◌∷◌, None, Some};
+ghost use Rattle.std.specs.Prelude.{◌≡◌, ℕ, [], ◌∷◌, None, Some, length};
 ghost use Rattle.locked_line.specs.Inner.View.{pass_view, closer_view};
 ghost use Rattle.locked_line.specs.Inner.Step.{IsLaneSeat, pass_in};
 
@@ -40,6 +40,13 @@ impl LockedLane {
         ensures { result ≡ (lane_record self.now).number }
     {
         self.number
+    }
+
+    /// How many entries the lane has made.
+    pub fn entry_count(&self) -> u64
+        ensures { result ≡ length (lane_record self.now).entries }
+    {
+        self.entries
     }
 }
 

@@ -55,6 +55,10 @@ impl JobLine for LockedLine {
         lane.number()
     }
 
+    fn entry_count(lane: &LockedLane) -> u64 {
+        lane.entry_count()
+    }
+
     fn close_number(note: &LockedNote) -> u64 {
         note.number()
     }

@@ -1,5 +1,5 @@
 -- The members of a ruled line, as they are dealt out and come together again.
-use Rattle.std.proofs.Common.{◌≡◌, ℕ, suc, ◌+◌, ◌<◌, ◌≤◌, List, [], ◌∷◌, length, length-set, get_or, get_or-set_same, get_or-set_other, set, sym, refl, ap, ◌∙◌, subst, arith}
+use Rattle.std.proofs.Common.{◌≡◌, ℕ, suc, ◌+◌, ◌<◌, ◌≤◌, List, [], ◌∷◌, length, length-set, get_or, get_or-set_same, get_or-set_other, set, sym, refl, ap, ◌∙◌, arith}
 use Rattle.std.specs.List.{AllByRecursion}
 use Rattle.histories.specs.Sums.{total, is_at}
 use Rattle.histories.proofs.SumLemmas.{is_at-same}
@@ -7,8 +7,8 @@ use Rattle.atomic_table.specs.Seated.{TableId}
 use Rattle.line_gate.specs.Gate.{GateId}
 use Rattle.line_gate.specs.declared.record.LaneEntries.{LaneEntries}
 use Rattle.line_gate.specs.declared.record.PassReadings.{PassReadings}
+use Rattle.line_ring.specs.Ring.{RingId, RingOf}
 use Rattle.line_gate.specs.Record.{fresh_lane as fresh_gate_lane, fresh_pass as fresh_gate_pass, lanes_from, passes_from}
-use Rattle.line_ring.specs.Inner.Handle.{RingId, is_lane as IsRingLane, is_pass as IsRingPass, lane_record as ring_lane_record}
 use Rattle.ruled_line.specs.declared.handle.RuledLane.{RuledLane}
 use Rattle.ruled_line.specs.declared.handle.RuledPass.{RuledPass}
 use Rattle.ruled_line.specs.Inner.Handle.{line_of, IsOf, is_lane, is_pass, counts_after}
@@ -21,18 +21,22 @@ cons_rest e = cc
 
 -- ---- which line a member is of
 
-module _ (gate : GateId) (ring : RingId) where
-  is_here : (g : TableId) (r : RingId) → IsOf (line_of gate ring) g r → (g ≡ gate.table) × (r ≡ ring)
+module _ (gate : GateId) (ring : RingOf) where
+  is_here : (g : TableId) (r : RingId) → IsOf (line_of gate ring) g r → (g ≡ gate.table) × (r ≡ ring.id)
   is_here g r of =
       let tables = of.0 in
-      let table : r.table ≡ ring.table = sym (cons_first (cons_rest tables)) in
-      (sym (cons_first tables), λ i. record { table = table i; machine = of.1 i; capacity = of.2 i })
+      let table : r.table ≡ ring.id.table = sym (cons_first (cons_rest tables)) in
+      (sym (cons_first tables), λ i. record { table = table i; machine = of.1 i })
 
-  pub lane_here : (lane : RuledLane) → is_lane (line_of gate ring) lane → (lane.gate.gate ≡ gate.table) × IsRingLane ring lane.ring × ((ring_lane_record lane.ring).number < gate.counts.lanes)
-  lane_here lane is = let e = is_here lane.gate.gate is.0 is.1 in (e.0, subst (λ (r : RingId). IsRingLane r lane.ring) e.1 is.2, is.3)
+  -- a member of this gate and of this ring is one of the line
+  pub is_of : (g : TableId) (r : RingId) → g ≡ gate.table → r ≡ ring.id → IsOf (line_of gate ring) g r
+  is_of g r at_gate in_ring = (λ i. sym at_gate i ∷ (sym in_ring i).table ∷ [], ap (λ (x : RingId). x.machine) in_ring)
 
-  pub pass_here : (pass : RuledPass) → is_pass (line_of gate ring) pass → (pass.gate.gate ≡ gate.table) × IsRingPass ring pass.ring
-  pass_here pass is = let e = is_here pass.gate.gate is.0 is.1 in (e.0, subst (λ (r : RingId). IsRingPass r pass.ring) e.1 is.2)
+  pub lane_here : (lane : RuledLane) → is_lane (line_of gate ring) lane → (lane.gate.gate ≡ gate.table) × (lane.ring.ring ≡ ring.id) × (lane.ring.known.number < gate.counts.lanes)
+  lane_here lane is = let e = is_here lane.gate.gate lane.ring.ring is.0 in (e.0, e.1, is.1)
+
+  pub pass_here : (pass : RuledPass) → is_pass (line_of gate ring) pass → (pass.gate.gate ≡ gate.table) × (pass.ring.ring ≡ ring.id)
+  pass_here pass is = is_here pass.gate.gate pass.ring.ring is
 
 -- ---- the next of those that are dealt
 
@@ -45,10 +49,10 @@ next_pass first count x xs ys were dealt = let e = sym dealt ∙ were in (cons_f
 -- ---- the counts of accepted jobs
 
 abbrev pub number_of : RuledLane → ℕ
-number_of lane = (ring_lane_record lane.ring).number
+number_of lane = lane.ring.known.number
 
 abbrev pub count_of : RuledLane → ℕ
-count_of lane = length (ring_lane_record lane.ring).accepted
+count_of lane = length lane.ring.known.accepted
 
 pub length-counts : (counts : List ℕ) (lanes : List RuledLane) → length (counts_after counts lanes) ≡ length counts
 length-counts counts [] = refl

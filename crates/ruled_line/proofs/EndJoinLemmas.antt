@@ -19,7 +19,6 @@ use Rattle.line_ring.specs.declared.record.PassRecord.{PassRecord as RingPassRec
 use Rattle.line_ring.specs.Record.{AreSeqs as AreRingSeqs, Rises as RingRises}
 use Rattle.line_ring.specs.History.{Deed as RingDeed, lane_part, pass_part}
 use Rattle.line_ring.specs.Run.{RingRun}
-use Rattle.line_ring.specs.Inner.Handle.{lane_record as ring_lane_record, pass_record as ring_pass_record}
 use Rattle.job_queue.specs.declared.record.QueuedJob.{QueuedJob}
 use Rattle.job_queue.specs.declared.record.Entry.{Entry}
 use Rattle.job_queue.specs.declared.record.LaneRecord.{LaneRecord}
@@ -40,10 +39,10 @@ use Rattle.ruled_line.proofs.ListedLemmas.{lane_id, seq_id, numbers, no_numbers,
 
 -- ---- from the parts of the members to the members
 
-accepted_is : (l : RuledLane) → accepted (lane_record l).entries ≡ (ring_lane_record l.ring).accepted
-accepted_is l = joined_accepted l.gate.known (ring_lane_record l.ring) l.entries l.joined
+accepted_is : (l : RuledLane) → accepted (lane_record l).entries ≡ l.ring.known.accepted
+accepted_is l = joined_accepted l.gate.known l.ring.known l.entries l.joined
 
-each_ring_lane : (P : LaneRecord → Type 0) (Q : RingLaneRecord QueuedJob → Type 0) → ((l : RuledLane) → Q (ring_lane_record l.ring) → P (lane_record l)) → (ls : List RuledLane) → AllByRecursion Q (ring_lanes ls) → AllByRecursion P (map lane_record ls)
+each_ring_lane : (P : LaneRecord → Type 0) (Q : RingLaneRecord QueuedJob → Type 0) → ((l : RuledLane) → Q l.ring.known → P (lane_record l)) → (ls : List RuledLane) → AllByRecursion Q (ring_lanes ls) → AllByRecursion P (map lane_record ls)
 each_ring_lane P Q from [] all = tt
 each_ring_lane P Q from (l ∷ ls) all = (from l all.0, each_ring_lane P Q from ls all.1)
 
@@ -51,7 +50,7 @@ each_gate_lane : (P : LaneRecord → Type 0) (Q : LaneEntries → Type 0) → ((
 each_gate_lane P Q from [] all = tt
 each_gate_lane P Q from (l ∷ ls) all = (from l all.0, each_gate_lane P Q from ls all.1)
 
-each_ring_pass : (P : PassRecord → Type 0) (Q : RingPassRecord QueuedJob → Type 0) → ((p : RuledPass) → Q (ring_pass_record p.ring) → P (pass_record p)) → (ps : List RuledPass) → AllByRecursion Q (ring_passes ps) → AllByRecursion P (map pass_record ps)
+each_ring_pass : (P : PassRecord → Type 0) (Q : RingPassRecord QueuedJob → Type 0) → ((p : RuledPass) → Q p.ring.known → P (pass_record p)) → (ps : List RuledPass) → AllByRecursion Q (ring_passes ps) → AllByRecursion P (map pass_record ps)
 each_ring_pass P Q from [] all = tt
 each_ring_pass P Q from (p ∷ ps) all = (from p all.0, each_ring_pass P Q from ps all.1)
 
@@ -69,20 +68,20 @@ module _ (ls : List RuledLane) where
   jobs_total : (weight : QueuedJob → ℕ) → total (λ (l : LaneRecord). total weight (accepted l.entries)) (map lane_record ls) ≡ total (λ (r : RingLaneRecord QueuedJob). total weight r.accepted) (ring_lanes ls)
   jobs_total weight =
       total-map (λ (l : LaneRecord). total weight (accepted l.entries)) lane_record ls
-      ∙ (total-same (λ (l : RuledLane). total weight (accepted (lane_record l).entries)) (λ (l : RuledLane). total weight (ring_lane_record l.ring).accepted) (λ l. ap (total weight) (accepted_is l)) ls
-      ∙ sym (total-map (λ (r : RingLaneRecord QueuedJob). total weight r.accepted) (λ (l : RuledLane). ring_lane_record l.ring) ls))
+      ∙ (total-same (λ (l : RuledLane). total weight (accepted (lane_record l).entries)) (λ (l : RuledLane). total weight l.ring.known.accepted) (λ l. ap (total weight) (accepted_is l)) ls
+      ∙ sym (total-map (λ (r : RingLaneRecord QueuedJob). total weight r.accepted) (λ (l : RuledLane). l.ring.known) ls))
 
   entries_total : (weight : ℕ → ℕ) → total (λ (l : LaneRecord). total (λ (e : Entry). weight e.number) l.entries) (map lane_record ls) ≡ total (λ (g : LaneEntries). total (λ (e : SettledEntry). weight e.number) g.entries) (gate_lanes ls)
   entries_total weight =
       total-map (λ (l : LaneRecord). total (λ (e : Entry). weight e.number) l.entries) lane_record ls
-      ∙ (total-same (λ (l : RuledLane). total (λ (e : Entry). weight e.number) (lane_record l).entries) (λ (l : RuledLane). total (λ (e : SettledEntry). weight e.number) l.gate.known.entries) (λ l. total-with_jobs weight l.gate.known.entries (ring_lane_record l.ring).accepted) ls
+      ∙ (total-same (λ (l : RuledLane). total (λ (e : Entry). weight e.number) (lane_record l).entries) (λ (l : RuledLane). total (λ (e : SettledEntry). weight e.number) l.gate.known.entries) (λ l. total-with_jobs weight l.gate.known.entries l.ring.known.accepted) ls
       ∙ sym (total-map (λ (g : LaneEntries). total (λ (e : SettledEntry). weight e.number) g.entries) (λ (l : RuledLane). l.gate.known) ls))
 
   pub numbers_total : (k : ℕ) → times k (map (λ (l : RuledLane). (lane_record l).number) ls) ≡ total (λ (r : RingLaneRecord QueuedJob). is_at k r.number) (ring_lanes ls)
-  numbers_total k = total-map (is_at k) (λ (l : RuledLane). (lane_record l).number) ls ∙ sym (total-map (λ (r : RingLaneRecord QueuedJob). is_at k r.number) (λ (l : RuledLane). ring_lane_record l.ring) ls)
+  numbers_total k = total-map (is_at k) (λ (l : RuledLane). (lane_record l).number) ls ∙ sym (total-map (λ (r : RingLaneRecord QueuedJob). is_at k r.number) (λ (l : RuledLane). l.ring.known) ls)
 
 taken_total : (ps : List RuledPass) (weight : QueuedJob → ℕ) → total (λ (p : PassRecord). total weight p.taken) (map pass_record ps) ≡ total (λ (r : RingPassRecord QueuedJob). total weight r.taken) (ring_passes ps)
-taken_total ps weight = total-map (λ (p : PassRecord). total weight p.taken) pass_record ps ∙ sym (total-map (λ (r : RingPassRecord QueuedJob). total weight r.taken) (λ (p : RuledPass). ring_pass_record p.ring) ps)
+taken_total ps weight = total-map (λ (p : PassRecord). total weight p.taken) pass_record ps ∙ sym (total-map (λ (r : RingPassRecord QueuedJob). total weight r.taken) (λ (p : RuledPass). p.ring.known) ps)
 
 -- ---- the order of a lane's jobs
 
@@ -157,7 +156,7 @@ module _ (whole : List RuledLane) where
   each_part h line parts [] found all = tt
   each_part h line parts (l ∷ ms) found all =
       let n = number_of l in
-      let r = ring_lane_record l.ring in
+      let r = l.ring.known in
       let put : put_by h n ≡ r.accepted = ap (λ (x : RingLaneRecord QueuedJob). x.accepted) (sym all.0) in (
         sym (parts n ∙ (ap (λ (es : List SettledEntry). with_jobs es (put_by h n)) found.0 ∙ ap (with_jobs l.gate.known.entries) put)),
         each_part h line parts ms found.1 all.1,
@@ -167,7 +166,7 @@ each_taken : (h : List (RingDeed QueuedJob)) (line : List Deed) → ((k : ℕ) �
     → AllByRecursion (λ (p : PassRecord). p.taken ≡ taken_in line p.number) (map pass_record ps)
 each_taken h line parts [] all = tt
 each_taken h line parts (p ∷ ps) all =
-    let r = ring_pass_record p.ring in
+    let r = p.ring.known in
     (ap (λ (x : RingPassRecord QueuedJob). x.taken) all.0 ∙ sym (parts r.number), each_taken h line parts ps all.1)
 
 module _ (ls : List RuledLane) (ps : List RuledPass) (rest : List QueuedJob) (note : ℕ) (within : AllByRecursion (λ l. number_of l < length ls) ls) (gate : WholeGate (gate_lanes ls) (gate_passes ps) note) (ring : RingRun lane_id seq_id (ring_lanes ls) (ring_passes ps) rest) where
@@ -196,11 +195,11 @@ module _ (ls : List RuledLane) (ps : List RuledPass) (rest : List QueuedJob) (no
   enough k =
       let h = ring.listed.history in
       dite (dec_le (length ls) k)
-      (λ high. omega (arith, ap (λ (r : RingLaneRecord QueuedJob). length r.accepted) (ring.no_other_lane k (omega (arith, length-map ls (λ (l : RuledLane). ring_lane_record l.ring))))))
+      (λ high. omega (arith, ap (λ (r : RingLaneRecord QueuedJob). length r.accepted) (ring.no_other_lane k (omega (arith, length-map ls (λ (l : RuledLane). l.ring.known))))))
       (λ low. at_member (λ m. length (put_by h m) ≤ accepted_count (entries_at m ls)) k ls (one_each k (omega arith)) (each_enough ls h ls here ring.listed.each_lane))
 
   few : (k : ℕ) → length ps ≤ k → length (taken_by ring.listed.history k) ≡ 0
-  few k high = ap (λ (r : RingPassRecord QueuedJob). length r.taken) (ring.no_other_pass k (omega (arith, length-map ps (λ (p : RuledPass). ring_pass_record p.ring))))
+  few k high = ap (λ (r : RingPassRecord QueuedJob). length r.taken) (ring.no_other_pass k (omega (arith, length-map ps (λ (p : RuledPass). p.ring.known))))
 
   lists : Lists (map lane_record ls) (map pass_record ps) rest note
   lists =
@@ -226,11 +225,11 @@ pub whole_run : (ls : List RuledLane) (ps : List RuledPass) (rest : List QueuedJ
 whole_run ls ps rest note within gate ring = record {
   balance = λ weight. jobs_total ls weight ∙ (ring.balance weight ∙ ap (λ (n : ℕ). n + total weight rest) (sym (taken_total ps weight)));
   seqs = each_ring_lane (λ l. AreSeqs l.number 0 (accepted l.entries)) (λ r. AreRingSeqs lane_id seq_id r.number 0 r.accepted)
-      (λ l seqs. subst (AreSeqs (lane_record l).number 0) (sym (accepted_is l)) (are_seqs (ring_lane_record l.ring).number 0 (ring_lane_record l.ring).accepted seqs)) ls ring.seqs;
-  rises = each_ring_pass (λ p. Rises (p.taken ++ rest)) (λ r. RingRises lane_id seq_id (r.taken ++ rest)) (λ p. do_rise ((ring_pass_record p.ring).taken ++ rest)) ps ring.rises;
+      (λ l seqs. subst (AreSeqs (lane_record l).number 0) (sym (accepted_is l)) (are_seqs l.ring.known.number 0 l.ring.known.accepted seqs)) ls ring.seqs;
+  rises = each_ring_pass (λ p. Rises (p.taken ++ rest)) (λ r. RingRises lane_id seq_id (r.taken ++ rest)) (λ p. do_rise (p.ring.known.taken ++ rest)) ps ring.rises;
   rest_rises = do_rise rest ring.rest_rises;
   entries = λ weight. entries_total ls weight ∙ gate.entries weight;
-  entered_before = each_gate_lane (λ l. AllByRecursion (λ e. e.number < note) l.entries) (λ g. AllByRecursion (λ e. e.number < note) g.entries) (λ l. each-with_jobs (λ n. n < note) l.gate.known.entries (ring_lane_record l.ring).accepted) ls gate.entered_before;
+  entered_before = each_gate_lane (λ l. AllByRecursion (λ e. e.number < note) l.entries) (λ g. AllByRecursion (λ e. e.number < note) g.entries) (λ l. each-with_jobs (λ n. n < note) l.gate.known.entries l.ring.known.accepted) ls gate.entered_before;
   seen = each_gate_lane (λ l. AllByRecursion (λ n. note ≤ n) l.seen) (λ g. AllByRecursion (λ n. note ≤ n) g.seen) (λ l all. all) ls gate.seen;
   sealed = each_gate_pass (λ p. AllByRecursion (λ r. Seals r → r.settled ≡ note) p.readings) (λ g. AllByRecursion (λ r. SealsGate r → r.settled ≡ note) g.readings) (λ p. are_sealed note p.gate.known.readings) ps gate.sealed;
   numbers_rise = all_ascend (map lane_record ls) (map pass_record ps) rest note (lists ls ps rest note within gate ring);
@@ -250,7 +249,7 @@ end_joined ls ps rest note number gs gps rs rps within lanes passes same ring_ls
 
 pub within_line : (id : LineId) (ls : List RuledLane) → AllByRecursion (is_lane id) ls → AllByRecursion (λ (l : RuledLane). number_of l < id.sizes.lanes) ls
 within_line id [] all = tt
-within_line id (l ∷ ls) all = (all.0.3, within_line id ls all.1)
+within_line id (l ∷ ls) all = (all.0.1, within_line id ls all.1)
 
 counted_jobs : (new : List ℕ) (ls : List RuledLane) → AllByRecursion (λ (l : RuledLane). get_or new (number_of l) 0 ≡ count_of l) ls → AllByRecursion (λ (l : RuledLane). get_or new (lane_record l).number 0 ≡ length (accepted (lane_record l).entries)) ls
 counted_jobs new [] all = tt
@@ -259,6 +258,6 @@ counted_jobs new (l ∷ ls) all = (all.0 ∙ ap length (sym (accepted_is l)), co
 pub accepted_counts : (id : LineId) (counts new : List ℕ) (ls : List RuledLane) → length counts ≡ id.sizes.lanes → new ≡ counts_after counts ls → AllByRecursion (is_lane id) ls → ((k : ℕ) → k < id.sizes.lanes → total (λ (r : RingLaneRecord QueuedJob). is_at k r.number) (ring_lanes ls) ≡ 1)
     → AllByRecursion (λ (l : RuledLane). get_or new (lane_record l).number 0 ≡ length (accepted (lane_record l).entries)) ls
 accepted_counts id counts new ls long is of_line once =
-    let few : (k : ℕ) → k < length counts → total (λ (l : RuledLane). is_at k (number_of l)) ls ≤ 1 = λ k low. omega (arith, sym (total-map (λ (r : RingLaneRecord QueuedJob). is_at k r.number) (λ (l : RuledLane). ring_lane_record l.ring) ls) ∙ once k (omega (arith, low, long))) in
+    let few : (k : ℕ) → k < length counts → total (λ (l : RuledLane). is_at k (number_of l)) ls ≤ 1 = λ k low. omega (arith, sym (total-map (λ (r : RingLaneRecord QueuedJob). is_at k r.number) (λ (l : RuledLane). l.ring.known) ls) ∙ once k (omega (arith, low, long))) in
     let within = subst (λ (n : ℕ). AllByRecursion (λ (l : RuledLane). number_of l < n) ls) (sym long) (within_line id ls of_line) in
     counted_jobs new ls (subst (λ (ns : List ℕ). AllByRecursion (λ (l : RuledLane). get_or ns (number_of l) 0 ≡ count_of l) ls) (sym is) (counts_right counts ls few within))

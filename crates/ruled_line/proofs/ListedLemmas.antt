@@ -1,12 +1,10 @@
 -- The histories of a gate and of a ring, joined to one of the line: all entries and the close first, and
 -- then all that the ring did.
-use Rattle.std.proofs.Common.{◌≡◌, ◌≢◌, ℕ, suc, ◌+◌, ◌<◌, ◌≤◌, ◌⊎◌, inl, inr, Bool, true, false, cond, eqb, eq-eqb, ne_eqb, Option, Some, None, List, [], ◌∷◌, ◌++◌, map, length, length-append, sym, refl, ap, ◌∙◌, subst, arith}
+use Rattle.std.proofs.Common.{◌≡◌, ◌≢◌, ℕ, ◌+◌, ◌<◌, ◌≤◌, inl, inr, Bool, true, false, cond, eqb, eq-eqb, ne_eqb, Some, None, List, [], ◌∷◌, ◌++◌, map, length, length-append, sym, refl, ap, ◌∙◌, subst, arith}
 use Rattle.std.specs.List.{AllByRecursion}
 use mathlib.Core.Logic.{dite}
 use native.Mathlib.Decide.{ℕ_discrete, dec_le}
 use Rattle.histories.specs.History.{Legal}
-use Rattle.histories.specs.Sums.{total, is_at}
-use Rattle.histories.proofs.SumLemmas.{is_at-same, is_at-other}
 use Rattle.histories.proofs.ViewLemmas.{all_weaker, all_append}
 use Rattle.line_gate.specs.declared.record.SettledEntry.{SettledEntry}
 use Rattle.line_gate.specs.History.{Entering, makes, shuts, made, shut_at, numbers_by, AreEntries}

@@ -1,5 +1,4 @@
 // What the callers of a ruled line hold. None of it has a `Drop`: it is spent in the line's end.
-ghost use Rattle.line_ring.specs.Inner.Handle.{lane_record as ring_record};
 ghost use Rattle.ruled_line.specs.Inner.Join.{IsJoined};
 
 use job_queue::QueuedJob;
@@ -11,7 +10,7 @@ pub struct RuledLane {
     pub(crate) gate: GateLane,
     pub(crate) ring: RingLane<QueuedJob>,
     pub(crate) entries: u64,
-    ghost joined: { IsJoined gate.known (ring_record ring) entries },
+    ghost joined: { IsJoined gate.known ring.known entries },
 }
 
 /// The right to take jobs of a `RuledLine`.
@@ -33,7 +32,7 @@ pub struct RuledNote {
 }
 
 impl RuledLane {
-    ghost use Rattle.std.specs.Prelude.{◌≡◌};
+    ghost use Rattle.std.specs.Prelude.{◌≡◌, length};
     ghost use Rattle.ruled_line.specs.Inner.Handle.{lane_record};
 
     /// The lane's number.
@@ -41,6 +40,13 @@ impl RuledLane {
         ensures { result ≡ (lane_record self.now).number }
     {
         self.ring.number()
+    }
+
+    /// How many entries the lane has made.
+    pub fn entry_count(&self) -> u64
+        ensures { result ≡ length (lane_record self.now).entries }
+    {
+        self.entries
     }
 }
 

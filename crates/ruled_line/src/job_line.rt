@@ -66,6 +66,10 @@ impl JobLine for RuledLine {
         lane.number()
     }
 
+    fn entry_count(lane: &RuledLane) -> u64 {
+        lane.entry_count()
+    }
+
     fn close_number(note: &RuledNote) -> u64 {
         note.number()
     }

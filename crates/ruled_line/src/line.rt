@@ -2,7 +2,6 @@
 ghost use Rattle.std.specs.Prelude.{◌≡◌, ◌+◌, ◌<◌, ◌++◌, ◌∷◌, ◌^◌, [], Some, None, IsSome, IfOk, IfErr, length};
 ghost use Rattle.line_gate.specs.Record.{Seals as SealsGate};
 ghost use Rattle.line_gate.specs.declared.record.Reading.{Reading as GateReading};
-ghost use Rattle.line_ring.specs.Inner.Handle.{ring_id, is_lane as IsRingLane, is_pass as IsRingPass, lane_record as ring_record, pass_record as ring_pass};
 ghost use Rattle.job_queue.specs.Line.{IsFor, IsMadeFor};
 ghost use Rattle.ruled_line.specs.Inner.Join.{Puts};
 
@@ -79,14 +78,14 @@ impl RuledLine {
         job: Job,
     ) -> Result<Receipt, Job>
         requires gate { gate.old.gate ≡ self.now.gate.table }
-        requires ring { IsRingLane (ring_id self.now.ring) ring.old }
+        requires ring { ring.old.ring ≡ self.now.ring.id }
         requires pending { gate.old.known.pending ≡ Some entered }
-        requires job { IsFor (ring_id self.now.ring).machine (ring_record ring.old).number job }
-        requires count { length (ring_record ring.old).accepted + 1 < 2 ^ 64 }
+        requires job { IsFor self.now.ring.id.machine ring.old.known.number job }
+        requires count { length ring.old.known.accepted + 1 < 2 ^ 64 }
         ensures gate { gate.new.gate ≡ self.now.gate.table }
-        ensures ring { IsRingLane (ring_id self.now.ring) ring.new }
-        ensures puts { Puts entered job gate.old.known (ring_record ring.old) result
-            gate.new.known (ring_record ring.new) }
+        ensures ring { ring.new.ring ≡ self.now.ring.id }
+        ensures puts { Puts entered job gate.old.known ring.old.known result
+            gate.new.known ring.new.known }
     {
         let id = JobId {
             lane: ring.number(),
@@ -130,13 +129,13 @@ impl RuledLine {
         ring: &mut RingPass<QueuedJob>,
         sealed: Sealed,
     ) -> Result<QueuedJob, RuledEnd>
-        requires { IsRingPass (ring_id self.now.ring) ring.old }
-        ensures pass { IsRingPass (ring_id self.now.ring) ring.new }
-        ensures number { (ring_pass ring.new).number ≡ (ring_pass ring.old).number }
+        requires { ring.old.ring ≡ self.now.ring.id }
+        ensures pass { ring.new.ring ≡ self.now.ring.id }
+        ensures number { ring.new.known.number ≡ ring.old.known.number }
         ensures taken { IfOk result (λ q.
-            (ring_pass ring.new).taken ≡ (ring_pass ring.old).taken ++ q ∷ []) }
-        ensures machine { IfOk result (IsMadeFor (ring_id self.now.ring).machine) }
-        ensures unchanged { IfErr result (λ _. ring_pass ring.new ≡ ring_pass ring.old) }
+            ring.new.known.taken ≡ ring.old.known.taken ++ q ∷ []) }
+        ensures machine { IfOk result (IsMadeFor self.now.ring.id.machine) }
+        ensures unchanged { IfErr result (λ _. ring.new.known ≡ ring.old.known) }
     {
         let Sealed(()) = sealed;
         match self.ring.pop(rt, ring) {

@@ -4,7 +4,6 @@ ghost use Rattle.std.specs.List.{All};
 ghost use Rattle.std.specs.Vec.{vec_capacity};
 ghost use Rattle.cube_shape.specs.declared.limits.TheConstants.{MAX_LANES, MAX_PASSES};
 ghost use Rattle.line_gate.specs.Record.{lanes_from, passes_from};
-ghost use Rattle.line_ring.specs.Inner.Handle.{ring_id, is_end as IsRingEnd, dealt_lanes, dealt_passes, back_lanes, back_passes};
 ghost use Rattle.job_queue.specs.Record.{fresh_lanes, fresh_passes};
 ghost use Rattle.ruled_line.specs.Inner.Handle.{line_of, is_lane, is_pass, lane_record, pass_record, gate_lanes, gate_passes, ring_lanes, ring_passes, counts_after};
 
@@ -27,15 +26,15 @@ pub fn deal_lanes(
     requires count { (count ≤ MAX_LANES) × (count ≡ gate.now.counts.lanes) }
     requires members { members.old.gate ≡ gate.now.table }
     requires undealt { members.old.lanes ≡ lanes_from 0 count }
-    requires end { IsRingEnd (ring_id ring.now) end.old × (dealt_lanes end.old ≡ 0) }
+    requires end { (end.old.ring ≡ ring.now.id) × (end.old.dealt_lanes ≡ 0) }
     requires room { (lanes.items ≡ []) × (count ≤ vec_capacity lanes) }
     ensures members { members.new.gate ≡ gate.now.table }
     ensures dealt { (members.new.lanes ≡ []) × (members.new.passes ≡ members.old.passes) }
-    ensures end { IsRingEnd (ring_id ring.now) end.new × (dealt_lanes end.new ≡ count) }
-    ensures passes { dealt_passes end.new ≡ dealt_passes end.old }
-    ensures back { (back_lanes end.new ≡ back_lanes end.old)
-        × (back_passes end.new ≡ back_passes end.old) }
-    ensures lanes { All (is_lane (line_of gate.now (ring_id ring.now))) result.items }
+    ensures end { (end.new.ring ≡ ring.now.id) × (end.new.dealt_lanes ≡ count) }
+    ensures passes { end.new.dealt_passes ≡ end.old.dealt_passes }
+    ensures back { (end.new.back_lanes ≡ end.old.back_lanes)
+        × (end.new.back_passes ≡ end.old.back_passes) }
+    ensures lanes { All (is_lane (line_of gate.now ring.now)) result.items }
     ensures fresh { map lane_record result.items ≡ fresh_lanes count }
 {
     for _ in 0..count {
@@ -62,15 +61,15 @@ pub fn deal_passes(
     requires count { count ≤ MAX_PASSES }
     requires members { members.old.gate ≡ gate.now.table }
     requires undealt { members.old.passes ≡ passes_from 0 count }
-    requires end { IsRingEnd (ring_id ring.now) end.old × (dealt_passes end.old ≡ 0) }
+    requires end { (end.old.ring ≡ ring.now.id) × (end.old.dealt_passes ≡ 0) }
     requires room { (passes.items ≡ []) × (count ≤ vec_capacity passes) }
     ensures members { members.new.gate ≡ gate.now.table }
     ensures dealt { (members.new.passes ≡ []) × (members.new.lanes ≡ members.old.lanes) }
-    ensures end { IsRingEnd (ring_id ring.now) end.new × (dealt_passes end.new ≡ count) }
-    ensures lanes { dealt_lanes end.new ≡ dealt_lanes end.old }
-    ensures back { (back_lanes end.new ≡ back_lanes end.old)
-        × (back_passes end.new ≡ back_passes end.old) }
-    ensures passes { All (is_pass (line_of gate.now (ring_id ring.now))) result.items }
+    ensures end { (end.new.ring ≡ ring.now.id) × (end.new.dealt_passes ≡ count) }
+    ensures lanes { end.new.dealt_lanes ≡ end.old.dealt_lanes }
+    ensures back { (end.new.back_lanes ≡ end.old.back_lanes)
+        × (end.new.back_passes ≡ end.old.back_passes) }
+    ensures passes { All (is_pass (line_of gate.now ring.now)) result.items }
     ensures fresh { map pass_record result.items ≡ fresh_passes count }
 {
     for _ in 0..count {
@@ -94,19 +93,19 @@ pub fn gather_lanes(
     lanes: Vec<RuledLane>,
 )
     requires gate_end { gate_end.old.gate ≡ gate.now.table }
-    requires ring_end { IsRingEnd (ring_id ring.now) ring_end.old }
-    requires lanes { All (is_lane (line_of gate.now (ring_id ring.now))) lanes.items }
+    requires ring_end { ring_end.old.ring ≡ ring.now.id }
+    requires lanes { All (is_lane (line_of gate.now ring.now)) lanes.items }
     requires slots { length accepted.old.items ≡ gate.now.counts.lanes }
     ensures gate_end { gate_end.new.gate ≡ gate.now.table }
     ensures gate_lanes { gate_end.new.lanes ≡ gate_end.old.lanes ++ gate_lanes lanes.items }
     ensures gate_same { (gate_end.new.passes ≡ gate_end.old.passes)
         × (gate_end.new.number ≡ gate_end.old.number) }
-    ensures ring_end { IsRingEnd (ring_id ring.now) ring_end.new }
-    ensures ring_lanes { back_lanes ring_end.new
-        ≡ back_lanes ring_end.old ++ ring_lanes lanes.items }
-    ensures ring_same { back_passes ring_end.new ≡ back_passes ring_end.old }
-    ensures dealt { (dealt_lanes ring_end.new ≡ dealt_lanes ring_end.old)
-        × (dealt_passes ring_end.new ≡ dealt_passes ring_end.old) }
+    ensures ring_end { ring_end.new.ring ≡ ring.now.id }
+    ensures ring_lanes { ring_end.new.back_lanes
+        ≡ ring_end.old.back_lanes ++ ring_lanes lanes.items }
+    ensures ring_same { ring_end.new.back_passes ≡ ring_end.old.back_passes }
+    ensures dealt { (ring_end.new.dealt_lanes ≡ ring_end.old.dealt_lanes)
+        × (ring_end.new.dealt_passes ≡ ring_end.old.dealt_passes) }
     ensures accepted { accepted.new.items ≡ counts_after accepted.old.items lanes.items }
 {
     let mut lanes = VecDeque::from_vec(lanes);
@@ -132,18 +131,18 @@ pub fn gather_passes(
     passes: Vec<RuledPass>,
 )
     requires gate_end { gate_end.old.gate ≡ gate.now.table }
-    requires ring_end { IsRingEnd (ring_id ring.now) ring_end.old }
-    requires passes { All (is_pass (line_of gate.now (ring_id ring.now))) passes.items }
+    requires ring_end { ring_end.old.ring ≡ ring.now.id }
+    requires passes { All (is_pass (line_of gate.now ring.now)) passes.items }
     ensures gate_end { gate_end.new.gate ≡ gate.now.table }
     ensures gate_passes { gate_end.new.passes ≡ gate_end.old.passes ++ gate_passes passes.items }
     ensures gate_same { (gate_end.new.lanes ≡ gate_end.old.lanes)
         × (gate_end.new.number ≡ gate_end.old.number) }
-    ensures ring_end { IsRingEnd (ring_id ring.now) ring_end.new }
-    ensures ring_passes { back_passes ring_end.new
-        ≡ back_passes ring_end.old ++ ring_passes passes.items }
-    ensures ring_same { back_lanes ring_end.new ≡ back_lanes ring_end.old }
-    ensures dealt { (dealt_lanes ring_end.new ≡ dealt_lanes ring_end.old)
-        × (dealt_passes ring_end.new ≡ dealt_passes ring_end.old) }
+    ensures ring_end { ring_end.new.ring ≡ ring.now.id }
+    ensures ring_passes { ring_end.new.back_passes
+        ≡ ring_end.old.back_passes ++ ring_passes passes.items }
+    ensures ring_same { ring_end.new.back_lanes ≡ ring_end.old.back_lanes }
+    ensures dealt { (ring_end.new.dealt_lanes ≡ ring_end.old.dealt_lanes)
+        × (ring_end.new.dealt_passes ≡ ring_end.old.dealt_passes) }
 {
     let mut passes = VecDeque::from_vec(passes);
     while let Some(pass) = passes.pop_front() {

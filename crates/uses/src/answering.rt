@@ -1,4 +1,4 @@
-//! A caller of `batch`, `cube_ledger` and `tree_floor`.
+//! A caller of `crew`, `cube_ledger` and `tree_floor`.
 
 ghost use Rattle.std.specs.Prelude.{◌≡◌, ℕ, ◌^◌, ◌<◌, [], IfSome, map, length, slice_index_or};
 ghost use Rattle.std.specs.List.{All};
@@ -6,10 +6,10 @@ ghost use Rattle.job_queue.specs.Line.{IsFor};
 ghost use Rattle.floors.specs.Floor.{IsWhollyFree};
 ghost use Rattle.cube_tree.specs.Ends.{machine_words};
 ghost use Rattle.tree_floor.specs.Roll.{IsRollWhole};
-ghost use Rattle.batch.specs.Answers.{AnswersAll};
+ghost use Rattle.dispatcher.specs.Answers.{AnswersAll};
 ghost use Rattle.uses.specs.Processors.{processors_in};
 
-use batch::answer_all;
+use crew::{RunEnd, answer_all};
 use cube_ledger::Ledger;
 use dispatcher::{Finished, Runner};
 use job_types::Job;
@@ -42,10 +42,10 @@ pub fn answer_and_count<R: Threads + Wait + Sync, T: Runner + Sync>(
         ≡ processors_in (map (λ replies. replies.items) answered.0.by_worker.items)
         answered.0.rest.items) }
 {
-    let Ok(finished) = answer_all::<R, RuledLine, TreeFloor, T>(rt, alloc, n, 4, 16, runner, jobs)
-    else {
+    let Ok(end) = answer_all::<R, RuledLine, TreeFloor, T>(rt, alloc, n, 4, 16, runner, jobs) else {
         return None;
     };
+    let RunEnd { finished, .. } = end;
     let Ok(ledger) = Ledger::of(alloc, &finished) else {
         return None;
     };

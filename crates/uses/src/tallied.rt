@@ -110,6 +110,10 @@ impl<L: JobLine> JobLine for Tallied<L> {
         L::lane_number(lane)
     }
 
+    fn entry_count(lane: &L::Lane) -> u64 {
+        L::entry_count(lane)
+    }
+
     fn close_number(note: &L::Note) -> u64 {
         L::close_number(note)
     }

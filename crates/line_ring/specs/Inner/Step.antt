@@ -5,10 +5,10 @@ use Rattle.histories.specs.Sums.{total, is_at}
 use Rattle.cube_shape.specs.declared.limits.TheConstants.{MAX_LANES, MAX_PASSES}
 use Rattle.line_ring.specs.declared.record.RestRecord.{RestRecord}
 use Rattle.line_ring.specs.declared.rule.View.{View}
-use Rattle.line_ring.specs.Record.{lane_in, pass_in, AreSeqs, Rises}
+use Rattle.line_ring.specs.Record.{AreSeqs, Rises}
 use Rattle.line_ring.specs.History.{HeldBesideLane, HeldBesidePass}
 use Rattle.line_ring.specs.Run.{Lists}
-use Rattle.line_ring.specs.Inner.View.{view, lane_view, pass_view, rest_record, lanes_in, passes_in, lanes_from, passes_from}
+use Rattle.line_ring.specs.Inner.View.{view, lane_in, pass_in, lane_view, pass_view, rest_record, lanes_in, passes_in, lanes_from, passes_from}
 
 module _ {T : Type 0} where
   -- what has come out, by the record of the end

@@ -16,6 +16,15 @@ module _ {T : Type 0} where
   abbrev pub rest_record : List T → RestRecord T
   rest_record pieces = record { drained = pieces }
 
+  -- the record that stands alone in a list
+  abbrev pub lane_in : List (LaneRecord T) → LaneRecord T
+  lane_in [] = fresh_lane 0
+  lane_in (r ∷ rs) = r
+
+  abbrev pub pass_in : List (PassRecord T) → PassRecord T
+  pass_in [] = fresh_pass 0
+  pass_in (r ∷ rs) = r
+
   -- the views of a lane, of a pass and of the end
   abbrev pub lane_view : ℕ → LaneRecord T → View T
   lane_view machine r = view machine [] (r ∷ []) [] [] []

@@ -2,8 +2,8 @@
 ghost use Rattle.std.specs.Prelude.{◌≤◌};
 
 use crate::tests::jobs::{Plan, lists};
-use batch::{Stopped, answer_all, sorted_replies};
-use dispatcher::{Finished, Plain, ShopRefused};
+use batch::{Stopped, answer_all};
+use dispatcher::{Finished, Plain, ShopRefused, sorted_replies};
 use job_types::{JobId, JobRefused, Reply};
 use locked_floor::{FreeMachine, LockedFloor};
 use locked_line::LockedLine;

@@ -2,7 +2,6 @@
 ghost use Rattle.std.specs.Prelude.{◌≡◌, ◌+◌, ◌<◌, ◌≤◌, [], IfOk, length};
 ghost use Rattle.std.specs.List.{All};
 ghost use Rattle.std.specs.Vec.{vec_capacity};
-ghost use Rattle.line_ring.specs.Inner.Handle.{ring_id, is_lane, is_pass, is_end, dealt_lanes, dealt_passes, back_lanes, back_passes};
 
 use crate::tests::members::{Pair, both, only, sole};
 use cube_shape::MAX_DIM;
@@ -33,8 +32,8 @@ impl Piece for Token {
 
 // Puts the lane's next piece in, or says that the ring is full. A lane puts 100 pieces in at most.
 pub fn put<R: Wait>(rt: &R, ring: &Ring<Token>, lane: &mut RingLane<Token>) -> bool
-    requires { is_lane (ring_id ring.now) lane.old }
-    ensures { is_lane (ring_id ring.now) lane.new }
+    requires { lane.old.ring ≡ ring.now.id }
+    ensures { lane.new.ring ≡ ring.now.id }
 {
     let seq = lane.accepted();
     if seq >= 100 {
@@ -58,8 +57,8 @@ pub fn put<R: Wait>(rt: &R, ring: &Ring<Token>, lane: &mut RingLane<Token>) -> b
 
 // The lane and the seq of the piece at the front, if there is one.
 pub fn take<R: Wait>(rt: &R, ring: &Ring<Token>, pass: &mut RingPass<Token>) -> Option<(u32, u64)>
-    requires { is_pass (ring_id ring.now) pass.old }
-    ensures { is_pass (ring_id ring.now) pass.new }
+    requires { pass.old.ring ≡ ring.now.id }
+    ensures { pass.new.ring ≡ ring.now.id }
 {
     match ring.pop(rt, pass) {
         Ok(Token { lane, seq }) => Some((lane, seq)),
@@ -72,8 +71,8 @@ pub fn take<R: Wait>(rt: &R, ring: &Ring<Token>, pass: &mut RingPass<Token>) -> 
 
 // How many pieces the ring holds.
 fn len<R: Wait>(rt: &R, ring: &Ring<Token>, pass: &mut RingPass<Token>) -> usize
-    requires { is_pass (ring_id ring.now) pass.old }
-    ensures { is_pass (ring_id ring.now) pass.new }
+    requires { pass.old.ring ≡ ring.now.id }
+    ensures { pass.new.ring ≡ ring.now.id }
 {
     ring.len(rt, pass)
 }
@@ -93,16 +92,16 @@ fn deal_lanes(
     lanes: &mut Vec<RingLane<Token>>,
     count: u32,
 )
-    requires end { is_end (ring_id ring.now) end.old }
-    requires none { (dealt_lanes end.old ≡ 0) × (lanes.old.items ≡ []) }
+    requires end { end.old.ring ≡ ring.now.id }
+    requires none { (end.old.dealt_lanes ≡ 0) × (lanes.old.items ≡ []) }
     requires few { count ≤ 16 }
     requires room { count ≤ vec_capacity lanes.old }
-    ensures end { is_end (ring_id ring.now) end.new }
-    ensures lanes { All (is_lane (ring_id ring.now)) lanes.new.items }
-    ensures count { (dealt_lanes end.new ≡ count) × (length lanes.new.items ≡ count) }
-    ensures passes { dealt_passes end.new ≡ dealt_passes end.old }
-    ensures back { (back_lanes end.new ≡ back_lanes end.old)
-        × (back_passes end.new ≡ back_passes end.old) }
+    ensures end { end.new.ring ≡ ring.now.id }
+    ensures lanes { All (λ lane. lane.ring ≡ ring.now.id) lanes.new.items }
+    ensures count { (end.new.dealt_lanes ≡ count) × (length lanes.new.items ≡ count) }
+    ensures passes { end.new.dealt_passes ≡ end.old.dealt_passes }
+    ensures back { (end.new.back_lanes ≡ end.old.back_lanes)
+        × (end.new.back_passes ≡ end.old.back_passes) }
 {
     for _ in 0..count {
         lanes.push_reserved(ring.deal_lane(end));
@@ -116,16 +115,16 @@ fn deal_passes(
     passes: &mut Vec<RingPass<Token>>,
     count: u32,
 )
-    requires end { is_end (ring_id ring.now) end.old }
-    requires none { (dealt_passes end.old ≡ 0) × (passes.old.items ≡ []) }
+    requires end { end.old.ring ≡ ring.now.id }
+    requires none { (end.old.dealt_passes ≡ 0) × (passes.old.items ≡ []) }
     requires few { count ≤ 16 }
     requires room { count ≤ vec_capacity passes.old }
-    ensures end { is_end (ring_id ring.now) end.new }
-    ensures passes { All (is_pass (ring_id ring.now)) passes.new.items }
-    ensures count { (dealt_passes end.new ≡ count) × (length passes.new.items ≡ count) }
-    ensures lanes { dealt_lanes end.new ≡ dealt_lanes end.old }
-    ensures back { (back_lanes end.new ≡ back_lanes end.old)
-        × (back_passes end.new ≡ back_passes end.old) }
+    ensures end { end.new.ring ≡ ring.now.id }
+    ensures passes { All (λ pass. pass.ring ≡ ring.now.id) passes.new.items }
+    ensures count { (end.new.dealt_passes ≡ count) × (length passes.new.items ≡ count) }
+    ensures lanes { end.new.dealt_lanes ≡ end.old.dealt_lanes }
+    ensures back { (end.new.back_lanes ≡ end.old.back_lanes)
+        × (end.new.back_passes ≡ end.old.back_passes) }
 {
     for _ in 0..count {
         passes.push_reserved(ring.deal_pass(end));
@@ -134,14 +133,14 @@ fn deal_passes(
 
 // Takes all lanes back.
 fn gather_lanes(ring: &Ring<Token>, end: &mut RingEnd<Token>, lanes: Vec<RingLane<Token>>)
-    requires end { is_end (ring_id ring.now) end.old }
-    requires lanes { All (is_lane (ring_id ring.now)) lanes.items }
-    ensures end { is_end (ring_id ring.now) end.new }
-    ensures lanes { length (back_lanes end.new)
-        ≡ length (back_lanes end.old) + length lanes.items }
-    ensures passes { back_passes end.new ≡ back_passes end.old }
-    ensures dealt { (dealt_lanes end.new ≡ dealt_lanes end.old)
-        × (dealt_passes end.new ≡ dealt_passes end.old) }
+    requires end { end.old.ring ≡ ring.now.id }
+    requires lanes { All (λ lane. lane.ring ≡ ring.now.id) lanes.items }
+    ensures end { end.new.ring ≡ ring.now.id }
+    ensures lanes { length end.new.back_lanes
+        ≡ length end.old.back_lanes + length lanes.items }
+    ensures passes { end.new.back_passes ≡ end.old.back_passes }
+    ensures dealt { (end.new.dealt_lanes ≡ end.old.dealt_lanes)
+        × (end.new.dealt_passes ≡ end.old.dealt_passes) }
 {
     let mut lanes = lanes;
     while let Some(lane) = lanes.pop() {
@@ -152,14 +151,14 @@ fn gather_lanes(ring: &Ring<Token>, end: &mut RingEnd<Token>, lanes: Vec<RingLan
 
 // Takes all passes back.
 fn gather_passes(ring: &Ring<Token>, end: &mut RingEnd<Token>, passes: Vec<RingPass<Token>>)
-    requires end { is_end (ring_id ring.now) end.old }
-    requires passes { All (is_pass (ring_id ring.now)) passes.items }
-    ensures end { is_end (ring_id ring.now) end.new }
-    ensures lanes { back_lanes end.new ≡ back_lanes end.old }
-    ensures passes { length (back_passes end.new)
-        ≡ length (back_passes end.old) + length passes.items }
-    ensures dealt { (dealt_lanes end.new ≡ dealt_lanes end.old)
-        × (dealt_passes end.new ≡ dealt_passes end.old) }
+    requires end { end.old.ring ≡ ring.now.id }
+    requires passes { All (λ pass. pass.ring ≡ ring.now.id) passes.items }
+    ensures end { end.new.ring ≡ ring.now.id }
+    ensures lanes { end.new.back_lanes ≡ end.old.back_lanes }
+    ensures passes { length end.new.back_passes
+        ≡ length end.old.back_passes + length passes.items }
+    ensures dealt { (end.new.dealt_lanes ≡ end.old.dealt_lanes)
+        × (end.new.dealt_passes ≡ end.old.dealt_passes) }
 {
     let mut passes = passes;
     while let Some(pass) = passes.pop() {
@@ -179,14 +178,14 @@ impl Hand {
         requires machine { sizes.0 ≤ MAX_DIM }
         requires some { 0 < sizes.1 }
         requires few { (lane_count ≤ 16) × (pass_count ≤ 16) }
-        ensures end { IfOk result (λ h. is_end (ring_id h.ring) h.end) }
-        ensures none { IfOk result (λ h. (back_lanes h.end ≡ []) × (back_passes h.end ≡ [])) }
-        ensures lanes { IfOk result (λ h. All (is_lane (ring_id h.ring)) h.lanes.items) }
-        ensures passes { IfOk result (λ h. All (is_pass (ring_id h.ring)) h.passes.items) }
+        ensures end { IfOk result (λ h. h.end.ring ≡ h.ring.id) }
+        ensures none { IfOk result (λ h. (h.end.back_lanes ≡ []) × (h.end.back_passes ≡ [])) }
+        ensures lanes { IfOk result (λ h. All (λ lane. lane.ring ≡ h.ring.id) h.lanes.items) }
+        ensures passes { IfOk result (λ h. All (λ pass. pass.ring ≡ h.ring.id) h.passes.items) }
         ensures lane_count { IfOk result (λ h.
-            (dealt_lanes h.end ≡ lane_count) × (length h.lanes.items ≡ lane_count)) }
+            (h.end.dealt_lanes ≡ lane_count) × (length h.lanes.items ≡ lane_count)) }
         ensures pass_count { IfOk result (λ h.
-            (dealt_passes h.end ≡ pass_count) × (length h.passes.items ≡ pass_count)) }
+            (h.end.dealt_passes ≡ pass_count) × (length h.passes.items ≡ pass_count)) }
     {
         let mut lanes = Vec::with_capacity(alloc, 16)?;
         let mut passes = match Vec::with_capacity(alloc, 16) {
@@ -217,10 +216,10 @@ impl Hand {
 
 // Both lanes of a ring.
 fn two_lanes(ring: &Ring<Token>, lanes: Vec<RingLane<Token>>) -> Pair<RingLane<Token>>
-    requires lanes { All (is_lane (ring_id ring.now)) lanes.items }
+    requires lanes { All (λ lane. lane.ring ≡ ring.now.id) lanes.items }
     requires two { length lanes.items ≡ 2 }
-    ensures first { is_lane (ring_id ring.now) result.first }
-    ensures second { is_lane (ring_id ring.now) result.second }
+    ensures first { result.first.ring ≡ ring.now.id }
+    ensures second { result.second.ring ≡ ring.now.id }
     ensures room { (result.room.items ≡ []) × (2 ≤ vec_capacity result.room) }
 {
     Pair::of(lanes)
@@ -228,9 +227,9 @@ fn two_lanes(ring: &Ring<Token>, lanes: Vec<RingLane<Token>>) -> Pair<RingLane<T
 
 // The only lane of a ring.
 fn only_lane(ring: &Ring<Token>, lanes: &mut Vec<RingLane<Token>>) -> RingLane<Token>
-    requires lanes { All (is_lane (ring_id ring.now)) lanes.old.items }
+    requires lanes { All (λ lane. lane.ring ≡ ring.now.id) lanes.old.items }
     requires one { length lanes.old.items ≡ 1 }
-    ensures lane { is_lane (ring_id ring.now) result }
+    ensures lane { result.ring ≡ ring.now.id }
     ensures room { (lanes.new.items ≡ []) × (1 ≤ vec_capacity lanes.new) }
 {
     only(lanes)
@@ -238,12 +237,12 @@ fn only_lane(ring: &Ring<Token>, lanes: &mut Vec<RingLane<Token>>) -> RingLane<T
 
 // What is left in a ring, once all of its lanes and passes are back.
 pub fn rest_of<R: Wait>(rt: &R, hand: Hand) -> VecDeque<Token>
-    requires end { is_end (ring_id hand.ring) hand.end }
-    requires none { (back_lanes hand.end ≡ []) × (back_passes hand.end ≡ []) }
-    requires lanes { All (is_lane (ring_id hand.ring)) hand.lanes.items }
-    requires passes { All (is_pass (ring_id hand.ring)) hand.passes.items }
-    requires lane_count { dealt_lanes hand.end ≡ length hand.lanes.items }
-    requires pass_count { dealt_passes hand.end ≡ length hand.passes.items }
+    requires end { hand.end.ring ≡ hand.ring.id }
+    requires none { (hand.end.back_lanes ≡ []) × (hand.end.back_passes ≡ []) }
+    requires lanes { All (λ lane. lane.ring ≡ hand.ring.id) hand.lanes.items }
+    requires passes { All (λ pass. pass.ring ≡ hand.ring.id) hand.passes.items }
+    requires lane_count { hand.end.dealt_lanes ≡ length hand.lanes.items }
+    requires pass_count { hand.end.dealt_passes ≡ length hand.passes.items }
 {
     let Hand {
         ring,

@@ -1,7 +1,6 @@
 //! Four lanes and three passes, each on a thread of its own, share room for three pieces.
 ghost use Rattle.std.specs.Prelude.{◌≡◌, length};
 ghost use Rattle.std.specs.List.{All};
-ghost use Rattle.line_ring.specs.Inner.Handle.{ring_id, is_lane, is_pass};
 
 use crate::tests::ring::{Hand, Token, put, rest_of, take};
 use line_ring::{Ring, RingLane, RingPass};
@@ -52,8 +51,8 @@ impl Board {
 
 // Puts 100 pieces in.
 fn feed<R: Wait>(rt: &R, ring: &Ring<Token>, lane: &mut RingLane<Token>)
-    requires { is_lane (ring_id ring.now) lane.old }
-    ensures { is_lane (ring_id ring.now) lane.new }
+    requires { lane.old.ring ≡ ring.now.id }
+    ensures { lane.new.ring ≡ ring.now.id }
 {
     for _ in rt.forever() {
         if lane.accepted() >= 100 {
@@ -68,8 +67,8 @@ fn feed<R: Wait>(rt: &R, ring: &Ring<Token>, lane: &mut RingLane<Token>)
 
 // Takes pieces until all have been taken.
 fn drain<R: Wait>(rt: &R, ring: &Ring<Token>, pass: &mut RingPass<Token>, board: &Board)
-    requires { is_pass (ring_id ring.now) pass.old }
-    ensures { is_pass (ring_id ring.now) pass.new }
+    requires { pass.old.ring ≡ ring.now.id }
+    ensures { pass.new.ring ≡ ring.now.id }
 {
     let mut next = [0; 4];
     for _ in rt.forever() {
@@ -86,8 +85,8 @@ fn drain<R: Wait>(rt: &R, ring: &Ring<Token>, pass: &mut RingPass<Token>, board:
 
 // Feeds by all lanes at once.
 fn feed_all<R: Threads + Wait + Sync>(rt: &R, ring: &Ring<Token>, lanes: &mut [RingLane<Token>])
-    requires { All (is_lane (ring_id ring.now)) lanes.old }
-    ensures lanes { All (is_lane (ring_id ring.now)) lanes.new }
+    requires { All (λ lane. lane.ring ≡ ring.now.id) lanes.old }
+    ensures lanes { All (λ lane. lane.ring ≡ ring.now.id) lanes.new }
     ensures len { length lanes.new ≡ length lanes.old }
 {
     for_each_mut(
@@ -95,8 +94,8 @@ fn feed_all<R: Threads + Wait + Sync>(rt: &R, ring: &Ring<Token>, lanes: &mut [R
         lanes,
         4,
         &|_, lane|
-            requires { is_lane (ring_id ring.now) lane.now }
-            ensures { is_lane (ring_id ring.entry.now) lane.exit.now }
+            requires { lane.now.ring ≡ ring.now.id }
+            ensures { lane.exit.now.ring ≡ ring.entry.now.id }
         { feed(rt, ring, lane) },
     );
 }
@@ -108,8 +107,8 @@ fn drain_all<R: Threads + Wait + Sync>(
     passes: &mut [RingPass<Token>],
     board: &Board,
 )
-    requires { All (is_pass (ring_id ring.now)) passes.old }
-    ensures passes { All (is_pass (ring_id ring.now)) passes.new }
+    requires { All (λ pass. pass.ring ≡ ring.now.id) passes.old }
+    ensures passes { All (λ pass. pass.ring ≡ ring.now.id) passes.new }
     ensures len { length passes.new ≡ length passes.old }
 {
     for_each_mut(
@@ -117,8 +116,8 @@ fn drain_all<R: Threads + Wait + Sync>(
         passes,
         3,
         &|_, pass|
-            requires { is_pass (ring_id ring.now) pass.now }
-            ensures { is_pass (ring_id ring.entry.now) pass.exit.now }
+            requires { pass.now.ring ≡ ring.now.id }
+            ensures { pass.exit.now.ring ≡ ring.entry.now.id }
         { drain(rt, ring, pass, board) },
     );
 }
@@ -130,21 +129,21 @@ fn run<'a, R: Threads + Wait + Sync>(
     passes: &'a mut [RingPass<Token>],
     board: &'a Board,
 )
-    requires lanes { All (is_lane (ring_id ring.now)) lanes.old }
-    requires passes { All (is_pass (ring_id ring.now)) passes.old }
-    ensures lanes { All (is_lane (ring_id ring.now)) lanes.new }
-    ensures passes { All (is_pass (ring_id ring.now)) passes.new }
+    requires lanes { All (λ lane. lane.ring ≡ ring.now.id) lanes.old }
+    requires passes { All (λ pass. pass.ring ≡ ring.now.id) passes.old }
+    ensures lanes { All (λ lane. lane.ring ≡ ring.now.id) lanes.new }
+    ensures passes { All (λ pass. pass.ring ≡ ring.now.id) passes.new }
     ensures lane_count { length lanes.new ≡ length lanes.old }
     ensures pass_count { length passes.new ≡ length passes.old }
 {
     let mut feeding = ||
-        requires { All (is_lane (ring_id ring.now)) lanes.now }
-        ensures lanes { All (is_lane (ring_id ring.entry.now)) lanes.exit.now }
+        requires { All (λ lane. lane.ring ≡ ring.now.id) lanes.now }
+        ensures lanes { All (λ lane. lane.ring ≡ ring.entry.now.id) lanes.exit.now }
         ensures len { length lanes.exit.now ≡ length lanes.entry.now }
     { feed_all(rt, ring, lanes) };
     let mut draining = ||
-        requires { All (is_pass (ring_id ring.now)) passes.now }
-        ensures passes { All (is_pass (ring_id ring.entry.now)) passes.exit.now }
+        requires { All (λ pass. pass.ring ≡ ring.now.id) passes.now }
+        ensures passes { All (λ pass. pass.ring ≡ ring.entry.now.id) passes.exit.now }
         ensures len { length passes.exit.now ≡ length passes.entry.now }
     { drain_all(rt, ring, passes, board) };
     join_mut(rt, &mut draining, &mut feeding);

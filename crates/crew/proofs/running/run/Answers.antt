@@ -29,3 +29,13 @@ pub run_named-requires-clause-unfed : goal.run_named-requires-clause-unfed
 run_named-requires-clause-unfed g c κs within =
     let count = sym (length-map c.in-Ok-open.opened.lanes.items g.L.JobLine.lane_record) ∙ (ap length c.in-Ok-open.ensures.fresh_lanes ∙ lanes_count c.len-lanes.result) in
     (c.in-Ok.ensures.unfed.0, omega (arith, count, c.in-Ok.ensures.unfed.1, c.len-lanes.ensures, c.len.ensures))
+
+pub run_named-requires-clause-lane_ends : goal.run_named-requires-clause-lane_ends
+run_named-requires-clause-lane_ends g c κs within =
+    let count = sym (length-map c.in-Ok-open.opened.lanes.items g.L.JobLine.lane_record) ∙ (ap length c.in-Ok-open.ensures.fresh_lanes ∙ lanes_count c.len-lanes.result) in
+    (c.in-Ok.ensures.lanes.0, omega (arith, count, c.in-Ok.ensures.lanes.1, c.len-lanes.ensures, c.len.ensures))
+
+pub run_named-requires-clause-stops : goal.run_named-requires-clause-stops
+run_named-requires-clause-stops g c κs within =
+    let count = sym (length-map c.in-Ok-open.opened.workers.items worker_record) ∙ (ap length c.in-Ok-open.ensures.fresh_passes ∙ passes_count c.args.dispatchers) in
+    (c.in-Ok.ensures.stops.0, omega (arith, count, c.in-Ok.ensures.stops.1))

@@ -5,7 +5,7 @@ use Rattle.job_queue.specs.declared.record.LaneRecord.{LaneRecord}
 use Rattle.job_queue.specs.Record.{accepted_jobs}
 use Rattle.job_queue.specs.Line.{IsFor}
 use Rattle.dispatcher.specs.Stop.{given_back}
-use Rattle.crew.specs.Run.{IsStopOf}
+use Rattle.crew.specs.InnerStop.{StopsBy}
 use Rattle.crew.proofs.SlotLemmas.{all_front, all_pushed, longer, fresh_pop, last_named, rest_named}
 use Rattle.crew.proofs.slots.man_feeders.Goals as goal
 
@@ -65,7 +65,7 @@ loop-lane-preserved-in-Err g c =
       rest_named (λ js. js.items) g.J.Naming.jobs jobs rest list c.in-Some-pop.ensures.items inv.2,
       all_pushed (λ f. line.is_lane shop.line f.lane) old new fed pushed inv.3 c.into_parts.ensures.lane,
       all_pushed (λ f. accepted_jobs (line.lane_record f.lane) ++ given_back f.back ++ f.left.items ≡ g.J.Naming.jobs (line.lane_record f.lane).number) old new fed pushed inv.4 c.into_parts.ensures.jobs,
-      all_pushed (λ f. IsStopOf (line.lane_record f.lane) (given_back f.back ++ f.left.items) f.stop) old new fed pushed inv.5 c.into_parts.ensures.stop,
+      all_pushed (λ f. StopsBy (line.lane_record f.lane) f.back f.left.items f.stop) old new fed pushed inv.5 c.into_parts.ensures.stop,
       omega (arith, one_less, inv.6),
       omega (arith, inv.7, c.in-Err.ensures.len, longer old new fed pushed, longer left lanes c.in-Some.lane c.in-Some.ensures.items),
       omega (arith, inv.8, c.push_reserved.ensures.capacity),

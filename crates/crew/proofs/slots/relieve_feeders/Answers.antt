@@ -1,7 +1,7 @@
 use Rattle.std.proofs.Common.{◌≡◌, ◌++◌, arith}
 use Rattle.job_queue.specs.Record.{accepted_jobs}
 use Rattle.dispatcher.specs.Stop.{given_back}
-use Rattle.crew.specs.Run.{IsStopOf}
+use Rattle.crew.specs.InnerStop.{StopsBy}
 use Rattle.crew.proofs.SlotLemmas.{all_pushed, longer}
 use Rattle.crew.proofs.slots.relieve_feeders.Goals as goal
 
@@ -15,7 +15,7 @@ loop-feeder-preserved g c =
     let pushed = c.push_reserved.ensures.items in (
       all_pushed (λ f. line.is_lane g.J.Naming.shop.line f.lane) old new fed pushed inv.0 c.into_parts.ensures.lane,
       all_pushed (λ f. accepted_jobs (line.lane_record f.lane) ++ given_back f.back ++ f.left.items ≡ g.J.Naming.jobs (line.lane_record f.lane).number) old new fed pushed inv.1 c.into_parts.ensures.jobs,
-      all_pushed (λ f. IsStopOf (line.lane_record f.lane) (given_back f.back ++ f.left.items) f.stop) old new fed pushed inv.2 c.into_parts.ensures.stop,
+      all_pushed (λ f. StopsBy (line.lane_record f.lane) f.back f.left.items f.stop) old new fed pushed inv.2 c.into_parts.ensures.stop,
       omega (arith, inv.3, longer old new fed pushed, longer c.pop.new.self.items c.loop-feeder.feeders.items c.in-Some.feeder c.in-Some.ensures.items),
       omega (arith, inv.4, c.push_reserved.ensures.capacity),
     )

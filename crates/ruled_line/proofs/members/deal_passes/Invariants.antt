@@ -2,7 +2,6 @@ use Rattle.std.proofs.Common.{◌≡◌, ◌-◌, ◌≤◌, map}
 use Rattle.std.specs.List.{All}
 use Rattle.std.specs.Vec.{vec_len, vec_capacity}
 use Rattle.line_gate.specs.Record.{passes_from}
-use Rattle.line_ring.specs.Inner.Handle.{ring_id, is_end, dealt_lanes, dealt_passes, back_lanes, back_passes}
 use Rattle.job_queue.specs.Record.{fresh_passes}
 use Rattle.ruled_line.specs.Inner.Handle.{line_of, is_pass, pass_record}
 use Rattle.ruled_line.proofs.members.deal_passes.Given as goal
@@ -10,5 +9,5 @@ use Rattle.ruled_line.proofs.members.deal_passes.Given as goal
 abbrev pub invariant-loop : goal.invariant-loop
 invariant-loop l =
     (l.members.gate ≡ l.gate.table) × (l.members.passes ≡ passes_from l.counter (l.count - l.counter)) × (l.members.lanes ≡ l.fn.members.lanes)
-    × is_end (ring_id l.ring) l.end × (dealt_passes l.end ≡ l.counter) × (dealt_lanes l.end ≡ dealt_lanes l.fn.end) × (back_lanes l.end ≡ back_lanes l.fn.end) × (back_passes l.end ≡ back_passes l.fn.end)
-    × All (is_pass (line_of l.gate (ring_id l.ring))) l.passes.items × (map pass_record l.passes.items ≡ fresh_passes l.counter) × (vec_len l.passes ≡ l.counter) × (l.count ≤ vec_capacity l.passes)
+    × (l.end.ring ≡ l.ring.id) × (l.end.dealt_passes ≡ l.counter) × (l.end.dealt_lanes ≡ l.fn.end.dealt_lanes) × (l.end.back_lanes ≡ l.fn.end.back_lanes) × (l.end.back_passes ≡ l.fn.end.back_passes)
+    × All (is_pass (line_of l.gate l.ring)) l.passes.items × (map pass_record l.passes.items ≡ fresh_passes l.counter) × (vec_len l.passes ≡ l.counter) × (l.count ≤ vec_capacity l.passes)

@@ -20,5 +20,5 @@ invariant_of-self g c =
       all_after (IsFor g.J.Naming.shop.line.sizes.machine record_after.number) (given_back feed.result.back) left all,
       still _ _ c.self.inside.back feed.result.back c.self.inside.left.items left _ none
           (feed.ensures.fed ∙ ap (λ q. accepted_jobs (line.lane_record c.self.inside.lane) ++ q.items) c.replace-jobs.ensures.value) inv.2 ∙ ap g.J.Naming.jobs (sym feed.ensures.number),
-      stop_of record_after (given_back feed.result.back ++ left) feed.result.stop feed.ensures.done feed.ensures.closed feed.ensures.spent,
+      stop_of record_after feed.result.back left feed.result.stop feed.ensures.done feed.ensures.refused feed.ensures.closed feed.ensures.spent feed.ensures.no_limit,
     )

@@ -25,7 +25,7 @@ pub returns-clause-run : goal.returns-clause-run
 returns-clause-run g c =
     let ls = c.args.lanes.items in
     let ps = c.args.passes.items in
-    let note = c.requires.note.3 in
+    let note = c.requires.note.1 in
     let id = line_id c.args.self in
     let within = subst (λ (n : ℕ). AllByRecursion (λ (l : RuledLane). number_of l < n) ls) (sym c.requires.all_lanes) (within_line id ls (recursion_from_All (is_lane id) ls c.requires.lanes)) in
     end_joined ls ps c.into_rest-jobs.result.items c.args.note.gate.number _ _ _ _ _ within
@@ -40,7 +40,7 @@ returns-clause-run g c =
 pub returns-clause-numbers : goal.returns-clause-numbers
 returns-clause-numbers g c = λ k within.
     let ls = c.args.lanes.items in
-    let note = c.requires.note.3 in
+    let note = c.requires.note.1 in
     let in_ring = c.gather_passes.ensures.ring_same ∙ (c.gather_lanes.ensures.ring_lanes ∙ ap (λ (xs : List (RingLaneRecord QueuedJob)). xs ++ ring_lanes ls) note.no_lanes) in
     let dealt = c.gather_passes.ensures.dealt.0 ∙ (c.gather_lanes.ensures.dealt.0 ∙ note.lanes) in
     numbers_total ls k ∙ (ap (total (λ (r : RingLaneRecord QueuedJob). is_at k r.number)) (sym in_ring) ∙ c.into_rest-jobs.ensures.numbers k (subst (λ (n : ℕ). k < n) (sym dealt) within))
@@ -52,7 +52,7 @@ pub returns-clause-accepted : goal.returns-clause-accepted
 returns-clause-accepted g c =
     let ls = c.args.lanes.items in
     let id = line_id c.args.self in
-    let note = c.requires.note.3 in
+    let note = c.requires.note.1 in
     let in_ring = c.gather_passes.ensures.ring_same ∙ (c.gather_lanes.ensures.ring_lanes ∙ ap (λ (xs : List (RingLaneRecord QueuedJob)). xs ++ ring_lanes ls) note.no_lanes) in
     let dealt = c.gather_passes.ensures.dealt.0 ∙ (c.gather_lanes.ensures.dealt.0 ∙ note.lanes) in
     let new = c.gather_lanes.new.accepted.items in

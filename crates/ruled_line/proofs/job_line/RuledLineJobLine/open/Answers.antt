@@ -1,18 +1,14 @@
-use Rattle.std.proofs.Common.{◌∷◌, [], sym, refl, ap, ◌∙◌}
-use Rattle.atomic_table.specs.Seated.{TableId}
+use Rattle.std.proofs.Common.{sym, ap, ◌∙◌}
 use Rattle.line_gate.specs.declared.gate.Counts.{Counts}
-use Rattle.line_ring.specs.Inner.Handle.{ring_id}
+use Rattle.ruled_line.proofs.DealtLemmas.{is_of}
 use Rattle.ruled_line.proofs.job_line.RuledLineJobLine.open.Goals as goal
 
 pub returns-clause-closer : goal.returns-clause-closer
 returns-clause-closer c =
-    let ring = ring_id c.in-Ok-open.ring in
     let dealt = c.deal_lanes-lanes.ensures in
     let all = c.deal_passes-passes.ensures in
     let counts = c.in_ok-gate.ensures.counts in (
-      ring,
-      (ap (λ (t : TableId). t ∷ ring.table ∷ []) (sym (c.into_closer.ensures ∙ all.members)), refl, refl),
-      all.end.0,
+      is_of c.in_ok-gate.gate c.in-Ok-open.ring _ _ (c.into_closer.ensures ∙ all.members) all.end.0,
       record {
         lanes = all.lanes ∙ (dealt.end.1 ∙ sym (ap (λ (x : Counts). x.lanes) counts));
         passes = all.end.1 ∙ sym (ap (λ (x : Counts). x.passes) counts);

@@ -1,4 +1,0 @@
-pub mod PermutationLemmas
-mod AnswerLemmas
-mod UnfedLemmas
-mod OrderLemmas

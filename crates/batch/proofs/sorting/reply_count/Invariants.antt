@@ -1,6 +1,0 @@
-use Rattle.std.proofs.Common.{◌≡◌, length, map, take}
-use Rattle.batch.specs.Answers.{all_replies}
-use Rattle.batch.proofs.sorting.reply_count.Given as goal
-
-abbrev pub invariant-loop-replies : goal.invariant-loop-replies
-invariant-loop-replies l = l.count ≡ length (all_replies (map (λ rs. rs.items) (take l.replies-index l.by_worker)) l.rest)

@@ -1,0 +1,17 @@
+-- Why a feed has stopped, by the record of its lane.
+use Rattle.std.specs.Prelude.{◌≡◌, ◌≤◌, ◌++◌, List, [], Option, Some, None, IsSome, length}
+use Rattle.job_types.specs.Job.{JobData}
+use Rattle.cube_shape.specs.declared.limits.TheConstants.{MAX_ENTRIES}
+use Rattle.job_queue.specs.declared.record.LaneRecord.{LaneRecord}
+use Rattle.dispatcher.specs.declared.feeding.FeedStop.{FeedStop}
+use Rattle.dispatcher.specs.declared.feeding.FeedStop.TheVariants.{Done, Closed, LaneSpent, Turns}
+use Rattle.dispatcher.specs.Stop.{given_back, EndsWith}
+
+-- The lane, the job that came back, those that are left, and why the feed has stopped: `IsStopOf` of the record, in
+-- which the last count that was found beside the closed mark stands for the close number.
+abbrev pub StopsBy : LaneRecord → Option JobData → List JobData → Option FeedStop → Type 0
+StopsBy lane back left None = (lane.entries ≡ []) × (back ≡ None)
+StopsBy lane back left (Some Done) = given_back back ++ left ≡ []
+StopsBy lane back left (Some (Closed seen)) = IsSome back × EndsWith lane.seen seen
+StopsBy lane back left (Some LaneSpent) = IsSome back × (MAX_ENTRIES ≤ length lane.entries)
+StopsBy lane back left (Some Turns) = ⊥

@@ -1,0 +1,195 @@
+//! A whole batch of jobs, answered on threads.
+ghost use Rattle.std.specs.Prelude.{◌≡◌, ◌≢◌, ℕ, ◌^◌, ◌<◌, ◌↔◌, [], None, Some, true, not, ◌&&◌, IfOk, IfErr, IsTrue, ⊤, if◌then◌else◌, map, length, slice_index_or};
+ghost use Rattle.std.specs.List.{All, list_any};
+ghost use Rattle.job_queue.specs.Line.{IsFor};
+ghost use Rattle.dispatcher.specs.declared.feeding.FeedStop.TheVariants.{Done};
+ghost use Rattle.dispatcher.specs.Opening.{refusal_of};
+ghost use Rattle.dispatcher.specs.Answers.{AnswersAll};
+ghost use Rattle.crew.specs.Run.{by_worker_of, IsRun};
+ghost use Rattle.crew.specs.Members.{RanIn};
+ghost use Rattle.crew.specs.Done.{is_cut_off, is_spent, is_idle, reason_of, IsDone};
+ghost use Rattle.crew.specs.Stopped.{MatchStopped};
+
+use crate::running::{LaneEnd, RunEnd, run};
+use dispatcher::{FeedStop, Runner, ShopRefused, Stop};
+use floors::Floor;
+use job_queue::JobLine;
+use job_types::Job;
+use std::alloc::Global;
+use std::collections::VecDeque;
+use std::sync::Wait;
+use std::thread::Threads;
+use thiserror::Error;
+
+/// Why a batch has stopped before all of its jobs were answered.
+#[derive(Clone, Copy, Debug, PartialEq, Eq, Hash, Error)]
+pub enum StopReason {
+    /// Memory or a thread was refused.
+    #[error("out of memory")]
+    OutOfMemory,
+    /// A lane has made as many entries as a lane may.
+    #[error("a lane has made as many entries as it may")]
+    Spent,
+}
+
+/// A batch that was not answered, with all that it was given or has come to.
+#[derive(Drop)]
+pub enum Stopped<M> {
+    /// Nothing was run.
+    Refused {
+        /// The first size that is not within its limits, or `OutOfMemory`.
+        why: ShopRefused,
+        /// The jobs, as they were given.
+        jobs: Vec<VecDeque<Job>>,
+    },
+    /// Some jobs may not have been handed in.
+    Unfinished {
+        /// Whether it was memory or a thread that was refused, or a lane that was spent.
+        why: StopReason,
+        /// What became of the run: the replies, and what each lane did not hand in.
+        end: RunEnd<M>,
+    },
+}
+
+// Whether the feed was never run, or found the line closed.
+fn is_cut_off(stop: Option<FeedStop>) -> bool
+    ensures { result ≡ is_cut_off stop }
+{
+    matches!(stop, None | Some(FeedStop::Closed { .. }))
+}
+
+// Whether the lane of the feed was spent.
+fn is_spent(stop: Option<FeedStop>) -> bool
+    ensures { result ≡ is_spent stop }
+{
+    matches!(stop, Some(FeedStop::LaneSpent))
+}
+
+// Whether the worker was never run.
+fn is_idle(stop: Stop) -> bool
+    ensures { result ≡ is_idle stop }
+{
+    stop == Stop::NotRun
+}
+
+// Whether the lane was fed to the end of its list.
+fn is_fed(lane: &LaneEnd) -> bool
+    ensures { IsTrue result ↔ (lane.now.stop ≡ Some FeedStop.Done) }
+{
+    matches!(lane.stop, Some(FeedStop::Done))
+}
+
+// Whether some worker was never run.
+fn any_idle(stops: &[Stop]) -> bool
+    ensures { result ≡ list_any is_idle stops.now }
+{
+    for stop in stops {
+        if is_idle(*stop) {
+            return true;
+        }
+    }
+    false
+}
+
+// Whether all lanes were fed to the end of their lists.
+fn all_fed(lanes: &[LaneEnd]) -> bool
+    ensures { IsTrue result ↔ All (λ l. l.stop ≡ Some FeedStop.Done) lanes.now }
+{
+    for lane in lanes {
+        if !is_fed(lane) {
+            return false;
+        }
+    }
+    true
+}
+
+// Whether each lane was fed to the end of its list, and each worker was run.
+fn is_done<M>(end: &RunEnd<M>) -> bool
+    ensures { IsTrue result ↔ IsDone end.now }
+{
+    all_fed(&end.lanes) && !any_idle(&end.stops)
+}
+
+// Why not all jobs were handed in.
+fn stop_reason<M>(end: &RunEnd<M>) -> StopReason
+    ensures { result ≡ reason_of end.now }
+{
+    let mut spent = false;
+    let mut cut_off = false;
+    for lane in &end.lanes {
+        spent = spent || is_spent(lane.stop);
+        cut_off = cut_off || is_cut_off(lane.stop);
+    }
+    if spent && !cut_off && !any_idle(&end.stops) {
+        StopReason::Spent
+    } else {
+        StopReason::OutOfMemory
+    }
+}
+
+/// Answers all jobs, the lists of the lanes from 0 on: opens a shop with a lane for each list, hands in
+/// all lists at once while all workers answer jobs, each on a thread of its own, and finishes the shop.
+///
+/// Each job then has one right reply, and the machine is wholly free. Where that is not so, nothing is
+/// lost: the error is the first size that is not within its limits, or `OutOfMemory`, with the jobs, or
+/// it is what became of a run in which a thread or memory was refused, or a lane was spent.
+pub fn answer_all<R: Threads + Wait + Sync, L: JobLine + Sync, F: Floor + Sync, T: Runner + Sync>(
+    rt: &R,
+    alloc: Global,
+    n: u32,
+    dispatchers: u32,
+    capacity: usize,
+    runner: &T,
+    jobs: Vec<VecDeque<Job>>,
+) -> Result<RunEnd<F::Machine>, Stopped<F::Machine>>
+where
+    L::Lane: Send,
+    L::Pass: Send,
+    L::End: Send,
+    L::Closer: Send,
+    L::Note: Send,
+    F::Station: Send,
+    F::Machine: Drop,
+    requires lanes { length jobs.items < 2 ^ 32 }
+    requires made_for { (k : ℕ) → k < length jobs.items →
+        All (IsFor n k) (slice_index_or (map (λ js. js.items) jobs.items) k []) }
+    ensures run { IfOk result (IsRun F.machine_words n (map (λ js. js.items) jobs.items)) }
+    ensures ran_in { IfOk result
+        (RanIn L.JobLine F.Floor n (length jobs.items) dispatchers capacity) }
+    ensures done { IfOk result (λ end. IsDone end) }
+    ensures answers { IfOk result (λ end. AnswersAll n (map (λ js. js.items) jobs.items)
+        (by_worker_of end) end.finished.rest.items) }
+    ensures accepted { IfOk result (λ end.
+        end.finished.accepted.items ≡ map (λ js. length js.items) jobs.items) }
+    ensures workers { IfOk result (λ end. length end.finished.by_worker.items ≡ dispatchers) }
+    ensures dim { IfOk result (λ end. F.machine_dim end.finished.machine ≡ n) }
+    ensures closed { IfOk result (λ end. F.is_closed dispatchers end.finished.machine) }
+    ensures sizes { IfOk result (λ end.
+        refusal_of n (length jobs.items) dispatchers capacity ≡ None) }
+    ensures refused { IfErr result (λ stopped. MatchStopped stopped
+        (λ why back. (why ≢ ShopRefused.OutOfMemory →
+        refusal_of n (length jobs.items) dispatchers capacity ≡ Some why)
+        × (why ≡ ShopRefused.OutOfMemory →
+        refusal_of n (length jobs.items) dispatchers capacity ≡ None)
+        × (back.items ≡ jobs.items))
+        (λ why end. refusal_of n (length jobs.items) dispatchers capacity ≡ None)) }
+    ensures unfinished { IfErr result (λ stopped. MatchStopped stopped (λ why back. ⊤)
+        (λ why end. IsRun F.machine_words n (map (λ js. js.items) jobs.items) end)) }
+    ensures unfinished_ran_in { IfErr result (λ stopped. MatchStopped stopped (λ why back. ⊤)
+        (λ why end. RanIn L.JobLine F.Floor n (length jobs.items) dispatchers capacity end)) }
+    ensures unfinished_workers { IfErr result (λ stopped. MatchStopped stopped (λ why back. ⊤)
+        (λ why end. length end.finished.by_worker.items ≡ dispatchers)) }
+    ensures reason { IfErr result (λ stopped. MatchStopped stopped (λ why back. ⊤)
+        (λ why end. why ≡ reason_of end)) }
+    ensures not_done { IfErr result (λ stopped. MatchStopped stopped (λ why back. ⊤)
+        (λ why end. ¬ IsDone end)) }
+{
+    match run::<R, L, F, T>(rt, alloc, n, dispatchers, capacity, runner, jobs) {
+        Ok(end) if is_done(&end) => Ok(end),
+        Ok(end) => Err(Stopped::Unfinished {
+            why: stop_reason(&end),
+            end,
+        }),
+        Err((why, jobs)) => Err(Stopped::Refused { why, jobs }),
+    }
+}

@@ -1,0 +1,146 @@
+-- What a lane's record gains in a feed.
+use Rattle.std.proofs.Common.{◌≡◌, ℕ, ◌+◌, ◌-◌, ◌^◌, ◌<◌, ◌≤◌, min, ⊎_elim, List, [], ◌∷◌, ◌++◌, None, Some, map, length, drop, is_some, cond, Option, refl, sym, ap, subst, ◌∙◌, append_assoc, arith}
+use Rattle.std.specs.Option.{IfSome}
+use Rattle.std.proofs.lemmas.Bool.{cases_lt}
+use Rattle.std.proofs.lemmas.List.{append-nil, drop_at, drop_all, map-append}
+use Rattle.histories.specs.Sums.{total}
+use Rattle.histories.proofs.SumLemmas.{total-append}
+use Rattle.job_types.specs.Job.{JobData}
+use Rattle.job_queue.specs.declared.record.QueuedJob.{QueuedJob}
+use Rattle.job_queue.specs.declared.record.Entry.{Entry}
+use Rattle.job_queue.specs.declared.record.LaneRecord.{LaneRecord}
+use Rattle.job_queue.specs.Record.{entry, accepted, job_of, accepted_jobs}
+use Rattle.job_queue.specs.declared.job_line.Refused.{Refused}
+use Rattle.job_queue.specs.declared.job_line.Refused.TheVariants as refused
+use Rattle.job_queue.specs.Line.{GainsEntry, GainsRefusal}
+use Rattle.job_queue.proofs.AcceptedLemmas.{accepted-append, accepted-push, accepted-full}
+use Rattle.dispatcher.specs.declared.feeding.FeedStop.{FeedStop}
+use Rattle.dispatcher.specs.declared.feeding.FeedStop.TheVariants.{Closed, LaneSpent, Turns}
+use Rattle.dispatcher.specs.Feed.{entries_since, full_since, seen_at, HandsIn}
+
+-- of these jobs the first ones are accepted and the others left, and the feed goes on
+pub record SoFar (jobs left : List JobData) (before now : LaneRecord) : Type 0 where
+  pub gains : now ≡ record before { entries = before.entries ++ entries_since before now }
+  pub brings : map job_of (accepted (entries_since before now)) ++ left ≡ jobs
+
+none_since : (lane : LaneRecord) → entries_since lane lane ≡ []
+none_since lane = drop_all (length lane.entries) lane.entries (omega arith)
+
+pub none_full : (lane : LaneRecord) → full_since lane lane ≡ 0
+none_full lane = ap (total (λ (e : Entry). cond (is_some e.job) 0 1)) (none_since lane)
+
+pub none_yet : (jobs : List JobData) (lane : LaneRecord) → SoFar jobs jobs lane lane
+none_yet jobs lane = record {
+  gains = ap (λ (es : List Entry). record lane { entries = es }) (sym (ap (λ (made : List Entry). lane.entries ++ made) (none_since lane) ∙ append-nil lane.entries));
+  brings = ap (λ (made : List Entry). map job_of (accepted made) ++ jobs) (none_since lane);
+}
+
+-- ---- one entry more
+
+module _ (before now next : LaneRecord) (e : Entry) (so_far : now ≡ record before { entries = before.entries ++ entries_since before now }) (gains : next ≡ record now { entries = now.entries ++ e ∷ [] }) where
+  since_more : entries_since before next ≡ entries_since before now ++ e ∷ []
+  since_more =
+      let count : ℕ = length before.entries in
+      ap (λ (r : LaneRecord). drop count r.entries) gains
+      ∙ (ap (λ (r : LaneRecord). drop count (r.entries ++ e ∷ [])) so_far
+      ∙ (ap (drop count) (append_assoc before.entries (entries_since before now) (e ∷ []))
+      ∙ drop_at before.entries (entries_since before now ++ e ∷ []) count refl))
+
+  gains_more : next ≡ record before { entries = before.entries ++ entries_since before next }
+  gains_more =
+      gains
+      ∙ (ap (λ (r : LaneRecord). record r { entries = r.entries ++ e ∷ [] }) so_far
+      ∙ ap (λ (es : List Entry). record before { entries = es }) (append_assoc before.entries (entries_since before now) (e ∷ []) ∙ ap (λ (made : List Entry). before.entries ++ made) (sym since_more)))
+
+  full_since_more : full_since before next ≡ full_since before now + cond (is_some e.job) 0 1
+  full_since_more =
+      let weight : Entry → ℕ = λ x. cond (is_some x.job) 0 1 in
+      omega (arith, ap (total weight) since_more, total-append weight (entries_since before now) (e ∷ []))
+
+pub one_accepted : (jobs left : List JobData) (before now next : LaneRecord) (number : ℕ) (q : QueuedJob) → SoFar jobs (q.job ∷ left) before now → GainsEntry now number (Some q) next → SoFar jobs left before next
+one_accepted jobs left before now next number q so_far gains =
+    let made : List Entry = entries_since before now in
+    record {
+      gains = gains_more before now next (entry number (Some q)) so_far.gains gains;
+      brings =
+          ap (λ (es : List Entry). map job_of (accepted es) ++ left) (since_more before now next (entry number (Some q)) so_far.gains gains)
+          ∙ (ap (λ (qs : List QueuedJob). map job_of qs ++ left) (accepted-push made number q)
+          ∙ (ap (λ (js : List JobData). js ++ left) (map-append job_of (accepted made) (q ∷ [])) ∙ (append_assoc (map job_of (accepted made)) (q.job ∷ []) left ∙ so_far.brings)));
+    }
+
+pub one_full : (jobs left : List JobData) (before now next : LaneRecord) (number : ℕ) → SoFar jobs left before now → GainsEntry now number None next → SoFar jobs left before next
+one_full jobs left before now next number so_far gains =
+    let made : List Entry = entries_since before now in
+    record {
+      gains = gains_more before now next (entry number None) so_far.gains gains;
+      brings =
+          ap (λ (es : List Entry). map job_of (accepted es) ++ left) (since_more before now next (entry number None) so_far.gains gains)
+          ∙ (ap (λ (qs : List QueuedJob). map job_of qs ++ left) (accepted-full made number) ∙ so_far.brings);
+    }
+
+pub full_same : (jobs left : List JobData) (before now next : LaneRecord) (number : ℕ) (q : QueuedJob) → SoFar jobs left before now → GainsEntry now number (Some q) next → full_since before next ≡ full_since before now
+full_same jobs left before now next number q so_far gains = omega (arith, full_since_more before now next (entry number (Some q)) so_far.gains gains)
+
+pub full_more : (jobs left : List JobData) (before now next : LaneRecord) (number : ℕ) → SoFar jobs left before now → GainsEntry now number None next → full_since before next ≡ full_since before now + 1
+full_more jobs left before now next number so_far gains = full_since_more before now next (entry number None) so_far.gains gains
+
+-- ---- the end
+
+-- the feed stops, and the record gains what it found then
+pub stops : (jobs left : List JobData) (stop : FeedStop) (before now after : LaneRecord) → SoFar jobs left before now → after ≡ record now { seen = now.seen ++ seen_at stop } → HandsIn jobs left stop before after
+stops jobs left stop before now after so_far found =
+    let same : entries_since before after ≡ entries_since before now = ap (λ (r : LaneRecord). drop (length before.entries) r.entries) found in
+    record {
+      gains = found
+          ∙ (ap (λ (r : LaneRecord). record r { seen = r.seen ++ seen_at stop }) so_far.gains
+          ∙ ap (λ (made : List Entry). record before { entries = before.entries ++ made; seen = before.seen ++ seen_at stop }) (sym same));
+      brings = ap (λ (made : List Entry). map job_of (accepted made) ++ left) same ∙ so_far.brings;
+    }
+
+-- or nothing
+pub stops_as_is : (jobs left : List JobData) (stop : FeedStop) (before now : LaneRecord) → SoFar jobs left before now → seen_at stop ≡ [] → HandsIn jobs left stop before now
+stops_as_is jobs left stop before now so_far nothing =
+    stops jobs left stop before now now so_far (ap (λ (seen : List ℕ). record now { seen = seen }) (sym (ap (λ (more : List ℕ). now.seen ++ more) nothing ∙ append-nil now.seen)))
+
+-- why a feed stops at a refusal
+abbrev pub stop_at : Refused → FeedStop
+stop_at (refused.Closed seen) = Closed seen
+stop_at refused.Full = Turns
+stop_at refused.LaneSpent = LaneSpent
+
+-- the job of the refusal is the first one that is left
+pub at_refusal : (jobs left : List JobData) (before now after : LaneRecord) (why : Refused) (stop : FeedStop) → SoFar jobs left before now → GainsRefusal now why after → stop ≡ stop_at why → HandsIn jobs left stop before after
+at_refusal jobs left before now after (refused.Closed seen) stop so_far gains is =
+    subst (λ (s : FeedStop). HandsIn jobs left s before after) (sym is) (stops jobs left (Closed seen) before now after so_far gains)
+at_refusal jobs left before now after refused.Full stop so_far gains is =
+    subst (λ (s : FeedStop). HandsIn jobs left s before after) (sym is) (stops_as_is jobs left Turns before after (one_full jobs left before now after gains.0 so_far gains.1) refl)
+at_refusal jobs left before now after refused.LaneSpent stop so_far gains is =
+    subst (λ (s : FeedStop). HandsIn jobs left s before after) (sym is) (subst (λ (r : LaneRecord). HandsIn jobs left LaneSpent before r) (sym gains) (stops_as_is jobs left LaneSpent before now so_far refl))
+
+-- what the lane has accepted, what came back and what is left
+pub fed_by : (jobs back left : List JobData) (stop : FeedStop) (before after : LaneRecord) → HandsIn jobs (back ++ left) stop before after → accepted_jobs after ++ back ++ left ≡ accepted_jobs before ++ jobs
+fed_by jobs back left stop before after hands =
+    let made : List Entry = entries_since before after in
+    append_assoc (accepted_jobs after) back left
+    ∙ (ap (λ (r : LaneRecord). accepted_jobs r ++ (back ++ left)) hands.gains
+    ∙ (ap (λ (qs : List QueuedJob). map job_of qs ++ (back ++ left)) (accepted-append before.entries made)
+    ∙ (ap (λ (js : List JobData). js ++ (back ++ left)) (map-append job_of (accepted before.entries) (accepted made))
+    ∙ (append_assoc (accepted_jobs before) (map job_of (accepted made)) (back ++ left) ∙ ap (λ (js : List JobData). accepted_jobs before ++ js) hands.brings))))
+
+-- ---- the count of tries that found the line full
+
+-- the count grows by one, and is not the limit
+pub goes_on : (limit : Option ℕ) (full next since now turns : ℕ) → IfSome limit (λ most. most < 2 ^ 32) → next ≡ min (full + 1) (2 ^ 64 - 1) → now ≡ since + 1 → (limit ≡ Some next → ⊥) → limit ≡ Some turns → (full ≡ since) × (full < turns) → (next ≡ now) × (next < turns)
+goes_on limit full next since now turns word grows more other is so_far =
+    let small : turns < 2 ^ 32 = subst (λ (l : Option ℕ). IfSome l (λ most. most < 2 ^ 32)) is word in
+    let one : next ≡ full + 1 = omega (arith, grows, small, so_far.1) in (
+      omega (arith, one, more, so_far.0),
+      ⊎_elim
+          (λ (lt : next < turns). lt)
+          (λ (ge : turns ≤ next). absurd (other (is ∙ ap Some (omega (arith, one, ge, so_far.1)))))
+          (cases_lt next turns),
+    )
+
+-- or it is
+pub is_last : (limit : Option ℕ) (full next since now : ℕ) → next ≡ min (full + 1) (2 ^ 64 - 1) → now ≡ since + 1 → limit ≡ Some next → (full ≡ since) × (full < next) → limit ≡ Some now
+is_last limit full next since now grows more is so_far = is ∙ ap Some (omega (arith, grows, more, so_far.0, so_far.1))

@@ -1,0 +1,51 @@
+use Rattle.std.proofs.Common.{rules, ℕ, ◌≡◌, ◌<◌, Some, map, length, refl, sym, ap, ◌∙◌, arith}
+use Rattle.std.proofs.lemmas.List.{length_push}
+use Rattle.std.proofs.lemmas.List.Elements.{All-push, All-same}
+use Rattle.dispatcher.specs.Reply.{answered, region_of, IsRight}
+use Rattle.dispatcher.proofs.WorkLemmas.{gained, kept, at_line, at_floor, below_limit}
+use Rattle.dispatcher.proofs.dispatching.work.Goals as goal
+
+pub loop-preserved-in-Job : goal.loop-preserved-in-Job
+loop-preserved-in-Job g c =
+    let inv = c.loop.invariant in
+    let P = IsRight c.args.shop.now.floor.dim in
+    let reserved = c.make_room.ensures.items in
+    let pushed = c.push_reserved.ensures.items in
+    let few : (most : ℕ) → c.args.limit ≡ Some most → length c.make_room.new.replies.items < most = below_limit c.args.limit (length c.make_room.new.replies.items) (λ most is. omega (arith, ap length reserved, inv.5 most is)) (c.make_room.ensures.fewer (search rules)) in
+    let right = All-push P c.make_room.new.replies.items c.serve-back.result.1 (All-same P _ _ reserved inv.4) (at_floor (λ i. IsRight i.dim c.serve-back.result.1) _ _ c.shop.view_is c.serve-back.ensures.right) in (
+      at_line (λ i. g.L.JobLine.is_pass i c.take.new.pass) _ _ c.shop.view_is c.in-Job.ensures.pass,
+      at_floor (λ i. g.F.Floor.is_station i c.serve-back.result.0) _ _ c.shop.view_is c.serve-back.ensures.station,
+      gained answered _ _ _ _ _ _ _ inv.2 c.in-Job.ensures.taken c.serve-back.ensures.answers reserved pushed,
+      gained region_of _ _ _ _ _ _ _ inv.3 c.serve-back.ensures.granted refl reserved pushed,
+      All-same P _ _ pushed right,
+      λ most is. omega (arith, ap length pushed, length_push c.make_room.new.replies.items c.serve-back.result.1, few most is),
+      λ zero. absurd (omega (arith, few 0 zero)),
+    )
+
+pub loop-preserved : goal.loop-preserved
+loop-preserved g c =
+    let inv = c.loop.invariant in
+    let reserved = c.make_room.ensures.items in
+    let few : (most : ℕ) → c.args.limit ≡ Some most → length c.make_room.new.replies.items < most = below_limit c.args.limit (length c.make_room.new.replies.items) (λ most is. omega (arith, ap length reserved, inv.5 most is)) (c.make_room.ensures.fewer (search rules)) in (
+      at_line (λ i. g.L.JobLine.is_pass i c.take.new.pass) _ _ c.shop.view_is c.in-EmptyNow.ensures.pass,
+      inv.1,
+      kept answered _ _ _ _ inv.2 c.in-EmptyNow.ensures.taken reserved,
+      inv.3 ∙ ap (map region_of) (sym reserved),
+      All-same (IsRight c.args.shop.now.floor.dim) _ _ reserved inv.4,
+      λ most is. omega (arith, few most is),
+      λ zero. absurd (omega (arith, few 0 zero)),
+    )
+
+pub returns-in-Ended-clause-of_shop : goal.returns-in-Ended-clause-of_shop
+returns-in-Ended-clause-of_shop g c =
+    let inv = c.loop.invariant in
+    record {
+      pass = at_line (λ i. g.L.JobLine.is_pass i c.take.new.pass) _ _ c.shop.view_is c.in-Ended.ensures.pass;
+      station = inv.1;
+      right = All-same (IsRight c.args.shop.now.floor.dim) _ _ c.make_room.ensures.items inv.4;
+    }
+
+pub returns-in-Some-make_room-clause-of_shop : goal.returns-in-Some-make_room-clause-of_shop
+returns-in-Some-make_room-clause-of_shop g c =
+    let inv = c.loop.invariant in
+    record { pass = inv.0; station = inv.1; right = All-same (IsRight c.args.shop.now.floor.dim) _ _ c.make_room.ensures.items inv.4 }

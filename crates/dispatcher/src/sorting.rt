@@ -1,0 +1,90 @@
+//! The replies of a finished shop, sorted by id.
+ghost use Rattle.std.specs.Prelude.{◌≡◌, ℕ, List, ◌+◌, ◌≤◌, ◌++◌, [], IfOk, IfErr, IfSome, map, length, IsPermutation};
+ghost use Rattle.std.specs.Vec.{vec_capacity};
+ghost use Rattle.job_types.specs.Job.{JobData};
+ghost use Rattle.dispatcher.specs.Answers.{all_replies, AnswersAll};
+ghost use Rattle.dispatcher.specs.Order.{AreSorted, AreInOrder};
+
+use crate::finishing::Finished;
+use job_types::Reply;
+use std::alloc::{AllocError, Global};
+use std::collections::VecDeque;
+
+// How many replies there are, if that is a number of this machine.
+fn reply_count(by_worker: &[Vec<Reply>], rest: &[Reply]) -> Option<usize>
+    ensures { IfSome result (λ count.
+        count ≡ length (all_replies (map (λ rs. rs.items) by_worker.now) rest.now)) }
+{
+    let mut count = rest.len();
+    for replies in by_worker {
+        count = count.checked_add(replies.len())?;
+    }
+    Some(count)
+}
+
+// Moves the replies to the end of the others, for which there is room.
+fn move_all(replies: Vec<Reply>, all: &mut Vec<Reply>)
+    requires { length all.old.items + length replies.items ≤ vec_capacity all.old }
+    ensures items { all.new.items ≡ all.old.items ++ replies.items }
+    ensures capacity { vec_capacity all.new ≡ vec_capacity all.old }
+{
+    let mut left = VecDeque::from_vec(replies);
+    while let Some(reply) = left.pop_front() {
+        all.push_reserved(reply);
+    }
+}
+
+// The replies of each worker, one after the other, and then the rest, in the room that is given.
+fn gather(by_worker: Vec<Vec<Reply>>, rest: Vec<Reply>, room: Vec<Reply>) -> Vec<Reply>
+    requires empty { room.items ≡ [] }
+    requires room { length (all_replies (map (λ rs. rs.items) by_worker.items) rest.items)
+        ≤ vec_capacity room }
+    ensures { result.items ≡ all_replies (map (λ rs. rs.items) by_worker.items) rest.items }
+{
+    let mut all = room;
+    let mut left = VecDeque::from_vec(by_worker);
+    while let Some(replies) = left.pop_front() {
+        move_all(replies, &mut all);
+    }
+    move_all(rest, &mut all);
+    all
+}
+
+fn sort(replies: &mut Vec<Reply>)
+    ensures same { IsPermutation replies.old.items replies.new.items }
+    ensures sorted { AreSorted replies.new.items }
+{
+    replies.sort_unstable_by_key(|reply| reply.id());
+}
+
+/// All replies, sorted by lane and in a lane by number. Where they answer lists of jobs, one for each lane,
+/// they are then the answers to these jobs lane by lane. Where there is no memory for them the replies and
+/// the machine come back as they were.
+pub fn sorted_replies<M: Drop>(
+    alloc: Global,
+    finished: Finished<M>,
+) -> Result<Vec<Reply>, (AllocError, Finished<M>)>
+    ensures same { IfOk result (λ replies. IsPermutation
+        (all_replies (map (λ rs. rs.items) finished.by_worker.items) finished.rest.items)
+        replies.items) }
+    ensures sorted { IfOk result (λ replies. AreSorted replies.items) }
+    ensures in_order { IfOk result (λ replies. (n : ℕ) (jobs : List (List JobData)) →
+        AnswersAll n jobs (map (λ rs. rs.items) finished.by_worker.items) finished.rest.items →
+        AreInOrder n jobs replies.items) }
+    ensures gives_back { IfErr result (λ r. r.1 ≡ finished) }
+{
+    let Some(count) = reply_count(&finished.by_worker, &finished.rest) else {
+        return Err((AllocError, finished));
+    };
+    let Ok(room) = Vec::with_capacity(alloc, count) else {
+        return Err((AllocError, finished));
+    };
+    let Finished {
+        by_worker,
+        rest,
+        ..
+    } = finished;
+    let mut replies = gather(by_worker, rest, room);
+    sort(&mut replies);
+    Ok(replies)
+}
