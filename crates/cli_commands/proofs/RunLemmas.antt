@@ -1,6 +1,7 @@
 -- From a run of the jobs of a file to the rows that are written.
-use Rattle.std.proofs.Common.{◌≡◌, ◌×◌, ◌⊎◌, ℕ, ◌≤◌, inl, inr, Bool, true, false, not, ◌&&◌, true≢false, List, Option, Some, None, IfSome, IfErr, OnOk, Result, Ok, Err, Vec, Global, length, map, refl, sym, ap, subst, ◌∙◌, if◌then◌else◌, ⊤}
+use Rattle.std.proofs.Common.{◌≡◌, ℕ, ◌≤◌, Bool, true, false, not, ◌&&◌, true≢false, List, Option, Some, None, IfSome, IfErr, OnOk, Result, Ok, Err, Vec, Global, length, map, refl, sym, ap, subst, ◌∙◌, if◌then◌else◌}
 use Rattle.std.specs.Prelude.{Any}
+use Rattle.std.specs.Bool.{⊤}
 use Rattle.std.specs.List.{list_any}
 use Rattle.std.specs.List.Sorted.{IsPermutation}
 use Rattle.std.specs.Io.KnownBytes.{Appends}
@@ -27,21 +28,24 @@ use Rattle.crew.specs.declared.running.LaneEnd.{LaneEnd}
 use Rattle.crew.specs.declared.running.RunEnd.{RunEnd}
 use Rattle.jobs_csv.specs.declared.fault.Fault.{Fault}
 use Rattle.jobs_csv.specs.declared.fault.FaultKind.TheVariants as what
-use Rattle.jobs_csv.specs.Fault.{IsInputFault, attribute, has_failed, is_refusal}
+use Rattle.jobs_csv.specs.Fault.{attribute, has_failed, is_refusal}
 use Rattle.jobs_csv.specs.Jobs.{parse_jobs}
 use Rattle.jobs_csv.specs.Lanes.{AreLanes, ReturnsLanes}
-use Rattle.jobs_csv.specs.Outcome.{ReturnsRows}
-use Rattle.cli_commands.specs.Answer.{IsAnswer, IsRunFault, IsShopFault}
+use Rattle.cli_commands.specs.Answer.{IsAnswer}
 use Rattle.cli_commands.specs.FileRun.{HasSpentLane, IsFileRun, ReturnsRun}
-use Rattle.cli_commands.specs.Inner.Shop.{fault_in, kind_of_reason, unanswered_of}
+use Rattle.cli_commands.specs.Inner.Shop.{kind_of_reason, unanswered_of}
 use Rattle.cli_commands.specs.OpenLanes.{AreOpenLanes, IsLaneCount}
 use Rattle.cli_commands.specs.Replies.{AnswersJobs, AreReplies, replies_in}
-use Rattle.cli_commands.specs.declared.shop.Unanswered.{Unanswered}
 use Rattle.cli_commands.proofs.OrderLemmas.{all_jobs}
 
 -- as many counts as lists
 pub as_many : {A : Type 0} (f : A → ℕ) (g : A → List JobData) (counts : List ℕ) (xs : List A) → counts ≡ map f xs → length counts ≡ length (map g xs)
 as_many f g counts xs same = ap length same ∙ length-map xs f ∙ sym (length-map xs g)
+
+-- what is so of the bytes that are read, where they are known
+pub where_known : (read : Option (List ℕ)) (P Q : List ℕ → Type 0) → ((bytes : List ℕ) → P bytes → Q bytes) → IfSome read P → IfSome read Q
+where_known None P Q gives is = tt
+where_known (Some bytes) P Q gives is = gives bytes is
 
 -- ---- what is returned for a file
 
@@ -58,15 +62,6 @@ file_answered words_of n (Some bytes) lanes lists end (jobs, good, are) opens ru
     right = all.right;
   },
 )
-
--- a file of which nothing was run
-pub nothing_run : {M : Type 0} (words_of : M → List ℕ) (n : ℕ) (read : Option (List ℕ)) (fault : Fault) → IfSome read (λ bytes. is_refusal fault.what ≡ true → parse_jobs n bytes ≡ Err fault) → IfSome read (λ bytes. ReturnsRun words_of n (parse_jobs n bytes) (Err (record { fault = fault; end = None })))
-nothing_run words_of n None fault parsed = tt
-nothing_run words_of n (Some bytes) fault parsed = (parsed, tt)
-
-pub memory_first : {M : Type 0} (words_of : M → List ℕ) (n : ℕ) (read : Option (List ℕ)) → IfSome read (λ bytes. ReturnsRun words_of n (parse_jobs n bytes) (Err (record { fault = record { row = 0; what = what.OutOfMemory }; end = None })))
-memory_first words_of n None = tt
-memory_first words_of n (Some bytes) = (λ refused. absurd (true≢false (sym refused)), tt)
 
 reason_refuses_nothing : (why : StopReason) → is_refusal (kind_of_reason why) ≡ true → ⊥
 reason_refuses_nothing why.OutOfMemory refused = true≢false (sym refused)
@@ -129,16 +124,3 @@ are_replies n jobs finished replies answers same sorted = record {
 pub output_answered : {Thing Row : Type 0} (parse : Result (List Thing) Fault) (answers : List Thing → List Row → Type 0) (text : List Row → List ℕ) (things : List Thing) (rows : List Row) (old new : Option (List ℕ)) (before after : ℕ) (result : Result (Unit {0}) Fault) → parse ≡ Ok things → answers things rows → OnOk result (Appends old new (text rows)) → IfErr result (λ fault. fault ≡ attribute what.Write before after) → IsAnswer parse answers text old new result
 output_answered parse answers text things rows old new before after (Ok done) good are out failed = record { things = things; rows = rows; good = good; answered = are; written = out }
 output_answered parse answers text things rows old new before after (Err fault) good are out failed = λ refused. absurd (write_refuses_nothing fault before after failed refused)
-
-some_or : Fault → Option Fault → Fault
-some_or f None = f
-some_or f (Some g) = g
-
--- the fault of a command is that of the run, or that of the writing
-pub run_fault : {M : Type 0} (read_before read_after write_before write_after : ℕ) (answer : Result (RunEnd M) (Unanswered M)) (result : Result (Unit {0}) Fault) → IfErr answer (λ u. (IsInputFault read_before read_after u.fault × (u.end ≡ None)) ⊎ IsShopFault u.fault) → IfErr result (λ fault. (fault_in answer ≡ Some fault) ⊎ (fault ≡ attribute what.Write write_before write_after) ⊎ (fault ≡ record { row = 0; what = what.OutOfMemory })) → IfErr result (IsRunFault read_before read_after write_before write_after)
-run_fault a b c d answer (Ok done) failed is = tt
-run_fault a b c d (Ok end) (Err fault) failed (inl is) = absurd (cc)
-run_fault a b c d (Err u) (Err fault) (inl input) (inl is) = subst (IsRunFault a b c d) (ap (λ (o : Option Fault). some_or u.fault o) is) (inl (inl input.0))
-run_fault a b c d (Err u) (Err fault) (inr shop) (inl is) = subst (IsRunFault a b c d) (ap (λ (o : Option Fault). some_or u.fault o) is) (inr shop)
-run_fault a b c d answer (Err fault) failed (inr (inl wrote)) = inl (inr wrote)
-run_fault a b c d answer (Err fault) failed (inr (inr memory)) = inr (inl memory)

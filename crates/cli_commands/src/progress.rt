@@ -19,9 +19,9 @@ const PERIOD: u64 = 100;
 
 // How often a run that has ended looks whether the line is wiped, and how long it sleeps between two looks,
 // in milliseconds. So a terminal that nobody reads costs it a second.
-const LOOKS: u32 = 100;
+const LOOKS: u32 = 50;
 
-const PAUSE: u64 = 10;
+const PAUSE: u64 = 20;
 
 // The stack of the thread that shows the counts, in bytes.
 const STACK: usize = 1 << 18;
