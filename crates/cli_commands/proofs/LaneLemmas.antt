@@ -9,7 +9,7 @@ use Rattle.cube_shape.specs.declared.limits.TheConstants.{MAX_LANES}
 use Rattle.job_queue.specs.Line.{IsFor}
 use Rattle.jobs_csv.specs.Lanes.{AreLanes, in_lane}
 use Rattle.cli_commands.specs.OpenLanes.{IsLaneCount}
-use Rattle.cli_commands.specs.Inner.Lanes.{AreOpenLanes}
+use Rattle.cli_commands.specs.OpenLanes.{AreOpenLanes}
 
 -- ---- one job more in front
 

@@ -10,7 +10,7 @@ use Rattle.job_queue.specs.declared.record.QueuedJob.{QueuedJob}
 use Rattle.jobs_csv.specs.Lanes.{in_lane}
 use Rattle.dispatcher.specs.Answers.{jobs_with_ids, lanes_with_ids, with_ids_from}
 use Rattle.cli_commands.specs.JobIds.{lane_count, with_id_after, with_ids, with_ids_after}
-use Rattle.cli_commands.specs.Inner.Lanes.{AreOpenLanes}
+use Rattle.cli_commands.specs.OpenLanes.{AreOpenLanes}
 use Rattle.cli_commands.proofs.LaneLemmas.{lane_front, other_front}
 
 -- ---- the lists of lanes, joined

@@ -1,73 +1,108 @@
--- From a shop that has answered the jobs of a file to the replies that are written.
-use Rattle.std.proofs.Common.{◌≡◌, ℕ, ◌<◌, ◌≤◌, ⊎_elim, get_or, [], Bool, true, false, List, Option, Some, None, IfSome, IfErr, OnOk, Result, Ok, Err, Vec, Global, length, map, sym, ap, subst, ◌∙◌, if◌then◌else◌}
+-- From a run of the jobs of a file to the rows that are written.
+use Rattle.std.proofs.Common.{◌≡◌, ℕ, ◌≤◌, Bool, true, false, not, ◌&&◌, true≢false, List, Option, Some, None, IfSome, IfErr, OnOk, Result, Ok, Err, Vec, Global, length, map, refl, sym, ap, subst, ◌∙◌, if◌then◌else◌}
+use Rattle.std.specs.Prelude.{Any}
+use Rattle.std.specs.Bool.{⊤}
+use Rattle.std.specs.List.{list_any}
 use Rattle.std.specs.List.Sorted.{IsPermutation}
 use Rattle.std.specs.Io.KnownBytes.{Appends}
-use Rattle.std.proofs.lemmas.Bool.{cases_lt}
-use Rattle.std.proofs.lemmas.List.{get_or_past, length-map}
-use Rattle.std.proofs.lemmas.List.Sorted.{IsPermutation-map, IsPermutation-trans}
-use Rattle.histories.proofs.ViewLemmas.{all_weaker}
+use Rattle.std.proofs.lemmas.List.{length-map}
+use Rattle.std.proofs.lemmas.List.Folds.{Any-from_list_any}
+use Rattle.std.proofs.lemmas.List.Sorted.{All-permutation, IsPermutation-map, IsPermutation-trans}
+use Rattle.cube_shape.specs.declared.limits.TheConstants.{MAX_ENTRIES}
 use Rattle.job_types.specs.Job.{JobData}
 use Rattle.job_types.specs.Reply.{ReplyData}
-use Rattle.job_queue.specs.declared.record.LaneRecord.{LaneRecord}
-use Rattle.job_queue.specs.Record.{accepted_jobs}
-use Rattle.dispatcher.specs.Reply.{answered}
-use Rattle.dispatcher.specs.Finished.{Outcome, outcome}
-use Rattle.dispatcher.specs.declared.finishing.Finished.{Finished}
 use Rattle.dispatcher.specs.Answers.{AnswersAll}
-use Rattle.batch.specs.Answers.{IsWholeBatch}
 use Rattle.dispatcher.specs.Order.{AreSorted}
+use Rattle.dispatcher.specs.Reply.{answered, IsRight}
+use Rattle.dispatcher.specs.declared.feeding.FeedStop.{FeedStop}
+use Rattle.dispatcher.specs.declared.feeding.FeedStop.TheVariants.{Done, Closed, LaneSpent, Turns}
+use Rattle.dispatcher.specs.declared.finishing.Finished.{Finished}
+use Rattle.crew.specs.Done.{is_cut_off, is_idle, is_spent, reason_of}
+use Rattle.crew.specs.Run.{by_worker_of, IsLaneEnd, IsRun, IsStopOf}
+use Rattle.crew.specs.Stopped.{MatchStopped}
+use Rattle.crew.specs.declared.answering.StopReason.{StopReason}
+use Rattle.crew.specs.declared.answering.StopReason.TheVariants as why
+use Rattle.crew.specs.declared.answering.Stopped.{Stopped}
+use Rattle.crew.specs.declared.answering.Stopped.TheVariants as stopped
+use Rattle.crew.specs.declared.running.LaneEnd.{LaneEnd}
+use Rattle.crew.specs.declared.running.RunEnd.{RunEnd}
 use Rattle.jobs_csv.specs.declared.fault.Fault.{Fault}
 use Rattle.jobs_csv.specs.declared.fault.FaultKind.TheVariants as what
 use Rattle.jobs_csv.specs.Fault.{attribute, has_failed, is_refusal}
 use Rattle.jobs_csv.specs.Jobs.{parse_jobs}
-use Rattle.jobs_csv.specs.Lanes.{AreLanes, ReturnsLanes, in_lane}
-use Rattle.jobs_csv.specs.Outcome.{ReturnsRows}
-use Rattle.jobs_csv.specs.Replies.{reply_columns, reply_fields}
-use Rattle.jobs_csv.specs.Text.{file_text}
+use Rattle.jobs_csv.specs.Lanes.{AreLanes, ReturnsLanes}
 use Rattle.cli_commands.specs.Answer.{IsAnswer}
-use Rattle.cli_commands.specs.Inner.Lanes.{AreOpenLanes}
-use Rattle.cli_commands.specs.Inner.Shop.{AnswersFile, replies_in}
-use Rattle.cli_commands.specs.Replies.{AreReplies, IsRunOf}
-use Rattle.cli_commands.proofs.LaneLemmas.{past_all}
+use Rattle.cli_commands.specs.FileRun.{HasSpentLane, IsFileRun, ReturnsRun}
+use Rattle.cli_commands.specs.Inner.Shop.{kind_of_reason, unanswered_of}
+use Rattle.cli_commands.specs.OpenLanes.{AreOpenLanes, IsLaneCount}
+use Rattle.cli_commands.specs.Replies.{AnswersJobs, AreReplies, replies_in}
 use Rattle.cli_commands.proofs.OrderLemmas.{all_jobs}
 
 -- as many counts as lists
 pub as_many : {A : Type 0} (f : A → ℕ) (g : A → List JobData) (counts : List ℕ) (xs : List A) → counts ≡ map f xs → length counts ≡ length (map g xs)
 as_many f g counts xs same = ap length same ∙ length-map xs f ∙ sym (length-map xs g)
 
--- the list of each lane has the jobs that are its own, also past the open lanes
-every_lane : (lists : List (List JobData)) (jobs : List JobData) → AreOpenLanes lists jobs → (lane : ℕ) → get_or lists lane [] ≡ in_lane lane jobs
-every_lane lists jobs opens lane =
-    ⊎_elim (λ (within : lane < length lists). opens.each lane within)
-    (λ (past : length lists ≤ lane). get_or_past lists lane [] past ∙ sym (past_all (length lists) lane jobs past opens.count.all))
-    (cases_lt lane (length lists))
+-- what is so of the bytes that are read, where they are known
+pub where_known : (read : Option (List ℕ)) (P Q : List ℕ → Type 0) → ((bytes : List ℕ) → P bytes → Q bytes) → IfSome read P → IfSome read Q
+where_known None P Q gives is = tt
+where_known (Some bytes) P Q gives is = gives bytes is
 
--- a whole batch of the open lanes is a run of the file
-run_of : (n : ℕ) (lists : List (List JobData)) (jobs : List JobData) (o : Outcome) → AreOpenLanes lists jobs → IsWholeBatch n lists o → IsRunOf n jobs (length lists) o
-unfolding IsRunOf
-run_of n lists jobs o opens whole = record {
-  lanes = whole.lanes;
-  grants = whole.grants;
-  note = whole.note;
-  finished = whole.finished;
-  open_lanes = opens.count;
-  numbers = whole.numbers;
-  fed = all_weaker (λ (l : LaneRecord). accepted_jobs l ≡ get_or lists l.number []) (λ (l : LaneRecord). accepted_jobs l ≡ in_lane l.number jobs) (λ l own. own ∙ every_lane lists jobs opens l.number) whole.lanes whole.fed;
-}
+-- ---- what is returned for a file
 
--- where the open lanes of a good file were answered, so was the file
-pub file_answered : {M : Type 0} (words_of : M → List ℕ) (n : ℕ) (read : Option (List ℕ)) (lanes : Vec (Vec JobData Global) Global) (lists : List (List JobData)) (finished : Finished M) → IfSome read (λ bytes. ReturnsLanes (parse_jobs n bytes) (Ok lanes)) → ((jobs : List JobData) → AreLanes lanes.items jobs → AreOpenLanes lists jobs) → IsWholeBatch n lists (outcome words_of finished) → AnswersAll n lists (map (λ replies. replies.items) finished.by_worker.items) finished.rest.items → length finished.accepted.items ≡ length lists
-    → IfSome read (λ bytes. ReturnsRows (λ (f : Finished M) jobs. AnswersFile words_of n jobs f) (parse_jobs n bytes) (Ok finished))
-file_answered words_of n None lanes lists finished parsed opens whole all count = tt
-file_answered words_of n (Some bytes) lanes lists finished (jobs, good, are) opens whole all count = (
+-- where the open lanes of a good file were run and answered, so was the file
+pub file_answered : {M : Type 0} (words_of : M → List ℕ) (n : ℕ) (read : Option (List ℕ)) (lanes : Vec (Vec JobData Global) Global) (lists : List (List JobData)) (end : RunEnd M) → IfSome read (λ bytes. ReturnsLanes (parse_jobs n bytes) (Ok lanes)) → ((jobs : List JobData) → AreLanes lanes.items jobs → AreOpenLanes lists jobs) → IsRun words_of n lists end → AnswersAll n lists (by_worker_of end) end.finished.rest.items → length end.finished.accepted.items ≡ length lists → IfSome read (λ bytes. ReturnsRun words_of n (parse_jobs n bytes) (Ok end))
+file_answered words_of n None lanes lists end parsed opens run all count = tt
+file_answered words_of n (Some bytes) lanes lists end (jobs, good, are) opens run all count = (
   jobs,
   good,
+  record { lanes = lists; open_lanes = opens jobs are; run = run },
   record {
-    run = subst (λ count. IsRunOf n jobs count (outcome words_of finished)) (sym count) (run_of n lists jobs (outcome words_of finished) (opens jobs are) whole);
+    open_lanes = subst (IsLaneCount jobs) (sym count) (opens jobs are).count;
     same = IsPermutation-trans _ _ _ (all_jobs lists jobs (opens jobs are)) all.answers;
     right = all.right;
   },
 )
+
+reason_refuses_nothing : (why : StopReason) → is_refusal (kind_of_reason why) ≡ true → ⊥
+reason_refuses_nothing why.OutOfMemory refused = true≢false (sym refused)
+reason_refuses_nothing why.Spent refused = true≢false (sym refused)
+
+-- where the run of a good file was not whole
+pub file_unanswered : {M : Type 0} (words_of : M → List ℕ) (n : ℕ) (read : Option (List ℕ)) (lanes : Vec (Vec JobData Global) Global) (lists : List (List JobData)) (s : Stopped M) → IfSome read (λ bytes. ReturnsLanes (parse_jobs n bytes) (Ok lanes)) → ((jobs : List JobData) → AreLanes lanes.items jobs → AreOpenLanes lists jobs) → MatchStopped s (λ why back. ⊤) (λ why end. IsRun words_of n lists end) → IfSome read (λ bytes. ReturnsRun words_of n (parse_jobs n bytes) (Err (unanswered_of s)))
+file_unanswered words_of n None lanes lists s parsed opens run = tt
+file_unanswered words_of n (Some bytes) lanes lists (stopped.Refused why back) parsed opens run = (λ refused. absurd (true≢false (sym refused)), tt)
+file_unanswered words_of n (Some bytes) lanes lists (stopped.Unfinished why end) (jobs, good, are) opens run = (
+  λ refused. absurd (reason_refuses_nothing why refused),
+  (jobs, good, record { lanes = lists; open_lanes = opens jobs are; run = run }),
+)
+
+-- ---- a lane that is spent
+
+spent_first : (a b c : Bool) → why.Spent ≡ (if a && not b && not c then why.Spent else why.OutOfMemory) → a ≡ true
+spent_first true b c is = refl
+spent_first false b c is = cc
+
+entries_of_spent : (close_number : ℕ) (end : LaneEnd) (stop : Option FeedStop) → is_spent stop ≡ true → IsStopOf close_number end stop → MAX_ENTRIES ≤ end.entries
+entries_of_spent close_number end None spent is = absurd (true≢false (sym spent))
+entries_of_spent close_number end (Some Done) spent is = absurd (true≢false (sym spent))
+entries_of_spent close_number end (Some (Closed seen)) spent is = absurd (true≢false (sym spent))
+entries_of_spent close_number end (Some LaneSpent) spent is = is.1
+entries_of_spent close_number end (Some Turns) spent is = absurd (true≢false (sym spent))
+
+some_spent : {M : Type 0} (words_of : M → List ℕ) (n : ℕ) (lists : List (List JobData)) (end : RunEnd M) → why.Spent ≡ reason_of end → IsRun words_of n lists end → HasSpentLane (Some end)
+some_spent words_of n lists end is run =
+    let any : Any (λ (l : LaneEnd). is_spent l.stop ≡ true) end.lanes.items = Any-from_list_any (λ (l : LaneEnd). is_spent l.stop) end.lanes.items (spent_first _ _ _ is) in
+    let (k, l, within, at, spent) = any in
+    let is_end : IsLaneEnd lists end.finished.accepted.items end.close_number l = subst (IsLaneEnd lists end.finished.accepted.items end.close_number) at (run.ends k l within) in
+    (k, l, within, at, entries_of_spent end.close_number l l.stop spent is_end.stopped)
+
+-- a shop that was spent has a spent lane
+pub spent_lane : {M : Type 0} (words_of : M → List ℕ) (n : ℕ) (lists : List (List JobData)) (s : Stopped M) → MatchStopped s (λ why back. ⊤) (λ why end. IsRun words_of n lists end) → MatchStopped s (λ why back. ⊤) (λ why end. why ≡ reason_of end) → (unanswered_of s).fault.what ≡ what.Spent → HasSpentLane (unanswered_of s).end
+spent_lane words_of n lists (stopped.Refused why back) run reason is = absurd (cc)
+spent_lane words_of n lists (stopped.Unfinished why.OutOfMemory end) run reason is = absurd (cc)
+spent_lane words_of n lists (stopped.Unfinished why.Spent end) run reason is = some_spent words_of n lists end reason run
+
+-- ---- what is made of a run, and written
 
 -- a fault of writing refuses no input
 no_refusal : (failed : Bool) → is_refusal (if failed then what.Write else what.OutOfMemory) ≡ true → ⊥
@@ -77,21 +112,15 @@ no_refusal false e = cc
 pub write_refuses_nothing : (fault : Fault) (before after : ℕ) → fault ≡ attribute what.Write before after → is_refusal fault.what ≡ true → ⊥
 write_refuses_nothing fault before after is refused = no_refusal (has_failed before after) (ap (λ (f : Fault). is_refusal f.what) (sym is) ∙ refused)
 
--- the sorted replies of a shop, written or not
-pub run_answered : {M : Type 0} (words_of : M → List ℕ) (n : ℕ) (read : Option (List ℕ)) (finished : Finished M) (replies : List ReplyData) (old new : Option (List ℕ)) (before after : ℕ) (result : Result (Unit {0}) Fault) → IfSome read (λ bytes. ReturnsRows (λ (f : Finished M) jobs. AnswersFile words_of n jobs f) (parse_jobs n bytes) (Ok finished)) → IsPermutation (replies_in finished) replies → AreSorted replies → OnOk result (Appends old new (file_text reply_columns reply_fields replies)) → IfErr result (λ fault. fault ≡ attribute what.Write before after) → IfSome read (λ bytes. IsAnswer (parse_jobs n bytes) (AreReplies n) (file_text reply_columns reply_fields) old new result)
-run_answered words_of n None finished replies old new before after result parsed same sorted out failed = tt
-run_answered words_of n (Some bytes) finished replies old new before after (Ok done) (jobs, good, answers) same sorted out failed = record {
-  things = jobs;
-  rows = replies;
-  good = good;
-  answered = record {
-    lanes = length finished.accepted.items;
-    outcome = outcome words_of finished;
-    run = answers.run;
-    all = same;
-    same = IsPermutation-trans _ _ _ answers.same (IsPermutation-map answered _ _ same);
-    sorted = sorted;
-  };
-  written = out;
+-- the sorted replies of a run of a file are the replies to it
+pub are_replies : {M : Type 0} (n : ℕ) (jobs : List JobData) (finished : Finished M) (replies : List ReplyData) → AnswersJobs n jobs finished → IsPermutation (replies_in finished) replies → AreSorted replies → AreReplies n jobs replies
+are_replies n jobs finished replies answers same sorted = record {
+  same = IsPermutation-trans _ _ _ answers.same (IsPermutation-map answered _ _ same);
+  right = All-permutation (IsRight n) _ _ same answers.right;
+  sorted = sorted;
 }
-run_answered words_of n (Some bytes) finished replies old new before after (Err fault) parsed same sorted out failed = λ refused. absurd (write_refuses_nothing fault before after failed refused)
+
+-- what is made of the run of a file, written or not
+pub output_answered : {Thing Row : Type 0} (parse : Result (List Thing) Fault) (answers : List Thing → List Row → Type 0) (text : List Row → List ℕ) (things : List Thing) (rows : List Row) (old new : Option (List ℕ)) (before after : ℕ) (result : Result (Unit {0}) Fault) → parse ≡ Ok things → answers things rows → OnOk result (Appends old new (text rows)) → IfErr result (λ fault. fault ≡ attribute what.Write before after) → IsAnswer parse answers text old new result
+output_answered parse answers text things rows old new before after (Ok done) good are out failed = record { things = things; rows = rows; good = good; answered = are; written = out }
+output_answered parse answers text things rows old new before after (Err fault) good are out failed = λ refused. absurd (write_refuses_nothing fault before after failed refused)

@@ -1,6 +1,7 @@
 pub mod JobIds
 pub mod OpenLanes
 pub mod Replies
+pub mod FileRun
 pub mod Report
 pub mod Answer
 pub mod Trace
@@ -8,3 +9,10 @@ pub mod Place
 pub mod Replay
 pub mod Program
 pub mod Inner
+pub use Rattle.floors.specs.Floor.{IsWhollyFree}
+pub use Rattle.job_types.specs.Job.{JobData}
+pub use Rattle.crew.specs.Done.{IsDone}
+pub use Rattle.jobs_csv.specs.Fault.{IsInputFault, fault_text}
+pub use Rattle.jobs_csv.specs.Jobs.{parse_jobs}
+pub use Rattle.jobs_csv.specs.Text.{file_text}
+pub use Rattle.cli_words.specs.CommandLine.{AreShopSizes}

@@ -3,7 +3,7 @@ ghost use Rattle.std.specs.Prelude.{◌≡◌, ◌≢◌, ◌⊎◌, ℕ, ◌-�
 ghost use Rattle.std.specs.Global.{Global};
 ghost use Rattle.job_types.specs.Job.{JobData};
 ghost use Rattle.jobs_csv.specs.Lanes.{AreLanes};
-ghost use Rattle.cli_commands.specs.Inner.Lanes.{AreOpenLanes};
+ghost use Rattle.cli_commands.specs.OpenLanes.{AreOpenLanes};
 
 use job_types::Job;
 use std::alloc::{AllocError, Global};

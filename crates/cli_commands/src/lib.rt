@@ -3,17 +3,18 @@
 #![tactic(auto)]
 
 mod lanes;
+mod output;
 mod place;
 mod play;
 pub mod program;
 mod progress;
 mod replay;
-mod report;
 mod run;
 mod shop;
 mod stations;
 
+pub use output::{Output, Replies, Report};
 pub use place::place_on;
 pub use replay::replay_on;
-pub use report::{report_on, report_with_progress};
-pub use run::{run_on, run_with_progress};
+pub use run::{answer_on, answer_with_progress, report_on, run_on};
+pub use shop::{Unanswered, answer_file};

@@ -1,6 +1,7 @@
 //! From the words of a command line to the end of the program.
 ghost use Rattle.std.specs.Prelude.{◌≡◌, ◌⊎◌, ◌++◌, ◌∷◌, [], Bool, true, IfErr, IfSome, IsTrue, map, string_bytes};
 ghost use Rattle.std.specs.Io.KnownBytes.{Appends};
+ghost use Rattle.std.specs.Process.{exit_status as status_of_process};
 ghost use Rattle.clap.specs.Words.{FailsBy, fault_of, kind_of};
 ghost use Rattle.clap.specs.declared.error.kind.ErrorKind.TheVariants.{DisplayHelp, DisplayVersion, OutOfMemory};
 ghost use Rattle.jobs_csv.specs.Fault.{attribute, fault_text};
@@ -10,13 +11,15 @@ ghost use Rattle.cli_commands.specs.Answer.{IsMetBeforeWriting};
 ghost use Rattle.cli_commands.specs.Inner.Ending.{EndsAfter, EndsOn};
 ghost use Rattle.cli_commands.specs.Program.{AsksForProgress, EndsBy, IsAnswerTo, IsFaultOf, ShowsProgress, exit_status};
 
-use crate::{place, replay, report, run};
+use crate::output::{Replies, Report};
+use crate::{place, replay, run};
 use clap::error::ErrorKind;
 use cli_words::{Invocation, parse_args};
 use dispatcher::Plain;
 use jobs_csv::{Device, Fault, FaultKind};
 use std::alloc::Global;
 use std::io::{Read, Write};
+use std::process::ExitCode;
 use std::sync::Wait;
 use std::thread::Threads;
 
@@ -44,6 +47,13 @@ impl Ending {
     }
 }
 
+/// The status with which the process ends.
+pub fn exit_code(ending: Ending) -> ExitCode
+    ensures { status_of_process result ≡ exit_status ending }
+{
+    ExitCode::from(ending.status())
+}
+
 // Reports a fault in one line.
 fn report_fault<E: Write>(fault: Fault, errors: &mut E) -> Ending
     ensures failed { (is_reported : Bool) × (result ≡ Ending.Failed fault is_reported) }
@@ -64,10 +74,10 @@ fn answer<H, R, W, P>(
     terminal: &mut Option<P>,
 ) -> Result<(), Fault>
 where
-    H: Threads + Wait + Sync,
+    H: Threads + Wait + Clone + Send + Sync + 'static,
     R: Read + Device,
     W: Write + Device,
-    P: Write + Send,
+    P: Write + Send + Drop + 'static,
     requires { IsWithinLimits invocation }
     ensures answered { IfSome (R.remaining reader.old) (λ bytes.
         IsAnswerTo invocation bytes (W.contents writer.old) (W.contents writer.new) result) }
@@ -79,10 +89,14 @@ where
 {
     match invocation {
         Invocation::Run(options) => {
-            run::run_with_progress(rt, alloc, options, &Plain, reader, writer, terminal)
+            run::answer_with_progress::<Replies, H, Plain, R, W, P>(
+                rt, alloc, options, &Plain, reader, writer, terminal,
+            )
         }
         Invocation::Report(options) => {
-            report::report_with_progress(rt, alloc, options, &Plain, reader, writer, terminal)
+            run::answer_with_progress::<Report, H, Plain, R, W, P>(
+                rt, alloc, options, &Plain, reader, writer, terminal,
+            )
         }
         Invocation::Place { n } => place::place_on(alloc, n, reader, writer),
         Invocation::Replay { n, stations } => replay::replay_on(alloc, n, stations, reader, writer),
@@ -100,11 +114,11 @@ fn carry_out<H, R, W, E, P>(
     terminal: &mut Option<P>,
 ) -> Ending
 where
-    H: Threads + Wait + Sync,
+    H: Threads + Wait + Clone + Send + Sync + 'static,
     R: Read + Device,
     W: Write + Device,
     E: Write,
-    P: Write + Send,
+    P: Write + Send + Drop + 'static,
     requires { IsWithinLimits invocation }
     ensures ends { EndsAfter invocation (R.remaining reader.old)
         (W.contents writer.old) (W.contents writer.new)
@@ -176,11 +190,11 @@ pub fn run<H, R, W, E, P>(
     terminal: &mut Option<P>,
 ) -> Ending
 where
-    H: Threads + Wait + Sync,
+    H: Threads + Wait + Clone + Send + Sync + 'static,
     R: Read + Device,
     W: Write + Device,
     E: Write,
-    P: Write + Send,
+    P: Write + Send + Drop + 'static,
     ensures ends { EndsBy (map string_bytes words.now) (R.remaining reader.old)
         (W.contents writer.old) (W.contents writer.new)
         (IsFaultOf (R.failures reader.old) (R.failures reader.new)

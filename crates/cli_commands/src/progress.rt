@@ -1,151 +1,206 @@
 // The line of progress of a long run, on a terminal.
+ghost use Rattle.std.specs.Prelude.{◌≡◌};
+
 use dispatcher::Runner;
 use job_types::{Job, JobId, Region, Reply};
 use jobs_csv::Observer;
+use std::alloc::{AllocError, Global};
 use std::io::Write;
-use std::sync::atomic::{AtomicU64, Ordering};
-use std::sync::{Mutex, Wait};
+use std::sync::atomic::{AtomicBool, AtomicU64, Ordering};
+use std::sync::{Arc, Wait};
+use std::thread::{Builder, JoinHandle, Parker, Threads};
+use std::time::Duration;
 
-// The line is written once for this many records, and once for this many replies.
-const STEP: u64 = 1_000;
+// Nothing is shown of a run with fewer records than these.
+const LONG: u64 = 1_000;
+
+// How long the thread that shows the counts sleeps between two looks at them, in milliseconds.
+const PERIOD: u64 = 100;
+
+// How often a run that has ended looks whether the line is wiped, and how long it sleeps between two looks,
+// in milliseconds. So a terminal that nobody reads costs it a second.
+const LOOKS: u32 = 50;
+
+const PAUSE: u64 = 20;
+
+// The stack of the thread that shows the counts, in bytes.
+const STACK: usize = 1 << 18;
 
 // Wipes the line, whose longest text has two numbers of seven digits.
 const WIPE: &[u8] = b"\r                               \r";
 
-// The last line of a terminal, and whether it shows the progress.
+/// How many records a run has read, and how many replies are done.
+///
+/// The threads of a run count here, and no contract says what they count.
 #[derive(Drop)]
-struct Line<W> {
-    terminal: W,
-    is_shown: bool,
-}
-
-// What the threads of a run share: the counts, and the line under a lock. No thread waits for the line,
-// and a failed write is ignored.
-#[derive(Drop)]
-struct Screen<W> {
+pub struct Counts {
     records: AtomicU64,
     replies: AtomicU64,
-    line: Mutex<Line<W>>,
 }
 
-impl<W: Write + Drop> Screen<W> {
-    // Nothing is counted, and nothing is shown.
-    fn new(terminal: W) -> Self {
-        let line = Line {
-            terminal,
-            is_shown: false,
-        };
-        Screen {
+impl Counts {
+    // Nothing is counted.
+    fn new() -> Self {
+        Counts {
             records: AtomicU64::new(0),
             replies: AtomicU64::new(0),
-            line: Mutex::new(line),
         }
     }
 
-    // Counts the records up to this one.
-    fn set_records(&self, records: u64) {
-        self.records.store(records, Ordering::SeqCst);
-        if records % STEP != 0 {
-            return;
-        }
-        if let Some(mut guard) = self.line.try_lock() {
-            let line = &mut *guard;
-            line.is_shown = true;
-            let _shown = write!(line.terminal, "\r{records} records read");
-        }
+    // The records, and the replies, which are no more.
+    fn read(&self) -> (u64, u64) {
+        let replies = self.replies.load(Ordering::SeqCst);
+        (self.records.load(Ordering::SeqCst), replies)
     }
+}
 
-    // Counts one more reply. The count is read again under the lock, so the line never goes back.
-    fn count_reply(&self) {
-        let before = self.replies.fetch_add(1, Ordering::SeqCst);
-        if before.wrapping_add(1) % STEP != 0 {
-            return;
-        }
-        if let Some(mut guard) = self.line.try_lock() {
-            let line = &mut *guard;
-            let replies = self.replies.load(Ordering::SeqCst);
-            let records = self.records.load(Ordering::SeqCst);
-            line.is_shown = true;
-            let _shown = write!(line.terminal, "\r{replies} of {records} replies done");
-        }
-    }
+// What a run shares with the one thread that shows its counts.
+#[derive(Drop)]
+struct Board {
+    counts: Counts,
+    // The run is over, and the line is to be wiped.
+    is_over: AtomicBool,
+    // The line is wiped, and nothing more is written.
+    is_wiped: AtomicBool,
+    // Where the thread that shows sleeps, and where the run waits for its end.
+    looker: Parker,
+    waiter: Parker,
+}
 
-    // Wipes the line, where it shows something.
-    fn end(self) {
-        let Screen { line, .. } = self;
-        let Line {
-            mut terminal,
-            is_shown,
-        } = line.into_inner();
-        if is_shown {
-            let _wiped = terminal.write_all(WIPE);
+impl Board {
+    fn new() -> Self {
+        Board {
+            counts: Counts::new(),
+            is_over: AtomicBool::new(false),
+            is_wiped: AtomicBool::new(false),
+            looker: Parker::new(),
+            waiter: Parker::new(),
         }
     }
+}
+
+// Writes the counts in place of what the line shows. A failed write is ignored.
+fn write_line<W: Write>(terminal: &mut W, (records, replies): (u64, u64)) {
+    let _shown = if replies == 0 {
+        write!(terminal, "\r{records} records read")
+    } else {
+        write!(terminal, "\r{replies} of {records} replies done")
+    };
+}
+
+// Shows the counts while the run works, and wipes the line in the end. Returns the terminal.
+fn show<H: Wait, W: Write>(rt: &H, board: &Board, mut terminal: W) -> W {
+    let mut shown = (0, 0);
+    for _ in rt.forever() {
+        board.looker.park_timeout(rt, Duration::from_millis(PERIOD));
+        if board.is_over.load(Ordering::SeqCst) {
+            break;
+        }
+        let counted = board.counts.read();
+        if counted.0 >= LONG && counted != shown {
+            write_line(&mut terminal, counted);
+            shown = counted;
+        }
+    }
+    if shown != (0, 0) {
+        let _wiped = terminal.write_all(WIPE);
+    }
+    board.is_wiped.store(true, Ordering::SeqCst);
+    board.waiter.unpark();
+    terminal
 }
 
 /// How many records a run has read and how many replies are done, in one line of a terminal, which is
-/// written anew in place; or nothing, where there is no terminal.
+/// written anew in place.
 ///
-/// The threads of a run share it, and no contract says what it shows.
+/// One thread writes it, and no other waits for a write: the reader and the workers of a run only count.
+/// No contract says what it shows.
 #[derive(Drop)]
 pub struct Progress<W> {
-    screen: Option<Screen<W>>,
+    board: Arc<Board, Global>,
+    thread: JoinHandle<W>,
 }
 
-impl<W: Write + Drop> Progress<W> {
-    /// The progress of a run that has read no record.
-    pub fn new(terminal: Option<W>) -> Self {
-        let screen = match terminal {
-            Some(terminal) => Some(Screen::new(terminal)),
-            None => None,
-        };
-        Progress { screen }
+impl<W: Write + Send + Drop + 'static> Progress<W> {
+    /// Begins to show the progress of a run that has read no record. There is none, and the terminal is
+    /// dropped, where memory or a thread is refused.
+    pub fn begin<H: Threads + Wait + Clone + Send + 'static>(
+        rt: &H,
+        alloc: Global,
+        terminal: W,
+    ) -> Option<Self> {
+        let board = Arc::new(alloc, Board::new()).ok()?;
+        let theirs = Arc::try_clone(&board).ok()?;
+        let own: Result<H, AllocError> = rt.clone();
+        let own = own.ok()?;
+        let started = Builder::new()
+            .stack_size(STACK)
+            .spawn(rt, move || show(&own, &theirs, terminal));
+        Some(Progress {
+            board,
+            thread: started.ok()?,
+        })
     }
 
-    /// Wipes the line.
-    pub fn end(self) {
-        let Progress { screen } = self;
-        if let Some(screen) = screen {
-            screen.end();
+    /// Where the threads of the run count.
+    pub fn counts(&self) -> &Counts {
+        &self.board.counts
+    }
+
+    /// Wipes the line, and gives the terminal back. Where a write to it still waits after a second it is
+    /// lost to the thread that waits.
+    pub fn end<H: Threads + Wait>(self, rt: &H) -> Option<W> {
+        let Progress { board, thread } = self;
+        board.is_over.store(true, Ordering::SeqCst);
+        board.looker.unpark();
+        for _ in 0..LOOKS {
+            if board.is_wiped.load(Ordering::SeqCst) {
+                return Some(thread.join(rt));
+            }
+            board.waiter.park_timeout(rt, Duration::from_millis(PAUSE));
         }
+        None
     }
 }
 
-/// An observer that shows how many records are read.
+/// An observer that counts the records that are read.
 #[derive(Drop)]
-pub struct RecordProgress<'a, W> {
-    /// How many records it has seen.
-    pub seen: u64,
-    /// Where they are shown.
-    pub progress: &'a Progress<W>,
+pub struct RecordProgress<'a> {
+    seen: u64,
+    counts: &'a Counts,
 }
 
-impl<W: Write + Drop> Observer for RecordProgress<'_, W> {
+impl<'a> RecordProgress<'a> {
+    /// It has seen no record.
+    pub fn new(counts: &'a Counts) -> Self
+        ensures { result.seen ≡ 0 }
+    {
+        RecordProgress { seen: 0, counts }
+    }
+}
+
+impl Observer for RecordProgress<'_> {
     ghost seen = { λ records. records.seen };
 
     fn see(&mut self) {
         self.seen = self.seen.saturating_add(1);
-        if let Some(screen) = &self.progress.screen {
-            screen.set_records(self.seen);
-        }
+        self.counts.records.store(self.seen, Ordering::SeqCst);
     }
 }
 
-/// A runner that answers jobs by another one, and shows how many replies are done.
+/// A runner that answers jobs by another one, and counts the replies.
 #[derive(Drop)]
-pub struct ReplyProgress<'a, T, W> {
+pub struct ReplyProgress<'a, T> {
     /// The runner that answers the jobs.
     pub runner: &'a T,
-    /// Where the replies are shown.
-    pub progress: &'a Progress<W>,
+    /// Where the replies are counted.
+    pub counts: &'a Counts,
 }
 
-impl<T: Runner, W: Write + Drop> Runner for ReplyProgress<'_, T, W> {
+impl<T: Runner> Runner for ReplyProgress<'_, T> {
     fn run<R: Wait>(&self, rt: &R, id: JobId, region: Region, job: Job) -> Reply {
         let reply = self.runner.run(rt, id, region, job);
-        if let Some(screen) = &self.progress.screen {
-            screen.count_reply();
-        }
+        self.counts.replies.fetch_add(1, Ordering::SeqCst);
         reply
     }
 }

@@ -1,52 +1,72 @@
-// A shop for the jobs of a file.
-ghost use Rattle.std.specs.Prelude.{◌≡◌, ◌⊎◌, ◌≤◌, false, IfErr, IfOk, IfSome, length};
-ghost use Rattle.floors.specs.Floor.{IsWhollyFree};
+//! A run of the jobs of a file.
+ghost use Rattle.std.specs.Prelude.{◌≡◌, ◌⊎◌, ◌≤◌, false, None, IfErr, IfOk, IfSome, IsSome, length};
+ghost use Rattle.cli_words.specs.CommandLine.{AreShopSizes};
+ghost use Rattle.crew.specs.Done.{IsDone};
 ghost use Rattle.cube_shape.specs.declared.limits.TheConstants.{MAX_LANES};
+ghost use Rattle.floors.specs.Floor.{IsWhollyFree};
 ghost use Rattle.jobs_csv.specs.Fault.{IsInputFault};
 ghost use Rattle.jobs_csv.specs.Jobs.{parse_jobs};
-ghost use Rattle.jobs_csv.specs.Outcome.{ReturnsRows};
 ghost use Rattle.cli_commands.specs.Answer.{IsShopFault};
-ghost use Rattle.cli_commands.specs.Inner.Shop.{AnswersFile, kind_of_stop};
+ghost use Rattle.cli_commands.specs.FileRun.{HasSpentLane, ReturnsRun};
+ghost use Rattle.cli_commands.specs.Inner.Shop.{unanswered_of};
 
 use crate::lanes::open_lanes;
 use crate::progress::{Progress, RecordProgress, ReplyProgress};
 use cli_words::ShopOptions;
-use crew::{StopReason, Stopped, answer_all};
+use crew::{RunEnd, StopReason, Stopped, answer_all};
 use cube_shape::MAX_DIM;
-use dispatcher::{Finished, Runner};
+use dispatcher::Runner;
 use floors::Floor;
 use job_queue::JobLine;
-use jobs_csv::{Device, Fault, FaultKind};
+use jobs_csv::{Device, Fault, FaultKind, Observer, RecordCount};
 use std::alloc::Global;
-use std::io::{Read, Sink, Write};
+use std::io::{Read, Write};
 use std::sync::Wait;
 use std::thread::Threads;
 
-// The fault of a shop that has not answered all jobs.
-fn fault_of<M: Drop>(stopped: Stopped<M>) -> Fault
-    ensures { result ≡ record { row = 0; what = kind_of_stop stopped } }
-{
-    let what = match stopped {
-        Stopped::Refused { .. } => FaultKind::OutOfMemory,
-        Stopped::Unfinished { why, .. } => match why {
-            StopReason::OutOfMemory => FaultKind::OutOfMemory,
-            StopReason::Spent => FaultKind::Spent,
-        },
-    };
-    Fault { row: 0, what }
+/// Why the jobs of a file were not all answered.
+#[derive(Drop)]
+pub struct Unanswered<M> {
+    /// The first fault of the file, or what failed.
+    pub fault: Fault,
+    /// What became of the run, where there was one: the replies, and what each lane did not hand in.
+    pub end: Option<RunEnd<M>>,
 }
 
-// Reads a file of jobs, and answers all of them by the dispatchers and over the line of the options,
-// each on a thread of its own, with a feeder for each open lane. The progress shows how many records
-// are read and how many replies are done.
-fn answer_file_with<'a, H, L, F, T, R, W>(
+// What is told of a shop that has not answered all jobs.
+fn to_unanswered<M: Drop>(stopped: Stopped<M>) -> Unanswered<M>
+    ensures { result ≡ unanswered_of stopped }
+{
+    let (why, end) = match stopped {
+        Stopped::Unfinished { why, end } => (why, end),
+        Stopped::Refused { .. } => {
+            return Unanswered {
+                fault: Fault::no_memory(),
+                end: None,
+            };
+        }
+    };
+    let what = match why {
+        StopReason::OutOfMemory => FaultKind::OutOfMemory,
+        StopReason::Spent => FaultKind::Spent,
+    };
+    Unanswered {
+        fault: Fault { row: 0, what },
+        end: Some(end),
+    }
+}
+
+// Does as `answer_file` does, while an observer that has seen none sees each record.
+fn answer_file_with<H, L, F, T, R, O>(
     rt: &H,
     alloc: Global,
-    options: ShopOptions,
-    runner: &'a T,
+    n: u32,
+    dispatchers: u32,
+    capacity: usize,
+    runner: &T,
     reader: &mut R,
-    progress: &'a Progress<W>,
-) -> Result<Finished<F::Machine>, Fault>
+    observer: O,
+) -> Result<RunEnd<F::Machine>, Unanswered<F::Machine>>
 where
     H: Threads + Wait + Sync,
     L: JobLine + Sync,
@@ -60,59 +80,138 @@ where
     F::Machine: Drop,
     T: Runner + Sync,
     R: Read + Device,
-    W: Write + Drop + Send,
-    requires { options.n ≤ MAX_DIM }
-    ensures answered { IfSome (R.remaining reader.old) (λ bytes. ReturnsRows
-        (λ finished jobs. AnswersFile F.machine_words options.n jobs finished)
-        (parse_jobs options.n bytes) result) }
-    ensures lanes { IfOk result (λ finished. length finished.accepted.items ≤ MAX_LANES) }
-    ensures dim { IfOk result (λ finished. F.machine_dim finished.machine ≡ options.n) }
-    ensures closed { IfOk result (λ finished.
-        F.is_closed options.dispatchers finished.machine) }
-    ensures free { IfOk result (λ finished.
-        IsWhollyFree options.n (F.machine_words finished.machine)) }
-    ensures failed { IfErr result (λ fault.
-        IsInputFault (R.failures reader.old) (R.failures reader.new) fault
-        ⊎ IsShopFault fault) }
+    O: Observer,
+    requires limit { n ≤ MAX_DIM }
+    requires fresh { O.seen observer ≡ 0 }
+    ensures answered { IfSome (R.remaining reader.old) (λ bytes.
+        ReturnsRun F.machine_words n (parse_jobs n bytes) result) }
+    ensures done { IfOk result (λ end. IsDone end) }
+    ensures lanes { IfOk result (λ end. length end.finished.accepted.items ≤ MAX_LANES) }
+    ensures workers { IfOk result (λ end. length end.finished.by_worker.items ≡ dispatchers) }
+    ensures dim { IfOk result (λ end. F.machine_dim end.finished.machine ≡ n) }
+    ensures closed { IfOk result (λ end. F.is_closed dispatchers end.finished.machine) }
+    ensures free { IfOk result (λ end.
+        IsWhollyFree n (F.machine_words end.finished.machine)) }
+    ensures failed { IfErr result (λ unanswered.
+        (IsInputFault (R.failures reader.old) (R.failures reader.new) unanswered.fault
+        × (unanswered.end ≡ None))
+        ⊎ IsShopFault unanswered.fault) }
+    ensures spent { IfErr result (λ unanswered.
+        unanswered.fault.what ≡ FaultKind.Spent → HasSpentLane unanswered.end) }
 {
-    let ShopOptions {
-        n,
-        dispatchers,
-        capacity,
-        ..
-    } = options;
-    let records = RecordProgress { seen: 0, progress };
-    let (lanes, _records) = jobs_csv::read_lanes_with(alloc, n, records, reader)?;
-    let Ok(lists) = open_lanes(alloc, lanes) else {
-        return Err(Fault::no_memory());
+    let lanes = match jobs_csv::read_lanes_with(alloc, n, observer, reader) {
+        Ok((lanes, _observer)) => lanes,
+        Err(fault) => return Err(Unanswered { fault, end: None }),
     };
-    let runner = ReplyProgress { runner, progress };
-    match answer_all::<H, L, F, ReplyProgress<'a, T, W>>(
+    let Ok(lists) = open_lanes(alloc, lanes) else {
+        return Err(Unanswered {
+            fault: Fault::no_memory(),
+            end: None,
+        });
+    };
+    match answer_all::<H, L, F, T>(rt, alloc, n, dispatchers, capacity, runner, lists) {
+        Ok(end) => Ok(end),
+        Err(stopped) => Err(to_unanswered(stopped)),
+    }
+}
+
+/// Reads a file of jobs for a machine of dimension `n`, and answers all of them on threads: a feeder for each
+/// open lane hands in its jobs by a line `L` of this capacity, and this many dispatchers answer them by the
+/// runner, each job on a subcube of the floor `F`.
+///
+/// All jobs are read before the first of them is answered. The open lanes are 0 to the largest one of a
+/// job, or lane 0 alone. Returns what became of the run: one right reply to each job under its id, the end
+/// of each lane and of each worker, and the machine, which is wholly free and closed.
+///
+/// # Errors
+///
+/// The fault is the first one of the file, or `Read` where the reader's count of failed calls rose in this
+/// call, or stood at `u64::MAX`; nothing was run then. It is `Spent` where a lane has made as many entries as
+/// a lane may, and `OutOfMemory` where memory or a thread was refused. What had become of the run by then,
+/// if there was one, comes with it.
+pub fn answer_file<H, L, F, T, R>(
+    rt: &H,
+    alloc: Global,
+    n: u32,
+    dispatchers: u32,
+    capacity: usize,
+    runner: &T,
+    reader: &mut R,
+) -> Result<RunEnd<F::Machine>, Unanswered<F::Machine>>
+where
+    H: Threads + Wait + Sync,
+    L: JobLine + Sync,
+    L::Lane: Send,
+    L::Pass: Send,
+    L::End: Send,
+    L::Closer: Send,
+    L::Note: Send,
+    F: Floor + Sync,
+    F::Station: Send,
+    F::Machine: Drop,
+    T: Runner + Sync,
+    R: Read + Device,
+    requires limit { n ≤ MAX_DIM }
+    requires sizes { AreShopSizes dispatchers capacity }
+    ensures answered { IfSome (R.remaining reader.old) (λ bytes.
+        ReturnsRun F.machine_words n (parse_jobs n bytes) result) }
+    ensures done { IfOk result (λ end. IsDone end) }
+    ensures lanes { IfOk result (λ end. length end.finished.accepted.items ≤ MAX_LANES) }
+    ensures workers { IfOk result (λ end. length end.finished.by_worker.items ≡ dispatchers) }
+    ensures dim { IfOk result (λ end. F.machine_dim end.finished.machine ≡ n) }
+    ensures closed { IfOk result (λ end. F.is_closed dispatchers end.finished.machine) }
+    ensures free { IfOk result (λ end.
+        IsWhollyFree n (F.machine_words end.finished.machine)) }
+    ensures failed { IfErr result (λ unanswered.
+        (IsInputFault (R.failures reader.old) (R.failures reader.new) unanswered.fault
+        × (unanswered.end ≡ None))
+        ⊎ IsShopFault unanswered.fault) }
+    ensures spent { IfErr result (λ unanswered.
+        unanswered.fault.what ≡ FaultKind.Spent → HasSpentLane unanswered.end) }
+{
+    answer_file_with::<H, L, F, T, R, RecordCount>(
         rt,
         alloc,
         n,
         dispatchers,
         capacity,
-        &runner,
-        lists,
-    ) {
-        Ok(finished) => Ok(finished),
-        Err(stopped) => Err(fault_of(stopped)),
-    }
+        runner,
+        reader,
+        RecordCount::new(),
+    )
 }
 
-// Answers the jobs of a file as `answer_file_with` does. The terminal, where there is one, shows the
-// progress, unless the options are quiet.
-pub(crate) fn answer_file<H, L, F, T, R, P>(
+// The line of progress, where there is a terminal and the run is not quiet.
+fn begin_progress<H, P>(
+    rt: &H,
+    alloc: Global,
+    is_quiet: bool,
+    terminal: &mut Option<P>,
+) -> Option<Progress<P>>
+where
+    H: Threads + Wait + Clone + Send + 'static,
+    P: Write + Send + Drop + 'static,
+    ensures kept { (terminal.new ≡ terminal.old) ⊎ (is_quiet ≡ false) }
+    ensures shown { IsSome result → is_quiet ≡ false }
+{
+    if is_quiet {
+        return None;
+    }
+    Progress::begin(rt, alloc, terminal.take()?)
+}
+
+// Does as `answer_file` does with these options. The terminal, where there is one, shows the progress, unless
+// the options are quiet.
+pub(crate) fn answer_file_shown<H, L, F, T, R, P>(
     rt: &H,
     alloc: Global,
     options: ShopOptions,
     runner: &T,
     reader: &mut R,
     terminal: &mut Option<P>,
-) -> Result<Finished<F::Machine>, Fault>
+) -> Result<RunEnd<F::Machine>, Unanswered<F::Machine>>
 where
-    H: Threads + Wait + Sync,
+    H: Threads + Wait + Clone + Send + Sync + 'static,
     L: JobLine + Sync,
     L::Lane: Send,
     L::Pass: Send,
@@ -124,32 +223,44 @@ where
     F::Machine: Drop,
     T: Runner + Sync,
     R: Read + Device,
-    P: Write + Send,
-    requires { options.n ≤ MAX_DIM }
-    ensures answered { IfSome (R.remaining reader.old) (λ bytes. ReturnsRows
-        (λ finished jobs. AnswersFile F.machine_words options.n jobs finished)
-        (parse_jobs options.n bytes) result) }
-    ensures lanes { IfOk result (λ finished. length finished.accepted.items ≤ MAX_LANES) }
-    ensures dim { IfOk result (λ finished. F.machine_dim finished.machine ≡ options.n) }
-    ensures closed { IfOk result (λ finished.
-        F.is_closed options.dispatchers finished.machine) }
-    ensures free { IfOk result (λ finished.
-        IsWhollyFree options.n (F.machine_words finished.machine)) }
-    ensures failed { IfErr result (λ fault.
-        IsInputFault (R.failures reader.old) (R.failures reader.new) fault
-        ⊎ IsShopFault fault) }
+    P: Write + Send + Drop + 'static,
+    requires limit { options.n ≤ MAX_DIM }
+    requires sizes { AreShopSizes options.dispatchers options.capacity }
+    ensures answered { IfSome (R.remaining reader.old) (λ bytes.
+        ReturnsRun F.machine_words options.n (parse_jobs options.n bytes) result) }
+    ensures lanes { IfOk result (λ end. length end.finished.accepted.items ≤ MAX_LANES) }
+    ensures free { IfOk result (λ end.
+        IsWhollyFree options.n (F.machine_words end.finished.machine)) }
+    ensures failed { IfErr result (λ unanswered.
+        (IsInputFault (R.failures reader.old) (R.failures reader.new) unanswered.fault
+        × (unanswered.end ≡ None))
+        ⊎ IsShopFault unanswered.fault) }
     ensures shown { (terminal.new ≡ terminal.old) ⊎ (options.is_quiet ≡ false) }
 {
-    if options.is_quiet {
-        let progress: Progress<Sink> = Progress::new(None);
-        return answer_file_with::<H, L, F, T, R, Sink>(
-            rt, alloc, options, runner, reader, &progress,
-        );
-    }
-    let progress = Progress::new(terminal.as_mut());
-    let finished = answer_file_with::<H, L, F, T, R, &mut P>(
-        rt, alloc, options, runner, reader, &progress,
+    let ShopOptions {
+        n,
+        dispatchers,
+        capacity,
+        is_quiet,
+    } = options;
+    let Some(progress) = begin_progress(rt, alloc, is_quiet, terminal) else {
+        return answer_file::<H, L, F, T, R>(rt, alloc, n, dispatchers, capacity, runner, reader);
+    };
+    let records = RecordProgress::new(progress.counts());
+    let runner = ReplyProgress {
+        runner,
+        counts: progress.counts(),
+    };
+    let answer = answer_file_with::<H, L, F, ReplyProgress<T>, R, RecordProgress>(
+        rt,
+        alloc,
+        n,
+        dispatchers,
+        capacity,
+        &runner,
+        reader,
+        records,
     );
-    progress.end();
-    finished
+    *terminal = progress.end(rt);
+    answer
 }

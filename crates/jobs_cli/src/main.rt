@@ -3,12 +3,13 @@
 //!
 //! The input comes as CSV from standard input, and its answer goes as CSV to standard output. Jobs are
 //! answered on threads, by the dispatchers and over the line that `--dispatchers` and `--capacity` ask
-//! for. Where standard error is a terminal, it shows how far a long run is, unless `--quiet` is given.
-//! The whole program is `program::run` of `cli_commands`, over any words, reader and writers; this file
-//! ties them to the process.
+//! for. Where standard error is a terminal that can write a line anew, it shows how far a long run is,
+//! unless `--quiet` is given. The whole program is `program::run` of `cli_commands`, over any words,
+//! reader and writers; this file ties them to the process, which ends by `program::exit_code`.
 #![tactic(auto)]
 
 use cli_commands::program;
+use cli_commands::program::Ending;
 use jobs_csv::{Counted, Fault};
 use std::io;
 use std::io::IsTerminal;
@@ -22,25 +23,31 @@ fn words<R: Env + AllocGlobal>(rt: &R) -> io::Result<Vec<String>> {
 }
 
 // Reports words that could not be read: there was no memory, or they are not text.
-fn report_words(rt: &impl Eprint, error: &io::Error) -> ExitCode {
+fn report_words(rt: &impl Eprint, error: &io::Error) -> Ending {
     if error.kind() == io::ErrorKind::OutOfMemory {
         let fault = Fault::no_memory();
-        let _reported = rt.eprintln(fault);
-        return ExitCode::from(fault.status());
+        let is_reported = rt.eprintln(fault).is_ok();
+        return Ending::Failed { fault, is_reported };
     }
     let _reported = rt.eprintln("error: the command line is not UTF-8 text");
-    ExitCode::from(2)
+    Ending::Rejected
+}
+
+// Whether the terminal says that it cannot write a line anew.
+fn is_dumb(rt: &impl Env) -> bool {
+    let mut term = [0u8; 4];
+    rt.var("TERM", &mut term).is_ok() && term == *b"dumb"
 }
 
 fn main(rt: HostRuntime) -> ExitCode {
     let words = match words(&rt) {
         Ok(words) => words,
-        Err(error) => return report_words(&rt, &error),
+        Err(error) => return program::exit_code(report_words(&rt, &error)),
     };
     let mut reader = Counted::new(rt.stdin());
     let mut writer = Counted::new(rt.stdout());
     let mut errors = rt.stderr();
-    let mut terminal = if errors.is_terminal() {
+    let mut terminal = if errors.is_terminal() && !is_dumb(&rt) {
         Some(rt.stderr())
     } else {
         None
@@ -54,5 +61,5 @@ fn main(rt: HostRuntime) -> ExitCode {
         &mut errors,
         &mut terminal,
     );
-    ExitCode::from(ending.status())
+    program::exit_code(ending)
 }

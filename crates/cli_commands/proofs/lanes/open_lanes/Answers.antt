@@ -1,7 +1,7 @@
 use Rattle.std.proofs.Common.{List, Vec, Global, map, take, sym, ap, subst, ◌∙◌, rules}
 use Rattle.std.proofs.lemmas.Result.{IfOk-weaker}
 use Rattle.job_types.specs.Job.{JobData}
-use Rattle.cli_commands.specs.Inner.Lanes.{AreOpenLanes}
+use Rattle.cli_commands.specs.OpenLanes.{AreOpenLanes}
 use Rattle.cli_commands.proofs.LaneLemmas.{opened_at}
 use Rattle.cli_commands.proofs.lanes.open_lanes.Goals as goal
 

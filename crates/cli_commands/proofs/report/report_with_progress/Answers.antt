@@ -1,6 +1,0 @@
-use denote.Param.Send.{sendable}
-use Rattle.tree_floor.proofs.SharedLemmas.{tree_floor_sync}
-use Rattle.cli_commands.proofs.report.report_with_progress.Goals as goal
-
-pub answer_file-requires-sync-F : goal.answer_file-requires-sync-F
-answer_file-requires-sync-F g c κs within = search (sendable, tree_floor_sync) depth 20

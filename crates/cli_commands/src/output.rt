@@ -1,0 +1,88 @@
+// What a command writes of a finished run.
+ghost use Rattle.std.specs.Prelude.{◌≡◌, ℕ, ◌≤◌, List, IfOk, length};
+ghost use Rattle.cube_shape.specs.declared.limits.TheConstants.{MAX_LANES};
+ghost use Rattle.floors.specs.Floor.{IsWhollyFree};
+ghost use Rattle.job_types.specs.Job.{JobData};
+ghost use Rattle.cli_commands.specs.Replies.{AnswersJobs};
+
+use cube_report::report_rows;
+use cube_shape::MAX_DIM;
+use dispatcher::{Finished, sorted_replies};
+use floors::Floor;
+use job_types::Reply;
+use jobs_csv::{ReportRow, Row};
+use std::alloc::{AllocError, Global};
+
+/// What is written once all jobs of a file are answered: rows that are made of the finished run.
+pub trait Output {
+    /// What is written as one line.
+    type Row: Row + Drop;
+
+    // The rows are those of these jobs, on a machine of dimension n.
+    ghost are_rows: { ℕ → List JobData → List Self.Row → Type 0 };
+
+    /// Makes the rows of a run on a machine of dimension `n`.
+    ///
+    /// # Errors
+    ///
+    /// Where there is no memory for them.
+    fn rows<F: Floor>(
+        alloc: Global,
+        n: u32,
+        finished: Finished<F::Machine>,
+    ) -> Result<Vec<Self::Row>, AllocError>
+    where
+        F::Machine: Drop,
+        requires limit { n ≤ MAX_DIM }
+        requires lanes { length finished.accepted.items ≤ MAX_LANES }
+        requires free { IsWhollyFree n (F.machine_words finished.machine) }
+        ensures { IfOk result (λ rows. (jobs : List JobData) →
+            AnswersJobs n jobs finished → are_rows n jobs rows.items) };
+}
+
+/// A reply to each job, sorted by id.
+pub struct Replies;
+
+impl Output for Replies {
+    ghost use Rattle.cli_commands.specs.Replies.{AreReplies};
+
+    type Row = Reply;
+
+    ghost are_rows = { AreReplies };
+
+    fn rows<F: Floor>(
+        alloc: Global,
+        _n: u32,
+        finished: Finished<F::Machine>,
+    ) -> Result<Vec<Reply>, AllocError>
+    where
+        F::Machine: Drop,
+    {
+        match sorted_replies(alloc, finished) {
+            Ok(replies) => Ok(replies),
+            Err(_) => Err(AllocError),
+        }
+    }
+}
+
+/// The totals of all jobs, by lane, by dimension and in all, and the free regions of the machine.
+pub struct Report;
+
+impl Output for Report {
+    ghost use Rattle.cli_commands.specs.Report.{AreReportRows};
+
+    type Row = ReportRow;
+
+    ghost are_rows = { AreReportRows };
+
+    fn rows<F: Floor>(
+        alloc: Global,
+        n: u32,
+        finished: Finished<F::Machine>,
+    ) -> Result<Vec<ReportRow>, AllocError>
+    where
+        F::Machine: Drop,
+    {
+        report_rows::<F>(alloc, n, &finished)
+    }
+}
