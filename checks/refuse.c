@@ -1,6 +1,10 @@
-/* Refuses one request for memory of a program: the one whose number is in REFUSE, counted from 1; and one
- * start of a thread: the one whose number is in REFUSE_THREAD, and all after it. The numbers of requests
- * and of starts are written to the file that COUNT_FILE names, when the program ends.
+/* Refuses requests for memory of a program: as many as REFUSE_COUNT says (1 if it is not there, and all if it is 0),
+ * from the one whose number is in REFUSE on, counted from 1; and starts of threads: the one whose number is in
+ * REFUSE_THREAD, and all after it. The numbers of requests and of starts are written to the file that COUNT_FILE
+ * names, when the program ends.
+ *
+ * Where TELL is set, a line follows each line that the program writes to standard output: '#', and how many
+ * requests there were so far, how many of them were refused, and how many blocks of memory it holds.
  *
  * Build it with gcc -shared -fPIC, and name it in LD_PRELOAD. */
 #define _GNU_SOURCE
@@ -13,17 +17,25 @@
 #include <unistd.h>
 
 static unsigned long requests;
-static unsigned long refused;
+static unsigned long refusals;
+static unsigned long held;
+static unsigned long first_refused;
+static unsigned long most_refused;
 static unsigned long starts;
 static unsigned long first_refused_start;
+static int tells;
+
+static unsigned long number_in(const char *name, unsigned long otherwise) {
+    const char *word = getenv(name);
+    return word ? strtoul(word, NULL, 10) : otherwise;
+}
 
 __attribute__((constructor)) static void begin(void) {
-    const char *word = getenv("REFUSE");
-    refused = word ? strtoul(word, NULL, 10) : 0;
-    requests = 0;
-    word = getenv("REFUSE_THREAD");
-    first_refused_start = word ? strtoul(word, NULL, 10) : 0;
-    starts = 0;
+    first_refused = number_in("REFUSE", 0);
+    most_refused = number_in("REFUSE_COUNT", 1);
+    first_refused_start = number_in("REFUSE_THREAD", 0);
+    tells = getenv("TELL") != NULL;
+    requests = refusals = held = starts = 0;
 }
 
 __attribute__((destructor)) static void end(void) {
@@ -45,9 +57,14 @@ void _exit(int status) {
     }
 }
 
-/* Whether this request is the one to refuse. */
+/* Whether this request is one to refuse. */
 static int refuses(void) {
-    return __atomic_add_fetch(&requests, 1, __ATOMIC_SEQ_CST) == refused;
+    unsigned long number = __atomic_add_fetch(&requests, 1, __ATOMIC_SEQ_CST);
+    int is_refused = first_refused && number >= first_refused && (!most_refused || number - first_refused < most_refused);
+    if (is_refused) {
+        __atomic_add_fetch(&refusals, 1, __ATOMIC_SEQ_CST);
+    }
+    return is_refused;
 }
 
 int pthread_create(pthread_t *thread, const pthread_attr_t *attributes, void *(*body)(void *), void *argument) {
@@ -67,7 +84,11 @@ void *malloc(size_t size) {
     if (!real) {
         real = (void *(*)(size_t))dlsym(RTLD_NEXT, "malloc");
     }
-    return refuses() ? NULL : real(size);
+    void *block = refuses() ? NULL : real(size);
+    if (block) {
+        __atomic_add_fetch(&held, 1, __ATOMIC_SEQ_CST);
+    }
+    return block;
 }
 
 void *realloc(void *block, size_t size) {
@@ -75,5 +96,35 @@ void *realloc(void *block, size_t size) {
     if (!real) {
         real = (void *(*)(void *, size_t))dlsym(RTLD_NEXT, "realloc");
     }
-    return refuses() ? NULL : real(block, size);
+    void *grown = refuses() ? NULL : real(block, size);
+    if (grown && !block) {
+        __atomic_add_fetch(&held, 1, __ATOMIC_SEQ_CST);
+    }
+    return grown;
+}
+
+void free(void *block) {
+    static void (*real)(void *);
+    if (!real) {
+        real = (void (*)(void *))dlsym(RTLD_NEXT, "free");
+    }
+    if (block) {
+        __atomic_sub_fetch(&held, 1, __ATOMIC_SEQ_CST);
+    }
+    real(block);
+}
+
+/* Writes the line about the requests so far, which takes no memory. */
+static void tell(void) {
+    char line[80];
+    int length = snprintf(line, sizeof line, "# %lu %lu %lu\n", requests, refusals, held);
+    syscall(SYS_write, 1, line, length);
+}
+
+ssize_t write(int file, const void *bytes, size_t length) {
+    long written = syscall(SYS_write, file, bytes, length);
+    if (tells && file == 1 && written > 0 && ((const char *)bytes)[written - 1] == '\n') {
+        tell();
+    }
+    return written;
 }

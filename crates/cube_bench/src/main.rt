@@ -25,11 +25,16 @@
 //! of a machine of dimension 10, through a line of CAPACITY jobs. The jobs are made before. It prints
 //! the number of replies, and on standard error the nanoseconds from the opening of the shop to its
 //! end.
+//!
+//! `memory CALLS` makes calls that take memory, which is refused to them by whoever runs the program, and
+//! times nothing. CALLS is `cube`, `items`, `files`, or `shop SHOP JOBS` with SHOP as above and JOBS of one
+//! lane. After each call comes a line, its name and what came back, and it prints how many calls had memory.
 #![tactic(auto)]
 
 mod dispatch;
 mod jobs;
 mod line;
+mod memory;
 mod outcome;
 mod rounds;
 mod tree;
@@ -49,7 +54,7 @@ fn arguments<R: Env + AllocGlobal>(rt: &R) -> io::Result<Vec<String>> {
 }
 
 // Makes the measurement of these words, of which the first is its name.
-fn measure<R: Threads + Wait + Sync + Clock>(
+fn measure<R: Threads + Wait + Sync + Clock + Print>(
     rt: &R,
     alloc: Global,
     words: &[String],
@@ -62,6 +67,7 @@ fn measure<R: Threads + Wait + Sync + Clock>(
         "line" => line::measure(rt, alloc, words),
         "tree" => tree::measure(rt, alloc, words),
         "dispatch" => dispatch::measure(rt, alloc, words),
+        "memory" => memory::measure(rt, alloc, words),
         _ => Err(Stopped::BadWords),
     }
 }

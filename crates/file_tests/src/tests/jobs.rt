@@ -1,4 +1,4 @@
-//! Jobs that are answered, refused, and short of memory.
+//! Jobs that are answered, and jobs that are refused.
 
 ghost use Rattle.std.specs.Prelude.{◌≡◌, length};
 ghost use Rattle.cube_shape.specs.Region.{IsAligned};
@@ -124,6 +124,7 @@ fn answers_small_jobs(rt: HostRuntime) -> Result<(), Fail> {
             ),
             (3, sums, &[1, 2, 3, 4, 5, 6, 7, 8], &prefixes, 3, 24),
             (0, sums, &[7], &[Some(7)], 0, 0),
+            (1, sums, &[1, 2], &[1, 3].map(Some), 1, 2),
             (3, largest, &[2, 9, 4, 7], &[2, 9, 9, 9].map(Some), 2, 8),
             (
                 2,
@@ -254,20 +255,6 @@ fn a_refusal_gives_the_items_back(rt: HostRuntime) -> Result<(), Fail> {
             (3, reduce, &[4, 9, 1], JobRefused::NotPowerOfTwo),
         ],
     )
-}
-
-// With enough memory there is a job, and it is answered. Where its workspace is refused, the items
-// come back.
-#[test]
-fn without_memory_the_items_come_back(rt: HostRuntime) -> Result<(), Fail> {
-    match asked(&rt, rt.alloc(), 1, 0, Kind::Scan { op: Op::Add }, &[1, 2])? {
-        Ok(job) => expect_places(&rt, &answered(job, ID), &[Some(1), Some(3)]),
-        Err((back, refused)) => {
-            assert_eq!(rt; refused, JobRefused::OutOfMemory);
-            assert_eq!(rt; back.as_slice(), [1, 2].as_slice());
-        }
-    }
-    Ok(())
 }
 
 // Each of these reasons has this text.

@@ -1,0 +1,57 @@
+//! A cube is opened, and becomes one machine with all its stations.
+use crate::memory::told::{tell_given, tell_refused};
+use cube_tree::{Cube, CubeRefused, Solo, Station};
+use std::alloc::Global;
+use std::io;
+
+const DIM: u32 = 2;
+
+// The numbers of three stations, or as many as there are.
+fn numbers(stations: &[Station]) -> [u64; 3] {
+    let mut numbers = [u64::MAX; 3];
+    for (place, station) in stations.iter().enumerate() {
+        if let Some(number) = numbers.get_mut(place) {
+            *number = station.number() as u64;
+        }
+    }
+    numbers
+}
+
+// The first free region of a new machine is taken, and the machine is closed.
+fn hold_and_close<R: Print>(rt: &R, solo: Solo) -> io::Result<()> {
+    let mut solo = solo;
+    let told = match solo.take(0) {
+        Ok(station) => tell_given(rt, "Solo::new", &[station as u64]),
+        Err(_) => rt.println("Solo::new no region"),
+    };
+    let _machine = solo.close();
+    told
+}
+
+/// Opens a cube of three stations and makes one machine of it.
+pub fn call_all<R: Print>(rt: &R, alloc: Global) -> io::Result<u64> {
+    rt.println("begin")?;
+    let (cube, stations) = match Cube::open(alloc, DIM, 3) {
+        Ok(opened) => opened,
+        Err(CubeRefused::OutOfMemory) => {
+            tell_refused(rt, "Cube::open", &[])?;
+            return Ok(0);
+        }
+        Err(_) => return Ok(0),
+    };
+    let opened = tell_given(rt, "Cube::open", &numbers(&stations));
+    match Solo::new(alloc, cube, stations) {
+        Ok(solo) => {
+            hold_and_close(rt, solo)?;
+            opened?;
+            Ok(2)
+        }
+        Err((cube, stations, _)) => {
+            let refused = tell_refused(rt, "Solo::new", &numbers(&stations));
+            let _machine = cube.close_with(stations);
+            opened?;
+            refused?;
+            Ok(1)
+        }
+    }
+}
