@@ -1,0 +1,11 @@
+pub use Rattle.job_queue.specs.Line.{IsFor}
+pub use Rattle.floors.specs.Floor.{IsWhollyFree}
+pub use Rattle.cube_tree.specs.Ends.{machine_dim, machine_words}
+pub use Rattle.tree_floor.specs.Roll.{IsRollWhole}
+pub use Rattle.dispatcher.specs.Answers.{AnswersAll, all_replies}
+pub use Rattle.dispatcher.specs.Order.{AreInOrder, AreSorted}
+pub use Rattle.dispatcher.specs.Opening.{refusal_of}
+pub use Rattle.dispatcher.specs.Finished.{FinishedRun}
+pub use Rattle.crew.specs.Run.{by_worker_of, IsRun}
+pub use Rattle.crew.specs.Done.{IsDone, reason_of}
+pub use Rattle.crew.specs.Stopped.{MatchStopped}

@@ -1,0 +1,35 @@
+//! A caller of `cubejobs`, which names no other crate.
+
+ghost use Rattle.std.specs.Prelude.{ℕ, ◌^◌, ◌<◌, [], IfSome, map, length, slice_index_or};
+ghost use Rattle.std.specs.List.{All};
+ghost use Rattle.cubejobs.specs.{AreInOrder, IsFor};
+
+use cubejobs::{Job, Plain, Reply, RunEnd, answer_all, sorted_replies};
+use std::alloc::Global;
+use std::collections::VecDeque;
+use std::sync::Wait;
+use std::thread::Threads;
+
+/// The replies to the jobs of all lanes, one for each, lane by lane: four workers answer them on a
+/// machine of dimension `n`. There is no answer where memory or a thread was refused.
+pub fn answer_in_order<R: Threads + Wait + Sync>(
+    rt: &R,
+    alloc: Global,
+    n: u32,
+    jobs: Vec<VecDeque<Job>>,
+) -> Option<Vec<Reply>>
+    requires lanes { length jobs.items < 2 ^ 32 }
+    requires made_for { (k : ℕ) → k < length jobs.items →
+        All (IsFor n k) (slice_index_or (map (λ js. js.items) jobs.items) k []) }
+    ensures in_order { IfSome result (λ replies.
+        AreInOrder n (map (λ js. js.items) jobs.items) replies.items) }
+{
+    let Ok(end) = answer_all(rt, alloc, n, 4, 16, &Plain, jobs) else {
+        return None;
+    };
+    let RunEnd { finished, .. } = end;
+    let Ok(replies) = sorted_replies(alloc, finished) else {
+        return None;
+    };
+    Some(replies)
+}
