@@ -11,7 +11,7 @@ use std::alloc::Global;
 use std::process::Abort;
 use std::sync::Wait;
 use tree_floor::TreeFloor;
-use uses::hold_pair;
+use uses::{Hoarding, hold_pair};
 
 // A floor with its stations.
 pub fn opened<F: Floor>(
@@ -175,4 +175,10 @@ fn a_pair_holds_the_first_regions_with_no_lock(rt: HostRuntime) {
 #[test]
 fn a_pair_holds_the_first_regions_under_a_lock(rt: HostRuntime) {
     a_pair_holds_the_first_regions::<_, LockedFloor>(&rt, rt.alloc());
+}
+
+// A floor that hoards meets the contract of floors too.
+#[test]
+fn a_pair_holds_the_first_regions_of_a_hoarder(rt: HostRuntime) {
+    a_pair_holds_the_first_regions::<_, Hoarding<TreeFloor>>(&rt, rt.alloc());
 }
