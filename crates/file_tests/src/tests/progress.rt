@@ -51,7 +51,9 @@ where
 #[test]
 fn shows_progress(rt: HostRuntime) -> Result<(), Fail> {
     let shown = run_on_terminal(&rt, false, Vec::new(rt.alloc()))?;
-    assert!(rt; shown.is_some_and(|text| text.is_empty() || text.as_slice().ends_with(WIPE.as_bytes())));
+    assert!(rt;
+        shown.is_some_and(|text| text.is_empty() || text.as_slice().ends_with(WIPE.as_bytes()))
+    );
     let shown = run_on_terminal(&rt, true, Vec::new(rt.alloc()))?;
     assert!(rt; shown.is_some_and(|text| text.is_empty()));
     let failing = FailsAt::new(Vec::new(rt.alloc()), 0);
