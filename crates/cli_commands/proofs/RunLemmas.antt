@@ -2,7 +2,6 @@
 use Rattle.std.proofs.Common.{◌≡◌, ℕ, ◌≤◌, Bool, true, false, not, ◌&&◌, true≢false, List, Option, Some, None, IfSome, IfErr, OnOk, Result, Ok, Err, Vec, Global, length, map, refl, sym, ap, subst, ◌∙◌, if◌then◌else◌}
 use Rattle.std.specs.Prelude.{Any}
 use Rattle.std.specs.Bool.{⊤}
-use Rattle.std.specs.List.{list_any}
 use Rattle.std.specs.List.Sorted.{IsPermutation}
 use Rattle.std.specs.Io.KnownBytes.{Appends}
 use Rattle.std.proofs.lemmas.List.{length-map}
@@ -17,7 +16,7 @@ use Rattle.dispatcher.specs.Reply.{answered, IsRight}
 use Rattle.dispatcher.specs.declared.feeding.FeedStop.{FeedStop}
 use Rattle.dispatcher.specs.declared.feeding.FeedStop.TheVariants.{Done, Closed, LaneSpent, Turns}
 use Rattle.dispatcher.specs.declared.finishing.Finished.{Finished}
-use Rattle.crew.specs.Done.{is_cut_off, is_idle, is_spent, reason_of}
+use Rattle.crew.specs.Done.{is_spent, reason_of}
 use Rattle.crew.specs.Run.{by_worker_of, IsLaneEnd, IsRun, IsStopOf}
 use Rattle.crew.specs.Stopped.{MatchStopped}
 use Rattle.crew.specs.declared.answering.StopReason.{StopReason}
