@@ -1,7 +1,10 @@
 // The threads of a run. Nothing else in this crate starts one.
 use std::sync::Wait;
 use std::thread;
-use std::thread::Threads;
+use std::thread::{Builder, Threads};
+
+// The bytes of each thread's stack, whatever the process's own limit is. A run was seen to need some 104 KB.
+const STACK_BYTES: usize = 1 << 21;
 
 // Members that wait for a thread each, and how a thread works at one of them.
 pub trait Crew {
@@ -26,6 +29,11 @@ pub trait Crew {
         requires { is_ready self.now };
 }
 
+// A thread to be started, with a stack of that size.
+fn with_stack() -> Builder {
+    Builder::new().stack_size(STACK_BYTES)
+}
+
 // Starts a thread for each worker, and then one for each feeder; closes the shop once all feeders have
 // ended, and waits for the workers. Where a thread cannot be started no other one is.
 pub fn run_threads<R: Threads + Wait + Sync, C: Crew + Sync>(rt: &R, crew: &C)
@@ -40,8 +48,9 @@ pub fn run_threads<R: Threads + Wait + Sync, C: Crew + Sync>(rt: &R, crew: &C)
             let mut started = true;
             for index in 0..crew.worker_count() {
                 if started {
-                    started = workers
-                        .spawn(
+                    started = with_stack()
+                        .spawn_scoped(
+                            workers,
                             move ||
                                 requires { C.is_ready crew.now }
                             { crew.work(rt, index) },
@@ -71,8 +80,9 @@ fn feed_on_threads<R: Threads + Wait + Sync, C: Crew + Sync>(rt: &R, crew: &C)
             let mut started = true;
             for index in 0..crew.feeder_count() {
                 if started {
-                    started = feeders
-                        .spawn(
+                    started = with_stack()
+                        .spawn_scoped(
+                            feeders,
                             move ||
                                 requires { C.is_ready crew.now }
                             { crew.feed(rt, index) },
