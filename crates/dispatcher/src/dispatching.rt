@@ -5,7 +5,6 @@ ghost use Rattle.dispatcher.specs.Members.{IsWorkerOf, IsEndOf, worker_record, s
 ghost use Rattle.dispatcher.specs.Stop.{FindsTheEnd};
 
 use crate::limit::is_reached;
-use crate::pause::Pause;
 use crate::runner::Runner;
 use crate::serving::serve;
 use crate::shop::Shop;
@@ -14,8 +13,10 @@ use crate::worker::{Worker, WorkerEnd};
 use floors::Floor;
 use job_queue::{JobLine, Taken};
 use job_types::Reply;
+use pause::Pause;
 use std::alloc::Global;
 use std::sync::Wait;
+use std::thread::yield_now;
 
 // Why the worker takes no further job: its replies are as many as the limit, or there is no room for one
 // more. With `None` there is room.
@@ -35,6 +36,25 @@ fn make_room(replies: &mut Vec<Reply>, limit: Option<u32>) -> Option<Stop>
         return Some(Stop::OutOfMemory);
     };
     None
+}
+
+// Waits for the length of a pause, or until a job looks waiting.
+fn wait_for_job<R: Wait, L: JobLine, F: Floor>(
+    rt: &R,
+    shop: &Shop<L, F>,
+    pass: &mut L::Pass,
+    pause: &mut Pause,
+)
+    requires { L.is_pass shop.now.line pass.old }
+    ensures pass { L.is_pass shop.now.line pass.new }
+    ensures unchanged { L.pass_record pass.new ≡ L.pass_record pass.old }
+{
+    for _ in 0..pause.next_burst(rt) {
+        yield_now();
+        if shop.line.job_hint(rt, pass) {
+            return;
+        }
+    }
 }
 
 // Takes jobs and answers each, until the line has ended or there are as many replies as the limit says.
@@ -78,7 +98,7 @@ fn work<R: Wait, L: JobLine, F: Floor, T: Runner>(
                 replies.push_reserved(reply);
                 pause.reset();
             }
-            Taken::EmptyNow => pause.wait(rt),
+            Taken::EmptyNow => wait_for_job(rt, shop, &mut pass, &mut pause),
             Taken::Ended(_) => {
                 return WorkerEnd {
                     pass,

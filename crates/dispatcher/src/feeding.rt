@@ -8,14 +8,15 @@ ghost use Rattle.dispatcher.specs.Stop.{given_back, EndsWith};
 ghost use Rattle.dispatcher.specs.Feed.{HandsIn, full_since};
 
 use crate::limit::is_reached;
-use crate::pause::Pause;
 use crate::shop::Shop;
 use cube_shape::MAX_ENTRIES;
 use floors::Floor;
 use job_queue::{JobLine, Refused};
 use job_types::Job;
+use pause::Pause;
 use std::collections::VecDeque;
 use std::sync::Wait;
+use std::thread::yield_now;
 
 /// Why a feed has stopped.
 #[derive(Clone, Copy, Debug, PartialEq, Eq, Hash)]
@@ -42,6 +43,25 @@ pub struct FeedEnd {
     pub left: VecDeque<Job>,
     /// Why the feed has stopped.
     pub stop: FeedStop,
+}
+
+// Waits for the length of a pause, or until half of the line looks free.
+fn wait_for_room<R: Wait, L: JobLine, F: Floor>(
+    rt: &R,
+    shop: &Shop<L, F>,
+    lane: &mut L::Lane,
+    pause: &mut Pause,
+)
+    requires { L.is_lane shop.now.line lane.old }
+    ensures lane { L.is_lane shop.now.line lane.new }
+    ensures unchanged { L.lane_record lane.new ≡ L.lane_record lane.old }
+{
+    for _ in 0..pause.next_burst(rt) {
+        yield_now();
+        if shop.line.room_hint(rt, lane) {
+            return;
+        }
+    }
 }
 
 // Hands in the jobs, until one is refused for good or the line was full as often as the limit says.
@@ -95,7 +115,7 @@ fn hand_in<R: Wait, L: JobLine, F: Floor>(
                     FeedStop::Turns
                 } else {
                     left.push_front_reserved(job);
-                    pause.wait(rt);
+                    wait_for_room(rt, shop, lane, &mut pause);
                     continue;
                 }
             }

@@ -12,7 +12,6 @@ mod feeding;
 mod finishing;
 mod limit;
 mod opening;
-mod pause;
 mod room;
 mod runner;
 mod serving;

@@ -174,6 +174,20 @@ pub trait JobLine {
         ensures spent_only { IfErr result (λ r. r.1 ≡ Refused.LaneSpent →
             MAX_ENTRIES ≤ length (lane_record lane.old).entries) };
 
+    /// Whether half of the line's places look free. It is a hint for a feeder that waits, and says nothing of
+    /// what a call will find. A line that cannot tell without a try answers that they do.
+    fn room_hint<R: Wait>(&self, rt: &R, lane: &mut Self::Lane) -> bool
+        requires { is_lane (id self.now) lane.old }
+        ensures lane { is_lane (id self.now) lane.new }
+        ensures unchanged { lane_record lane.new ≡ lane_record lane.old };
+
+    /// Whether a job looks waiting. It is a hint for a worker that waits, and says nothing of what a call
+    /// will find. A line that cannot tell without a try answers that one does.
+    fn job_hint<R: Wait>(&self, rt: &R, pass: &mut Self::Pass) -> bool
+        requires { is_pass (id self.now) pass.old }
+        ensures pass { is_pass (id self.now) pass.new }
+        ensures unchanged { pass_record pass.new ≡ pass_record pass.old };
+
     /// Takes the job at the front of the line, if there is one.
     fn take<R: Wait>(&self, rt: &R, pass: &mut Self::Pass) -> Taken<Self::End>
         requires { is_pass (id self.now) pass.old }

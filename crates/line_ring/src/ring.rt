@@ -177,7 +177,25 @@ impl<T: Piece> Ring<T> {
         }
     }
 
-    /// How many pieces the ring holds at one moment of the call.
+    /// How many pieces the ring holds at most.
+    pub fn capacity(&self) -> usize
+        ensures { result ≡ self.now.capacity }
+    {
+        self.queue.capacity()
+    }
+
+    /// How many pieces the ring holds at one moment of the call, as a lane finds it.
+    pub fn len_by_lane<R: Wait>(&self, rt: &R, lane: &mut RingLane<T>) -> usize
+        requires { lane.old.ring ≡ self.now.id }
+        ensures lane { lane.new.ring ≡ self.now.id }
+        ensures unchanged { lane.new.known ≡ lane.old.known }
+        ensures few { result ≤ self.now.capacity }
+        ensures held { HeldBesideLane T.lane T.seq lane.old.known result }
+    {
+        self.queue.len_as::<Put, R>(rt, &mut lane.seat)
+    }
+
+    /// How many pieces the ring holds at one moment of the call, as a pass finds it.
     pub fn len<R: Wait>(&self, rt: &R, pass: &mut RingPass<T>) -> usize
         requires { pass.old.ring ≡ self.now.id }
         ensures pass { pass.new.ring ≡ self.now.id }

@@ -6,10 +6,10 @@ ghost use Rattle.locked_cell.specs.Cell.{Took, MayTry, Leaves};
 
 use crate::rule::{CellRule, Enter};
 use atomic_table::{Join, Play, Refused, Seat, Split, Table};
+use pause::Pause;
 use std::alloc::{AllocError, Global};
 use std::hint::spin_loop;
 use std::sync::{Mutex, Wait};
-use std::thread::yield_now;
 
 // How often a call tries to take the value before it goes to the door. Most calls hold it for less time.
 const TRIES: u32 = 30;
@@ -132,11 +132,12 @@ impl<S: Drop, V, K, R: CellRule<S, V, K>> LockedCell<S, V, K, R> {
             return;
         }
         let _door = self.door.lock(rt);
+        let mut pause = Pause::new();
         for _ in rt.forever() {
             if self.try_some(seat) {
                 return;
             }
-            yield_now();
+            pause.wait(rt);
         }
         unreachable!()
     }

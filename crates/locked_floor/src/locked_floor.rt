@@ -10,9 +10,9 @@ use crate::bits_lock::{BitsLock, Seat};
 use crate::handle::{FreeMachine, Held, Station};
 use crate::members::{deal_stations, gather_stations};
 use crate::view::Size;
-use crossbeam_utils::Backoff;
 use cube_shape::{MAX_DIM, MAX_STATIONS, Region};
 use floors::Floor;
+use pause::Pause;
 use std::alloc::{AllocError, Global};
 use std::sync::Wait;
 
@@ -102,7 +102,7 @@ impl Floor for LockedFloor {
 
     fn take<R: Wait>(&self, rt: &R, station: Station, k: u32) -> Held {
         let Station { number, mut seat } = station;
-        let backoff = Backoff::new();
+        let mut pause = Pause::new();
         for _ in rt.forever() {
             if let Some(region) = self.try_take(rt, &mut seat, number, k) {
                 return Held {
@@ -111,7 +111,7 @@ impl Floor for LockedFloor {
                     seat,
                 };
             }
-            backoff.snooze();
+            pause.wait(rt);
         }
         unreachable!()
     }

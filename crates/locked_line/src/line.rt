@@ -90,6 +90,14 @@ impl JobLine for LockedLine {
         }
     }
 
+    fn room_hint<R: Wait>(&self, _rt: &R, _lane: &mut LockedLane) -> bool {
+        true
+    }
+
+    fn job_hint<R: Wait>(&self, _rt: &R, _pass: &mut LockedPass) -> bool {
+        true
+    }
+
     fn take<R: Wait>(&self, rt: &R, pass: &mut LockedPass) -> Taken<LockedEnd> {
         self.lock.enter(rt, &mut pass.seat);
         match self.lock.pop(&mut pass.seat) {

@@ -100,6 +100,14 @@ impl JobLine for RuledLine {
         }
     }
 
+    fn room_hint<R: Wait>(&self, rt: &R, lane: &mut RuledLane) -> bool {
+        self.ring.len_by_lane(rt, &mut lane.ring) <= self.ring.capacity() / 2
+    }
+
+    fn job_hint<R: Wait>(&self, rt: &R, pass: &mut RuledPass) -> bool {
+        self.ring.len(rt, &mut pass.ring) > 0
+    }
+
     fn take<R: Wait>(&self, rt: &R, pass: &mut RuledPass) -> Taken<RuledEnd> {
         let saw = match self.ring.pop(rt, &mut pass.ring) {
             Ok(QueuedJob { id, job }) => return Taken::Job(id, job),

@@ -4,10 +4,10 @@ ghost use Rattle.std.specs.List.{All};
 ghost use Rattle.cube_shape.specs.Region.{AreApart, IsAligned};
 ghost use Rattle.floors.specs.Floor.{IsWhollyFree};
 
-use crossbeam_utils::Backoff;
 use cube_shape::{MAX_DIM, MAX_STATIONS, Region};
 use cube_tree::{Cube, FreeMachine, Station, Subcube, apart};
 use floors::Floor;
+use pause::Pause;
 use std::alloc::{AllocError, Global};
 use std::sync::Wait;
 
@@ -67,13 +67,13 @@ impl Floor for TreeFloor {
 
     fn take<R: Wait>(&self, rt: &R, station: Station, k: u32) -> Subcube {
         let mut station = station;
-        let backoff = Backoff::new();
+        let mut pause = Pause::new();
         for _ in rt.forever() {
             match station.try_take_skipping(&self.cube, k) {
                 Ok(subcube) => return subcube,
                 Err((back, _)) => station = back,
             }
-            backoff.snooze();
+            pause.wait(rt);
         }
         unreachable!()
     }

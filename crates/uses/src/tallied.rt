@@ -127,6 +127,14 @@ impl<L: JobLine> JobLine for Tallied<L> {
         self.line.submit(rt, lane, job)
     }
 
+    fn room_hint<R: Wait>(&self, rt: &R, lane: &mut L::Lane) -> bool {
+        self.line.room_hint(rt, lane)
+    }
+
+    fn job_hint<R: Wait>(&self, rt: &R, pass: &mut L::Pass) -> bool {
+        self.line.job_hint(rt, pass)
+    }
+
     fn take<R: Wait>(&self, rt: &R, pass: &mut L::Pass) -> Taken<Tally> {
         match self.line.take(rt, pass) {
             Taken::Job(id, job) => {

@@ -1,6 +1,7 @@
 use Rattle.std.proofs.Common.{rules, ℕ, ◌≡◌, ◌<◌, Some, map, length, refl, sym, ap, ◌∙◌, arith}
 use Rattle.std.proofs.lemmas.List.{length_push}
 use Rattle.std.proofs.lemmas.List.Elements.{All-push, All-same}
+use Rattle.job_queue.specs.declared.record.PassRecord.{PassRecord}
 use Rattle.dispatcher.specs.Reply.{answered, region_of, IsRight}
 use Rattle.dispatcher.proofs.WorkLemmas.{gained, kept, at_line, at_floor, below_limit}
 use Rattle.dispatcher.proofs.dispatching.work.Goals as goal
@@ -26,15 +27,19 @@ pub loop-preserved : goal.loop-preserved
 loop-preserved g c =
     let inv = c.loop.invariant in
     let reserved = c.make_room.ensures.items in
+    let same = ap (λ (r : PassRecord). r.taken) c.wait_for_job.ensures.unchanged in
     let few : (most : ℕ) → c.args.limit ≡ Some most → length c.make_room.new.replies.items < most = below_limit c.args.limit (length c.make_room.new.replies.items) (λ most is. omega (arith, ap length reserved, inv.5 most is)) (c.make_room.ensures.fewer (search rules)) in (
-      at_line (λ i. g.L.JobLine.is_pass i c.take.new.pass) _ _ c.shop.view_is c.in-EmptyNow.ensures.pass,
+      c.wait_for_job.ensures.pass,
       inv.1,
-      kept answered _ _ _ _ inv.2 c.in-EmptyNow.ensures.taken reserved,
+      same ∙ kept answered _ _ _ _ inv.2 c.in-EmptyNow.ensures.taken reserved,
       inv.3 ∙ ap (map region_of) (sym reserved),
       All-same (IsRight c.args.shop.now.floor.dim) _ _ reserved inv.4,
       λ most is. omega (arith, few most is),
       λ zero. absurd (omega (arith, few 0 zero)),
     )
+
+pub wait_for_job-requires : goal.wait_for_job-requires
+wait_for_job-requires g c = at_line (λ i. g.L.JobLine.is_pass i c.take.new.pass) _ _ c.shop.view_is c.in-EmptyNow.ensures.pass
 
 pub returns-in-Ended-clause-of_shop : goal.returns-in-Ended-clause-of_shop
 returns-in-Ended-clause-of_shop g c =

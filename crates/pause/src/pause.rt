@@ -1,0 +1,69 @@
+// The pause between two tries.
+ghost use Rattle.std.specs.Prelude.{◌≤◌};
+
+use std::sync::Wait;
+use std::thread::{Parker, yield_now};
+use std::time::Duration;
+
+// How often a caller yields before its second try. Each burst of yields is twice as long as the one before.
+const FIRST_BURST: u32 = 2;
+
+/// How often a caller yields in the last burst before it sleeps. All bursts together take about as long as
+/// one sleep costs.
+pub const LONGEST_BURST: u32 = 64;
+
+// The first sleep and the longest one, in microseconds.
+const FIRST_SLEEP: u64 = 50;
+
+const LONGEST_SLEEP: u64 = 800;
+
+/// Pauses that grow until a try has success. Nothing wakes a caller that sleeps, and none sleeps for long.
+#[derive(Drop)]
+pub struct Pause {
+    // How often the caller yields in the next burst. There is none after the longest.
+    burst: u32,
+    // The next sleep, in microseconds.
+    sleep: u64,
+    // Nobody wakes it, so each sleep takes its time.
+    sleeper: Parker,
+}
+
+impl Pause {
+    /// The pauses of a caller that has not tried yet.
+    pub fn new() -> Self {
+        Pause {
+            burst: FIRST_BURST,
+            sleep: FIRST_SLEEP,
+            sleeper: Parker::new(),
+        }
+    }
+
+    /// Begins anew, since a try had success.
+    pub fn reset(&mut self) {
+        self.burst = FIRST_BURST;
+        self.sleep = FIRST_SLEEP;
+    }
+
+    /// How often the caller is to yield before its next try. Once there is no further burst it
+    /// sleeps here, and the answer is 0. A caller may stop yielding as soon as it sees that a try may have success.
+    pub fn next_burst<R: Wait>(&mut self, rt: &R) -> u32
+        ensures { result ≤ LONGEST_BURST }
+    {
+        let burst = self.burst;
+        if burst <= LONGEST_BURST {
+            self.burst = burst.saturating_mul(2);
+            return burst;
+        }
+        let sleep = Duration::from_micros(self.sleep);
+        self.sleeper.park_timeout(rt, sleep);
+        self.sleep = self.sleep.saturating_mul(2).min(LONGEST_SLEEP);
+        0
+    }
+
+    /// Waits for the length of a pause.
+    pub fn wait<R: Wait>(&mut self, rt: &R) {
+        for _ in 0..self.next_burst(rt) {
+            yield_now();
+        }
+    }
+}
