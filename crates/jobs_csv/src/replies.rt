@@ -4,9 +4,9 @@ ghost use Rattle.jobs_csv.specs.Replies.{collective_keyword, places_text};
 ghost use Rattle.jobs_csv.specs.Text.{IsPlainField, number_text};
 
 use crate::row::{Row, RowFields};
+use itoa::Buffer;
 use job_types::{Kind, Reply};
 use std::alloc::{AllocError, Global};
-use std::fmt::Write as _;
 
 // The keyword of a collective.
 #[tactic(auto, using(crate::proofs::PlainLemmas::plain_collective))]
@@ -28,7 +28,10 @@ fn push_item(text: &mut String, item: Option<u64>) -> Result<(), AllocError>
     ensures plain { IsPlainField (number_text item) }
 {
     match item {
-        Some(item) => return write!(text, "{item}"),
+        Some(item) => {
+            let mut digits = Buffer::new();
+            return text.push_str(digits.format(item));
+        }
         None => return text.push_str("-"),
     }
 }

@@ -6,8 +6,8 @@ ghost use Rattle.jobs_csv.specs.Inner.Output.{AddsLine, HasPlainFields, items_he
 ghost use Rattle.jobs_csv.specs.Text.{IsPlainField, number_text};
 
 use csv::{ByteRecord, Writer};
+use itoa::Buffer;
 use std::alloc::{AllocError, Global};
-use std::fmt::Write as _;
 use std::marker::Model;
 
 /// A row that is written: its columns and its fields.
@@ -38,7 +38,6 @@ pub trait Row {
 #[derive(Drop)]
 pub struct RowFields {
     fields: ByteRecord,
-    digits: String,
 }
 
 impl Model for RowFields {
@@ -74,7 +73,6 @@ impl RowFields {
     {
         RowFields {
             fields: ByteRecord::new(alloc),
-            digits: String::new(alloc),
         }
     }
 
@@ -97,9 +95,8 @@ impl RowFields {
     pub fn push_number(&mut self, number: u64) -> Result<(), AllocError>
         ensures { OnOk result (self.new ≡ self.old ++ decimal number ∷ []) }
     {
-        self.digits.clear();
-        write!(self.digits, "{number}")?;
-        push_plain(&mut self.fields, self.digits.as_bytes())
+        let mut digits = Buffer::new();
+        push_plain(&mut self.fields, digits.format(number).as_bytes())
     }
 
     /// Pushes a number, or a dash for nothing.
