@@ -1,6 +1,5 @@
 -- What a feeder and a worker keep.
 use Rattle.std.proofs.Common.{◌≡◌, ◌≢◌, ℕ, ◌≤◌, length, ◌++◌, ◌∷◌, [], List, Option, Some, None, rules, refl, ap, sym, subst, ◌∙◌, append_assoc}
-use Rattle.std.specs.List.{All}
 use Rattle.std.specs.Option.{MatchOption}
 use Rattle.std.proofs.lemmas.List.{append-nil}
 use Rattle.job_types.specs.Job.{JobData}
@@ -13,7 +12,7 @@ use Rattle.job_queue.specs.declared.job_line.Refused.{Refused}
 use Rattle.job_queue.specs.declared.job_line.Refused.TheVariants as refused
 use Rattle.job_queue.proofs.FeedLemmas.{fed_one, fed_none}
 use Rattle.dispatcher.specs.declared.feeding.FeedStop.{FeedStop}
-use Rattle.dispatcher.specs.declared.feeding.FeedStop.TheVariants.{Closed, LaneSpent, Turns}
+use Rattle.dispatcher.specs.declared.feeding.FeedStop.TheVariants.{Closed, LaneSpent}
 use Rattle.dispatcher.specs.Stop.{given_back}
 use Rattle.crew.specs.declared.member.Progress.{Progress}
 use Rattle.crew.specs.declared.member.Progress.TheVariants.{NotRun, UnderWay, Stopped}

@@ -1,4 +1,4 @@
-use Rattle.std.proofs.Common.{◌≡◌, ◌-◌}
+use Rattle.std.proofs.Common.{◌-◌}
 use Rattle.std.specs.Vec.{vec_len}
 use Rattle.crew.proofs.gang.Gang.round.Given as goal
 
