@@ -1,39 +1,81 @@
--- What a feeder keeps.
-use Rattle.std.proofs.Common.{◌≡◌, ◌≢◌, ℕ, ◌≤◌, length, ◌++◌, ◌∷◌, [], List, Option, Some, None, false, refl, ap, sym, subst, ◌∙◌}
-use Rattle.std.specs.List.{All}
-use Rattle.std.specs.Option.{is_some, IsSome, MatchOption}
-use Rattle.std.proofs.lemmas.Bool.{true≢false}
+-- What a feeder and a worker keep.
+use Rattle.std.proofs.Common.{◌≡◌, ◌≢◌, ℕ, ◌≤◌, length, ◌++◌, ◌∷◌, [], List, Option, Some, None, rules, refl, ap, sym, subst, ◌∙◌, append_assoc}
+use Rattle.std.specs.Option.{MatchOption}
 use Rattle.std.proofs.lemmas.List.{append-nil}
-use Rattle.std.proofs.lemmas.List.Elements.{All-tail}
 use Rattle.job_types.specs.Job.{JobData}
 use Rattle.cube_shape.specs.declared.limits.TheConstants.{MAX_ENTRIES}
+use Rattle.job_queue.specs.Record.{accepted_jobs}
+use Rattle.job_queue.specs.Line.{GainsEntry, GainsRefusal}
 use Rattle.job_queue.specs.declared.record.LaneRecord.{LaneRecord}
+use Rattle.job_queue.specs.declared.record.QueuedJob.{QueuedJob}
+use Rattle.job_queue.specs.declared.job_line.Refused.{Refused}
+use Rattle.job_queue.specs.declared.job_line.Refused.TheVariants as refused
+use Rattle.job_queue.proofs.FeedLemmas.{fed_one, fed_none}
 use Rattle.dispatcher.specs.declared.feeding.FeedStop.{FeedStop}
-use Rattle.dispatcher.specs.declared.feeding.FeedStop.TheVariants.{Done, Closed, LaneSpent, Turns}
-use Rattle.dispatcher.specs.Stop.{given_back, EndsWith}
-use Rattle.crew.specs.InnerStop.{StopsBy}
+use Rattle.dispatcher.specs.declared.feeding.FeedStop.TheVariants.{Closed, LaneSpent}
+use Rattle.dispatcher.specs.Stop.{given_back}
+use Rattle.crew.specs.declared.member.Progress.{Progress}
+use Rattle.crew.specs.declared.member.Progress.TheVariants.{NotRun, UnderWay, Stopped}
+use Rattle.crew.specs.InnerStop.{HasCome, StopsBy}
 
-pub all_after : {A : Type 0} (P : A → Type 0) (xs ys : List A) → All P (xs ++ ys) → All P ys
-all_after P [] ys all = all
-all_after P (x ∷ xs) ys all = all_after P xs ys (All-tail P x (xs ++ ys) all)
+-- a feeder that has not stopped has no job back
+pub none_back : (lane : LaneRecord) (back : Option JobData) (left : List JobData) (progress : Progress) → HasCome lane back left progress → ((stop : FeedStop) → progress ≢ Stopped stop) → back ≡ None
+none_back lane back left NotRun has goes_on = has.1
+none_back lane back left UnderWay has goes_on = has
+none_back lane back left (Stopped stop) has goes_on = absurd (goes_on stop refl)
 
--- nothing came back
-pub none_back : (back : Option JobData) → is_some back ≡ false → given_back back ≡ []
-none_back None none = refl
-none_back (Some job) none = absurd (true≢false none)
+-- and so its jobs are those that are accepted and those that are left
+without : (js : List JobData) (back : Option JobData) (xs : List JobData) → back ≡ None → js ++ given_back back ++ xs ≡ js ++ xs
+without js back xs none = ap (λ (b : Option JobData). js ++ given_back b ++ xs) none ∙ ap (λ (ys : List JobData). ys ++ xs) (append-nil js)
 
--- what is accepted, came back and is left stays the same list
-pub still : (accepted before : List JobData) (back_before back : Option JobData) (given left : List JobData) (all : List JobData) → given_back back_before ≡ [] → accepted ++ given_back back ++ left ≡ before ++ given
-    → before ++ given_back back_before ++ given ≡ all → accepted ++ given_back back ++ left ≡ all
-still accepted before back_before back given left all none fed start = fed ∙ (sym (ap (λ (js : List JobData). js ++ given) (append-nil before)) ∙ (ap (λ (js : List JobData). before ++ js ++ given) (sym none) ∙ start))
+-- its next job is accepted
+pub one_more : (old new : LaneRecord) (number : ℕ) (q : QueuedJob) (back : Option JobData) (left rest : List JobData) (jobs : ℕ → List JobData) → back ≡ None → GainsEntry old number (Some q) new → left ≡ q.job ∷ rest → accepted_jobs old ++ given_back back ++ left ≡ jobs old.number
+    → accepted_jobs new ++ given_back back ++ rest ≡ jobs new.number
+one_more old new number q back left rest jobs none gains items all =
+    without (accepted_jobs new) back rest none
+    ∙ (fed_one old new number q rest gains
+    ∙ (ap (λ (xs : List JobData). accepted_jobs old ++ xs) (sym items)
+    ∙ (sym (without (accepted_jobs old) back left none)
+    ∙ (all ∙ ap (λ (r : LaneRecord). jobs r.number) (sym gains)))))
 
--- why a feed stopped, from what it says of each answer
-pub stop_of : (lane : LaneRecord) (back : Option JobData) (left : List JobData) (stop : FeedStop) → (stop ≡ Done → given_back back ++ left ≡ []) → (stop ≢ Done → IsSome back) → ((seen : ℕ) → stop ≡ Closed seen → EndsWith lane.seen seen) → (stop ≡ LaneSpent → MAX_ENTRIES ≤ length lane.entries) → stop ≢ Turns
-    → StopsBy lane back left (Some stop)
-stop_of lane back left Done done refused closed spent no_limit = done refl
-stop_of lane back left (Closed seen) done refused closed spent no_limit = (refused (λ is. cc (is)), closed seen refl)
-stop_of lane back left LaneSpent done refused closed spent no_limit = (refused (λ is. cc (is)), spent refl)
-stop_of lane back left Turns done refused closed spent no_limit = absurd (no_limit refl)
+-- the line is full, and it comes back to its place
+pub as_before : (old new : LaneRecord) (number : ℕ) (back : Option JobData) (left again : List JobData) (jobs : ℕ → List JobData) → GainsEntry old number None new → again ≡ left → accepted_jobs old ++ given_back back ++ left ≡ jobs old.number
+    → accepted_jobs new ++ given_back back ++ again ≡ jobs new.number
+as_before old new number back left again jobs gains items all =
+    ap (λ (js : List JobData). js ++ given_back back ++ again) (fed_none old new number gains)
+    ∙ (ap (λ (xs : List JobData). accepted_jobs old ++ given_back back ++ xs) items
+    ∙ (all ∙ ap (λ (r : LaneRecord). jobs r.number) (sym gains)))
+
+-- no refusal brings a job
+accepts_none : (old new : LaneRecord) (why : Refused) → GainsRefusal old why new → accepted_jobs new ≡ accepted_jobs old
+accepts_none old new (refused.Closed seen) gains = ap accepted_jobs gains
+accepts_none old new refused.Full gains = fed_none old new gains.0 gains.1
+accepts_none old new refused.LaneSpent gains = ap accepted_jobs gains
+
+-- it is refused for good
+pub given_up : (old new : LaneRecord) (why : Refused) (job : JobData) (before back : Option JobData) (left rest : List JobData) (jobs : ℕ → List JobData) → GainsRefusal old why new → before ≡ None → back ≡ Some job → job ∷ rest ≡ left → accepted_jobs old ++ given_back before ++ left ≡ jobs old.number → new.number ≡ old.number
+    → accepted_jobs new ++ given_back back ++ rest ≡ jobs new.number
+given_up old new why job before back left rest jobs gains none some items all number =
+    ap (λ (b : Option JobData). accepted_jobs new ++ given_back b ++ rest) some
+    ∙ (append_assoc (accepted_jobs new) (job ∷ []) rest
+    ∙ (ap (λ (js : List JobData). js ++ job ∷ rest) (accepts_none old new why gains)
+    ∙ (ap (λ (xs : List JobData). accepted_jobs old ++ xs) items
+    ∙ (sym (without (accepted_jobs old) before left none)
+    ∙ (all ∙ ap jobs (sym number))))))
+
+-- and its feed stops for that
+abbrev pub StopsAt : Refused → FeedStop → Type 0
+StopsAt (refused.Closed seen) stop = stop ≡ Closed seen
+StopsAt refused.Full stop = ⊥
+StopsAt refused.LaneSpent stop = stop ≡ LaneSpent
+
+pub stop_of : (old new : LaneRecord) (why : Refused) (job : JobData) (back : Option JobData) (rest : List JobData) (stop : FeedStop) → GainsRefusal old why new → (why ≡ refused.LaneSpent → MAX_ENTRIES ≤ length old.entries) → back ≡ Some job → StopsAt why stop
+    → StopsBy new back rest (Some stop)
+stop_of old new (refused.Closed seen) job back rest stop gains spent some is =
+    subst (λ (s : FeedStop). StopsBy new back rest (Some s)) (sym is) (subst (λ (b : Option JobData). StopsBy new b rest (Some (Closed seen))) (sym some) (search rules, (old.seen, ap (λ (r : LaneRecord). r.seen) gains)))
+stop_of old new refused.LaneSpent job back rest stop gains spent some is =
+    subst (λ (s : FeedStop). StopsBy new back rest (Some s)) (sym is) (subst (λ (b : Option JobData). StopsBy new b rest (Some LaneSpent)) (sym some) (search rules, subst (λ (r : LaneRecord). MAX_ENTRIES ≤ length r.entries) (sym gains) (spent refl)))
+stop_of old new refused.Full job back rest stop gains spent some is = absurd is
 
 -- a worker that has ended is one that ended so
 pub ended : {W E : Type 0} (worker : Option W) (end : Option E) (e : E) (IsEnd : E → Type 0) (IsWorker : W → Type 0) → worker ≡ None → end ≡ Some e → IsEnd e → MatchOption worker (MatchOption end ⊥ IsEnd) IsWorker

@@ -1,11 +1,13 @@
 -- Why a feed has stopped, by the record of its lane.
-use Rattle.std.specs.Prelude.{◌≡◌, ◌≤◌, ◌++◌, List, [], Option, Some, None, IsSome, length}
+use Rattle.std.specs.Prelude.{◌≡◌, ◌≤◌, Bool, true, false, ◌++◌, List, [], Option, Some, None, IsSome, length}
 use Rattle.job_types.specs.Job.{JobData}
 use Rattle.cube_shape.specs.declared.limits.TheConstants.{MAX_ENTRIES}
 use Rattle.job_queue.specs.declared.record.LaneRecord.{LaneRecord}
 use Rattle.dispatcher.specs.declared.feeding.FeedStop.{FeedStop}
 use Rattle.dispatcher.specs.declared.feeding.FeedStop.TheVariants.{Done, Closed, LaneSpent, Turns}
 use Rattle.dispatcher.specs.Stop.{given_back, EndsWith}
+use Rattle.crew.specs.declared.member.Progress.{Progress}
+use Rattle.crew.specs.declared.member.Progress.TheVariants.{NotRun, UnderWay, Stopped}
 
 -- The lane, the job that came back, those that are left, and why the feed has stopped: `IsStopOf` of the record, in
 -- which the last count that was found beside the closed mark stands for the close number.
@@ -15,3 +17,14 @@ StopsBy lane back left (Some Done) = given_back back ++ left ≡ []
 StopsBy lane back left (Some (Closed seen)) = IsSome back × EndsWith lane.seen seen
 StopsBy lane back left (Some LaneSpent) = IsSome back × (MAX_ENTRIES ≤ length lane.entries)
 StopsBy lane back left (Some Turns) = ⊥
+
+-- A feeder that has not stopped has no job back, and one that was not run has made no entry.
+abbrev pub HasCome : LaneRecord → Option JobData → List JobData → Progress → Type 0
+HasCome lane back left NotRun = (lane.entries ≡ []) × (back ≡ None)
+HasCome lane back left UnderWay = back ≡ None
+HasCome lane back left (Stopped stop) = StopsBy lane back left (Some stop)
+
+abbrev pub is_under_way : Progress → Bool
+is_under_way NotRun = false
+is_under_way UnderWay = true
+is_under_way (Stopped stop) = false

@@ -1,5 +1,5 @@
 -- What became of the jobs that were handed to a run, in the values that it gives back.
-use Rattle.std.specs.Prelude.{◌≡◌, ◌≢◌, ℕ, ◌<◌, ◌≤◌, ◌++◌, List, [], ◌∷◌, Option, Some, None, IsSome, map, length, take, drop, slice_index, slice_index_or}
+use Rattle.std.specs.Prelude.{◌≡◌, ℕ, ◌<◌, ◌≤◌, ◌++◌, List, [], ◌∷◌, Option, Some, None, IsSome, map, length, take, drop, slice_index, slice_index_or}
 use Rattle.std.specs.List.{All, AllByRecursion as Each, AllZip}
 use Rattle.histories.specs.Sums.{times, total}
 use Rattle.cube_shape.specs.declared.limits.TheConstants.{MAX_ENTRIES}

@@ -128,7 +128,7 @@ fn stop_reason<M>(end: &RunEnd<M>) -> StopReason
 }
 
 /// Answers all jobs, the lists of the lanes from 0 on: opens a shop with a lane for each list, hands in
-/// all lists at once while all workers answer jobs, each on a thread of its own, and finishes the shop.
+/// all lists at once while all workers answer jobs on threads, and finishes the shop.
 ///
 /// Each job then has one right reply, and the machine is wholly free. Where that is not so, nothing is
 /// lost: the error is the first size that is not within its limits, or `OutOfMemory`, with the jobs, or

@@ -4,6 +4,7 @@ use crate::threads::Crew;
 use dispatcher::{Runner, Shop};
 use floors::Floor;
 use job_queue::JobLine;
+use pause::Pause;
 use std::alloc::Global;
 use std::sync::{Mutex, Wait};
 
@@ -14,7 +15,26 @@ pub struct Gang<'a, J: Naming, L: JobLine, F: Floor, T> {
     pub alloc: Global,
     pub posts: Vec<Mutex<Post<J, L, F>>>,
     pub feeders: Vec<Mutex<Feeder<J, L>>>,
+    // How many threads share the lanes.
+    pub feeder_threads: usize,
     pub door: Mutex<Door<J, L, F>>,
+}
+
+impl<'a, J: Naming, L: JobLine, F: Floor, T: Runner> Gang<'a, J, L, F, T> {
+    ghost use Rattle.std.specs.Prelude.{◌≡◌};
+
+    // Hands in a job of each lane of a feeder's thread in turn. It tells whether one of them goes on.
+    fn round<R: Wait>(&self, rt: &R, index: usize, pause: &mut Pause) -> bool
+        requires { self.now.shop.now ≡ J.shop }
+    {
+        let mut goes_on = false;
+        let mut lane = index;
+        while let Some(feeder) = self.feeders.get(lane) {
+            goes_on |= feeder.lock(rt).turn(rt, self.shop, pause);
+            lane = lane.saturating_add(self.feeder_threads.max(1));
+        }
+        goes_on
+    }
 }
 
 impl<'a, J: Naming, L: JobLine, F: Floor, T: Runner> Crew for Gang<'a, J, L, F, T> {
@@ -27,7 +47,7 @@ impl<'a, J: Naming, L: JobLine, F: Floor, T: Runner> Crew for Gang<'a, J, L, F, 
     }
 
     fn feeder_count(&self) -> usize {
-        self.feeders.len()
+        self.feeders.len().min(self.feeder_threads)
     }
 
     fn work<R: Wait>(&self, rt: &R, index: usize) {
@@ -42,8 +62,11 @@ impl<'a, J: Naming, L: JobLine, F: Floor, T: Runner> Crew for Gang<'a, J, L, F, 
     }
 
     fn feed<R: Wait>(&self, rt: &R, index: usize) {
-        if let Some(feeder) = self.feeders.get(index) {
-            feeder.lock(rt).feed(rt, self.alloc, self.shop);
+        let mut pause = Pause::new();
+        for _ in rt.forever() {
+            if !self.round(rt, index, &mut pause) {
+                return;
+            }
         }
     }
 

@@ -1,7 +1,7 @@
 //! A shop that is run on threads: lists of jobs in, all of their replies out.
 //!
-//! A feeder of each lane and every worker are at work at once, and nothing is lost, also where a thread
-//! cannot be started or memory runs out.
+//! All lanes and every worker are at work at once, each worker on a thread of its own and the lanes on as
+//! many as there are processors. Nothing is lost, also where a thread cannot be started or memory runs out.
 #![tactic(auto)]
 
 mod answering;

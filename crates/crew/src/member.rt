@@ -9,15 +9,15 @@ ghost use Rattle.dispatcher.specs.Stop.{given_back};
 ghost use Rattle.crew.specs.InnerStop.{StopsBy};
 
 use dispatcher::{
-    CloseNote, Closer, FeedEnd, FeedStop, Runner, Shop, Stop, Worker, WorkerEnd, dispatch, feed,
+    CloseNote, Closer, FeedStop, Runner, Shop, Stop, Worker, WorkerEnd, dispatch, wait_for_room,
 };
 use floors::Floor;
-use job_queue::JobLine;
+use job_queue::{JobLine, Refused};
 use job_types::Job;
+use pause::Pause;
 use std::alloc::Global;
 use std::collections::VecDeque;
 use std::marker::{Brand, Model, PhantomData};
-use std::mem::replace;
 use std::sync::Wait;
 
 /// Names one run: its shop, and the jobs of each lane.
@@ -40,32 +40,44 @@ impl Naming for Brand {
     ghost jobs = { λ _. [] };
 }
 
+// How far a feeder is.
+#[derive(Clone, Copy)]
+enum Progress {
+    // No job of it was handed in.
+    NotRun,
+    // Some were, and no job was refused for good.
+    UnderWay,
+    // It has stopped.
+    Stopped(FeedStop),
+}
+
 /// A lane, and the jobs that it has still to hand in.
 pub struct Feeder<J: Naming, L: JobLine> {
     lane: L::Lane,
     back: Option<Job>,
     left: VecDeque<Job>,
-    stop: Option<FeedStop>,
+    progress: Progress,
     of: PhantomData<J>,
 }
 
 impl<J: Naming, L: JobLine> Model for Feeder<J, L> {
-    ghost use Rattle.std.specs.Prelude.{◌≡◌, ◌++◌};
+    ghost use Rattle.std.specs.Prelude.{◌≡◌, ◌++◌, Bool};
     ghost use Rattle.std.specs.List.{All};
     ghost use Rattle.job_queue.specs.Record.{accepted_jobs};
     ghost use Rattle.job_queue.specs.Line.{IsFor};
     ghost use Rattle.dispatcher.specs.Stop.{given_back};
-    ghost use Rattle.crew.specs.InnerStop.{StopsBy};
+    ghost use Rattle.crew.specs.InnerStop.{HasCome, is_under_way};
 
-    ghost Value = { Unit {0} };
+    // Whether it is under way.
+    ghost Value = { Bool };
 
-    ghost view = { λ f. tt };
+    ghost view = { λ f. is_under_way f.progress };
 
     ghost invariant = { λ f. L.is_lane J.shop.line f.lane
         × All (IsFor J.shop.line.sizes.machine (L.lane_record f.lane).number) f.left.items
         × (accepted_jobs (L.lane_record f.lane) ++ given_back f.back ++ f.left.items
         ≡ J.jobs (L.lane_record f.lane).number)
-        × StopsBy (L.lane_record f.lane) f.back f.left.items f.stop };
+        × HasCome (L.lane_record f.lane) f.back f.left.items f.progress };
 }
 
 /// What became of a feeder.
@@ -93,39 +105,82 @@ impl<J: Naming, L: JobLine> Feeder<J, L> {
             lane,
             back: None,
             left: jobs,
-            stop: None,
+            progress: Progress::NotRun,
             of: PhantomData,
         }
     }
 
-    // Hands in the jobs that are left, unless one was refused for good before.
-    pub fn feed<R: Wait, F: Floor>(&mut self, rt: &R, alloc: Global, shop: &Shop<L, F>)
+    // Hands in the next job, where the feed has not stopped, and waits where the line is full. It tells
+    // whether the feed goes on.
+    pub fn turn<R: Wait, F: Floor>(&mut self, rt: &R, shop: &Shop<L, F>, pause: &mut Pause) -> bool
         requires { shop.now ≡ J.shop }
+        ensures { self.new ≡ result }
     {
-        if self.back.is_some() {
-            return;
+        if let Progress::Stopped(_) = self.progress {
+            return false;
         }
-        let jobs = replace(&mut self.left, VecDeque::new(alloc));
-        let FeedEnd { back, left, stop } = feed(rt, shop, &mut self.lane, jobs);
-        self.back = back;
-        self.left = left;
-        self.stop = Some(stop);
+        let Some(job) = self.left.pop_front() else {
+            self.progress = Progress::Stopped(FeedStop::Done);
+            return false;
+        };
+        self.progress = Progress::UnderWay;
+        let Err((job, refused)) = shop.submit(rt, &mut self.lane, job) else {
+            pause.reset();
+            return true;
+        };
+        let stop = match refused {
+            Refused::Full => {
+                self.left.push_front_reserved(job);
+                wait_for_room(rt, shop, &mut self.lane, pause);
+                return true;
+            }
+            Refused::Closed { seen } => FeedStop::Closed { seen },
+            Refused::LaneSpent => FeedStop::LaneSpent,
+        };
+        let _none = self.back.replace(job);
+        self.progress = Progress::Stopped(stop);
+        false
     }
 
-    pub fn into_parts(self) -> Fed<L>
+    // Hands in what is left, where the feed is under way.
+    fn finish<R: Wait, F: Floor>(&mut self, rt: &R, shop: &Shop<L, F>)
+        requires { shop.now ≡ J.shop }
+        ensures { self.new ≡ false }
+    {
+        if let Progress::UnderWay = self.progress {
+            let mut pause = Pause::new();
+            for _ in rt.forever() {
+                if !self.turn(rt, shop, &mut pause) {
+                    return;
+                }
+            }
+            unreachable!()
+        }
+    }
+
+    // What became of it. One that is under way hands in the rest before.
+    pub fn into_parts<R: Wait, F: Floor>(self, rt: &R, shop: &Shop<L, F>) -> Fed<L>
+        requires { shop.now ≡ J.shop }
         ensures lane { L.is_lane J.shop.line result.lane }
         ensures jobs { accepted_jobs (L.lane_record result.lane) ++ given_back result.back
             ++ result.left.items ≡ J.jobs (L.lane_record result.lane).number }
         ensures stop { StopsBy (L.lane_record result.lane) result.back result.left.items
             result.stop }
     {
+        let mut feeder = self;
+        feeder.finish(rt, shop);
         let Feeder {
             lane,
             back,
             left,
-            stop,
+            progress,
             of: _,
-        } = self;
+        } = feeder;
+        let stop = match progress {
+            Progress::NotRun => None,
+            Progress::UnderWay => unreachable!(),
+            Progress::Stopped(stop) => Some(stop),
+        };
         Fed {
             lane,
             back,

@@ -22,7 +22,7 @@ use std::alloc::{AllocError, Global};
 use std::collections::VecDeque;
 use std::marker::Brand;
 use std::sync::{Mutex, Wait};
-use std::thread::Threads;
+use std::thread::{Threads, available_parallelism};
 
 /// What became of a lane.
 #[derive(Debug, Drop)]
@@ -202,6 +202,14 @@ fn count_accepted(unfed: Vec<Unfed>, accepted: &[u64], mut lanes: Vec<LaneEnd>) 
     lanes
 }
 
+// How many processors there are for threads, or one where the system does not say.
+fn processors<R: Threads>(rt: &R) -> usize {
+    match available_parallelism(rt) {
+        Ok(count) => count.get(),
+        Err(_) => 1,
+    }
+}
+
 // The same as `run`, once the shop is open and the run has a name.
 fn run_named<
     J: Naming + Send + Sync,
@@ -266,7 +274,7 @@ where
         stops,
     } = room;
     let posts = man_posts(alloc, workers, &mut ends);
-    let (feeders, lanes) = man_feeders(alloc, lanes, jobs, &mut fed);
+    let (feeders, lanes) = man_feeders(rt, alloc, &shop, lanes, jobs, &mut fed);
     let all_have_slots = ends.is_empty() && fed.is_empty();
     let gang: Gang<J, L, F, T> = Gang {
         shop: &shop,
@@ -274,6 +282,7 @@ where
         alloc,
         posts,
         feeders,
+        feeder_threads: processors(rt),
         door: Mutex::new(Door::new(closer)),
     };
     if all_have_slots {
@@ -285,11 +294,12 @@ where
         alloc: _,
         posts,
         feeders,
+        feeder_threads: _,
         door,
     } = gang;
     relieve_posts(alloc, posts, &mut ends);
-    relieve_feeders(feeders, &mut fed);
     let note = door.into_inner().into_note(rt, &shop);
+    relieve_feeders(rt, &shop, feeders, &mut fed);
     let close_number = note.number();
     let stops = stops_of(&ends, stops);
     let (lanes, unfed) = part(fed, lanes, unfed);
@@ -304,7 +314,10 @@ where
 }
 
 /// Opens a shop with a lane for each list of jobs, and hands in all lists at once while all workers
-/// answer jobs, each on a thread of its own. Then it closes the shop and finishes it.
+/// answer jobs. Then it closes the shop and finishes it.
+///
+/// Each worker has a thread of its own. The lanes have as many threads as there are processors, and at most
+/// one each; one that has several hands in a job of each in turn.
 ///
 /// Each accepted job has one right reply in the end, and what a lane has accepted, followed by what it
 /// did not hand in, is its list. Nothing is lost where a thread cannot be started or there is no memory

@@ -9,13 +9,13 @@ ghost use Rattle.dispatcher.specs.Stop.{given_back};
 ghost use Rattle.crew.specs.InnerStop.{StopsBy};
 
 use crate::member::{Fed, Feeder, Naming, Post};
-use dispatcher::{Worker, WorkerEnd};
+use dispatcher::{Shop, Worker, WorkerEnd};
 use floors::Floor;
 use job_queue::JobLine;
 use job_types::Job;
 use std::alloc::Global;
 use std::collections::VecDeque;
-use std::sync::Mutex;
+use std::sync::{Mutex, Wait};
 
 // A slot for each worker. One for which there is no memory stands down at once.
 pub fn man_posts<J: Naming, L: JobLine, F: Floor>(
@@ -58,12 +58,15 @@ pub fn relieve_posts<J: Naming, L: JobLine, F: Floor>(
 }
 
 // A slot for each lane with its jobs. One for which there is no memory hands in nothing.
-pub fn man_feeders<J: Naming, L: JobLine>(
+pub fn man_feeders<J: Naming, R: Wait, L: JobLine, F: Floor>(
+    rt: &R,
     alloc: Global,
+    shop: &Shop<L, F>,
     mut lanes: Vec<L::Lane>,
     mut jobs: Vec<VecDeque<Job>>,
     fed: &mut Vec<Fed<L>>,
 ) -> (Vec<Mutex<Feeder<J, L>>>, Vec<L::Lane>)
+    requires shop { shop.now ≡ J.shop }
     requires lanes { All (L.is_lane J.shop.line) lanes.items }
     requires fresh { map L.lane_record lanes.items ≡ fresh_lanes (length jobs.items) }
     requires jobs { (k : ℕ) → k < length jobs.items →
@@ -88,17 +91,20 @@ pub fn man_feeders<J: Naming, L: JobLine>(
             unreachable!()
         };
         if let Err(failed) = feeders.push(Mutex::new(Feeder::new(lane, list))) {
-            fed.push_reserved(failed.value.into_inner().into_parts());
+            fed.push_reserved(failed.value.into_inner().into_parts(rt, shop));
         }
     }
     (feeders, lanes)
 }
 
 // The feeders, out of their slots.
-pub fn relieve_feeders<J: Naming, L: JobLine>(
+pub fn relieve_feeders<J: Naming, R: Wait, L: JobLine, F: Floor>(
+    rt: &R,
+    shop: &Shop<L, F>,
     mut feeders: Vec<Mutex<Feeder<J, L>>>,
     fed: &mut Vec<Fed<L>>,
 )
+    requires shop { shop.now ≡ J.shop }
     requires room { length feeders.items + length fed.old.items ≤ vec_capacity fed.old }
     requires lanes { All (λ f. L.is_lane J.shop.line f.lane) fed.old.items }
     requires jobs { All (λ f.
@@ -115,7 +121,7 @@ pub fn relieve_feeders<J: Naming, L: JobLine>(
         StopsBy (L.lane_record f.lane) f.back f.left.items f.stop) fed.new.items }
 {
     while let Some(feeder) = feeders.pop() {
-        fed.push_reserved(feeder.into_inner().into_parts());
+        fed.push_reserved(feeder.into_inner().into_parts(rt, shop));
     }
     feeders.destroy_empty();
 }

@@ -6,21 +6,21 @@ use std::thread::{Builder, Threads};
 // The bytes of each thread's stack, whatever the process's own limit is. A run was seen to need some 104 KB.
 const STACK_BYTES: usize = 1 << 21;
 
-// Members that wait for a thread each, and how a thread works at one of them.
+// Members that wait for threads, and what a thread does for them.
 pub trait Crew {
     ghost is_ready: { Self → Type 0 };
 
     // How many workers there are.
     fn worker_count(&self) -> usize;
 
-    // How many feeders there are.
+    // How many threads feed.
     fn feeder_count(&self) -> usize;
 
     // What the thread of a worker does.
     fn work<R: Wait>(&self, rt: &R, index: usize)
         requires { is_ready self.now };
 
-    // What the thread of a feeder does.
+    // What such a thread does.
     fn feed<R: Wait>(&self, rt: &R, index: usize)
         requires { is_ready self.now };
 

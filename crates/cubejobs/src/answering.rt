@@ -22,7 +22,7 @@ use tree_floor::{FreeMachine, TreeFloor};
 
 /// Answers all jobs, the lists of the lanes from 0 on, on a machine of dimension `n`: opens a shop with a
 /// lane for each list and this many workers, hands in all lists at once by a line of this capacity while
-/// all workers answer jobs by the runner, each on a thread of its own, and finishes the shop.
+/// all workers answer jobs by the runner on threads, and finishes the shop.
 ///
 /// Each job then has one right reply, under its id, and the machine is wholly free. Each job must be made
 /// for dimension `n` and for its lane.

@@ -45,8 +45,9 @@ pub struct FeedEnd {
     pub stop: FeedStop,
 }
 
-// Waits for the length of a pause, or until half of the line looks free.
-fn wait_for_room<R: Wait, L: JobLine, F: Floor>(
+/// Waits for the length of a pause, or until half of the line looks free: what a feeder does after a submit
+/// that found the line full.
+pub fn wait_for_room<R: Wait, L: JobLine, F: Floor>(
     rt: &R,
     shop: &Shop<L, F>,
     lane: &mut L::Lane,

@@ -22,7 +22,7 @@ mod worker;
 
 pub use closing::{CloseNote, Closer};
 pub use dispatching::{dispatch, dispatch_some};
-pub use feeding::{FeedEnd, FeedStop, feed, feed_for};
+pub use feeding::{FeedEnd, FeedStop, feed, feed_for, wait_for_room};
 pub use finishing::Finished;
 pub use opening::{Opened, ShopRefused, refusal};
 pub use runner::{Plain, Runner};

@@ -182,8 +182,8 @@ const MANY: u32 = 40;
 const TURNS: u32 = 100_000;
 
 // Two workers and room for one job. Both keep each job of one lane for some time, or until the only one of
-// the other lane has come in. With feeders of their own this one comes in long before the last of the many;
-// where one feeder came after the other, all but the one in the line would be before it.
+// the other lane has come in. With both lanes at work this one comes in long before the last of the many;
+// where one lane came after the other, all but the one in the line would be before it.
 fn each_lane_has_a_feeder<R: Threads + Wait + Abort + Sync, L: JobLine + Sync, F: Floor + Sync>(
     rt: &R,
     alloc: Global,

@@ -44,6 +44,11 @@ finish-finished-requires-clause-all_lanes g c =
 pub finish-finished-requires-clause-workers : goal.finish-finished-requires-clause-workers
 finish-finished-requires-clause-workers g c = subst (λ (s : ShopId). All (IsEndOf s) c.relieve_posts.new.ends.items) (sym c.requires.shop) c.relieve_posts.ensures.ends
 
+pub count_accepted-lanes-requires-clause-room : goal.count_accepted-lanes-requires-clause-room
+count_accepted-lanes-requires-clause-room g c =
+    let fed = c.relieve_feeders.new.fed.items in
+    omega (arith, ap length c.part-lanes.ensures.unfed, length-map fed (λ f. unfed_of (g.L.JobLine.lane_record f.lane) f.back f.left f.stop), c.relieve_feeders.ensures.count, c.man_feeders-feeders.ensures.count, c.requires.lane_ends.1)
+
 pub returns-clause-run : goal.returns-clause-run
 returns-clause-run g c =
     let line = g.L.JobLine in
