@@ -21,10 +21,16 @@
 //!
 //! What the library's proof asks of its callers is kept by these types: a [`Machine`] is opened before it
 //! can be used, its memory is private, and `&mut` lets one call in at a time.
+//!
+//! The module [`tree`] has subcubes for many threads at once, with no lock.
 #![no_std]
 #![warn(missing_docs)]
 
 mod ffi;
+#[cfg(feature = "tree")]
+pub mod tree;
+#[cfg(feature = "tree")]
+mod tree_ffi;
 
 use core::error::Error;
 use core::fmt;
