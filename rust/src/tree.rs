@@ -23,7 +23,7 @@
 //! take and a release is true of the machine, and tests show it; no theorem says so.
 
 use crate::tree_ffi::{self as ffi, Handle};
-use crate::{MAX_DIM, MAX_STATIONS, Region};
+use crate::{Region, MAX_DIM, MAX_STATIONS};
 use core::error::Error;
 use core::fmt;
 
@@ -243,7 +243,10 @@ impl Drop for Subcube<'_> {
 
 impl fmt::Debug for Cube {
     fn fmt(&self, f: &mut fmt::Formatter<'_>) -> fmt::Result {
-        f.debug_struct("Cube").field("dim", &self.dim).field("stations", &self.stations).finish_non_exhaustive()
+        f.debug_struct("Cube")
+            .field("dim", &self.dim)
+            .field("stations", &self.stations)
+            .finish_non_exhaustive()
     }
 }
 

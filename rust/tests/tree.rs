@@ -1,7 +1,7 @@
 //! The tree with no lock: refusals, and eight threads with a table of counters and plain memory that regions guard.
 
 use cubejobs::tree::{Cube, OpenError, SeatError, Station, TakeError};
-use cubejobs::{MAX_DIM, MAX_STATIONS, Region};
+use cubejobs::{Region, MAX_DIM, MAX_STATIONS};
 use std::cell::UnsafeCell;
 use std::sync::atomic::{AtomicU32, Ordering::Relaxed};
 use std::thread;
@@ -77,12 +77,15 @@ fn regions_of_threads_are_apart() {
             .map(|mut station| {
                 let (counters, plain) = (&counters, &plain);
                 scope.spawn(move || {
-                    let (mut seed, mut done, mut sum) = (88172645463325252 + u64::from(station.number()), 0, 0);
+                    let (mut seed, mut done, mut sum) =
+                        (88172645463325252 + u64::from(station.number()), 0, 0);
                     while done < PAIRS {
                         seed ^= seed << 13;
                         seed ^= seed >> 7;
                         seed ^= seed << 17;
-                        let Ok(subcube) = station.take((seed % u64::from(MAX_DIM + 1)) as u32) else { continue };
+                        let Ok(subcube) = station.take((seed % u64::from(MAX_DIM + 1)) as u32) else {
+                            continue;
+                        };
                         let Region { base, dim } = subcube.region();
                         let all = base as usize..(base + (1 << dim)) as usize;
                         assert!(counters[all.clone()].iter().all(|it| it.fetch_add(1, Relaxed) == 0));
