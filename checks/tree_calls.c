@@ -52,6 +52,7 @@ static void no_cube(struct cubejobs_cube *handle, uint32_t code) {
     WANT(cubejobs_tree_close(handle, &missing), code);
     WANT(cubejobs_tree_size(handle).code, code);
     WANT(cubejobs_tree_word(handle, 1).code, code);
+    WANT(cubejobs_tree_occupancy(handle).code, code);
     WANT(missing, 77);
     WANT(none.tag, 0);
     WANT(memcmp(&before, handle, sizeof before), 0);
@@ -103,6 +104,7 @@ static void regions(void) {
     static struct cubejobs_cube made;
     static struct cubejobs_station s[4];
     struct cubejobs_tree_answer a;
+    struct cubejobs_tree_occupancy o;
     uint64_t missing = 77;
     unsigned i;
     WANT(cubejobs_tree_open(&made, 3, 3), CUBEJOBS_TREE_DONE);
@@ -121,6 +123,11 @@ static void regions(void) {
     WANT(a.code | a.base | a.in_use | a.lost | a.under, 0);
     WANT(a.dim, 2);
     WANT(cubejobs_tree_take(&s[0], 9).code, CUBEJOBS_TREE_STATION_HOLDS);
+    WANT(cubejobs_tree_take(&s[1], 2).base, 4);
+    o = cubejobs_tree_occupancy(&made);
+    WANT(o.held, 8);
+    WANT(o.free[0] + o.free[1] + o.free[2] + o.free[3] + o.largest + o.has_free, 0);
+    WANT(cubejobs_tree_release(&s[1]).dim, 2);
     WANT(cubejobs_tree_try_node(&s[0], 0).code, CUBEJOBS_TREE_STATION_HOLDS);
     WANT(cubejobs_tree_retire(&s[0]), CUBEJOBS_TREE_STATION_HOLDS);
     a = cubejobs_tree_try_node(&s[1], 11);
@@ -135,6 +142,15 @@ static void regions(void) {
     a = cubejobs_tree_release(&s[2]);
     WANT(a.code, CUBEJOBS_TREE_DONE);
     WANT(a.base, 4);
+    /* Processors 0 to 3 and 5 are held. */
+    o = cubejobs_tree_occupancy(&made);
+    WANT(o.code, CUBEJOBS_TREE_DONE);
+    WANT(o.held, 5);
+    WANT(o.free[0], 3);
+    WANT(o.free[1], 1);
+    WANT(o.free[2] + o.free[3], 0);
+    WANT(o.has_free, 1);
+    WANT(o.largest, 1);
     /* Of the four regions of dimension 1 two lie under an occupied one: it is tried once, and the other passed over. */
     a = cubejobs_tree_take(&s[2], 1);
     WANT(a.code, CUBEJOBS_TREE_DONE);

@@ -57,6 +57,7 @@ static int run(long allowed) {
         cubejobs_tree_try_node(&s[i], 1);
     }
     cubejobs_tree_word(&cube, 1);
+    if (cubejobs_tree_occupancy(&cube).held != 6) return printf("occupancy\n"), -1;
     if (cubejobs_tree_close(&cube, &missing) != CUBEJOBS_TREE_STILL_OUT || missing != 7) return printf("still out\n"), -1;
     for (i = 0; i < 3; i++)
         if (cubejobs_tree_release(&s[i]).code || cubejobs_tree_retire(&s[i])) return printf("release\n"), -1;

@@ -113,6 +113,17 @@ struct cubejobs_tree_word {
     uint64_t word;
 };
 
+/* How much of a machine is free, where the code is CUBEJOBS_TREE_DONE, and otherwise all is 0: the number of free
+ * regions of each dimension, at the dimension; how many processors are in a region that is held; and the largest
+ * dimension of a free region, if there is one. */
+struct cubejobs_tree_occupancy {
+    uint32_t code;
+    uint32_t largest;
+    bool has_free;
+    uint64_t held;
+    uint64_t free[13];
+};
+
 /* cubejobs_tree_open calls this one, with the version of the header. */
 uint32_t cubejobs_tree_open_version(struct cubejobs_cube *cube, uint32_t version, uint32_t dim, uint32_t stations);
 
@@ -158,6 +169,10 @@ struct cubejobs_tree_size cubejobs_tree_size(struct cubejobs_cube *cube);
 /* The word of a node at some moment of the call; word 0 has bit s set once station s has retired. NOT_OPEN,
  * OTHER_KIND, BAD_NODE, DONE. */
 struct cubejobs_tree_word cubejobs_tree_word(struct cubejobs_cube *cube, uint64_t node);
+
+/* Counts what is free and what is held, by the words as each is at some moment of the call: exact where no other call
+ * is made meanwhile. NOT_OPEN, OTHER_KIND, DONE. */
+struct cubejobs_tree_occupancy cubejobs_tree_occupancy(struct cubejobs_cube *cube);
 
 /* ThreadSanitizer does not see the library's atomics. Under it, each take is told to be an acquire of the region's
  * processors, each release a release of them, and a close an acquire of all; without it this is nothing. */

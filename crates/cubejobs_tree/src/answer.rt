@@ -59,6 +59,22 @@ pub struct WordAnswer {
     pub word: u64,
 }
 
+/// How much of a machine is free.
+#[repr(C)]
+#[derive(Clone, Copy, Debug)]
+pub struct OccupancyAnswer {
+    /// `DONE`, or why the call was refused; then all else is 0.
+    pub code: u32,
+    /// The largest dimension of a free region, if there is one, and otherwise 0.
+    pub largest: u32,
+    /// Whether a region is free.
+    pub has_free: bool,
+    /// How many processors are in a region that is held.
+    pub held: u64,
+    /// The number of free regions of each dimension, at the dimension. It is 0 above the machine's.
+    pub free: [u64; 13],
+}
+
 // The answer of a call that was done with a region.
 pub(crate) fn done(region: Region) -> Answer
     ensures code { result.code ≡ DONE }
@@ -151,6 +167,21 @@ impl SizeAnswer {
             dim: 0,
             stations: 0,
             seated: 0,
+        }
+    }
+}
+
+impl OccupancyAnswer {
+    // A call that was refused.
+    pub(crate) fn refused(code: u32) -> OccupancyAnswer
+        ensures { result.code ≡ code }
+    {
+        OccupancyAnswer {
+            code,
+            largest: 0,
+            has_free: false,
+            held: 0,
+            free: [0; 13],
         }
     }
 }

@@ -17,12 +17,13 @@ mod handle;
 mod hidden;
 mod law;
 mod machine;
+mod occupancy;
 mod parts;
 mod places;
 mod readouts;
 mod station;
 
-pub use answer::{Answer, Seated, SizeAnswer, WordAnswer};
+pub use answer::{Answer, OccupancyAnswer, Seated, SizeAnswer, WordAnswer};
 pub use codes::{
     ALREADY_OPEN, BAD_DIMENSION, BAD_NODE, BAD_STATIONS, BAD_VERSION, DONE, NO_STATION, NO_SUBCUBE,
     NOT_OPEN, NOTHING_HELD, OPEN, OTHER_KIND, OUT_OF_MEMORY, RETIRING, STATION_HOLDS, STILL_OUT,
@@ -34,4 +35,5 @@ pub use exports::{
 };
 pub use handle::Handle;
 pub use law::apart;
+pub use occupancy::cubejobs_tree_occupancy;
 pub use readouts::{cubejobs_tree_region, cubejobs_tree_size, cubejobs_tree_word};
