@@ -73,7 +73,6 @@ fn takes_the_region_that_is_asked(rt: HostRuntime) {
         cubejobs_open_sized(&mut machine, MACHINE_BYTES - 512, 3),
         BAD_SIZE
     );
-    assert_eq!(rt; cubejobs_free_regions(&machine, 0), 1);
     assert_eq!(rt; cubejobs_open_sized(&mut machine, MACHINE_BYTES, 3), DONE);
     assert_eq!(rt;
         code_and_base(cubejobs_take_region(&mut machine, 0, 4, 1)),
