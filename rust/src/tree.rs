@@ -37,6 +37,20 @@ pub struct Cube {
 }
 
 /// One who takes and gives back one region at a time, from one thread at a time. It retires when it is dropped.
+///
+/// It holds one region at most, and cannot be copied:
+///
+/// ```compile_fail
+/// let mut station = cubejobs::tree::Cube::new(3, 1).unwrap().seat().unwrap();
+/// let one = station.take(0).unwrap();
+/// let other = station.take(0).unwrap();
+/// drop((one, other));
+/// ```
+///
+/// ```compile_fail
+/// let mut station = cubejobs::tree::Cube::new(3, 1).unwrap().seat().unwrap();
+/// let copy = station.clone();
+/// ```
 pub struct Station {
     handle: Handle,
     number: u32,
