@@ -1,9 +1,8 @@
 -- Where a region begins.
-use Rattle.std.proofs.Common.{◌≡◌, ℕ, ◌+◌, ◌*◌, ◌%◌, ◌^◌, ◌<◌, ◌≤◌, ◌∙◌, ap, arith}
-use Rattle.std.proofs.lemmas.Nat.{pow_pos, one_shl}
+use Rattle.std.proofs.Common.{◌≡◌, ℕ, ◌+◌, ◌%◌, ◌^◌, ◌<◌, ◌≤◌, ◌∙◌, ap, arith}
+use Rattle.std.proofs.lemmas.Nat.{pow_pos}
 use Rattle.std.proofs.Math.Nat.{mul-mod_left}
 use Rattle.cube_shape.specs.declared.region.Region.{Region}
-use Rattle.cube_shape.specs.declared.limits.TheConstants.{MAX_DIM}
 use Rattle.cube_shape.specs.Region.{IsAligned}
 use Rattle.cube_shape.proofs.RegionLemmas.{IsAligned-end}
 use Rattle.region_bits.proofs.ScanLemmas.{IsAligned-at}

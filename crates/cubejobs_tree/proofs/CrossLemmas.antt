@@ -9,11 +9,9 @@ use Rattle.tree_steps.specs.contracts.view.View as view
 use Rattle.cube_tree.specs.contracts.handles.Cube as cube
 use Rattle.cube_tree.specs.contracts.handles.Station as station
 use Rattle.cube_tree.specs.contracts.handles.Subcube as subcube
-use Rattle.std.proofs.Crossing.{crosses, Arc-send}
+use Rattle.std.proofs.Crossing.{crosses}
 use Rattle.cubejobs_tree.specs.contracts.content.Content as content
-use Rattle.cubejobs_tree.specs.contracts.machine.Machine as machine
 use Rattle.cubejobs_tree.specs.contracts.station.Idle as idle
-use Rattle.cubejobs_tree.specs.contracts.station.Holding as holding
 
 -- a seat that is only looked at
 seat_sync : (S V : RattleType) → IsSend S → IsSync (seat.the_row S V)

@@ -1,6 +1,5 @@
 -- Bits of which none is set represent a machine whose stations hold nothing.
-use Rattle.std.proofs.Common.{◌≤◌, ◌^◌, sym, subst, arith, length}
-use Rattle.cube_shape.specs.declared.limits.TheConstants.{MAX_DIM}
+use Rattle.std.proofs.Common.{sym, subst, arith}
 use Rattle.region_bits.specs.Represents.{Represents}
 use Rattle.region_bits.proofs.RepresentsLemmas.{Represents-new}
 use Rattle.cubejobs_c.specs.Machine.{held_in}

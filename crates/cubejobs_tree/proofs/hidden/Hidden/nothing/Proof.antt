@@ -1,10 +1,10 @@
 -- `nothing` puts two fields together, and owns nothing beside them.
-use Rattle.std.proofs.Common.{◌≡◌, List, [], ◌∷◌, refl, lit<, None}
+use Rattle.std.proofs.Common.{List, [], ◌∷◌, refl, lit<, None}
 use mir.Val.{Val, vstruct, vcons, vnil}
 use base.Fml.{ftrue, fsep}
-use types.Kit.{‵, raw, ◌⊛◌, ◌$◌, ◌∵◌, !, qed, move, drop, join, split, fsplit, fjoin, fpack, feq_i, suffices, done}
+use types.Kit.{‵, ◌⊛◌, ◌$◌, ◌∵◌, !, qed, move, drop, join, split, fsplit, fjoin, fpack, feq_i, suffices, done}
 use types.Part.{agg}
-use types.Run.{no_more, and_then, of_opd, lit, returns, enter}
+use types.Run.{no_more, and_then, lit, returns, enter}
 use types.ByLocal.{alloc_all, pass_all, free_all, look_at, get, sets}
 use contract.Running.{tables}
 use denote.Exit.{yes}
@@ -14,7 +14,6 @@ use denote.Signature.{plain}
 use denote.Steps.{nothing}
 use denote.Struct.Struct.{within}
 use denote.Struct.Owning.{shape, to}
-use denote.Triple.Entry.{on_entry}
 use denote.Triple.Walked.{says, Stays, stay_dropped, walk_of, ends_at, Goes-dropped}
 use Rattle.std.proofs.raw_atomic.Walks.{proved}
 use Rattle.std_heap.specs.contracts.Global as Heap

@@ -1,5 +1,5 @@
 -- The first station that waits gets the handle.
-use Rattle.std.proofs.Common.{◌∙◌, ap, sym, subst, refl, Some, rules}
+use Rattle.std.proofs.Common.{ap, sym, subst, refl, Some, rules}
 use Rattle.std.specs.List.{All}
 use Rattle.std.specs.Arc.{arc_value}
 use Rattle.std.proofs.lemmas.List.Elements.{All-drop}
