@@ -104,6 +104,7 @@ static pthread_barrier_t ready;
 struct tally {
     unsigned id;
     unsigned long refused;
+    uint64_t from, to;
     unsigned *times;
 };
 
@@ -117,6 +118,7 @@ static void *work(void *argument) {
     struct tally *t = argument;
     uint64_t seed = 88172645463325252u + t->id * 7919;
     pthread_barrier_wait(&ready);
+    t->from = now();
     for (unsigned long done = 0; done < pairs;) {
         uint64_t from = tail ? now() : 0;
         seed ^= seed << 13;
@@ -130,6 +132,7 @@ static void *work(void *argument) {
         if (tail) t->times[done] = (unsigned)(now() - from);
         done++;
     }
+    t->to = now();
     return NULL;
 }
 
@@ -140,7 +143,7 @@ int main(int argc, char **argv) {
     pthread_t ids[MOST];
     unsigned threads, *times = NULL;
     unsigned long refused = 0;
-    uint64_t from, took, missing;
+    uint64_t from = UINT64_MAX, to = 0, took, missing;
     if (argc < 6) return 2;
     which = strcmp(argv[1], "tree") == 0 ? TREE : strcmp(argv[1], "mutex") == 0 ? MUTEX : TWIN;
     threads = (unsigned)atoi(argv[2]);
@@ -157,19 +160,20 @@ int main(int argc, char **argv) {
         tail |= strcmp(argv[i], "tail") == 0;
     }
     if (tail && !(times = calloc(threads * pairs, sizeof *times))) return 1;
-    pthread_barrier_init(&ready, NULL, threads + 1);
+    pthread_barrier_init(&ready, NULL, threads);
     for (unsigned i = 0; i < threads; i++) {
         tallies[i].id = i;
         tallies[i].times = tail ? times + i * pairs : NULL;
         if (pthread_create(&ids[i], NULL, work, &tallies[i])) return 1;
     }
-    pthread_barrier_wait(&ready);
-    from = now();
+    /* From the first thread's start to the last one's end. */
     for (unsigned i = 0; i < threads; i++) {
         pthread_join(ids[i], NULL);
         refused += tallies[i].refused;
+        if (tallies[i].from < from) from = tallies[i].from;
+        if (tallies[i].to > to) to = tallies[i].to;
     }
-    took = now() - from;
+    took = to - from;
     printf("%.1f ns a pair", (double)took / (double)(pairs * threads));
     if (tail) {
         qsort(times, threads * pairs, sizeof *times, by_size);
