@@ -76,6 +76,29 @@ static struct cubejobs_answer model_take(unsigned station, unsigned k) {
     return answer(CUBEJOBS_NO_SUBCUBE, 0, 0);
 }
 
+static struct cubejobs_answer model_take_region(unsigned station, unsigned base, unsigned k) {
+    if (station >= CUBEJOBS_MAX_STATIONS) return answer(CUBEJOBS_BAD_STATION, 0, 0);
+    if (k > plain.dim) return answer(CUBEJOBS_BAD_DIMENSION, 0, 0);
+    if (base % (1u << k) || base >= 1u << plain.dim) return answer(CUBEJOBS_BAD_BASE, 0, 0);
+    if (plain.holds[station]) return answer(CUBEJOBS_STATION_HOLDS, 0, 0);
+    if (!is_free(base, 1u << k)) return answer(CUBEJOBS_NO_SUBCUBE, 0, 0);
+    set_holder(base, 1u << k, (int)station);
+    plain.holds[station] = true;
+    plain.held[station] = answer(CUBEJOBS_DONE, k, base);
+    return plain.held[station];
+}
+
+static struct cubejobs_answer model_region(unsigned station) {
+    if (station >= CUBEJOBS_MAX_STATIONS) return answer(CUBEJOBS_BAD_STATION, 0, 0);
+    return plain.holds[station] ? plain.held[station] : answer(CUBEJOBS_NOTHING_HELD, 0, 0);
+}
+
+static uint64_t model_free_regions(unsigned k) {
+    uint64_t count = 0;
+    for (unsigned base = 0; k <= plain.dim && base < 1u << plain.dim; base += 1u << k) count += is_free(base, 1u << k);
+    return count;
+}
+
 static struct cubejobs_answer model_release(unsigned station) {
     if (station >= CUBEJOBS_MAX_STATIONS) return answer(CUBEJOBS_BAD_STATION, 0, 0);
     if (!plain.holds[station]) return answer(CUBEJOBS_NOTHING_HELD, 0, 0);
@@ -101,13 +124,22 @@ static void call_once(void) {
     unsigned k = random_below(3) == 0 ? random_below(plain.dim + 2) : random_below(plain.dim / 2 + 1);
     struct cubejobs_answer got;
     before = memory.machine;
-    switch (random_below(8)) {
+    switch (random_below(10)) {
     case 0:
         expect_holder(random_below((1u << plain.dim) + 2));
+        expect(same(cubejobs_region(&memory.machine, station), model_region(station)), "region");
         return;
     case 1:
         expect(cubejobs_is_wholly_free(&memory.machine) == model_is_wholly_free(), "wholly free");
+        expect(cubejobs_free_regions(&memory.machine, k) == model_free_regions(k), "free regions");
         return;
+    case 8:
+    case 9: {
+        unsigned base = random_below((1u << plain.dim) + 2) >> (random_below(2) ? 0 : k) << k;
+        got = cubejobs_take_region(&memory.machine, station, base, k);
+        expect(same(got, model_take_region(station, base, k)), "take of a region");
+        break;
+    }
     case 2:
     case 3:
     case 4:
@@ -131,8 +163,23 @@ static void expect_bad_arguments(void) {
     expect(cubejobs_take(machine, 0, worst).code == CUBEJOBS_BAD_DIMENSION, "worst dimension");
     expect(cubejobs_take(machine, 0, plain.dim + 1).code == CUBEJOBS_BAD_DIMENSION, "dimension");
     expect(cubejobs_release(machine, worst).code == CUBEJOBS_BAD_STATION, "worst release");
+    expect(cubejobs_region(machine, worst).code == CUBEJOBS_BAD_STATION, "worst region");
+    expect(cubejobs_take_region(machine, 0, UINT64_MAX, 0).code == CUBEJOBS_BAD_BASE, "worst base");
+    expect(cubejobs_free_regions(machine, worst) == 0, "free regions of the worst dimension");
     expect(!cubejobs_holder(machine, UINT64_MAX).found, "worst processor");
     expect(!cubejobs_holder(machine, (uint64_t)1 << plain.dim).found, "processor");
+}
+
+// A machine of a smaller header is not opened, and none of its bytes is written. One of zeros is of dimension 0.
+static void expect_stale_and_zeros(void) {
+    static struct cubejobs_machine before, zeros;
+    before = memory.machine;
+    expect(cubejobs_open_sized(&memory.machine, sizeof before - 512, 0) == CUBEJOBS_BAD_SIZE, "a stale header");
+    expect(memcmp(&before, &memory.machine, sizeof before) == 0, "a stale header changed the machine");
+    expect(cubejobs_free_regions(&zeros, 0) == 1 && cubejobs_is_wholly_free(&zeros), "a machine of zeros is free");
+    expect(cubejobs_take(&zeros, 0, 1).code == CUBEJOBS_BAD_DIMENSION, "a machine of zeros is of dimension 0");
+    expect(cubejobs_take(&zeros, 0, 0).code == CUBEJOBS_DONE && cubejobs_take(&zeros, 1, 0).code == CUBEJOBS_NO_SUBCUBE, "its processor");
+    expect(cubejobs_release(&zeros, 0).code == CUBEJOBS_DONE, "its release");
 }
 
 static void open_both(unsigned dim) {
@@ -150,6 +197,7 @@ static void expect_guards(void) {
 
 int main(void) {
     expect(sizeof(struct cubejobs_machine) == 1544, "the struct's size is not the library's");
+    expect_stale_and_zeros();
     for (unsigned dim = 0; dim <= CUBEJOBS_MAX_DIM; dim++) {
         open_both(dim);
         for (int call = 0; call < CALLS; call++) call_once();

@@ -14,6 +14,7 @@ pub const BAD_DIMENSION: u32 = 2;
 pub const BAD_STATION: u32 = 3;
 pub const STATION_HOLDS: u32 = 4;
 pub const NOTHING_HELD: u32 = 5;
+pub const BAD_BASE: u32 = 6;
 
 #[repr(C)]
 #[derive(Clone, Copy)]
@@ -51,8 +52,11 @@ const _: () = assert!(size_of::<Machine>() == 1544 && align_of::<Machine>() == 8
 
 #[link(name = "cubejobs_c", kind = "static")]
 unsafe extern "C" {
-    fn cubejobs_open(machine: &mut Machine, dim: u32) -> u32;
+    fn cubejobs_open_sized(machine: &mut Machine, size: u64, dim: u32) -> u32;
     fn cubejobs_take(machine: &mut Machine, station: u32, k: u32) -> Answer;
+    fn cubejobs_take_region(machine: &mut Machine, station: u32, base: u64, k: u32) -> Answer;
+    fn cubejobs_region(machine: &Machine, station: u32) -> Answer;
+    fn cubejobs_free_regions(machine: &Machine, k: u32) -> u64;
     fn cubejobs_release(machine: &mut Machine, station: u32) -> Answer;
     fn cubejobs_holder(machine: &Machine, processor: u64) -> Holder;
     fn cubejobs_is_wholly_free(machine: &Machine) -> bool;
@@ -66,7 +70,7 @@ pub fn open(dim: u32) -> Option<Machine> {
         slots: [Slot { base: 0, dim: 0, held: false }; MAX_STATIONS],
     };
     // SAFETY: the reference is to a whole machine of valid fields, and lasts for the call.
-    let code = unsafe { cubejobs_open(&mut machine, dim) };
+    let code = unsafe { cubejobs_open_sized(&mut machine, size_of::<Machine>() as u64, dim) };
     (code == DONE).then_some(machine)
 }
 
@@ -78,6 +82,21 @@ impl Machine {
     pub fn take(&mut self, station: u32, k: u32) -> Answer {
         // SAFETY: the machine was opened, and only the library has written to it since.
         unsafe { cubejobs_take(self, station, k) }
+    }
+
+    pub fn take_region(&mut self, station: u32, base: u64, k: u32) -> Answer {
+        // SAFETY: as for a take.
+        unsafe { cubejobs_take_region(self, station, base, k) }
+    }
+
+    pub fn region(&self, station: u32) -> Answer {
+        // SAFETY: as for a take. The call only reads.
+        unsafe { cubejobs_region(self, station) }
+    }
+
+    pub fn free_regions(&self, k: u32) -> u64 {
+        // SAFETY: as for a take. The call only reads.
+        unsafe { cubejobs_free_regions(self, k) }
     }
 
     pub fn release(&mut self, station: u32) -> Answer {

@@ -21,10 +21,16 @@
 //!
 //! What the library's proof asks of its callers is kept by these types: a [`Machine`] is opened before it
 //! can be used, its memory is private, and `&mut` lets one call in at a time.
+//!
+//! The module [`tree`] has subcubes for many threads at once, with no lock.
 #![no_std]
 #![warn(missing_docs)]
 
 mod ffi;
+#[cfg(feature = "tree")]
+pub mod tree;
+#[cfg(feature = "tree")]
+mod tree_ffi;
 
 use core::error::Error;
 use core::fmt;
@@ -63,8 +69,10 @@ pub enum TakeError {
     BadDimension,
     /// The station holds a region, and a station holds one at most.
     StationHolds,
-    /// No aligned region of this dimension is apart from every held region.
+    /// No aligned region of this dimension is apart from every held region, or the one that was asked is not.
     NoSubcube,
+    /// No aligned region of this dimension begins at this processor.
+    BadBase,
 }
 
 /// Why a release was refused. A refusal changes nothing.
@@ -96,15 +104,26 @@ impl Machine {
     /// The error is the first of these that is so: `BadStation`, `BadDimension`, `StationHolds`,
     /// `NoSubcube`.
     pub fn take(&mut self, station: u32, k: u32) -> Result<Region, TakeError> {
-        let answer = self.inner.take(station, k);
-        match answer.code {
-            ffi::DONE => Ok(answer.region()),
-            ffi::NO_SUBCUBE => Err(TakeError::NoSubcube),
-            ffi::BAD_DIMENSION => Err(TakeError::BadDimension),
-            ffi::BAD_STATION => Err(TakeError::BadStation),
-            ffi::STATION_HOLDS => Err(TakeError::StationHolds),
-            code => unreachable!("a take has no code {code}"),
-        }
+        self.inner.take(station, k).taken()
+    }
+
+    /// Gives a station that holds nothing the region of dimension `k` that begins at the processor `base`.
+    ///
+    /// The error is the first of these that is so: `BadStation`, `BadDimension`, `BadBase`, `StationHolds`,
+    /// `NoSubcube`.
+    pub fn take_region(&mut self, station: u32, base: u64, k: u32) -> Result<Region, TakeError> {
+        self.inner.take_region(station, base, k).taken()
+    }
+
+    /// The region that a station holds, if there is such a station and it holds one.
+    pub fn region(&self, station: u32) -> Option<Region> {
+        let answer = self.inner.region(station);
+        (answer.code == ffi::DONE).then(|| answer.region())
+    }
+
+    /// How many regions of dimension `k` are apart from every held region: none where `k` is past the machine's dimension.
+    pub fn free_regions(&self, k: u32) -> u64 {
+        self.inner.free_regions(k)
     }
 
     /// Takes the region of a station away from it.
@@ -135,6 +154,19 @@ impl ffi::Answer {
     fn region(self) -> Region {
         Region { base: self.base, dim: self.dim }
     }
+
+    // What a take has answered.
+    fn taken(self) -> Result<Region, TakeError> {
+        match self.code {
+            ffi::DONE => Ok(self.region()),
+            ffi::NO_SUBCUBE => Err(TakeError::NoSubcube),
+            ffi::BAD_DIMENSION => Err(TakeError::BadDimension),
+            ffi::BAD_STATION => Err(TakeError::BadStation),
+            ffi::STATION_HOLDS => Err(TakeError::StationHolds),
+            ffi::BAD_BASE => Err(TakeError::BadBase),
+            code => unreachable!("a take has no code {code}"),
+        }
+    }
 }
 
 impl fmt::Debug for Machine {
@@ -156,6 +188,7 @@ impl fmt::Display for TakeError {
             TakeError::BadDimension => "the dimension is past that of the machine",
             TakeError::StationHolds => "the station holds a region",
             TakeError::NoSubcube => "no free subcube of this dimension",
+            TakeError::BadBase => "no subcube of this dimension begins there",
         })
     }
 }

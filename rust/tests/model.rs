@@ -36,6 +36,35 @@ impl Model {
         Ok(held.unwrap())
     }
 
+    fn take_region(&mut self, station: u32, base: u64, k: u32) -> Result<Region, TakeError> {
+        let held = self.held.get_mut(station as usize).ok_or(TakeError::BadStation)?;
+        if k > self.dim {
+            return Err(TakeError::BadDimension);
+        }
+        if base % (1 << k) != 0 || base >= 1 << self.dim {
+            return Err(TakeError::BadBase);
+        }
+        if held.is_some() {
+            return Err(TakeError::StationHolds);
+        }
+        let block = &mut self.holder[base as usize..][..1 << k];
+        if !block.iter().all(Option::is_none) {
+            return Err(TakeError::NoSubcube);
+        }
+        block.fill(Some(station));
+        *held = Some(Region { base, dim: k });
+        Ok(held.unwrap())
+    }
+
+    fn region(&self, station: u32) -> Option<Region> {
+        *self.held.get(station as usize)?
+    }
+
+    fn free_regions(&self, k: u32) -> u64 {
+        let size = if k > self.dim { return 0 } else { 1 << k };
+        self.holder.chunks(size).filter(|block| block.iter().all(Option::is_none)).count() as u64
+    }
+
     fn release(&mut self, station: u32) -> Result<Region, ReleaseError> {
         let held = self.held.get_mut(station as usize).ok_or(ReleaseError::BadStation)?;
         let region = held.take().ok_or(ReleaseError::NothingHeld)?;
@@ -66,12 +95,22 @@ impl Random {
 
 fn call_once(machine: &mut Machine, model: &mut Model, random: &mut Random) {
     let station = random.below(u64::from(MAX_STATIONS) + 1) as u32;
-    match random.below(8) {
+    match random.below(10) {
         0 => {
             let processor = random.below((1 << model.dim) + 2);
             assert_eq!(machine.holder(processor), model.holder(processor));
+            assert_eq!(machine.region(station), model.region(station));
         }
-        1 => assert_eq!(machine.is_wholly_free(), model.is_wholly_free()),
+        1 => {
+            let k = random.below(u64::from(model.dim) + 2) as u32;
+            assert_eq!(machine.is_wholly_free(), model.is_wholly_free());
+            assert_eq!(machine.free_regions(k), model.free_regions(k));
+        }
+        8..=9 => {
+            let k = random.below(u64::from(model.dim) + 2) as u32;
+            let base = random.below((1 << model.dim) + 2) >> (k * random.below(2) as u32) << k;
+            assert_eq!(machine.take_region(station, base, k), model.take_region(station, base, k));
+        }
         2..=4 => assert_eq!(machine.release(station), model.release(station)),
         _ => {
             let most = if random.below(3) == 0 { model.dim + 2 } else { model.dim / 2 + 1 };

@@ -3,7 +3,10 @@ use Rattle.std.specs.Prelude.{◌≡◌, ℕ, ◌+◌, ◌^◌, ◌<◌, ◌↔�
 use Rattle.status_word.specs.Word.{IsSet}
 use Rattle.tree_steps.specs.Rule.{times}
 use Rattle.cube_tree.specs.declared.handles.Station.{Station}
+use Rattle.tree_steps.specs.Tree.{id_of}
+use Rattle.cube_tree.specs.declared.handles.Cube.{Cube}
 use Rattle.cube_tree.specs.declared.handles.FreeMachine.{FreeMachine}
+use Rattle.cube_tree.specs.declared.handles.RollReader.{RollReader}
 use Rattle.cube_tree.specs.Handles.{station_entry}
 
 -- each station below the count is in the list
@@ -21,6 +24,20 @@ IsMissing count roll missing = (s : ℕ) → IsSet missing s ↔ ((s < count) ×
 -- a load of the roll found the bit of each station below the count
 abbrev pub IsWhole : ℕ → ℕ → Type 0
 IsWhole count roll = (s : ℕ) → s < count → IsSet roll s
+
+-- who loads the roll of this cube, and what these loads found, the newest first
+abbrev pub IsReaderOf : Cube → RollReader → Type 0
+IsReaderOf cube reader = reader.seat.table_id ≡ id_of cube.tree
+
+abbrev pub reader_loads : RollReader → List ℕ
+reader_loads reader = reader.seat.me.0.loads
+
+-- its last load found that no station below the count is missing
+pub record FindsAllRetired (count : ℕ) (reader : RollReader) : Type 0 where
+  pub roll : ℕ
+  pub earlier : List ℕ
+  pub loads : reader_loads reader ≡ roll ∷ earlier
+  pub none : IsMissing count roll 0
 
 abbrev pub machine_dim : FreeMachine → ℕ
 machine_dim machine = machine.dim

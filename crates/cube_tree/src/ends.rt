@@ -35,7 +35,7 @@ impl Station {
 }
 
 // The stations below the count whose bit is clear.
-fn missing_in(roll: u64, stations: u32) -> u64
+pub(crate) fn missing_in(roll: u64, stations: u32) -> u64
     requires { stations ≤ MAX_STATIONS }
     ensures { IsMissing stations roll result }
 {

@@ -59,6 +59,13 @@ pub struct FreeMachine {
     pub(crate) seat: Seat,
 }
 
+/// One who loads the roll of a cube, to see who has retired. It is no station, and may be let go.
+#[derive(Drop)]
+pub struct RollReader {
+    pub(crate) seat: Seat,
+    ghost own: { IsBare seat.me },
+}
+
 /// A cube that could not be closed: the stations whose bit the load of the roll found clear.
 pub struct StillOut {
     pub cube: Cube,

@@ -11,6 +11,7 @@ mod comparison;
 mod ends;
 mod handles;
 mod opening;
+mod reading;
 mod refusal;
 mod refused;
 mod search;
@@ -21,7 +22,7 @@ mod takes;
 mod tries;
 
 pub use comparison::apart;
-pub use handles::{Cube, FreeMachine, RetiredStation, Station, StillOut, Subcube};
+pub use handles::{Cube, FreeMachine, RetiredStation, RollReader, Station, StillOut, Subcube};
 pub use refusal::Refusal;
 pub use refused::{CubeRefused, SoloRefused};
 pub use solo::Solo;

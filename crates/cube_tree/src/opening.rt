@@ -52,14 +52,16 @@ impl Cube {
 impl Cube {
     /// The dimension of the machine.
     pub fn dim(&self) -> u32
-        ensures { result ≡ cube_dim self.now }
+        ensures value { result ≡ cube_dim self.now }
+        ensures limit { result ≤ MAX_DIM }
     {
         self.tree.size().dim
     }
 
     /// The number of its stations.
     pub fn stations(&self) -> u32
-        ensures { result ≡ (cube_size self.now).stations }
+        ensures value { result ≡ (cube_size self.now).stations }
+        ensures limit { result ≤ MAX_STATIONS }
     {
         self.tree.size().stations
     }

@@ -1,3 +1,5 @@
 pub mod Machine
-pub use Rattle.cube_shape.specs.Region.{Covers, block}
-pub use Rattle.cube_shape.specs.Machine.{Gives, HasNoFit, IsFirstFit, TakesBack}
+pub use Rattle.cube_shape.specs.Region.{Covers, IsAligned, block}
+pub use Rattle.cube_shape.specs.Machine.{Gives, HasNoFit, IsFirstFit, IsFree, TakesBack}
+pub use Rattle.region_bits.specs.Count.{IsCount}
+pub use Rattle.region_bits.specs.Represents.{bit_of}

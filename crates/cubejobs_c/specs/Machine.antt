@@ -1,5 +1,5 @@
 -- What a contract sees of a machine that its caller keeps: which region each station holds.
-use Rattle.std.specs.Prelude.{false, if◌then◌else◌, List, slice_index_or, Option, Some, None}
+use Rattle.std.specs.Prelude.{ℕ, false, if◌then◌else◌, List, slice_index_or, Option, Some, None}
 use Rattle.cube_shape.specs.declared.region.Region.{Region}
 use Rattle.cube_shape.specs.Machine.{Holdings}
 use Rattle.region_bits.specs.Represents.{Represents}
@@ -23,6 +23,10 @@ held_in machine = holdings machine.slots
 -- the bits represent what the slots hold: what these functions leave behind
 abbrev pub IsSound : Machine → Type 0
 IsSound machine = Represents machine.dim (held_in machine) machine.bits
+
+-- the 2 ^ k processors from this one on
+abbrev pub region_from : ℕ → ℕ → Region
+region_from base k = record { base = base; dim = k }
 
 -- the region that an answer names
 abbrev pub region_of : Answer → Region

@@ -17,3 +17,9 @@ pub const STATION_HOLDS: u32 = 4;
 
 /// The station holds no region.
 pub const NOTHING_HELD: u32 = 5;
+
+/// No aligned region of the dimension begins at this processor.
+pub const BAD_BASE: u32 = 6;
+
+/// The caller's header has a machine of another size than this library.
+pub const BAD_SIZE: u32 = 7;

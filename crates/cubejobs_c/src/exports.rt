@@ -4,16 +4,19 @@ ghost use Rattle.std.specs.Prelude.{◌≡◌, ◌≢◌, ℕ, ◌<◌, ◌≤�
 ghost use Rattle.cube_shape.specs.declared.region.Region.{Region as HeldRegion};
 ghost use Rattle.cube_shape.specs.Region.{Covers, block};
 ghost use Rattle.cube_shape.specs.Machine.{Gives, HasNoFit, IsFirstFit, TakesBack};
+ghost use Rattle.region_bits.specs.Represents.{bit_of};
 ghost use Rattle.cubejobs_c.specs.Machine.{IsSound, held_in, region_of};
 
-use crate::codes::{BAD_DIMENSION, BAD_STATION, DONE, NO_SUBCUBE, NOTHING_HELD, STATION_HOLDS};
-use crate::machine::{Answer, Holder, Machine};
+use crate::codes::{
+    BAD_DIMENSION, BAD_SIZE, BAD_STATION, DONE, NO_SUBCUBE, NOTHING_HELD, STATION_HOLDS,
+};
+use crate::machine::{Answer, Holder, MACHINE_BYTES, Machine};
 use crate::slots;
 use cube_shape::{MAX_DIM, MAX_STATIONS, Region};
 use region_bits::{clear_all, clear_region, first_fit, set_region};
 
 // The answer of a call that was done with a region.
-fn done(region: Region) -> Answer
+pub(crate) fn done(region: Region) -> Answer
     ensures code { result.code ≡ DONE }
     ensures region { region_of result ≡ region }
 {
@@ -25,7 +28,7 @@ fn done(region: Region) -> Answer
 }
 
 // The answer of a call that was refused.
-fn refused(code: u32) -> Answer
+pub(crate) fn refused(code: u32) -> Answer
     ensures code { result.code ≡ code }
     ensures no_region { (result.base ≡ 0) × (result.dim ≡ 0) }
 {
@@ -36,18 +39,32 @@ fn refused(code: u32) -> Answer
     }
 }
 
-/// Makes the machine one of dimension `n` whose stations hold nothing, whatever it was before.
+/// A machine of zeros is one of dimension 0 whose stations hold nothing, and is sound: so memory of zeros need not be
+/// opened before it is passed to any other call. This is a law, and does nothing.
+pub fn zeros_are_sound(machine: &Machine)
+    requires dim { machine.now.dim ≡ 0 }
+    requires bits { (p : ℕ) → bit_of machine.now.bits p ≡ false }
+    requires slots { (s : ℕ) → held_in machine.now s ≡ None }
+    ensures { IsSound machine.now }
+{}
+
+/// Makes the machine one of dimension `n` whose stations hold nothing, whatever it was before. The caller's header
+/// has a machine of this many bytes; where this library's has another size, nothing is written.
 ///
-/// The code is `DONE`, or `BAD_DIMENSION` exactly where `n` is past `MAX_DIM`.
+/// The code is `DONE`, or the first of these that is so: `BAD_SIZE`, `BAD_DIMENSION` where `n` is past `MAX_DIM`.
 #[unsafe(no_mangle)]
-pub extern "C" fn cubejobs_open(machine: &mut Machine, n: u32) -> u32
-    ensures done { n ≤ MAX_DIM → result ≡ DONE }
-    ensures bad_dimension { MAX_DIM < n → result ≡ BAD_DIMENSION }
+pub extern "C" fn cubejobs_open_sized(machine: &mut Machine, size: u64, n: u32) -> u32
+    ensures bad_size { size ≢ MACHINE_BYTES → result ≡ BAD_SIZE }
+    ensures done { size ≡ MACHINE_BYTES → n ≤ MAX_DIM → result ≡ DONE }
+    ensures bad_dimension { size ≡ MACHINE_BYTES → MAX_DIM < n → result ≡ BAD_DIMENSION }
     ensures sound { result ≡ DONE → IsSound machine.new }
     ensures dim { result ≡ DONE → machine.new.dim ≡ n }
     ensures free { result ≡ DONE → (s : ℕ) → held_in machine.new s ≡ None }
     ensures unchanged { result ≢ DONE → machine.new ≡ machine.old }
 {
+    if size != MACHINE_BYTES {
+        return BAD_SIZE;
+    }
     if n > MAX_DIM {
         return BAD_DIMENSION;
     }

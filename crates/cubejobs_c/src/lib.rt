@@ -9,13 +9,18 @@
 mod codes;
 mod exports;
 mod machine;
+mod regions;
 mod slots;
 
-pub use codes::{BAD_DIMENSION, BAD_STATION, DONE, NO_SUBCUBE, NOTHING_HELD, STATION_HOLDS};
-pub use exports::{
-    cubejobs_holder, cubejobs_is_wholly_free, cubejobs_open, cubejobs_release, cubejobs_take,
+pub use codes::{
+    BAD_BASE, BAD_DIMENSION, BAD_SIZE, BAD_STATION, DONE, NO_SUBCUBE, NOTHING_HELD, STATION_HOLDS,
 };
-pub use machine::{Answer, Holder, Machine, Slot};
+pub use exports::{
+    cubejobs_holder, cubejobs_is_wholly_free, cubejobs_open_sized, cubejobs_release, cubejobs_take,
+    zeros_are_sound,
+};
+pub use machine::{Answer, Holder, MACHINE_BYTES, Machine, Slot};
+pub use regions::{cubejobs_free_regions, cubejobs_region, cubejobs_take_region};
 
 #[cfg(test)]
 mod tests;

@@ -12,6 +12,9 @@ pub struct Slot {
     pub held: bool,
 }
 
+/// The bytes of a machine.
+pub const MACHINE_BYTES: u64 = 1544;
+
 /// A machine of at most `2^MAX_DIM` processors, in memory that the caller keeps.
 #[repr(C)]
 #[derive(Drop)]

@@ -1,10 +1,13 @@
 //! The exported functions on machines of dimension 3 and at the limits.
 
-use crate::codes::{BAD_DIMENSION, BAD_STATION, DONE, NO_SUBCUBE, NOTHING_HELD, STATION_HOLDS};
-use crate::exports::{
-    cubejobs_holder, cubejobs_is_wholly_free, cubejobs_open, cubejobs_release, cubejobs_take,
+use crate::codes::{
+    BAD_BASE, BAD_DIMENSION, BAD_SIZE, BAD_STATION, DONE, NO_SUBCUBE, NOTHING_HELD, STATION_HOLDS,
 };
-use crate::machine::{Answer, Machine, Slot};
+use crate::exports::{
+    cubejobs_holder, cubejobs_is_wholly_free, cubejobs_open_sized, cubejobs_release, cubejobs_take,
+};
+use crate::machine::{Answer, MACHINE_BYTES, Machine, Slot};
+use crate::regions::{cubejobs_free_regions, cubejobs_region, cubejobs_take_region};
 
 // Memory before it is opened.
 fn memory() -> Machine {
@@ -23,7 +26,7 @@ fn code_and_base(answer: Answer) -> (u32, u64) {
 #[test]
 fn gives_the_least_free_region(rt: HostRuntime) {
     let mut machine = memory();
-    assert_eq!(rt; cubejobs_open(&mut machine, 3), DONE);
+    assert_eq!(rt; cubejobs_open_sized(&mut machine, MACHINE_BYTES, 3), DONE);
     assert_eq!(rt; code_and_base(cubejobs_take(&mut machine, 0, 1)), (DONE, 0));
     assert_eq!(rt; code_and_base(cubejobs_take(&mut machine, 1, 0)), (DONE, 2));
     assert_eq!(rt; code_and_base(cubejobs_take(&mut machine, 2, 1)), (DONE, 4));
@@ -42,8 +45,11 @@ fn gives_the_least_free_region(rt: HostRuntime) {
 #[test]
 fn answers_bad_arguments_by_a_code(rt: HostRuntime) {
     let mut machine = memory();
-    assert_eq!(rt; cubejobs_open(&mut machine, 10), DONE);
-    assert_eq!(rt; cubejobs_open(&mut machine, 11), BAD_DIMENSION);
+    assert_eq!(rt; cubejobs_open_sized(&mut machine, MACHINE_BYTES, 10), DONE);
+    assert_eq!(rt;
+        cubejobs_open_sized(&mut machine, MACHINE_BYTES, 11),
+        BAD_DIMENSION
+    );
     assert!(rt; cubejobs_is_wholly_free(&machine));
     assert_eq!(rt; cubejobs_take(&mut machine, 32, 11).code, BAD_STATION);
     assert_eq!(rt; cubejobs_take(&mut machine, 31, 11).code, BAD_DIMENSION);
@@ -54,4 +60,38 @@ fn answers_bad_arguments_by_a_code(rt: HostRuntime) {
         (DONE, 0)
     );
     assert_eq!(rt; cubejobs_take(&mut machine, 31, 0).code, STATION_HOLDS);
+}
+
+#[test]
+fn takes_the_region_that_is_asked(rt: HostRuntime) {
+    let mut machine = Machine {
+        dim: 0,
+        bits: [false; 1024],
+        slots: [Slot::new(None); 32],
+    };
+    assert_eq!(rt;
+        cubejobs_open_sized(&mut machine, MACHINE_BYTES - 512, 3),
+        BAD_SIZE
+    );
+    assert_eq!(rt; cubejobs_open_sized(&mut machine, MACHINE_BYTES, 3), DONE);
+    assert_eq!(rt;
+        code_and_base(cubejobs_take_region(&mut machine, 0, 4, 1)),
+        (DONE, 4)
+    );
+    assert_eq!(rt; code_and_base(cubejobs_region(&machine, 0)), (DONE, 4));
+    assert_eq!(rt; cubejobs_region(&machine, 1).code, NOTHING_HELD);
+    assert_eq!(rt; cubejobs_take_region(&mut machine, 1, 3, 1).code, BAD_BASE);
+    assert_eq!(rt; cubejobs_take_region(&mut machine, 1, 8, 1).code, BAD_BASE);
+    assert_eq!(rt;
+        cubejobs_take_region(&mut machine, 1, 4, 2).code,
+        NO_SUBCUBE
+    );
+    assert_eq!(rt;
+        cubejobs_take_region(&mut machine, 0, 0, 0).code,
+        STATION_HOLDS
+    );
+    assert_eq!(rt; cubejobs_free_regions(&machine, 0), 6);
+    assert_eq!(rt; cubejobs_free_regions(&machine, 1), 3);
+    assert_eq!(rt; cubejobs_free_regions(&machine, 2), 1);
+    assert_eq!(rt; cubejobs_free_regions(&machine, 4), 0);
 }

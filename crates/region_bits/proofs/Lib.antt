@@ -1,3 +1,4 @@
 mod BitLemmas
-mod ScanLemmas
+pub mod ScanLemmas
 pub mod RepresentsLemmas
+mod CountLemmas

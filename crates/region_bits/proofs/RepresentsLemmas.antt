@@ -25,10 +25,10 @@ Represents-new n held bits fits enough clear idle = record {
 
 module _ (n : ℕ) (held : Holdings) (bits : List Bool) (represents : Represents n held bits) where
   -- a region is clear exactly if it is apart from every held one
-  free_from_clear : (r : Region) → IsClear bits r → IsFree held r
+  pub free_from_clear : (r : Region) → IsClear bits r → IsFree held r
   free_from_clear r clear s a is p in_a in_r = true≢false (sym (represents.set s p a is in_a) ∙ clear p in_r)
 
-  clear_from_free : (r : Region) → IsFree held r → IsClear bits r
+  pub clear_from_free : (r : Region) → IsFree held r → IsClear bits r
   clear_from_free r free p in_r = represents.clear p (λ s a is in_a. free s a is p in_a in_r)
 
   pub no_fit : (k : ℕ) → ((m : ℕ) → m < 2 ^ (n - k) → IsClear bits (block k m) → ⊥) → HasNoFit n k held

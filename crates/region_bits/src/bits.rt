@@ -25,7 +25,7 @@ pub fn first_clear(bits: &[bool], n: u32, k: u32) -> Option<Region>
 }
 
 /// Whether no bit of a region is set.
-fn is_clear(bits: &[bool], n: u32, region: Region) -> bool
+pub fn is_clear(bits: &[bool], n: u32, region: Region) -> bool
     requires machine { n ≤ MAX_DIM }
     requires bits { 2 ^ n ≤ length bits.now }
     requires region { IsAligned n region }

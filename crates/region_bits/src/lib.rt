@@ -12,4 +12,4 @@ mod bits;
 mod regions;
 
 pub use cube_shape::{MAX_DIM, Region};
-pub use regions::{clear_all, clear_region, first_fit, set_region};
+pub use regions::{clear_all, clear_region, count_free, first_fit, is_free, set_region};

@@ -1,6 +1,7 @@
-ghost use Rattle.std.specs.Prelude.{◌≡◌, ℕ, ◌^◌, ◌≤◌, length, None, IfSome, IfNone};
+ghost use Rattle.std.specs.Prelude.{◌≡◌, ℕ, ◌-◌, ◌^◌, ◌<◌, ◌≤◌, ◌↔◌, length, None, IfSome, IfNone, IsTrue};
 ghost use Rattle.cube_shape.specs.Region.{IsAligned, block};
-ghost use Rattle.cube_shape.specs.Machine.{Gives, HasNoFit, Holdings, IsFirstFit, TakesBack};
+ghost use Rattle.cube_shape.specs.Machine.{Gives, HasNoFit, Holdings, IsFirstFit, IsFree, TakesBack};
+ghost use Rattle.region_bits.specs.Count.{IsCount};
 ghost use Rattle.region_bits.specs.Represents.{Represents};
 
 use crate::bits;
@@ -21,6 +22,48 @@ pub fn first_fit(bits: &[bool], n: u32, k: u32) -> Option<Region>
         → HasNoFit n k held) }
 {
     bits::first_clear(bits, n, k)
+}
+
+/// Whether a region is apart from every region that is held, as the bits represent it.
+pub fn is_free(bits: &[bool], n: u32, region: Region) -> bool
+    requires machine { n ≤ MAX_DIM }
+    requires bits { 2 ^ n ≤ length bits.now }
+    requires region { IsAligned n region }
+    ensures { (held : Holdings) → Represents n held bits.now
+        → IsTrue result ↔ IsFree held region }
+{
+    bits::is_clear(bits, n, region)
+}
+
+// The region `(m, k)`.
+fn nth_region(n: u32, k: u32, m: u64) -> Region
+    requires machine { n ≤ MAX_DIM }
+    requires dim { k ≤ n }
+    requires number { m < 2 ^ (n - k) }
+    ensures region { result ≡ block k m }
+    ensures aligned { IsAligned n result }
+{
+    Region {
+        base: m * (1 << k),
+        dim: k,
+    }
+}
+
+/// How many regions of dimension `k` are apart from every region that is held, as the bits represent it.
+pub fn count_free(bits: &[bool], n: u32, k: u32) -> u64
+    requires machine { n ≤ MAX_DIM }
+    requires dim { k ≤ n }
+    requires bits { 2 ^ n ≤ length bits.now }
+    ensures { (held : Holdings) → Represents n held bits.now
+        → IsCount (λ m. IsFree held (block k m)) (2 ^ (n - k)) result }
+{
+    let mut count = 0;
+    for m in 0..1u64 << (n - k) {
+        if is_free(bits, n, nth_region(n, k, m)) {
+            count += 1;
+        }
+    }
+    count
 }
 
 /// Clears the bits of a machine whose stations hold nothing.

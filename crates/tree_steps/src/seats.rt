@@ -29,6 +29,25 @@ impl Tree {
         Ok((Tree { table, size, room }, seat))
     }
 
+    /// A word as it is at some moment of the call: word `0` is the roll, and word `v` that of node `v`. It
+    /// tells nothing to a proof.
+    pub fn peek(&self, word: u64) -> u64
+        requires { word < 2 ^ (dim_of self.now + 1) }
+    {
+        self.table.shared.peek(word as usize)
+    }
+
+    /// Frees the words, whatever they are.
+    pub fn abandon(self) {
+        let Tree {
+            table,
+            size: _,
+            room,
+        } = self;
+        drop(table);
+        drop(room);
+    }
+
     /// The dimension of the machine and the number of its stations.
     pub fn size(&self) -> Size
         ensures { result ≡ size_of self.now }

@@ -3,7 +3,7 @@ use Rattle.std.proofs.Common.{◌^◌, ◌≤◌, arith}
 use Rattle.std.proofs.Math.Nat.{pow-le-pow_right}
 use Rattle.cube_shape.specs.declared.limits.TheConstants.{MAX_DIM}
 use Rattle.cubejobs_c.specs.Machine.{holdings}
-use Rattle.cubejobs_c.proofs.exports.cubejobs_open.Goals as goal
+use Rattle.cubejobs_c.proofs.exports.cubejobs_open_sized.Goals as goal
 
 pub returns-clause-sound : goal.returns-clause-sound
 returns-clause-sound c = λ code.

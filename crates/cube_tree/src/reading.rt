@@ -1,0 +1,66 @@
+//! The roll and the words of a cube are read while its stations work, and a cube is let go.
+ghost use Rattle.std.specs.Prelude.{◌≡◌, ℕ, ◌+◌, ◌^◌, ◌<◌, ◌≤◌, List, ◌∷◌};
+ghost use Rattle.cube_tree.specs.Handles.{cube_dim, cube_size, loads_of, IsSameCube};
+ghost use Rattle.cube_tree.specs.Ends.{reader_loads, ClosedByRoll, FindsAllRetired, IsMissing, IsReaderOf, IsWhollyFree};
+
+use crate::ends::{finish, missing_in};
+use crate::handles::{Cube, FreeMachine, RollReader};
+use cube_shape::MAX_STATIONS;
+
+impl Cube {
+    /// One who loads the roll beside the cube, and knows what its loads have found so far.
+    pub fn roll_reader(&mut self) -> RollReader
+        ensures reader { IsReaderOf self.new result }
+        ensures loads { reader_loads result ≡ loads_of self.old }
+        ensures loads_stay { loads_of self.new ≡ loads_of self.old }
+        ensures same { IsSameCube self.old self.new }
+    {
+        RollReader {
+            seat: self.tree.copy_loads(&mut self.seat),
+        }
+    }
+
+    /// A word as it is at some moment of the call: word `0` is the roll, and word `v` that of node `v`. It
+    /// tells nothing to a proof, for stations may work.
+    pub fn word(&self, word: u64) -> u64
+        requires { word < 2 ^ (cube_dim self.now + 1) }
+    {
+        self.tree.peek(word)
+    }
+
+    /// Closes the cube by the last load that a reader of its roll made, which found the bit of each station.
+    pub fn close_by(self, reader: RollReader) -> FreeMachine
+        requires reader { IsReaderOf self reader }
+        requires retired { FindsAllRetired (cube_size self).stations reader }
+        ensures free { IsWhollyFree (cube_dim self) result }
+        ensures roll { (roll : ℕ) (earlier : List ℕ) → reader_loads reader ≡ roll ∷ earlier
+            → ClosedByRoll (cube_size self).stations earlier result }
+    {
+        let Cube { tree, seat } = self;
+        drop(seat);
+        finish(tree, reader.seat)
+    }
+
+    /// Lets the cube go, and frees its words, whatever they are. Its stations are worth nothing then. A
+    /// caller that closes its cubes has no need of it: it is for one that keeps a cube where another
+    /// language may drop it.
+    pub fn abandon(self) {
+        let Cube { tree, seat } = self;
+        tree.abandon();
+        drop(seat);
+    }
+}
+
+impl RollReader {
+    /// Loads the roll: the stations below the count whose bit it finds clear, which have not retired.
+    pub fn missing(&mut self, cube: &Cube, count: u32) -> u64
+        requires reader { IsReaderOf cube.now self.old }
+        requires count { count ≤ MAX_STATIONS }
+        ensures reader { IsReaderOf cube.now self.new }
+        ensures missing { (roll : ℕ) × (reader_loads self.new ≡ roll ∷ reader_loads self.old)
+            × IsMissing count roll result }
+    {
+        let roll = cube.tree.load_roll(&mut self.seat);
+        missing_in(roll, count)
+    }
+}

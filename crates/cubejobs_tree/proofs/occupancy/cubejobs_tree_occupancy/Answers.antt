@@ -1,0 +1,21 @@
+-- The words that the handle keeps are those that were counted.
+use Rattle.std.proofs.Common.{◌∙◌, ap, subst, Some}
+use Rattle.cube_tree.specs.Handles.{cube_dim}
+use Rattle.cubejobs_tree.specs.Occupancy.{Counts, words_read}
+use Rattle.cubejobs_tree.proofs.occupancy.cubejobs_tree_occupancy.Goals as goal
+
+pub returns-in-Owner-clause-counted : goal.returns-in-Owner-clause-counted
+returns-in-Owner-clause-counted c = λ code.
+    let after = c.read_words-machine.result in
+    let answer = c.count-answer.result in
+    record {
+      before = c.in-Owner.machine;
+      after = after;
+      was = c.in-Some.ensures.some.0 ∙ ap Some c.in-Owner.is;
+      is = c.put_back.ensures;
+      same = c.read_words-machine.ensures.same;
+      list = c.read_words-machine.ensures.list;
+      reader = c.read_words-machine.ensures.reader;
+      counts = subst (λ n. Counts n (words_read after) answer) (c.dim.ensures.value ∙ ap cube_dim c.deref.ensures)
+          (subst (λ words. Counts c.dim.result words answer) c.deref-in-Owner.ensures.value c.count-answer.ensures.counts);
+    }

@@ -1,0 +1,11 @@
+-- What a contract sees of an answer.
+use Rattle.cube_shape.specs.declared.region.Region.{Region}
+use Rattle.cube_tree.specs.declared.refusal.Refusal.{Refusal}
+use Rattle.cubejobs_tree.specs.declared.answer.Answer.{Answer}
+
+-- the region and the counts that an answer names
+abbrev pub region_of : Answer → Region
+region_of answer = record { base = answer.base; dim = answer.dim }
+
+abbrev pub counts_of : Answer → Refusal
+counts_of answer = record { in_use = answer.in_use; lost = answer.lost; under = answer.under }

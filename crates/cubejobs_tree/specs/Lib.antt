@@ -1,0 +1,10 @@
+pub mod InnerHidden
+pub mod Handle
+pub mod Answers
+pub mod Calls
+pub mod Ends
+pub mod InnerEnds
+pub mod Apart
+pub mod Occupancy
+pub use Rattle.cube_shape.specs.Node.{IsInCube}
+pub use Rattle.cube_shape.specs.Region.{AreApart}

@@ -1,0 +1,34 @@
+-- What an answer counts of a machine.
+use Rattle.std.specs.Prelude.{◌≡◌, ℕ, ◌-◌, ◌<◌, ◌≤◌, if◌then◌else◌, List, Option, Some, None, slice_index}
+use Rattle.std.specs.Arc.{arc_value}
+use Rattle.cube_ledger.specs.Occupancy.{IsLargestFree, free_regions, held_processors}
+use Rattle.cubejobs_tree.specs.declared.answer.OccupancyAnswer.{OccupancyAnswer}
+use Rattle.cubejobs_tree.specs.declared.content.Content.{Content}
+use Rattle.cubejobs_tree.specs.declared.content.Content.TheVariants.{Owner}
+use Rattle.cubejobs_tree.specs.declared.machine.Machine.{Machine}
+use Rattle.cubejobs_tree.specs.Ends.{dim_of_machine}
+
+-- the words of a machine as they were last read, each at some moment of the call that read them
+abbrev pub words_read : Machine → List ℕ
+words_read machine = machine.room.items
+
+abbrev pub largest_of : OccupancyAnswer → Option ℕ
+largest_of answer = if answer.has_free then Some answer.largest else None
+
+-- the answer counts the regions that are free and the processors that are held, by these words
+pub record Counts (n : ℕ) (words : List ℕ) (answer : OccupancyAnswer) : Type 0 where
+  pub free : (k : ℕ) → k ≤ n → slice_index answer.free k ≡ free_regions words (n - k)
+  pub none_above : (k : ℕ) → n < k → slice_index answer.free k ≡ 0
+  pub held : answer.held ≡ held_processors n words
+  pub largest : IsLargestFree answer.free (largest_of answer)
+
+-- the words of the machine were read, and counted; else it is as before
+pub record IsCounted (old new : Option Content) (answer : OccupancyAnswer) : Type 0 where
+  pub before : Machine
+  pub after : Machine
+  pub was : old ≡ Some (Owner before)
+  pub is : new ≡ Some (Owner after)
+  pub same : arc_value after.cube ≡ arc_value before.cube
+  pub list : after.stations ≡ before.stations
+  pub reader : after.reader ≡ before.reader
+  pub counts : Counts (dim_of_machine after) (words_read after) answer

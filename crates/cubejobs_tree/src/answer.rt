@@ -1,0 +1,187 @@
+//! What crosses to the caller: the answers.
+ghost use Rattle.std.specs.Prelude.{◌≡◌};
+ghost use Rattle.cube_tree.specs.Tries.{counted, no_refusal};
+ghost use Rattle.cubejobs_tree.specs.Answers.{counts_of, region_of};
+
+use crate::codes::{DONE, NO_SUBCUBE};
+use cube_shape::Region;
+use cube_tree::{Refusal, Why};
+
+/// The answer of a call that is about a region.
+#[repr(C)]
+#[derive(Clone, Copy, Debug)]
+pub struct Answer {
+    /// `DONE`, or why the call was refused.
+    pub code: u32,
+    /// The region's dimension where the call was done, and otherwise 0.
+    pub dim: u32,
+    /// The region's least processor where the call was done, and otherwise 0.
+    pub base: u64,
+    /// How many tries were refused because the node was in use.
+    pub in_use: u64,
+    /// How many because another station was faster.
+    pub lost: u64,
+    /// How many because an ancestor was occupied.
+    pub under: u64,
+}
+
+/// The answer of a call that gives a station a handle.
+#[repr(C)]
+#[derive(Clone, Copy, Debug)]
+pub struct Seated {
+    /// `DONE`, or why the call was refused.
+    pub code: u32,
+    /// The station's number where the call was done, and otherwise 0.
+    pub number: u32,
+}
+
+/// How large a machine is.
+#[repr(C)]
+#[derive(Clone, Copy, Debug)]
+pub struct SizeAnswer {
+    /// `DONE`, or why the call was refused.
+    pub code: u32,
+    /// The dimension where the call was done, and otherwise 0.
+    pub dim: u32,
+    /// The number of stations where the call was done, and otherwise 0.
+    pub stations: u32,
+    /// How many of them have been given a handle where the call was done, and otherwise 0.
+    pub seated: u32,
+}
+
+/// A word of a machine.
+#[repr(C)]
+#[derive(Clone, Copy, Debug)]
+pub struct WordAnswer {
+    /// `DONE`, or why the call was refused.
+    pub code: u32,
+    /// The word where the call was done, and otherwise 0.
+    pub word: u64,
+}
+
+/// How much of a machine is free.
+#[repr(C)]
+#[derive(Clone, Copy, Debug)]
+pub struct OccupancyAnswer {
+    /// `DONE`, or why the call was refused; then all else is 0.
+    pub code: u32,
+    /// The largest dimension of a free region, if there is one, and otherwise 0.
+    pub largest: u32,
+    /// Whether a region is free.
+    pub has_free: bool,
+    /// How many processors are in a region that is held.
+    pub held: u64,
+    /// The number of free regions of each dimension, at the dimension. It is 0 above the machine's.
+    pub free: [u64; 13],
+}
+
+// The answer of a call that was done with a region.
+pub(crate) fn done(region: Region) -> Answer
+    ensures code { result.code ≡ DONE }
+    ensures region { region_of result ≡ region }
+    ensures no_counts { counts_of result ≡ no_refusal }
+{
+    Answer {
+        code: DONE,
+        dim: region.dim,
+        base: region.base,
+        in_use: 0,
+        lost: 0,
+        under: 0,
+    }
+}
+
+// The answer of a call that was refused before it did anything.
+pub(crate) fn refused(code: u32) -> Answer
+    ensures code { result.code ≡ code }
+    ensures no_region { (result.base ≡ 0) × (result.dim ≡ 0) }
+    ensures no_counts { counts_of result ≡ no_refusal }
+{
+    Answer {
+        code,
+        dim: 0,
+        base: 0,
+        in_use: 0,
+        lost: 0,
+        under: 0,
+    }
+}
+
+// The answer of a take whose tries were all refused.
+pub(crate) fn no_subcube(refusal: Refusal) -> Answer
+    ensures code { result.code ≡ NO_SUBCUBE }
+    ensures no_region { (result.base ≡ 0) × (result.dim ≡ 0) }
+    ensures counts { counts_of result ≡ refusal }
+{
+    Answer {
+        code: NO_SUBCUBE,
+        dim: 0,
+        base: 0,
+        in_use: refusal.in_use,
+        lost: refusal.lost,
+        under: refusal.under,
+    }
+}
+
+// The count of one refusal.
+pub(crate) fn count_of(why: Why) -> Refusal
+    ensures { result ≡ counted why no_refusal }
+{
+    match why {
+        Why::InUse => Refusal {
+            in_use: 1,
+            lost: 0,
+            under: 0,
+        },
+        Why::Lost => Refusal {
+            in_use: 0,
+            lost: 1,
+            under: 0,
+        },
+        Why::Under(_) => Refusal {
+            in_use: 0,
+            lost: 0,
+            under: 1,
+        },
+    }
+}
+
+impl Seated {
+    // A call that was refused.
+    pub(crate) fn refused(code: u32) -> Seated
+        ensures code { result.code ≡ code }
+        ensures no_number { result.number ≡ 0 }
+    {
+        Seated { code, number: 0 }
+    }
+}
+
+impl SizeAnswer {
+    // A call that was refused.
+    pub(crate) fn refused(code: u32) -> SizeAnswer
+        ensures code { result.code ≡ code }
+        ensures nothing { (result.dim ≡ 0) × (result.stations ≡ 0) × (result.seated ≡ 0) }
+    {
+        SizeAnswer {
+            code,
+            dim: 0,
+            stations: 0,
+            seated: 0,
+        }
+    }
+}
+
+impl OccupancyAnswer {
+    // A call that was refused.
+    pub(crate) fn refused(code: u32) -> OccupancyAnswer
+        ensures { result.code ≡ code }
+    {
+        OccupancyAnswer {
+            code,
+            largest: 0,
+            has_free: false,
+            held: 0,
+            free: [0; 13],
+        }
+    }
+}

@@ -1,0 +1,298 @@
+//! The functions of the library, under the names that C declares.
+ghost use Rattle.std.specs.Prelude.{◌≡◌, ◌≢◌, ◌<◌, ◌≤◌, ◌⊎◌, None, Some, IsSome, []};
+ghost use Rattle.cubejobs_tree.specs.declared.content.Content.TheVariants.{Away, Owner};
+ghost use Rattle.cube_shape.specs.declared.limits.TheConstants.{MAX_DIM, MAX_STATIONS};
+ghost use Rattle.cube_shape.specs.Node.{IsInCube};
+ghost use Rattle.cubejobs_tree.specs.Handle.{content_of};
+ghost use Rattle.cubejobs_tree.specs.Ends.{bar_to_free, bar_to_machine, IsClosed, IsNew, IsStillOpen, OnMachine, Seats};
+ghost use Rattle.cubejobs_tree.specs.Calls.{bar_to_release, bar_to_take, FreeOn, Gives, GivesNode, Refuses, RefusesNode, TakesBack};
+
+use crate::answer::{Answer, Seated, refused};
+use crate::codes::{
+    ALREADY_OPEN, BAD_DIMENSION, BAD_NODE, BAD_STATIONS, BAD_VERSION, DONE, NO_STATION, NO_SUBCUBE,
+    NOT_OPEN, OTHER_KIND, OUT_OF_MEMORY, RETIRING, STATION_HOLDS, STILL_OUT, VERSION,
+};
+use crate::content::Content;
+use crate::handle::Handle;
+use crate::machine::Machine;
+use crate::places::{put_back, take_out};
+use crate::{calls, ends};
+use std::alloc::Global;
+
+// The handle of a machine that is made, or why none is.
+fn open_as(alloc: Global, cube: &mut Handle, n: u32, stations: u32) -> u32
+    ensures bad_dimension { MAX_DIM < n → result ≡ BAD_DIMENSION }
+    ensures bad_stations { n ≤ MAX_DIM → ((stations ≡ 0) ⊎ (MAX_STATIONS < stations))
+        → result ≡ BAD_STATIONS }
+    ensures else_memory { n ≤ MAX_DIM → 0 < stations → stations ≤ MAX_STATIONS
+        → (result ≡ DONE) ⊎ (result ≡ OUT_OF_MEMORY) }
+    ensures new { result ≡ DONE → IsNew n stations (content_of cube.new) }
+    ensures unchanged { result ≢ DONE → content_of cube.new ≡ content_of cube.old }
+{
+    match ends::machine_of(alloc, n, stations) {
+        Err(why) => ends::code_of(why),
+        Ok(made) => match Box::new(alloc, Content::Owner(made)) {
+            Err(failed) => {
+                drop(failed);
+                OUT_OF_MEMORY
+            }
+            Ok(content) => {
+                *cube = Handle::of(content);
+                DONE
+            }
+        },
+    }
+}
+
+/// Opens a machine of dimension `n` with this many stations, none of which has a handle. The header of the
+/// caller is of this version.
+#[unsafe(no_mangle)]
+pub extern "C" fn cubejobs_tree_open_version(
+    alloc: Global,
+    cube: &mut Handle,
+    version: u32,
+    n: u32,
+    stations: u32,
+) -> u32
+    ensures bad_version { version ≢ VERSION → result ≡ BAD_VERSION }
+    ensures already { version ≡ VERSION → IsSome (content_of cube.old) → result ≡ ALREADY_OPEN }
+    ensures bad_dimension { version ≡ VERSION → content_of cube.old ≡ None → MAX_DIM < n
+        → result ≡ BAD_DIMENSION }
+    ensures bad_stations { version ≡ VERSION → content_of cube.old ≡ None → n ≤ MAX_DIM
+        → ((stations ≡ 0) ⊎ (MAX_STATIONS < stations)) → result ≡ BAD_STATIONS }
+    ensures else_memory { version ≡ VERSION → content_of cube.old ≡ None → n ≤ MAX_DIM
+        → 0 < stations → stations ≤ MAX_STATIONS → (result ≡ DONE) ⊎ (result ≡ OUT_OF_MEMORY) }
+    ensures new { result ≡ DONE → IsNew n stations (content_of cube.new) }
+    ensures unchanged { result ≢ DONE → content_of cube.new ≡ content_of cube.old }
+{
+    if version != VERSION {
+        return BAD_VERSION;
+    }
+    if cube.is_open() {
+        return ALREADY_OPEN;
+    }
+    open_as(alloc, cube, n, stations)
+}
+
+/// Gives the first of the machine's stations that wait a handle. It holds nothing.
+#[unsafe(no_mangle)]
+pub extern "C" fn cubejobs_tree_seat(
+    alloc: Global,
+    cube: &mut Handle,
+    station: &mut Handle,
+) -> Seated
+    ensures already { IsSome (content_of station.old) → result.code ≡ ALREADY_OPEN }
+    ensures barred { content_of station.old ≡ None → bar_to_machine (content_of cube.old) ≢ DONE
+        → result.code ≡ bar_to_machine (content_of cube.old) }
+    ensures no_station { content_of station.old ≡ None
+        → OnMachine (λ machine. machine.stations.items ≡ []) (content_of cube.old)
+        → result.code ≡ NO_STATION }
+    ensures else_memory { content_of station.old ≡ None
+        → OnMachine (λ machine. machine.stations.items ≢ []) (content_of cube.old)
+        → (result.code ≡ DONE) ⊎ (result.code ≡ OUT_OF_MEMORY) }
+    ensures seated { result.code ≡ DONE → Seats (content_of cube.old) (content_of cube.new)
+        (content_of station.new) result.number }
+    ensures no_number { result.code ≢ DONE → result.number ≡ 0 }
+    ensures cube_unchanged { result.code ≢ DONE → content_of cube.new ≡ content_of cube.old }
+    ensures unchanged { result.code ≢ DONE → content_of station.new ≡ content_of station.old }
+{
+    if station.is_open() {
+        return Seated::refused(ALREADY_OPEN);
+    }
+    let Some((content, room)) = take_out(cube, alloc) else {
+        return Seated::refused(NOT_OPEN);
+    };
+    match content {
+        Content::Owner(owner) => {
+            let (owner, seated) = owner.seat(alloc);
+            put_back(cube, room, Content::Owner(owner));
+            match seated {
+                Ok((seat, number)) => {
+                    *station = Handle::of(seat);
+                    Seated { code: DONE, number }
+                }
+                Err(code) => Seated::refused(code),
+            }
+        }
+        other => {
+            put_back(cube, room, other);
+            Seated::refused(OTHER_KIND)
+        }
+    }
+}
+
+/// Searches the regions of dimension `k` for one that can be taken, from the first one on.
+#[unsafe(no_mangle)]
+pub extern "C" fn cubejobs_tree_take(alloc: Global, station: &mut Handle, k: u32) -> Answer
+    ensures barred { bar_to_take (content_of station.old) ≢ DONE
+        → result.code ≡ bar_to_take (content_of station.old) }
+    ensures bad_dimension { FreeOn (λ n. n < k) (content_of station.old)
+        → result.code ≡ BAD_DIMENSION }
+    ensures tried { FreeOn (λ n. k ≤ n) (content_of station.old) → result.code ≤ NO_SUBCUBE }
+    ensures given { result.code ≡ DONE
+        → Gives k (content_of station.old) (content_of station.new) result }
+    ensures refused { result.code ≡ NO_SUBCUBE
+        → Refuses k (content_of station.old) (content_of station.new) result }
+    ensures unchanged { NO_SUBCUBE < result.code
+        → content_of station.new ≡ content_of station.old }
+{
+    let Some((content, room)) = take_out(station, alloc) else {
+        return refused(NOT_OPEN);
+    };
+    let (content, answer) = calls::take(content, k);
+    put_back(station, room, content);
+    answer
+}
+
+/// Tries the region of one node.
+#[unsafe(no_mangle)]
+pub extern "C" fn cubejobs_tree_try_node(alloc: Global, station: &mut Handle, node: u64) -> Answer
+    ensures barred { bar_to_take (content_of station.old) ≢ DONE
+        → result.code ≡ bar_to_take (content_of station.old) }
+    ensures bad_node { FreeOn (λ n. IsInCube n node → ⊥) (content_of station.old)
+        → result.code ≡ BAD_NODE }
+    ensures tried { FreeOn (λ n. IsInCube n node) (content_of station.old)
+        → result.code ≤ NO_SUBCUBE }
+    ensures given { result.code ≡ DONE
+        → GivesNode node (content_of station.old) (content_of station.new) result }
+    ensures refused { result.code ≡ NO_SUBCUBE
+        → RefusesNode node (content_of station.old) (content_of station.new) result }
+    ensures unchanged { NO_SUBCUBE < result.code
+        → content_of station.new ≡ content_of station.old }
+{
+    let Some((content, room)) = take_out(station, alloc) else {
+        return refused(NOT_OPEN);
+    };
+    let (content, answer) = calls::try_node(content, node);
+    put_back(station, room, content);
+    answer
+}
+
+/// Gives the station's region back, and answers which it was.
+#[unsafe(no_mangle)]
+pub extern "C" fn cubejobs_tree_release(alloc: Global, station: &mut Handle) -> Answer
+    ensures barred { bar_to_release (content_of station.old) ≢ DONE
+        → result.code ≡ bar_to_release (content_of station.old) }
+    ensures done { bar_to_release (content_of station.old) ≡ DONE → result.code ≡ DONE }
+    ensures released { result.code ≡ DONE
+        → TakesBack (content_of station.old) (content_of station.new) result }
+    ensures unchanged { result.code ≢ DONE → content_of station.new ≡ content_of station.old }
+{
+    let Some((content, room)) = take_out(station, alloc) else {
+        return refused(NOT_OPEN);
+    };
+    let (content, answer) = calls::release(content);
+    put_back(station, room, content);
+    answer
+}
+
+/// The station, which holds nothing, retires, and its handle is shut.
+#[unsafe(no_mangle)]
+pub extern "C" fn cubejobs_tree_retire(alloc: Global, station: &mut Handle) -> u32
+    ensures barred { bar_to_take (content_of station.old) ≢ DONE
+        → result ≡ bar_to_take (content_of station.old) }
+    ensures done { bar_to_take (content_of station.old) ≡ DONE → result ≡ DONE }
+    ensures shut { result ≡ DONE → content_of station.new ≡ None }
+    ensures unchanged { result ≢ DONE → content_of station.new ≡ content_of station.old }
+{
+    let Some((content, room)) = take_out(station, alloc) else {
+        return NOT_OPEN;
+    };
+    match content {
+        Content::Free(idle) => {
+            idle.retire();
+            drop(room);
+            DONE
+        }
+        Content::Busy(held) => {
+            put_back(station, room, Content::Busy(held));
+            STATION_HOLDS
+        }
+        other => {
+            put_back(station, room, other);
+            OTHER_KIND
+        }
+    }
+}
+
+/// Closes the machine if each station that got a handle has retired: then the handle is that of its
+/// words, which are to be freed. Otherwise bit `s` of `missing` is set for each station `s` that has not.
+#[unsafe(no_mangle)]
+pub extern "C" fn cubejobs_tree_close(alloc: Global, cube: &mut Handle, missing: &mut u64) -> u32
+    ensures barred { bar_to_machine (content_of cube.old) ≢ DONE
+        → result ≡ bar_to_machine (content_of cube.old) }
+    ensures tried { bar_to_machine (content_of cube.old) ≡ DONE
+        → (result ≡ DONE) ⊎ (result ≡ STILL_OUT) ⊎ (result ≡ RETIRING) }
+    ensures closed { result ≡ DONE → IsClosed (content_of cube.old) (content_of cube.new) }
+    ensures still_out { result ≡ STILL_OUT → (missing.new ≢ 0)
+        × IsStillOpen (content_of cube.old) (content_of cube.new) missing.new }
+    ensures retiring { result ≡ RETIRING
+        → IsStillOpen (content_of cube.old) (content_of cube.new) 0 }
+    ensures unchanged { bar_to_machine (content_of cube.old) ≢ DONE
+        → content_of cube.new ≡ content_of cube.old }
+    ensures same_missing { result ≢ STILL_OUT → missing.new ≡ missing.old }
+{
+    let Some((content, room)) = take_out(cube, alloc) else {
+        return NOT_OPEN;
+    };
+    match content {
+        Content::Owner(owner) => close_owner(cube, room, owner, missing),
+        other => {
+            put_back(cube, room, other);
+            OTHER_KIND
+        }
+    }
+}
+
+// The machine is closed, or comes back behind its handle.
+fn close_owner(cube: &mut Handle, room: Box<Content>, owner: Machine, missing: &mut u64) -> u32
+    requires away { room.value ≡ Away }
+    ensures tried { (result ≡ DONE) ⊎ (result ≡ STILL_OUT) ⊎ (result ≡ RETIRING) }
+    ensures closed { result ≡ DONE → IsClosed (Some (Owner owner)) (content_of cube.new) }
+    ensures still_out { result ≡ STILL_OUT → (missing.new ≢ 0)
+        × IsStillOpen (Some (Owner owner)) (content_of cube.new) missing.new }
+    ensures retiring { result ≡ RETIRING
+        → IsStillOpen (Some (Owner owner)) (content_of cube.new) 0 }
+    ensures same_missing { result ≢ STILL_OUT → missing.new ≡ missing.old }
+{
+    match owner.close() {
+        Ok(free) => {
+            put_back(cube, room, Content::Closed(free));
+            DONE
+        }
+        Err((owner, found)) => {
+            put_back(cube, room, Content::Owner(owner));
+            if found == 0 {
+                RETIRING
+            } else {
+                *missing = found;
+                STILL_OUT
+            }
+        }
+    }
+}
+
+/// Frees the words of a machine that is closed, and its handle is shut.
+#[unsafe(no_mangle)]
+pub extern "C" fn cubejobs_tree_free(alloc: Global, cube: &mut Handle) -> u32
+    ensures barred { bar_to_free (content_of cube.old) ≢ DONE
+        → result ≡ bar_to_free (content_of cube.old) }
+    ensures done { bar_to_free (content_of cube.old) ≡ DONE → result ≡ DONE }
+    ensures shut { result ≡ DONE → content_of cube.new ≡ None }
+    ensures unchanged { result ≢ DONE → content_of cube.new ≡ content_of cube.old }
+{
+    let Some((content, room)) = take_out(cube, alloc) else {
+        return NOT_OPEN;
+    };
+    match content {
+        Content::Closed(free) => {
+            drop(free);
+            drop(room);
+            DONE
+        }
+        other => {
+            put_back(cube, room, other);
+            OTHER_KIND
+        }
+    }
+}

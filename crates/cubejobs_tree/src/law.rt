@@ -1,0 +1,67 @@
+//! The law of the tree, said of two handles.
+ghost use Rattle.std.specs.Prelude.{◌≡◌, false, IsTrue};
+ghost use Rattle.std.specs.Arc.{arc_value};
+ghost use Rattle.cube_shape.specs.Region.{AreApart};
+ghost use Rattle.cube_tree.specs.Handles.{held_region, IsSameSubcube};
+ghost use Rattle.cubejobs_tree.specs.Apart.{AreOnOneMachine, HoldApart};
+ghost use Rattle.cubejobs_tree.specs.Handle.{content_of};
+
+use crate::content::Content;
+use crate::handle::Handle;
+use crate::places::{put_back, take_out};
+use crate::station::Holding;
+use std::alloc::Global;
+
+// Two regions that are held at one moment are apart: gives the stations back as they were.
+fn compare(a: Holding, b: Holding) -> (Holding, Holding)
+    requires same { arc_value a.cube ≡ arc_value b.cube }
+    ensures apart { AreApart (held_region a.subcube) (held_region b.subcube) }
+    ensures first { IsSameSubcube a.subcube result.0.subcube }
+    ensures second { IsSameSubcube b.subcube result.1.subcube }
+{
+    let (cube, first) = a.into_pair();
+    let (other, second) = b.into_pair();
+    let (first, second) = cube_tree::apart(first, second, &cube);
+    (
+        Holding {
+            cube,
+            subcube: first,
+        },
+        Holding {
+            cube: other,
+            subcube: second,
+        },
+    )
+}
+
+/// Whether the stations of two handles hold regions. If both are stations of one machine, these regions are
+/// apart, at whatever moment the call comes, and the call changes nothing: this is a law, which says so of
+/// any two handles, and no function for C.
+pub fn apart(alloc: Global, a: &mut Handle, b: &mut Handle) -> bool
+    requires one_machine { AreOnOneMachine (content_of a.old) (content_of b.old) }
+    ensures apart { IsTrue result → HoldApart (content_of a.old) (content_of b.old)
+        (content_of a.new) (content_of b.new) }
+    ensures unchanged { result ≡ false → (content_of a.new ≡ content_of a.old)
+        × (content_of b.new ≡ content_of b.old) }
+{
+    let Some((first, first_room)) = take_out(a, alloc) else {
+        return false;
+    };
+    let Some((second, second_room)) = take_out(b, alloc) else {
+        put_back(a, first_room, first);
+        return false;
+    };
+    match (first, second) {
+        (Content::Busy(first), Content::Busy(second)) => {
+            let (first, second) = compare(first, second);
+            put_back(a, first_room, Content::Busy(first));
+            put_back(b, second_room, Content::Busy(second));
+            true
+        }
+        (first, second) => {
+            put_back(a, first_room, first);
+            put_back(b, second_room, second);
+            false
+        }
+    }
+}

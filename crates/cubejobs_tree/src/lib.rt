@@ -1,0 +1,39 @@
+//! The running tree for callers in C, C++ and Rust: subcubes for many threads at once, with no lock.
+//!
+//! A caller keeps handles of 16 bytes, of a machine and of its stations, and passes one to each call. What
+//! stands behind a handle is a box that only this library follows; so the clauses of each call say what
+//! the tree's own clauses say of its cube, its stations and the regions that they hold.
+//! `include/cubejobs_tree.h` declares these functions for C and C++, and the module `tree` of the package
+//! `rust/` wraps them for Rust.
+#![tactic(auto)]
+
+mod answer;
+mod calls;
+mod codes;
+mod content;
+mod ends;
+mod exports;
+mod handle;
+mod hidden;
+mod law;
+mod machine;
+mod occupancy;
+mod parts;
+mod places;
+mod readouts;
+mod station;
+
+pub use answer::{Answer, OccupancyAnswer, Seated, SizeAnswer, WordAnswer};
+pub use codes::{
+    ALREADY_OPEN, BAD_DIMENSION, BAD_NODE, BAD_STATIONS, BAD_VERSION, DONE, NO_STATION, NO_SUBCUBE,
+    NOT_OPEN, NOTHING_HELD, OPEN, OTHER_KIND, OUT_OF_MEMORY, RETIRING, STATION_HOLDS, STILL_OUT,
+    VERSION,
+};
+pub use exports::{
+    cubejobs_tree_close, cubejobs_tree_free, cubejobs_tree_open_version, cubejobs_tree_release,
+    cubejobs_tree_retire, cubejobs_tree_seat, cubejobs_tree_take, cubejobs_tree_try_node,
+};
+pub use handle::Handle;
+pub use law::apart;
+pub use occupancy::cubejobs_tree_occupancy;
+pub use readouts::{cubejobs_tree_region, cubejobs_tree_size, cubejobs_tree_word};

@@ -1,0 +1,81 @@
+//! The read-out of how much of a machine is free.
+ghost use Rattle.std.specs.Prelude.{◌≡◌, ◌≢◌, ℕ, ◌+◌, ◌^◌, ◌≤◌, length};
+ghost use Rattle.std.specs.Arc.{arc_value};
+ghost use Rattle.cubejobs_tree.specs.Handle.{content_of};
+ghost use Rattle.cubejobs_tree.specs.Ends.{bar_to_machine};
+ghost use Rattle.cubejobs_tree.specs.Occupancy.{Counts, IsCounted};
+
+use crate::answer::OccupancyAnswer;
+use crate::codes::{DONE, NOT_OPEN, OTHER_KIND};
+use crate::content::Content;
+use crate::handle::Handle;
+use crate::machine::Machine;
+use crate::places::{put_back, take_out};
+use cube_ledger::occupancy;
+use cube_shape::MAX_DIM;
+use std::alloc::Global;
+
+impl Machine {
+    // Reads each word into the room.
+    fn read_words(self) -> Machine
+        ensures same { arc_value result.cube ≡ arc_value self.cube }
+        ensures list { result.stations ≡ self.stations }
+        ensures reader { result.reader ≡ self.reader }
+    {
+        let (cube, stations, reader, mut room) = self.into_parts();
+        for word in 0..room.len() {
+            room[word] = cube.word(word as u64);
+        }
+        Machine {
+            cube,
+            stations,
+            reader,
+            room,
+        }
+    }
+}
+
+// What the words of a machine say.
+fn count(n: u32, words: &[u64]) -> OccupancyAnswer
+    requires machine { n ≤ MAX_DIM }
+    requires words { length words.now ≡ 2 ^ (n + 1) }
+    ensures code { result.code ≡ DONE }
+    ensures counts { Counts n words.now result }
+{
+    let found = occupancy(n, words);
+    OccupancyAnswer {
+        code: DONE,
+        largest: found.largest.unwrap_or(0),
+        has_free: found.largest.is_some(),
+        held: found.held,
+        free: found.free,
+    }
+}
+
+/// How many regions of each dimension are free, how many processors are in a region that is held, and the largest free
+/// dimension, by the words as each is at some moment of the call.
+#[unsafe(no_mangle)]
+pub extern "C" fn cubejobs_tree_occupancy(alloc: Global, cube: &mut Handle) -> OccupancyAnswer
+    ensures barred { bar_to_machine (content_of cube.old) ≢ DONE
+        → result.code ≡ bar_to_machine (content_of cube.old) }
+    ensures done { bar_to_machine (content_of cube.old) ≡ DONE → result.code ≡ DONE }
+    ensures counted { result.code ≡ DONE
+        → IsCounted (content_of cube.old) (content_of cube.new) result }
+    ensures unchanged { result.code ≢ DONE → content_of cube.new ≡ content_of cube.old }
+{
+    let Some((content, place)) = take_out(cube, alloc) else {
+        return OccupancyAnswer::refused(NOT_OPEN);
+    };
+    match content {
+        Content::Owner(machine) => {
+            let machine = machine.read_words();
+            let answer = count(machine.cube.dim(), &machine.room);
+            put_back(cube, place, Content::Owner(machine));
+            answer
+        }
+        other => {
+            put_back(cube, place, other);
+            OccupancyAnswer::refused(OTHER_KIND)
+        }
+    }
+}

@@ -1,0 +1,117 @@
+//! Read-outs of a machine and of its stations, under the names that C declares.
+ghost use Rattle.std.specs.Prelude.{◌≡◌, ◌≢◌, ◌<◌, ◌≤◌, ◌+◌, ◌^◌};
+ghost use Rattle.cubejobs_tree.specs.Handle.{content_of};
+ghost use Rattle.cubejobs_tree.specs.Ends.{bar_to_machine, dim_of_machine, seated, station_count, OnMachine};
+ghost use Rattle.cubejobs_tree.specs.Calls.{bar_to_release, Names};
+
+use crate::answer::{Answer, SizeAnswer, WordAnswer, refused};
+use crate::calls;
+use crate::codes::{BAD_NODE, DONE, NOT_OPEN, OTHER_KIND};
+use crate::content::Content;
+use crate::handle::Handle;
+use crate::machine::Machine;
+use crate::places::{put_back, take_out};
+use std::alloc::Global;
+
+/// The region that the station holds.
+#[unsafe(no_mangle)]
+pub extern "C" fn cubejobs_tree_region(alloc: Global, station: &mut Handle) -> Answer
+    ensures barred { bar_to_release (content_of station.old) ≢ DONE
+        → result.code ≡ bar_to_release (content_of station.old) }
+    ensures done { bar_to_release (content_of station.old) ≡ DONE → result.code ≡ DONE }
+    ensures named { result.code ≡ DONE → Names (content_of station.old) result }
+    ensures unchanged { content_of station.new ≡ content_of station.old }
+{
+    let Some((content, room)) = take_out(station, alloc) else {
+        return refused(NOT_OPEN);
+    };
+    let answer = calls::region(&content);
+    put_back(station, room, content);
+    answer
+}
+
+// The size of a machine.
+fn size_of(machine: &Machine) -> SizeAnswer
+    ensures code { result.code ≡ DONE }
+    ensures dim { result.dim ≡ dim_of_machine machine.now }
+    ensures stations { result.stations ≡ station_count machine.now }
+    ensures seated { result.seated ≡ seated machine.now }
+{
+    SizeAnswer {
+        code: DONE,
+        dim: machine.cube.dim(),
+        stations: machine.cube.stations(),
+        seated: machine.seated(),
+    }
+}
+
+/// The dimension of the machine, the number of its stations, and how many of them have got a handle.
+#[unsafe(no_mangle)]
+pub extern "C" fn cubejobs_tree_size(alloc: Global, cube: &mut Handle) -> SizeAnswer
+    ensures barred { bar_to_machine (content_of cube.old) ≢ DONE
+        → result.code ≡ bar_to_machine (content_of cube.old) }
+    ensures done { bar_to_machine (content_of cube.old) ≡ DONE → result.code ≡ DONE }
+    ensures dim { result.code ≡ DONE
+        → OnMachine (λ machine. result.dim ≡ dim_of_machine machine) (content_of cube.old) }
+    ensures stations { result.code ≡ DONE
+        → OnMachine (λ machine. result.stations ≡ station_count machine) (content_of cube.old) }
+    ensures seated { result.code ≡ DONE
+        → OnMachine (λ machine. result.seated ≡ seated machine) (content_of cube.old) }
+    ensures unchanged { content_of cube.new ≡ content_of cube.old }
+{
+    let Some((content, room)) = take_out(cube, alloc) else {
+        return SizeAnswer::refused(NOT_OPEN);
+    };
+    let answer = match &content {
+        Content::Owner(machine) => size_of(machine),
+        _ => SizeAnswer::refused(OTHER_KIND),
+    };
+    put_back(cube, room, content);
+    answer
+}
+
+// A word of a machine as it is at some moment of the call.
+fn word_of(machine: &Machine, node: u64) -> WordAnswer
+    ensures bad_node { 2 ^ (dim_of_machine machine.now + 1) ≤ node → result.code ≡ BAD_NODE }
+    ensures done { node < 2 ^ (dim_of_machine machine.now + 1) → result.code ≡ DONE }
+{
+    if node >= 1 << (machine.cube.dim() + 1) {
+        return WordAnswer {
+            code: BAD_NODE,
+            word: 0,
+        };
+    }
+    WordAnswer {
+        code: DONE,
+        word: machine.cube.word(node),
+    }
+}
+
+/// The word of a node as it is at some moment of the call; word 0 is the roll of those who have retired. No
+/// clause says what it is, since stations may work.
+#[unsafe(no_mangle)]
+pub extern "C" fn cubejobs_tree_word(alloc: Global, cube: &mut Handle, node: u64) -> WordAnswer
+    ensures barred { bar_to_machine (content_of cube.old) ≢ DONE
+        → result.code ≡ bar_to_machine (content_of cube.old) }
+    ensures bad_node { OnMachine (λ machine. 2 ^ (dim_of_machine machine + 1) ≤ node)
+        (content_of cube.old) → result.code ≡ BAD_NODE }
+    ensures done { OnMachine (λ machine. node < 2 ^ (dim_of_machine machine + 1))
+        (content_of cube.old) → result.code ≡ DONE }
+    ensures unchanged { content_of cube.new ≡ content_of cube.old }
+{
+    let Some((content, room)) = take_out(cube, alloc) else {
+        return WordAnswer {
+            code: NOT_OPEN,
+            word: 0,
+        };
+    };
+    let answer = match &content {
+        Content::Owner(machine) => word_of(machine, node),
+        _ => WordAnswer {
+            code: OTHER_KIND,
+            word: 0,
+        },
+    };
+    put_back(cube, room, content);
+    answer
+}

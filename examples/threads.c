@@ -1,0 +1,28 @@
+// Two threads take regions of one machine and give them back. Its output is examples/threads.out.
+#include <pthread.h>
+#include <stdio.h>
+
+#include "cubejobs_tree.h"
+
+static void *work(void *station) {
+    for (int given = 0; given < 1000;)
+        if (cubejobs_tree_take(station, 2).code == CUBEJOBS_TREE_DONE) { // the region is this thread's own now
+            given++;
+            cubejobs_tree_release(station);
+        }
+    return NULL;
+}
+
+int main(void) {
+    static struct cubejobs_cube cube; // of zeros, as handles must be before they are opened
+    static struct cubejobs_station stations[2];
+    pthread_t threads[2];
+    uint64_t missing;
+    if (cubejobs_tree_open(&cube, 3, 2)) return 1;
+    for (int i = 0; i < 2; i++)
+        if (cubejobs_tree_seat(&cube, &stations[i]).code || pthread_create(&threads[i], NULL, work, &stations[i])) return 1;
+    for (int i = 0; i < 2; i++) pthread_join(threads[i], NULL), cubejobs_tree_retire(&stations[i]);
+    if (cubejobs_tree_close(&cube, &missing) || cubejobs_tree_free(&cube)) return 1;
+    puts("each of two threads has had 1000 regions of its own");
+    return 0;
+}
