@@ -1,2 +1,2 @@
-mod PairLemmas
+mod OnlyLemmas
 mod PushLemmas

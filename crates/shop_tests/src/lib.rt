@@ -1,4 +1,4 @@
-//! The tests of the line, the floors and the shop, from the gate and the ring to whole batches.
+//! The tests of the floors and the shop, from single calls to whole batches.
 #![tactic(auto)]
 
 #[cfg(test)]

@@ -2,6 +2,7 @@
 ghost use Rattle.std.specs.Prelude.{◌≤◌};
 
 use crate::tests::at_rest::AtRest;
+use crate::tests::over::{BOTH, Over};
 use crew::{RunEnd, Stopped, answer_all};
 use cube_shape::MAX_LANES;
 use dispatcher::{Finished, Plain, Runner, ShopRefused, sorted_replies};
@@ -25,16 +26,46 @@ const DIM: u32 = 3;
 // How many jobs each lane of a long batch has.
 const EACH: u32 = 5;
 
-// The batch of these jobs, or why it is refused and how many lists came back.
+// The replies of a batch.
+#[derive(Drop)]
+struct Batch {
+    // The replies in the order of their ids.
+    replies: Vec<Reply>,
+    // How many jobs each lane had accepted, and how many workers there were.
+    accepted: Vec<u64>,
+    workers: usize,
+    // Whether the machine is wholly free.
+    is_at_rest: bool,
+}
+
+// The replies in the order of their ids, and what else is known of a batch.
+fn sorted<M: Drop + AtRest>(rt: &impl Abort, alloc: Global, finished: Finished<M>) -> Batch {
+    let workers = finished.by_worker.len();
+    let is_at_rest = finished.machine.is_at_rest(DIM);
+    let accepted = Vec::from_slice(alloc, &finished.accepted).expect(rt, "no memory");
+    match sorted_replies(alloc, finished) {
+        Ok(replies) => Batch {
+            replies,
+            accepted,
+            workers,
+            is_at_rest,
+        },
+        Err(_) => panic!(rt; "no memory"),
+    }
+}
+
+// Why a batch is refused, and how many lists came back.
+type Refused = (ShopRefused, usize);
+
+// The batch of these jobs, over this line and this floor.
 fn batch_of<R: Threads + Wait + Abort + Sync, L: JobLine + Sync, F: Floor + Sync, T: Runner + Sync>(
     rt: &R,
     alloc: Global,
     lanes: u32,
     plan: Plan,
-    workers: u32,
-    capacity: usize,
+    sizes: (u32, usize),
     runner: &T,
-) -> Result<Finished<F::Machine>, (ShopRefused, usize)>
+) -> Result<Batch, Refused>
 where
     L::Lane: Send,
     L::Pass: Send,
@@ -42,22 +73,55 @@ where
     L::Closer: Send,
     L::Note: Send,
     F::Station: Send,
-    F::Machine: Drop,
+    F::Machine: Drop + AtRest,
     requires { lanes ≤ MAX_LANES }
 {
+    let (workers, capacity) = sizes;
     let jobs = lists(alloc, DIM, lanes, plan).expect(rt, "no memory");
     match answer_all::<R, L, F, T>(rt, alloc, DIM, workers, capacity, runner, jobs) {
-        Ok(RunEnd { finished, .. }) => Ok(finished),
+        Ok(RunEnd { finished, .. }) => Ok(sorted(rt, alloc, finished)),
         Err(Stopped::Refused { why, jobs }) => Err((why, jobs.len())),
         Err(Stopped::Unfinished { .. }) => panic!(rt; "no memory, or no thread"),
     }
 }
 
-// The replies in the order of their ids.
-fn sorted<M: Drop>(rt: &impl Abort, alloc: Global, finished: Finished<M>) -> Vec<Reply> {
-    match sorted_replies(alloc, finished) {
-        Ok(replies) => replies,
-        Err(_) => panic!(rt; "no memory"),
+// The batch of these jobs, by so many workers and with this capacity.
+fn batch_over<R: Threads + Wait + Abort + Sync, T: Runner + Sync>(
+    rt: &R,
+    alloc: Global,
+    over: Over,
+    lanes: u32,
+    plan: Plan,
+    sizes: (u32, usize),
+    runner: &T,
+) -> Result<Batch, Refused>
+    requires { lanes ≤ MAX_LANES }
+{
+    match over {
+        Over::NoLock => {
+            batch_of::<R, RuledLine, TreeFloor, T>(rt, alloc, lanes, plan, sizes, runner)
+        }
+        Over::Locks => {
+            batch_of::<R, LockedLine, LockedFloor, T>(rt, alloc, lanes, plan, sizes, runner)
+        }
+    }
+}
+
+// The batch of these jobs, which is not refused.
+fn answer<R: Threads + Wait + Abort + Sync, T: Runner + Sync>(
+    rt: &R,
+    alloc: Global,
+    over: Over,
+    lanes: u32,
+    plan: Plan,
+    sizes: (u32, usize),
+    runner: &T,
+) -> Batch
+    requires { lanes ≤ MAX_LANES }
+{
+    match batch_over(rt, alloc, over, lanes, plan, sizes, runner) {
+        Ok(batch) => batch,
+        Err(_) => panic!(rt; "the sizes are within the limits"),
     }
 }
 
@@ -98,112 +162,77 @@ fn are_sums(replies: &[Reply]) -> bool {
     true
 }
 
-fn replies_stand_in_the_order_of_their_ids<
-    R: Threads + Wait + Abort + Sync,
-    L: JobLine + Sync,
-    F: Floor + Sync,
->(rt: &R, alloc: Global)
-where
-    L::Lane: Send,
-    L::Pass: Send,
-    L::End: Send,
-    L::Closer: Send,
-    L::Note: Send,
-    F::Station: Send,
-    F::Machine: Drop + AtRest,
-{
-    let Ok(finished) = batch_of::<R, L, F, _>(rt, alloc, 3, Plan::Kinds, 2, 2, &Plain) else {
-        panic!(rt; "the sizes are within the limits");
-    };
-    assert!(rt; finished.accepted.as_slice() == [1, 2, 1].as_slice());
-    assert!(rt; finished.machine.is_at_rest(DIM));
-    let replies = sorted(rt, alloc, finished);
-    assert!(rt;
-        are_rows(
-            &replies,
-            &[
-                (0, 0, [Some(2), Some(9), Some(9), Some(9)]),
-                (1, 0, [Some(3), Some(3), None, None]),
-                (1, 1, [None, Some(9), None, None]),
-                (2, 0, [Some(3), Some(3), None, None]),
-            ],
-        )
-    );
+// Whether the machine is free again and each lane has had so many jobs accepted.
+fn has_accepted(batch: &Batch, accepted: &[u64]) -> bool {
+    batch.is_at_rest && batch.accepted.as_slice() == accepted
 }
 
 #[test]
-fn replies_stand_in_the_order_of_their_ids_with_no_lock(rt: HostRuntime) {
-    replies_stand_in_the_order_of_their_ids::<_, RuledLine, TreeFloor>(&rt, rt.alloc());
-}
-
-#[test]
-fn replies_stand_in_the_order_of_their_ids_under_locks(rt: HostRuntime) {
-    replies_stand_in_the_order_of_their_ids::<_, LockedLine, LockedFloor>(&rt, rt.alloc());
+fn replies_stand_in_the_order_of_their_ids(rt: HostRuntime) {
+    for over in BOTH {
+        let batch = answer(&rt, rt.alloc(), over, 3, Plan::Kinds, (2, 2), &Plain);
+        assert!(rt; has_accepted(&batch, &[1, 2, 1]));
+        assert!(rt;
+            are_rows(
+                &batch.replies,
+                &[
+                    (0, 0, [Some(2), Some(9), Some(9), Some(9)]),
+                    (1, 0, [Some(3), Some(3), None, None]),
+                    (1, 1, [None, Some(9), None, None]),
+                    (2, 0, [Some(3), Some(3), None, None]),
+                ],
+            )
+        );
+    }
 }
 
 // It is answered by as many workers as were asked, all by the runner that is lent.
-fn any_number_of_workers_gives_the_same_replies<
-    R: Threads + Wait + Abort + Sync,
-    L: JobLine + Sync,
-    F: Floor + Sync,
->(rt: &R, alloc: Global)
-where
-    L::Lane: Send,
-    L::Pass: Send,
-    L::End: Send,
-    L::Closer: Send,
-    L::Note: Send,
-    F::Station: Send,
-    F::Machine: Drop,
-{
-    for workers in [1, 2, 4, 16] {
+#[test]
+fn any_number_of_workers_gives_the_same_replies(rt: HostRuntime) {
+    for (over, workers) in [
+        (Over::NoLock, 1),
+        (Over::NoLock, 2),
+        (Over::NoLock, 4),
+        (Over::NoLock, 16),
+        (Over::Locks, 1),
+        (Over::Locks, 2),
+        (Over::Locks, 4),
+        (Over::Locks, 16),
+    ] {
         let runner = Counting::new(Plain);
-        let batch = batch_of::<R, L, F, _>(rt, alloc, 16, Plan::Sums(EACH), workers, 1, &runner);
-        let Ok(finished) = batch else {
-            panic!(rt; "the sizes are within the limits");
-        };
-        assert_eq!(rt; finished.by_worker.len(), workers as usize);
+        let batch = answer(
+            &rt,
+            rt.alloc(),
+            over,
+            16,
+            Plan::Sums(EACH),
+            (workers, 1),
+            &runner,
+        );
+        assert!(rt; batch.workers == workers as usize && are_sums(&batch.replies));
         assert_eq!(rt; runner.answered(), 16 * u64::from(EACH));
-        assert!(rt; are_sums(&sorted(rt, alloc, finished)));
+    }
+}
+
+// Whether a batch of jobs of several kinds, by so many workers and with this capacity, is refused for this
+// reason, with all lists back.
+fn is_refused<R: Threads + Wait + Abort + Sync>(
+    rt: &R,
+    alloc: Global,
+    over: Over,
+    sizes: (u32, usize),
+    why: ShopRefused,
+) -> bool {
+    match batch_over(rt, alloc, over, 3, Plan::Kinds, sizes, &Plain) {
+        Ok(_) => false,
+        Err((refused, lists)) => refused == why && lists == 3,
     }
 }
 
 #[test]
-fn any_number_of_workers_gives_the_same_replies_with_no_lock(rt: HostRuntime) {
-    any_number_of_workers_gives_the_same_replies::<_, RuledLine, TreeFloor>(&rt, rt.alloc());
-}
-
-#[test]
-fn any_number_of_workers_gives_the_same_replies_under_locks(rt: HostRuntime) {
-    any_number_of_workers_gives_the_same_replies::<_, LockedLine, LockedFloor>(&rt, rt.alloc());
-}
-
-fn sizes_of_a_batch_are_refused<
-    R: Threads + Wait + Abort + Sync,
-    L: JobLine + Sync,
-    F: Floor + Sync,
->(rt: &R, alloc: Global)
-where
-    L::Lane: Send,
-    L::Pass: Send,
-    L::End: Send,
-    L::Closer: Send,
-    L::Note: Send,
-    F::Station: Send,
-    F::Machine: Drop,
-{
-    let batch = batch_of::<R, L, F, _>(rt, alloc, 3, Plan::Kinds, 17, 1, &Plain);
-    assert!(rt; matches!(batch, Err((ShopRefused::BadDispatchers, 3))));
-    let batch = batch_of::<R, L, F, _>(rt, alloc, 3, Plan::Kinds, 1, 0, &Plain);
-    assert!(rt; matches!(batch, Err((ShopRefused::BadCapacity, 3))));
-}
-
-#[test]
-fn sizes_of_a_batch_are_refused_with_no_lock(rt: HostRuntime) {
-    sizes_of_a_batch_are_refused::<_, RuledLine, TreeFloor>(&rt, rt.alloc());
-}
-
-#[test]
-fn sizes_of_a_batch_are_refused_under_locks(rt: HostRuntime) {
-    sizes_of_a_batch_are_refused::<_, LockedLine, LockedFloor>(&rt, rt.alloc());
+fn sizes_of_a_batch_are_refused(rt: HostRuntime) {
+    for over in BOTH {
+        assert!(rt; is_refused(&rt, rt.alloc(), over, (17, 1), ShopRefused::BadDispatchers));
+        assert!(rt; is_refused(&rt, rt.alloc(), over, (1, 0), ShopRefused::BadCapacity));
+    }
 }

@@ -5,6 +5,7 @@ ghost use Rattle.cube_tree.specs.Handles.{cube_dim, IsStationOf};
 
 use crate::tests::at_rest::AtRest;
 use crate::tests::floor_calls::opened;
+use crate::tests::over::{BOTH, Over};
 use cube_shape::{MAX_STATIONS, Region};
 use cube_tree::{Cube, FreeMachine, Station, Subcube};
 use floors::Floor;
@@ -521,17 +522,18 @@ fn closed_cube(rt: &impl Abort, cube: Cube, mut list: Vec<Station>) -> FreeMachi
 }
 
 // A floor of dimension 5 from its opening to its end, with what all its stations do between: one play, and
-// then another one.
+// then another one. Whether the machine is wholly free in the end.
 fn crowd_on_floor<R: Abort + Threads + Wait + Sync, F: Floor + Sync>(
     rt: &R,
     alloc: Global,
     stations: u32,
     shared: &Shared,
     then: &Shared,
-) -> F::Machine
+) -> bool
 where
     F::Station: Send,
     F::Held: Send,
+    F::Machine: Drop + AtRest,
     requires some { 0 < stations }
     requires few { stations ≤ MAX_STATIONS }
     requires sizes { (0 < shared.now.play.sizes) × (shared.now.play.sizes ≤ 6) }
@@ -542,7 +544,7 @@ where
     crowd(rt, alloc, &on, &mut list, shared);
     crowd(rt, alloc, &on, &mut list, then);
     let OnFloor { floor } = on;
-    floor.close(list)
+    floor.close(list).is_at_rest(5)
 }
 
 // The last station of a list, which keeps its room.
@@ -563,10 +565,11 @@ fn crowd_beside_half<R: Abort + Threads + Wait + Sync, F: Floor + Sync>(
     alloc: Global,
     stations: u32,
     shared: &Shared,
-) -> F::Machine
+) -> bool
 where
     F::Station: Send,
     F::Held: Send,
+    F::Machine: Drop + AtRest,
     requires some { 0 < stations }
     requires few { stations ≤ MAX_STATIONS }
     requires sizes { (0 < shared.now.play.sizes) × (shared.now.play.sizes ≤ 6) }
@@ -578,12 +581,19 @@ where
     crowd(rt, alloc, &on, &mut list, shared);
     list.push_reserved(on.floor.release(rt, half));
     let OnFloor { floor } = on;
-    floor.close(list)
+    floor.close(list).is_at_rest(5)
 }
 
 // Whether each station was given a region so often, and no processor twice.
 fn all_given(shared: &Shared, times: u64) -> bool {
     shared.table.clashes() == 0 && shared.given.iter().all(|count| count.load(SeqCst) == times)
+}
+
+// Whether the other came while the first held the machine, and was given its part after that.
+fn came_after(shared: &Shared) -> bool {
+    shared.holding.load(SeqCst) == 1
+        && shared.giving_back.load(SeqCst) == 1
+        && shared.early.load(SeqCst) == 0
 }
 
 // The turns of a station, with regions of so many dimensions.
@@ -609,98 +619,68 @@ fn a_crowd_on_a_cube_holds_no_processor_twice(rt: HostRuntime) {
     assert!(rt; machine.is_at_rest(5));
 }
 
-// Eight stations take regions of all sizes. Then they take small ones, and in the end each holds an eighth
-// of the machine, while others still take small ones.
-fn a_crowd_holds_no_processor_twice<R: Abort + Threads + Wait + Sync, F: Floor + Sync>(
+// Two plays on the floor with no lock, or on the one under a lock.
+fn crowd_over<R: Abort + Threads + Wait + Sync>(
     rt: &R,
     alloc: Global,
-)
-where
-    F::Station: Send,
-    F::Held: Send,
-    F::Machine: Drop + AtRest,
+    over: Over,
+    stations: u32,
+    shared: &Shared,
+    then: &Shared,
+) -> bool
+    requires some { 0 < stations }
+    requires few { stations ≤ MAX_STATIONS }
+    requires sizes { (0 < shared.now.play.sizes) × (shared.now.play.sizes ≤ 6) }
+    requires then_sizes { (0 < then.now.play.sizes) × (then.now.play.sizes ≤ 6) }
 {
-    let shared = unused(rt, alloc, 32, 8, turning(1000, 6));
+    match over {
+        Over::NoLock => crowd_on_floor::<R, TreeFloor>(rt, alloc, stations, shared, then),
+        Over::Locks => crowd_on_floor::<R, LockedFloor>(rt, alloc, stations, shared, then),
+    }
+}
+
+// Eight stations take regions of all sizes. Then they take small ones, and in the end each holds an eighth
+// of the machine, while others still take small ones.
+#[test]
+fn a_crowd_holds_no_processor_twice(rt: HostRuntime) {
     let holding = Play {
         turns: 500,
         sizes: 3,
         last: Some(2),
         waits: false,
     };
-    let then = unused(rt, alloc, 32, 8, holding);
-    let machine = crowd_on_floor::<R, F>(rt, alloc, 8, &shared, &then);
-    assert!(rt; all_given(&shared, 1000) && all_given(&then, 501));
-    assert!(rt; machine.is_at_rest(5));
-}
-
-#[test]
-fn a_crowd_holds_no_processor_twice_with_no_lock(rt: HostRuntime) {
-    a_crowd_holds_no_processor_twice::<_, TreeFloor>(&rt, rt.alloc());
-}
-
-#[test]
-fn a_crowd_holds_no_processor_twice_under_a_lock(rt: HostRuntime) {
-    a_crowd_holds_no_processor_twice::<_, LockedFloor>(&rt, rt.alloc());
+    for over in BOTH {
+        let shared = unused(&rt, rt.alloc(), 32, 8, turning(1000, 6));
+        let then = unused(&rt, rt.alloc(), 32, 8, holding);
+        assert!(rt; crowd_over(&rt, rt.alloc(), over, 8, &shared, &then));
+        assert!(rt; all_given(&shared, 1000) && all_given(&then, 501));
+    }
 }
 
 // The other half has a processor for each of them, so each take comes to an end.
-fn sixteen_stations_beside_a_held_half_end<R: Abort + Threads + Wait + Sync, F: Floor + Sync>(
-    rt: &R,
-    alloc: Global,
-)
-where
-    F::Station: Send,
-    F::Held: Send,
-    F::Machine: Drop + AtRest,
-{
-    let shared = unused(rt, alloc, 32, 16, turning(200, 1));
-    let machine = crowd_beside_half::<R, F>(rt, alloc, 17, &shared);
-    assert!(rt; all_given(&shared, 200) && machine.is_at_rest(5));
-}
-
 #[test]
-fn sixteen_stations_beside_a_held_half_end_with_no_lock(rt: HostRuntime) {
-    sixteen_stations_beside_a_held_half_end::<_, TreeFloor>(&rt, rt.alloc());
-}
-
-#[test]
-fn sixteen_stations_beside_a_held_half_end_under_a_lock(rt: HostRuntime) {
-    sixteen_stations_beside_a_held_half_end::<_, LockedFloor>(&rt, rt.alloc());
+fn sixteen_stations_beside_a_held_half_end(rt: HostRuntime) {
+    let shared = unused(&rt, rt.alloc(), 32, 16, turning(200, 1));
+    assert!(rt; crowd_beside_half::<_, TreeFloor>(&rt, rt.alloc(), 17, &shared));
+    assert!(rt; all_given(&shared, 200));
+    let shared = unused(&rt, rt.alloc(), 32, 16, turning(200, 1));
+    assert!(rt; crowd_beside_half::<_, LockedFloor>(&rt, rt.alloc(), 17, &shared));
+    assert!(rt; all_given(&shared, 200));
 }
 
 // One station holds the whole machine while the other comes for a processor of it, and then they take turns.
-fn a_take_waits_for_a_release<R: Abort + Threads + Wait + Sync, F: Floor + Sync>(
-    rt: &R,
-    alloc: Global,
-)
-where
-    F::Station: Send,
-    F::Held: Send,
-    F::Machine: Drop + AtRest,
-{
+#[test]
+fn a_take_waits_for_a_release(rt: HostRuntime) {
     let waiting = Play {
         turns: 0,
         sizes: 6,
         last: None,
         waits: true,
     };
-    let shared = unused(rt, alloc, 32, 2, waiting);
-    let then = unused(rt, alloc, 32, 2, turning(10, 6));
-    let machine = crowd_on_floor::<R, F>(rt, alloc, 2, &shared, &then);
-    assert_eq!(rt; shared.holding.load(SeqCst), 1);
-    assert_eq!(rt;
-        (shared.giving_back.load(SeqCst), shared.early.load(SeqCst)),
-        (1, 0)
-    );
-    assert!(rt; all_given(&then, 10) && machine.is_at_rest(5));
-}
-
-#[test]
-fn a_take_waits_for_a_release_with_no_lock(rt: HostRuntime) {
-    a_take_waits_for_a_release::<_, TreeFloor>(&rt, rt.alloc());
-}
-
-#[test]
-fn a_take_waits_for_a_release_under_a_lock(rt: HostRuntime) {
-    a_take_waits_for_a_release::<_, LockedFloor>(&rt, rt.alloc());
+    for over in BOTH {
+        let shared = unused(&rt, rt.alloc(), 32, 2, waiting);
+        let then = unused(&rt, rt.alloc(), 32, 2, turning(10, 6));
+        assert!(rt; crowd_over(&rt, rt.alloc(), over, 2, &shared, &then) && all_given(&then, 10));
+        assert!(rt; came_after(&shared));
+    }
 }

@@ -3,13 +3,13 @@ ghost use Rattle.std.specs.Prelude.{◌≡◌, ◌<◌, ◌≤◌, length};
 ghost use Rattle.std.specs.List.{All};
 
 use crate::tests::at_rest::AtRest;
-use crate::tests::members::{Pair, both, only, sole};
 use cube_shape::{MAX_DIM, MAX_STATIONS, Region};
 use floors::Floor;
 use locked_floor::LockedFloor;
 use std::alloc::Global;
 use std::process::Abort;
 use std::sync::Wait;
+use test_kit::{Pair, both, only, sole};
 use tree_floor::TreeFloor;
 use uses::{Hoarding, hold_pair};
 
@@ -79,7 +79,7 @@ fn are_first_regions(regions: &[Region; 3]) -> bool {
 }
 
 // The stations come back in their order, and turned round.
-fn each_call_once<R: Abort + Wait, F: Floor>(rt: &R, alloc: Global)
+fn each_call_once_over<R: Abort + Wait, F: Floor>(rt: &R, alloc: Global)
 where
     F::Machine: Drop + AtRest,
 {
@@ -92,17 +92,13 @@ where
 }
 
 #[test]
-fn each_call_once_with_no_lock(rt: HostRuntime) {
-    each_call_once::<_, TreeFloor>(&rt, rt.alloc());
-}
-
-#[test]
-fn each_call_once_under_a_lock(rt: HostRuntime) {
-    each_call_once::<_, LockedFloor>(&rt, rt.alloc());
+fn each_call_once(rt: HostRuntime) {
+    each_call_once_over::<_, TreeFloor>(&rt, rt.alloc());
+    each_call_once_over::<_, LockedFloor>(&rt, rt.alloc());
 }
 
 // Two floors of one station each, which holds the whole machine at the same moment.
-fn two_floors_share_nothing<R: Abort + Wait, F: Floor>(rt: &R, alloc: Global)
+fn two_floors_share_nothing_over<R: Abort + Wait, F: Floor>(rt: &R, alloc: Global)
 where
     F::Machine: Drop + AtRest,
 {
@@ -120,17 +116,13 @@ where
 }
 
 #[test]
-fn two_floors_share_nothing_with_no_lock(rt: HostRuntime) {
-    two_floors_share_nothing::<_, TreeFloor>(&rt, rt.alloc());
-}
-
-#[test]
-fn two_floors_share_nothing_under_a_lock(rt: HostRuntime) {
-    two_floors_share_nothing::<_, LockedFloor>(&rt, rt.alloc());
+fn two_floors_share_nothing(rt: HostRuntime) {
+    two_floors_share_nothing_over::<_, TreeFloor>(&rt, rt.alloc());
+    two_floors_share_nothing_over::<_, LockedFloor>(&rt, rt.alloc());
 }
 
 // The smallest floor and the largest, at their ends.
-fn smallest_floor_and_largest<R: Abort, F: Floor>(rt: &R, alloc: Global)
+fn smallest_floor_and_largest_over<R: Abort, F: Floor>(rt: &R, alloc: Global)
 where
     F::Machine: Drop + AtRest,
 {
@@ -144,18 +136,14 @@ where
 }
 
 #[test]
-fn smallest_floor_and_largest_with_no_lock(rt: HostRuntime) {
-    smallest_floor_and_largest::<_, TreeFloor>(&rt, rt.alloc());
-}
-
-#[test]
-fn smallest_floor_and_largest_under_a_lock(rt: HostRuntime) {
-    smallest_floor_and_largest::<_, LockedFloor>(&rt, rt.alloc());
+fn smallest_floor_and_largest(rt: HostRuntime) {
+    smallest_floor_and_largest_over::<_, TreeFloor>(&rt, rt.alloc());
+    smallest_floor_and_largest_over::<_, LockedFloor>(&rt, rt.alloc());
 }
 
 // Two stations of a machine of dimension 3 are given its first two regions of two processors each, and the
 // machine is wholly free then.
-fn a_pair_holds_the_first_regions<R: Abort + Wait, F: Floor>(rt: &R, alloc: Global)
+fn a_pair_holds_the_first_regions_over<R: Abort + Wait, F: Floor>(rt: &R, alloc: Global)
 where
     F::Machine: Drop + AtRest,
 {
@@ -168,17 +156,9 @@ where
 }
 
 #[test]
-fn a_pair_holds_the_first_regions_with_no_lock(rt: HostRuntime) {
-    a_pair_holds_the_first_regions::<_, TreeFloor>(&rt, rt.alloc());
-}
-
-#[test]
-fn a_pair_holds_the_first_regions_under_a_lock(rt: HostRuntime) {
-    a_pair_holds_the_first_regions::<_, LockedFloor>(&rt, rt.alloc());
-}
-
-// A floor that hoards meets the contract of floors too.
-#[test]
-fn a_pair_holds_the_first_regions_of_a_hoarder(rt: HostRuntime) {
-    a_pair_holds_the_first_regions::<_, Hoarding<TreeFloor>>(&rt, rt.alloc());
+fn a_pair_holds_the_first_regions(rt: HostRuntime) {
+    a_pair_holds_the_first_regions_over::<_, TreeFloor>(&rt, rt.alloc());
+    a_pair_holds_the_first_regions_over::<_, LockedFloor>(&rt, rt.alloc());
+    // A floor that hoards meets the contract of floors too.
+    a_pair_holds_the_first_regions_over::<_, Hoarding<TreeFloor>>(&rt, rt.alloc());
 }

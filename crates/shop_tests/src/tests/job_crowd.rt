@@ -4,6 +4,7 @@ ghost use Rattle.std.specs.List.{All};
 ghost use Rattle.dispatcher.specs.Members.{IsCloserOf, IsEndOf, IsNoteOf, IsWorkerOf};
 
 use crate::tests::at_rest::AtRest;
+use crate::tests::over::Over;
 use cube_shape::MAX_LANES;
 use dispatcher::{
     CloseNote, Closer, FeedEnd, Finished, Opened, Plain, Shop, Worker, WorkerEnd, dispatch, feed,
@@ -425,11 +426,13 @@ fn part<R: Wait + Abort, J: Naming, L: JobLine, F: Floor>(
     parts
 }
 
-// A shop after its crowd, and how many jobs each lane did not hand in.
-#[derive(Drop)]
-struct Crowd<M> {
-    finished: Finished<M>,
-    unfed: [u64; 16],
+// What became of a crowd.
+#[derive(Clone, Copy)]
+struct Crowd {
+    // Whether each accepted job has one reply, and what was not accepted was not handed in.
+    is_answered: bool,
+    // Whether the machine is wholly free.
+    is_at_rest: bool,
 }
 
 fn finish<R: Wait + Abort, L: JobLine, F: Floor>(
@@ -437,7 +440,9 @@ fn finish<R: Wait + Abort, L: JobLine, F: Floor>(
     shop: Shop<L, F>,
     parts: Parts<L, F>,
     shared: &Shared,
-) -> Crowd<F::Machine>
+) -> Crowd
+where
+    F::Machine: Drop + AtRest,
     requires sizes { (shop.line.sizes.lanes ≡ LANES) × (shop.line.sizes.passes ≡ WORKERS) }
     requires lanes { All (L.is_lane shop.line) parts.lanes.items }
     requires ends { All (IsEndOf shop) parts.ends.items }
@@ -451,9 +456,10 @@ fn finish<R: Wait + Abort, L: JobLine, F: Floor>(
     } = parts;
     let note = note.expect(rt, "nobody has closed");
     assert!(rt; lanes.len() == LANES as usize && ends.len() == WORKERS as usize);
+    let finished = shop.finish(rt, &shared.runner, lanes, ends, note);
     Crowd {
-        finished: shop.finish(rt, &shared.runner, lanes, ends, note),
-        unfed,
+        is_answered: each_once(&finished, &unfed),
+        is_at_rest: finished.machine.is_at_rest(DIM),
     }
 }
 
@@ -463,7 +469,7 @@ fn run_named<
     R: Threads + Wait + Abort + Sync,
     L: JobLine + Sync,
     F: Floor + Sync,
->(rt: &R, alloc: Global, opened: Opened<L, F>, shared: &Shared) -> Crowd<F::Machine>
+>(rt: &R, alloc: Global, opened: Opened<L, F>, shared: &Shared) -> Crowd
 where
     L::Lane: Send,
     L::Pass: Send,
@@ -471,6 +477,7 @@ where
     L::Closer: Send,
     L::Note: Send,
     F::Station: Send,
+    F::Machine: Drop + AtRest,
     requires shop { opened.shop ≡ J.shop }
     requires machine { J.shop.line.sizes.machine ≡ DIM }
     requires sizes { (J.shop.line.sizes.lanes ≡ LANES) × (J.shop.line.sizes.passes ≡ WORKERS) }
@@ -500,7 +507,7 @@ fn crowd_of<R: Threads + Wait + Abort + Sync, L: JobLine + Sync, F: Floor + Sync
     rt: &R,
     alloc: Global,
     shared: &Shared,
-) -> Crowd<F::Machine>
+) -> Crowd
 where
     L::Lane: Send,
     L::Pass: Send,
@@ -508,7 +515,7 @@ where
     L::Closer: Send,
     L::Note: Send,
     F::Station: Send,
-    F::Machine: Drop,
+    F::Machine: Drop + AtRest,
 {
     let Ok(opened) = Shop::<L, F>::open(alloc, DIM, LANES, WORKERS, 1) else {
         panic!(rt; "no memory");
@@ -558,41 +565,37 @@ fn each_once<M>(finished: &Finished<M>, unfed: &[u64; 16]) -> bool {
     are_new(&finished.rest, &mut seen) && are_all(&seen, &finished.accepted, unfed)
 }
 
-// Each accepted job has one reply, and no processor was in use twice at one moment, where the shop closes
-// after all feeders and where it closes meanwhile.
-fn every_job_of_a_crowd_is_answered<
-    R: Threads + Wait + Abort + Sync,
-    L: JobLine + Sync,
-    F: Floor + Sync,
->(rt: &R, alloc: Global)
-where
-    L::Lane: Send,
-    L::Pass: Send,
-    L::End: Send,
-    L::Closer: Send,
-    L::Note: Send,
-    F::Station: Send,
-    F::Machine: Drop + AtRest,
-{
-    for closes_after in [320, 100] {
-        let shared = Shared {
-            alloc,
-            runner: Tabled::new(alloc, 16, Counting::new(Plain)).expect(rt, "no memory"),
-            closes_after,
-        };
-        let Crowd { finished, unfed } = crowd_of::<R, L, F>(rt, alloc, &shared);
-        assert!(rt; each_once(&finished, &unfed) && finished.machine.is_at_rest(DIM));
-        assert!(rt; shared.runner.runner().answered() >= closes_after);
-        assert_eq!(rt; shared.runner.clashes(), 0);
+// The same over the line and the floor with no lock, or over the two locks.
+fn crowd_over<R: Threads + Wait + Abort + Sync>(
+    rt: &R,
+    alloc: Global,
+    over: Over,
+    shared: &Shared,
+) -> Crowd {
+    match over {
+        Over::NoLock => crowd_of::<R, RuledLine, TreeFloor>(rt, alloc, shared),
+        Over::Locks => crowd_of::<R, LockedLine, LockedFloor>(rt, alloc, shared),
     }
 }
 
+// Each accepted job has one reply, and no processor was in use twice at one moment, where the shop closes
+// after all feeders and where it closes meanwhile.
 #[test]
-fn every_job_of_a_crowd_is_answered_with_no_lock(rt: HostRuntime) {
-    every_job_of_a_crowd_is_answered::<_, RuledLine, TreeFloor>(&rt, rt.alloc());
-}
-
-#[test]
-fn every_job_of_a_crowd_is_answered_under_locks(rt: HostRuntime) {
-    every_job_of_a_crowd_is_answered::<_, LockedLine, LockedFloor>(&rt, rt.alloc());
+fn every_job_of_a_crowd_is_answered(rt: HostRuntime) {
+    for (over, closes_after) in [
+        (Over::NoLock, 320),
+        (Over::NoLock, 100),
+        (Over::Locks, 320),
+        (Over::Locks, 100),
+    ] {
+        let shared = Shared {
+            alloc: rt.alloc(),
+            runner: Tabled::new(rt.alloc(), 16, Counting::new(Plain)).expect(&rt, "no memory"),
+            closes_after,
+        };
+        let crowd = crowd_over(&rt, rt.alloc(), over, &shared);
+        assert!(rt; crowd.is_answered && crowd.is_at_rest);
+        assert!(rt; shared.runner.runner().answered() >= closes_after);
+        assert_eq!(rt; shared.runner.clashes(), 0);
+    }
 }

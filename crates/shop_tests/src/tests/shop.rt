@@ -11,7 +11,7 @@ use ruled_line::RuledLine;
 use std::alloc::Global;
 use std::process::Abort;
 use std::sync::Wait;
-use test_kit::{Row, SUM, listed};
+use test_kit::{Row, SUM};
 use tree_floor::TreeFloor;
 use uses::{Counting, Tallied};
 
@@ -39,7 +39,7 @@ where
     true
 }
 
-fn first_bad_size_is_the_refusal<L: JobLine, F: Floor>(alloc: Global) -> bool
+fn first_bad_size_is_the_refusal_over<L: JobLine, F: Floor>(alloc: Global) -> bool
 where
     F::Machine: Drop,
 {
@@ -58,13 +58,9 @@ where
 }
 
 #[test]
-fn first_bad_size_is_the_refusal_with_no_lock(rt: HostRuntime) {
-    assert!(rt; first_bad_size_is_the_refusal::<RuledLine, TreeFloor>(rt.alloc()));
-}
-
-#[test]
-fn first_bad_size_is_the_refusal_under_locks(rt: HostRuntime) {
-    assert!(rt; first_bad_size_is_the_refusal::<LockedLine, LockedFloor>(rt.alloc()));
+fn first_bad_size_is_the_refusal(rt: HostRuntime) {
+    assert!(rt; first_bad_size_is_the_refusal_over::<RuledLine, TreeFloor>(rt.alloc()));
+    assert!(rt; first_bad_size_is_the_refusal_over::<LockedLine, LockedFloor>(rt.alloc()));
 }
 
 // Whether this is a refusal for this reason, with a job of these numbers.
@@ -94,7 +90,7 @@ fn has_rest<M: AtRest>(finished: &Finished<M>) -> bool {
 }
 
 // Three submits to a shop with room for one job, and a close before the third. The worker does not run.
-fn close_against_submit<R: Wait + Abort, L: JobLine, F: Floor>(rt: &R, alloc: Global)
+fn close_against_submit_over<R: Wait + Abort, L: JobLine, F: Floor>(rt: &R, alloc: Global)
 where
     F::Machine: Drop + AtRest,
 {
@@ -113,13 +109,9 @@ where
 }
 
 #[test]
-fn close_against_submit_with_no_lock(rt: HostRuntime) {
-    close_against_submit::<_, RuledLine, TreeFloor>(&rt, rt.alloc());
-}
-
-#[test]
-fn close_against_submit_under_locks(rt: HostRuntime) {
-    close_against_submit::<_, LockedLine, LockedFloor>(&rt, rt.alloc());
+fn close_against_submit(rt: HostRuntime) {
+    close_against_submit_over::<_, RuledLine, TreeFloor>(&rt, rt.alloc());
+    close_against_submit_over::<_, LockedLine, LockedFloor>(&rt, rt.alloc());
 }
 
 // Jobs of one, two and four numbers.
@@ -146,44 +138,6 @@ fn are_three_seqs(first: &[Reply], rest: &[Reply]) -> bool {
         && rest.len() == 3 - first.len()
         && are_seqs_from(0, first)
         && are_seqs_from(first.len() as u64, rest)
-}
-
-// Whether each of the three jobs has its reply, and the worker had no memory where it left one to the end.
-fn keeps_all<M>(stop: Stop, finished: &Finished<M>) -> bool {
-    let by_worker = &finished.by_worker;
-    let rest = &finished.rest;
-    by_worker.len() == 1
-        && are_three_seqs(&by_worker[0], rest)
-        && (stop == Stop::Ended || stop == Stop::OutOfMemory && !rest.is_empty())
-}
-
-// With no memory the jobs are not made or the shop is not opened. Once it is open, a worker that gets
-// none for its replies leaves the jobs to the end.
-fn replies_outlive_any_refused_growth<R: Wait + Abort, L: JobLine, F: Floor>(rt: &R, alloc: Global)
-where
-    F::Machine: Drop,
-{
-    let Ok(jobs) = listed(alloc, 2, 0, &THREE_JOBS) else {
-        return;
-    };
-    let Ok(mut stage) = Stage::<L, F>::open(alloc, 4) else {
-        return;
-    };
-    stage.feed(rt, jobs);
-    stage.close(rt);
-    let stop = stage.dispatch(rt, alloc, &Plain, None);
-    let finished = stage.finish(rt, alloc, &Plain);
-    assert!(rt; keeps_all(stop, &finished));
-}
-
-#[test]
-fn replies_outlive_any_refused_growth_with_no_lock(rt: HostRuntime) {
-    replies_outlive_any_refused_growth::<_, RuledLine, TreeFloor>(&rt, rt.alloc());
-}
-
-#[test]
-fn replies_outlive_any_refused_growth_under_locks(rt: HostRuntime) {
-    replies_outlive_any_refused_growth::<_, LockedLine, LockedFloor>(&rt, rt.alloc());
 }
 
 // Whether all was handed in.
@@ -218,14 +172,14 @@ fn have_first_regions(replies: &[Reply]) -> bool {
 }
 
 // The close comes between two feeds, and then the worker runs to its end.
-fn feed_stops_at_the_close<R: Wait + Abort, L: JobLine, F: Floor>(rt: &R, alloc: Global)
+fn feed_stops_at_the_close_over<R: Wait + Abort, L: JobLine, F: Floor>(rt: &R, alloc: Global)
 where
     F::Machine: Drop + AtRest,
 {
     let mut stage = Stage::<L, F>::open(alloc, 4).expect(rt, "no memory");
-    let fed = stage.feed_rows(rt, alloc, &THREE_JOBS);
+    let fed = stage.feed(rt, alloc, &THREE_JOBS, None);
     stage.close(rt);
-    let late = stage.feed_rows(rt, alloc, &THREE_JOBS);
+    let late = stage.feed(rt, alloc, &THREE_JOBS, None);
     let stop = stage.dispatch(rt, alloc, &Plain, None);
     let finished = stage.finish(rt, alloc, &Plain);
     assert!(rt; is_done(&fed) && stops_at_the_close(&late));
@@ -236,41 +190,32 @@ where
 }
 
 #[test]
-fn feed_stops_at_the_close_with_no_lock(rt: HostRuntime) {
-    feed_stops_at_the_close::<_, RuledLine, TreeFloor>(&rt, rt.alloc());
-}
-
-#[test]
-fn feed_stops_at_the_close_under_locks(rt: HostRuntime) {
-    feed_stops_at_the_close::<_, LockedLine, LockedFloor>(&rt, rt.alloc());
-}
-
-#[test]
-fn feed_stops_at_the_close_of_a_strangers_line(rt: HostRuntime) {
-    feed_stops_at_the_close::<_, Tallied<RuledLine>, LockedFloor>(&rt, rt.alloc());
+fn feed_stops_at_the_close(rt: HostRuntime) {
+    feed_stops_at_the_close_over::<_, RuledLine, TreeFloor>(&rt, rt.alloc());
+    feed_stops_at_the_close_over::<_, LockedLine, LockedFloor>(&rt, rt.alloc());
+    feed_stops_at_the_close_over::<_, Tallied<RuledLine>, LockedFloor>(&rt, rt.alloc());
 }
 
 // What no worker took is answered by the runner that is lent to the end.
-fn rest_is_answered_by_the_runner_lent<R: Wait + Abort, L: JobLine, F: Floor>(rt: &R, alloc: Global)
+fn rest_is_answered_by_the_runner_lent_over<R: Wait + Abort, L: JobLine, F: Floor>(
+    rt: &R,
+    alloc: Global,
+)
 where
     F::Machine: Drop,
 {
     let mut stage = Stage::<L, F>::open(alloc, 4).expect(rt, "no memory");
-    stage.feed_rows(rt, alloc, &THREE_JOBS);
+    stage.feed(rt, alloc, &THREE_JOBS, None);
     let runner = Counting::new(Plain);
     let finished = stage.finish(rt, alloc, &runner);
-    assert!(rt; finished.rest.len() == 3 && are_seqs_from(0, &finished.rest));
+    assert!(rt; are_three_seqs(&[], &finished.rest));
     assert_eq!(rt; runner.answered(), 3);
 }
 
 #[test]
-fn rest_is_answered_by_the_runner_lent_with_no_lock(rt: HostRuntime) {
-    rest_is_answered_by_the_runner_lent::<_, RuledLine, TreeFloor>(&rt, rt.alloc());
-}
-
-#[test]
-fn rest_is_answered_by_the_runner_lent_under_locks(rt: HostRuntime) {
-    rest_is_answered_by_the_runner_lent::<_, LockedLine, LockedFloor>(&rt, rt.alloc());
+fn rest_is_answered_by_the_runner_lent(rt: HostRuntime) {
+    rest_is_answered_by_the_runner_lent_over::<_, RuledLine, TreeFloor>(&rt, rt.alloc());
+    rest_is_answered_by_the_runner_lent_over::<_, LockedLine, LockedFloor>(&rt, rt.alloc());
 }
 
 // Three sums of 1 and 2.
@@ -286,13 +231,13 @@ fn left_by_turns(fed: &FeedEnd) -> Option<(usize, usize)> {
 }
 
 // A feed with no turn hands in nothing. One with five into room for one job makes six entries.
-fn feed_stops_after_its_turns<R: Wait + Abort, L: JobLine, F: Floor>(rt: &R, alloc: Global)
+fn feed_stops_after_its_turns_over<R: Wait + Abort, L: JobLine, F: Floor>(rt: &R, alloc: Global)
 where
     F::Machine: Drop,
 {
     let mut stage = Stage::<L, F>::open(alloc, 1).expect(rt, "no memory");
-    let none = stage.feed_for(rt, alloc, &THREE_SUMS, 0);
-    let fed = stage.feed_for(rt, alloc, &THREE_SUMS, 5);
+    let none = stage.feed(rt, alloc, &THREE_SUMS, Some(0));
+    let fed = stage.feed(rt, alloc, &THREE_SUMS, Some(5));
     let close_number = stage.close(rt);
     let finished = stage.finish(rt, alloc, &Plain);
     assert_eq!(rt; left_by_turns(&none), Some((0, 3)));
@@ -302,32 +247,33 @@ where
 }
 
 #[test]
-fn feed_stops_after_its_turns_with_no_lock(rt: HostRuntime) {
-    feed_stops_after_its_turns::<_, RuledLine, TreeFloor>(&rt, rt.alloc());
+fn feed_stops_after_its_turns(rt: HostRuntime) {
+    feed_stops_after_its_turns_over::<_, RuledLine, TreeFloor>(&rt, rt.alloc());
+    feed_stops_after_its_turns_over::<_, LockedLine, LockedFloor>(&rt, rt.alloc());
 }
 
-#[test]
-fn feed_stops_after_its_turns_under_locks(rt: HostRuntime) {
-    feed_stops_after_its_turns::<_, LockedLine, LockedFloor>(&rt, rt.alloc());
+// Whether three jobs were accepted, and their seqs are those of the only worker's replies, followed by the rest.
+fn has_three<M>(finished: &Finished<M>) -> bool {
+    finished.accepted.as_slice() == [3].as_slice()
+        && finished.by_worker.len() == 1
+        && are_three_seqs(&finished.by_worker[0], &finished.rest)
 }
 
 // A worker that is to answer two of three jobs leaves one to the end, and one that is to answer none leaves
 // all of them. Each job is answered by the runner that is lent at that moment.
-fn worker_stops_when_it_is_enough<R: Wait + Abort, L: JobLine, F: Floor>(rt: &R, alloc: Global)
+fn worker_stops_when_it_is_enough_over<R: Wait + Abort, L: JobLine, F: Floor>(rt: &R, alloc: Global)
 where
     F::Machine: Drop,
 {
     for (most, answered) in [(2, 2), (0, 0)] {
         let mut stage = Stage::<L, F>::open(alloc, 4).expect(rt, "no memory");
-        let fed = stage.feed_rows(rt, alloc, &THREE_SUMS);
+        let is_fed = is_done(&stage.feed(rt, alloc, &THREE_SUMS, None));
         let close_number = stage.close(rt);
         let (runner, last) = (Counting::new(Plain), Counting::new(Plain));
         let stop = stage.dispatch(rt, alloc, &runner, Some(most));
-        let finished = stage.finish(rt, alloc, &last);
-        assert!(rt; is_done(&fed) && close_number == 3 && stop == Stop::Enough);
-        assert!(rt; finished.accepted.as_slice() == [3].as_slice());
-        assert!(rt; finished.by_worker.len() == 1);
-        assert!(rt; are_three_seqs(&finished.by_worker[0], &finished.rest));
+        let is_whole = has_three(&stage.finish(rt, alloc, &last));
+        assert_eq!(rt; (is_fed, close_number, stop), (true, 3, Stop::Enough));
+        assert!(rt; is_whole);
         assert_eq!(rt;
             (runner.answered(), last.answered()),
             (answered, 3 - answered)
@@ -336,11 +282,7 @@ where
 }
 
 #[test]
-fn worker_stops_when_it_is_enough_with_no_lock(rt: HostRuntime) {
-    worker_stops_when_it_is_enough::<_, RuledLine, TreeFloor>(&rt, rt.alloc());
-}
-
-#[test]
-fn worker_stops_when_it_is_enough_under_locks(rt: HostRuntime) {
-    worker_stops_when_it_is_enough::<_, LockedLine, LockedFloor>(&rt, rt.alloc());
+fn worker_stops_when_it_is_enough(rt: HostRuntime) {
+    worker_stops_when_it_is_enough_over::<_, RuledLine, TreeFloor>(&rt, rt.alloc());
+    worker_stops_when_it_is_enough_over::<_, LockedLine, LockedFloor>(&rt, rt.alloc());
 }

@@ -1,12 +1,12 @@
 //! A shop of one lane and one worker for a machine of four processors, and what is done to it, one call
 //! after the other.
-ghost use Rattle.std.specs.Prelude.{◌≡◌, ◌≤◌, [], None, MatchOption};
+ghost use Rattle.std.specs.Prelude.{◌≡◌, ◌≤◌, [], None, MatchOption, map};
 ghost use Rattle.std.specs.List.{All};
 ghost use Rattle.std.specs.Vec.{vec_capacity};
 ghost use Rattle.job_queue.specs.Line.{IsFor};
-ghost use Rattle.dispatcher.specs.Members.{IsCloserOf, IsEndOf, IsNoteOf, IsWorkerOf};
+ghost use Rattle.job_queue.specs.Record.{fresh_lanes, fresh_passes};
+ghost use Rattle.dispatcher.specs.Members.{IsCloserOf, IsEndOf, IsNoteOf, IsWorkerOf, worker_record};
 
-use crate::tests::members::{only, sole};
 use dispatcher::{
     CloseNote, Closer, FeedEnd, Finished, Opened, Runner, Shop, ShopRefused, Stop, Worker,
     WorkerEnd, dispatch, dispatch_some, feed, feed_for,
@@ -19,7 +19,7 @@ use std::collections::VecDeque;
 use std::marker::Model;
 use std::process::Abort;
 use std::sync::Wait;
-use test_kit::{Row, SUM, job, listed};
+use test_kit::{Row, SUM, job, listed, only, sole};
 
 // Such a shop. Its worker stands in one of two places, before it runs and after that, and so does the
 // right to close.
@@ -79,8 +79,8 @@ impl<L: JobLine, F: Floor> Stage<L, F> {
             mut workers,
             closer,
         } = opened;
-        let lane = only(&mut lanes);
-        let worker = only(&mut workers);
+        let lane = only_lane(&shop, &mut lanes);
+        let worker = only_worker(&shop, &mut workers);
         workers.destroy_empty();
         Ok(Stage {
             shop,
@@ -105,28 +105,16 @@ impl<L: JobLine, F: Floor> Stage<L, F> {
         self.shop.submit(rt, &mut self.lane, job)
     }
 
-    pub fn feed<R: Wait>(&mut self, rt: &R, jobs: VecDeque<Job>) -> FeedEnd
-        requires { All (IsFor 2 0) jobs.items }
-    {
-        feed(rt, &self.shop, &mut self.lane, jobs)
-    }
-
-    // Feeds these jobs.
-    pub fn feed_rows<R: Wait + Abort>(&mut self, rt: &R, alloc: Global, rows: &[Row]) -> FeedEnd {
-        let jobs = listed(alloc, 2, 0, rows).expect(rt, "no memory");
-        self.feed(rt, jobs)
-    }
-
-    // Feeds these jobs, and gives up once the line was full so often.
-    pub fn feed_for<R: Wait + Abort>(
+    // Feeds these jobs, and gives up once the line was full so often if that is asked.
+    pub fn feed<R: Wait + Abort>(
         &mut self,
         rt: &R,
         alloc: Global,
         rows: &[Row],
-        turns: u32,
+        turns: Option<u32>,
     ) -> FeedEnd {
         let jobs = listed(alloc, 2, 0, rows).expect(rt, "no memory");
-        feed_for(rt, &self.shop, &mut self.lane, jobs, turns)
+        feed_lane(rt, &self.shop, &mut self.lane, jobs, turns)
     }
 
     // Closes the shop, where that was not done before: the close number.
@@ -189,6 +177,53 @@ impl<L: JobLine, F: Floor> Stage<L, F> {
         let lanes = sole(lanes, lane);
         let ends = sole(ends, end);
         shop.finish(rt, runner, lanes, ends, note)
+    }
+}
+
+// The only lane of a new shop.
+fn only_lane<L: JobLine, F: Floor>(shop: &Shop<L, F>, lanes: &mut Vec<L::Lane>) -> L::Lane
+    requires lanes { All (L.is_lane shop.now.line) lanes.old.items }
+    requires fresh { map L.lane_record lanes.old.items ≡ fresh_lanes 1 }
+    ensures lane { L.is_lane shop.now.line result }
+    ensures number { (L.lane_record result).number ≡ 0 }
+    ensures room { (lanes.new.items ≡ []) × (1 ≤ vec_capacity lanes.new) }
+{
+    let _shop = shop;
+    only(lanes)
+}
+
+// The only worker of a new shop.
+fn only_worker<L: JobLine, F: Floor>(
+    shop: &Shop<L, F>,
+    workers: &mut Vec<Worker<L, F>>,
+) -> Worker<L, F>
+    requires workers { All (IsWorkerOf shop.now) workers.old.items }
+    requires fresh { map worker_record workers.old.items ≡ fresh_passes 1 }
+    ensures worker { IsWorkerOf shop.now result }
+    ensures none { workers.new.items ≡ [] }
+{
+    let _shop = shop;
+    only(workers)
+}
+
+// Feeds jobs by the only lane, and gives up once the line was full so often if that is asked.
+fn feed_lane<R: Wait, L: JobLine, F: Floor>(
+    rt: &R,
+    shop: &Shop<L, F>,
+    lane: &mut L::Lane,
+    jobs: VecDeque<Job>,
+    turns: Option<u32>,
+) -> FeedEnd
+    requires machine { shop.now.line.sizes.machine ≡ 2 }
+    requires lane { L.is_lane shop.now.line lane.old }
+    requires number { (L.lane_record lane.old).number ≡ 0 }
+    requires jobs { All (IsFor 2 0) jobs.items }
+    ensures lane { L.is_lane shop.now.line lane.new }
+    ensures number { (L.lane_record lane.new).number ≡ 0 }
+{
+    match turns {
+        Some(turns) => feed_for(rt, shop, lane, jobs, turns),
+        None => feed(rt, shop, lane, jobs),
     }
 }
 

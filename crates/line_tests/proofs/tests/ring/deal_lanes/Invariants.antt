@@ -1,0 +1,17 @@
+use Rattle.std.proofs.Common.{◌≡◌, ◌≤◌, length, vec_capacity}
+use Rattle.std.specs.List.{All}
+use Rattle.line_ring.specs.Ring.{LaneOf}
+use Rattle.line_tests.specs.declared.tests.ring.Token.{Token}
+use Rattle.line_tests.proofs.tests.ring.deal_lanes.Given as goal
+
+abbrev pub invariant-loop : goal.invariant-loop
+invariant-loop l = record {
+  end : l.end.ring ≡ l.ring.id;
+  lanes : All (λ (lane : LaneOf Token). lane.ring ≡ l.ring.id) l.lanes.items;
+  dealt : l.end.dealt_lanes ≡ l.counter;
+  count : length l.lanes.items ≡ l.counter;
+  room : l.count ≤ vec_capacity l.lanes;
+  passes : l.end.dealt_passes ≡ l.fn.end.dealt_passes;
+  no_lanes : l.end.back_lanes ≡ l.fn.end.back_lanes;
+  no_passes : l.end.back_passes ≡ l.fn.end.back_passes;
+}

@@ -1,0 +1,514 @@
+//! Many threads at one line: lanes that race with its close, and passes that share a small line.
+ghost use Rattle.std.specs.Prelude.{◌≡◌, ◌<◌, ◌≤◌, map};
+ghost use Rattle.std.specs.List.{All};
+ghost use Rattle.job_queue.specs.Record.{fresh_lanes, fresh_passes};
+
+use crate::tests::line::{JOBS, are_new_and_rise};
+use crate::tests::over::{BOTH, Over};
+use cube_shape::{MAX_CAPACITY, MAX_LANES, MAX_PASSES};
+use job_queue::{JobLine, Opened, QueuedJob, Refused, Rest, Sizes};
+use job_types::{Job, JobRefused};
+use line_run::{Door, Naming, drain};
+use locked_line::LockedLine;
+use ruled_line::RuledLine;
+use std::alloc::{AllocError, Global};
+use std::collections::VecDeque;
+use std::marker::Brand;
+use std::process::Abort;
+use std::sync::atomic::AtomicU64;
+use std::sync::atomic::Ordering::SeqCst;
+use std::sync::{Mutex, Wait};
+use std::thread::{Threads, for_each_mut, join_mut, yield_now};
+use test_kit::{Plan, jobs};
+
+// What the lanes of a run found.
+#[derive(Drop)]
+struct Found {
+    // How many jobs were accepted, how many found the line closed, and how many a spent lane.
+    accepted: AtomicU64,
+    closed: AtomicU64,
+    spent: AtomicU64,
+    // The greatest number of a receipt, and the least count that was seen with the closed mark.
+    last: AtomicU64,
+    least_seen: AtomicU64,
+    // 1 once the line is closed, which is when so many jobs were accepted.
+    is_closed: AtomicU64,
+    closes_after: u64,
+    // Whether each lane keeps its last job until then.
+    keeps_last: bool,
+}
+
+impl Found {
+    fn nothing(closes_after: u64, keeps_last: bool) -> Found {
+        Found {
+            accepted: AtomicU64::new(0),
+            closed: AtomicU64::new(0),
+            spent: AtomicU64::new(0),
+            last: AtomicU64::new(0),
+            least_seen: AtomicU64::new(u64::MAX),
+            is_closed: AtomicU64::new(0),
+            closes_after,
+            keeps_last,
+        }
+    }
+
+    // Waits until the line is to be closed.
+    fn await_accepted<R: Wait>(&self, rt: &R) {
+        for _ in rt.forever() {
+            if self.accepted.load(SeqCst) >= self.closes_after {
+                return;
+            }
+            yield_now();
+        }
+        unreachable!()
+    }
+
+    fn await_close<R: Wait>(&self, rt: &R) {
+        for _ in rt.forever() {
+            if self.is_closed.load(SeqCst) == 1 {
+                return;
+            }
+            yield_now();
+        }
+        unreachable!()
+    }
+}
+
+// The jobs of so many lanes, so many of each, at the lane's number.
+fn jobs_of_all(
+    alloc: Global,
+    lanes: u32,
+    count: u32,
+) -> Result<Vec<Mutex<VecDeque<Job>>>, JobRefused>
+    requires { lanes ≤ MAX_LANES }
+{
+    let mut all = Vec::new(alloc);
+    for lane in 0..lanes {
+        let jobs = jobs(alloc, 2, lane, Plan::Same(count))?;
+        let Ok(()) = all.push(Mutex::new(jobs)) else {
+            return Err(JobRefused::OutOfMemory);
+        };
+    }
+    Ok(all)
+}
+
+// Hands in the jobs, again where the line is full.
+fn hand_in<R: Wait, L: JobLine>(
+    rt: &R,
+    line: &L,
+    lane: &mut L::Lane,
+    jobs: &mut VecDeque<Job>,
+    found: &Found,
+)
+    requires lane { L.is_lane (L.id line.now) lane.old }
+    requires machine { (L.id line.now).sizes.machine ≡ 2 }
+    ensures { L.is_lane (L.id line.now) lane.new }
+{
+    for _ in rt.forever() {
+        let Some(job) = jobs.pop_front() else {
+            return;
+        };
+        if job.machine() != 2 || job.lane() != L::lane_number(lane) {
+            return;
+        }
+        if found.keeps_last && jobs.is_empty() {
+            found.await_close(rt);
+        }
+        match line.submit(rt, lane, job) {
+            Ok(receipt) => {
+                found.accepted.fetch_add(1, SeqCst);
+                found.last.fetch_max(receipt.number, SeqCst);
+            }
+            Err((job, Refused::Full)) => {
+                jobs.push_front_reserved(job);
+                yield_now();
+            }
+            Err((_, Refused::Closed { seen })) => {
+                found.closed.fetch_add(1, SeqCst);
+                found.least_seen.fetch_min(seen, SeqCst);
+            }
+            Err((_, Refused::LaneSpent)) => {
+                found.spent.fetch_add(1, SeqCst);
+            }
+        }
+    }
+    unreachable!()
+}
+
+// Hands in by all lanes at once.
+fn hand_in_all<R: Threads + Wait + Sync, L: JobLine + Sync>(
+    rt: &R,
+    line: &L,
+    lanes: &mut [L::Lane],
+    jobs: &[Mutex<VecDeque<Job>>],
+    found: &Found,
+)
+where
+    L::Lane: Send,
+    L::End: Send,
+    requires lanes { All (L.is_lane (L.id line.now)) lanes.old }
+    requires machine { (L.id line.now).sizes.machine ≡ 2 }
+    ensures { All (L.is_lane (L.id line.now)) lanes.new }
+{
+    for_each_mut(
+        rt,
+        lanes,
+        16,
+        &|number, lane|
+            requires lane { L.is_lane (L.id line.now) lane.now }
+            requires machine { (L.id line.now).sizes.machine ≡ 2 }
+            ensures { L.is_lane (L.id line.entry.now) lane.exit.now }
+        {
+            if let Some(jobs) = jobs.get(number) {
+                hand_in(rt, line, lane, &mut jobs.lock(rt), found);
+            }
+        },
+    );
+}
+
+// Closes the line once enough jobs were accepted.
+fn shut_late<R: Wait, J: Naming, L: JobLine>(
+    rt: &R,
+    line: &L,
+    door: &Mutex<Door<J, L>>,
+    found: &Found,
+)
+    requires { L.id line.now ≡ J.line }
+{
+    found.await_accepted(rt);
+    door.lock(rt).close(rt, line);
+    found.is_closed.store(1, SeqCst);
+}
+
+// Hands in by all lanes, while one more thread closes the line.
+fn race<R: Threads + Wait + Sync, J: Naming + Send + Sync, L: JobLine + Sync>(
+    rt: &R,
+    line: &L,
+    lanes: &mut [L::Lane],
+    door: &Mutex<Door<J, L>>,
+    jobs: &[Mutex<VecDeque<Job>>],
+    found: &Found,
+)
+where
+    L::Lane: Send,
+    L::End: Send,
+    L::Closer: Send,
+    L::Note: Send,
+    requires named { L.id line.now ≡ J.line }
+    requires lanes { All (L.is_lane (L.id line.now)) lanes.old }
+    requires machine { (L.id line.now).sizes.machine ≡ 2 }
+    ensures { All (L.is_lane (L.id line.now)) lanes.new }
+{
+    let mut feeding = ||
+        requires lanes { All (L.is_lane (L.id line.now)) lanes.now }
+        requires machine { (L.id line.now).sizes.machine ≡ 2 }
+        ensures { All (L.is_lane (L.id line.entry.now)) lanes.exit.now }
+    { hand_in_all(rt, line, lanes, jobs, found) };
+    let mut closing = ||
+        requires { L.id line.now ≡ J.line }
+    { shut_late(rt, line, door, found) };
+    join_mut(rt, &mut closing, &mut feeding);
+}
+
+// A list with room for so many jobs for each pass.
+fn room_of_all(
+    alloc: Global,
+    passes: u32,
+    count: usize,
+) -> Result<Vec<Mutex<Vec<QueuedJob>>>, AllocError> {
+    let mut all = Vec::new(alloc);
+    for _ in 0..passes {
+        all.push(Mutex::new(Vec::with_capacity(alloc, count)?))?;
+    }
+    Ok(all)
+}
+
+// Takes by all passes at once.
+fn take_all<R: Threads + Wait + Sync, L: JobLine + Sync>(
+    rt: &R,
+    line: &L,
+    passes: &mut [L::Pass],
+    taken: &[Mutex<Vec<QueuedJob>>],
+)
+where
+    L::Pass: Send,
+    L::End: Send,
+    requires { All (L.is_pass (L.id line.now)) passes.old }
+    ensures { All (L.is_pass (L.id line.now)) passes.new }
+{
+    for_each_mut(
+        rt,
+        passes,
+        16,
+        &|number, pass|
+            requires { L.is_pass (L.id line.now) pass.now }
+            ensures { L.is_pass (L.id line.entry.now) pass.exit.now }
+        {
+            if let Some(taken) = taken.get(number) {
+                drain(rt, line, pass, &mut taken.lock(rt));
+            }
+        },
+    );
+}
+
+// Takes by all passes, while all lanes hand in and one more thread closes the line.
+fn race_and_take<R: Threads + Wait + Sync, J: Naming + Send + Sync, L: JobLine + Sync>(
+    rt: &R,
+    line: &L,
+    lanes: &mut [L::Lane],
+    passes: &mut [L::Pass],
+    door: &Mutex<Door<J, L>>,
+    jobs: &[Mutex<VecDeque<Job>>],
+    taken: &[Mutex<Vec<QueuedJob>>],
+    found: &Found,
+)
+where
+    L::Lane: Send,
+    L::Pass: Send,
+    L::End: Send,
+    L::Closer: Send,
+    L::Note: Send,
+    requires named { L.id line.now ≡ J.line }
+    requires lanes { All (L.is_lane (L.id line.now)) lanes.old }
+    requires passes { All (L.is_pass (L.id line.now)) passes.old }
+    requires machine { (L.id line.now).sizes.machine ≡ 2 }
+    ensures lanes { All (L.is_lane (L.id line.now)) lanes.new }
+    ensures passes { All (L.is_pass (L.id line.now)) passes.new }
+{
+    let mut racing = ||
+        requires named { L.id line.now ≡ J.line }
+        requires lanes { All (L.is_lane (L.id line.now)) lanes.now }
+        requires machine { (L.id line.now).sizes.machine ≡ 2 }
+        ensures { All (L.is_lane (L.id line.entry.now)) lanes.exit.now }
+    { race(rt, line, lanes, door, jobs, found) };
+    let mut taking = ||
+        requires { All (L.is_pass (L.id line.now)) passes.now }
+        ensures { All (L.is_pass (L.id line.entry.now)) passes.exit.now }
+    { take_all(rt, line, passes, taken) };
+    join_mut(rt, &mut taking, &mut racing);
+}
+
+// What is left of a line after a run, and its close number.
+#[derive(Drop)]
+struct Raced {
+    rest: Rest,
+    close_number: u64,
+}
+
+// Lets all lanes and all passes of a line run. A pass with no list of its own takes nothing.
+fn run_crowd<R: Threads + Wait + Sync, J: Naming + Send + Sync, L: JobLine + Sync>(
+    rt: &R,
+    opened: Opened<L, L::Lane, L::Pass, L::Closer>,
+    jobs: &[Mutex<VecDeque<Job>>],
+    taken: &[Mutex<Vec<QueuedJob>>],
+    found: &Found,
+) -> Raced
+where
+    L::Lane: Send,
+    L::Pass: Send,
+    L::End: Send,
+    L::Closer: Send,
+    L::Note: Send,
+    requires named { L.id opened.line ≡ J.line }
+    requires lanes { All (L.is_lane (L.id opened.line)) opened.lanes.items }
+    requires passes { All (L.is_pass (L.id opened.line)) opened.passes.items }
+    requires closer { L.is_closer (L.id opened.line) opened.closer }
+    requires machine { (L.id opened.line).sizes.machine ≡ 2 }
+    requires all_lanes { map L.lane_record opened.lanes.items
+        ≡ fresh_lanes (L.id opened.line).sizes.lanes }
+    requires all_passes { map L.pass_record opened.passes.items
+        ≡ fresh_passes (L.id opened.line).sizes.passes }
+{
+    let Opened {
+        line,
+        mut lanes,
+        mut passes,
+        closer,
+    } = opened;
+    let door: Mutex<Door<J, L>> = Mutex::new(Door::new(closer));
+    race_and_take(
+        rt,
+        &line,
+        &mut lanes,
+        &mut passes,
+        &door,
+        jobs,
+        taken,
+        found,
+    );
+    let note = door.into_inner().into_note(rt, &line);
+    let close_number = L::close_number(&note);
+    Raced {
+        rest: line.into_rest(rt, lanes, passes, note),
+        close_number,
+    }
+}
+
+// The same on a new line of these sizes.
+fn crowd_of<R: Threads + Wait + Abort + Sync, L: JobLine + Sync>(
+    rt: &R,
+    alloc: Global,
+    sizes: Sizes,
+    jobs: &[Mutex<VecDeque<Job>>],
+    taken: &[Mutex<Vec<QueuedJob>>],
+    found: &Found,
+) -> Raced
+where
+    L::Lane: Send,
+    L::Pass: Send,
+    L::End: Send,
+    L::Closer: Send,
+    L::Note: Send,
+    requires machine { sizes.machine ≡ 2 }
+    requires few { (sizes.lanes ≤ MAX_LANES) × (sizes.passes ≤ MAX_PASSES) }
+    requires room { (0 < sizes.capacity) × (sizes.capacity ≤ MAX_CAPACITY) }
+{
+    let opened = L::open(alloc, sizes).expect(rt, "no memory");
+    run_crowd::<R, Brand, L>(rt, opened, jobs, taken, found)
+}
+
+// So many lanes and passes of a line with no lock, or of one under a lock, with this capacity.
+fn crowd_over<R: Threads + Wait + Abort + Sync>(
+    rt: &R,
+    alloc: Global,
+    over: Over,
+    counts: (u32, u32, usize),
+    jobs: &[Mutex<VecDeque<Job>>],
+    taken: &[Mutex<Vec<QueuedJob>>],
+    found: &Found,
+) -> Raced
+    requires few { (counts.0 ≤ MAX_LANES) × (counts.1 ≤ MAX_PASSES) }
+    requires room { (0 < counts.2) × (counts.2 ≤ MAX_CAPACITY) }
+{
+    let (lanes, passes, capacity) = counts;
+    let sizes = Sizes {
+        machine: 2,
+        lanes,
+        passes,
+        capacity,
+    };
+    match over {
+        Over::NoLock => crowd_of::<R, RuledLine>(rt, alloc, sizes, jobs, taken, found),
+        Over::Lock => crowd_of::<R, LockedLine>(rt, alloc, sizes, jobs, taken, found),
+    }
+}
+
+// Whether no lane was spent, at least 20 jobs were accepted and at least 8 came late, of 400 in all, and the
+// receipts are below the close number and the counts that were seen are not.
+fn are_late(found: &Found, close_number: u64) -> bool {
+    let accepted = found.accepted.load(SeqCst);
+    let closed = found.closed.load(SeqCst);
+    accepted >= 20
+        && closed >= 8
+        && found.spent.load(SeqCst) == 0
+        && accepted.wrapping_add(closed) == 400
+        && found.last.load(SeqCst) < close_number
+        && found.least_seen.load(SeqCst) >= close_number
+}
+
+fn sum(counts: &[u64]) -> u64 {
+    let mut sum: u64 = 0;
+    for count in counts {
+        sum = sum.wrapping_add(*count);
+    }
+    sum
+}
+
+// Eight lanes hand in fifty jobs each while a ninth thread closes the line, and each lane hands in its
+// last one after that.
+#[test]
+fn late_entries(rt: HostRuntime) {
+    for over in BOTH {
+        let jobs = jobs_of_all(rt.alloc(), 8, 50).expect(&rt, "no memory");
+        let found = Found::nothing(20, true);
+        let Raced { rest, close_number } = crowd_over(
+            &rt,
+            rt.alloc(),
+            over,
+            (8, 1, 400),
+            &jobs,
+            &[],
+            &found,
+        );
+        let accepted = found.accepted.load(SeqCst);
+        assert!(rt; are_late(&found, close_number));
+        assert!(rt; rest.jobs.len() as u64 == accepted && sum(&rest.accepted) == accepted);
+    }
+}
+
+// How many jobs the passes took, where the jobs of each lane came in the order of their seqs to each pass, and
+// none came twice.
+fn count_in_order<R: Wait>(rt: &R, taken: &[Mutex<Vec<QueuedJob>>]) -> Option<usize> {
+    let mut seen = [[false; JOBS]; 4];
+    let mut count: usize = 0;
+    for list in taken {
+        let list = list.lock(rt);
+        if !are_new_and_rise(&mut seen, &list) {
+            return None;
+        }
+        count = count.wrapping_add(list.len());
+    }
+    Some(count)
+}
+
+// Four lanes hand in a hundred jobs each through room for three, and three passes take until the line
+// has ended. It is closed after the last job.
+#[test]
+fn ring_order(rt: HostRuntime) {
+    for over in BOTH {
+        let jobs = jobs_of_all(rt.alloc(), 4, JOBS as u32).expect(&rt, "no memory");
+        let taken = room_of_all(rt.alloc(), 3, 4 * JOBS).expect(&rt, "no memory");
+        let found = Found::nothing(4 * JOBS as u64, false);
+        let rest = crowd_over(&rt, rt.alloc(), over, (4, 3, 3), &jobs, &taken, &found).rest;
+        assert!(rt;
+            rest.jobs.is_empty() && rest.accepted.as_slice() == [100, 100, 100, 100].as_slice()
+        );
+        assert_eq!(rt; count_in_order(&rt, &taken), Some(4 * JOBS));
+    }
+}
+
+// How many jobs the passes took.
+fn count_taken<R: Wait>(rt: &R, taken: &[Mutex<Vec<QueuedJob>>]) -> u64 {
+    let mut count: u64 = 0;
+    for list in taken {
+        count = count.wrapping_add(list.lock(rt).len() as u64);
+    }
+    count
+}
+
+// Sixteen lanes hand in twenty jobs each and eight passes take until the line has ended, while one more
+// thread closes it. What was accepted was taken, and nothing is left.
+fn ends_empty<R: Threads + Wait + Abort + Sync>(
+    rt: &R,
+    alloc: Global,
+    over: Over,
+    capacity: usize,
+    closes_after: u64,
+) -> bool
+    requires { (0 < capacity) × (capacity ≤ MAX_CAPACITY) }
+{
+    let jobs = jobs_of_all(alloc, 16, 20).expect(rt, "no memory");
+    let taken = room_of_all(alloc, 8, 320).expect(rt, "no memory");
+    let found = Found::nothing(closes_after, false);
+    let rest = crowd_over(rt, alloc, over, (16, 8, capacity), &jobs, &taken, &found).rest;
+    let accepted = found.accepted.load(SeqCst);
+    rest.jobs.is_empty()
+        && accepted >= closes_after
+        && sum(&rest.accepted) == accepted
+        && accepted.wrapping_add(found.closed.load(SeqCst)) == 320
+        && count_taken(rt, &taken) == accepted
+}
+
+// Closes after as many jobs as a row of numbers by chance says, with room for one job and for 1,024.
+#[test]
+fn nothing_is_left(rt: HostRuntime) {
+    let mut chance: u32 = 2026;
+    for _ in 0..10u32 {
+        chance = chance.wrapping_mul(1_664_525).wrapping_add(1_013_904_223);
+        let closes_after = u64::from(chance >> 16) % 321;
+        assert!(rt; ends_empty(&rt, rt.alloc(), Over::NoLock, 1, closes_after));
+        assert!(rt; ends_empty(&rt, rt.alloc(), Over::NoLock, 1024, closes_after));
+        assert!(rt; ends_empty(&rt, rt.alloc(), Over::Lock, 1, closes_after));
+        assert!(rt; ends_empty(&rt, rt.alloc(), Over::Lock, 1024, closes_after));
+    }
+}

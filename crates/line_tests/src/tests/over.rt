@@ -1,0 +1,13 @@
+//! What the tests run over: the line with no lock, or the one under a lock.
+
+/// The line with no lock, or the one under a lock.
+#[derive(Clone, Copy)]
+pub enum Over {
+    /// The line with no lock.
+    NoLock,
+    /// The line under one lock.
+    Lock,
+}
+
+/// One after the other.
+pub const BOTH: [Over; 2] = [Over::NoLock, Over::Lock];

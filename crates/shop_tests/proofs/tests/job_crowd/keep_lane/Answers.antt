@@ -1,0 +1,9 @@
+use Rattle.std.proofs.Common.{subst}
+use Rattle.std.specs.Prelude.{IfSome}
+use Rattle.shop_tests.proofs.PushLemmas.{all_pushed}
+use Rattle.shop_tests.proofs.tests.job_crowd.keep_lane.Goals as goal
+
+pub returns-in-Some-clause-lanes : goal.returns-in-Some-clause-lanes
+returns-in-Some-clause-lanes g c =
+    let own = g.L.JobLine.is_lane c.args.shop.now.line in
+    all_pushed own _ _ c.in-Some.lane c.add.ensures c.requires.lanes (subst (λ lane. IfSome lane own) c.in-Some.is c.requires.lane)
