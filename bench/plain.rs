@@ -58,9 +58,6 @@ fn job(line: &str, machine_dim: u32, next_seq: &mut [u64; 16]) -> Result<Job, &'
         .split(' ')
         .map(number)
         .collect::<Result<Vec<_>, _>>()?;
-    if !items.len().is_power_of_two() {
-        return Err("Job NotPowerOfTwo");
-    }
     if items.len() > 1 << machine_dim {
         return Err("Job TooLarge");
     }
@@ -78,7 +75,7 @@ fn job(line: &str, machine_dim: u32, next_seq: &mut [u64; 16]) -> Result<Job, &'
 }
 
 fn answer(job: Job, machine: &mut Machine) -> Option<Reply> {
-    let dim = job.items.len().ilog2();
+    let dim = job.items.len().next_power_of_two().ilog2();
     let base = machine.take(dim)?;
     let mut result = job.items;
     let mut sum = 0u64;

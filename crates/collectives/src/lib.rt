@@ -5,6 +5,9 @@
 //! round `i` a message goes between two ranks that differ in bit `i` alone, and where their items
 //! are combined, the one whose bit `i` is 0 stands on the left. So the items are joined in the
 //! order of their ranks, and joining need not be commutative.
+//!
+//! Where there are fewer items than places, `pad` puts the unit at the others. What the items come to,
+//! joined, stays the same.
 #![tactic(auto)]
 
 mod collective;
@@ -12,6 +15,7 @@ mod message;
 mod messages;
 mod monoid;
 mod operations;
+mod padding;
 mod rounds;
 mod shape;
 
@@ -20,4 +24,5 @@ pub use message::Message;
 pub use messages::message_at;
 pub use monoid::Monoid;
 pub use operations::{Add, Affine, And, Max, Min, Or, Xor};
+pub use padding::pad;
 pub use shape::{DIM_LIMIT, Shape, Tally};

@@ -1,21 +1,22 @@
 -- Slips of replies, and what they come to.
-use Rattle.std.specs.Prelude.{◌≡◌, ℕ, ◌+◌, ◌^◌, ◌==◌, Bool, true, cond, List}
+use Rattle.std.specs.Prelude.{◌≡◌, ℕ, ◌+◌, ◌-◌, ◌^◌, ◌==◌, Bool, true, cond, List, length}
 use Rattle.histories.specs.Sums.{total}
 use Rattle.job_types.specs.Reply.{ReplyData}
 use Rattle.cube_ledger.specs.declared.slip.Slip.{Slip}
 use Rattle.cube_ledger.specs.declared.ledger.Totals.{Totals}
 
--- the id and the region of a reply
+-- the id and the region of a reply, and how many processors of the region had no item of its job
 abbrev pub slip_of : ReplyData → Slip
-slip_of reply = record { id = reply.id; region = reply.region }
+slip_of reply = record { id = reply.id; region = reply.region; idle = 2 ^ reply.region.dim - length reply.job.items }
 
 -- how many processors the region has
 abbrev pub processors_of : Slip → ℕ
 processors_of slip = 2 ^ slip.region.dim
 
--- how many slips pass the test, and how many processors their regions have together
+-- how many slips pass the test, how many processors their regions have together, and how many of these
+-- stood idle
 abbrev pub totals_of : (Slip → Bool) → List Slip → Totals
-totals_of test slips = record { jobs = total (λ s. cond (test s) 1 0) slips; processors = total (λ s. cond (test s) (processors_of s) 0) slips }
+totals_of test slips = record { jobs = total (λ s. cond (test s) 1 0) slips; processors = total (λ s. cond (test s) (processors_of s) 0) slips; idle = total (λ s. cond (test s) s.idle 0) slips }
 
 -- the job was of this lane
 abbrev pub is_of_lane : ℕ → Slip → Bool

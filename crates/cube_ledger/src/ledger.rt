@@ -13,13 +13,16 @@ use job_types::Reply;
 use std::alloc::{AllocError, Global};
 use std::marker::Model;
 
-/// How many jobs, and how many processors their regions have together.
+/// How many jobs, how many processors their regions have together, and how many of these stood idle.
 #[derive(Clone, Copy, Debug, PartialEq, Eq)]
 pub struct Totals {
     /// How many jobs.
     pub jobs: u64,
     /// The sum of the processors of their regions. A processor counts once for each job.
     pub processors: u128,
+    /// How many of these processors had no item of their job: the sum, over the jobs, of the processors of
+    /// the region less the items.
+    pub idle: u128,
 }
 
 /// The slips of all replies of a finished shop.
@@ -77,12 +80,15 @@ fn processors(slip: &Slip) -> u128
 fn add_if(totals: Totals, slip: &Slip, counts: bool) -> Totals
     requires jobs { totals.jobs + 1 < 2 ^ 64 }
     requires processors { totals.processors + 2 ^ MAX_DIM < 2 ^ 128 }
+    requires idle { totals.idle + 2 ^ 64 < 2 ^ 128 }
     requires dim { HasSmallDim slip.now }
     ensures jobs { result.jobs ≡ totals.jobs + cond counts 1 0 }
     ensures processors { result.processors
         ≡ totals.processors + cond counts (processors_of slip.now) 0 }
+    ensures idle { result.idle ≡ totals.idle + cond counts slip.now.idle 0 }
     ensures few { result.jobs ≤ totals.jobs + 1 }
     ensures small { result.processors ≤ totals.processors + 2 ^ MAX_DIM }
+    ensures small_idle { result.idle ≤ totals.idle + 2 ^ 64 }
 {
     if !counts {
         return totals;
@@ -90,6 +96,7 @@ fn add_if(totals: Totals, slip: &Slip, counts: bool) -> Totals
     Totals {
         jobs: totals.jobs + 1,
         processors: totals.processors + processors(slip),
+        idle: totals.idle + slip.idle as u128,
     }
 }
 
@@ -102,6 +109,7 @@ fn sum(slips: &[Slip], group: Group) -> Totals
     let mut totals = Totals {
         jobs: 0,
         processors: 0,
+        idle: 0,
     };
     for slip in slips {
         totals = add_if(totals, slip, group.has(slip));
@@ -160,11 +168,14 @@ impl Ledger {
         ensures lanes_sum { (lanes : ℕ) → All (λ s. s.id.lane < lanes) self.now →
             (below (λ l. (totals_of (is_of_lane l) self.now).jobs) lanes ≡ result.jobs)
             × (below (λ l. (totals_of (is_of_lane l) self.now).processors) lanes
-            ≡ result.processors) }
+            ≡ result.processors)
+            × (below (λ l. (totals_of (is_of_lane l) self.now).idle) lanes ≡ result.idle) }
         ensures dims_sum { (below (λ k. (totals_of (is_of_dim k) self.now).jobs) (MAX_DIM + 1)
             ≡ result.jobs)
             × (below (λ k. (totals_of (is_of_dim k) self.now).processors) (MAX_DIM + 1)
-            ≡ result.processors) }
+            ≡ result.processors)
+            × (below (λ k. (totals_of (is_of_dim k) self.now).idle) (MAX_DIM + 1)
+            ≡ result.idle) }
     {
         sum(&self.slips, Group::Any)
     }

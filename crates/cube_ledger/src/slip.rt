@@ -1,17 +1,28 @@
 //! Slips: what a reply adds to the totals.
-ghost use Rattle.std.specs.Prelude.{◌≡◌, ◌≤◌};
+ghost use Rattle.std.specs.Prelude.{◌≡◌, ◌-◌, ◌^◌, ◌<◌, ◌≤◌, length};
+ghost use Rattle.job_types.specs.Dim.{dim_of};
 ghost use Rattle.cube_ledger.specs.Ledger.{slip_of};
 
 use cube_shape::{MAX_DIM, Region};
-use job_types::{JobId, Reply};
+use job_types::{JobId, Reply, Request};
 
-/// Which job was answered, and the region that it ran on.
+/// Which job was answered, the region that it ran on, and how many processors of that had no item.
 #[derive(Clone, Copy, Debug, PartialEq, Eq, Hash)]
 pub struct Slip {
     /// The id of the job.
     pub id: JobId,
     /// The region that the job ran on.
     pub region: Region,
+    /// How many of the region's processors had no item of the job, and stood idle.
+    pub idle: u64,
+}
+
+// How many processors of the least region that holds the items of a job have none of them.
+fn idle_processors(job: &Request) -> u64
+    ensures value { result ≡ 2 ^ dim_of (length job.now.items) - length job.now.items }
+    ensures few { result < 2 ^ dim_of (length job.now.items) }
+{
+    (1 << job.dim()) - job.items().len() as u64
 }
 
 impl Slip {
@@ -19,6 +30,7 @@ impl Slip {
     pub fn of(reply: &Reply) -> Slip
         ensures value { result ≡ slip_of reply.now }
         ensures limit { result.region.dim ≤ MAX_DIM }
+        ensures few { result.idle < 2 ^ result.region.dim }
     {
         let region = reply.region();
         let within = region.dim <= reply.job().machine() && reply.job().machine() <= MAX_DIM;
@@ -26,6 +38,7 @@ impl Slip {
         Slip {
             id: reply.id(),
             region,
+            idle: idle_processors(reply.job()),
         }
     }
 }

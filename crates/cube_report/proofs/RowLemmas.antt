@@ -1,5 +1,5 @@
 -- What the slips of a finished shop weigh, by the jobs that its replies answer; and rows, one by one.
-use Rattle.std.proofs.Common.{◌≡◌, ℕ, ◌+◌, ◌^◌, ◌==◌, Bool, true, cond, ◌++◌, List, [], ◌∷◌, map, length, refl, sym, ap, ◌∙◌, arith}
+use Rattle.std.proofs.Common.{◌≡◌, ℕ, ◌+◌, ◌-◌, ◌^◌, ◌==◌, Bool, true, cond, ◌++◌, List, [], ◌∷◌, map, length, refl, sym, ap, ◌∙◌, arith}
 use Rattle.std.specs.List.{All, flat_map, range_with_len}
 use Rattle.std.specs.List.Sorted.{IsPermutation}
 use Rattle.std.proofs.lemmas.List.{append_assoc}
@@ -17,7 +17,7 @@ use Rattle.jobs_csv.specs.declared.report_rows.ReportRow.{ReportRow}
 use Rattle.jobs_csv.specs.declared.report_rows.ReportRow.TheVariants as row
 use Rattle.cube_ledger.specs.declared.slip.Slip.{Slip}
 use Rattle.cube_ledger.specs.Ledger.{HasAllSlips, is_any, is_of_dim, is_of_lane, processors_of, slip_of, totals_of}
-use Rattle.cube_report.specs.Report.{dim_asked, dim_row, free_row, jobs_that, lane_row, processors_that, rows_of, total_row}
+use Rattle.cube_report.specs.Report.{dim_asked, dim_row, free_row, idle_that, jobs_that, lane_row, processors_that, rows_of, total_row}
 use Rattle.cube_report.specs.InnerRows.{dim_row_in, lane_row_in, total_row_in}
 
 -- one row more
@@ -58,11 +58,17 @@ module _ (n : ℕ) (jobs : List QueuedJob) (by_worker : List (List ReplyData)) (
   lane_processors : (lane : ℕ) → (totals_of (is_of_lane lane) slips).processors ≡ processors_that (λ q. q.id.lane == lane) jobs
   lane_processors lane = slips_weigh n (λ s. cond (is_of_lane lane s) (processors_of s) 0) (λ q. cond (q.id.lane == lane) (2 ^ dim_asked q) 0) (λ r k. ap (λ (d : ℕ). cond (r.id.lane == lane) (2 ^ d) 0) (dim_is n r k)) jobs by_worker rest slips all permuted right
 
+  lane_idle : (lane : ℕ) → (totals_of (is_of_lane lane) slips).idle ≡ idle_that (λ q. q.id.lane == lane) jobs
+  lane_idle lane = slips_weigh n (λ s. cond (is_of_lane lane s) s.idle 0) (λ q. cond (q.id.lane == lane) (2 ^ dim_asked q - length q.job.items) 0) (λ r k. ap (λ (d : ℕ). cond (r.id.lane == lane) (2 ^ d - length r.job.items) 0) (dim_is n r k)) jobs by_worker rest slips all permuted right
+
   dim_jobs : (dim : ℕ) → (totals_of (is_of_dim dim) slips).jobs ≡ jobs_that (λ q. dim_asked q == dim) jobs
   dim_jobs dim = slips_weigh n (λ s. cond (is_of_dim dim s) 1 0) (λ q. cond (dim_asked q == dim) 1 0) (λ r k. ap (λ (d : ℕ). cond (d == dim) 1 0) (dim_is n r k)) jobs by_worker rest slips all permuted right
 
   dim_processors : (dim : ℕ) → (totals_of (is_of_dim dim) slips).processors ≡ processors_that (λ q. dim_asked q == dim) jobs
   dim_processors dim = slips_weigh n (λ s. cond (is_of_dim dim s) (processors_of s) 0) (λ q. cond (dim_asked q == dim) (2 ^ dim_asked q) 0) (λ r k. ap (λ (d : ℕ). cond (d == dim) (2 ^ d) 0) (dim_is n r k)) jobs by_worker rest slips all permuted right
+
+  dim_idle : (dim : ℕ) → (totals_of (is_of_dim dim) slips).idle ≡ idle_that (λ q. dim_asked q == dim) jobs
+  dim_idle dim = slips_weigh n (λ s. cond (is_of_dim dim s) s.idle 0) (λ q. cond (dim_asked q == dim) (2 ^ dim_asked q - length q.job.items) 0) (λ r k. ap (λ (d : ℕ). cond (d == dim) (2 ^ d - length r.job.items) 0) (dim_is n r k)) jobs by_worker rest slips all permuted right
 
   total_jobs : (totals_of is_any slips).jobs ≡ jobs_that (λ q. true) jobs
   total_jobs = slips_weigh n (λ s. cond (is_any s) 1 0) (λ q. cond true 1 0) (λ r k. refl) jobs by_worker rest slips all permuted right
@@ -70,24 +76,30 @@ module _ (n : ℕ) (jobs : List QueuedJob) (by_worker : List (List ReplyData)) (
   total_processors : (totals_of is_any slips).processors ≡ processors_that (λ q. true) jobs
   total_processors = slips_weigh n (λ s. cond (is_any s) (processors_of s) 0) (λ q. cond true (2 ^ dim_asked q) 0) (λ r k. ap (λ (d : ℕ). 2 ^ d) (dim_is n r k)) jobs by_worker rest slips all permuted right
 
+  total_idle : (totals_of is_any slips).idle ≡ idle_that (λ q. true) jobs
+  total_idle = slips_weigh n (λ s. cond (is_any s) s.idle 0) (λ q. cond true (2 ^ dim_asked q - length q.job.items) 0) (λ r k. ap (λ (d : ℕ). 2 ^ d - length r.job.items) (dim_is n r k)) jobs by_worker rest slips all permuted right
+
   lane_rows : (lanes : List ℕ) → map (lane_row_in slips) lanes ≡ map (lane_row jobs) lanes
   lane_rows [] = refl
   lane_rows (lane ∷ lanes) =
-      ap (λ (k : ℕ). row.Lane lane k (totals_of (is_of_lane lane) slips).processors ∷ map (lane_row_in slips) lanes) (lane_jobs lane)
-      ∙ ap (λ (p : ℕ). row.Lane lane (jobs_that (λ q. q.id.lane == lane) jobs) p ∷ map (lane_row_in slips) lanes) (lane_processors lane)
+      ap (λ (k : ℕ). row.Lane lane k (totals_of (is_of_lane lane) slips).processors (totals_of (is_of_lane lane) slips).idle ∷ map (lane_row_in slips) lanes) (lane_jobs lane)
+      ∙ ap (λ (p : ℕ). row.Lane lane (jobs_that (λ q. q.id.lane == lane) jobs) p (totals_of (is_of_lane lane) slips).idle ∷ map (lane_row_in slips) lanes) (lane_processors lane)
+      ∙ ap (λ (i : ℕ). row.Lane lane (jobs_that (λ q. q.id.lane == lane) jobs) (processors_that (λ q. q.id.lane == lane) jobs) i ∷ map (lane_row_in slips) lanes) (lane_idle lane)
       ∙ ap (λ (rows : List ReportRow). lane_row jobs lane ∷ rows) (lane_rows lanes)
 
   dim_rows : (dims : List ℕ) → map (dim_row_in slips) dims ≡ map (dim_row jobs) dims
   dim_rows [] = refl
   dim_rows (dim ∷ dims) =
-      ap (λ (k : ℕ). row.Dim dim k (totals_of (is_of_dim dim) slips).processors ∷ map (dim_row_in slips) dims) (dim_jobs dim)
-      ∙ ap (λ (p : ℕ). row.Dim dim (jobs_that (λ q. dim_asked q == dim) jobs) p ∷ map (dim_row_in slips) dims) (dim_processors dim)
+      ap (λ (k : ℕ). row.Dim dim k (totals_of (is_of_dim dim) slips).processors (totals_of (is_of_dim dim) slips).idle ∷ map (dim_row_in slips) dims) (dim_jobs dim)
+      ∙ ap (λ (p : ℕ). row.Dim dim (jobs_that (λ q. dim_asked q == dim) jobs) p (totals_of (is_of_dim dim) slips).idle ∷ map (dim_row_in slips) dims) (dim_processors dim)
+      ∙ ap (λ (i : ℕ). row.Dim dim (jobs_that (λ q. dim_asked q == dim) jobs) (processors_that (λ q. dim_asked q == dim) jobs) i ∷ map (dim_row_in slips) dims) (dim_idle dim)
       ∙ ap (λ (rows : List ReportRow). dim_row jobs dim ∷ rows) (dim_rows dims)
 
   total_row_is : total_row_in slips ≡ total_row jobs
   total_row_is =
-      ap (λ (k : ℕ). row.Total k (totals_of is_any slips).processors) total_jobs
-      ∙ ap (λ (p : ℕ). row.Total (jobs_that (λ q. true) jobs) p) total_processors
+      ap (λ (k : ℕ). row.Total k (totals_of is_any slips).processors (totals_of is_any slips).idle) total_jobs
+      ∙ ap (λ (p : ℕ). row.Total (jobs_that (λ q. true) jobs) p (totals_of is_any slips).idle) total_processors
+      ∙ ap (λ (i : ℕ). row.Total (jobs_that (λ q. true) jobs) (processors_that (λ q. true) jobs) i) total_idle
 
   -- all rows, as they were added
   pub rows_are : (lanes : ℕ) (a b c d : List ReportRow) → a ≡ map (lane_row_in slips) (range_with_len 0 lanes) → b ≡ a ++ map (dim_row_in slips) (range_with_len 0 (n + 1)) → c ≡ b ++ map (free_row n) (range_with_len 0 (n + 1)) → d ≡ c ++ total_row_in slips ∷ [] → d ≡ rows_of n lanes jobs

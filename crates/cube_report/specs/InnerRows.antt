@@ -6,10 +6,10 @@ use Rattle.cube_ledger.specs.declared.slip.Slip.{Slip}
 use Rattle.cube_ledger.specs.Ledger.{totals_of, is_any, is_of_dim, is_of_lane}
 
 abbrev pub lane_row_in : List Slip → ℕ → ReportRow
-lane_row_in slips lane = row.Lane lane (totals_of (is_of_lane lane) slips).jobs (totals_of (is_of_lane lane) slips).processors
+lane_row_in slips lane = row.Lane lane (totals_of (is_of_lane lane) slips).jobs (totals_of (is_of_lane lane) slips).processors (totals_of (is_of_lane lane) slips).idle
 
 abbrev pub dim_row_in : List Slip → ℕ → ReportRow
-dim_row_in slips dim = row.Dim dim (totals_of (is_of_dim dim) slips).jobs (totals_of (is_of_dim dim) slips).processors
+dim_row_in slips dim = row.Dim dim (totals_of (is_of_dim dim) slips).jobs (totals_of (is_of_dim dim) slips).processors (totals_of (is_of_dim dim) slips).idle
 
 abbrev pub total_row_in : List Slip → ReportRow
-total_row_in slips = row.Total (totals_of is_any slips).jobs (totals_of is_any slips).processors
+total_row_in slips = row.Total (totals_of is_any slips).jobs (totals_of is_any slips).processors (totals_of is_any slips).idle

@@ -23,11 +23,16 @@ fn push_lanes(ledger: &Ledger, lanes: u32, rows: &mut Vec<ReportRow>) -> Result<
         ≡ rows.old.items ++ map (lane_row_in ledger.now) (range_with_len 0 lanes)) }
 {
     for lane in 0..lanes {
-        let Totals { jobs, processors } = ledger.lane(lane);
+        let Totals {
+            jobs,
+            processors,
+            idle,
+        } = ledger.lane(lane);
         rows.push(ReportRow::Lane {
             lane,
             jobs,
             processors,
+            idle,
         })?;
     }
     Ok(())
@@ -39,11 +44,16 @@ fn push_dims(ledger: &Ledger, dims: u32, rows: &mut Vec<ReportRow>) -> Result<()
         ≡ rows.old.items ++ map (dim_row_in ledger.now) (range_with_len 0 dims)) }
 {
     for dim in 0..dims {
-        let Totals { jobs, processors } = ledger.dim(dim);
+        let Totals {
+            jobs,
+            processors,
+            idle,
+        } = ledger.dim(dim);
         rows.push(ReportRow::Dim {
             dim,
             jobs,
             processors,
+            idle,
         })?;
     }
     Ok(())
@@ -88,8 +98,16 @@ fn push_total(ledger: &Ledger, rows: &mut Vec<ReportRow>) -> Result<(), AllocErr
     ensures { OnOk result (rows.new.items
         ≡ rows.old.items ++ total_row_in ledger.now ∷ []) }
 {
-    let Totals { jobs, processors } = ledger.total();
-    rows.push(ReportRow::Total { jobs, processors })?;
+    let Totals {
+        jobs,
+        processors,
+        idle,
+    } = ledger.total();
+    rows.push(ReportRow::Total {
+        jobs,
+        processors,
+        idle,
+    })?;
     Ok(())
 }
 

@@ -1,5 +1,6 @@
 //! Expected values are worked out by hand.
 
+mod any_number;
 mod commands;
 mod devices;
 mod faults;

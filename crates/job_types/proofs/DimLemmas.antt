@@ -1,5 +1,5 @@
 -- What fixes dim_of p: it is the least k such that 2 ^ k is at least p.
-use Rattle.std.proofs.Common.{◌≡◌, ℕ, zero, suc, ◌+◌, ◌*◌, ◌%◌, ◌<◌, ◌≤◌, ◌^◌, ◌≢◌, inl, inr, arith, ltb}
+use Rattle.std.proofs.Common.{◌≡◌, ℕ, zero, suc, ◌+◌, ◌-◌, ◌*◌, ◌%◌, ◌<◌, ◌≤◌, ◌^◌, inl, inr, arith, ltb}
 use Rattle.std.proofs.lemmas.Nat.{pow_pos}
 use Rattle.std.proofs.lemmas.Bool.{cases_Bool, ltb-true, ltb-false}
 use Rattle.std.proofs.Math.Pow.{pow-lt, pow_mono}
@@ -54,33 +54,23 @@ dim_of-least p = record {
   least = λ j enough. (let below : j < dim_of p → 2 ^ j < p = below_dim_of p j in grind arith);
 }
 
-pub dim_of-pow : (k : ℕ) → dim_of (2 ^ k) ≡ k
-dim_of-pow k =
-    let least : k < dim_of (2 ^ k) → 2 ^ k < 2 ^ k = below_dim_of (2 ^ k) k in
-    let large : dim_of (2 ^ k) < k → 2 ^ dim_of (2 ^ k) < 2 ^ k = λ h. pow-lt h in
-    grind (arith, le-pow-dim_of (2 ^ k))
+-- no two numbers are the least
+pub least_dim_unique : (p j k : ℕ) → IsLeastDim p j → IsLeastDim p k → j ≡ k
+least_dim_unique p j k first second =
+    let low : j ≤ k = first.least k second.enough in
+    let high : k ≤ j = second.least j first.enough in
+    omega arith
 
--- the dimension of a power of two, written as a number
-pub dim_of_power : (k p : ℕ) → 2 ^ k ≡ p → dim_of p ≡ k
-dim_of_power k p power = rw (← power) (dim_of-pow k)
+pub least_is_dim_of : (p k : ℕ) → IsLeastDim p k → k ≡ dim_of p
+least_is_dim_of p k least = least_dim_unique p k (dim_of p) least (dim_of-least p)
 
--- between two neighbouring powers there is none
-pub no_power_between : (k p top : ℕ) → 2 ^ top < p → p < 2 * 2 ^ top → 2 ^ k ≢ p
-no_power_between k p top low high power =
-    let above : k ≤ top → 2 ^ k ≤ 2 ^ top = λ h. pow_mono h in
-    let below : suc top ≤ k → 2 ^ suc top ≤ 2 ^ k = λ h. pow_mono h in
-    grind arith
-
--- so the greatest power that is at most a power of two is that power
-pub power_at_top : (k p top : ℕ) → 2 ^ top ≤ p → p < 2 * 2 ^ top → 2 ^ k ≡ p → 2 ^ top ≡ p
-power_at_top k p top low high power =
-    let between : 2 ^ top < p → 2 ^ k ≢ p = λ h. no_power_between k p top h high in
-    grind arith
+-- the number of binary digits of p - 1
+pub least_by_digits : (p k : ℕ) → 0 < p → p - 1 < 2 ^ k → 2 ^ k ≤ 2 * (p - 1) + 1 → IsLeastDim p k
+least_by_digits p k some fits full = record {
+  enough = omega (arith, some, fits);
+  least = λ j enough. (let next : suc j ≤ k → 2 ^ suc j ≤ 2 ^ k = λ h. pow_mono h in grind arith);
+}
 
 -- what `1 << k` gives
 pub shifted_one : (k : ℕ) → k < 64 → 1 * 2 ^ k % 2 ^ 64 ≡ 2 ^ k
 shifted_one k fits = let within : 2 ^ k < 2 ^ 64 = pow-lt fits in omega arith
-
--- a power that is at most another has no greater exponent
-pub exponent_le : (i j : ℕ) → 2 ^ i ≤ 2 ^ j → i ≤ j
-exponent_le i j h = let over : j < i → 2 ^ j < 2 ^ i = λ past. pow-lt past in grind arith

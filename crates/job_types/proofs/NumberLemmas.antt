@@ -1,37 +1,31 @@
 -- Rounds on the members of a monoid, stated of the numbers that the members stand for.
-use Rattle.std.proofs.Common.{◌≡◌, ℕ, ◌+◌, ◌^◌, ◌<◌, ◌≤◌, inl, inr, List, [], ◌∷◌, length, take, get_or, refl, sym, ap, subst, ◌∙◌, arith, ltb}
-use Rattle.std.specs.Prelude.{map, fold, Some, None, option_map, All, slice_get, ◌==◌, if◌then◌else◌}
-use Rattle.std.proofs.lemmas.Bool.{cases_Bool, ltb-true, ltb-false}
-use Rattle.std.proofs.lemmas.List.{length-map, take-map}
-use Rattle.std.proofs.lemmas.Option.{slice_get-map, slice_get_past, slice_get-get_or, same_Some}
-use Rattle.collectives.specs.Places.{Holds, total, prefix_total}
+use Rattle.std.proofs.Common.{◌≡◌, ℕ, zero, suc, ◌+◌, ◌-◌, ◌^◌, ◌<◌, ◌≤◌, inl, inr, List, [], ◌∷◌, ◌++◌, length, take, get_or, refl, sym, ap, subst, ◌∙◌, arith}
+use Rattle.std.specs.Prelude.{map, fold, replicate, Some, option_map, All, slice_get, ◌==◌, if◌then◌else◌}
+use Rattle.std.proofs.lemmas.Bool.{cases_Bool}
+use Rattle.std.proofs.lemmas.List.{get_or_append_left, length-append, length-map, map-append, take-map}
+use Rattle.std.proofs.lemmas.List.Elements.{All-map, All-take}
+use Rattle.std.proofs.Math.Seq.{take-append_seam}
+use Rattle.std.proofs.lemmas.Option.{slice_get-map, slice_get-get_or, same_Some}
+use Rattle.collectives.specs.Laws.{MonoidLaws}
+use Rattle.collectives.specs.Places.{Holds, padded, total, prefix_total}
+use Rattle.collectives.proofs.PadLemmas.{total_padded, prefix_padded}
 use Rattle.job_types.specs.declared.kind.Op.{Op}
-use Rattle.job_types.specs.declared.kind.Kind.{Kind}
+use Rattle.job_types.specs.declared.kind.Op.TheVariants.{Add}
 use Rattle.job_types.specs.declared.kind.Kind.TheVariants.{Broadcast, Reduce, AllReduce, Scan}
-use Rattle.job_types.specs.Collective.{join, total_of, prefix_of, held_at}
-use Rattle.job_types.specs.Inner.Collective.{visible_at, IsResult}
+use Rattle.job_types.specs.Collective.{join, unit_of, total_of, prefix_of}
+use Rattle.job_types.specs.Inner.Collective.{MakesResult}
 use Rattle.job_types.specs.Inner.Operation.{IsOperation}
+use Rattle.job_types.proofs.RefusalLemmas.{root_below}
 
--- past the places nothing is visible
-visible_at-none : (kind : Kind) (place : ℕ) → visible_at kind place None ≡ None
-visible_at-none (Broadcast root) place = refl
-visible_at-none (Reduce op root) place = elim (cases_Bool (place == root)) [
-  | inl here ↦ rw here refl
-  | inr elsewhere ↦ rw elsewhere refl
-]
-visible_at-none (AllReduce op) place = refl
-visible_at-none (Scan op) place = refl
+-- an item is at its own place, whatever stands after the items
+item_in_front : (items after : List ℕ) (place : ℕ) → place < length items → slice_get (items ++ after) place ≡ slice_get items place
+item_in_front items after place within =
+    let front : place < length (items ++ after) = omega (arith, length-append items after) in
+    slice_get-get_or (items ++ after) place 0 front ∙ ap Some (get_or_append_left items after 0 place within) ∙ sym (slice_get-get_or items place 0 within)
 
--- it is enough to look at the places
-result_by_places : (kind : Kind) (items numbers : List ℕ) → length numbers ≡ length items
-    → ((place : ℕ) → place < length items → visible_at kind place (slice_get numbers place) ≡ held_at kind items place)
-    → IsResult kind items numbers
-result_by_places kind items numbers same held place = elim (cases_Bool (ltb place (length items))) [
-  | inl within ↦ rw within (held place (ltb-true place (length items) within))
-  | inr past ↦ (
-      let after : length numbers ≤ place = omega (arith, same, ltb-false place (length items) past) in
-      rw past (ap (visible_at kind place) (slice_get_past numbers place after) ∙ visible_at-none kind place))
-]
+-- the number of a value
+abbrev IsNumberOf : {M : Type 0} (IsValue : M → Type 0) (number : M → ℕ) → ℕ → Type 0
+IsNumberOf {M} IsValue number n = (x : M) × IsValue x × (number x ≡ n)
 
 module _ {M : Type 0} {op : Op} {unit : M} {joined : M → M → M} {number : M → ℕ} (is : IsOperation op unit joined number) where
   fold-number : (x : M) (xs : List M) → number (fold joined x xs) ≡ fold (join op) (number x) (map number xs)
@@ -48,37 +42,91 @@ module _ {M : Type 0} {op : Op} {unit : M} {joined : M → M → M} {number : M 
       → (rank : ℕ) → rank < 2 ^ k → slice_get (map number places) rank ≡ Some (number (held rank))
   number-held places k held holds rank within = slice_get-map number places rank ∙ ap (option_map number) (holds rank within)
 
-  -- the items before and after the rounds, on 2 ^ k places
-  module _ (k : ℕ) (old new : List M) (places : length old ≡ 2 ^ k) (same : length new ≡ length old) where
-    same_numbers : length (map number new) ≡ length (map number old)
-    same_numbers = length-map new number ∙ same ∙ sym (length-map old number)
+  number_units : (count : ℕ) → map number (replicate count unit) ≡ replicate count (unit_of op)
+  number_units zero = refl
+  number_units (suc count) =
+      ap (λ (rest : List ℕ). number unit ∷ rest) (number_units count) ∙ ap (λ (n : ℕ). n ∷ replicate count (unit_of op)) is.unit_number
 
-    below : (place : ℕ) → place < length (map number old) → place < 2 ^ k
-    below place within = omega (arith, length-map old number, places)
+  -- members and then units stand for their numbers and then the operation's unit
+  pub numbers_padded : (k : ℕ) (members places : List M) (items : List ℕ) → map number members ≡ items → places ≡ padded unit k members
+      → map number places ≡ padded (unit_of op) k items
+  numbers_padded k members places items same filled =
+      ap (map number) filled
+      ∙ map-append number members (replicate (2 ^ k - length members) unit)
+      ∙ ap (λ (units : List ℕ). map number members ++ units) (number_units (2 ^ k - length members))
+      ∙ ap (λ (front : List ℕ). front ++ replicate (2 ^ k - length members) (unit_of op)) same
+      ∙ ap (λ (count : ℕ). items ++ replicate (2 ^ k - count) (unit_of op)) (sym (length-map members number) ∙ ap length same)
 
-    pub broadcast_result : (root : ℕ) → ((rank : ℕ) → rank < 2 ^ k → slice_get new rank ≡ slice_get old root)
-        → IsResult (Broadcast root) (map number old) (map number new)
-    broadcast_result root held = result_by_places (Broadcast root) (map number old) (map number new) same_numbers (λ place within.
-        slice_get-map number new place ∙ ap (option_map number) (held place (below place within)) ∙ sym (slice_get-map number old root))
+  -- numbers joined are the number of their values joined
+  joined_numbers : (x y : M) (a b : ℕ) → number x ≡ a → number y ≡ b → join op a b ≡ number (joined x y)
+  joined_numbers x y a b first second =
+      ap (λ n. join op n b) (sym first) ∙ ap (join op (number x)) (sym second) ∙ sym (is.join_number x y)
 
-    pub reduce_result : (root : ℕ) → Holds new k (λ rank. if rank == root then total joined unit old else unit)
-        → IsResult (Reduce op root) (map number old) (map number new)
-    reduce_result root holds = result_by_places (Reduce op root) (map number old) (map number new) same_numbers (λ place within.
-        elim (cases_Bool (place == root)) [
-          | inl here ↦ (
-              let held = number-held new k (λ rank. if rank == root then total joined unit old else unit) holds place (below place within) in
-              let value : slice_get (map number new) place ≡ Some (number (total joined unit old)) = rw here at held in
-              rw here (value ∙ ap Some (total-number old)))
-          | inr elsewhere ↦ rw elsewhere refl
-        ])
+  module _ {IsValue : M → Type 0} (laws : MonoidLaws IsValue unit joined) where
+    -- so the numbers of the values have the laws that the values have
+    number_laws : MonoidLaws (IsNumberOf IsValue number) (unit_of op) (join op)
+    number_laws = record {
+      unit_value = (unit, laws.unit_value, is.unit_number);
+      join_value = λ a b x y. (joined x.0 y.0, laws.join_value x.0 y.0 x.1 y.1, sym (joined_numbers x.0 y.0 a b x.2 y.2));
+      left_unit = λ a x. joined_numbers unit x.0 (unit_of op) a is.unit_number x.2 ∙ ap number (laws.left_unit x.0 x.1) ∙ x.2;
+      right_unit = λ a x. joined_numbers x.0 unit a (unit_of op) x.2 is.unit_number ∙ ap number (laws.right_unit x.0 x.1) ∙ x.2;
+      assoc = λ a b c x y z.
+          joined_numbers (joined x.0 y.0) z.0 (join op a b) c (sym (joined_numbers x.0 y.0 a b x.2 y.2)) z.2
+          ∙ ap number (laws.assoc x.0 y.0 z.0 x.1 y.1 z.1)
+          ∙ sym (joined_numbers x.0 (joined y.0 z.0) a (join op b c) x.2 (sym (joined_numbers y.0 z.0 b c y.2 z.2)));
+    }
 
-    pub all_reduce_result : Holds new k (λ rank. total joined unit old) → IsResult (AllReduce op) (map number old) (map number new)
-    all_reduce_result holds = result_by_places (AllReduce op) (map number old) (map number new) same_numbers (λ place within.
-        number-held new k (λ rank. total joined unit old) holds place (below place within) ∙ ap Some (total-number old))
+    -- the items of a job whose places are these values
+    module _ (k : ℕ) (old : List M) (items : List ℕ) (values : All IsValue old) (are : map number old ≡ padded (unit_of op) k items) where
+      item_numbers : All (IsNumberOf IsValue number) items
+      item_numbers =
+          let all : All (IsNumberOf IsValue number) (map number old) =
+          All-map (IsNumberOf IsValue number) number old (λ i d within. (get_or old i d, values i d within, refl))
+          in
+          subst (All (IsNumberOf IsValue number)) (take-append_seam items (replicate (2 ^ k - length items) (unit_of op)))
+          (All-take (IsNumberOf IsValue number) (length items) (padded (unit_of op) k items) (subst (All (IsNumberOf IsValue number)) are all))
 
-    pub scan_result : Holds new k (λ rank. prefix_total joined unit old (rank + 1)) → IsResult (Scan op) (map number old) (map number new)
-    scan_result holds = result_by_places (Scan op) (map number old) (map number new) same_numbers (λ place within.
-        number-held new k (λ rank. prefix_total joined unit old (rank + 1)) holds place (below place within) ∙ ap Some (prefix-number old (place + 1)))
+      -- all places come to what the items come to
+      total_shown : number (total joined unit old) ≡ total_of op items
+      total_shown = total-number old ∙ ap (total_of op) are ∙ total_padded number_laws k items item_numbers
+
+      -- and the first places to what the items at these come to
+      prefix_shown : (count : ℕ) → count ≤ length items → number (prefix_total joined unit old count) ≡ prefix_of op items count
+      prefix_shown count within =
+          prefix-number old count ∙ ap (λ (numbers : List ℕ). prefix_of op numbers count) are ∙ prefix_padded (join op) (unit_of op) k items count within
+
+    -- the places before and after the rounds
+    module _ (k : ℕ) (old new : List M) (values : All IsValue old) where
+      pub reduce_result : (root : ℕ) → Holds new k (λ rank. if rank == root then total joined unit old else unit)
+          → MakesResult (Reduce op root) k (map number old) (map number new)
+      reduce_result root holds items are place within = elim (cases_Bool (place == root)) [
+        | inl here ↦ (
+            let held = number-held new k (λ rank. if rank == root then total joined unit old else unit) holds place (omega (arith, within, are.fits)) in
+            let value : slice_get (map number new) place ≡ Some (number (total joined unit old)) = rw here at held in
+            rw here (value ∙ ap Some (total_shown k old items values are.padded)))
+        | inr elsewhere ↦ rw elsewhere refl
+      ]
+
+      pub all_reduce_result : Holds new k (λ rank. total joined unit old) → MakesResult (AllReduce op) k (map number old) (map number new)
+      all_reduce_result holds items are place within =
+          number-held new k (λ rank. total joined unit old) holds place (omega (arith, within, are.fits))
+          ∙ ap Some (total_shown k old items values are.padded)
+
+      pub scan_result : Holds new k (λ rank. prefix_total joined unit old (rank + 1)) → MakesResult (Scan op) k (map number old) (map number new)
+      scan_result holds items are place within =
+          number-held new k (λ rank. prefix_total joined unit old (rank + 1)) holds place (omega (arith, within, are.fits))
+          ∙ ap Some (prefix_shown k old items values are.padded (place + 1) (omega (arith, within)))
+
+-- every place has the item of the root
+pub broadcast_result : {M : Type 0} (number : M → ℕ) (k root : ℕ) (old new : List M) → ((rank : ℕ) → rank < 2 ^ k → slice_get new rank ≡ slice_get old root)
+    → MakesResult (Broadcast root) k (map number old) (map number new)
+broadcast_result number k root old new held items are place within =
+    let inside : place < 2 ^ k = omega (arith, within, are.fits) in
+    slice_get-map number new place
+    ∙ ap (option_map number) (held place inside)
+    ∙ sym (slice_get-map number old root)
+    ∙ ap (λ (numbers : List ℕ). slice_get numbers root) are.padded
+    ∙ item_in_front items (replicate (2 ^ k - length items) (unit_of Add)) root (root_below root (length items) are.rooted)
 
 -- every place has the item of the root, which is a value
 pub all_values : {M : Type 0} (IsValue : M → Type 0) (k root : ℕ) (old new : List M) → length old ≡ 2 ^ k → length new ≡ length old → root < 2 ^ k

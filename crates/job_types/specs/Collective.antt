@@ -1,4 +1,5 @@
--- The collectives as plain folds over a list of items: what each place holds in the end.
+-- The collectives as plain folds over a list of items: what each place holds in the end. The first item
+-- is at place 0. Places past the last item hold nothing.
 use Rattle.std.specs.Prelude.{ℕ, ◌+◌, ◌%◌, ◌^◌, List, length, min, max, bit_and, bit_or, bit_xor, Option, Some, None, nat_lt, slice_get, ◌==◌, if◌then◌else◌}
 use Rattle.collectives.specs.declared.shape.Shape.{Shape}
 use Rattle.collectives.specs.declared.shape.Shape.TheVariants as Shapes
@@ -35,14 +36,14 @@ total_of op items = total (join op) (unit_of op) items
 abbrev pub prefix_of : Op → List ℕ → ℕ → ℕ
 prefix_of op items count = prefix_total (join op) (unit_of op) items count
 
--- what a place holds in the end; there is a place for each item
+-- what the place of an item holds in the end
 abbrev pub held_at : Kind → List ℕ → ℕ → Option ℕ
 held_at (Broadcast root) items place = slice_get items root
 held_at (Reduce op root) items place = if place == root then Some (total_of op items) else None
 held_at (AllReduce op) items place = Some (total_of op items)
 held_at (Scan op) items place = Some (prefix_of op items (place + 1))
 
--- the same for any number, with None past the places
+-- the same for any place, with None past the items
 abbrev pub result_at : Kind → List ℕ → ℕ → Option ℕ
 result_at kind items place = if nat_lt place (length items) then held_at kind items place else None
 

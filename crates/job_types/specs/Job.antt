@@ -3,8 +3,7 @@ use Rattle.std.specs.Prelude.{ℕ, ◌^◌, Bool, false, not, List, length, Opti
 use Rattle.job_types.specs.declared.kind.Kind.{Kind}
 use Rattle.job_types.specs.declared.kind.Kind.TheVariants.{Broadcast, Reduce, AllReduce, Scan}
 use Rattle.job_types.specs.declared.request.JobRefused.{JobRefused}
-use Rattle.job_types.specs.declared.request.JobRefused.TheVariants.{Empty, NotPowerOfTwo, TooLarge, BadRoot}
-use Rattle.job_types.specs.Dim.{dim_of}
+use Rattle.job_types.specs.declared.request.JobRefused.TheVariants.{Empty, TooLarge, BadRoot}
 
 -- a job: the dimension of its machine, the lane that it was made for, its collective and its items
 pub record JobData : Type 0 where
@@ -13,7 +12,7 @@ pub record JobData : Type 0 where
   pub kind : Kind
   pub items : List ℕ
 
--- the collective's root, if it has one, is none of the `places` places
+-- the collective's root, if it has one, is none of the first `places` places
 abbrev pub has_bad_root : Kind → ℕ → Bool
 has_bad_root (Broadcast root) places = not (nat_lt root places)
 has_bad_root (Reduce op root) places = not (nat_lt root places)
@@ -24,7 +23,6 @@ has_bad_root (Scan op) places = false
 abbrev pub refusal_of : ℕ → Kind → List ℕ → Option JobRefused
 refusal_of n kind items =
     if length items == 0 then Some Empty
-    else if not (2 ^ dim_of (length items) == length items) then Some NotPowerOfTwo
     else if nat_lt (2 ^ n) (length items) then Some TooLarge
     else if has_bad_root kind (length items) then Some BadRoot
     else None

@@ -7,7 +7,7 @@ ghost use Rattle.job_types.specs.Job.{refusal_of};
 
 use crate::kind::Kind;
 use crate::reply::{JobId, Reply};
-use crate::request::{JobRefused, Request, refusal};
+use crate::request::{JobRefused, Request, least_dim, refusal};
 use crate::work::Work;
 use crate::workspace::Workspace;
 use cube_shape::{MAX_DIM, MAX_LANES, Region};
@@ -21,6 +21,8 @@ pub struct Job {
 }
 
 impl Model for Job {
+    ghost use Rattle.std.specs.Prelude.{length};
+    ghost use Rattle.job_types.specs.Dim.{dim_of};
     ghost use Rattle.job_types.specs.Job.{JobData};
     ghost use Rattle.job_types.specs.Inner.Workspace.{IsWorkspaceFor};
 
@@ -28,13 +30,14 @@ impl Model for Job {
 
     ghost view = { λ j. j.work.value.request };
 
-    ghost invariant = { λ j. IsWorkspaceFor
-        j.work.value.request.kind j.work.value.request.items j.work.value.workspace };
+    ghost invariant = { λ j. IsWorkspaceFor j.work.value.request.kind
+        (dim_of (length j.work.value.request.items))
+        j.work.value.request.items j.work.value.workspace };
 }
 
 impl Job {
-    /// A job for a machine of dimension `n` and one of its lanes. It reserves the workspace for its
-    /// rounds, so that answering it takes no memory.
+    /// A job for a machine of dimension `n` and one of its lanes, of 1 to `2^n` items. It reserves the
+    /// workspace for its rounds, so that answering it takes no memory.
     ///
     /// An error gives the items back, as they were. It is the first reason of `JobRefused` that
     /// holds, and `OutOfMemory` only where a reservation was refused.
@@ -59,7 +62,8 @@ impl Job {
         if let Some(refused) = refusal(n, kind, &items) {
             return Err((items, refused));
         }
-        let Ok(workspace) = Workspace::new(alloc, kind, &items) else {
+        let dim = least_dim(items.len());
+        let Ok(workspace) = Workspace::new(alloc, kind, dim, &items) else {
             return Err((items, JobRefused::OutOfMemory));
         };
         let work = Work {
@@ -95,23 +99,26 @@ impl Job {
         self.work.request.kind()
     }
 
-    /// The dimension of the smallest region that has a processor for each item. Today the items
-    /// fill it.
+    /// The least dimension that holds the items: that of the smallest region that has a processor for
+    /// each.
     pub fn dim(&self) -> u32
+        ensures least { IsLeastDim (length self.now.items) result }
         ensures value { result ≡ dim_of (length self.now.items) }
-        ensures power { 2 ^ result ≡ length self.now.items }
         ensures within { result ≤ self.now.machine }
         ensures limit { self.now.machine ≤ MAX_DIM }
 
         // What `dim_of` means, of any number of items.
-        ensures least { (p : ℕ) → IsLeastDim p (dim_of p) }
+        ensures means { (p : ℕ) → IsLeastDim p (dim_of p) }
     {
         self.work.request.dim()
     }
 
-    /// The items. The `i`-th one is on the region's `i`-th processor.
+    /// The items, from 1 to as many as the machine has processors. The `i`-th one is on the region's
+    /// `i`-th processor.
     pub fn items(&self) -> &[u64]
-        ensures { result.now ≡ self.now.items }
+        ensures value { result.now ≡ self.now.items }
+        ensures some { 0 < length result.now }
+        ensures fits { length result.now ≤ 2 ^ self.now.machine }
     {
         self.work.request.items()
     }

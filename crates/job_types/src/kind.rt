@@ -24,7 +24,7 @@ pub enum Op {
 /// Which collective a job asks for. Items are joined in the order of their ranks.
 #[derive(Clone, Copy, Debug, PartialEq, Eq, Hash)]
 pub enum Kind {
-    /// Every processor receives the item of the root.
+    /// Every processor that has an item receives the item of the root.
     Broadcast {
         /// The rank of the root.
         root: u64,
@@ -36,7 +36,7 @@ pub enum Kind {
         /// The rank of the root.
         root: u64,
     },
-    /// Every processor receives all items, joined.
+    /// Every processor that has an item receives all items, joined.
     AllReduce {
         /// What joins them.
         op: Op,

@@ -1,10 +1,12 @@
 //! Parallel jobs for a subcube and their replies.
 //!
-//! A job asks for one collective over its items, of which there are `2^k`: it runs on a region of
-//! dimension `k`, with one item on each processor. Its reply names that region and holds the
-//! collective's result. A job is answered by the rounds of `collectives`, in a workspace that it
-//! reserved when it was made. Only answering a job makes a `Reply`, so its result is always the
-//! plain definition of the collective.
+//! A job asks for one collective over its items, from 1 to as many as its machine has processors. It
+//! runs on a region of dimension `k`, the least that holds them, with one item on each of the first
+//! processors. The other processors of the region stand idle, and have the unit of the operation, which
+//! changes nothing. The reply names that region and holds the collective's result, at the places of the
+//! items alone. A job is answered by the rounds of `collectives`, in a workspace that it reserved when it
+//! was made. Only answering a job makes a `Reply`, so its result is always the plain definition of the
+//! collective.
 #![tactic(auto)]
 
 mod job;

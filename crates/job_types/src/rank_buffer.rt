@@ -1,14 +1,15 @@
 //! The places that the rounds of a job work on.
 
-ghost use Rattle.std.specs.Prelude.{◌≡◌, ◌^◌, ◌<◌, false, length, map, slice_get, All, IfOk};
+ghost use Rattle.std.specs.Prelude.{◌≡◌, ◌^◌, ◌<◌, ◌≤◌, false, length, map, slice_get, All, IfOk};
 ghost use Rattle.collectives.specs.Shape.{tally_of};
-ghost use Rattle.job_types.specs.Collective.{shape_of};
+ghost use Rattle.collectives.specs.Places.{padded};
+ghost use Rattle.job_types.specs.Collective.{shape_of, unit_of};
 ghost use Rattle.job_types.specs.Job.{has_bad_root};
-ghost use Rattle.job_types.specs.Inner.Collective.{IsResult, operation_of, scratch_len};
+ghost use Rattle.job_types.specs.Inner.Collective.{MakesResult, operation_of, scratch_len};
 
 use crate::kind::Kind;
 use crate::operation::Operation;
-use collectives::{DIM_LIMIT, Tally, all_reduce, broadcast, reduce, scan};
+use collectives::{DIM_LIMIT, Tally, all_reduce, broadcast, pad, reduce, scan};
 use std::alloc::{AllocError, Global};
 use std::boxed::BoxedSlice;
 use std::marker::Model;
@@ -37,15 +38,24 @@ impl<M: Operation> Model for RankBuffer<M> {
 }
 
 impl<M: Operation> RankBuffer<M> {
-    // A place for each item, and `scratch_len` scratch items.
-    pub(crate) fn new(alloc: Global, items: &[u64], scratch_len: usize) -> Result<Self, AllocError>
-        ensures numbers { IfOk result (λ buffer. buffer.numbers ≡ items.now) }
+    // `2^k` places, with the items and then the unit, and `scratch_len` scratch items.
+    pub(crate) fn new(
+        alloc: Global,
+        k: u32,
+        items: &[u64],
+        scratch_len: usize,
+    ) -> Result<Self, AllocError>
+        requires dim { k < DIM_LIMIT }
+        requires fits { length items.now ≤ 2 ^ k }
+        ensures numbers { IfOk result (λ buffer.
+            buffer.numbers ≡ padded (unit_of M.op) k items.now) }
         ensures scratch { IfOk result (λ buffer. buffer.scratch_len ≡ scratch_len) }
     {
-        let mut wrapped = Vec::with_capacity(alloc, items.len())?;
+        let mut wrapped = Vec::with_capacity(alloc, 1 << k)?;
         for item in items {
             wrapped.push(M::wrap(*item))?;
         }
+        pad(&mut wrapped, k)?;
         Ok(RankBuffer {
             items: wrapped.into_boxed_slice(),
             scratch: vec![in alloc; M::unit(); scratch_len]?.into_boxed_slice(),
@@ -59,7 +69,7 @@ impl<M: Operation> RankBuffer<M> {
         requires places { length self.old.numbers ≡ 2 ^ k }
         requires scratch { self.old.scratch_len ≡ scratch_len kind (2 ^ k) }
         requires root { has_bad_root kind (2 ^ k) ≡ false }
-        ensures result { IsResult kind self.old.numbers self.new.numbers }
+        ensures result { MakesResult kind k self.old.numbers self.new.numbers }
         ensures tally { result ≡ tally_of (shape_of kind) k }
     {
         run_rounds(&mut self.items, &mut self.scratch, kind, k)
@@ -73,7 +83,7 @@ impl<M: Operation> RankBuffer<M> {
     }
 }
 
-// Runs the collective on its `2^k` places, which hold the items.
+// Runs the collective on its `2^k` places. They may hold the items of a job, and the unit past these.
 fn run_rounds<M: Operation>(items: &mut [M], scratch: &mut [M], kind: Kind, k: u32) -> Tally
     requires dim { k < DIM_LIMIT }
     requires operation { M.op ≡ operation_of kind }
@@ -81,7 +91,7 @@ fn run_rounds<M: Operation>(items: &mut [M], scratch: &mut [M], kind: Kind, k: u
     requires scratch { length scratch.old ≡ scratch_len kind (2 ^ k) }
     requires root { has_bad_root kind (2 ^ k) ≡ false }
     requires values { All M.is_value items.old }
-    ensures result { IsResult kind (map M.number items.old) (map M.number items.new) }
+    ensures result { MakesResult kind k (map M.number items.old) (map M.number items.new) }
     ensures values { All M.is_value items.new }
     ensures tally { result ≡ tally_of (shape_of kind) k }
 {

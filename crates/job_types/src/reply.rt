@@ -85,7 +85,7 @@ impl Reply {
         self.region
     }
 
-    /// The rounds and messages of the collective, on a processor for each item.
+    /// The rounds and messages of the collective, on all processors of the region.
     pub fn tally(&self) -> Tally
         ensures { result ≡
             tally_of (shape_of self.now.job.kind) (dim_of (length self.now.job.items)) }
@@ -94,10 +94,14 @@ impl Reply {
     }
 
     /// What the region's processor of this rank holds in the end. It is `None` for a rank that has
-    /// no item, and at every rank but the root of a reduction.
+    /// no item, though the region may have a processor of it, and at every rank but the root of a
+    /// reduction.
     pub fn at(&self, rank: u64) -> Option<u64>
         ensures { result ≡ result_at self.now.job.kind self.now.job.items rank }
     {
+        if rank >= self.work.request.items().len() as u64 {
+            return None;
+        }
         match self.work.request.kind() {
             Kind::Reduce { root, .. } if rank != root => None,
             _ => self.work.workspace.at(rank),

@@ -21,22 +21,19 @@ pub enum JobRefused {
     /// There are no items.
     #[error("no items")]
     Empty,
-    /// The number of items is no power of two.
-    #[error("the number of items is not a power of two")]
-    NotPowerOfTwo,
     /// There are more items than processors.
     #[error("more items than processors")]
     TooLarge,
-    /// The root is not one of the places. There is a place for each item.
-    #[error("the root is not one of the places")]
+    /// The root is not the place of an item. Places are counted from 0.
+    #[error("the root is not the place of an item")]
     BadRoot,
     /// Memory for the job was asked for, and the allocator refused it.
     #[error("out of memory")]
     OutOfMemory,
 }
 
-/// What a job asks for. Every request can be met: it has `2^dim` items, and its machine has
-/// regions of that dimension.
+/// What a job asks for. Every request can be met: it has an item at least, `dim` is the least dimension
+/// that holds its items, and its machine has regions of that dimension.
 #[derive(Debug, Drop)]
 pub struct Request {
     machine: u32,
@@ -68,17 +65,22 @@ pub(crate) fn refusal(n: u32, kind: Kind, items: &[u64]) -> Option<JobRefused>
     if len == 0 {
         return Some(JobRefused::Empty);
     }
-    let dim = len.ilog2();
-    if len != 1 << dim {
-        return Some(JobRefused::NotPowerOfTwo);
-    }
-    if dim > n {
+    if len > 1 << n {
         return Some(JobRefused::TooLarge);
     }
     if kind.has_bad_root(len as u64) {
         return Some(JobRefused::BadRoot);
     }
     None
+}
+
+// The least dimension that holds so many items.
+pub(crate) fn least_dim(count: usize) -> u32
+    requires { 0 < count }
+    ensures least { IsLeastDim count result }
+    ensures value { result ≡ dim_of count }
+{
+    usize::BITS - (count - 1).leading_zeros()
 }
 
 impl Request {
@@ -93,14 +95,15 @@ impl Request {
             machine: n,
             lane,
             kind,
-            dim: items.len().ilog2(),
+            dim: least_dim(items.len()),
             items,
         }
     }
 
-    // Runs the collective in a workspace that holds the items.
+    // Runs the collective in a workspace that holds the items, and the unit at the other places.
     pub(crate) fn run_in(&self, workspace: &mut Workspace) -> Tally
-        requires { IsWorkspaceFor self.now.kind self.now.items workspace.old }
+        requires { IsWorkspaceFor self.now.kind (dim_of (length self.now.items)) self.now.items
+            workspace.old }
         ensures result { IsResult self.now.kind self.now.items (numbers_of workspace.new) }
         ensures tally { result ≡
             tally_of (shape_of self.now.kind) (dim_of (length self.now.items)) }
@@ -138,23 +141,26 @@ impl Request {
         self.kind
     }
 
-    /// The dimension of the smallest region that has a processor for each item. Today the items
-    /// fill it.
+    /// The least dimension that holds the items: that of the smallest region that has a processor for
+    /// each.
     pub fn dim(&self) -> u32
+        ensures least { IsLeastDim (length self.now.items) result }
         ensures value { result ≡ dim_of (length self.now.items) }
-        ensures power { 2 ^ result ≡ length self.now.items }
         ensures within { result ≤ self.now.machine }
         ensures limit { self.now.machine ≤ MAX_DIM }
 
         // What `dim_of` means, of any number of items.
-        ensures least { (p : ℕ) → IsLeastDim p (dim_of p) }
+        ensures means { (p : ℕ) → IsLeastDim p (dim_of p) }
     {
         self.dim
     }
 
-    /// The items. The `i`-th one is on the region's `i`-th processor.
+    /// The items, from 1 to as many as the machine has processors. The `i`-th one is on the region's
+    /// `i`-th processor.
     pub fn items(&self) -> &[u64]
-        ensures { result.now ≡ self.now.items }
+        ensures value { result.now ≡ self.now.items }
+        ensures some { 0 < length result.now }
+        ensures fits { length result.now ≤ 2 ^ self.now.machine }
     {
         &self.items
     }

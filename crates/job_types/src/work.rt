@@ -20,9 +20,11 @@ pub(crate) struct Work {
 }
 
 impl Work {
-    // Runs the rounds of the request in the workspace, which holds its items.
+    // Runs the rounds of the request in the workspace, which holds its items and the unit at the other
+    // places.
     pub(crate) fn run(&mut self) -> Tally
-        requires { IsWorkspaceFor self.old.request.kind self.old.request.items self.old.workspace }
+        requires { IsWorkspaceFor self.old.request.kind (dim_of (length self.old.request.items))
+            self.old.request.items self.old.workspace }
         ensures request { self.new.request ≡ self.old.request }
         ensures result { IsResult self.old.request.kind self.old.request.items
             (numbers_of self.new.workspace) }

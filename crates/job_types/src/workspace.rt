@@ -1,11 +1,11 @@
 //! The workspace of a job: a rank buffer of the operation that joins its items.
 
-ghost use Rattle.std.specs.Prelude.{◌≡◌, ◌^◌, ◌<◌, false, length, slice_get, IfOk};
+ghost use Rattle.std.specs.Prelude.{◌≡◌, ◌^◌, ◌<◌, ◌≤◌, false, length, slice_get, IfOk};
 ghost use Rattle.collectives.specs.Shape.{tally_of};
 ghost use Rattle.job_types.specs.Collective.{shape_of};
 ghost use Rattle.job_types.specs.Job.{has_bad_root};
-ghost use Rattle.job_types.specs.Inner.Collective.{IsResult};
-ghost use Rattle.job_types.specs.Inner.Workspace.{IsWorkspaceFor, numbers_of};
+ghost use Rattle.job_types.specs.Inner.Collective.{MakesResult};
+ghost use Rattle.job_types.specs.Inner.Workspace.{IsWorkspaceFor, Serves, numbers_of};
 
 use crate::kind::{Kind, Op};
 use crate::rank_buffer::RankBuffer;
@@ -24,28 +24,31 @@ pub(crate) enum Workspace {
 }
 
 impl Workspace {
-    // The workspace of the collective on these items. It holds a copy of them.
-    pub(crate) fn new(alloc: Global, kind: Kind, items: &[u64]) -> Result<Self, AllocError>
-        ensures { IfOk result (IsWorkspaceFor kind items.now) }
+    // The workspace of the collective on these items, of which `2^k` places have room. It holds a copy
+    // of them, and the unit at the other places.
+    pub(crate) fn new(alloc: Global, kind: Kind, k: u32, items: &[u64]) -> Result<Self, AllocError>
+        requires dim { k < DIM_LIMIT }
+        requires fits { length items.now ≤ 2 ^ k }
+        ensures { IfOk result (IsWorkspaceFor kind k items.now) }
     {
-        let scratch_len = kind.scratch_len(items.len());
+        let scratch_len = kind.scratch_len(1 << k);
         Ok(match kind.operation() {
-            Op::Add => Workspace::Add(RankBuffer::new(alloc, items, scratch_len)?),
-            Op::Min => Workspace::Min(RankBuffer::new(alloc, items, scratch_len)?),
-            Op::Max => Workspace::Max(RankBuffer::new(alloc, items, scratch_len)?),
-            Op::Xor => Workspace::Xor(RankBuffer::new(alloc, items, scratch_len)?),
-            Op::And => Workspace::And(RankBuffer::new(alloc, items, scratch_len)?),
-            Op::Or => Workspace::Or(RankBuffer::new(alloc, items, scratch_len)?),
+            Op::Add => Workspace::Add(RankBuffer::new(alloc, k, items, scratch_len)?),
+            Op::Min => Workspace::Min(RankBuffer::new(alloc, k, items, scratch_len)?),
+            Op::Max => Workspace::Max(RankBuffer::new(alloc, k, items, scratch_len)?),
+            Op::Xor => Workspace::Xor(RankBuffer::new(alloc, k, items, scratch_len)?),
+            Op::And => Workspace::And(RankBuffer::new(alloc, k, items, scratch_len)?),
+            Op::Or => Workspace::Or(RankBuffer::new(alloc, k, items, scratch_len)?),
         })
     }
 
     // Runs the collective on its `2^k` places.
     pub(crate) fn run(&mut self, kind: Kind, k: u32) -> Tally
         requires dim { k < DIM_LIMIT }
-        requires workspace { IsWorkspaceFor kind (numbers_of self.old) self.old }
+        requires workspace { Serves kind k self.old }
         requires places { length (numbers_of self.old) ≡ 2 ^ k }
         requires root { has_bad_root kind (2 ^ k) ≡ false }
-        ensures result { IsResult kind (numbers_of self.old) (numbers_of self.new) }
+        ensures result { MakesResult kind k (numbers_of self.old) (numbers_of self.new) }
         ensures tally { result ≡ tally_of (shape_of kind) k }
     {
         match self {

@@ -22,7 +22,7 @@ plain_wide n lt =
     n (omega (arith, lt))
 
 pub plain_group : (r : ReportRow) → IsPlainField (group_text r)
-plain_group (row.Lane lane jobs processors) = plain_text (codes "lane") refl
-plain_group (row.Dim dim jobs processors) = plain_text (codes "dim") refl
+plain_group (row.Lane lane jobs processors idle) = plain_text (codes "lane") refl
+plain_group (row.Dim dim jobs processors idle) = plain_text (codes "dim") refl
 plain_group (row.Free dim regions processors) = plain_text (codes "free") refl
-plain_group (row.Total jobs processors) = plain_text (codes "total") refl
+plain_group (row.Total jobs processors idle) = plain_text (codes "total") refl

@@ -6,11 +6,11 @@ use Rattle.jobs_csv.specs.declared.report_rows.ReportRow.TheVariants as row
 
 -- the texts of the header
 abbrev pub report_columns : List (List ℕ)
-report_columns = codes "group" ∷ codes "key" ∷ codes "count" ∷ codes "processors" ∷ []
+report_columns = codes "group" ∷ codes "key" ∷ codes "count" ∷ codes "processors" ∷ codes "idle" ∷ []
 
--- the fields of a row
+-- the fields of a row; of a free region no processor is idle in a job
 abbrev pub report_fields : ReportRow → List (List ℕ)
-report_fields (row.Lane lane jobs processors) = codes "lane" ∷ decimal lane ∷ decimal jobs ∷ decimal processors ∷ []
-report_fields (row.Dim dim jobs processors) = codes "dim" ∷ decimal dim ∷ decimal jobs ∷ decimal processors ∷ []
-report_fields (row.Free dim regions processors) = codes "free" ∷ decimal dim ∷ decimal regions ∷ decimal processors ∷ []
-report_fields (row.Total jobs processors) = codes "total" ∷ codes "-" ∷ decimal jobs ∷ decimal processors ∷ []
+report_fields (row.Lane lane jobs processors idle) = codes "lane" ∷ decimal lane ∷ decimal jobs ∷ decimal processors ∷ decimal idle ∷ []
+report_fields (row.Dim dim jobs processors idle) = codes "dim" ∷ decimal dim ∷ decimal jobs ∷ decimal processors ∷ decimal idle ∷ []
+report_fields (row.Free dim regions processors) = codes "free" ∷ decimal dim ∷ decimal regions ∷ decimal processors ∷ decimal 0 ∷ []
+report_fields (row.Total jobs processors idle) = codes "total" ∷ codes "-" ∷ decimal jobs ∷ decimal processors ∷ decimal idle ∷ []

@@ -78,7 +78,6 @@ impl FaultKind {
             FaultKind::Number => "Number",
             FaultKind::Word => "Word",
             FaultKind::Job(JobRefused::Empty) => "Job Empty",
-            FaultKind::Job(JobRefused::NotPowerOfTwo) => "Job NotPowerOfTwo",
             FaultKind::Job(JobRefused::TooLarge) => "Job TooLarge",
             FaultKind::Job(JobRefused::BadRoot) => "Job BadRoot",
             FaultKind::Job(JobRefused::OutOfMemory) => "Job OutOfMemory",

@@ -107,7 +107,7 @@ pub fn items(alloc: Global, field: &[u8]) -> Result<Vec<u64>, FaultKind>
     if field.is_empty() {
         return Ok(Vec::new(alloc));
     }
-    // A job has a power of two of items, so room that doubles from 1 on fits it exactly.
+    // Room that doubles from 1 on is what the least region has room for, and no more.
     let Ok(mut items) = Vec::with_capacity(alloc, 1) else {
         return Err(FaultKind::OutOfMemory);
     };

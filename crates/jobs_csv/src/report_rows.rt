@@ -1,7 +1,7 @@
 // The rows of a report.
 ghost use Rattle.std.specs.Prelude.{◌≡◌, ◌∷◌, [], ◌++◌, IfOk, OnOk, string_bytes};
 ghost use Rattle.std.specs.Fmt.{decimal};
-ghost use Rattle.jobs_csv.specs.Inner.ReportRows.{count_in, group_text, key_in, processors_in};
+ghost use Rattle.jobs_csv.specs.Inner.ReportRows.{count_in, group_text, idle_in, key_in, processors_in};
 ghost use Rattle.jobs_csv.specs.Text.{IsPlainField};
 
 use crate::row::{Row, RowFields};
@@ -10,17 +10,21 @@ use std::alloc::{AllocError, Global};
 /// A row of a report.
 #[derive(Clone, Copy, Debug, PartialEq, Eq)]
 pub enum ReportRow {
-    /// The jobs of a lane, and the sum of the processors of their regions.
+    /// The jobs of a lane, the sum of the processors of their regions, and how many of these had no item
+    /// of their job.
     Lane {
         lane: u32,
         jobs: u64,
         processors: u128,
+        idle: u128,
     },
-    /// The jobs that ran on a region of this dimension, and the sum of the processors of these.
+    /// The jobs that ran on a region of this dimension, the sum of the processors of these, and how many
+    /// of these had no item of their job.
     Dim {
         dim: u32,
         jobs: u64,
         processors: u128,
+        idle: u128,
     },
     /// The free regions of this dimension, and the processors that they have together.
     Free {
@@ -28,10 +32,12 @@ pub enum ReportRow {
         regions: u64,
         processors: u128,
     },
-    /// All jobs, and the sum of the processors of their regions.
+    /// All jobs, the sum of the processors of their regions, and how many of these had no item of their
+    /// job.
     Total {
         jobs: u64,
         processors: u128,
+        idle: u128,
     },
 }
 
@@ -92,6 +98,18 @@ impl ReportRow {
             | ReportRow::Total { processors, .. } => processors,
         }
     }
+
+    // How many processors stood idle: none of free regions, which no job had.
+    fn idle(&self) -> u128
+        ensures { result ≡ idle_in self.now }
+    {
+        match *self {
+            ReportRow::Lane { idle, .. }
+            | ReportRow::Dim { idle, .. }
+            | ReportRow::Total { idle, .. } => idle,
+            ReportRow::Free { .. } => 0,
+        }
+    }
 }
 
 impl Row for ReportRow {
@@ -106,14 +124,17 @@ impl Row for ReportRow {
         line.push_text(b"group".as_slice())?;
         line.push_text(b"key".as_slice())?;
         line.push_text(b"count".as_slice())?;
-        line.push_text(b"processors".as_slice())
+        line.push_text(b"processors".as_slice())?;
+        line.push_text(b"idle".as_slice())
     }
 
     fn push_fields(&self, alloc: Global, line: &mut RowFields) -> Result<(), AllocError> {
         let processors = digits(alloc, self.processors())?;
+        let idle = digits(alloc, self.idle())?;
         line.push_text(self.group().as_bytes())?;
         line.push_number_or_dash(self.key())?;
         line.push_number(self.count())?;
-        line.push_text(processors.as_bytes())
+        line.push_text(processors.as_bytes())?;
+        line.push_text(idle.as_bytes())
     }
 }

@@ -12,7 +12,7 @@ pub const DIM: u32 = 10;
 pub struct Invocation {
     /// Whether the shop is the one with no lock.
     pub is_free: bool,
-    /// The numbers of each job: a power of two, one for each processor at most.
+    /// The numbers of each job: one for each processor at most.
     pub items: usize,
     pub lanes: u32,
     pub dispatchers: u32,
@@ -37,7 +37,7 @@ pub fn parse_words(words: &[String]) -> Option<Invocation>
     let dispatchers = words[3].parse::<u32>().ok()?;
     let capacity = words[4].parse::<usize>().ok()?;
     let jobs = words[5].parse::<usize>().ok()?;
-    if !items.is_power_of_two() || items > 1 << DIM || lanes > MAX_LANES {
+    if items == 0 || items > 1 << DIM || lanes > MAX_LANES {
         return None;
     }
     if refusal(DIM, lanes, dispatchers, capacity).is_some() {

@@ -137,9 +137,9 @@ fn good_answer(command: Command) -> &'static [u8] {
             b"lane,seq,kind,dim,result,rounds,messages\n0,0,allreduce,0,7,0,0\n1,0,allreduce,1,11 11,1,2\n"
         }
         Command::Report => {
-            b"group,key,count,processors\nlane,0,1,1\nlane,1,1,2\n\
-              dim,0,1,1\ndim,1,1,2\ndim,2,0,0\ndim,3,0,0\n\
-              free,0,8,8\nfree,1,4,8\nfree,2,2,8\nfree,3,1,8\ntotal,-,2,3\n"
+            b"group,key,count,processors,idle\nlane,0,1,1,0\nlane,1,1,2,0\n\
+              dim,0,1,1,0\ndim,1,1,2,0\ndim,2,0,0,0\ndim,3,0,0,0\n\
+              free,0,8,8,0\nfree,1,4,8,0\nfree,2,2,8,0\nfree,3,1,8,0\ntotal,-,2,3,0\n"
         }
         Command::Place => {
             b"command,name,dim,base,outcome\ntake,a,1,0,given\ntake,b,0,2,given\nfree,a,1,0,freed\n"

@@ -26,7 +26,6 @@ fn expect_lines(
 
 #[test]
 fn prints_faults(rt: HostRuntime) -> Result<(), Fail> {
-    let not_power = FaultKind::Job(JobRefused::NotPowerOfTwo);
     expect_lines(
         &rt,
         &[
@@ -39,7 +38,6 @@ fn prints_faults(rt: HostRuntime) -> Result<(), Fail> {
                 1,
                 "refused: record 1: Job Empty",
             ),
-            (2, not_power, 1, "refused: record 2: Job NotPowerOfTwo"),
             (
                 3,
                 FaultKind::Job(JobRefused::TooLarge),

@@ -235,7 +235,11 @@ fn expect_refusals(
 
 #[test]
 fn a_refusal_gives_the_items_back(rt: HostRuntime) -> Result<(), Fail> {
+    let sums = Kind::Scan { op: Op::Add };
     let broadcast = Kind::Broadcast { root: 2 };
+    let fourth = Kind::Broadcast { root: 3 };
+    let (op, root) = (Op::Add, 7);
+    let eighth = Kind::Reduce { op, root };
     let (op, root) = (Op::Add, u64::MAX);
     let reduce = Kind::Reduce { op, root };
     expect_refusals(
@@ -243,16 +247,24 @@ fn a_refusal_gives_the_items_back(rt: HostRuntime) -> Result<(), Fail> {
         rt.alloc(),
         &[
             (3, SUM, &[], JobRefused::Empty),
-            (3, SUM, &[1, 2, 3], JobRefused::NotPowerOfTwo),
-            (1, SUM, &[1, 2, 3], JobRefused::NotPowerOfTwo),
+            (1, SUM, &[1, 2, 3], JobRefused::TooLarge),
+            (3, SUM, &[4; 9], JobRefused::TooLarge),
             (3, SUM, &[4; 16], JobRefused::TooLarge),
             (0, SUM, &[1, 2], JobRefused::TooLarge),
+            (0, sums, &[1, 2, 3], JobRefused::TooLarge),
+            (10, sums, &[1; 1025], JobRefused::TooLarge),
+            (10, reduce, &[1; 1025], JobRefused::TooLarge),
+            (10, broadcast, &[1; 1025], JobRefused::TooLarge),
+            (10, SUM, &[1; 1025], JobRefused::TooLarge),
             (0, SUM, &[], JobRefused::Empty),
             (3, broadcast, &[4, 9], JobRefused::BadRoot),
             (3, reduce, &[4, 9], JobRefused::BadRoot),
             (0, broadcast, &[4, 9], JobRefused::TooLarge),
             (3, broadcast, &[], JobRefused::Empty),
-            (3, reduce, &[4, 9, 1], JobRefused::NotPowerOfTwo),
+            (3, reduce, &[4, 9, 1], JobRefused::BadRoot),
+            (3, fourth, &[4, 9, 6], JobRefused::BadRoot),
+            (3, eighth, &[4; 5], JobRefused::BadRoot),
+            (3, reduce, &[4; 9], JobRefused::TooLarge),
         ],
     )
 }
@@ -267,15 +279,13 @@ fn expect_texts(rt: &impl Abort, alloc: Global, rows: &[(JobRefused, &str)]) -> 
 
 #[test]
 fn says_why_it_refuses(rt: HostRuntime) -> Result<(), Fail> {
-    let not_power = "the number of items is not a power of two";
     expect_texts(
         &rt,
         rt.alloc(),
         &[
             (JobRefused::Empty, "no items"),
-            (JobRefused::NotPowerOfTwo, not_power),
             (JobRefused::TooLarge, "more items than processors"),
-            (JobRefused::BadRoot, "the root is not one of the places"),
+            (JobRefused::BadRoot, "the root is not the place of an item"),
             (JobRefused::OutOfMemory, "out of memory"),
         ],
     )

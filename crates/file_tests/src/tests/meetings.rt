@@ -17,8 +17,9 @@ const TWO_JOBS: &[u8] = b"lane,kind,op,root,items\n0,allreduce,add,0,1 2\n0,allr
 const TWO_REPLIES: &str = "lane,seq,kind,dim,result,rounds,messages\n\
     0,0,allreduce,1,3 3,1,2\n0,1,allreduce,1,7 7,1,2\n";
 
-const TWO_TOTALS: &str = "group,key,count,processors\nlane,0,2,4\ndim,0,0,0\ndim,1,2,4\ndim,2,0,0\n\
-    free,0,4,4\nfree,1,2,4\nfree,2,1,4\ntotal,-,2,4\n";
+const TWO_TOTALS: &str =
+    "group,key,count,processors,idle\nlane,0,2,4,0\ndim,0,0,0,0\ndim,1,2,4,0\ndim,2,0,0,0\n\
+    free,0,4,4,0\nfree,1,2,4,0\nfree,2,1,4,0\ntotal,-,2,4,0\n";
 
 // Keeps each job until another one has come in, or it has looked often enough.
 #[derive(Drop)]

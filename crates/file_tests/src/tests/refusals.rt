@@ -154,8 +154,20 @@ fn refuses_jobs(rt: HostRuntime) -> Result<(), Fail> {
             (b"0,broadcast,-,9,\n", FaultKind::Job(JobRefused::Empty)),
             (b"0,allreduce,add,0,\n", FaultKind::Job(JobRefused::Empty)),
             (
+                b"0,broadcast,-,3,1 2 3\n",
+                FaultKind::Job(JobRefused::BadRoot),
+            ),
+            (
                 b"0,broadcast,-,9,1 2 3\n",
-                FaultKind::Job(JobRefused::NotPowerOfTwo),
+                FaultKind::Job(JobRefused::BadRoot),
+            ),
+            (
+                b"0,reduce,max,7,1 2 3 4 5\n",
+                FaultKind::Job(JobRefused::BadRoot),
+            ),
+            (
+                b"0,broadcast,-,9,1 1 1 1 1 1 1 1 1\n",
+                FaultKind::Job(JobRefused::TooLarge),
             ),
             (
                 b"0,broadcast,-,2,4 9\n",
@@ -166,10 +178,7 @@ fn refuses_jobs(rt: HostRuntime) -> Result<(), Fail> {
                 FaultKind::Job(JobRefused::BadRoot),
             ),
             (b"0,scan,add,1,4 9\n", FaultKind::Job(JobRefused::BadRoot)),
-            (
-                b"0,scan,add,1,1 2 3\n",
-                FaultKind::Job(JobRefused::NotPowerOfTwo),
-            ),
+            (b"0,scan,add,1,1 2 3\n", FaultKind::Job(JobRefused::BadRoot)),
             (
                 b"0,reduce,add,99,1 1 1 1 1 1 1 1 1 1 1 1 1 1 1 1\n",
                 FaultKind::Job(JobRefused::TooLarge),
@@ -178,7 +187,7 @@ fn refuses_jobs(rt: HostRuntime) -> Result<(), Fail> {
             (b"0,allreduce,add,1,\n", FaultKind::Job(JobRefused::Empty)),
             (
                 b"0,allreduce,add,1,1 2 3\n",
-                FaultKind::Job(JobRefused::NotPowerOfTwo),
+                FaultKind::Job(JobRefused::BadRoot),
             ),
             (
                 b"0,allreduce,add,1,1 1 1 1 1 1 1 1 1 1 1 1 1 1 1 1\n",

@@ -6,8 +6,9 @@ ghost use Rattle.collectives.specs.Shape.{message_count};
 
 use collectives::{
     Add, Affine, And, DIM_LIMIT, Max, Message, Min, Monoid, Or, Shape, Tally, Xor, all_reduce,
-    broadcast, message_at, reduce, scan,
+    broadcast, message_at, pad, reduce, scan,
 };
+use std::test::Fail;
 
 // Four maps that do not commute.
 fn maps() -> [Affine; 4]
@@ -129,6 +130,22 @@ fn one_place(rt: HostRuntime) {
     assert!(rt; took(all_reduce(&mut items, 0), 0, 0));
     assert!(rt; took(scan(&mut items, &mut scratch, 0), 0, 0));
     assert_eq!(rt; items, [Max(7)]);
+}
+
+#[test]
+fn units_past_the_items(rt: HostRuntime) -> Result<(), Fail> {
+    let mut items = Vec::new(rt.alloc());
+    items.push(Min(9))?;
+    items.push(Min(4))?;
+    items.push(Min(7))?;
+    pad(&mut items, 2)?;
+    assert!(rt; items.as_slice() == [Min(9), Min(4), Min(7), Min(18446744073709551615)].as_slice());
+    pad(&mut items, 2)?;
+    assert!(rt; items.len() == 4);
+    let mut none = Vec::new(rt.alloc());
+    pad(&mut none, 1)?;
+    assert!(rt; none.as_slice() == [Affine { a: 1, b: 0 }; 2].as_slice());
+    Ok(())
 }
 
 // Whether the message of this number goes in this round between these ranks.

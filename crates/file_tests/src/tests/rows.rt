@@ -84,16 +84,19 @@ fn writes_reports(rt: HostRuntime) -> Result<(), Fail> {
                 lane: 0,
                 jobs: 1,
                 processors: 4,
+                idle: 1,
             },
             ReportRow::Lane {
                 lane: 15,
                 jobs: most_jobs,
                 processors: most,
+                idle: most,
             },
             ReportRow::Dim {
                 dim: 10,
                 jobs: 0,
                 processors: 0,
+                idle: 0,
             },
             ReportRow::Free {
                 dim: 1,
@@ -103,14 +106,16 @@ fn writes_reports(rt: HostRuntime) -> Result<(), Fail> {
             ReportRow::Total {
                 jobs: 3,
                 processors: past,
+                idle: 10,
             },
         ],
-        "group,key,count,processors\n\
-         lane,0,1,4\n\
-         lane,15,18446744073709551615,340282366920938463463374607431768211455\n\
-         dim,10,0,0\n\
-         free,1,4,8\n\
-         total,-,3,18446744073709551616\n",
+        "group,key,count,processors,idle\n\
+         lane,0,1,4,1\n\
+         lane,15,18446744073709551615,340282366920938463463374607431768211455,\
+         340282366920938463463374607431768211455\n\
+         dim,10,0,0,0\n\
+         free,1,4,8,0\n\
+         total,-,3,18446744073709551616,10\n",
     )
 }
 

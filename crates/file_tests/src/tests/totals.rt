@@ -33,13 +33,13 @@ fn finished(rt: &(impl AllocGlobal + Abort)) -> Result<Finished<()>, Fail> {
     let mut first = Vec::new(rt.alloc());
     first.push(reply(rt, 1, 0, &[5, 6])?)?;
     let mut third = Vec::new(rt.alloc());
-    third.push(reply(rt, 0, 0, &[2, 9, 4, 7])?)?;
+    third.push(reply(rt, 0, 0, &[2, 9, 4])?)?;
     let mut by_worker = Vec::new(rt.alloc());
     by_worker.push(first)?;
     by_worker.push(Vec::new(rt.alloc()))?;
     by_worker.push(third)?;
     let mut rest = Vec::new(rt.alloc());
-    rest.push(reply(rt, 1, 1, &[8, 1])?)?;
+    rest.push(reply(rt, 1, 1, &[8, 1, 3, 3, 5])?)?;
     Ok(Finished {
         by_worker,
         rest,
@@ -48,35 +48,30 @@ fn finished(rt: &(impl AllocGlobal + Abort)) -> Result<Finished<()>, Fail> {
     })
 }
 
-// Whether a lane of a ledger has so many jobs on so many processors.
-fn has_lane(ledger: &Ledger, lane: u32, jobs: u64, processors: u128) -> bool {
-    ledger.lane(lane) == Totals { jobs, processors }
+// Whether these totals count so many jobs on so many processors, of which so many were idle.
+fn are(totals: Totals, jobs: u64, processors: u128, idle: u128) -> bool {
+    totals
+        == Totals {
+            jobs,
+            processors,
+            idle,
+        }
 }
 
-// Whether a dimension of a ledger has so many jobs on so many processors.
-fn has_dim(ledger: &Ledger, dim: u32, jobs: u64, processors: u128) -> bool {
-    ledger.dim(dim) == Totals { jobs, processors }
-}
-
-// Whether a ledger has so many jobs on so many processors in all.
-fn has_total(ledger: &Ledger, jobs: u64, processors: u128) -> bool {
-    ledger.total() == Totals { jobs, processors }
-}
-
-// Each of these lanes of a ledger has so many jobs on so many processors.
-fn expect_lanes(rt: &impl Abort, ledger: &Ledger, rows: &[(u32, u64, u128)]) {
-    for (lane, jobs, processors) in rows {
-        assert!(rt; has_lane(ledger, *lane, *jobs, *processors), "lane {lane}");
+// Each of these lanes of a ledger has so many jobs on so many processors, of which so many were idle.
+fn expect_lanes(rt: &impl Abort, ledger: &Ledger, rows: &[(u32, u64, u128, u128)]) {
+    for (lane, jobs, processors, idle) in rows {
+        let totals = ledger.lane(*lane);
+        assert!(rt; are(totals, *jobs, *processors, *idle), "lane {lane}");
     }
 }
 
-// Each of these dimensions of a ledger has so many jobs on so many processors.
-fn expect_dims(rt: &impl Abort, ledger: &Ledger, rows: &[(u32, u64, u128)]) {
-    for (dim, jobs, processors) in rows {
-        assert!(rt;
-            has_dim(ledger, *dim, *jobs, *processors),
-            "dimension {dim}"
-        );
+// Each of these dimensions of a ledger has so many jobs on so many processors, of which so many were
+// idle.
+fn expect_dims(rt: &impl Abort, ledger: &Ledger, rows: &[(u32, u64, u128, u128)]) {
+    for (dim, jobs, processors, idle) in rows {
+        let totals = ledger.dim(*dim);
+        assert!(rt; are(totals, *jobs, *processors, *idle), "dimension {dim}");
     }
 }
 
@@ -85,30 +80,42 @@ fn ledger_of(alloc: Global, finished: &Finished<()>) -> Result<Ledger, Fail> {
     Ok(Ledger::of(alloc, finished)?)
 }
 
-// Whether the slip of a reply has this id and this region.
-fn is_slip(reply: &Reply, id: JobId, region: Region) -> bool {
+// Whether the slip of a reply has this id, this region and so many idle processors.
+fn is_slip(reply: &Reply, id: JobId, region: Region, idle: u64) -> bool {
     let slip = Slip::of(reply);
-    slip.id == id && slip.region == region
+    slip.id == id && slip.region == region && slip.idle == idle
 }
 
 #[test]
 fn totals_of_three_replies(rt: HostRuntime) -> Result<(), Fail> {
     let finished = finished(&rt)?;
     let reply = finished.rest.first().expect(&rt, "a reply of the rest");
-    let (id, region) = (JobId { lane: 1, seq: 1 }, Region { base: 0, dim: 1 });
-    assert!(rt; is_slip(reply, id, region));
+    let (id, region) = (JobId { lane: 1, seq: 1 }, Region { base: 0, dim: 3 });
+    assert!(rt; is_slip(reply, id, region, 3));
     let ledger = ledger_of(rt.alloc(), &finished)?;
     expect_lanes(
         &rt,
         &ledger,
-        &[(0, 1, 4), (1, 2, 4), (2, 0, 0), (u32::MAX, 0, 0)],
+        &[
+            (0, 1, 4, 1),
+            (1, 2, 10, 3),
+            (2, 0, 0, 0),
+            (u32::MAX, 0, 0, 0),
+        ],
     );
     expect_dims(
         &rt,
         &ledger,
-        &[(0, 0, 0), (1, 2, 4), (2, 1, 4), (3, 0, 0), (u32::MAX, 0, 0)],
+        &[
+            (0, 0, 0, 0),
+            (1, 1, 2, 0),
+            (2, 1, 4, 1),
+            (3, 1, 8, 3),
+            (u32::MAX, 0, 0, 0),
+        ],
     );
-    assert!(rt; has_total(&ledger, 3, 8));
+    let total = ledger.total();
+    assert!(rt; are(total, 3, 14, 4));
     Ok(())
 }
 
@@ -167,7 +174,7 @@ where
 {
     let mut first = Vec::new(rt.alloc());
     first.push(reply(rt, 1, 0, &[5, 6])?)?;
-    first.push(reply(rt, 0, 0, &[2, 9, 4, 7])?)?;
+    first.push(reply(rt, 0, 0, &[2, 9, 4])?)?;
     let mut by_worker = Vec::new(rt.alloc());
     by_worker.push(first)?;
     let mut rest = Vec::new(rt.alloc());
@@ -202,31 +209,37 @@ fn rows_of_two_lanes(rt: HostRuntime) -> Result<(), Fail> {
                 lane: 0,
                 jobs: 1,
                 processors: 4,
+                idle: 1,
             },
             ReportRow::Lane {
                 lane: 1,
                 jobs: 2,
                 processors: 4,
+                idle: 0,
             },
             ReportRow::Dim {
                 dim: 0,
                 jobs: 0,
                 processors: 0,
+                idle: 0,
             },
             ReportRow::Dim {
                 dim: 1,
                 jobs: 2,
                 processors: 4,
+                idle: 0,
             },
             ReportRow::Dim {
                 dim: 2,
                 jobs: 1,
                 processors: 4,
+                idle: 1,
             },
             ReportRow::Dim {
                 dim: 3,
                 jobs: 0,
                 processors: 0,
+                idle: 0,
             },
             ReportRow::Free {
                 dim: 0,
@@ -251,6 +264,7 @@ fn rows_of_two_lanes(rt: HostRuntime) -> Result<(), Fail> {
             ReportRow::Total {
                 jobs: 3,
                 processors: 8,
+                idle: 1,
             },
         ],
     );

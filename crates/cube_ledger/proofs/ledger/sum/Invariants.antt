@@ -10,4 +10,5 @@ invariant-loop-slip l = record {
   totals : l.totals ≡ totals_of (is_in l.group) (take l.slip-index l.slips);
   few : l.totals.jobs ≤ l.slip-index;
   small : l.totals.processors ≤ l.slip-index * 2 ^ MAX_DIM;
+  small_idle : l.totals.idle ≤ l.slip-index * 2 ^ 64;
 }

@@ -8,5 +8,5 @@ use Rattle.cube_report.proofs.rows.push_dims.Goals as goal
 pub loop-dim-preserved : goal.loop-dim-preserved
 loop-dim-preserved c =
     c.in_ok-push.ensures.items
-    ∙ ap (λ (t : Totals). c.loop-dim.rows.items ++ row.Dim c.loop-dim.dim t.jobs t.processors ∷ []) c.dim-jobs.ensures
+    ∙ ap (λ (t : Totals). c.loop-dim.rows.items ++ row.Dim c.loop-dim.dim t.jobs t.processors t.idle ∷ []) c.dim-jobs.ensures
     ∙ row_more (dim_row_in c.args.ledger.now) c.args.rows.now.items c.loop-dim.rows.items c.loop-dim.dim c.loop-dim.invariant

@@ -8,5 +8,5 @@ use Rattle.cube_report.proofs.rows.push_lanes.Goals as goal
 pub loop-lane-preserved : goal.loop-lane-preserved
 loop-lane-preserved c =
     c.in_ok-push.ensures.items
-    ∙ ap (λ (t : Totals). c.loop-lane.rows.items ++ row.Lane c.loop-lane.lane t.jobs t.processors ∷ []) c.lane-jobs.ensures
+    ∙ ap (λ (t : Totals). c.loop-lane.rows.items ++ row.Lane c.loop-lane.lane t.jobs t.processors t.idle ∷ []) c.lane-jobs.ensures
     ∙ row_more (lane_row_in c.args.ledger.now) c.args.rows.now.items c.loop-lane.rows.items c.loop-lane.lane c.loop-lane.invariant

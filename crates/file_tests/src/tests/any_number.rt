@@ -1,0 +1,180 @@
+//! Jobs of any number of items: their replies beside plain folds, and a file of mixed sizes.
+
+use crate::tests::jobs::{answered, asked, made};
+use cli_commands::run_on;
+use cube_shape::MAX_DISPATCHERS;
+use dispatcher::Plain;
+use job_types::{JobId, Kind, Op, Reply};
+use jobs_csv::Counted;
+use std::alloc::Global;
+use std::process::Abort;
+use std::sync::Wait;
+use std::test::Fail;
+use std::thread::Threads;
+
+const OPS: [Op; 6] = [Op::Add, Op::Min, Op::Max, Op::Xor, Op::And, Op::Or];
+
+// Two numbers, joined.
+fn joined(op: Op, left: u64, right: u64) -> u64 {
+    match op {
+        Op::Add => left.wrapping_add(right),
+        Op::Min => left.min(right),
+        Op::Max => left.max(right),
+        Op::Xor => left ^ right,
+        Op::And => left & right,
+        Op::Or => left | right,
+    }
+}
+
+// These numbers, joined from the first on, with no unit; nothing for none.
+fn fold(op: Op, numbers: &[u64]) -> Option<u64> {
+    let mut numbers = numbers.iter();
+    let mut total = *numbers.next()?;
+    for number in numbers {
+        total = joined(op, total, *number);
+    }
+    Some(total)
+}
+
+// What the place of this rank has in the end.
+fn wanted(kind: Kind, items: &[u64], rank: usize) -> Option<u64> {
+    let _item = items.get(rank)?;
+    match kind {
+        Kind::Broadcast { root } => items.get(root as usize).copied(),
+        Kind::Reduce { root, .. } if rank as u64 != root => None,
+        Kind::Reduce { op, .. } | Kind::AllReduce { op } => fold(op, items),
+        Kind::Scan { op } => fold(op, items.get(..rank.saturating_add(1))?),
+    }
+}
+
+// Numbers that are far apart.
+fn numbers(alloc: Global, count: u64) -> Result<Vec<u64>, Fail> {
+    let mut numbers = Vec::new(alloc);
+    for number in 0..count {
+        numbers.push(number.wrapping_mul(11400714819323198485) ^ 85)?;
+    }
+    Ok(numbers)
+}
+
+// A reply has a region of this dimension, and at each rank what a plain fold gives. It has nothing past
+// the items, as far as three times their number.
+fn expect_plain(rt: &impl Abort, reply: &Reply, kind: Kind, items: &[u64], dim: u32) {
+    assert!(rt; reply.region().dim == dim, "{kind:?} on {dim}");
+    for rank in 0..items.len().saturating_mul(3) {
+        let held = reply.at(rank as u64);
+        assert!(rt; held == wanted(kind, items, rank), "{kind:?} at {rank}");
+    }
+}
+
+// A job of this kind on these items, for a machine of dimension `n`, has a reply on a region of this
+// dimension that is the plain fold.
+fn expect_kind(
+    rt: &impl Abort,
+    alloc: Global,
+    n: u32,
+    dim: u32,
+    kind: Kind,
+    items: &[u64],
+) -> Result<(), Fail> {
+    let job = made(asked(rt, alloc, n, 0, kind, items)?)?;
+    assert!(rt; job.dim() == dim && job.items() == items);
+    let reply = answered(job, JobId { lane: 0, seq: 0 });
+    expect_plain(rt, &reply, kind, items, dim);
+    Ok(())
+}
+
+// Jobs of all kinds, with this operation and this root.
+fn expect_kinds(
+    rt: &impl Abort,
+    alloc: Global,
+    n: u32,
+    dim: u32,
+    op: Op,
+    root: u64,
+    items: &[u64],
+) -> Result<(), Fail> {
+    expect_kind(rt, alloc, n, dim, Kind::Broadcast { root }, items)?;
+    expect_kind(rt, alloc, n, dim, Kind::Reduce { op, root }, items)?;
+    expect_kind(rt, alloc, n, dim, Kind::AllReduce { op }, items)?;
+    expect_kind(rt, alloc, n, dim, Kind::Scan { op }, items)
+}
+
+// Each row is the dimension of a machine, a number of items, and the dimension of the least region that
+// has a processor for each.
+fn expect_rows(rt: &impl Abort, alloc: Global, rows: &[(u32, u64, u32)]) -> Result<(), Fail> {
+    for (n, count, dim) in rows {
+        let items = numbers(alloc, *count)?;
+        for op in OPS {
+            expect_kinds(rt, alloc, *n, *dim, op, *count / 2, &items)?;
+        }
+    }
+    Ok(())
+}
+
+#[test]
+fn replies_are_plain_folds(rt: HostRuntime) -> Result<(), Fail> {
+    expect_rows(
+        &rt,
+        rt.alloc(),
+        &[
+            (0, 1, 0),
+            (3, 1, 0),
+            (3, 2, 1),
+            (3, 3, 2),
+            (3, 5, 3),
+            (3, 7, 3),
+            (3, 8, 3),
+            (10, 1, 0),
+            (10, 2, 1),
+            (10, 3, 2),
+            (10, 5, 3),
+            (10, 1000, 10),
+            (10, 1023, 10),
+            (10, 1024, 10),
+        ],
+    )
+}
+
+const MIXED: &[u8] = b"lane,kind,op,root,items\n\
+    2,scan,add,0,1 1 1\n0,allreduce,max,0,4 8 6 2 5\n2,reduce,xor,0,7\n0,broadcast,-,5,1 2 3 4 5 6 7\n\
+    2,scan,or,0,1 2\n1,reduce,min,2,5 9 3\n0,allreduce,add,0,1 2 3\n1,scan,min,0,9 4 7 3 8\n\
+    1,reduce,max,2,5 3 9\n0,broadcast,-,1,4 9 6\n2,allreduce,and,0,12 10 14 8 9\n";
+
+const MIXED_REPLIES: &str = "lane,seq,kind,dim,result,rounds,messages\n\
+    0,0,allreduce,3,8 8 8 8 8,3,24\n0,1,broadcast,3,6 6 6 6 6 6 6,3,7\n0,2,allreduce,2,6 6 6,2,8\n\
+    0,3,broadcast,2,9 9 9,2,3\n1,0,reduce,2,- - 3,2,3\n1,1,scan,3,9 4 4 3 3,3,24\n\
+    1,2,reduce,2,- - 9,2,3\n2,0,scan,2,1 2 3,2,8\n2,1,reduce,0,7,0,0\n2,2,scan,1,1 3,1,2\n\
+    2,3,allreduce,3,8 8 8 8 8,3,24\n";
+
+// Whether so many dispatchers give these replies to a file, on a machine of dimension 3.
+fn gives(
+    rt: &(impl AllocGlobal + Abort + Threads + Wait + Sync),
+    dispatchers: u32,
+    file: &[u8],
+    wanted: &str,
+) -> bool {
+    assert!(rt; 1 <= dispatchers && dispatchers <= MAX_DISPATCHERS);
+    let mut reader = Counted::new(file);
+    let mut writer = Counted::new(Vec::new(rt.alloc()));
+    let answer = run_on(
+        rt,
+        rt.alloc(),
+        3,
+        dispatchers,
+        2,
+        &Plain,
+        &mut reader,
+        &mut writer,
+    );
+    answer.is_ok() && writer.get_ref().as_slice() == wanted.as_bytes()
+}
+
+#[test]
+fn mixed_sizes_over_dispatchers(rt: HostRuntime) {
+    for dispatchers in [1, 2, 4, 16] {
+        assert!(rt;
+            gives(&rt, dispatchers, MIXED, MIXED_REPLIES),
+            "{dispatchers}"
+        );
+    }
+}
