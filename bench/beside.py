@@ -1,5 +1,6 @@
 """Runs `cubejobs` beside other programs of the same job, in turn on the same inputs."""
 import os
+import random
 import subprocess
 import sys
 import tempfile
@@ -17,6 +18,16 @@ class Cost(NamedTuple):
     processor: float
     clock: float
     memory: float
+
+
+def write_jobs(kind, count, items, lanes, path):
+    """A jobs file: so many jobs of a kind, each of so many random items, on random lanes."""
+    rng = random.Random(count + items)
+    with open(path, "w") as file:
+        file.write("lane,kind,op,root,items\n")
+        for _ in range(count):
+            words = " ".join(str(rng.getrandbits(64)) for _ in range(items))
+            file.write(f"{rng.randrange(lanes)},{kind},add,0,{words}\n")
 
 
 def built(folder, source):
