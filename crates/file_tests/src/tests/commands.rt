@@ -206,14 +206,14 @@ fn expect_writes(rt: &(impl AllocGlobal + Abort + Threads + Wait + Sync), rows: 
     }
 }
 
-// The answers have 89, 145, 81 and 90 bytes.
+// The answers have 89, 172, 81 and 90 bytes.
 #[test]
 fn reports_a_failed_write(rt: HostRuntime) {
     expect_writes(
         &rt,
         &[
             (Command::Run, 13),
-            (Command::Report, 21),
+            (Command::Report, 25),
             (Command::Place, 12),
             (Command::Replay, 13),
         ],
