@@ -13,7 +13,7 @@ use std::env;
 use std::io::{self, BufRead, BufWriter, Write};
 use std::process::ExitCode;
 
-const STATIONS: usize = 32;
+const STATIONS: usize = 48;
 
 enum Command {
     Take { name: String, dim: u32 },

@@ -194,7 +194,7 @@ fn shown(word: u64, text: &mut String) {
     if text.is_empty() {
         text.push('-');
     }
-    for station in 0..32 {
+    for station in 0..48 {
         if word >> (8 + station) & 1 == 1 {
             let _ = write!(text, "+{station}");
         }
@@ -304,7 +304,7 @@ fn play(n: u32, stations: usize, lines: Vec<Line>) -> io::Result<()> {
 fn main() -> ExitCode {
     let mut words = env::args().skip(1).filter_map(|word| word.parse::<u32>().ok());
     let n = words.next().unwrap_or(10);
-    let stations = words.next().unwrap_or(32);
+    let stations = words.next().unwrap_or(48);
     match read() {
         Ok(lines) => match play(n, stations as usize, lines) {
             Ok(()) => ExitCode::SUCCESS,

@@ -1,4 +1,4 @@
-// Calls the library for C beside a plain model: on machines of dimension 0 to 10, random takes, releases
+// Calls the library for C beside a plain model: on machines of dimension 0 to 12, random takes, releases
 // and questions, with bad arguments among them. It is C and C++ alike. It exits with 0, or says on standard
 // error which call answered otherwise than the model.
 #include <stdio.h>
@@ -157,7 +157,7 @@ static void call_once(void) {
 static void expect_bad_arguments(void) {
     const uint32_t worst = UINT32_MAX;
     struct cubejobs_machine *machine = &memory.machine;
-    expect(cubejobs_open(machine, CUBEJOBS_MAX_DIM + 1) == CUBEJOBS_BAD_DIMENSION, "open 11");
+    expect(cubejobs_open(machine, CUBEJOBS_MAX_DIM + 1) == CUBEJOBS_BAD_DIMENSION, "open 13");
     expect(cubejobs_open(machine, worst) == CUBEJOBS_BAD_DIMENSION, "open 2^32 - 1");
     expect(cubejobs_take(machine, worst, worst).code == CUBEJOBS_BAD_STATION, "worst take");
     expect(cubejobs_take(machine, 0, worst).code == CUBEJOBS_BAD_DIMENSION, "worst dimension");
@@ -175,11 +175,27 @@ static void expect_stale_and_zeros(void) {
     static struct cubejobs_machine before, zeros;
     before = memory.machine;
     expect(cubejobs_open_sized(&memory.machine, sizeof before - 512, 0) == CUBEJOBS_BAD_SIZE, "a stale header");
+    expect(cubejobs_open_sized(&memory.machine, 1544, 0) == CUBEJOBS_BAD_SIZE, "a header of 1,024 processors and 32 stations");
     expect(memcmp(&before, &memory.machine, sizeof before) == 0, "a stale header changed the machine");
     expect(cubejobs_free_regions(&zeros, 0) == 1 && cubejobs_is_wholly_free(&zeros), "a machine of zeros is free");
     expect(cubejobs_take(&zeros, 0, 1).code == CUBEJOBS_BAD_DIMENSION, "a machine of zeros is of dimension 0");
     expect(cubejobs_take(&zeros, 0, 0).code == CUBEJOBS_DONE && cubejobs_take(&zeros, 1, 0).code == CUBEJOBS_NO_SUBCUBE, "its processor");
     expect(cubejobs_release(&zeros, 0).code == CUBEJOBS_DONE, "its release");
+}
+
+// Each station of the largest machine holds a processor, from the first one on.
+static void expect_every_station(void) {
+    struct cubejobs_machine *machine = &memory.machine;
+    expect(CUBEJOBS_MAX_DIM == 12 && CUBEJOBS_MAX_STATIONS == 48, "the limits");
+    expect(cubejobs_open(machine, 12) == CUBEJOBS_DONE, "open 12");
+    for (unsigned station = 0; station < 48; station++)
+        expect(same(cubejobs_take(machine, station, 0), answer(CUBEJOBS_DONE, 0, station)), "48 takes");
+    expect(cubejobs_take(machine, 48, 0).code == CUBEJOBS_BAD_STATION, "a take of station 48");
+    expect(cubejobs_free_regions(machine, 0) == 4048 && cubejobs_free_regions(machine, 11) == 1, "what 48 stations leave");
+    expect(cubejobs_holder(machine, 47).found && cubejobs_holder(machine, 47).station == 47, "the holder of processor 47");
+    for (unsigned station = 48; station-- > 0;)
+        expect(same(cubejobs_release(machine, station), answer(CUBEJOBS_DONE, 0, station)), "48 releases");
+    expect(cubejobs_take(machine, 47, 12).code == CUBEJOBS_DONE, "the whole machine");
 }
 
 static void open_both(unsigned dim) {
@@ -196,8 +212,9 @@ static void expect_guards(void) {
 }
 
 int main(void) {
-    expect(sizeof(struct cubejobs_machine) == 1544, "the struct's size is not the library's");
+    expect(sizeof(struct cubejobs_machine) == 4872, "the struct's size is not the library's");
     expect_stale_and_zeros();
+    expect_every_station();
     for (unsigned dim = 0; dim <= CUBEJOBS_MAX_DIM; dim++) {
         open_both(dim);
         for (int call = 0; call < CALLS; call++) call_once();

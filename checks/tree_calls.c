@@ -66,6 +66,7 @@ static void handles(void) {
     uint64_t seed = 88172645463325252u, missing = 0;
     unsigned i;
     WANT(cubejobs_tree_open_version(&made, CUBEJOBS_TREE_VERSION + 1, 2, 2), CUBEJOBS_TREE_BAD_VERSION);
+    WANT(cubejobs_tree_open_version(&made, CUBEJOBS_TREE_VERSION - 1, 2, 2), CUBEJOBS_TREE_BAD_VERSION);
     WANT(cubejobs_tree_open(&made, CUBEJOBS_TREE_MAX_DIM + 1, 0), CUBEJOBS_TREE_BAD_DIMENSION);
     WANT(cubejobs_tree_open(&made, CUBEJOBS_TREE_MAX_DIM, 0), CUBEJOBS_TREE_BAD_STATIONS);
     WANT(cubejobs_tree_open(&made, 0, CUBEJOBS_TREE_MAX_STATIONS + 1), CUBEJOBS_TREE_BAD_STATIONS);
@@ -80,7 +81,7 @@ static void handles(void) {
         no_station(&random, CUBEJOBS_TREE_NOT_OPEN);
     }
     WANT(cubejobs_tree_open(&made, 2, 2), CUBEJOBS_TREE_DONE);
-    WANT(cubejobs_tree_open(&made, 11, 0), CUBEJOBS_TREE_ALREADY_OPEN);
+    WANT(cubejobs_tree_open(&made, CUBEJOBS_TREE_MAX_DIM + 1, 0), CUBEJOBS_TREE_ALREADY_OPEN);
     WANT(cubejobs_tree_free(&made), CUBEJOBS_TREE_OTHER_KIND);
     no_station((struct cubejobs_station *)&made, CUBEJOBS_TREE_OTHER_KIND);
     WANT(cubejobs_tree_seat(&made, &one).number, 0);
@@ -174,6 +175,38 @@ static void regions(void) {
     for (i = 0; i < 2; i++) WANT(cubejobs_tree_release(&s[i]).code | cubejobs_tree_retire(&s[i]), CUBEJOBS_TREE_DONE);
     WANT(cubejobs_tree_close(&made, &missing), CUBEJOBS_TREE_DONE);
     WANT(missing, 3);
+    WANT(cubejobs_tree_free(&made), CUBEJOBS_TREE_DONE);
+}
+
+/* Each station of the largest machine holds a processor, and its bit stands in word 0 once it has retired. */
+static void every_station(void) {
+    static struct cubejobs_cube made;
+    static struct cubejobs_station s[48], none;
+    uint64_t missing = 77;
+    unsigned i;
+    WANT(CUBEJOBS_TREE_MAX_DIM, 12);
+    WANT(CUBEJOBS_TREE_MAX_STATIONS, 48);
+    WANT(cubejobs_tree_open(&made, 12, 48), CUBEJOBS_TREE_DONE);
+    for (i = 0; i < 48; i++) WANT(cubejobs_tree_seat(&made, &s[i]).number, i);
+    WANT(cubejobs_tree_seat(&made, &none).code, CUBEJOBS_TREE_NO_STATION);
+    for (i = 0; i < 48; i++) WANT(cubejobs_tree_take(&s[i], 0).base, i);
+    WANT(cubejobs_tree_occupancy(&made).held, 48);
+    WANT(cubejobs_tree_occupancy(&made).free[0], 4048);
+    WANT(cubejobs_tree_occupancy(&made).free[12], 0);
+    WANT(cubejobs_tree_occupancy(&made).largest, 11);
+    WANT(cubejobs_tree_close(&made, &missing), CUBEJOBS_TREE_STILL_OUT);
+    WANT(missing, (UINT64_C(1) << 48) - 1);
+    for (i = 0; i < 48; i++) WANT(cubejobs_tree_release(&s[i]).base, i);
+    WANT(cubejobs_tree_occupancy(&made).largest, 12);
+    WANT(cubejobs_tree_try_node(&s[47], 8191).base, 4095);
+    WANT(cubejobs_tree_try_node(&s[46], 8192).code, CUBEJOBS_TREE_BAD_NODE);
+    WANT(cubejobs_tree_release(&s[47]).base, 4095);
+    for (i = 0; i < 47; i++) WANT(cubejobs_tree_retire(&s[i]), CUBEJOBS_TREE_DONE);
+    WANT(cubejobs_tree_word(&made, 0).word, (UINT64_C(1) << 47) - 1);
+    WANT(cubejobs_tree_close(&made, &missing), CUBEJOBS_TREE_STILL_OUT);
+    WANT(missing, UINT64_C(1) << 47);
+    WANT(cubejobs_tree_retire(&s[47]), CUBEJOBS_TREE_DONE);
+    WANT(cubejobs_tree_close(&made, &missing), CUBEJOBS_TREE_DONE);
     WANT(cubejobs_tree_free(&made), CUBEJOBS_TREE_DONE);
 }
 
@@ -274,6 +307,7 @@ int main(int argc, char **argv) {
     if (argc > 1) pairs = strtoul(argv[1], 0, 10);
     handles();
     regions();
+    every_station();
     waiting();
     threads();
     printf("ffi: the tree from %s, %u threads, %lu takes and releases each: no overlap, no update lost\n",

@@ -4,7 +4,7 @@
  * processors from m * 2^k on, for the least m such that the region is apart from every region that is
  * held. Each station holds one region at most, and it alone gives it back.
  *
- * The library takes no memory. A machine is one struct of about 1.5 KB, which the caller keeps wherever it
+ * The library takes no memory. A machine is one struct of about 5 KB, which the caller keeps wherever it
  * likes; there is nothing to close. Link libcubejobs_c.a of release/linux-x86_64, or the one that `rt lib` makes
  * in crates/cubejobs_c/out.
  *
@@ -29,9 +29,9 @@
 extern "C" {
 #endif
 
-/* The largest dimension of a machine, and how many stations it has: their numbers are 0 to 31. */
-#define CUBEJOBS_MAX_DIM 10
-#define CUBEJOBS_MAX_STATIONS 32
+/* The largest dimension of a machine, and how many stations it has: their numbers are 0 to 47. */
+#define CUBEJOBS_MAX_DIM 12
+#define CUBEJOBS_MAX_STATIONS 48
 
 /* What an answer's code says. */
 enum cubejobs_code {

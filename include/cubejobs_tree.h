@@ -1,6 +1,6 @@
 /* The running tree, for C and C++: aligned subcubes for many threads at once, with no lock.
  *
- * A machine has the 2^dim processors 0 to 2^dim - 1, and up to 32 stations. A thread works with a station:
+ * A machine has the 2^dim processors 0 to 2^dim - 1, and up to 48 stations. A thread works with a station:
  * it takes a region of dimension k, the 2^k processors from m * 2^k on for some m, and gives it back.
  * Regions that stations of one machine hold at one moment are apart, in every interleaving of the calls:
  * that is proved, and so is that each word of the tree is 0 once a close is done.
@@ -42,11 +42,11 @@ extern "C" {
 #endif
 
 /* The largest dimension of a machine, and the largest number of its stations. */
-#define CUBEJOBS_TREE_MAX_DIM 10
-#define CUBEJOBS_TREE_MAX_STATIONS 32
+#define CUBEJOBS_TREE_MAX_DIM 12
+#define CUBEJOBS_TREE_MAX_STATIONS 48
 
 /* The version of this header: a library of another one refuses to open a machine. */
-#define CUBEJOBS_TREE_VERSION 1
+#define CUBEJOBS_TREE_VERSION 2
 
 /* The first eight bytes of a handle that is open. */
 #define CUBEJOBS_TREE_OPEN UINT64_C(0x6375626574726565)

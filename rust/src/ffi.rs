@@ -5,8 +5,8 @@
 
 use core::mem::{align_of, size_of};
 
-pub const MAX_DIM: usize = 10;
-pub const MAX_STATIONS: usize = 32;
+pub const MAX_DIM: usize = 12;
+pub const MAX_STATIONS: usize = 48;
 
 pub const DONE: u32 = 0;
 pub const NO_SUBCUBE: u32 = 1;
@@ -48,7 +48,7 @@ pub struct Holder {
 }
 
 // The size that the library has compiled in.
-const _: () = assert!(size_of::<Machine>() == 1544 && align_of::<Machine>() == 8);
+const _: () = assert!(size_of::<Machine>() == 4872 && align_of::<Machine>() == 8);
 
 #[link(name = "cubejobs_c", kind = "static")]
 unsafe extern "C" {

@@ -50,7 +50,7 @@ pub struct Region {
     pub dim: u32,
 }
 
-/// A machine with first fit. It is some 1.5 KB, and a clone of it is another machine.
+/// A machine with first fit. It is some 5 KB, and a clone of it is another machine.
 #[derive(Clone)]
 pub struct Machine {
     inner: ffi::Machine,

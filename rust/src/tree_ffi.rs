@@ -5,7 +5,7 @@
 use core::mem::size_of;
 use core::ptr;
 
-pub const VERSION: u32 = 1;
+pub const VERSION: u32 = 2;
 pub const FREE_PLACES: usize = 13;
 
 pub const DONE: u32 = 0;

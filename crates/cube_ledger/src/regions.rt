@@ -1,7 +1,9 @@
 //! What the words of a machine say of its regions.
 
-/// How many places `Occupancy::free` has: one for each dimension of any machine, and some over.
-pub const FREE_PLACES: usize = 13;
+use cube_shape::MAX_DIM;
+
+/// How many places `Occupancy::free` has: one for each dimension of any machine.
+pub const FREE_PLACES: usize = MAX_DIM as usize + 1;
 
 /// What the words of a machine say: which regions are free, and how many processors are given out.
 #[derive(Clone, Copy, Debug, PartialEq, Eq)]

@@ -13,7 +13,7 @@ pub struct Slot {
 }
 
 /// The bytes of a machine.
-pub const MACHINE_BYTES: u64 = 1544;
+pub const MACHINE_BYTES: u64 = 4872;
 
 /// A machine of at most `2^MAX_DIM` processors, in memory that the caller keeps.
 #[repr(C)]
@@ -22,9 +22,9 @@ pub struct Machine {
     /// The dimension.
     pub dim: u32,
     /// The allocation bits: one for each processor, in order, and then some that stay clear.
-    pub bits: [bool; 1024],
+    pub bits: [bool; 4096],
     /// What each station holds, by its number.
-    pub slots: [Slot; 32],
+    pub slots: [Slot; 48],
 }
 
 /// The answer of a take or a release.

@@ -13,8 +13,8 @@ use crate::regions::{cubejobs_free_regions, cubejobs_region, cubejobs_take_regio
 fn memory() -> Machine {
     Machine {
         dim: 0,
-        bits: [true; 1024],
-        slots: [Slot::new(None); 32],
+        bits: [true; 4096],
+        slots: [Slot::new(None); 48],
     }
 }
 
@@ -45,29 +45,29 @@ fn gives_the_least_free_region(rt: HostRuntime) {
 #[test]
 fn answers_bad_arguments_by_a_code(rt: HostRuntime) {
     let mut machine = memory();
-    assert_eq!(rt; cubejobs_open_sized(&mut machine, MACHINE_BYTES, 10), DONE);
+    assert_eq!(rt; cubejobs_open_sized(&mut machine, MACHINE_BYTES, 12), DONE);
     assert_eq!(rt;
-        cubejobs_open_sized(&mut machine, MACHINE_BYTES, 11),
+        cubejobs_open_sized(&mut machine, MACHINE_BYTES, 13),
         BAD_DIMENSION
     );
     assert!(rt; cubejobs_is_wholly_free(&machine));
-    assert_eq!(rt; cubejobs_take(&mut machine, 32, 11).code, BAD_STATION);
-    assert_eq!(rt; cubejobs_take(&mut machine, 31, 11).code, BAD_DIMENSION);
-    assert_eq!(rt; cubejobs_release(&mut machine, 31).code, NOTHING_HELD);
-    assert_eq!(rt; cubejobs_release(&mut machine, 32).code, BAD_STATION);
+    assert_eq!(rt; cubejobs_take(&mut machine, 48, 13).code, BAD_STATION);
+    assert_eq!(rt; cubejobs_take(&mut machine, 47, 13).code, BAD_DIMENSION);
+    assert_eq!(rt; cubejobs_release(&mut machine, 47).code, NOTHING_HELD);
+    assert_eq!(rt; cubejobs_release(&mut machine, 48).code, BAD_STATION);
     assert_eq!(rt;
-        code_and_base(cubejobs_take(&mut machine, 31, 10)),
+        code_and_base(cubejobs_take(&mut machine, 47, 12)),
         (DONE, 0)
     );
-    assert_eq!(rt; cubejobs_take(&mut machine, 31, 0).code, STATION_HOLDS);
+    assert_eq!(rt; cubejobs_take(&mut machine, 47, 0).code, STATION_HOLDS);
 }
 
 #[test]
 fn takes_the_region_that_is_asked(rt: HostRuntime) {
     let mut machine = Machine {
         dim: 0,
-        bits: [false; 1024],
-        slots: [Slot::new(None); 32],
+        bits: [false; 4096],
+        slots: [Slot::new(None); 48],
     };
     assert_eq!(rt;
         cubejobs_open_sized(&mut machine, MACHINE_BYTES - 512, 3),

@@ -4,6 +4,7 @@ ghost use Rattle.cube_tree.specs.Tries.{counted, no_refusal};
 ghost use Rattle.cubejobs_tree.specs.Answers.{counts_of, region_of};
 
 use crate::codes::{DONE, NO_SUBCUBE};
+use cube_ledger::FREE_PLACES;
 use cube_shape::Region;
 use cube_tree::{Refusal, Why};
 
@@ -72,7 +73,7 @@ pub struct OccupancyAnswer {
     /// How many processors are in a region that is held.
     pub held: u64,
     /// The number of free regions of each dimension, at the dimension. It is 0 above the machine's.
-    pub free: [u64; 13],
+    pub free: [u64; FREE_PLACES],
 }
 
 // The answer of a call that was done with a region.
@@ -181,7 +182,7 @@ impl OccupancyAnswer {
             largest: 0,
             has_free: false,
             held: 0,
-            free: [0; 13],
+            free: [0; FREE_PLACES],
         }
     }
 }

@@ -1,7 +1,7 @@
 //! The codes of the answers, the version of the header, and the tag of a handle.
 
 /// The version of the header that this library is for. Any change of what crosses is another one.
-pub const VERSION: u32 = 1;
+pub const VERSION: u32 = 2;
 
 /// The tag of an open handle. All other tags are those of handles that are shut.
 pub const OPEN: u64 = 0x6375_6265_7472_6565;

@@ -131,6 +131,8 @@ fn replies_are_plain_folds(rt: HostRuntime) -> Result<(), Fail> {
             (10, 1000, 10),
             (10, 1023, 10),
             (10, 1024, 10),
+            (12, 4095, 12),
+            (12, 4096, 12),
         ],
     )
 }

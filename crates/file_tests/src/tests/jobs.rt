@@ -142,16 +142,16 @@ fn answers_small_jobs(rt: HostRuntime) -> Result<(), Fail> {
     )
 }
 
-// The numbers 0 to 1023.
+// The numbers 0 to 4095.
 fn numbers(alloc: Global) -> Result<Vec<u64>, Fail> {
-    let mut items = Vec::with_capacity(alloc, 1024)?;
-    for item in 0..1024 {
+    let mut items = Vec::with_capacity(alloc, 4096)?;
+    for item in 0..4096 {
         items.push(item)?;
     }
     Ok(items)
 }
 
-// A job of this kind on the items 0 to 1023, on the largest machine, holds these numbers at these
+// A job of this kind on the items 0 to 4095, on the largest machine, holds these numbers at these
 // places and took these messages.
 fn expect_largest(
     rt: &impl Abort,
@@ -166,7 +166,7 @@ fn expect_largest(
     for (rank, held) in places {
         assert!(rt; holds(&reply, *rank, *held), "place {rank} of {kind:?}");
     }
-    assert!(rt; took(&reply, 10, messages), "{kind:?}");
+    assert!(rt; took(&reply, 12, messages), "{kind:?}");
     Ok(())
 }
 
@@ -175,20 +175,20 @@ fn expect_largest(
 fn answers_the_largest_jobs(rt: HostRuntime) -> Result<(), Fail> {
     let op = Op::Add;
     let alloc = rt.alloc();
-    let places = &[(0, Some(700)), (1023, Some(700)), (1024, None)];
-    expect_largest(&rt, alloc, Kind::Broadcast { root: 700 }, places, 1023)?;
-    let places = &[(0, None), (1023, Some(523_776)), (1024, None)];
-    expect_largest(&rt, alloc, Kind::Reduce { op, root: 1023 }, places, 1023)?;
-    let places = &[(0, Some(523_776)), (1023, Some(523_776)), (1024, None)];
-    expect_largest(&rt, alloc, Kind::AllReduce { op }, places, 10_240)?;
+    let places = &[(0, Some(700)), (4095, Some(700)), (4096, None)];
+    expect_largest(&rt, alloc, Kind::Broadcast { root: 700 }, places, 4095)?;
+    let places = &[(0, None), (4095, Some(8_386_560)), (4096, None)];
+    expect_largest(&rt, alloc, Kind::Reduce { op, root: 4095 }, places, 4095)?;
+    let places = &[(0, Some(8_386_560)), (4095, Some(8_386_560)), (4096, None)];
+    expect_largest(&rt, alloc, Kind::AllReduce { op }, places, 49_152)?;
     let places = &[
         (0, Some(0)),
-        (511, Some(130_816)),
-        (512, Some(131_328)),
-        (1023, Some(523_776)),
-        (1024, None),
+        (2047, Some(2_096_128)),
+        (2048, Some(2_098_176)),
+        (4095, Some(8_386_560)),
+        (4096, None),
     ];
-    expect_largest(&rt, alloc, Kind::Scan { op }, places, 10_240)
+    expect_largest(&rt, alloc, Kind::Scan { op }, places, 49_152)
 }
 
 #[test]
@@ -252,10 +252,10 @@ fn a_refusal_gives_the_items_back(rt: HostRuntime) -> Result<(), Fail> {
             (3, SUM, &[4; 16], JobRefused::TooLarge),
             (0, SUM, &[1, 2], JobRefused::TooLarge),
             (0, sums, &[1, 2, 3], JobRefused::TooLarge),
-            (10, sums, &[1; 1025], JobRefused::TooLarge),
-            (10, reduce, &[1; 1025], JobRefused::TooLarge),
-            (10, broadcast, &[1; 1025], JobRefused::TooLarge),
-            (10, SUM, &[1; 1025], JobRefused::TooLarge),
+            (12, sums, &[1; 4097], JobRefused::TooLarge),
+            (12, reduce, &[1; 4097], JobRefused::TooLarge),
+            (12, broadcast, &[1; 4097], JobRefused::TooLarge),
+            (12, SUM, &[1; 4097], JobRefused::TooLarge),
             (0, SUM, &[], JobRefused::Empty),
             (3, broadcast, &[4, 9], JobRefused::BadRoot),
             (3, reduce, &[4, 9], JobRefused::BadRoot),

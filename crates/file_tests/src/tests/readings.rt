@@ -239,7 +239,7 @@ fn reads_schedules(rt: HostRuntime) -> Result<(), Fail> {
     let last = u64::MAX;
     expect_calls(
         &rt,
-        b"0,take,4\n0,run,-\n0,release,-\n0,step,1\n31,step,100\n5,take,0\n18446744073709551615,retire,-",
+        b"0,take,4\n0,run,-\n0,release,-\n0,step,1\n47,step,100\n5,take,0\n18446744073709551615,retire,-",
         &[
             Line::Take {
                 station: 0,
@@ -252,7 +252,7 @@ fn reads_schedules(rt: HostRuntime) -> Result<(), Fail> {
                 times: 1,
             },
             Line::Step {
-                station: 31,
+                station: 47,
                 times: 100,
             },
             Line::Take {

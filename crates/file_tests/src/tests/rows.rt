@@ -156,7 +156,8 @@ fn writes_events(rt: HostRuntime) -> Result<(), Fail> {
             made_row(1, Kind::Clear, 2, 4, Note::Lost),
             made_row(2, Kind::Clear, 1, 0, Note::Done),
             made_row(3, Kind::Look, 1, 256, Note::InUse),
-            made_row(31, Kind::Retire, 0, 2147483648, Note::Retired),
+            made_row(47, Kind::Mark, 1, 36028797018963970, Note::Ok),
+            made_row(47, Kind::Retire, 0, 140737488355328, Note::Retired),
         ],
         "station,event,node,word,note\n\
          0,look,4,-,free\n\
@@ -173,7 +174,8 @@ fn writes_events(rt: HostRuntime) -> Result<(), Fail> {
          1,clear,2,R,lost\n\
          2,clear,1,-,done\n\
          3,look,1,-+0,inuse\n\
-         31,retire,0,-,retired\n",
+         47,mark,1,L+47,ok\n\
+         47,retire,0,-,retired\n",
     )
 }
 

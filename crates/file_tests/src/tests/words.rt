@@ -51,7 +51,7 @@ fn reads_command_lines(rt: HostRuntime) -> Result<(), Fail> {
         &rt,
         &[
             ("cubejobs run --dim 0", a_run(0, 2, 16)),
-            ("cubejobs run --dim=10", a_run(10, 2, 16)),
+            ("cubejobs run --dim=12", a_run(12, 2, 16)),
             (
                 "cubejobs run --dim 3 --dispatchers 1 --capacity=1",
                 a_run(3, 1, 1),
@@ -63,15 +63,15 @@ fn reads_command_lines(rt: HostRuntime) -> Result<(), Fail> {
             ("cubejobs report --quiet --dim 3", quiet),
             ("cubejobs report --dim 3", a_report(3, 2, 16)),
             (
-                "cubejobs report --dim=10 --dispatchers=16 --capacity=1024",
-                a_report(10, 16, 1024),
+                "cubejobs report --dim=12 --dispatchers=16 --capacity=1024",
+                a_report(12, 16, 1024),
             ),
             (
                 "cubejobs report --capacity 1 --dispatchers 3 --dim 0",
                 a_report(0, 3, 1),
             ),
             ("cubejobs place --dim 3", Invocation::Place { n: 3 }),
-            ("cubejobs replay --dim 2 --stations 32", replay),
+            ("cubejobs replay --dim 2 --stations 48", replay),
         ],
     )
 }

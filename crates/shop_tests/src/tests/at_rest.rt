@@ -1,4 +1,5 @@
 //! What a machine says once all of its stations have come back.
+use cube_shape::MAX_DIM;
 use floors::Floor;
 use locked_floor::LockedFloor;
 use tree_floor::TreeFloor;
@@ -13,7 +14,7 @@ pub trait AtRest {
 fn is_wholly_free<F: Floor>(machine: &F::Machine, dim: u32) -> bool {
     let words = F::words(machine);
     F::dim(machine) == dim
-        && words.len() == 2 << dim.min(10)
+        && words.len() == 2 << dim.min(MAX_DIM)
         && words.iter().skip(1).all(|word| *word == 0)
 }
 

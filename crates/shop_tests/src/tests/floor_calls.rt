@@ -131,8 +131,8 @@ where
     let (largest, stations) = opened::<F>(rt, alloc, MAX_DIM, MAX_STATIONS);
     let count = stations.len();
     let large = largest.close(stations);
-    assert_eq!(rt; count, 32);
-    assert!(rt; small.is_at_rest(0) && large.is_at_rest(10));
+    assert_eq!(rt; count, 48);
+    assert!(rt; small.is_at_rest(0) && large.is_at_rest(12));
 }
 
 #[test]

@@ -46,7 +46,7 @@ where
     are_refused::<L, F>(
         alloc,
         &[
-            (11, 0, 0, 0, ShopRefused::BadDimension),
+            (13, 0, 0, 0, ShopRefused::BadDimension),
             (3, 17, 1, 1, ShopRefused::BadLanes),
             (3, 0, 0, 0, ShopRefused::BadLanes),
             (3, 1, 17, 1, ShopRefused::BadDispatchers),

@@ -315,12 +315,14 @@ fn give_all_back(cube: &Cube, held: &mut Vec<Subcube>)
 
 #[test]
 fn cubes_at_the_limits(rt: HostRuntime) {
-    assert!(rt; refusal_of(&rt, rt.alloc(), 3, 33) == CubeRefused::BadStations);
+    assert!(rt; refusal_of(&rt, rt.alloc(), 3, 49) == CubeRefused::BadStations);
     assert!(rt; refusal_of(&rt, rt.alloc(), 3, 0) == CubeRefused::BadStations);
-    assert!(rt; refusal_of(&rt, rt.alloc(), 11, 1) == CubeRefused::BadDimension);
-    assert!(rt; refusal_of(&rt, rt.alloc(), 11, 33) == CubeRefused::BadDimension);
-    let mut held = Vec::with_capacity(rt.alloc(), 32).expect(&rt, "no memory");
-    let (cube, mut list) = opened(&rt, rt.alloc(), 10, 32);
+    assert!(rt; refusal_of(&rt, rt.alloc(), 13, 1) == CubeRefused::BadDimension);
+    assert!(rt; refusal_of(&rt, rt.alloc(), 13, 49) == CubeRefused::BadDimension);
+    let (small, stations) = opened(&rt, rt.alloc(), 3, 33);
+    assert!(rt; is_free(&small.close_with(stations)));
+    let mut held = Vec::with_capacity(rt.alloc(), 48).expect(&rt, "no memory");
+    let (cube, mut list) = opened(&rt, rt.alloc(), 12, 48);
     take_all(&rt, &cube, &mut list, &mut held);
     list.destroy_empty();
     give_all_back(&cube, &mut held);

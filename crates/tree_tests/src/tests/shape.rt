@@ -76,7 +76,7 @@ fn nodes_name_regions(rt: HostRuntime) {
     assert!(rt; names(3, 1, Region { base: 0, dim: 3 }));
     assert!(rt; names(3, 6, Region { base: 4, dim: 1 }));
     assert!(rt; names(3, 15, Region { base: 7, dim: 0 }));
-    assert!(rt; names(10, 2047, Region { base: 1023, dim: 0 }));
+    assert!(rt; names(12, 8191, Region { base: 4095, dim: 0 }));
 }
 
 // Whether a node is this child of this parent.
@@ -112,7 +112,7 @@ fn the_way_up_and_down(rt: HostRuntime) {
 
 // Whether two regions, which are within the limits, are apart as this row says.
 fn are_apart(a: Region, b: Region, apart: bool) -> bool {
-    if a.base >= 1024 || a.dim > MAX_DIM || b.base >= 1024 || b.dim > MAX_DIM {
+    if a.base >= 4096 || a.dim > MAX_DIM || b.base >= 4096 || b.dim > MAX_DIM {
         return false;
     }
     regions_apart(a, b) == apart

@@ -33,6 +33,8 @@ fn words_as_text(rt: HostRuntime) {
                 (519, "OLR+1"),
                 (1, "O"),
                 (4 + 256 + 512, "R+0+1"),
+                (1_649_267_441_664, "-+31+32"),
+                (36_028_797_018_963_970, "L+47"),
             ]
         )
     );
@@ -77,6 +79,7 @@ fn changes_of_bits(rt: HostRuntime) {
     assert!(rt; makes(519, Change::WithoutMarks, 7));
     assert!(rt; makes(2, Change::Mark(1), 514));
     assert!(rt; makes(514, Change::Mark(1), 514));
+    assert!(rt; makes(2, Change::Mark(47), 36_028_797_018_963_970));
     assert!(rt; Word::mark_mask(3) == Word(2048));
     assert!(rt; Word::side_mask(Side::Right) == Word(4));
     assert!(rt; makes(6 + 256, Change::Cleared(true, false), 4));

@@ -116,8 +116,8 @@ fn all_take(solo: &mut Solo, stations: u32) -> bool {
 
 #[test]
 fn each_station_of_the_largest_machine_holds(rt: HostRuntime) {
-    let mut solo = made(&rt, rt.alloc(), 10, 32);
-    assert!(rt; all_take(&mut solo, 32));
+    let mut solo = made(&rt, rt.alloc(), 12, 48);
+    assert!(rt; all_take(&mut solo, 48));
     assert!(rt; takes(&mut solo, 0, Err(SoloRefused::NoStation)));
     assert!(rt; ends_free(solo));
 }
