@@ -96,6 +96,8 @@ fn expect_replies(
 fn answers_small_jobs(rt: HostRuntime) -> Result<(), Fail> {
     let sums = Kind::Scan { op: Op::Add };
     let largest = Kind::Scan { op: Op::Max };
+    let before = Kind::ExScan { op: Op::Add };
+    let least_before = Kind::ExScan { op: Op::Min };
     let (op, root) = (Op::Min, 2);
     let smallest = Kind::Reduce { op, root };
     let (op, root) = (Op::Or, 1);
@@ -105,6 +107,8 @@ fn answers_small_jobs(rt: HostRuntime) -> Result<(), Fail> {
     let second = Kind::Broadcast { root: 1 };
     let first = Kind::Broadcast { root: 0 };
     let prefixes = [1, 3, 6, 10, 15, 21, 28, 36].map(Some);
+    let prefixes_before = [0, 1, 3, 6, 10, 15, 21, 28].map(Some);
+    let least = [18446744073709551615, 9, 4].map(Some);
     expect_replies(
         &rt,
         rt.alloc(),
@@ -126,6 +130,9 @@ fn answers_small_jobs(rt: HostRuntime) -> Result<(), Fail> {
             (0, sums, &[7], &[Some(7)], 0, 0),
             (1, sums, &[1, 2], &[1, 3].map(Some), 1, 2),
             (3, largest, &[2, 9, 4, 7], &[2, 9, 9, 9].map(Some), 2, 8),
+            (3, before, &[1, 2, 3, 4, 5, 6, 7, 8], &prefixes_before, 3, 24),
+            (0, before, &[7], &[Some(0)], 0, 0),
+            (3, least_before, &[9, 4, 7], &least, 2, 8),
             (
                 2,
                 smallest,
@@ -188,7 +195,16 @@ fn answers_the_largest_jobs(rt: HostRuntime) -> Result<(), Fail> {
         (1023, Some(523_776)),
         (1024, None),
     ];
-    expect_largest(&rt, alloc, Kind::Scan { op }, places, 10_240)
+    expect_largest(&rt, alloc, Kind::Scan { op }, places, 10_240)?;
+    let places = &[
+        (0, Some(0)),
+        (1, Some(0)),
+        (512, Some(130_816)),
+        (513, Some(131_328)),
+        (1023, Some(522_753)),
+        (1024, None),
+    ];
+    expect_largest(&rt, alloc, Kind::ExScan { op }, places, 10_240)
 }
 
 #[test]
@@ -236,6 +252,7 @@ fn expect_refusals(
 #[test]
 fn a_refusal_gives_the_items_back(rt: HostRuntime) -> Result<(), Fail> {
     let sums = Kind::Scan { op: Op::Add };
+    let before = Kind::ExScan { op: Op::Add };
     let broadcast = Kind::Broadcast { root: 2 };
     let fourth = Kind::Broadcast { root: 3 };
     let (op, root) = (Op::Add, 7);
@@ -252,6 +269,8 @@ fn a_refusal_gives_the_items_back(rt: HostRuntime) -> Result<(), Fail> {
             (3, SUM, &[4; 16], JobRefused::TooLarge),
             (0, SUM, &[1, 2], JobRefused::TooLarge),
             (0, sums, &[1, 2, 3], JobRefused::TooLarge),
+            (0, before, &[1, 2, 3], JobRefused::TooLarge),
+            (3, before, &[], JobRefused::Empty),
             (10, sums, &[1; 1025], JobRefused::TooLarge),
             (10, reduce, &[1; 1025], JobRefused::TooLarge),
             (10, broadcast, &[1; 1025], JobRefused::TooLarge),
