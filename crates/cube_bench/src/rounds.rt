@@ -60,13 +60,7 @@ fn number(items: &mut [Add])
 }
 
 // Runs a collective `times` times, each run on the items that the run before it left.
-fn repeat(
-    collective: Collective,
-    dim: u32,
-    times: u64,
-    items: &mut [Add],
-    scratch: &mut [Add],
-)
+fn repeat(collective: Collective, dim: u32, times: u64, items: &mut [Add], scratch: &mut [Add])
     requires dim { dim ≤ MAX_DIM }
     requires places { length items.old ≡ 2 ^ dim }
     requires scratch { length scratch.old ≡ 2 ^ dim }

@@ -130,7 +130,14 @@ fn answers_small_jobs(rt: HostRuntime) -> Result<(), Fail> {
             (0, sums, &[7], &[Some(7)], 0, 0),
             (1, sums, &[1, 2], &[1, 3].map(Some), 1, 2),
             (3, largest, &[2, 9, 4, 7], &[2, 9, 9, 9].map(Some), 2, 8),
-            (3, before, &[1, 2, 3, 4, 5, 6, 7, 8], &prefixes_before, 3, 24),
+            (
+                3,
+                before,
+                &[1, 2, 3, 4, 5, 6, 7, 8],
+                &prefixes_before,
+                3,
+                24,
+            ),
             (0, before, &[7], &[Some(0)], 0, 0),
             (3, least_before, &[9, 4, 7], &least, 2, 8),
             (
