@@ -1,4 +1,4 @@
-//! The rounds of the four collectives on `2^DIM` places, as plain Rust without crates.
+//! The rounds of the five collectives on `2^DIM` places, as plain Rust without crates.
 //!
 //! `plain_rounds COLLECTIVE DIM TIMES` does the work of `cube_bench rounds`: it repeats one
 //! collective of sums and prints a number that all places determine. Build it with
@@ -49,6 +49,16 @@ fn all_reduce(items: &mut [u64]) {
 
 fn scan(items: &mut [u64], totals: &mut [u64]) {
     totals.copy_from_slice(items);
+    scan_rounds(items, totals);
+}
+
+fn exscan(items: &mut [u64], totals: &mut [u64]) {
+    totals.copy_from_slice(items);
+    items.fill(0);
+    scan_rounds(items, totals);
+}
+
+fn scan_rounds(items: &mut [u64], totals: &mut [u64]) {
     let mut half = 1;
     while half < items.len() {
         let blocks = items.chunks_exact_mut(2 * half);
@@ -80,6 +90,7 @@ fn main() {
             "reduce" => reduce(items, places - 1),
             "allreduce" => all_reduce(items),
             "scan" => scan(items, &mut totals),
+            "exscan" => exscan(items, &mut totals),
             name => panic!("no collective is called {name}"),
         }
     }

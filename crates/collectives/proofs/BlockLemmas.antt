@@ -5,13 +5,14 @@ use Rattle.std.specs.Prelude.{All, Some, ◌==◌, if◌then◌else◌}
 use Rattle.std.proofs.lemmas.Nat.{div-add-mod', mod-mul-add, mod_below, mul-le, pow-add, pow_pos}
 use Rattle.std.proofs.Math.Nat.{mod-eq_of_lt}
 use Rattle.std.proofs.lemmas.List.{take_all}
+use Rattle.std.proofs.lemmas.List.Elements.{All-get_or}
 use Rattle.std.proofs.lemmas.Option.{slice_get-get_or}
 use Rattle.std.proofs.lemmas.Bool.{cases_lt, cases_eq, eq-eqb, ne_eqb}
 use Rattle.collectives.specs.Laws.{MonoidLaws}
 use Rattle.collectives.specs.Places.{total, prefix_total, Holds}
 use Rattle.collectives.specs.Inner.Rounds.{item_at, TurnsPairs, reduced_low, reduced_high}
 use Rattle.collectives.proofs.PairLemmas.{low_of_block, pair_fits}
-use Rattle.collectives.proofs.FoldLemmas.{range_total, range_total-add, range_total-one}
+use Rattle.collectives.proofs.FoldLemmas.{range_total, range_total-add, range_total-one, range_total-value}
 
 -- each rank of each block of `size` ranks holds `held first offset`, where first is the block's first
 -- rank and offset the rank's distance from it
@@ -123,43 +124,60 @@ module _ {M : Type 0} {IsValue : M → Type 0} {unit : M} {join : M → M → M}
 
 -- ---- the prefixes within blocks
 
--- every rank holds the total of its block up to its own item
-abbrev pub HoldsPrefixes : {M : Type 0} → M → (M → M → M) → ℕ → List M → List M → Type 0
-HoldsPrefixes unit join size old items = EachInBlock unit size (λ first offset. range_total join unit old first (offset + 1)) items
+-- every rank holds the total of its block before its own item, and after it what its own place began with
+abbrev pub HoldsPrefixes : {M : Type 0} → M → (M → M → M) → ℕ → List M → List M → List M → Type 0
+HoldsPrefixes unit join size old begun items =
+    EachInBlock unit size (λ first offset. join (range_total join unit old first offset) (item_at unit begun (first + offset))) items
 
 module _ {M : Type 0} {IsValue : M → Type 0} {unit : M} {join : M → M → M} (laws : MonoidLaws IsValue unit join) where
-  pub HoldsPrefixes-start : (items : List M) → All IsValue items → HoldsPrefixes unit join 1 items items
-  HoldsPrefixes-start items values block offset within below =
-      let place : block * 1 + offset ≡ block * 1 = omega arith in
-      let one : 1 ≡ offset + 1 = omega arith in
-      ap (item_at unit items) place ∙ sym (range_total-one laws items (block * 1) values (omega arith)) ∙ ap (range_total join unit items (block * 1)) one
+  pub HoldsPrefixes-start : (old begun : List M) → All IsValue begun → HoldsPrefixes unit join 1 old begun begun
+  HoldsPrefixes-start old begun values block offset within below =
+      let none : 0 ≡ offset = omega arith in
+      let own = item_at unit begun (block * 1 + offset) in
+      sym (laws.left_unit own (All-get_or IsValue begun (block * 1 + offset) unit below values))
+      ∙ ap (λ count. join (range_total join unit old (block * 1) count) own) none
 
-  HoldsPrefixes-double : (h : ℕ) (old items totals next : List M) → 0 < h → length items ≡ length next → length totals ≡ length items → length items % (2 * h) ≡ 0 → All IsValue old
-      → HoldsPrefixes unit join h old items → HoldsTotals unit join h old totals
-      → TurnsPairs unit h (λ low a b. a) (λ low a b. join (item_at unit totals low) b) items next → HoldsPrefixes unit join (2 * h) old next
-  HoldsPrefixes-double h old items totals next positive same_length total_length whole values prefixes sums turned =
-      double_blocks unit h (λ first offset. range_total join unit old first (offset + 1)) next positive (ap (λ n. n % (2 * h)) (sym same_length) ∙ whole)
+  -- two ranges that follow each other, before an item
+  joined_before : (old : List M) (first h offset : ℕ) (own : M) → All IsValue old → IsValue own
+      → join (range_total join unit old first h) (join (range_total join unit old (first + h) offset) own) ≡ join (range_total join unit old first (h + offset)) own
+  joined_before old first h offset own values own_value =
+      sym (laws.assoc (range_total join unit old first h) (range_total join unit old (first + h) offset) own
+      (range_total-value laws old first h values) (range_total-value laws old (first + h) offset values) own_value)
+      ∙ ap (λ total. join total own) (sym (range_total-add laws old first h offset values))
+
+  HoldsPrefixes-double : (h : ℕ) (old begun items totals next : List M) → 0 < h → length items ≡ length begun → length items ≡ length next → length totals ≡ length items → length items % (2 * h) ≡ 0
+      → All IsValue old → All IsValue begun
+      → HoldsPrefixes unit join h old begun items → HoldsTotals unit join h old totals
+      → TurnsPairs unit h (λ low a b. a) (λ low a b. join (item_at unit totals low) b) items next → HoldsPrefixes unit join (2 * h) old begun next
+  HoldsPrefixes-double h old begun items totals next positive begun_length same_length total_length whole values begun_values prefixes sums turned =
+      let held = λ (first offset : ℕ). join (range_total join unit old first offset) (item_at unit begun (first + offset)) in
+      double_blocks unit h held next positive (ap (λ n. n % (2 * h)) (sym same_length) ∙ whole)
       (λ block offset within below.
-      (let pair = turned (block * (2 * h) + offset) (low_of_block block offset h within) (omega arith) in
-      let lower = block_item unit h (λ first place. range_total join unit old first (place + 1)) items prefixes (2 * block) offset (block * (2 * h) + offset) (block * (2 * h)) within (omega arith) (grind arith) (grind arith) in
-      let higher = block_item unit h (λ first place. range_total join unit old first (place + 1)) items prefixes (2 * block + 1) offset (block * (2 * h) + offset + h) (block * (2 * h) + h) within (omega arith) (grind arith) (grind arith) in
-      let sum = block_item unit h (λ first place. range_total join unit old first h) totals sums (2 * block) offset (block * (2 * h) + offset) (block * (2 * h)) within (omega arith) (grind arith) (grind arith) in
-      let longer : h + (offset + 1) ≡ h + offset + 1 = omega arith in (
+      (let first = block * (2 * h) in
+      let pair = turned (first + offset) (low_of_block block offset h within) (omega arith) in
+      let lower = block_item unit h held items prefixes (2 * block) offset (first + offset) first within (omega arith) (grind arith) (grind arith) in
+      let higher = block_item unit h held items prefixes (2 * block + 1) offset (first + offset + h) (first + h) within (omega arith) (grind arith) (grind arith) in
+      let sum = block_item unit h (λ first place. range_total join unit old first h) totals sums (2 * block) offset (first + offset) first within (omega arith) (grind arith) (grind arith) in
+      let own = item_at unit begun (first + h + offset) in
+      let own_value = All-get_or IsValue begun (first + h + offset) unit (omega arith) begun_values in
+      let place : first + h + offset ≡ first + (h + offset) = omega arith in (
         pair.0 ∙ lower,
-        pair.1 ∙ ap (λ x. join x (item_at unit items (block * (2 * h) + offset + h))) sum ∙ ap (join (range_total join unit old (block * (2 * h)) h)) higher
-            ∙ sym (range_total-add laws old (block * (2 * h)) h (offset + 1) values) ∙ ap (range_total join unit old (block * (2 * h))) longer,
+        pair.1 ∙ ap (λ x. join x (item_at unit items (first + offset + h))) sum ∙ ap (join (range_total join unit old first h)) higher
+            ∙ joined_before old first h offset own values own_value
+            ∙ ap (λ rank. join (range_total join unit old first (h + offset)) (item_at unit begun rank)) place,
       )))
 
-  -- a round of the scan
-  pub HoldsPrefixes-round : (k i half : ℕ) (old items totals next : List M) → IsRound (length items) k i half → length items ≡ length next → length totals ≡ length items → All IsValue old
-      → HoldsPrefixes unit join (2 ^ i) old items → HoldsTotals unit join (2 ^ i) old totals
-      → TurnsPairs unit half (λ low a b. a) (λ low a b. join (item_at unit totals low) b) items next → HoldsPrefixes unit join (2 ^ (i + 1)) old next
-  HoldsPrefixes-round k i half old items totals next round same_length total_length values prefixes sums turned =
+  -- a round of a scan
+  pub HoldsPrefixes-round : (k i half : ℕ) (old begun items totals next : List M) → IsRound (length items) k i half → length items ≡ length begun → length items ≡ length next → length totals ≡ length items
+      → All IsValue old → All IsValue begun
+      → HoldsPrefixes unit join (2 ^ i) old begun items → HoldsTotals unit join (2 ^ i) old totals
+      → TurnsPairs unit half (λ low a b. a) (λ low a b. join (item_at unit totals low) b) items next → HoldsPrefixes unit join (2 ^ (i + 1)) old begun next
+  HoldsPrefixes-round k i half old begun items totals next round begun_length same_length total_length values begun_values prefixes sums turned =
       let n = length items in
-      let now : HoldsPrefixes unit join half old items = subst (λ size. HoldsPrefixes unit join size old items) (sym round.half_is) prefixes in
+      let now : HoldsPrefixes unit join half old begun items = subst (λ size. HoldsPrefixes unit join size old begun items) (sym round.half_is) prefixes in
       let sums_now : HoldsTotals unit join half old totals = subst (λ size. HoldsTotals unit join size old totals) (sym round.half_is) sums in
-      let doubled = HoldsPrefixes-double half old items totals next (IsRound-positive n k i half round) same_length total_length (IsRound-whole n k i half round) values now sums_now turned in
-      subst (λ size. HoldsPrefixes unit join size old next) (IsRound-next n k i half round) doubled
+      let doubled = HoldsPrefixes-double half old begun items totals next (IsRound-positive n k i half round) begun_length same_length total_length (IsRound-whole n k i half round) values begun_values now sums_now turned in
+      subst (λ size. HoldsPrefixes unit join size old begun next) (IsRound-next n k i half round) doubled
 
 -- ---- towards the root
 
@@ -310,9 +328,31 @@ HoldsTotals-all unit join k old items old_places places totals rank within =
     one_block unit k (λ first offset. range_total join unit old first (2 ^ k)) items places totals rank within
     ∙ ap Some (range_total-all unit join old (2 ^ k) old_places)
 
-pub HoldsPrefixes-all : {M : Type 0} (unit : M) (join : M → M → M) (k : ℕ) (old items : List M) → length items ≡ 2 ^ k → HoldsPrefixes unit join (2 ^ k) old items
-    → Holds items k (λ rank. prefix_total join unit old (rank + 1))
-HoldsPrefixes-all unit join k old items places prefixes = one_block unit k (λ first offset. range_total join unit old first (offset + 1)) items places prefixes
+pub HoldsPrefixes-all : {M : Type 0} (unit : M) (join : M → M → M) (k : ℕ) (old begun items : List M) → length items ≡ 2 ^ k → HoldsPrefixes unit join (2 ^ k) old begun items
+    → Holds items k (λ rank. join (prefix_total join unit old rank) (item_at unit begun rank))
+HoldsPrefixes-all unit join k old begun items places prefixes rank within =
+    let place : 0 + rank ≡ rank = omega arith in
+    one_block unit k (λ first offset. join (range_total join unit old first offset) (item_at unit begun (first + offset))) items places prefixes rank within
+    ∙ ap (λ own. Some (join (prefix_total join unit old rank) (item_at unit begun own))) place
+
+module _ {M : Type 0} {IsValue : M → Type 0} {unit : M} {join : M → M → M} (laws : MonoidLaws IsValue unit join) where
+  -- what the rounds make of prefixes that begin as the items themselves
+  pub with_own_items : (k : ℕ) (old items : List M) → length old ≡ 2 ^ k → All IsValue old
+      → Holds items k (λ rank. join (prefix_total join unit old rank) (item_at unit old rank)) → Holds items k (λ rank. prefix_total join unit old (rank + 1))
+  with_own_items k old items places values held rank within =
+      let place : rank ≡ 0 + rank = omega arith in
+      held rank within
+      ∙ ap (λ own. Some (join (prefix_total join unit old rank) own)) (sym (range_total-one laws old rank values (omega arith)))
+      ∙ ap (λ from. Some (join (prefix_total join unit old rank) (range_total join unit old from 1))) place
+      ∙ ap Some (sym (range_total-add laws old 0 rank 1 values))
+
+  -- and what they make of prefixes that begin as the unit
+  pub with_units : (k : ℕ) (old begun items : List M) → All IsValue old → ((rank : ℕ) → item_at unit begun rank ≡ unit)
+      → Holds items k (λ rank. join (prefix_total join unit old rank) (item_at unit begun rank)) → Holds items k (λ rank. prefix_total join unit old rank)
+  with_units k old begun items values units held rank within =
+      held rank within
+      ∙ ap (λ own. Some (join (prefix_total join unit old rank) own)) (units rank)
+      ∙ ap Some (laws.right_unit (prefix_total join unit old rank) (range_total-value laws old 0 rank values))
 
 pub HoldsReduced-all : {M : Type 0} (unit : M) (join : M → M → M) (root k : ℕ) (old items : List M) → root < 2 ^ k → length old ≡ 2 ^ k → length items ≡ 2 ^ k
     → HoldsReduced unit join root (2 ^ k) old items → Holds items k (λ rank. if rank == root then total join unit old else unit)

@@ -39,6 +39,10 @@ module _ {M : Type 0} {IsValue : M → Type 0} {unit : M} {join : M → M → M}
   pub total-append : (xs ys : List M) → All IsValue xs → All IsValue ys → total join unit (xs ++ ys) ≡ join (total join unit xs) (total join unit ys)
   total-append xs ys xs_values ys_values = fold-append join unit xs ys ∙ fold_from (total join unit xs) ys (total-value xs xs_values) ys_values
 
+  pub range_total-value : (items : List M) (from count : ℕ) → All IsValue items → IsValue (range_total join unit items from count)
+  range_total-value items from count values =
+      total-value (take count (drop from items)) (All-take IsValue count (drop from items) (All-drop IsValue from items values))
+
   -- a range is the range of its first m items, joined to that of its last n
   pub range_total-add : (items : List M) (from m n : ℕ) → All IsValue items → range_total join unit items from (m + n) ≡ join (range_total join unit items from m) (range_total join unit items (from + m) n)
   range_total-add items from m n values =

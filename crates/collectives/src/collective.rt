@@ -1,6 +1,7 @@
-//! The four collectives, in place on a slice with an item for each rank.
+//! The five collectives, in place on a slice with an item for each rank.
 
-ghost use Rattle.std.specs.Prelude.{◌≡◌, ℕ, ◌+◌, ◌^◌, ◌<◌, length, All, slice_get, ◌==◌, if◌then◌else◌};
+ghost use Rattle.std.specs.Prelude.{◌≡◌, ℕ, ◌+◌, ◌^◌, ◌<◌, length, All, Some, slice_get, ◌==◌, if◌then◌else◌};
+ghost use Rattle.collectives.specs.Inner.Rounds.{item_at};
 ghost use Rattle.collectives.specs.Places.{Holds, prefix_total, total};
 ghost use Rattle.collectives.specs.Shape.{tally_of};
 
@@ -59,7 +60,7 @@ pub fn all_reduce<M: Monoid>(items: &mut [M], k: u32) -> Tally
     Shape::AllReduce.tally(k)
 }
 
-/// Each place receives the items up to its own, joined in the order of their ranks.
+/// Each place receives the items up to and with its own, joined in the order of their ranks.
 ///
 /// There are `2^k` items, all of them values, and `scratch` has as many places. What it holds at
 /// first is ignored; in the end each of its places holds the total of all items.
@@ -74,8 +75,58 @@ pub fn scan<M: Monoid>(items: &mut [M], scratch: &mut [M], k: u32) -> Tally
     ensures tally { result ≡ tally_of Shape.Scan k }
 {
     scratch.copy_from_slice(items);
-    for round in 0..k {
-        scan_round(items, scratch, distance(round));
-    }
+    scan_rounds(items, scratch, k);
     Shape::Scan.tally(k)
+}
+
+/// Each place receives the items before its own, joined in the order of their ranks: the exclusive
+/// scan. No item is before the first place, which receives the unit.
+///
+/// There are `2^k` items, all of them values, and `scratch` has as many places. What it holds at
+/// first is ignored; in the end each of its places holds the total of all items. The rounds and
+/// messages are those of a scan.
+pub fn exscan<M: Monoid>(items: &mut [M], scratch: &mut [M], k: u32) -> Tally
+    requires dim { k < DIM_LIMIT }
+    requires places { length items.old ≡ 2 ^ k }
+    requires scratch { length scratch.old ≡ 2 ^ k }
+    requires values { All M.is_value items.old }
+    ensures held { Holds items.new k (λ rank. prefix_total M.join M.unit items.old rank) }
+    ensures first { slice_get items.new 0 ≡ Some M.unit }
+    ensures totals { Holds scratch.new k (λ rank. total M.join M.unit items.old) }
+    ensures values { All M.is_value items.new }
+    ensures tally { result ≡ tally_of Shape.Scan k }
+{
+    scratch.copy_from_slice(items);
+    put_units(items);
+    scan_rounds(items, scratch, k);
+    Shape::Scan.tally(k)
+}
+
+// The rounds of both scans, over the items in `totals`. Each place receives the items before its own,
+// joined, and after these the prefix that it began with.
+fn scan_rounds<M: Monoid>(prefixes: &mut [M], totals: &mut [M], k: u32)
+    requires dim { k < DIM_LIMIT }
+    requires places { length prefixes.old ≡ 2 ^ k }
+    requires items { length totals.old ≡ 2 ^ k }
+    requires values { All M.is_value prefixes.old }
+    requires item_values { All M.is_value totals.old }
+    ensures held { Holds prefixes.new k (λ rank. M.join
+        (prefix_total M.join M.unit totals.old rank) (item_at M.unit prefixes.old rank)) }
+    ensures totals { Holds totals.new k (λ rank. total M.join M.unit totals.old) }
+    ensures values { All M.is_value prefixes.new }
+{
+    for round in 0..k {
+        scan_round(prefixes, totals, distance(round));
+    }
+}
+
+// Every place receives the unit.
+fn put_units<M: Monoid>(items: &mut [M])
+    requires values { All M.is_value items.old }
+    ensures units { (rank : ℕ) → item_at M.unit items.new rank ≡ M.unit }
+    ensures values { All M.is_value items.new }
+{
+    for rank in 0..items.len() {
+        items[rank] = M::unit();
+    }
 }

@@ -1,5 +1,5 @@
 //! The collective operations on the `2^k` places of a subcube of dimension `k`: broadcast, reduce,
-//! all-reduce and scan, by `k` rounds, one for each dimension, in place on a slice.
+//! all-reduce, scan and exclusive scan, by `k` rounds, one for each dimension, in place on a slice.
 //!
 //! The ranks are the numbers from `0` to `2^k - 1`, and rank `x` holds the item `items[x]`. In
 //! round `i` a message goes between two ranks that differ in bit `i` alone, and where their items
@@ -19,7 +19,7 @@ mod padding;
 mod rounds;
 mod shape;
 
-pub use collective::{all_reduce, broadcast, reduce, scan};
+pub use collective::{all_reduce, broadcast, exscan, reduce, scan};
 pub use message::Message;
 pub use messages::message_at;
 pub use monoid::Monoid;

@@ -12,8 +12,8 @@ use crate::shape::{DIM_LIMIT, Shape, places};
 ///
 /// Messages are counted round after round. Within a round those of a broadcast come in the order of
 /// their senders, seen from the root (rank `x` is seen as `x ^ root`), those of a reduction in the
-/// order of their receivers, and those of an all-reduce and a scan in the order of their senders.
-/// Only a broadcast and a reduction have a root: an all-reduce and a scan ignore it.
+/// order of their receivers, and those of an all-reduce and of both scans in the order of their
+/// senders. Only a broadcast and a reduction have a root: an all-reduce and both scans ignore it.
 ///
 /// Both ranks are in the cube and differ in the bit of the round alone. On each region of dimension
 /// `k`, whose base is some `m * 2^k`, the processors of the two ranks are therefore neighbours.
@@ -88,7 +88,7 @@ fn reduce_message(k: u32, root: u64, i: u64) -> Message
     }
 }
 
-// Message number `i` of an all-reduce or a scan, each round of which has `2^k` messages.
+// Message number `i` of an all-reduce or one of the scans, each round of which has `2^k` messages.
 fn exchange_message(k: u32, i: u64) -> Message
     requires dim { k < DIM_LIMIT }
     requires number { i < k * 2 ^ k }

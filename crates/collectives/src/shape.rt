@@ -18,7 +18,8 @@ pub enum Shape {
     Reduce,
     /// From all ranks to all.
     AllReduce,
-    /// From all ranks to all, where each keeps the prefix that ends with it.
+    /// From all ranks to all, where each keeps a prefix: that of a scan ends with the rank's own item,
+    /// that of an exclusive scan before it.
     Scan,
 }
 

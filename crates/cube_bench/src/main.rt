@@ -2,8 +2,8 @@
 //! One after the other, each prints what it counted.
 //!
 //! `rounds COLLECTIVE DIM TIMES` repeats one collective on `2^DIM` places. The collective is
-//! `broadcast`, `reduce`, `allreduce` or `scan`, of sums; its root is the last place. It prints a number
-//! that all places determine in the end.
+//! `broadcast`, `reduce`, `allreduce`, `scan` or `exscan`, of sums; its root is the last place. It prints a
+//! number that all places determine in the end.
 //!
 //! `line LINE LANES PASSES CAPACITY JOBS [calls]` hands jobs through a line, which is `ruled` or
 //! `locked`. Each lane hands in JOBS jobs, and each pass takes as many as the others, each on a thread of

@@ -3,11 +3,21 @@
 ghost use Rattle.std.specs.Prelude.{◌≡◌, ◌^◌, ◌<◌, ◌≤◌, All, IfSome, length};
 
 use crate::outcome::{Measured, Stopped};
-use collectives::{Add, Shape, all_reduce, broadcast, reduce, scan};
+use collectives::{Add, all_reduce, broadcast, exscan, reduce, scan};
 use std::alloc::{AllocError, Global};
 
 // The largest dimension of a run.
 const MAX_DIM: u32 = 20;
+
+// A collective that can be timed.
+#[derive(Clone, Copy)]
+enum Collective {
+    Broadcast,
+    Reduce,
+    AllReduce,
+    Scan,
+    ExScan,
+}
 
 // A number that all places determine.
 fn digest(items: &[Add]) -> u64 {
@@ -19,7 +29,7 @@ fn digest(items: &[Add]) -> u64 {
 }
 
 // Runs a collective once.
-fn run(shape: Shape, dim: u32, items: &mut [Add], scratch: &mut [Add])
+fn run(collective: Collective, dim: u32, items: &mut [Add], scratch: &mut [Add])
     requires dim { dim ≤ MAX_DIM }
     requires places { length items.old ≡ 2 ^ dim }
     requires scratch { length scratch.old ≡ 2 ^ dim }
@@ -29,11 +39,12 @@ fn run(shape: Shape, dim: u32, items: &mut [Add], scratch: &mut [Add])
     ensures values { All (λ item. item.0 < 2 ^ 64) items.new }
 {
     let root = items.len() - 1;
-    let _tally = match shape {
-        Shape::Broadcast => broadcast(items, dim, root),
-        Shape::Reduce => reduce(items, dim, root),
-        Shape::AllReduce => all_reduce(items, dim),
-        Shape::Scan => scan(items, scratch, dim),
+    let _tally = match collective {
+        Collective::Broadcast => broadcast(items, dim, root),
+        Collective::Reduce => reduce(items, dim, root),
+        Collective::AllReduce => all_reduce(items, dim),
+        Collective::Scan => scan(items, scratch, dim),
+        Collective::ExScan => exscan(items, scratch, dim),
     };
 }
 
@@ -49,24 +60,25 @@ fn number(items: &mut [Add])
 }
 
 // Runs a collective `times` times, each run on the items that the run before it left.
-fn repeat(shape: Shape, dim: u32, times: u64, items: &mut [Add], scratch: &mut [Add])
+fn repeat(collective: Collective, dim: u32, times: u64, items: &mut [Add], scratch: &mut [Add])
     requires dim { dim ≤ MAX_DIM }
     requires places { length items.old ≡ 2 ^ dim }
     requires scratch { length scratch.old ≡ 2 ^ dim }
     requires values { All (λ item. item.0 < 2 ^ 64) items.old }
 {
     for _ in 0..times {
-        run(shape, dim, items, scratch);
+        run(collective, dim, items, scratch);
     }
 }
 
-// The shape of the collective of this name.
-fn shape_named(name: &str) -> Option<Shape> {
+// The collective of this name.
+fn collective_named(name: &str) -> Option<Collective> {
     match name {
-        "broadcast" => Some(Shape::Broadcast),
-        "reduce" => Some(Shape::Reduce),
-        "allreduce" => Some(Shape::AllReduce),
-        "scan" => Some(Shape::Scan),
+        "broadcast" => Some(Collective::Broadcast),
+        "reduce" => Some(Collective::Reduce),
+        "allreduce" => Some(Collective::AllReduce),
+        "scan" => Some(Collective::Scan),
+        "exscan" => Some(Collective::ExScan),
         _ => None,
     }
 }
@@ -74,7 +86,7 @@ fn shape_named(name: &str) -> Option<Shape> {
 // The run that the words ask for.
 #[derive(Clone, Copy)]
 struct Invocation {
-    shape: Shape,
+    collective: Collective,
     dim: u32,
     times: u64,
 }
@@ -86,25 +98,33 @@ fn parse_words(words: &[String]) -> Option<Invocation>
     if words.len() != 3 {
         return None;
     }
-    let shape = shape_named(&words[0])?;
+    let collective = collective_named(&words[0])?;
     let dim = words[1].parse::<u32>().ok()?;
     let times = words[2].parse::<u64>().ok()?;
     if dim > MAX_DIM {
         return None;
     }
-    Some(Invocation { shape, dim, times })
+    Some(Invocation {
+        collective,
+        dim,
+        times,
+    })
 }
 
 // The digest of the items after `times` runs of a collective, from the ranks as the first items.
 fn digest_after(alloc: Global, invocation: Invocation) -> Result<u64, AllocError>
     requires { invocation.dim ≤ MAX_DIM }
 {
-    let Invocation { shape, dim, times } = invocation;
+    let Invocation {
+        collective,
+        dim,
+        times,
+    } = invocation;
     let places = 1usize << dim;
     let mut items = vec![in alloc; Add(0); places]?;
     let mut scratch = vec![in alloc; Add(0); places]?;
     number(&mut items);
-    repeat(shape, dim, times, &mut items, &mut scratch);
+    repeat(collective, dim, times, &mut items, &mut scratch);
     Ok(digest(&items))
 }
 

@@ -4,7 +4,7 @@ use mathlib.Core.HLevel.{Discrete}
 use mathlib.Core.List.{List-discrete}
 use native.Mathlib.Decide.{ℕ_discrete}
 use Rattle.job_types.specs.declared.kind.Kind.{Kind}
-use Rattle.job_types.specs.declared.kind.Kind.TheVariants.{Broadcast, Reduce, AllReduce, Scan}
+use Rattle.job_types.specs.declared.kind.Kind.TheVariants.{Broadcast, Reduce, AllReduce, Scan, ExScan}
 use Rattle.job_types.specs.declared.kind.Op.{Op}
 use Rattle.job_types.specs.declared.kind.Op.TheVariants.{Add, Min, Max, Xor, And, Or}
 use Rattle.job_queue.specs.declared.record.QueuedJob.{QueuedJob}
@@ -41,12 +41,14 @@ kind_code (Broadcast root) items = 0 ∷ 0 ∷ root ∷ items
 kind_code (Reduce op root) items = 1 ∷ op_number op ∷ root ∷ items
 kind_code (AllReduce op) items = 2 ∷ op_number op ∷ 0 ∷ items
 kind_code (Scan op) items = 3 ∷ op_number op ∷ 0 ∷ items
+kind_code (ExScan op) items = 4 ∷ op_number op ∷ 0 ∷ items
 
 kind_of : ℕ → ℕ → ℕ → Kind
 kind_of zero op root = Broadcast root
 kind_of (suc zero) op root = Reduce (op_of op) root
 kind_of (suc (suc zero)) op root = AllReduce (op_of op)
-kind_of (suc (suc (suc k))) op root = Scan (op_of op)
+kind_of (suc (suc (suc zero))) op root = Scan (op_of op)
+kind_of (suc (suc (suc (suc k)))) op root = ExScan (op_of op)
 
 code : QueuedJob → List ℕ
 code q = q.id.lane ∷ q.id.seq ∷ q.job.machine ∷ q.job.lane ∷ kind_code q.job.kind q.job.items
@@ -67,6 +69,7 @@ decode_back none q = of q.job.kind
     of (Reduce op root) = ap (λ (o : Op). made (Reduce o root)) (op_back op)
     of (AllReduce op) = ap (λ (o : Op). made (AllReduce o)) (op_back op)
     of (Scan op) = ap (λ (o : Op). made (Scan o)) (op_back op)
+    of (ExScan op) = ap (λ (o : Op). made (ExScan o)) (op_back op)
 
 pub same_job : Discrete QueuedJob
 same_job a b = of (List-discrete ℕ_discrete (code a) (code b))

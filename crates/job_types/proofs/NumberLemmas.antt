@@ -11,7 +11,7 @@ use Rattle.collectives.specs.Places.{Holds, padded, total, prefix_total}
 use Rattle.collectives.proofs.PadLemmas.{total_padded, prefix_padded}
 use Rattle.job_types.specs.declared.kind.Op.{Op}
 use Rattle.job_types.specs.declared.kind.Op.TheVariants.{Add}
-use Rattle.job_types.specs.declared.kind.Kind.TheVariants.{Broadcast, Reduce, AllReduce, Scan}
+use Rattle.job_types.specs.declared.kind.Kind.TheVariants.{Broadcast, Reduce, AllReduce, Scan, ExScan}
 use Rattle.job_types.specs.Collective.{join, unit_of, total_of, prefix_of}
 use Rattle.job_types.specs.Inner.Collective.{MakesResult}
 use Rattle.job_types.specs.Inner.Operation.{IsOperation}
@@ -112,10 +112,21 @@ module _ {M : Type 0} {op : Op} {unit : M} {joined : M → M → M} {number : M 
           number-held new k (λ rank. total joined unit old) holds place (omega (arith, within, are.fits))
           ∙ ap Some (total_shown k old items values are.padded)
 
+      -- the first items at each place, as many as `count` says, which depends on the place
+      prefix_held : (count : ℕ → ℕ) → Holds new k (λ rank. prefix_total joined unit old (count rank))
+          → (items : List ℕ) → length items ≤ 2 ^ k → map number old ≡ padded (unit_of op) k items
+          → (place : ℕ) → place < length items → count place ≤ length items → slice_get (map number new) place ≡ Some (prefix_of op items (count place))
+      prefix_held count holds items fits are place within counted =
+          number-held new k (λ rank. prefix_total joined unit old (count rank)) holds place (omega (arith, within, fits))
+          ∙ ap Some (prefix_shown k old items values are (count place) counted)
+
       pub scan_result : Holds new k (λ rank. prefix_total joined unit old (rank + 1)) → MakesResult (Scan op) k (map number old) (map number new)
       scan_result holds items are place within =
-          number-held new k (λ rank. prefix_total joined unit old (rank + 1)) holds place (omega (arith, within, are.fits))
-          ∙ ap Some (prefix_shown k old items values are.padded (place + 1) (omega (arith, within)))
+          prefix_held (λ rank. rank + 1) holds items are.fits are.padded place within (omega (arith, within))
+
+      pub exscan_result : Holds new k (λ rank. prefix_total joined unit old rank) → MakesResult (ExScan op) k (map number old) (map number new)
+      exscan_result holds items are place within =
+          prefix_held (λ rank. rank) holds items are.fits are.padded place within (omega (arith, within))
 
 -- every place has the item of the root
 pub broadcast_result : {M : Type 0} (number : M → ℕ) (k root : ℕ) (old new : List M) → ((rank : ℕ) → rank < 2 ^ k → slice_get new rank ≡ slice_get old root)

@@ -3,7 +3,7 @@ use Rattle.std.proofs.Common.{◌≡◌, ℕ, ◌<◌, ◌≤◌, ◌^◌, List,
 use Rattle.std.specs.Prelude.{None}
 use Rattle.std.proofs.lemmas.Bool.Decides.{nat_tests}
 use Rattle.job_types.specs.declared.kind.Kind.{Kind}
-use Rattle.job_types.specs.declared.kind.Kind.TheVariants.{Broadcast, Reduce, AllReduce, Scan}
+use Rattle.job_types.specs.declared.kind.Kind.TheVariants.{Broadcast, Reduce, AllReduce, Scan, ExScan}
 use Rattle.job_types.specs.Job.{refusal_of, has_bad_root}
 
 -- what is true of items that are accepted
@@ -30,3 +30,4 @@ root_of_more (Broadcast root) few many more good = grind (arith, nat_tests)
 root_of_more (Reduce op root) few many more good = grind (arith, nat_tests)
 root_of_more (AllReduce op) few many more good = good
 root_of_more (Scan op) few many more good = good
+root_of_more (ExScan op) few many more good = good

@@ -7,7 +7,7 @@ use Rattle.collectives.specs.Places.{total, prefix_total}
 use Rattle.job_types.specs.declared.kind.Op.{Op}
 use Rattle.job_types.specs.declared.kind.Op.TheVariants.{Add, Min, Max, Xor, And, Or}
 use Rattle.job_types.specs.declared.kind.Kind.{Kind}
-use Rattle.job_types.specs.declared.kind.Kind.TheVariants.{Broadcast, Reduce, AllReduce, Scan}
+use Rattle.job_types.specs.declared.kind.Kind.TheVariants.{Broadcast, Reduce, AllReduce, Scan, ExScan}
 
 -- two items, joined: the sum modulo 2 ^ 64, the smaller, the larger, the bits in which they differ,
 -- those of both, and those of either
@@ -42,6 +42,7 @@ held_at (Broadcast root) items place = slice_get items root
 held_at (Reduce op root) items place = if place == root then Some (total_of op items) else None
 held_at (AllReduce op) items place = Some (total_of op items)
 held_at (Scan op) items place = Some (prefix_of op items (place + 1))
+held_at (ExScan op) items place = Some (prefix_of op items place)
 
 -- the same for any place, with None past the items
 abbrev pub result_at : Kind → List ℕ → ℕ → Option ℕ
@@ -53,3 +54,4 @@ shape_of (Broadcast root) = Shapes.Broadcast
 shape_of (Reduce op root) = Shapes.Reduce
 shape_of (AllReduce op) = Shapes.AllReduce
 shape_of (Scan op) = Shapes.Scan
+shape_of (ExScan op) = Shapes.Scan

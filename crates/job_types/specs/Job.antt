@@ -1,7 +1,7 @@
 -- What a contract sees of a job, and which requests are refused.
 use Rattle.std.specs.Prelude.{ℕ, ◌^◌, Bool, false, not, List, length, Option, Some, None, nat_lt, ◌==◌, if◌then◌else◌}
 use Rattle.job_types.specs.declared.kind.Kind.{Kind}
-use Rattle.job_types.specs.declared.kind.Kind.TheVariants.{Broadcast, Reduce, AllReduce, Scan}
+use Rattle.job_types.specs.declared.kind.Kind.TheVariants.{Broadcast, Reduce}
 use Rattle.job_types.specs.declared.request.JobRefused.{JobRefused}
 use Rattle.job_types.specs.declared.request.JobRefused.TheVariants.{Empty, TooLarge, BadRoot}
 
@@ -16,8 +16,7 @@ pub record JobData : Type 0 where
 abbrev pub has_bad_root : Kind → ℕ → Bool
 has_bad_root (Broadcast root) places = not (nat_lt root places)
 has_bad_root (Reduce op root) places = not (nat_lt root places)
-has_bad_root (AllReduce op) places = false
-has_bad_root (Scan op) places = false
+has_bad_root _ places = false
 
 -- why a machine of dimension n refuses these items: the first reason that holds, or None
 abbrev pub refusal_of : ℕ → Kind → List ℕ → Option JobRefused

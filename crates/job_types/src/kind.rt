@@ -41,8 +41,14 @@ pub enum Kind {
         /// What joins them.
         op: Op,
     },
-    /// Each processor receives the items up to and with its own, joined.
+    /// Each processor that has an item receives the items up to and with its own, joined.
     Scan {
+        /// What joins them.
+        op: Op,
+    },
+    /// Each processor that has an item receives the items before its own, joined; the first one
+    /// receives the unit of the operation.
+    ExScan {
         /// What joins them.
         op: Op,
     },
@@ -55,7 +61,7 @@ impl Kind {
     {
         match self {
             Kind::Broadcast { root } | Kind::Reduce { root, .. } => root >= places,
-            Kind::AllReduce { .. } | Kind::Scan { .. } => false,
+            Kind::AllReduce { .. } | Kind::Scan { .. } | Kind::ExScan { .. } => false,
         }
     }
 
@@ -65,7 +71,10 @@ impl Kind {
     {
         match self {
             Kind::Broadcast { .. } => Op::Add,
-            Kind::Reduce { op, .. } | Kind::AllReduce { op } | Kind::Scan { op } => op,
+            Kind::Reduce { op, .. }
+            | Kind::AllReduce { op }
+            | Kind::Scan { op }
+            | Kind::ExScan { op } => op,
         }
     }
 
@@ -75,7 +84,7 @@ impl Kind {
     {
         match self {
             Kind::Broadcast { .. } | Kind::Reduce { .. } | Kind::AllReduce { .. } => 0,
-            Kind::Scan { .. } => places,
+            Kind::Scan { .. } | Kind::ExScan { .. } => places,
         }
     }
 }

@@ -9,13 +9,13 @@ ghost use Rattle.job_types.specs.Inner.Collective.{MakesResult, operation_of, sc
 
 use crate::kind::Kind;
 use crate::operation::Operation;
-use collectives::{DIM_LIMIT, Tally, all_reduce, broadcast, pad, reduce, scan};
+use collectives::{DIM_LIMIT, Tally, all_reduce, broadcast, exscan, pad, reduce, scan};
 use std::alloc::{AllocError, Global};
 use std::boxed::BoxedSlice;
 use std::marker::Model;
 
 // A place for each rank of a region, with an item that the operation can join, and the scratch
-// items of a scan. Neither list can grow.
+// items of both scans. Neither list can grow.
 #[derive(Debug, Drop)]
 pub(crate) struct RankBuffer<M: Operation> {
     items: BoxedSlice<M>,
@@ -100,5 +100,6 @@ fn run_rounds<M: Operation>(items: &mut [M], scratch: &mut [M], kind: Kind, k: u
         Kind::Reduce { root, .. } => reduce(items, k, root as usize),
         Kind::AllReduce { .. } => all_reduce(items, k),
         Kind::Scan { .. } => scan(items, scratch, k),
+        Kind::ExScan { .. } => exscan(items, scratch, k),
     }
 }

@@ -162,6 +162,7 @@ plain_collective (collective.Broadcast root) = plain_text (codes "broadcast") re
 plain_collective (collective.Reduce op root) = plain_text (codes "reduce") refl
 plain_collective (collective.AllReduce op) = plain_text (codes "allreduce") refl
 plain_collective (collective.Scan op) = plain_text (codes "scan") refl
+plain_collective (collective.ExScan op) = plain_text (codes "exscan") refl
 
 pub plain_why : (w : Refused) → IsPlainField (reason_keyword w)
 plain_why why.NotIdle = plain_text (codes "notidle") refl

@@ -17,13 +17,14 @@ op_of field = among ((codes "add", op.Add) ∷ (codes "min", op.Min) ∷ (codes 
     ∷ (codes "xor", op.Xor) ∷ (codes "and", op.And) ∷ (codes "or", op.Or) ∷ []) field
 
 -- the collective of two fields, which is given its root later; a broadcast has no operation, and an
--- all-reduce and a scan have no root
+-- all-reduce, a scan and an exclusive scan have no root
 unfoldable pub collective_of : List ℕ → List ℕ → Result (ℕ → Kind) FaultKind
 collective_of word join =
     if bytes_eq word (codes "broadcast") then (dash_of join >>= (λ nothing. Ok (λ root. kind.Broadcast root)))
     else if bytes_eq word (codes "reduce") then (op_of join >>= (λ op. Ok (λ root. kind.Reduce op root)))
     else if bytes_eq word (codes "allreduce") then (op_of join >>= (λ op. Ok (λ root. kind.AllReduce op)))
     else if bytes_eq word (codes "scan") then (op_of join >>= (λ op. Ok (λ root. kind.Scan op)))
+    else if bytes_eq word (codes "exscan") then (op_of join >>= (λ op. Ok (λ root. kind.ExScan op)))
     else Err what.Word
 
 -- the collective has no root, and the root is not 0

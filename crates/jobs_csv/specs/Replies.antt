@@ -18,6 +18,7 @@ collective_keyword (kind.Broadcast root) = codes "broadcast"
 collective_keyword (kind.Reduce op root) = codes "reduce"
 collective_keyword (kind.AllReduce op) = codes "allreduce"
 collective_keyword (kind.Scan op) = codes "scan"
+collective_keyword (kind.ExScan op) = codes "exscan"
 
 -- the items at the places of these ranks, from 0 on, with a space between each two; a dash for nothing
 unfoldable pub places_text : ℕ → JobData → List ℕ

@@ -18,6 +18,7 @@ pub enum Collective {
     Reduce { op: Op },
     AllReduce { op: Op },
     Scan { op: Op },
+    ExScan { op: Op },
 }
 
 impl Collective {
@@ -30,6 +31,7 @@ impl Collective {
             Collective::Reduce { op } => Kind::Reduce { op, root },
             Collective::AllReduce { op } => Kind::AllReduce { op },
             Collective::Scan { op } => Kind::Scan { op },
+            Collective::ExScan { op } => Kind::ExScan { op },
         }
     }
 
@@ -39,7 +41,8 @@ impl Collective {
     {
         match self {
             Collective::Broadcast | Collective::Reduce { .. } => false,
-            Collective::AllReduce { .. } | Collective::Scan { .. } => root != 0,
+            Collective::AllReduce { .. } | Collective::Scan { .. } | Collective::ExScan { .. } =>
+                root != 0,
         }
     }
 }
@@ -96,6 +99,10 @@ pub fn read_collective(kind: &[u8], op: &[u8]) -> Result<Collective, FaultKind>
     if kind == b"scan".as_slice() {
         let op = read_op(op)?;
         return Ok(Collective::Scan { op });
+    }
+    if kind == b"exscan".as_slice() {
+        let op = read_op(op)?;
+        return Ok(Collective::ExScan { op });
     }
     Err(FaultKind::Word)
 }

@@ -19,6 +19,7 @@ fn kind_keyword(kind: Kind) -> &'static str
         Kind::Reduce { .. } => "reduce",
         Kind::AllReduce { .. } => "allreduce",
         Kind::Scan { .. } => "scan",
+        Kind::ExScan { .. } => "exscan",
     }
 }
 

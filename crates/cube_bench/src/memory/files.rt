@@ -8,7 +8,7 @@ const MACHINE: u32 = 3;
 
 const JOBS: &[u8] = b"lane,kind,op,root,items\n\
     0,scan,add,0,1 2 3 4\n1,broadcast,-,1,5 6\n0,reduce,min,0,7\n2,allreduce,or,0,1 2 3 4 5 6 7 8\n\
-    3,scan,max,0,2 9 4 7\n0,scan,add,0,1\n1,scan,add,0,2\n0,scan,add,0,3\n15,scan,add,0,4 5\n";
+    3,scan,max,0,2 9 4 7\n0,scan,add,0,1\n1,exscan,add,0,2\n0,scan,add,0,3\n15,scan,add,0,4 5\n";
 
 const COMMANDS: &[u8] = b"command,name,dim\n\
     take,a,0\ntake,b,1\nfree,a,-\ntake,c,2\nfree,b,-\ntake,abcdefghijklmnop,3\nfree,c,-\ntake,d,0\n\

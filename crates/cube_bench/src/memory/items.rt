@@ -34,10 +34,12 @@ pub fn call_all<R: Print>(rt: &R, alloc: Global) -> io::Result<u64> {
     let reduce = call_new(rt, alloc, Kind::Reduce { op, root: 0 })?;
     let all_reduce = call_new(rt, alloc, Kind::AllReduce { op })?;
     let scan = call_new(rt, alloc, Kind::Scan { op })?;
+    let exscan = call_new(rt, alloc, Kind::ExScan { op })?;
     Ok(
         broadcast
             .wrapping_add(reduce)
             .wrapping_add(all_reduce)
-            .wrapping_add(scan),
+            .wrapping_add(scan)
+            .wrapping_add(exscan),
     )
 }

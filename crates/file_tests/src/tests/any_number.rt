@@ -36,6 +36,14 @@ fn fold(op: Op, numbers: &[u64]) -> Option<u64> {
     Some(total)
 }
 
+// What joins with a number and leaves it as it was.
+fn unit(op: Op) -> u64 {
+    match op {
+        Op::Add | Op::Max | Op::Xor | Op::Or => 0,
+        Op::Min | Op::And => 18446744073709551615,
+    }
+}
+
 // What the place of this rank has in the end.
 fn wanted(kind: Kind, items: &[u64], rank: usize) -> Option<u64> {
     let _item = items.get(rank)?;
@@ -44,6 +52,8 @@ fn wanted(kind: Kind, items: &[u64], rank: usize) -> Option<u64> {
         Kind::Reduce { root, .. } if rank as u64 != root => None,
         Kind::Reduce { op, .. } | Kind::AllReduce { op } => fold(op, items),
         Kind::Scan { op } => fold(op, items.get(..rank.saturating_add(1))?),
+        Kind::ExScan { op } if rank == 0 => Some(unit(op)),
+        Kind::ExScan { op } => fold(op, items.get(..rank)?),
     }
 }
 
@@ -96,7 +106,8 @@ fn expect_kinds(
     expect_kind(rt, alloc, n, dim, Kind::Broadcast { root }, items)?;
     expect_kind(rt, alloc, n, dim, Kind::Reduce { op, root }, items)?;
     expect_kind(rt, alloc, n, dim, Kind::AllReduce { op }, items)?;
-    expect_kind(rt, alloc, n, dim, Kind::Scan { op }, items)
+    expect_kind(rt, alloc, n, dim, Kind::Scan { op }, items)?;
+    expect_kind(rt, alloc, n, dim, Kind::ExScan { op }, items)
 }
 
 // Each row is the dimension of a machine, a number of items, and the dimension of the least region that
@@ -140,13 +151,15 @@ fn replies_are_plain_folds(rt: HostRuntime) -> Result<(), Fail> {
 const MIXED: &[u8] = b"lane,kind,op,root,items\n\
     2,scan,add,0,1 1 1\n0,allreduce,max,0,4 8 6 2 5\n2,reduce,xor,0,7\n0,broadcast,-,5,1 2 3 4 5 6 7\n\
     2,scan,or,0,1 2\n1,reduce,min,2,5 9 3\n0,allreduce,add,0,1 2 3\n1,scan,min,0,9 4 7 3 8\n\
-    1,reduce,max,2,5 3 9\n0,broadcast,-,1,4 9 6\n2,allreduce,and,0,12 10 14 8 9\n";
+    1,reduce,max,2,5 3 9\n0,broadcast,-,1,4 9 6\n2,allreduce,and,0,12 10 14 8 9\n\
+    3,exscan,add,0,1 2 3 4 5 6 7 8\n3,exscan,min,0,9 4 7\n";
 
 const MIXED_REPLIES: &str = "lane,seq,kind,dim,result,rounds,messages\n\
     0,0,allreduce,3,8 8 8 8 8,3,24\n0,1,broadcast,3,6 6 6 6 6 6 6,3,7\n0,2,allreduce,2,6 6 6,2,8\n\
     0,3,broadcast,2,9 9 9,2,3\n1,0,reduce,2,- - 3,2,3\n1,1,scan,3,9 4 4 3 3,3,24\n\
     1,2,reduce,2,- - 9,2,3\n2,0,scan,2,1 2 3,2,8\n2,1,reduce,0,7,0,0\n2,2,scan,1,1 3,1,2\n\
-    2,3,allreduce,3,8 8 8 8 8,3,24\n";
+    2,3,allreduce,3,8 8 8 8 8,3,24\n3,0,exscan,3,0 1 3 6 10 15 21 28,3,24\n\
+    3,1,exscan,2,18446744073709551615 9 4,2,8\n";
 
 // Whether so many dispatchers give these replies to a file, on a machine of dimension 3.
 fn gives(

@@ -96,6 +96,8 @@ fn expect_replies(
 fn answers_small_jobs(rt: HostRuntime) -> Result<(), Fail> {
     let sums = Kind::Scan { op: Op::Add };
     let largest = Kind::Scan { op: Op::Max };
+    let before = Kind::ExScan { op: Op::Add };
+    let least_before = Kind::ExScan { op: Op::Min };
     let (op, root) = (Op::Min, 2);
     let smallest = Kind::Reduce { op, root };
     let (op, root) = (Op::Or, 1);
@@ -105,6 +107,8 @@ fn answers_small_jobs(rt: HostRuntime) -> Result<(), Fail> {
     let second = Kind::Broadcast { root: 1 };
     let first = Kind::Broadcast { root: 0 };
     let prefixes = [1, 3, 6, 10, 15, 21, 28, 36].map(Some);
+    let prefixes_before = [0, 1, 3, 6, 10, 15, 21, 28].map(Some);
+    let least = [18446744073709551615, 9, 4].map(Some);
     expect_replies(
         &rt,
         rt.alloc(),
@@ -126,6 +130,16 @@ fn answers_small_jobs(rt: HostRuntime) -> Result<(), Fail> {
             (0, sums, &[7], &[Some(7)], 0, 0),
             (1, sums, &[1, 2], &[1, 3].map(Some), 1, 2),
             (3, largest, &[2, 9, 4, 7], &[2, 9, 9, 9].map(Some), 2, 8),
+            (
+                3,
+                before,
+                &[1, 2, 3, 4, 5, 6, 7, 8],
+                &prefixes_before,
+                3,
+                24,
+            ),
+            (0, before, &[7], &[Some(0)], 0, 0),
+            (3, least_before, &[9, 4, 7], &least, 2, 8),
             (
                 2,
                 smallest,
@@ -188,7 +202,16 @@ fn answers_the_largest_jobs(rt: HostRuntime) -> Result<(), Fail> {
         (4095, Some(8_386_560)),
         (4096, None),
     ];
-    expect_largest(&rt, alloc, Kind::Scan { op }, places, 49_152)
+    expect_largest(&rt, alloc, Kind::Scan { op }, places, 49_152)?;
+    let places = &[
+        (0, Some(0)),
+        (1, Some(0)),
+        (2048, Some(2_096_128)),
+        (2049, Some(2_098_176)),
+        (4095, Some(8_382_465)),
+        (4096, None),
+    ];
+    expect_largest(&rt, alloc, Kind::ExScan { op }, places, 49_152)
 }
 
 #[test]
@@ -236,6 +259,7 @@ fn expect_refusals(
 #[test]
 fn a_refusal_gives_the_items_back(rt: HostRuntime) -> Result<(), Fail> {
     let sums = Kind::Scan { op: Op::Add };
+    let before = Kind::ExScan { op: Op::Add };
     let broadcast = Kind::Broadcast { root: 2 };
     let fourth = Kind::Broadcast { root: 3 };
     let (op, root) = (Op::Add, 7);
@@ -252,6 +276,8 @@ fn a_refusal_gives_the_items_back(rt: HostRuntime) -> Result<(), Fail> {
             (3, SUM, &[4; 16], JobRefused::TooLarge),
             (0, SUM, &[1, 2], JobRefused::TooLarge),
             (0, sums, &[1, 2, 3], JobRefused::TooLarge),
+            (0, before, &[1, 2, 3], JobRefused::TooLarge),
+            (3, before, &[], JobRefused::Empty),
             (12, sums, &[1; 4097], JobRefused::TooLarge),
             (12, reduce, &[1; 4097], JobRefused::TooLarge),
             (12, broadcast, &[1; 4097], JobRefused::TooLarge),

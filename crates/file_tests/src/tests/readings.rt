@@ -147,6 +147,12 @@ fn answers_jobs(rt: HostRuntime) -> Result<(), Fail> {
             (0, "0,scan,add,0,7\n", "0,0,scan,0,7,0,0\n"),
             (
                 3,
+                "0,exscan,add,0,1 2 3 4 5 6 7 8\n1,exscan,min,0,9 4 7\n",
+                "0,0,exscan,3,0 1 3 6 10 15 21 28,3,24\n1,0,exscan,2,18446744073709551615 9 4,2,8\n",
+            ),
+            (0, "0,exscan,add,0,7\n", "0,0,exscan,0,0,0,0\n"),
+            (
+                3,
                 "1,allreduce,xor,0,5 6\n0,scan,max,0,2 9 4 7\n1,reduce,or,1,8 1\n",
                 "1,0,allreduce,1,3 3,1,2\n0,0,scan,2,2 9 9 9,2,8\n1,0,reduce,1,- 9,1,1\n",
             ),
@@ -165,6 +171,16 @@ fn answers_all_operations(rt: HostRuntime) -> Result<(), Fail> {
             (2, "0,scan,xor,0,5 3 9 4\n", "0,0,scan,2,5 6 15 11,2,8\n"),
             (2, "0,scan,and,0,5 3 9 4\n", "0,0,scan,2,5 1 1 0,2,8\n"),
             (2, "0,scan,or,0,5 3 9 4\n", "0,0,scan,2,5 7 15 15,2,8\n"),
+            (2, "0,exscan,add,0,5 3 9 4\n", "0,0,exscan,2,0 5 8 17,2,8\n"),
+            (2, "0,exscan,max,0,5 3 9 4\n", "0,0,exscan,2,0 5 5 9,2,8\n"),
+            (2, "0,exscan,xor,0,5 3 9 4\n", "0,0,exscan,2,0 5 6 15,2,8\n"),
+            (2, "0,exscan,or,0,5 3 9 4\n", "0,0,exscan,2,0 5 7 15,2,8\n"),
+            (
+                2,
+                "0,exscan,min,0,5 3 9 4\n1,exscan,and,0,5 3 9 4\n",
+                "0,0,exscan,2,18446744073709551615 5 3 3,2,8\n\
+                1,0,exscan,2,18446744073709551615 5 1 1,2,8\n",
+            ),
         ],
     )
 }

@@ -6,7 +6,7 @@ ghost use Rattle.collectives.specs.Shape.{message_count};
 
 use collectives::{
     Add, Affine, And, DIM_LIMIT, Max, Message, Min, Monoid, Or, Shape, Tally, Xor, all_reduce,
-    broadcast, message_at, pad, reduce, scan,
+    broadcast, exscan, message_at, pad, reduce, scan,
 };
 use std::test::Fail;
 
@@ -122,6 +122,26 @@ fn scan_of_all(rt: HostRuntime) {
 }
 
 #[test]
+fn scan_of_those_before(rt: HostRuntime) {
+    let mut items = [1, 2, 3, 4, 5, 6, 7, 8].map(Add);
+    let mut scratch = [Add(0); 8];
+    assert!(rt; took(exscan(&mut items, &mut scratch, 3), 3, 24));
+    assert_eq!(rt; items, [0, 1, 3, 6, 10, 15, 21, 28].map(Add));
+    assert_eq!(rt; scratch, [Add(36); 8]);
+    let mut items = maps();
+    let mut scratch = maps();
+    assert!(rt; took(exscan(&mut items, &mut scratch, 2), 2, 8));
+    let prefixes = [
+        Affine { a: 1, b: 0 },
+        Affine { a: 2, b: 1 },
+        Affine { a: 6, b: 3 },
+        Affine { a: 6, b: 8 },
+    ];
+    assert_eq!(rt; items, prefixes);
+    assert_eq!(rt; scratch, [Affine { a: 12, b: 23 }; 4]);
+}
+
+#[test]
 fn one_place(rt: HostRuntime) {
     let mut items = [Max(7)];
     let mut scratch = [Max(0)];
@@ -130,6 +150,8 @@ fn one_place(rt: HostRuntime) {
     assert!(rt; took(all_reduce(&mut items, 0), 0, 0));
     assert!(rt; took(scan(&mut items, &mut scratch, 0), 0, 0));
     assert_eq!(rt; items, [Max(7)]);
+    assert!(rt; took(exscan(&mut items, &mut scratch, 0), 0, 0));
+    assert!(rt; items == [Max(0)] && scratch == [Max(7)]);
 }
 
 #[test]

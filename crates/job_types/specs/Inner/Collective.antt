@@ -4,7 +4,7 @@ use Rattle.collectives.specs.Places.{padded}
 use Rattle.job_types.specs.declared.kind.Op.{Op}
 use Rattle.job_types.specs.declared.kind.Op.TheVariants.{Add}
 use Rattle.job_types.specs.declared.kind.Kind.{Kind}
-use Rattle.job_types.specs.declared.kind.Kind.TheVariants.{Broadcast, Reduce, AllReduce, Scan}
+use Rattle.job_types.specs.declared.kind.Kind.TheVariants.{Broadcast, Reduce, AllReduce, Scan, ExScan}
 use Rattle.job_types.specs.Collective.{held_at, unit_of}
 use Rattle.job_types.specs.Job.{has_bad_root}
 
@@ -14,6 +14,7 @@ visible_at (Broadcast root) place value = value
 visible_at (Reduce op root) place value = if place == root then value else None
 visible_at (AllReduce op) place value = value
 visible_at (Scan op) place value = value
+visible_at (ExScan op) place value = value
 
 -- what a reply shows of these numbers, at the place of each item, is the collective's result on these items
 abbrev pub IsResult : Kind → List ℕ → List ℕ → Type 0
@@ -25,13 +26,15 @@ operation_of (Broadcast root) = Add
 operation_of (Reduce op root) = op
 operation_of (AllReduce op) = op
 operation_of (Scan op) = op
+operation_of (ExScan op) = op
 
--- how many scratch items the collective needs besides its `places` items: a scan has a total at each
+-- how many scratch items the collective needs besides its `places` items: each of the scans has a total at each
 abbrev pub scratch_len : Kind → ℕ → ℕ
 scratch_len (Broadcast root) places = 0
 scratch_len (Reduce op root) places = 0
 scratch_len (AllReduce op) places = 0
 scratch_len (Scan op) places = places
+scratch_len (ExScan op) places = places
 
 -- the number at each of the 2 ^ k places before the rounds of a job: its items, and the unit of the
 -- operation at the other places

@@ -11,3 +11,4 @@ with_root root collective.Broadcast = kind.Broadcast root
 with_root root (collective.Reduce op) = kind.Reduce op root
 with_root root (collective.AllReduce op) = kind.AllReduce op
 with_root root (collective.Scan op) = kind.Scan op
+with_root root (collective.ExScan op) = kind.ExScan op

@@ -1,9 +1,9 @@
 -- The rounds' contracts, stated of the numbers that the items stand for.
 use Rattle.std.proofs.Common.{◌∙◌, sym, ap, subst}
 use Rattle.std.specs.Prelude.{map}
-use Rattle.job_types.specs.declared.kind.Kind.TheVariants.{Reduce, AllReduce, Scan}
+use Rattle.job_types.specs.declared.kind.Kind.TheVariants.{Reduce, AllReduce, Scan, ExScan}
 use Rattle.job_types.specs.Inner.Collective.{operation_of, MakesResult}
-use Rattle.job_types.proofs.NumberLemmas.{broadcast_result, reduce_result, all_reduce_result, scan_result, all_values}
+use Rattle.job_types.proofs.NumberLemmas.{broadcast_result, reduce_result, all_reduce_result, scan_result, exscan_result, all_values}
 use Rattle.job_types.proofs.RefusalLemmas.{root_below}
 use Rattle.job_types.proofs.rank_buffer.run_rounds.Goals as goal
 
@@ -46,3 +46,12 @@ returns-in-Scan-clause-result g c =
     subst (λ kind. MakesResult kind c.args.k (map number old) (map number new)) (sym c.in-Scan.is)
     (subst (λ op. MakesResult (Scan op) c.args.k (map number old) (map number new)) (c.requires.operation ∙ ap operation_of c.in-Scan.is)
     (scan_result g.met.M.Operation.joins g.met.M.Monoid.laws c.args.k old new c.requires.values c.scan.ensures.held))
+
+pub returns-in-ExScan-clause-result : goal.returns-in-ExScan-clause-result
+returns-in-ExScan-clause-result g c =
+    let number = g.M.Operation.number in
+    let old = c.args.items.now in
+    let new = c.exscan.new.items in
+    subst (λ kind. MakesResult kind c.args.k (map number old) (map number new)) (sym c.in-ExScan.is)
+    (subst (λ op. MakesResult (ExScan op) c.args.k (map number old) (map number new)) (c.requires.operation ∙ ap operation_of c.in-ExScan.is)
+    (exscan_result g.met.M.Operation.joins g.met.M.Monoid.laws c.args.k old new c.requires.values c.exscan.ensures.held))
