@@ -16,7 +16,7 @@ use std::alloc::{AllocError, Global};
 /// What is written once all jobs of a file are answered: rows that are made of the finished run.
 pub trait Output {
     /// What is written as one line.
-    type Row: Row + Drop;
+    type Row: Row + Send + Drop;
 
     // The rows are those of these jobs, on a machine of dimension n.
     ghost are_rows: { ℕ → List JobData → List Self.Row → Type 0 };

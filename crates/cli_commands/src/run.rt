@@ -27,10 +27,13 @@ use std::sync::Wait;
 use std::thread::Threads;
 use tree_floor::TreeFloor;
 
-// Writes what is made of the run of a file's jobs, or passes the fault on for which there is none.
-fn write_output<O: Output, F: Floor, W: Write + Device>(
+// Writes what is made of the run of a file's jobs, by so many threads, or passes the fault on for which
+// there is none.
+fn write_output<O: Output, F: Floor, H: Threads + Sync, W: Write + Device>(
+    rt: &H,
     alloc: Global,
     n: u32,
+    threads: u32,
     answer: Result<RunEnd<F::Machine>, Unanswered<F::Machine>>,
     writer: &mut W,
 ) -> Result<(), Fault>
@@ -57,7 +60,7 @@ where
     let Ok(rows) = O::rows::<F>(alloc, n, finished) else {
         return Err(Fault::no_memory());
     };
-    jobs_csv::write_rows(alloc, rows, writer)
+    jobs_csv::write_rows(rt, alloc, threads as usize, rows, writer)
 }
 
 /// Reads a file of jobs for a machine of dimension `n`, answers them on threads, and writes the rows
@@ -65,7 +68,7 @@ where
 ///
 /// All jobs are read before the first of them is answered, and all are answered before the first
 /// row is written. A feeder for each open lane hands in its jobs by a line of this capacity, and
-/// this many dispatchers answer them by the runner.
+/// this many dispatchers answer them by the runner. As many threads make the lines of the rows.
 ///
 /// # Errors
 ///
@@ -109,7 +112,7 @@ where
         runner,
         reader,
     );
-    write_output::<O, TreeFloor, W>(alloc, n, answer, writer)
+    write_output::<O, TreeFloor, H, W>(rt, alloc, n, dispatchers, answer, writer)
 }
 
 /// The command `run`: does as `answer_on` does, and writes a reply to each job.
@@ -221,5 +224,5 @@ where
     let answer = answer_file_shown::<H, RuledLine, TreeFloor, T, R, P>(
         rt, alloc, options, runner, reader, terminal,
     );
-    write_output::<O, TreeFloor, W>(alloc, options.n, answer, writer)
+    write_output::<O, TreeFloor, H, W>(rt, alloc, options.n, options.dispatchers, answer, writer)
 }

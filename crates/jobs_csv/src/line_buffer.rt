@@ -1,11 +1,10 @@
 // The lines of a file, buffered on their way to a writer that is lent.
-ghost use Rattle.std.specs.Prelude.{◌≡◌, [], ◌++◌, ℕ, List, IfErr, IfOk, OnOk};
+ghost use Rattle.std.specs.Prelude.{◌≡◌, [], ◌++◌, ℕ, List, IfOk, OnOk};
 ghost use Rattle.std.specs.Io.KnownBytes.{Appends, Keeps};
-ghost use Rattle.jobs_csv.specs.Fault.{attribute};
-ghost use Rattle.jobs_csv.specs.Text.{file_text, line_of};
+ghost use Rattle.jobs_csv.specs.Inner.Output.{HasText, buffered, items_held};
+ghost use Rattle.jobs_csv.specs.Text.{line_of};
 
-use crate::device::Device;
-use crate::fault::{Fault, FaultKind, WriteStopped};
+use crate::fault::WriteStopped;
 use crate::row::{Row, RowFields};
 use csv::Writer;
 use std::alloc::{AllocError, Global};
@@ -38,7 +37,7 @@ impl Model for LineBuffer {
 }
 
 // Writes out all of a text.
-fn write_out<W: Write>(text: &[u8], writer: &mut W) -> Result<(), WriteStopped>
+pub(crate) fn write_out<W: Write>(text: &[u8], writer: &mut W) -> Result<(), WriteStopped>
     ensures { OnOk result (Appends (W.contents writer.old) (W.contents writer.new) text.now) }
 {
     if writer.write_all(text).is_err() {
@@ -48,13 +47,24 @@ fn write_out<W: Write>(text: &[u8], writer: &mut W) -> Result<(), WriteStopped>
 }
 
 // Flushes the writer.
-fn flush_writer<W: Write>(writer: &mut W) -> Result<(), WriteStopped>
+pub(crate) fn flush_writer<W: Write>(writer: &mut W) -> Result<(), WriteStopped>
     ensures { OnOk result (Keeps (W.contents writer.old) (W.contents writer.new)) }
 {
     if writer.flush().is_err() {
         return Err(WriteStopped);
     }
     Ok(())
+}
+
+// The text that is buffered.
+fn text_of(buffer: Box<Writer<Vec<u8>>>) -> Result<Vec<u8>, AllocError>
+    requires { HasText items_held buffer.value (buffered buffer.value) }
+    ensures { IfOk result (λ text. text.items ≡ buffered buffer.value) }
+{
+    let Ok(text) = Box::into_inner(buffer).into_inner() else {
+        return Err(AllocError);
+    };
+    Ok(text)
 }
 
 impl LineBuffer {
@@ -115,9 +125,7 @@ impl LineBuffer {
             fields,
             alloc,
         } = self;
-        let Ok(mut text) = Box::into_inner(buffer).into_inner() else {
-            return Err(WriteStopped);
-        };
+        let mut text = text_of(buffer)?;
         write_out(&text, writer)?;
         text.clear();
         let Ok(writer) = Box::new(alloc, Writer::from_writer(text)) else {
@@ -128,6 +136,13 @@ impl LineBuffer {
             fields,
             alloc,
         })
+    }
+
+    /// The buffered lines.
+    pub fn into_text(self) -> Result<Vec<u8>, AllocError>
+        ensures { IfOk result (λ text. text.items ≡ self) }
+    {
+        text_of(self.writer)
     }
 
     /// Writes out the buffered lines, as `flush` does, if the buffer is full.
@@ -149,46 +164,5 @@ impl LineBuffer {
     {
         let _empty = self.flush(writer)?;
         flush_writer(writer)
-    }
-}
-
-// Writes the lines of these rows under their header.
-fn write_all_rows<T: Row + Drop, W: Write>(
-    alloc: Global,
-    rows: Vec<T>,
-    writer: &mut W,
-) -> Result<(), WriteStopped>
-    ensures { OnOk result (Appends (W.contents writer.old) (W.contents writer.new)
-        (file_text T.columns T.fields rows.items)) }
-{
-    let mut lines = LineBuffer::new(alloc)?.push_header::<T>()?;
-    for row in rows {
-        lines = lines.write_row(row, writer)?;
-    }
-    lines.finish(writer)
-}
-
-/// Writes the lines of these rows under their header, and drops each row once its line is made.
-///
-/// A failure is the writer's where its count of failed calls rose in this call, or stood at
-/// `u64::MAX`, and is out of memory otherwise. After it the first lines may be out.
-pub fn write_rows<T: Row + Drop, W: Write + Device>(
-    alloc: Global,
-    rows: Vec<T>,
-    writer: &mut W,
-) -> Result<(), Fault>
-    ensures written { OnOk result (Appends (W.contents writer.old) (W.contents writer.new)
-        (file_text T.columns T.fields rows.items)) }
-    ensures failed { IfErr result (λ fault.
-        fault ≡ attribute FaultKind.Write (W.failures writer.old) (W.failures writer.new)) }
-{
-    let failures_before = writer.failures();
-    match write_all_rows(alloc, rows, writer) {
-        Ok(()) => Ok(()),
-        Err(WriteStopped) => Err(Fault::attribute(
-            FaultKind::Write,
-            failures_before,
-            writer.failures(),
-        )),
     }
 }

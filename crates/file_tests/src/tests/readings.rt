@@ -11,6 +11,7 @@ use jobs_csv::{
 use std::alloc::Global;
 use std::process::Abort;
 use std::test::Fail;
+use std::thread::Threads;
 
 const JOBS: &[u8] = b"lane,kind,op,root,items\n";
 
@@ -95,16 +96,22 @@ fn first_answered(job: Job) -> Reply {
 }
 
 // The file of these replies.
-fn written(rt: &(impl AllocGlobal + Abort), replies: Vec<Reply>) -> Result<Vec<u8>, Fail> {
+fn written(
+    rt: &(impl AllocGlobal + Abort + Threads + Sync),
+    replies: Vec<Reply>,
+) -> Result<Vec<u8>, Fail> {
     let mut writer = Counted::new(Vec::new(rt.alloc()));
-    write_rows(rt.alloc(), replies, &mut writer)?;
+    write_rows(rt, rt.alloc(), 1, replies, &mut writer)?;
     assert!(rt; writer.failures() == 0);
     Ok(Vec::from_slice(rt.alloc(), writer.get_ref())?)
 }
 
 // Each row is the dimension of a machine, records of jobs for it and the records of their replies.
 // The records are of as many lanes as there are records.
-fn expect_replies(rt: &(impl AllocGlobal + Abort), rows: &[(u32, &str, &str)]) -> Result<(), Fail> {
+fn expect_replies(
+    rt: &(impl AllocGlobal + Abort + Threads + Sync),
+    rows: &[(u32, &str, &str)],
+) -> Result<(), Fail> {
     for (n, records, wanted) in rows {
         let input = joined(rt.alloc(), JOBS, records.as_bytes())?;
         let mut replies = Vec::new(rt.alloc());

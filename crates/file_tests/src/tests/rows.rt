@@ -11,6 +11,7 @@ use jobs_csv::{
 use std::io::Write;
 use std::process::Abort;
 use std::test::Fail;
+use std::thread::Threads;
 
 // These rows are written under their header, whether the buffer is written out once or after each.
 fn expect_text<T: Row>(
@@ -244,7 +245,7 @@ fn two_replies(rt: &(impl AllocGlobal + Abort)) -> Result<Vec<Reply>, Fail> {
 // A write of replies whose writer fails at this call, with an error or by taking nothing. Returns
 // whether the writer failed.
 fn fails_to_write(
-    rt: &(impl AllocGlobal + Abort),
+    rt: &(impl AllocGlobal + Abort + Threads + Sync),
     calls: u64,
     gives_zero: bool,
 ) -> Result<bool, Fail> {
@@ -255,7 +256,7 @@ fn fails_to_write(
         gives_zero,
     };
     let mut writer = Counted::new(device);
-    let answer = write_rows(rt.alloc(), two_replies(rt)?, &mut writer);
+    let answer = write_rows(rt, rt.alloc(), 2, two_replies(rt)?, &mut writer);
     if writer.failures() == 0 {
         assert!(rt; answer == Ok(()));
         return Ok(false);
@@ -273,6 +274,59 @@ fn reports_a_failed_write(rt: HostRuntime) -> Result<(), Fail> {
         }
         assert!(rt; fails_to_write(&rt, 14, gives_zero)? != gives_zero);
         assert!(rt; !fails_to_write(&rt, 15, gives_zero)?);
+    }
+    Ok(())
+}
+
+// So many replies of lane 1, each to a broadcast of its own number.
+fn many_replies(rt: &(impl AllocGlobal + Abort), count: u64) -> Result<Vec<Reply>, Fail> {
+    let mut replies = Vec::new(rt.alloc());
+    for seq in 0..count {
+        let kind = job_types::Kind::Broadcast { root: 0 };
+        let job = made(asked(rt, rt.alloc(), 0, 1, kind, &[seq])?)?;
+        replies.push(answered(job, JobId { lane: 1, seq }))?;
+    }
+    Ok(replies)
+}
+
+// The file of so many of these replies.
+fn text_of_many(rt: &impl AllocGlobal, count: u64) -> Result<String, Fail> {
+    let mut text = String::from_str(rt.alloc(), "lane,seq,kind,dim,result,rounds,messages\n")?;
+    for seq in 0..count {
+        write!(text, "1,{seq},broadcast,0,{seq},0,0\n")?;
+    }
+    Ok(text)
+}
+
+// So many replies are written by so many threads.
+fn expect_many(
+    rt: &(impl AllocGlobal + Abort + Threads + Sync),
+    threads: usize,
+    count: u64,
+) -> Result<(), Fail> {
+    let mut writer = Counted::new(Vec::new(rt.alloc()));
+    write_rows(
+        rt,
+        rt.alloc(),
+        threads,
+        many_replies(rt, count)?,
+        &mut writer,
+    )?;
+    let wanted = text_of_many(rt, count)?;
+    assert!(rt;
+        writer.get_ref().as_slice() == wanted.as_bytes(),
+        "{count} by {threads}"
+    );
+    Ok(())
+}
+
+// A part has 64 rows at first, and then 128, and so on: none, one, a whole part, and some more than parts.
+#[test]
+fn any_number_of_threads_writes_the_same(rt: HostRuntime) -> Result<(), Fail> {
+    for threads in [0, 1, 2, 3, 16] {
+        for count in [0, 1, 64, 65, 1_000] {
+            expect_many(&rt, threads, count)?;
+        }
     }
     Ok(())
 }

@@ -1,7 +1,0 @@
-use Rattle.jobs_csv.specs.Text.{file_text}
-use Rattle.jobs_csv.proofs.SentLemmas.{IsSentOrBuffered}
-use Rattle.jobs_csv.proofs.line_buffer.write_all_rows.Given as goal
-
--- the lines of the rows so far are written out or buffered
-abbrev pub invariant-loop-row : goal.invariant-loop-row
-invariant-loop-row g l = IsSentOrBuffered (g.W.Write.contents l.fn.writer) (g.W.Write.contents l.writer) l.lines (file_text g.T.Row.columns g.T.Row.fields l.yielded)
