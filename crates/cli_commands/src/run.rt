@@ -67,7 +67,7 @@ where
 /// that are made of the finished run: `O` is `Replies` or `Report`.
 ///
 /// All jobs are read before the first of them is answered, and all are answered before the first
-/// row is written. A feeder for each open lane hands in its jobs by a line of this capacity, and
+/// row is written. The jobs of each open lane are handed in by a line of this capacity, and
 /// this many dispatchers answer them by the runner. As many threads make the lines of the rows.
 ///
 /// # Errors

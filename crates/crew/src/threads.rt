@@ -34,8 +34,8 @@ fn with_stack() -> Builder {
     Builder::new().stack_size(STACK_BYTES)
 }
 
-// Starts a thread for each worker, and then one for each feeder; closes the shop once all feeders have
-// ended, and waits for the workers. Where a thread cannot be started no other one is.
+// Starts a thread for each worker, and then those that feed, each for some of the lanes; closes the shop
+// once all of these have ended, and waits for the workers. Where a thread cannot be started no other one is.
 pub fn run_threads<R: Threads + Wait + Sync, C: Crew + Sync>(rt: &R, crew: &C)
     requires { C.is_ready crew.now }
 {
@@ -66,7 +66,7 @@ pub fn run_threads<R: Threads + Wait + Sync, C: Crew + Sync>(rt: &R, crew: &C)
     );
 }
 
-// Starts a thread for each feeder, and waits for them. Where one cannot be started the shop is closed at
+// Starts the threads that feed, and waits for them. Where one cannot be started the shop is closed at
 // once, so that the others do not hand in what is not going to be a whole run.
 fn feed_on_threads<R: Threads + Wait + Sync, C: Crew + Sync>(rt: &R, crew: &C)
     requires { C.is_ready crew.now }

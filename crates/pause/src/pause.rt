@@ -8,8 +8,8 @@ use std::time::Duration;
 // How often a caller yields before its second try. Each burst of yields is twice as long as the one before.
 const FIRST_BURST: u32 = 2;
 
-/// How often a caller yields in the last burst before it sleeps. All bursts together take about as long as
-/// one sleep costs.
+/// How often a caller yields in the last burst before it sleeps. All bursts together are meant to take
+/// about as long as one sleep costs.
 pub const LONGEST_BURST: u32 = 64;
 
 // The first sleep and the longest one, in microseconds.
