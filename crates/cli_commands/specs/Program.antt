@@ -64,6 +64,10 @@ ShowsProgress invocation = ⊥
 abbrev pub AsksForProgress : List Text → Type 0
 AsksForProgress words = (invocation : Invocation) × AsksFor words invocation × ShowsProgress invocation
 
+-- the words ask for a request, which reads an input
+abbrev pub AsksForInput : List Text → Type 0
+AsksForInput words = (invocation : Invocation) × AsksFor words invocation
+
 -- the exit status
 abbrev pub exit_status : Ending → ℕ
 exit_status Done = 0

@@ -9,7 +9,7 @@ ghost use Rattle.jobs_csv.specs.declared.fault.Fault.{Fault as TheFault};
 ghost use Rattle.cli_words.specs.CommandLine.{IsWithinLimits, program_app};
 ghost use Rattle.cli_commands.specs.Answer.{IsMetBeforeWriting};
 ghost use Rattle.cli_commands.specs.Inner.Ending.{EndsAfter, EndsOn};
-ghost use Rattle.cli_commands.specs.Program.{AsksForProgress, EndsBy, IsAnswerTo, IsFaultOf, ShowsProgress, exit_status};
+ghost use Rattle.cli_commands.specs.Program.{AsksForInput, AsksForProgress, EndsBy, IsAnswerTo, IsFaultOf, ShowsProgress, exit_status};
 
 use crate::output::{Replies, Report};
 use crate::{place, replay, run};
@@ -135,6 +135,28 @@ where
     }
 }
 
+// What a request waits for where its input is typed.
+fn awaited(invocation: Invocation) -> &'static str {
+    match invocation {
+        Invocation::Run(_) | Invocation::Report(_) => {
+            "waiting for jobs, CSV with the header lane,kind,op,root,items; Ctrl-D ends it"
+        }
+        Invocation::Place { .. } => {
+            "waiting for commands, CSV with the header command,name,dim; Ctrl-D ends it"
+        }
+        Invocation::Replay { .. } => {
+            "waiting for a schedule, CSV with the header station,call,arg; Ctrl-D ends it"
+        }
+    }
+}
+
+// Says what a request waits for, where somebody is there to type it. A failed write of it is no fault.
+fn announce<Q: Write>(invocation: Invocation, prompt: &mut Option<Q>) {
+    if let Some(typist) = prompt {
+        let _written = typist.writeln(awaited(invocation));
+    }
+}
+
 // Writes the help or the version, which were asked for.
 fn show<W: Write + Device, E: Write>(error: &clap::Error, writer: &mut W, errors: &mut E) -> Ending
     ensures shown { (result ≡ Ending.Done) ⊎ ((is_reported : Bool) × (result ≡ Ending.Failed
@@ -179,8 +201,9 @@ fn explain<W: Write + Device, E: Write>(
 ///
 /// The line of a fault and what is wrong with a command line go to `errors`. Jobs are answered on
 /// threads of the runtime. The terminal, where there is one, shows how far a long run is while it
-/// works, unless the words ask for none of that.
-pub fn run<H, R, W, E, P>(
+/// works, unless the words ask for none of that. The prompt is there where the input is typed, and is
+/// told what is waited for once the words ask for a command.
+pub fn run<H, R, W, E, P, Q>(
     rt: &H,
     alloc: Global,
     words: &[String],
@@ -188,6 +211,7 @@ pub fn run<H, R, W, E, P>(
     writer: &mut W,
     errors: &mut E,
     terminal: &mut Option<P>,
+    prompt: &mut Option<Q>,
 ) -> Ending
 where
     H: Threads + Wait + Clone + Send + Sync + 'static,
@@ -195,6 +219,7 @@ where
     W: Write + Device,
     E: Write,
     P: Write + Send + Drop + 'static,
+    Q: Write,
     ensures ends { EndsBy (map string_bytes words.now) (R.remaining reader.old)
         (W.contents writer.old) (W.contents writer.new)
         (IsFaultOf (R.failures reader.old) (R.failures reader.new)
@@ -205,9 +230,11 @@ where
     ensures rejected { result ≡ Ending.Rejected
         → (reader.new ≡ reader.old) × (writer.new ≡ writer.old) }
     ensures shown { (terminal.new ≡ terminal.old) ⊎ AsksForProgress (map string_bytes words.now) }
+    ensures prompted { (prompt.new ≡ prompt.old) ⊎ AsksForInput (map string_bytes words.now) }
 {
     let error = match parse_args(alloc, words) {
         Ok(invocation) => {
+            announce(invocation, prompt);
             return carry_out(rt, alloc, invocation, reader, writer, errors, terminal);
         }
         Err(error) => error,

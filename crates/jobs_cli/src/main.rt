@@ -4,8 +4,9 @@
 //! The input comes as CSV from standard input, and its answer goes as CSV to standard output. Jobs are
 //! answered on threads, by the dispatchers and over the line that `--dispatchers` and `--capacity` ask
 //! for. Where standard error is a terminal that can write a line anew, it shows how far a long run is,
-//! unless `--quiet` is given. The whole program is `program::run` of `cli_commands`, over any words,
-//! reader and writers; this file ties them to the process, which ends by `program::exit_code`.
+//! unless `--quiet` is given. Where standard input is a terminal, standard error says what is waited for.
+//! The whole program is `program::run` of `cli_commands`, over any words, reader and writers; this file
+//! ties them to the process, which ends by `program::exit_code`.
 #![tactic(auto)]
 
 use cli_commands::program;
@@ -44,7 +45,13 @@ fn main(rt: HostRuntime) -> ExitCode {
         Ok(words) => words,
         Err(error) => return program::exit_code(report_words(&rt, &error)),
     };
-    let mut reader = Counted::new(rt.stdin());
+    let input = rt.stdin();
+    let mut prompt = if input.is_terminal() {
+        Some(rt.stderr())
+    } else {
+        None
+    };
+    let mut reader = Counted::new(input);
     let mut writer = Counted::new(rt.stdout());
     let mut errors = rt.stderr();
     let mut terminal = if errors.is_terminal() && !is_dumb(&rt) {
@@ -60,6 +67,7 @@ fn main(rt: HostRuntime) -> ExitCode {
         &mut writer,
         &mut errors,
         &mut terminal,
+        &mut prompt,
     );
     program::exit_code(ending)
 }
