@@ -27,13 +27,15 @@ use std::sync::Wait;
 use std::thread::Threads;
 use tree_floor::TreeFloor;
 
-// Writes what is made of the run of a file's jobs, by so many threads, or passes the fault on for which
-// there is none.
+// So many threads make the lines of the rows. More of them, which start anew for each round of parts, took
+// more processor time and gained nothing on the clock.
+const LINE_MAKERS: usize = 1;
+
+// Writes what is made of the run of a file's jobs, or passes the fault on for which there is none.
 fn write_output<O: Output, F: Floor, H: Threads + Sync, W: Write + Device>(
     rt: &H,
     alloc: Global,
     n: u32,
-    threads: u32,
     answer: Result<RunEnd<F::Machine>, Unanswered<F::Machine>>,
     writer: &mut W,
 ) -> Result<(), Fault>
@@ -60,7 +62,7 @@ where
     let Ok(rows) = O::rows::<F>(alloc, n, finished) else {
         return Err(Fault::no_memory());
     };
-    jobs_csv::write_rows(rt, alloc, threads as usize, rows, writer)
+    jobs_csv::write_rows(rt, alloc, LINE_MAKERS, rows, writer)
 }
 
 /// Reads a file of jobs for a machine of dimension `n`, answers them on threads, and writes the rows
@@ -68,7 +70,7 @@ where
 ///
 /// All jobs are read before the first of them is answered, and all are answered before the first
 /// row is written. The jobs of each open lane are handed in by a line of this capacity, and
-/// this many dispatchers answer them by the runner. As many threads make the lines of the rows.
+/// this many dispatchers answer them by the runner.
 ///
 /// # Errors
 ///
@@ -112,7 +114,7 @@ where
         runner,
         reader,
     );
-    write_output::<O, TreeFloor, H, W>(rt, alloc, n, dispatchers, answer, writer)
+    write_output::<O, TreeFloor, H, W>(rt, alloc, n, answer, writer)
 }
 
 /// The command `run`: does as `answer_on` does, and writes a reply to each job.
