@@ -226,5 +226,5 @@ where
     let answer = answer_file_shown::<H, RuledLine, TreeFloor, T, R, P>(
         rt, alloc, options, runner, reader, terminal,
     );
-    write_output::<O, TreeFloor, H, W>(rt, alloc, options.n, options.dispatchers, answer, writer)
+    write_output::<O, TreeFloor, H, W>(rt, alloc, options.n, answer, writer)
 }
