@@ -30,6 +30,40 @@ def write_jobs(kind, count, items, lanes, path):
             file.write(f"{rng.randrange(lanes)},{kind},add,0,{words}\n")
 
 
+def write_commands(kind, count, path, names=72):
+    """A file of commands for `place`: so many takes and frees, in random order, of random dimensions; of this many
+    names, or of ever new ones."""
+    rng = random.Random(count)
+    held = []
+    with open(path, "w") as file:
+        file.write("command,name,dim\n")
+        for number in range(count):
+            if rng.randrange(2) == 0 or not held:
+                name = f"n{rng.randrange(names)}" if kind == "few names" else f"n{number}"
+                held.append(name)
+                file.write(f"take,{name},{rng.randrange(8)}\n")
+            else:
+                name = held.pop(len(held) - 1 - rng.randrange(min(len(held), 60)))
+                file.write(f"free,{name},-\n")
+
+
+def write_schedule(kind, count, path):
+    """A schedule of 32 stations that take and release random nodes: so many steps, or runs."""
+    rng = random.Random(count)
+    with open(path, "w") as file:
+        file.write("station,call,arg\n")
+        for number in range(count):
+            station = rng.randrange(32)
+            if kind == "runs" or number % 8 == 0:
+                file.write(f"{station},take,{rng.randrange(1, 2048)}\n")
+            if kind == "runs":
+                file.write(f"{station},run,-\n")
+            else:
+                file.write(f"{station},step,1\n")
+            if kind == "runs" or number % 8 == 4:
+                file.write(f"{station},release,-\n")
+
+
 def built(folder, source):
     """The plain program of a source file, built into the folder."""
     program = os.path.join(folder, "plain")
@@ -73,14 +107,14 @@ def measured_in_turn(commands, path, folder, turns=TURNS):
     return best
 
 
-def compare(arguments, source, plain_arguments, inputs):
+def compare(arguments, source, plain_arguments, inputs, program=None):
     """Prints a line for each input and program: the least processor time and the greatest peak memory
-    of several runs, with their ratios to those of the plain program.
+    of several runs, with their ratios to those of the plain program. Without a build of `cubejobs` it makes one.
 
     An input is a label, and a function that writes the input to a path. It should write line by line,
     since a child's peak memory begins with that of its parent.
     """
-    program = proved()
+    program = program or proved()
     with tempfile.TemporaryDirectory() as folder:
         commands = {"proved": [program, *arguments], "plain": [built(folder, source), *plain_arguments]}
         path = os.path.join(folder, "input.csv")
@@ -94,22 +128,21 @@ def compare(arguments, source, plain_arguments, inputs):
                 print(f"{label:40} {name:8} {cost.processor:8.3f} {cost.memory:7.1f} {time_ratio:7.2f} {memory_ratio:7.2f}")
 
 
-def compare_threads(arguments, dispatchers, baseline, inputs):
-    """Prints a line for each input and number of dispatchers: the least processor time, the least time
-    on the clock and the greatest peak memory of several runs, with their ratios to those of `baseline`,
-    a program that knows the same arguments but `--dispatchers`."""
-    program = proved()
+def compare_settings(commands_of, inputs):
+    """Prints a line for each input and command: the least processor time, the least time on the clock and the
+    greatest peak memory of several runs, with their ratios to those of the first command.
+
+    An input is a label, what `commands_of` makes its commands by name of, and a function that writes the input.
+    """
     with tempfile.TemporaryDirectory() as folder:
-        commands = {"baseline": [baseline, *arguments]}
-        for count in dispatchers:
-            commands[f"{count} dispatchers"] = [program, *arguments, "--dispatchers", str(count)]
         path = os.path.join(folder, "input.csv")
         print(f"{'input':48} program        processor   clock      MB    processor  clock  memory")
-        for label, write in inputs:
+        for label, what, write in inputs:
             write(path)
-            best = measured_in_turn(commands, path, folder)
+            best = measured_in_turn(commands_of(what), path, folder)
+            base = next(iter(best.values()))
             for name, cost in best.items():
-                ratios = [own / base for own, base in zip(cost, best["baseline"])]
+                ratios = [own / other for own, other in zip(cost, base)]
                 print(
                     f"{label:48} {name:14} {cost.processor:9.3f} {cost.clock:7.3f} {cost.memory:7.1f}"
                     f" {ratios[0]:12.2f} {ratios[1]:6.2f} {ratios[2]:7.2f}",

@@ -1,9 +1,9 @@
 /* Pairs of take and release by threads, in one run: the proved tree through its handles, the exact allocator under a
  * pthread mutex, and the tree by hand in C11 atomics, which makes the same events (not proved).
  *
- * ffi_tree SYSTEM THREADS PAIRS LOW HIGH [half] [tail]: SYSTEM is tree, mutex or twin; a thread asks for the dimensions
- * from LOW to HIGH in turn of chance on a machine of dimension 10; with half the lower half is held all the while; with
- * tail the 99.9th percentile of a pair is told. It prints nanoseconds of the clock for each pair of all threads. */
+ * ffi_tree SYSTEM THREADS PAIRS LOW HIGH [half] [tail] [turn]: SYSTEM is tree, mutex or twin; a thread asks for the
+ * dimensions from LOW to HIGH by chance on a machine of dimension 10, or with turn one after another, as the words of
+ * `cube_bench tree` do; with half the lower half is held all the while; with tail the 99.9th percentile of a pair is told. It prints nanoseconds of the clock for each pair of all threads. */
 #include <pthread.h>
 #include <stdatomic.h>
 #include <stdio.h>
@@ -99,7 +99,7 @@ static void release(unsigned id) {
 }
 
 static unsigned long pairs;
-static unsigned low, high, tail;
+static unsigned low, high, tail, in_turn;
 static pthread_barrier_t ready;
 struct tally {
     unsigned id;
@@ -114,12 +114,26 @@ static uint64_t now(void) {
     return (uint64_t)t.tv_sec * 1000000000u + (uint64_t)t.tv_nsec;
 }
 
+/* A pair of each dimension in turn: nothing but the calls is measured, and no clock is read. */
+static void take_in_turn(struct tally *t) {
+    unsigned k = t->id % (high - low + 1);
+    for (unsigned long done = 0; done < pairs; done++) {
+        if (take(t->id, low + k)) {
+            release(t->id);
+        } else {
+            t->refused++;
+        }
+        if (++k > high - low) k = 0;
+    }
+}
+
 static void *work(void *argument) {
     struct tally *t = argument;
     uint64_t seed = 88172645463325252u + t->id * 7919;
     pthread_barrier_wait(&ready);
     t->from = now();
-    for (unsigned long done = 0; done < pairs;) {
+    if (in_turn) take_in_turn(t);
+    for (unsigned long done = in_turn ? pairs : 0; done < pairs;) {
         uint64_t from = tail ? now() : 0;
         seed ^= seed << 13;
         seed ^= seed >> 7;
@@ -158,6 +172,7 @@ int main(int argc, char **argv) {
     for (int i = 6; i < argc; i++) {
         if (strcmp(argv[i], "half") == 0 && !take(MOST, N - 1)) return 1;
         tail |= strcmp(argv[i], "tail") == 0;
+        in_turn |= strcmp(argv[i], "turn") == 0;
     }
     if (tail && !(times = calloc(threads * pairs, sizeof *times))) return 1;
     pthread_barrier_init(&ready, NULL, threads);

@@ -5,3 +5,4 @@ pub mod TraceLemmas
 pub mod StationLemmas
 pub mod ReplayLemmas
 pub mod ProgramLemmas
+pub mod FiledLemmas

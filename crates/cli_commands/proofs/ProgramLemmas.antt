@@ -1,21 +1,33 @@
 -- How a call of the program ends.
-use Rattle.std.proofs.Common.{◌≡◌, ◌⊎◌, ℕ, List, Option, inl, inr, subst}
+use Rattle.std.proofs.Common.{◌≡◌, ◌⊎◌, ℕ, List, Option, None, Some, inl, inr, subst}
 use Rattle.clap.specs.Words.{IsAmong, Text, fault_of}
 use Rattle.clap.specs.declared.error.kind.ErrorKind.{ErrorKind}
 use Rattle.clap.specs.declared.error.kind.ErrorKind.TheVariants.{DisplayHelp, DisplayVersion, OutOfMemory}
 use Rattle.jobs_csv.specs.declared.fault.Fault.{Fault}
 use Rattle.cli_words.specs.declared.invocation.Invocation.{Invocation}
+use Rattle.cli_words.specs.declared.invocation.Request.{Request}
 use Rattle.cli_words.specs.CommandLine.{AsksFor, AsksForHelp, program_app}
 use Rattle.cli_commands.specs.declared.program.Ending.{Ending}
-use Rattle.cli_commands.specs.declared.program.Ending.TheVariants.{Done, Rejected, Failed}
+use Rattle.cli_commands.specs.declared.program.Ending.TheVariants.{Done, Rejected, Failed, FileFailed}
 use Rattle.cli_commands.specs.Inner.Ending.{EndsAfter, EndsOn, IsShown}
-use Rattle.cli_commands.specs.Program.{EndsBy}
+use Rattle.cli_commands.specs.Program.{AsksForProgress, EndsBy, MayWrite, ShowsProgress, input_of, names, output_of}
 
 -- a request that the words ask for, carried out
-pub carried_out : (words : List Text) (invocation : Invocation) (bytes old new : Option (List ℕ)) (may_fail : Invocation → Fault → Type 0) (ending : Ending) → AsksFor words invocation → EndsAfter invocation bytes old new (may_fail invocation) ending → EndsBy words bytes old new may_fail ending
-carried_out words invocation bytes old new may_fail Done asks is = inl (invocation, asks, is)
-carried_out words invocation bytes old new may_fail Rejected asks is = absurd is
-carried_out words invocation bytes old new may_fail (Failed fault is_reported) asks is = inl (invocation, asks, is.0, is.1)
+pub carried_out : (words : List Text) (request : Request) (read old new : Option Text → Option (List ℕ)) (may_fail : Option Text → Option Text → Invocation → Fault → Type 0) (ending : Ending) → AsksFor words request → EndsAfter request.invocation (read (input_of request)) (old (output_of request)) (new (output_of request)) (may_fail (input_of request) (output_of request) request.invocation) (names (input_of request) (output_of request)) ending → EndsBy words read old new may_fail ending
+carried_out words request read old new may_fail Done asks is = inl (request, asks, is)
+carried_out words request read old new may_fail Rejected asks is = absurd is
+carried_out words request read old new may_fail (Failed fault is_reported) asks is = inl (request, asks, is.0, is.1)
+carried_out words request read old new may_fail (FileFailed fault is_reported) asks is = (request, asks, is)
+
+-- a request writes the file that it names at most
+pub may_write : (words : List Text) (request : Request) (name : Option Text) → AsksFor words request → output_of request ≡ name → MayWrite words name
+may_write words request None asks is = tt
+may_write words request (Some name) asks is = (request, asks, is)
+
+-- a request may show a line of progress
+pub shows : {A : Type 0} (words : List Text) (request : Request) → AsksFor words request → A ⊎ ShowsProgress request.invocation → A ⊎ AsksForProgress words
+shows words request asks (inl same) = inl same
+shows words request asks (inr is) = inr (request, asks, is)
 
 no_help : (kind : ErrorKind) → kind ≡ OutOfMemory → kind ≡ DisplayHelp → ⊥
 no_help kind memory help = cc
@@ -31,9 +43,10 @@ shown words kind (inr among) (inl help) = inl (subst (λ k. IsAmong k (fault_of 
 shown words kind (inr among) (inr version) = inr (subst (λ k. IsAmong k (fault_of program_app words)) version among)
 
 -- words that have an error, explained
-pub explained : (words : List Text) (kind : ErrorKind) (bytes old new : Option (List ℕ)) (may_fail : Invocation → Fault → Type 0) (ending : Ending) → (kind ≡ OutOfMemory) ⊎ IsAmong kind (fault_of program_app words) → EndsOn kind ending → EndsBy words bytes old new may_fail ending
-explained words kind bytes old new may_fail Done has is = inr (shown words kind has is)
-explained words kind bytes old new may_fail Rejected (inl memory) is = absurd (is.2 memory)
-explained words kind bytes old new may_fail Rejected (inr among) is = (kind, among, is.0, is.1)
-explained words kind bytes old new may_fail (Failed fault is_reported) has (is, inl memory) = inr (is, inl memory)
-explained words kind bytes old new may_fail (Failed fault is_reported) has (is, inr shows) = inr (is, inr (shown words kind has shows))
+pub explained : (words : List Text) (kind : ErrorKind) (read old new : Option Text → Option (List ℕ)) (may_fail : Option Text → Option Text → Invocation → Fault → Type 0) (ending : Ending) → (kind ≡ OutOfMemory) ⊎ IsAmong kind (fault_of program_app words) → EndsOn kind ending → EndsBy words read old new may_fail ending
+explained words kind read old new may_fail Done has is = inr (shown words kind has is)
+explained words kind read old new may_fail Rejected (inl memory) is = absurd (is.2 memory)
+explained words kind read old new may_fail Rejected (inr among) is = (kind, among, is.0, is.1)
+explained words kind read old new may_fail (Failed fault is_reported) has (is, inl memory) = inr (is, inl memory)
+explained words kind read old new may_fail (Failed fault is_reported) has (is, inr shows) = inr (is, inr (shown words kind has shows))
+explained words kind read old new may_fail (FileFailed fault is_reported) has is = absurd is

@@ -1,5 +1,6 @@
 -- What no public contract reaches: how stations, lanes, shops, rows and endings are tied to the definitions above.
 pub mod Ending
+pub mod Filed
 pub mod Replay
 pub mod Shop
 pub mod Stations

@@ -16,3 +16,5 @@ pub use Rattle.jobs_csv.specs.Fault.{IsInputFault, fault_text}
 pub use Rattle.jobs_csv.specs.Jobs.{parse_jobs}
 pub use Rattle.jobs_csv.specs.Text.{file_text}
 pub use Rattle.cli_words.specs.CommandLine.{AreShopSizes}
+pub use Rattle.whole_file.specs.FileFault.{file_fault_text}
+pub use Rattle.whole_file.specs.Store.{KeepsFiles, KeepsOthers, begun_by, held_by}

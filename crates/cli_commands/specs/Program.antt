@@ -1,5 +1,5 @@
 -- What a call of the program does, by its words: which command, its answer, and how it ends.
-use Rattle.std.specs.Prelude.{◌≡◌, ◌⊎◌, ℕ, false, List, Option, Result, Ok, Err, IfSome}
+use Rattle.std.specs.Prelude.{◌≡◌, ◌⊎◌, ℕ, Bool, true, false, List, Option, None, Some, Result, Ok, Err, IfSome, is_some, option_map, string_bytes, ⊤}
 use Rattle.clap.specs.Words.{Text}
 use Rattle.jobs_csv.specs.declared.fault.Fault.{Fault}
 use Rattle.jobs_csv.specs.declared.fault.FaultKind.TheVariants as what
@@ -13,15 +13,18 @@ use Rattle.jobs_csv.specs.Replies.{reply_columns, reply_fields}
 use Rattle.jobs_csv.specs.Schedule.{parse_schedule}
 use Rattle.jobs_csv.specs.Text.{file_text}
 use Rattle.cli_words.specs.declared.invocation.Invocation.{Invocation}
+use Rattle.cli_words.specs.declared.invocation.Request.{Request}
 use Rattle.cli_words.specs.declared.invocation.Invocation.TheVariants as invocation
 use Rattle.cli_words.specs.CommandLine.{AsksFor, AsksForHelp, IsBadCommandLine}
 use Rattle.cli_commands.specs.declared.program.Ending.{Ending}
-use Rattle.cli_commands.specs.declared.program.Ending.TheVariants.{Done, Rejected, Failed}
+use Rattle.cli_commands.specs.declared.program.Ending.TheVariants.{Done, Rejected, Failed, FileFailed}
 use Rattle.cli_commands.specs.Answer.{IsAnswer, IsCommandFault, IsRunFault}
 use Rattle.cli_commands.specs.Place.{ArePlaced}
 use Rattle.cli_commands.specs.Replay.{AreReplayed}
 use Rattle.cli_commands.specs.Replies.{AreReplies}
 use Rattle.cli_commands.specs.Report.{AreReportRows}
+use Rattle.whole_file.specs.declared.file_fault.FileSide.{FileSide}
+use Rattle.whole_file.specs.declared.file_fault.FileSide.TheVariants.{Input, Output}
 
 -- the request is answered: jobs by their replies or by totals of them, commands by the first fit, a schedule by its events
 abbrev pub IsAnswerTo : Invocation → List ℕ → Option (List ℕ) → Option (List ℕ) → Result (Unit {0}) Fault → Type 0
@@ -36,23 +39,58 @@ IsFaultOf read_before read_after write_before write_after (invocation.Run shop) 
 IsFaultOf read_before read_after write_before write_after (invocation.Report shop) fault = IsRunFault read_before read_after write_before write_after fault
 IsFaultOf read_before read_after write_before write_after invocation fault = IsCommandFault read_before read_after write_before write_after fault
 
--- the words ask for a command, and this is its result on the bytes that it reads, where they are known
-abbrev pub IsResultOf : List Text → Option (List ℕ) → Option (List ℕ) → Option (List ℕ) → Result (Unit {0}) Fault → Type 0
-IsResultOf words bytes old new result = (invocation : Invocation) × AsksFor words invocation × IfSome bytes (λ b. IsAnswerTo invocation b old new result)
+-- the name of the file that a request reads, where it names one, and of the file that it writes
+abbrev pub input_of : Request → Option Text
+input_of request = option_map string_bytes request.files.input
 
--- the words ask for a command, and it failed for one of the reasons that it may have
-abbrev pub IsFailureOf : List Text → Option (List ℕ) → Option (List ℕ) → Option (List ℕ) → (Invocation → Fault → Type 0) → Fault → Type 0
-IsFailureOf words bytes old new may_fail fault = (invocation : Invocation) × AsksFor words invocation × IfSome bytes (λ b. IsAnswerTo invocation b old new (Err fault)) × may_fail invocation fault
+abbrev pub output_of : Request → Option Text
+output_of request = option_map string_bytes request.files.output
+
+-- of the names of the files that are read and written, there is the one of this side
+abbrev pub names : Option Text → Option Text → FileSide → Bool
+names input output Input = is_some input
+names input output Output = is_some output
+
+-- the fault is one that a request may have, by the counts of failed calls of the reader and of the writer, before
+-- and after; where a file is read or written in place of these, by the counts of that file
+pub record IsFaultIn (input output : Option Text) (read_before read_after write_before write_after : ℕ) (invocation : Invocation) (fault : Fault) : Type 0 where
+  pub reads : ℕ × ℕ
+  pub writes : ℕ × ℕ
+  pub of_reader : input ≡ None → reads ≡ (read_before, read_after)
+  pub of_writer : output ≡ None → writes ≡ (write_before, write_after)
+  pub is : IsFaultOf reads.0 reads.1 writes.0 writes.1 invocation fault
+
+-- the words ask for a request, and this is its result on the bytes that it reads, where they are known: what is
+-- read, and what the output holds before and after, depend on the files that it names
+abbrev pub IsResultOf : List Text → (Option Text → Option (List ℕ)) → (Option Text → Option (List ℕ)) → (Option Text → Option (List ℕ)) → Result (Unit {0}) Fault → Type 0
+IsResultOf words read old new result =
+    (request : Request) × AsksFor words request × IfSome (read (input_of request)) (λ bytes. IsAnswerTo request.invocation bytes (old (output_of request)) (new (output_of request)) result)
+
+-- the words ask for a request, and it failed for one of the reasons that it may have
+abbrev pub IsFailureOf : List Text → (Option Text → Option (List ℕ)) → (Option Text → Option (List ℕ)) → (Option Text → Option (List ℕ)) → (Option Text → Option Text → Invocation → Fault → Type 0) → Fault → Type 0
+IsFailureOf words read old new may_fail fault =
+    (request : Request) × AsksFor words request × IfSome (read (input_of request)) (λ bytes. IsAnswerTo request.invocation bytes (old (output_of request)) (new (output_of request)) (Err fault))
+    × may_fail (input_of request) (output_of request) request.invocation fault
+
+-- the words ask for a request with a file of this side
+abbrev pub AsksForFile : List Text → FileSide → Type 0
+AsksForFile words side = (request : Request) × AsksFor words request × (names (input_of request) (output_of request) side ≡ true)
+
+-- the words ask for a request that writes the file of this name, where there is a name
+abbrev pub MayWrite : List Text → Option Text → Type 0
+MayWrite words None = ⊤
+MayWrite words (Some name) = (request : Request) × AsksFor words request × (output_of request ≡ Some name)
 
 -- how a call of the program on these words ends: the command that they ask for is done, or help was
 -- asked for; the command line is bad; or the command failed, or memory was refused, or the help could
--- not be written
-abbrev pub EndsBy : List Text → Option (List ℕ) → Option (List ℕ) → Option (List ℕ) → (Invocation → Fault → Type 0) → Ending → Type 0
-EndsBy words bytes old new may_fail Done = IsResultOf words bytes old new (Ok tt) ⊎ AsksForHelp words
-EndsBy words bytes old new may_fail Rejected = IsBadCommandLine words
-EndsBy words bytes old new may_fail (Failed fault is_reported) =
-    IsFailureOf words bytes old new may_fail fault
+-- not be written; or a file that they name could not be had
+abbrev pub EndsBy : List Text → (Option Text → Option (List ℕ)) → (Option Text → Option (List ℕ)) → (Option Text → Option (List ℕ)) → (Option Text → Option Text → Invocation → Fault → Type 0) → Ending → Type 0
+EndsBy words read old new may_fail Done = IsResultOf words read old new (Ok tt) ⊎ AsksForHelp words
+EndsBy words read old new may_fail Rejected = IsBadCommandLine words
+EndsBy words read old new may_fail (Failed fault is_reported) =
+    IsFailureOf words read old new may_fail fault
     ⊎ (is_refusal fault.what ≡ false) × ((fault.what ≡ what.OutOfMemory) ⊎ AsksForHelp words)
+EndsBy words read old new may_fail (FileFailed fault is_reported) = AsksForFile words fault.side
 
 -- the request may show a line of progress
 abbrev pub ShowsProgress : Invocation → Type 0
@@ -62,14 +100,15 @@ ShowsProgress invocation = ⊥
 
 -- the words ask for a request that may show one
 abbrev pub AsksForProgress : List Text → Type 0
-AsksForProgress words = (invocation : Invocation) × AsksFor words invocation × ShowsProgress invocation
+AsksForProgress words = (request : Request) × AsksFor words request × ShowsProgress request.invocation
 
--- the words ask for a request, which reads an input
+-- the words ask for a request that reads standard input
 abbrev pub AsksForInput : List Text → Type 0
-AsksForInput words = (invocation : Invocation) × AsksFor words invocation
+AsksForInput words = (request : Request) × AsksFor words request × (request.files.input ≡ None)
 
 -- the exit status
 abbrev pub exit_status : Ending → ℕ
 exit_status Done = 0
 exit_status Rejected = 2
 exit_status (Failed fault is_reported) = status_of fault.what
+exit_status (FileFailed fault is_reported) = 3

@@ -2,6 +2,7 @@
 //! `program::run`, over any words, reader and writers.
 #![tactic(auto)]
 
+mod filed;
 mod lanes;
 mod output;
 mod place;

@@ -1,5 +1,5 @@
 //! From the words of a command line to the end of the program.
-ghost use Rattle.std.specs.Prelude.{◌≡◌, ◌⊎◌, ◌++◌, ◌∷◌, [], Bool, true, IfErr, IfSome, IsTrue, map, string_bytes};
+ghost use Rattle.std.specs.Prelude.{◌≡◌, ◌⊎◌, ◌++◌, ◌∷◌, [], ℕ, Bool, true, List, None, Option, map, string_bytes};
 ghost use Rattle.std.specs.Io.KnownBytes.{Appends};
 ghost use Rattle.std.specs.Process.{exit_status as status_of_process};
 ghost use Rattle.clap.specs.Words.{FailsBy, fault_of, kind_of};
@@ -7,21 +7,22 @@ ghost use Rattle.clap.specs.declared.error.kind.ErrorKind.TheVariants.{DisplayHe
 ghost use Rattle.jobs_csv.specs.Fault.{attribute, fault_text};
 ghost use Rattle.jobs_csv.specs.declared.fault.Fault.{Fault as TheFault};
 ghost use Rattle.cli_words.specs.CommandLine.{IsWithinLimits, program_app};
-ghost use Rattle.cli_commands.specs.Answer.{IsMetBeforeWriting};
 ghost use Rattle.cli_commands.specs.Inner.Ending.{EndsAfter, EndsOn};
-ghost use Rattle.cli_commands.specs.Program.{AsksForInput, AsksForProgress, EndsBy, IsAnswerTo, IsFaultOf, ShowsProgress, exit_status};
+ghost use Rattle.cli_commands.specs.Program.{AsksForInput, AsksForProgress, EndsBy, IsFaultIn, MayWrite, ShowsProgress, exit_status, input_of, names, output_of};
+ghost use Rattle.whole_file.specs.FileFault.{file_fault_text};
+ghost use Rattle.whole_file.specs.Store.{KeepsFiles, KeepsOthers, begun_by, held_by};
+ghost use Rattle.whole_file.specs.declared.file_fault.FileFault.{FileFault as TheFileFault};
 
-use crate::output::{Replies, Report};
-use crate::{place, replay, run};
+use crate::filed::{Stop, answer_from};
 use clap::error::ErrorKind;
-use cli_words::{Invocation, parse_args};
-use dispatcher::Plain;
+use cli_words::{Invocation, Request, parse_args};
 use jobs_csv::{Device, Fault, FaultKind};
 use std::alloc::Global;
 use std::io::{Read, Write};
 use std::process::ExitCode;
 use std::sync::Wait;
 use std::thread::Threads;
+use whole_file::{FileFault, FileStore};
 
 /// How a call of the program ends.
 #[derive(Clone, Copy, Debug, PartialEq, Eq)]
@@ -32,6 +33,8 @@ pub enum Ending {
     Rejected,
     /// The command failed. `is_reported` says whether the error line was written.
     Failed { fault: Fault, is_reported: bool },
+    /// A file of the command could not be had. `is_reported` says whether the error line was written.
+    FileFailed { fault: FileFault, is_reported: bool },
 }
 
 impl Ending {
@@ -43,6 +46,7 @@ impl Ending {
             Ending::Done => 0,
             Ending::Rejected => 2,
             Ending::Failed { fault, .. } => fault.status(),
+            Ending::FileFailed { .. } => 3,
         }
     }
 }
@@ -64,50 +68,26 @@ fn report_fault<E: Write>(fault: Fault, errors: &mut E) -> Ending
     Ending::Failed { fault, is_reported }
 }
 
-// Does what the request asks for.
-fn answer<H, R, W, P>(
-    rt: &H,
-    alloc: Global,
-    invocation: Invocation,
-    reader: &mut R,
-    writer: &mut W,
-    terminal: &mut Option<P>,
-) -> Result<(), Fault>
-where
-    H: Threads + Wait + Clone + Send + Sync + 'static,
-    R: Read + Device,
-    W: Write + Device,
-    P: Write + Send + Drop + 'static,
-    requires { IsWithinLimits invocation }
-    ensures answered { IfSome (R.remaining reader.old) (λ bytes.
-        IsAnswerTo invocation bytes (W.contents writer.old) (W.contents writer.new) result) }
-    ensures failed { IfErr result
-        (IsFaultOf (R.failures reader.old) (R.failures reader.new)
-        (W.failures writer.old) (W.failures writer.new) invocation) }
-    ensures untouched { IfErr result (λ fault. IsMetBeforeWriting fault → writer.new ≡ writer.old) }
-    ensures shown { (terminal.new ≡ terminal.old) ⊎ ShowsProgress invocation }
+// Reports in one line that a file could not be had.
+fn report_file<E: Write>(file: FileFault, errors: &mut E) -> Ending
+    ensures failed { (is_reported : Bool) × (result ≡ Ending.FileFailed file is_reported) }
+    ensures line { result ≡ Ending.FileFailed file true → Appends
+        (E.contents errors.old) (E.contents errors.new) (file_fault_text file ++ 10 ∷ []) }
 {
-    match invocation {
-        Invocation::Run(options) => {
-            run::answer_with_progress::<Replies, H, Plain, R, W, P>(
-                rt, alloc, options, &Plain, reader, writer, terminal,
-            )
-        }
-        Invocation::Report(options) => {
-            run::answer_with_progress::<Report, H, Plain, R, W, P>(
-                rt, alloc, options, &Plain, reader, writer, terminal,
-            )
-        }
-        Invocation::Place { n } => place::place_on(alloc, n, reader, writer),
-        Invocation::Replay { n, stations } => replay::replay_on(alloc, n, stations, reader, writer),
+    let is_reported = errors.writeln(file).is_ok();
+    Ending::FileFailed {
+        fault: file,
+        is_reported,
     }
 }
 
-// Does what the request asks for, and reports its fault in one line.
-fn carry_out<H, R, W, E, P>(
+// Does what the request asks for, and reports in one line why it could not.
+#[tactic(auto, using(crate::proofs::FiledLemmas::ended_by_fault, crate::proofs::FiledLemmas::ended_by_file))]
+fn carry_out<H, S, R, W, E, P>(
     rt: &H,
     alloc: Global,
-    invocation: Invocation,
+    request: &Request,
+    store: &mut S,
     reader: &mut R,
     writer: &mut W,
     errors: &mut E,
@@ -115,23 +95,36 @@ fn carry_out<H, R, W, E, P>(
 ) -> Ending
 where
     H: Threads + Wait + Clone + Send + Sync + 'static,
+    S: FileStore,
     R: Read + Device,
     W: Write + Device,
     E: Write,
     P: Write + Send + Drop + 'static,
-    requires { IsWithinLimits invocation }
-    ensures ends { EndsAfter invocation (R.remaining reader.old)
-        (W.contents writer.old) (W.contents writer.new)
-        (IsFaultOf (R.failures reader.old) (R.failures reader.new)
-        (W.failures writer.old) (W.failures writer.new) invocation) result }
+    requires { IsWithinLimits request.now.invocation }
+    ensures ends { EndsAfter request.now.invocation
+        (held_by (S.bytes store.old) (R.remaining reader.old) (input_of request.now))
+        (begun_by S.fresh (W.contents writer.old) (output_of request.now))
+        (held_by (S.bytes store.new) (W.contents writer.new) (output_of request.now))
+        (IsFaultIn (input_of request.now) (output_of request.now)
+        (R.failures reader.old) (R.failures reader.new)
+        (W.failures writer.old) (W.failures writer.new) request.now.invocation)
+        (names (input_of request.now) (output_of request.now)) result }
     ensures line { (fault : TheFault) → result ≡ Ending.Failed fault true
         → Appends (E.contents errors.old) (E.contents errors.new) (fault_text fault ++ 10 ∷ []) }
+    ensures file_line { (fault : TheFileFault) → result ≡ Ending.FileFailed fault true → Appends
+        (E.contents errors.old) (E.contents errors.new) (file_fault_text fault ++ 10 ∷ []) }
     ensures quiet { result ≡ Ending.Done → errors.new ≡ errors.old }
-    ensures shown { (terminal.new ≡ terminal.old) ⊎ ShowsProgress invocation }
+    ensures others { KeepsOthers (output_of request.now) (S.bytes store.old) (S.bytes store.new) }
+    ensures kept { (result ≡ Ending.Done) ⊎ KeepsFiles (S.bytes store.old) (S.bytes store.new) }
+    ensures shown { (terminal.new ≡ terminal.old) ⊎ ShowsProgress request.now.invocation }
 {
-    match answer(rt, alloc, invocation, reader, writer, terminal) {
-        Ok(()) => Ending::Done,
-        Err(fault) => report_fault(fault, errors),
+    let stop = match answer_from(rt, alloc, request, store, reader, writer, terminal) {
+        Ok(()) => return Ending::Done,
+        Err(stop) => stop,
+    };
+    match stop {
+        Stop::Fault(fault) => return report_fault(fault, errors),
+        Stop::File(fault) => return report_file(fault, errors),
     }
 }
 
@@ -150,10 +143,16 @@ fn awaited(invocation: Invocation) -> &'static str {
     }
 }
 
-// Says what a request waits for, where somebody is there to type it. A failed write of it is no fault.
-fn announce<Q: Write>(invocation: Invocation, prompt: &mut Option<Q>) {
+// Says what a request that names no file to read waits for, where somebody is there to type it. A failed
+// write of it is no fault.
+fn announce<Q: Write>(request: &Request, prompt: &mut Option<Q>)
+    ensures { (prompt.new ≡ prompt.old) ⊎ (request.now.files.input ≡ None) }
+{
+    if request.files.input.is_some() {
+        return;
+    }
     if let Some(typist) = prompt {
-        let _written = typist.writeln(awaited(invocation));
+        let _written = typist.writeln(awaited(request.invocation));
     }
 }
 
@@ -199,14 +198,18 @@ fn explain<W: Write + Device, E: Write>(
 
 /// Does what the words of a command line ask for, of which the first is the program's name.
 ///
+/// The reader and the writer stand for the files that the words do not name. A file that is written is
+/// a draft until all of it is there, so it is whole or as it was.
+///
 /// The line of a fault and what is wrong with a command line go to `errors`. Jobs are answered on
 /// threads of the runtime. The terminal, where there is one, shows how far a long run is while it
 /// works, unless the words ask for none of that. The prompt is there where the input is typed, and is
-/// told what is waited for once the words ask for a command.
-pub fn run<H, R, W, E, P, Q>(
+/// told what is waited for once the words ask for a command that reads no file.
+pub fn run<H, S, R, W, E, P, Q>(
     rt: &H,
     alloc: Global,
     words: &[String],
+    store: &mut S,
     reader: &mut R,
     writer: &mut W,
     errors: &mut E,
@@ -215,27 +218,35 @@ pub fn run<H, R, W, E, P, Q>(
 ) -> Ending
 where
     H: Threads + Wait + Clone + Send + Sync + 'static,
+    S: FileStore,
     R: Read + Device,
     W: Write + Device,
     E: Write,
     P: Write + Send + Drop + 'static,
     Q: Write,
-    ensures ends { EndsBy (map string_bytes words.now) (R.remaining reader.old)
-        (W.contents writer.old) (W.contents writer.new)
-        (IsFaultOf (R.failures reader.old) (R.failures reader.new)
+    ensures ends { EndsBy (map string_bytes words.now)
+        (held_by (S.bytes store.old) (R.remaining reader.old))
+        (begun_by S.fresh (W.contents writer.old))
+        (held_by (S.bytes store.new) (W.contents writer.new))
+        (λ input output. IsFaultIn input output (R.failures reader.old) (R.failures reader.new)
         (W.failures writer.old) (W.failures writer.new)) result }
     ensures line { (fault : TheFault) → result ≡ Ending.Failed fault true
         → Appends (E.contents errors.old) (E.contents errors.new) (fault_text fault ++ 10 ∷ []) }
+    ensures file_line { (fault : TheFileFault) → result ≡ Ending.FileFailed fault true → Appends
+        (E.contents errors.old) (E.contents errors.new) (file_fault_text fault ++ 10 ∷ []) }
     ensures quiet { result ≡ Ending.Done → errors.new ≡ errors.old }
     ensures rejected { result ≡ Ending.Rejected
         → (reader.new ≡ reader.old) × (writer.new ≡ writer.old) }
+    ensures others { (name : Option (List ℕ)) × MayWrite (map string_bytes words.now) name
+        × KeepsOthers name (S.bytes store.old) (S.bytes store.new) }
+    ensures kept { (result ≡ Ending.Done) ⊎ KeepsFiles (S.bytes store.old) (S.bytes store.new) }
     ensures shown { (terminal.new ≡ terminal.old) ⊎ AsksForProgress (map string_bytes words.now) }
     ensures prompted { (prompt.new ≡ prompt.old) ⊎ AsksForInput (map string_bytes words.now) }
 {
     let error = match parse_args(alloc, words) {
-        Ok(invocation) => {
-            announce(invocation, prompt);
-            return carry_out(rt, alloc, invocation, reader, writer, errors, terminal);
+        Ok(request) => {
+            announce(&request, prompt);
+            return carry_out(rt, alloc, &request, store, reader, writer, errors, terminal);
         }
         Err(error) => error,
     };

@@ -5,4 +5,4 @@ mod command_line;
 mod invocation;
 
 pub use command_line::parse_args;
-pub use invocation::{Invocation, ShopOptions};
+pub use invocation::{FileNames, Invocation, Request, ShopOptions};

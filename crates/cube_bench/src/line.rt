@@ -10,7 +10,7 @@ use crate::jobs::jobs_of;
 use crate::outcome::{Measured, Stopped, nanos_since};
 use calls::{Feeding, Taking, Timed, room_for_times, submit, take, times_of_all};
 use cube_shape::{MAX_CAPACITY, MAX_LANES, MAX_PASSES};
-use job_queue::{JobLine, Opened, QueuedJob, Refused, Rest, Taken};
+use job_queue::{JobLine, Opened, QueuedJob, Refused, Rest, Sizes, Taken};
 use locked_line::LockedLine;
 use ruled_line::RuledLine;
 use std::alloc::Global;
@@ -35,17 +35,48 @@ fn jobs_of_all(alloc: Global, invocation: Invocation) -> Option<Vec<Mutex<Feedin
     Some(all)
 }
 
+// An empty list with room for `count` jobs.
+fn room(alloc: Global, times_calls: bool, count: usize) -> Option<Taking> {
+    let Ok(jobs) = Vec::with_capacity(alloc, count) else {
+        return None;
+    };
+    let times = room_for_times(alloc, times_calls, count)?;
+    Some(Timed { jobs, times })
+}
+
 // A list with room for `count` jobs for each pass.
 fn room_of_all(alloc: Global, invocation: Invocation, count: usize) -> Option<Vec<Mutex<Taking>>> {
     let mut all = Vec::new(alloc);
     for _ in 0..invocation.sizes.passes {
-        let taking = Timed {
-            jobs: Vec::with_capacity(alloc, count).ok()?,
-            times: room_for_times(alloc, invocation.times_calls, count)?,
-        };
+        let taking = room(alloc, invocation.times_calls, count)?;
         all.push(Mutex::new(taking)).ok()?;
     }
     Some(all)
+}
+
+// Hands in the next job, which stays the next one where the line is full: whether there may be more to do.
+fn feed_next<R: Wait + Clock, L: JobLine>(
+    rt: &R,
+    line: &L,
+    lane: &mut L::Lane,
+    feeding: &mut Feeding,
+) -> bool
+    requires lane { L.is_lane (L.id line.now) lane.old }
+    requires machine { (L.id line.now).sizes.machine ≡ MACHINE }
+    ensures { L.is_lane (L.id line.now) lane.new }
+{
+    let Some(job) = feeding.jobs.pop_front() else {
+        return false;
+    };
+    if job.machine() != MACHINE || job.lane() != L::lane_number(lane) {
+        return false;
+    }
+    let Err((job, refused)) = submit(rt, line, lane, job, &mut feeding.times) else {
+        return true;
+    };
+    feeding.jobs.push_front_reserved(job);
+    yield_now();
+    matches!(refused, Refused::Full)
 }
 
 // Hands in the jobs, and tries again where the line is full.
@@ -55,22 +86,38 @@ fn feed<R: Wait + Clock, L: JobLine>(rt: &R, line: &L, lane: &mut L::Lane, feedi
     ensures { L.is_lane (L.id line.now) lane.new }
 {
     for _ in rt.forever() {
-        let Some(job) = feeding.jobs.pop_front() else {
+        if !feed_next(rt, line, lane, feeding) {
             return;
-        };
-        if job.machine() != MACHINE || job.lane() != L::lane_number(lane) {
-            return;
-        }
-        match submit(rt, line, lane, job, &mut feeding.times) {
-            Ok(_) => {}
-            Err((job, Refused::Full)) => {
-                feeding.jobs.push_front_reserved(job);
-                yield_now();
-            }
-            Err((_, Refused::Closed { .. } | Refused::LaneSpent)) => return,
         }
     }
     unreachable!()
+}
+
+// Takes the next job, where there is one and the list has fewer than `count`: whether there may be more to do.
+fn drain_next<R: Wait + Clock, L: JobLine>(
+    rt: &R,
+    line: &L,
+    pass: &mut L::Pass,
+    taking: &mut Taking,
+    count: usize,
+) -> bool
+    requires { L.is_pass (L.id line.now) pass.old }
+    ensures { L.is_pass (L.id line.now) pass.new }
+{
+    if taking.jobs.len() >= count || taking.jobs.reserve(1).is_err() {
+        return false;
+    }
+    match take(rt, line, pass, &mut taking.times) {
+        Taken::Job(id, job) => {
+            taking.jobs.push_reserved(QueuedJob { id, job });
+            true
+        }
+        Taken::EmptyNow => {
+            yield_now();
+            true
+        }
+        Taken::Ended(_) => false,
+    }
 }
 
 // Takes this many jobs, for which the list has room.
@@ -85,13 +132,8 @@ fn drain<R: Wait + Clock, L: JobLine>(
     ensures { L.is_pass (L.id line.now) pass.new }
 {
     for _ in rt.forever() {
-        if taking.jobs.len() >= count || taking.jobs.reserve(1).is_err() {
+        if !drain_next(rt, line, pass, taking, count) {
             return;
-        }
-        match take(rt, line, pass, &mut taking.times) {
-            Taken::Job(id, job) => taking.jobs.push_reserved(QueuedJob { id, job }),
-            Taken::EmptyNow => yield_now(),
-            Taken::Ended(_) => return,
         }
     }
     unreachable!()
@@ -189,6 +231,53 @@ fn taken_of_all(rest: &Rest) -> u64 {
     taken.wrapping_sub(rest.jobs.len() as u64)
 }
 
+// How many jobs each pass takes.
+fn share(invocation: Invocation) -> usize
+    requires lanes { invocation.sizes.lanes ≤ MAX_LANES }
+    requires passes { 0 < invocation.sizes.passes }
+    requires jobs { invocation.jobs ≤ MAX_JOBS }
+{
+    invocation.jobs * invocation.sizes.lanes as usize / invocation.sizes.passes as usize
+}
+
+// Runs the threads on a new line, where each pass takes `count` jobs: the number of jobs that were taken, and the
+// nanoseconds that it took.
+fn run_line<R: Threads + Wait + Sync + Clock, L: JobLine + Sync>(
+    rt: &R,
+    alloc: Global,
+    sizes: Sizes,
+    jobs: &[Mutex<Feeding>],
+    taken: &[Mutex<Taking>],
+    count: usize,
+) -> Option<(u64, u128)>
+where
+    L::Lane: Send,
+    L::Pass: Send,
+    L::End: Send,
+    L::Closer: Send,
+    L::Note: Send,
+    requires lanes { sizes.lanes ≤ MAX_LANES }
+    requires passes { (0 < sizes.passes) × (sizes.passes ≤ MAX_PASSES) }
+    requires capacity { (0 < sizes.capacity) × (sizes.capacity ≤ MAX_CAPACITY) }
+    requires machine { sizes.machine ≡ MACHINE }
+{
+    let Ok(opened) = L::open(alloc, sizes) else {
+        return None;
+    };
+    let Opened {
+        line,
+        mut lanes,
+        mut passes,
+        closer,
+    } = opened;
+    let start = Instant::now(rt);
+    run_threads(rt, &line, &mut lanes, &mut passes, jobs, taken, count);
+    let nanos = nanos_since(rt, start);
+    let note = line.close(rt, closer);
+    let rest = line.into_rest(rt, lanes, passes, note);
+    Some((taken_of_all(&rest), nanos?))
+}
+
 // Runs the threads on a new line: the number of jobs that were taken, the nanoseconds that it took, and
 // those of each call in order, where the calls were timed.
 fn measure_line<R: Threads + Wait + Sync + Clock, L: JobLine + Sync>(
@@ -200,6 +289,8 @@ where
     L::Lane: Send,
     L::Pass: Send,
     L::End: Send,
+    L::Closer: Send,
+    L::Note: Send,
     requires lanes { invocation.sizes.lanes ≤ MAX_LANES }
     requires passes { (0 < invocation.sizes.passes) × (invocation.sizes.passes ≤ MAX_PASSES) }
     requires capacity { (0 < invocation.sizes.capacity)
@@ -207,33 +298,17 @@ where
     requires machine { invocation.sizes.machine ≡ MACHINE }
     requires jobs { invocation.jobs ≤ MAX_JOBS }
 {
-    let Invocation {
-        sizes,
-        jobs: each,
-        ..
-    } = invocation;
-    let count = each * sizes.lanes as usize / sizes.passes as usize;
+    let count = share(invocation);
     let jobs = jobs_of_all(alloc, invocation)?;
     let taken = room_of_all(alloc, invocation, count)?;
-    let Ok(opened) = L::open(alloc, sizes) else {
-        return None;
-    };
-    let Opened {
-        line,
-        mut lanes,
-        mut passes,
-        closer,
-    } = opened;
-    let start = Instant::now(rt);
-    run_threads(rt, &line, &mut lanes, &mut passes, &jobs, &taken, count);
-    let nanos = nanos_since(rt, start);
-    let note = line.close(rt, closer);
-    let rest = line.into_rest(rt, lanes, passes, note);
+    let (count, nanos) = run_line::<R, L>(rt, alloc, invocation.sizes, &jobs, &taken, count)?;
+    let submits = times_of_all(rt, alloc, &jobs)?;
+    let takes = times_of_all(rt, alloc, &taken)?;
     Some(Measured {
-        count: taken_of_all(&rest),
-        nanos: Some(nanos?),
-        submits: times_of_all(rt, alloc, &jobs)?,
-        takes: times_of_all(rt, alloc, &taken)?,
+        count,
+        nanos: Some(nanos),
+        submits,
+        takes,
     })
 }
 

@@ -40,7 +40,6 @@ impl Measured {
 }
 
 /// Why nothing was measured.
-#[derive(Clone, Copy, Debug, PartialEq, Eq)]
 pub enum Stopped {
     /// The words ask for no measurement.
     BadWords,

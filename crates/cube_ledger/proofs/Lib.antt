@@ -1,4 +1,2 @@
 pub mod TotalLemmas
-pub mod RegionLemmas
 pub mod RunLemmas
-pub mod AncestorLemmas

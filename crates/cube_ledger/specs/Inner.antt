@@ -1,3 +1,2 @@
 -- Definitions that only private contracts and proofs use.
 pub mod Group
-pub mod Largest

@@ -1,5 +1,3 @@
 pub mod Ledger
-pub mod Occupancy
 pub mod Inner
-pub use Rattle.floors.specs.Floor.{IsWhollyFree}
 pub use Rattle.histories.specs.Sums.{below}

@@ -21,7 +21,7 @@ use Rattle.cube_tree.specs.InnerEnds.{AreThere, IsGone}
 use Rattle.cube_tree.specs.Ends.{HasNumberBelow, IsMissing, IsWhole}
 use Rattle.tree_steps.proofs.AloneLemmas.{any_of_all, entry_there}
 use Rattle.cube_tree.specs.Handles.{station_entry}
-use Rattle.cube_tree.specs.declared.handles.Station.{Station}
+use Rattle.cube_tree.specs.declared.handles.TreeStation.{TreeStation}
 use Rattle.cube_tree.specs.Seats.{IsSeatOf}
 use Rattle.cube_tree.specs.InnerSolo.{IsGoneBelow}
 use Rattle.cube_tree.proofs.HandleLemmas.{HasRetired}
@@ -81,12 +81,12 @@ pub idle_more : {number : ℕ} (m own new : Known) → IsSeatOf number Idle own 
 idle_more m own new seat is idle = subst (λ (x : Known). All (λ e. e.phase ≡ Idle) x.0.stations) (sym is)
     (All-append (λ e. e.phase ≡ Idle) m.0.stations own.0.stations idle (subst (All (λ e. e.phase ≡ Idle)) (sym seat.one) (All-cons (λ e. e.phase ≡ Idle) (first_of own) [] seat.phase_is (All-nil (λ e. e.phase ≡ Idle)))))
 
-map_append : (l : List Station) (x : Station) → map station_entry (l ++ x ∷ []) ≡ map station_entry l ++ station_entry x ∷ []
+map_append : (l : List TreeStation) (x : TreeStation) → map station_entry (l ++ x ∷ []) ≡ map station_entry l ++ station_entry x ∷ []
 map_append [] x = refl
 map_append (y ∷ l) x = ap (λ es. station_entry y ∷ es) (map_append l x)
 
 -- a station that was in the list is with the seat
-pub there_more : {number : ℕ} (s : ℕ) (m own new : Known) (before after : List Station) (x : Station) (entry : Entry) → own.0.stations ≡ entry ∷ [] → entry.station ≡ number → new ≡ (joined m.0 own.0, m.1) → before ≡ after ++ x ∷ [] → (station_entry x).station ≡ number
+pub there_more : {number : ℕ} (s : ℕ) (m own new : Known) (before after : List TreeStation) (x : TreeStation) (entry : Entry) → own.0.stations ≡ entry ∷ [] → entry.station ≡ number → new ≡ (joined m.0 own.0, m.1) → before ≡ after ++ x ∷ [] → (station_entry x).station ≡ number
     → times s new.0.stations + times s (map station_entry after) ≡ times s m.0.stations + times s (map station_entry before)
 there_more {number = number} s m own new before after x entry one number_is is popped same =
     let first : times s new.0.stations ≡ times s m.0.stations + times s own.0.stations = ap (λ (y : Known). times s y.0.stations) is ∙ times-append s m.0.stations own.0.stations in
@@ -95,28 +95,28 @@ there_more {number = number} s m own new before after x entry one number_is is p
     let last : times s (station_entry x ∷ []) ≡ cond (eqb number s) 1 0 + 0 = ap (λ a. cond (eqb a s) 1 0 + 0) same in
     omega (arith, first, own_is, list, last)
 
-pub all_more : {number : ℕ} (s : ℕ) (m own new : Known) (before after : List Station) (x : Station) (entry : Entry) → own.0.stations ≡ entry ∷ [] → entry.station ≡ number → new ≡ (joined m.0 own.0, m.1) → before ≡ after ++ x ∷ [] → (station_entry x).station ≡ number
+pub all_more : {number : ℕ} (s : ℕ) (m own new : Known) (before after : List TreeStation) (x : TreeStation) (entry : Entry) → own.0.stations ≡ entry ∷ [] → entry.station ≡ number → new ≡ (joined m.0 own.0, m.1) → before ≡ after ++ x ∷ [] → (station_entry x).station ≡ number
     → 0 < times s m.0.stations + times s (map station_entry before) → 0 < times s new.0.stations + times s (map station_entry after)
 all_more s m own new before after x entry one number_is is popped same had =
     let sums = there_more s m own new before after x entry one number_is is popped same in omega (arith, had, sums)
 
 -- no station is left in the list
-pub none_left : (l : List Station) (s n most : ℕ) → length l ≡ 0 → n + times s (map station_entry l) ≡ most → n ≡ most
+pub none_left : (l : List TreeStation) (s n most : ℕ) → length l ≡ 0 → n + times s (map station_entry l) ≡ most → n ≡ most
 none_left [] s n most empty sum = omega (arith, sum)
 none_left (x ∷ l) s n most empty sum = absurd (omega (arith, empty))
 
 -- as many stations as there are, none of them twice, are all of them
-as_total : (s : ℕ) (l : List Station) → times s (map station_entry l) ≡ total (λ x. is_at s (station_entry x).station) l
+as_total : (s : ℕ) (l : List TreeStation) → times s (map station_entry l) ≡ total (λ x. is_at s (station_entry x).station) l
 as_total s [] = refl
 as_total s (x ∷ l) = ap (λ n. cond (eqb (station_entry x).station s) 1 0 + n) (as_total s l)
 
-each_below : (count : ℕ) (l : List Station) → All (HasNumberBelow count) l → AllByRecursion (λ x. (station_entry x).station < count) l
+each_below : (count : ℕ) (l : List TreeStation) → All (HasNumberBelow count) l → AllByRecursion (λ x. (station_entry x).station < count) l
 each_below count [] all = tt
 each_below count (x ∷ l) all = (All-head (HasNumberBelow count) x l all, each_below count l (All-tail (HasNumberBelow count) x l all))
 
-pub everyone_there : (count : ℕ) (l : List Station) (m : Known) → All (HasNumberBelow count) l → length l ≡ count → AreThere l m → AreOnce m.0.stations → (s : ℕ) → s < count → 0 < times s m.0.stations
+pub everyone_there : (count : ℕ) (l : List TreeStation) (m : Known) → All (HasNumberBelow count) l → length l ≡ count → AreThere l m → AreOnce m.0.stations → (s : ℕ) → s < count → 0 < times s m.0.stations
 everyone_there count l m below long there once s within =
-    let one = everyone (λ (x : Station). (station_entry x).station) count l (each_below count l below) (λ k. omega (arith, as_total k l, there k, once k)) long s within in
+    let one = everyone (λ (x : TreeStation). (station_entry x).station) count l (each_below count l below) (λ k. omega (arith, as_total k l, there k, once k)) long s within in
     omega (arith, one, as_total s l, there s)
 
 -- ---- all stations of one seat have retired, one after another

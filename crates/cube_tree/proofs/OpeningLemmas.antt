@@ -7,7 +7,7 @@ use Rattle.tree_steps.specs.Steps.{Known, without_first, only_first}
 use Rattle.cube_tree.specs.Seats.{IsSeatOf, IsBare}
 use Rattle.cube_tree.specs.Ends.{HasAll}
 use Rattle.cube_tree.specs.Handles.{station_entry}
-use Rattle.cube_tree.specs.declared.handles.Station.{Station}
+use Rattle.cube_tree.specs.declared.handles.TreeStation.{TreeStation}
 
 -- a seat with so many idle stations, from a number on
 abbrev pub idle_seat : ℕ → ℕ → Known
@@ -46,11 +46,11 @@ idle_more a (suc count) = ap (λ es. idle_entry a ∷ es) (idle_more (suc a) cou
     moved : (b c : ℕ) → suc b + c ≡ b + suc c
     moved b c = omega arith
 
-map_more : (l : List Station) (s : Station) → map station_entry (l ++ s ∷ []) ≡ map station_entry l ++ station_entry s ∷ []
+map_more : (l : List TreeStation) (s : TreeStation) → map station_entry (l ++ s ∷ []) ≡ map station_entry l ++ station_entry s ∷ []
 map_more [] s = refl
 map_more (t ∷ l) s = ap (λ es. station_entry t ∷ es) (map_more l s)
 
-pub dealt_more : (l : List Station) (s : Station) (number : ℕ) → map station_entry l ≡ idle_entries 0 number → station_entry s ≡ idle_entry number → map station_entry (l ++ s ∷ []) ≡ idle_entries 0 (number + 1)
+pub dealt_more : (l : List TreeStation) (s : TreeStation) (number : ℕ) → map station_entry l ≡ idle_entries 0 number → station_entry s ≡ idle_entry number → map station_entry (l ++ s ∷ []) ≡ idle_entries 0 (number + 1)
 dealt_more l s number dealt is =
     map_more l s ∙ ap (λ es. es ++ station_entry s ∷ []) dealt ∙ ap (λ e. idle_entries 0 number ++ e ∷ []) (is ∙ ap idle_entry (zero_more number)) ∙ sym (idle_more 0 number) ∙ ap (idle_entries 0) (next number)
   where
@@ -68,5 +68,5 @@ idle_there s a (suc count) from below = elim (cases_eq a s) [
   | inr other ↦ let later = idle_there s (suc a) count (omega (arith, from, other)) (omega (arith, below)) in omega (arith, later)
 ]
 
-pub dealt_all : (count : ℕ) (l : List Station) → map station_entry l ≡ idle_entries 0 count → HasAll count l
+pub dealt_all : (count : ℕ) (l : List TreeStation) → map station_entry l ≡ idle_entries 0 count → HasAll count l
 dealt_all count l is s below = subst (λ es. 0 < times s es) (sym is) (idle_there s 0 count (omega arith) (omega (arith, below)))

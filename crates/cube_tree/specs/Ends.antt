@@ -2,7 +2,7 @@
 use Rattle.std.specs.Prelude.{◌≡◌, ℕ, ◌+◌, ◌^◌, ◌<◌, ◌↔◌, List, ◌∷◌, map, vec_len, slice_index}
 use Rattle.status_word.specs.Word.{IsSet}
 use Rattle.tree_steps.specs.Rule.{times}
-use Rattle.cube_tree.specs.declared.handles.Station.{Station}
+use Rattle.cube_tree.specs.declared.handles.TreeStation.{TreeStation}
 use Rattle.tree_steps.specs.Tree.{id_of}
 use Rattle.cube_tree.specs.declared.handles.Cube.{Cube}
 use Rattle.cube_tree.specs.declared.handles.FreeMachine.{FreeMachine}
@@ -10,11 +10,11 @@ use Rattle.cube_tree.specs.declared.handles.RollReader.{RollReader}
 use Rattle.cube_tree.specs.Handles.{station_entry}
 
 -- each station below the count is in the list
-abbrev pub HasAll : ℕ → List Station → Type 0
+abbrev pub HasAll : ℕ → List TreeStation → Type 0
 HasAll count stations = (s : ℕ) → s < count → 0 < times s (map station_entry stations)
 
 -- the number of the station is below the count
-abbrev pub HasNumberBelow : ℕ → Station → Type 0
+abbrev pub HasNumberBelow : ℕ → TreeStation → Type 0
 HasNumberBelow count station = (station_entry station).station < count
 
 -- the stations below the count whose bit a load of the roll found clear

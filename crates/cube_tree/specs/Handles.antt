@@ -16,7 +16,7 @@ use Rattle.tree_steps.specs.Answer.{IsAnswered, ancestor_of}
 use Rattle.tree_steps.specs.Tree.{id_of, size_of}
 use Rattle.atomic_table.specs.Seated.{TableId}
 use Rattle.cube_tree.specs.declared.handles.Cube.{Cube}
-use Rattle.cube_tree.specs.declared.handles.Station.{Station}
+use Rattle.cube_tree.specs.declared.handles.TreeStation.{TreeStation}
 use Rattle.cube_tree.specs.declared.handles.RetiredStation.{RetiredStation}
 use Rattle.cube_tree.specs.declared.handles.Subcube.{Subcube}
 
@@ -31,7 +31,7 @@ abbrev pub loads_of : Cube → List ℕ
 loads_of cube = cube.seat.me.0.loads
 
 -- a station's record: its number, its phase and its trail, the newest event first
-abbrev pub station_entry : Station → Entry
+abbrev pub station_entry : TreeStation → Entry
 station_entry station = first_of station.seat.me
 
 abbrev pub subcube_entry : Subcube → Entry
@@ -50,11 +50,11 @@ pub record IsSameCube (old new : Cube) : Type 0 where
   pub size : cube_size new ≡ cube_size old
 
 -- the station steps on the table
-abbrev pub HasTable : TableId → Station → Type 0
+abbrev pub HasTable : TableId → TreeStation → Type 0
 HasTable id station = station.seat.table_id ≡ id
 
 -- the handle is one of this cube
-abbrev pub IsStationOf : Cube → Station → Type 0
+abbrev pub IsStationOf : Cube → TreeStation → Type 0
 IsStationOf cube station = HasTable (id_of cube.tree) station
 
 abbrev pub IsSubcubeOf : Cube → Subcube → Type 0
@@ -93,7 +93,7 @@ pub record IsRefusedTry (n node : ℕ) (old new : Entry) (why : Why) : Type 0 wh
 
 -- it has given back the region of a node: it made the events of one release and no other, and of
 -- those at most 1 + 5 j, and is idle again
-pub record GivesBack (cube : Cube) (node : ℕ) (old : Entry) (station : Station) : Type 0 where
+pub record GivesBack (cube : Cube) (node : ℕ) (old : Entry) (station : TreeStation) : Type 0 where
   pub of_cube : IsStationOf cube station
   pub number : (station_entry station).station ≡ old.station
   pub makes : Makes (entry_in (Leaving node) old) (station_entry station)

@@ -4,7 +4,7 @@ use Rattle.cube_core.specs.declared.phase.Phase.TheVariants.{Retired}
 use Rattle.tree_steps.specs.declared.view.Entry.{Entry}
 use Rattle.tree_steps.specs.Rule.{times}
 use Rattle.tree_steps.specs.Steps.{Known}
-use Rattle.cube_tree.specs.declared.handles.Station.{Station}
+use Rattle.cube_tree.specs.declared.handles.TreeStation.{TreeStation}
 use Rattle.cube_tree.specs.Handles.{station_entry}
 
 -- the station has retired
@@ -12,5 +12,5 @@ abbrev pub IsGone : Entry → Type 0
 IsGone e = e.phase ≡ Retired
 
 -- each station steps with the seat as often as it is in the list
-abbrev pub AreThere : List Station → Known → Type 0
+abbrev pub AreThere : List TreeStation → Known → Type 0
 AreThere stations m = (s : ℕ) → times s m.0.stations ≡ times s (map station_entry stations)

@@ -7,11 +7,11 @@ ghost use Rattle.cube_tree.specs.Seats.{IsBare};
 ghost use Rattle.cube_tree.specs.InnerEnds.{AreThere, IsGone};
 ghost use Rattle.cube_tree.specs.Ends.{ClosedByRoll, HasAll, HasNumberBelow, IsMissing, IsWhollyFree, machine_dim, machine_loads, machine_words};
 
-use crate::handles::{Cube, FreeMachine, RetiredStation, Station, StillOut};
+use crate::handles::{Cube, FreeMachine, RetiredStation, StillOut, TreeStation};
 use cube_shape::MAX_STATIONS;
 use tree_steps::{Seat, Tree};
 
-impl Station {
+impl TreeStation {
     /// It makes one event more, by which its bit is set in the roll, and none after that.
     pub fn retire(self, cube: &Cube) -> RetiredStation
         requires { IsStationOf cube.now self }
@@ -28,7 +28,7 @@ impl Station {
         ensures table { result.table_id ≡ self.seat.table_id }
         ensures retires { (found : ℕ) × (result.me ≡ retire_at found self.seat.me) }
     {
-        let Station { number, mut seat } = self;
+        let TreeStation { number, mut seat } = self;
         tree.retire(&mut seat, number);
         seat
     }
@@ -70,7 +70,7 @@ impl Cube {
 }
 
 // Retires stations: their seats are joined to this one.
-fn retire_each(tree: &Tree, seat: &mut Seat, mut stations: Vec<Station>)
+fn retire_each(tree: &Tree, seat: &mut Seat, mut stations: Vec<TreeStation>)
     requires seat { seat.old.table_id ≡ id_of tree.now }
     requires bare { IsBare seat.old.me }
     requires of_tree { All (HasTable (id_of tree.now)) stations.items }
@@ -89,7 +89,7 @@ fn retire_each(tree: &Tree, seat: &mut Seat, mut stations: Vec<Station>)
 
 impl Cube {
     /// Retires all stations, which it is given, and closes the cube.
-    pub fn close_with(self, stations: Vec<Station>) -> FreeMachine
+    pub fn close_with(self, stations: Vec<TreeStation>) -> FreeMachine
         requires cube { All (IsStationOf self) stations.items }
         requires all { HasAll (cube_size self).stations stations.items }
         ensures free { IsWhollyFree (cube_dim self) result }
@@ -103,7 +103,7 @@ impl Cube {
 
     /// Retires all stations, which it is given, and closes the cube: they are as many as it has, and
     /// so these are all of them.
-    pub fn close_all(self, stations: Vec<Station>) -> FreeMachine
+    pub fn close_all(self, stations: Vec<TreeStation>) -> FreeMachine
         requires cube { All (IsStationOf self) stations.items }
         requires below { All (HasNumberBelow (cube_size self).stations) stations.items }
         requires all { length stations.items ≡ (cube_size self).stations }

@@ -21,7 +21,7 @@ pub struct Cube {
 
 /// One who takes and gives back the region of one node at a time; at the moment it has none. It cannot
 /// be dropped.
-pub struct Station {
+pub struct TreeStation {
     pub(crate) number: u32,
     pub(crate) seat: Seat,
     ghost idle: { IsSeatOf number Idle seat.me },

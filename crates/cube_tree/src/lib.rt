@@ -22,7 +22,7 @@ mod takes;
 mod tries;
 
 pub use comparison::apart;
-pub use handles::{Cube, FreeMachine, RetiredStation, RollReader, Station, StillOut, Subcube};
+pub use handles::{Cube, FreeMachine, RetiredStation, RollReader, StillOut, Subcube, TreeStation};
 pub use refusal::Refusal;
 pub use refused::{CubeRefused, SoloRefused};
 pub use solo::Solo;

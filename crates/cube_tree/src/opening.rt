@@ -6,7 +6,7 @@ ghost use Rattle.cube_tree.specs.Seats.{IsBare};
 ghost use Rattle.cube_tree.specs.Ends.{HasAll};
 ghost use Rattle.cube_tree.specs.Handles.{cube_dim, cube_size, loads_of, station_entry, size_with, IsStationOf, HasTable};
 
-use crate::handles::{Cube, Station};
+use crate::handles::{Cube, TreeStation};
 use crate::refused::CubeRefused;
 use cube_shape::{Dim, MAX_DIM, MAX_STATIONS};
 use std::alloc::Global;
@@ -15,7 +15,11 @@ use tree_steps::{Seat, Size, Tree};
 impl Cube {
     /// The machine of dimension `n`, wholly free, and its stations, each idle and with no event: they
     /// have the numbers from `0` on.
-    pub fn open(alloc: Global, n: u32, stations: u32) -> Result<(Cube, Vec<Station>), CubeRefused>
+    pub fn open(
+        alloc: Global,
+        n: u32,
+        stations: u32,
+    ) -> Result<(Cube, Vec<TreeStation>), CubeRefused>
         ensures dimension { IsErrOf result CubeRefused.BadDimension ↔ (MAX_DIM < n) }
         ensures stations { IsErrOf result CubeRefused.BadStations
             ↔ ((n ≤ MAX_DIM) × ((stations ≡ 0) ⊎ (MAX_STATIONS < stations))) }
@@ -68,7 +72,7 @@ impl Cube {
 }
 
 // Each station gets a seat of its own.
-fn deal(tree: &Tree, seat: &mut Seat, list: &mut Vec<Station>, stations: u32)
+fn deal(tree: &Tree, seat: &mut Seat, list: &mut Vec<TreeStation>, stations: u32)
     requires seat { seat.old.table_id ≡ id_of tree.now }
     requires first { seat.old.me ≡ (first_view (size_of tree.now), []) }
     requires count { station_count tree.now ≡ stations }
@@ -85,6 +89,6 @@ fn deal(tree: &Tree, seat: &mut Seat, list: &mut Vec<Station>, stations: u32)
 {
     for number in 0..stations {
         let own = tree.cut_first(seat);
-        list.push_reserved(Station { number, seat: own });
+        list.push_reserved(TreeStation { number, seat: own });
     }
 }

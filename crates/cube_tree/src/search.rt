@@ -5,7 +5,7 @@ ghost use Rattle.cube_tree.specs.Handles.{cube_dim, held_region, station_entry, 
 ghost use Rattle.cube_tree.specs.Search.{TakesNext, IsRefusedEach};
 ghost use Rattle.cube_tree.specs.InnerSearch.{NamesAncestor, IsNodeAfter};
 
-use crate::handles::{Cube, Station, Subcube};
+use crate::handles::{Cube, Subcube, TreeStation};
 use crate::refusal::{Refusal, count};
 use crate::tries::region_count;
 use cube_shape::{MAX_DIM, Node};
@@ -26,12 +26,12 @@ pub(crate) fn node_after(node: u64, why: Why) -> u64
     (at.0 + 1) << levels
 }
 
-impl Station {
+impl TreeStation {
     /// Tries the regions of dimension `k` one after another, from the first one on, until one is
     /// taken, but for those under an ancestor that a try of this call found occupied: these are passed
     /// over. For `j = n - k` it makes at most `2^j * (3 + 7 * j)` events; the three counts are those of
     /// its tries.
-    pub fn try_take_skipping(self, cube: &Cube, k: u32) -> Result<Subcube, (Station, Refusal)>
+    pub fn try_take_skipping(self, cube: &Cube, k: u32) -> Result<Subcube, (TreeStation, Refusal)>
         requires cube { IsStationOf cube.now self }
         requires dim { k ≤ cube_dim cube.now }
         ensures taken { IfOk result (TakesNext cube.now (cube_dim cube.now - k)

@@ -10,7 +10,7 @@ ghost use Rattle.cube_tree.specs.InnerSolo.{IsGoneBelow, IsMoved, HasPhase};
 ghost use Rattle.cube_tree.specs.Solo.{solo_size, solo_dim, held_by};
 
 use crate::ends::finish;
-use crate::handles::{Cube, FreeMachine, Station};
+use crate::handles::{Cube, FreeMachine, TreeStation};
 use crate::solo::Solo;
 use cube_core::Phase;
 use std::alloc::{AllocError, Global};
@@ -22,8 +22,8 @@ impl Solo {
     pub fn new(
         alloc: Global,
         cube: Cube,
-        mut stations: Vec<Station>,
-    ) -> Result<Solo, (Cube, Vec<Station>, AllocError)>
+        mut stations: Vec<TreeStation>,
+    ) -> Result<Solo, (Cube, Vec<TreeStation>, AllocError)>
         requires cube { All (IsStationOf cube) stations.items }
         requires all { HasAll (cube_size cube).stations stations.items }
         ensures size { IfOk result (λ solo. solo_size solo ≡ cube_size cube) }
@@ -73,7 +73,7 @@ impl Solo {
 }
 
 // The stations of the list step with this seat.
-fn gather(tree: &Tree, seat: &mut Seat, list: &mut Vec<Station>)
+fn gather(tree: &Tree, seat: &mut Seat, list: &mut Vec<TreeStation>)
     requires table { seat.old.table_id ≡ id_of tree.now }
     requires bare { IsBare seat.old.me }
     requires of_tree { All (HasTable (id_of tree.now)) list.old.items }
@@ -85,7 +85,7 @@ fn gather(tree: &Tree, seat: &mut Seat, list: &mut Vec<Station>)
     ensures present { (s : ℕ) → s < station_count tree.now → 0 < times s seat.new.me.0.stations }
 {
     while let Some(station) = list.pop() {
-        let Station {
+        let TreeStation {
             number: _,
             seat: own,
         } = station;

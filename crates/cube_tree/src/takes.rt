@@ -4,7 +4,7 @@ ghost use Rattle.cube_shape.specs.Node.{IsInCube};
 ghost use Rattle.cube_core.specs.Held.{region_at};
 ghost use Rattle.cube_tree.specs.Handles.{cube_dim, station_entry, subcube_entry, held_node, held_region, IsStationOf, IsSubcubeOf, TakesNode, IsRefusedTry, GivesBack};
 
-use crate::handles::{Cube, Station, Subcube};
+use crate::handles::{Cube, Subcube, TreeStation};
 use cube_shape::{MAX_DIM, Node, Region, region_of};
 use tree_steps::Why;
 
@@ -17,7 +17,7 @@ pub(crate) fn region_at_node(dim: u32, node: u64) -> Region
     region_of(dim, Node(node))
 }
 
-impl Station {
+impl TreeStation {
     /// Its number.
     pub fn number(&self) -> u32
         ensures { result ≡ (station_entry self.now).station }
@@ -26,7 +26,7 @@ impl Station {
     }
 
     /// One try to take the region of a node, with its roll-back where an ancestor is occupied.
-    pub fn try_node(self, cube: &Cube, node: Node) -> Result<Subcube, (Station, Why)>
+    pub fn try_node(self, cube: &Cube, node: Node) -> Result<Subcube, (TreeStation, Why)>
         requires cube { IsStationOf cube.now self }
         requires node { IsInCube (cube_dim cube.now) node.0 }
         ensures taken { IfOk result (TakesNode cube.now node.0 (station_entry self)) }
@@ -34,7 +34,7 @@ impl Station {
         ensures refused { IfErr result (λ refused.
             IsRefusedTry (cube_dim cube.now) node.0 (station_entry self) (station_entry refused.0) refused.1) }
     {
-        let Station { number, mut seat } = self;
+        let TreeStation { number, mut seat } = self;
         match cube.tree.take(&mut seat, number, node.0) {
             Ok(()) => {
                 let dim = cube.tree.size().dim;
@@ -46,7 +46,7 @@ impl Station {
                     seat,
                 })
             }
-            Err(why) => Err((Station { number, seat }, why)),
+            Err(why) => Err((TreeStation { number, seat }, why)),
         }
     }
 }
@@ -60,7 +60,7 @@ impl Subcube {
     }
 
     /// Gives the region back.
-    pub fn release(self, cube: &Cube) -> Station
+    pub fn release(self, cube: &Cube) -> TreeStation
         requires { IsSubcubeOf cube.now self }
         ensures { GivesBack cube.now (held_node self) (subcube_entry self) result }
     {
@@ -72,6 +72,6 @@ impl Subcube {
             mut seat,
         } = self;
         cube.tree.give_back(&mut seat, number, node);
-        Station { number, seat }
+        TreeStation { number, seat }
     }
 }

@@ -5,7 +5,7 @@ ghost use Rattle.cube_shape.specs.Region.{IsAligned};
 ghost use Rattle.cube_tree.specs.Handles.{cube_dim, held_region, station_entry, IsStationOf};
 ghost use Rattle.cube_tree.specs.Tries.{TakesOne, IsRefusedAll};
 
-use crate::handles::{Cube, Station, Subcube};
+use crate::handles::{Cube, Subcube, TreeStation};
 use crate::refusal::{Refusal, count};
 use cube_shape::{MAX_DIM, Node};
 use tree_steps::Tree;
@@ -19,11 +19,11 @@ pub(crate) fn region_count(tree: &Tree, k: u32) -> u64
     1 << (tree.size().dim - k)
 }
 
-impl Station {
+impl TreeStation {
     /// Tries the regions of dimension `k` one after another, from the first one on, until one is
     /// taken. For `j = n - k` it makes at most `2^j * (3 + 7 * j)` events; where each region is refused,
     /// the three counts are those of its `2^j` tries.
-    pub fn try_take(self, cube: &Cube, k: u32) -> Result<Subcube, (Station, Refusal)>
+    pub fn try_take(self, cube: &Cube, k: u32) -> Result<Subcube, (TreeStation, Refusal)>
         requires cube { IsStationOf cube.now self }
         requires dim { k ≤ cube_dim cube.now }
         ensures taken { IfOk result (TakesOne cube.now (cube_dim cube.now - k)

@@ -11,7 +11,8 @@ mod answering;
 
 pub use answering::answer_all;
 pub use crew::{LaneEnd, RunEnd, StopReason, Stopped};
-pub use cube_ledger::{Ledger, Occupancy, Totals, occupancy};
+pub use cube_ledger::{Ledger, Totals};
+pub use cube_occupancy::{Occupancy, occupancy};
 pub use cube_shape::{MAX_CAPACITY, MAX_DIM, MAX_DISPATCHERS, MAX_LANES};
 pub use dispatcher::{
     CloseNote, Closer, FeedEnd, FeedStop, Finished, Opened, Plain, Runner, Shop, ShopRefused, Stop,

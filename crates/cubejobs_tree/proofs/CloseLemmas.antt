@@ -1,48 +1,69 @@
 -- What a close says of the machine before its first load.
-use Rattle.std.proofs.Common.{◌≡◌, ℕ, ◌++◌, ◌∷◌, [], ◌∙◌, ap, sym, subst, inr}
-use Rattle.std.proofs.lemmas.List.{append_assoc}
+use Rattle.std.proofs.Common.{◌≡◌, ℕ, ◌-◌, ◌∷◌, [], ◌∙◌, ap, length, subst, inr}
 use Rattle.std.specs.Prelude.{Result, Ok, Err, IfOk, IfErr}
-use Rattle.std.specs.Arc.{arc_value}
 use Rattle.cube_tree.specs.declared.handles.Cube.{Cube}
 use Rattle.cube_tree.specs.declared.handles.FreeMachine.{FreeMachine}
+use Rattle.cube_tree.specs.declared.handles.RollReader.{RollReader}
 use Rattle.cube_tree.specs.Handles.{cube_dim, cube_size}
-use Rattle.cube_tree.specs.Ends.{reader_loads, ClosedByRoll, IsWhollyFree}
+use Rattle.cube_tree.specs.Ends.{reader_loads, ClosedByRoll, IsMissing, IsWhollyFree}
 use Rattle.cubejobs_tree.specs.declared.machine.Machine.{Machine}
-use Rattle.cubejobs_tree.specs.Ends.{Closes, StaysOpen, station_count}
-use Rattle.cubejobs_tree.specs.InnerEnds.{Looks}
+use Rattle.cubejobs_tree.specs.Share.{cube_of}
+use Rattle.cubejobs_tree.specs.Ends.{machine_cube, seated, station_count, Closes, Looks, LooksTwice, NotClosed}
+use Rattle.cubejobs_tree.specs.InnerEnds.{FindsMissing}
 
--- a machine after one load, and after its stations that waited have retired
-pub record HasRetired (before after : Machine) : Type 0 where
-  pub same : arc_value after.cube ≡ arc_value before.cube
-  pub none_waits : after.stations.items ≡ []
-  pub roll : ℕ
-  pub loads : reader_loads after.reader ≡ roll ∷ reader_loads before.reader
+-- the cube and the reader of a machine after one load, which found no station missing
+pub record IsLeft (before between : Machine) (cube : Cube) (reader : RollReader) : Type 0 where
+  pub looks : Looks before between 0
+  pub cube_is : cube ≡ machine_cube between
+  pub reader_is : reader ≡ between.reader
 
-closes_later : (before between : Machine) (free : FreeMachine) → HasRetired before between → Closes between free → Closes before free
-closes_later before between free retired closes = record {
-  free = subst (λ (cube : Cube). IsWhollyFree (cube_dim cube) free) retired.same closes.free;
-  more = closes.more ++ retired.roll ∷ [];
-  roll = subst (λ loads. ClosedByRoll (station_count before) loads free) all
-      (subst (λ (cube : Cube). ClosedByRoll (cube_size cube).stations (closes.more ++ reader_loads between.reader) free) retired.same closes.roll);
-}
-  where
-    all : closes.more ++ reader_loads between.reader ≡ closes.more ++ retired.roll ∷ [] ++ reader_loads before.reader
-    all = ap (λ l. closes.more ++ l) retired.loads ∙ sym (append_assoc closes.more (retired.roll ∷ []) (reader_loads before.reader))
+module _ (before between : Machine) (cube : Cube) (reader : RollReader) (left : IsLeft before between cube reader) where
+  same_cube : cube ≡ machine_cube before
+  same_cube = left.cube_is ∙ ap cube_of left.looks.same
 
-stays_later : (before between after : Machine) (missing : ℕ) → HasRetired before between → Looks between after missing → StaysOpen before after missing
-stays_later before between after missing retired looks = record {
-  same = looks.same ∙ retired.same;
-  list = inr (ap (λ q. q.items) looks.list ∙ retired.none_waits);
-  roll = looks.roll;
-  more = retired.roll ∷ [];
-  loads = looks.loads ∙ ap (λ l. looks.roll ∷ l) retired.loads;
-  found = looks.found;
-}
+  same_loads : reader_loads reader ≡ left.looks.roll ∷ reader_loads before.reader
+  same_loads = ap reader_loads left.reader_is ∙ left.looks.loads
 
-pub closed_later : (before between : Machine) (r : Result FreeMachine (Machine × ℕ)) → HasRetired before between → IfOk r (Closes between) → IfOk r (Closes before)
-closed_later before between (Ok free) retired closes = closes_later before between free retired closes
-closed_later before between (Err out) retired closes = tt
+  closes : (free : FreeMachine) → IsWhollyFree (cube_dim cube) free → ClosedByRoll (cube_size cube).stations (reader_loads reader) free → Closes before free
+  closes free wholly roll = record {
+    free = subst (λ (c : Cube). IsWhollyFree (cube_dim c) free) same_cube wholly;
+    more = left.looks.roll ∷ [];
+    roll = subst (λ loads. ClosedByRoll (station_count before) loads free) same_loads (subst (λ (c : Cube). ClosedByRoll (cube_size c).stations (reader_loads reader) free) same_cube roll);
+  }
 
-pub open_later : (before between : Machine) (r : Result FreeMachine (Machine × ℕ)) → HasRetired before between → IfErr r (λ out. Looks between out.0 out.1) → IfErr r (λ out. StaysOpen before out.0 out.1)
-open_later before between (Ok free) retired looks = tt
-open_later before between (Err out) retired looks = stays_later before between out.0 out.1 retired looks
+  none_missing : IsMissing (seated before) left.looks.roll 0
+  none_missing = subst (λ count. IsMissing count left.looks.roll 0) same_seated left.looks.found
+    where
+      same_seated : seated between ≡ seated before
+      same_seated = ap (λ share. (cube_size (cube_of share)).stations - length between.stations.items) left.looks.same ∙ ap (λ q. station_count before - length q.items) left.looks.list
+
+  pub closed_later : (r : Result FreeMachine (Machine × ℕ)) → IfOk r (IsWhollyFree (cube_dim cube)) → IfOk r (ClosedByRoll (cube_size cube).stations (reader_loads reader)) → IfOk r (Closes before)
+  closed_later (Ok free) wholly roll = closes free wholly roll
+  closed_later (Err out) wholly roll = tt
+
+  twice : (after : Machine) (missing : ℕ) → FindsMissing cube reader after missing → after.room ≡ before.room → LooksTwice before after missing
+  twice after missing finds room = record {
+    same = finds.same ∙ same_cube;
+    none_waits = finds.none_waits;
+    room = room;
+    first = left.looks.roll;
+    second = finds.roll;
+    loads = finds.loads ∙ ap (λ l. finds.roll ∷ l) same_loads;
+    none = none_missing;
+    found = subst (λ (c : Cube). IsMissing (cube_size c).stations finds.roll missing) same_cube finds.found;
+    some = finds.some;
+  }
+
+  pub open_later : (r : Result FreeMachine (Machine × ℕ)) → IfErr r (λ out. FindsMissing cube reader out.0 out.1) → IfErr r (λ out. out.0.room ≡ before.room) → IfErr r (λ out. NotClosed before out.0 out.1)
+  open_later (Ok free) finds room = tt
+  open_later (Err out) finds room = inr (twice out.0 out.1 finds room)
+
+-- where a station is missing, nothing is said of who shares the cube
+pub some_missing : (P : Type 0) (cube : Cube) (reader : RollReader) (r : Result FreeMachine (Machine × ℕ)) → IfErr r (λ out. FindsMissing cube reader out.0 out.1) → IfErr r (λ out. out.1 ≡ 0 → P)
+some_missing P cube reader (Ok free) finds = tt
+some_missing P cube reader (Err out) finds = λ none. absurd (finds.some none)
+
+-- the room of the machine that comes back is that of the machine before
+pub room_later : {Room : Type 0} (room : Machine → Room) (r : Result FreeMachine (Machine × ℕ)) (between before : Room) → IfErr r (λ out. room out.0 ≡ between) → between ≡ before → IfErr r (λ out. room out.0 ≡ before)
+room_later room (Ok free) between before same as_before = tt
+room_later room (Err out) between before same as_before = same ∙ as_before

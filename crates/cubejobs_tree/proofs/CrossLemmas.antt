@@ -7,7 +7,7 @@ use Rattle.atomic_table.specs.contracts.shared.Seat as seat
 use Rattle.tree_steps.proofs.tree.Tree.TheSendSync as tree_sent
 use Rattle.tree_steps.specs.contracts.view.View as view
 use Rattle.cube_tree.specs.contracts.handles.Cube as cube
-use Rattle.cube_tree.specs.contracts.handles.Station as station
+use Rattle.cube_tree.specs.contracts.handles.TreeStation as station
 use Rattle.cube_tree.specs.contracts.handles.Subcube as subcube
 use Rattle.std.proofs.Crossing.{crosses}
 use Rattle.cubejobs_tree.specs.contracts.content.Content as content
@@ -38,5 +38,8 @@ subcube_send = search (sendable, own_seat_send) depth 30
 pub idle_send : IsSend idle.the_row
 idle_send = search (sendable, crosses, cube_send, cube_sync, own_seat_send) depth 30
 
+cube_field_send : IsSend (cube.the_field).row
+cube_field_send = search (sendable, tree_sent.the_field_send, own_seat_send) depth 30
+
 pub content_send : IsSend content.the_row
-content_send = search (sendable, crosses, cube_send, cube_sync, own_seat_send) depth 60
+content_send = search (sendable, crosses, cube_field_send, cube_send, cube_sync, own_seat_send) depth 60

@@ -1,4 +1,5 @@
 -- What a contract sees of an answer.
+use Rattle.std.specs.Prelude.{◌≡◌}
 use Rattle.cube_shape.specs.declared.region.Region.{Region}
 use Rattle.cube_tree.specs.declared.refusal.Refusal.{Refusal}
 use Rattle.cubejobs_tree.specs.declared.answer.Answer.{Answer}
@@ -9,3 +10,7 @@ region_of answer = record { base = answer.base; dim = answer.dim }
 
 abbrev pub counts_of : Answer → Refusal
 counts_of answer = record { in_use = answer.in_use; lost = answer.lost; under = answer.under }
+
+-- it names no region, and not half of one
+abbrev pub NamesNone : Answer → Type 0
+NamesNone answer = (answer.base ≡ 0) × (answer.dim ≡ 0)

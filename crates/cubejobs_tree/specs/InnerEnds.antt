@@ -1,20 +1,23 @@
 -- What the parts of an open and of a close do.
-use Rattle.std.specs.Prelude.{◌≡◌, ℕ, ◌∷◌}
-use Rattle.std.specs.Arc.{arc_value}
+use Rattle.std.specs.Prelude.{◌≡◌, ◌≢◌, ℕ, [], ◌∷◌}
+use Rattle.cube_tree.specs.declared.handles.Cube.{Cube}
+use Rattle.cube_tree.specs.declared.handles.RollReader.{RollReader}
 use Rattle.cube_tree.specs.Ends.{reader_loads, IsMissing}
+use Rattle.cube_tree.specs.Handles.{cube_size}
 use Rattle.cube_tree.specs.declared.refused.CubeRefused.{CubeRefused}
 use Rattle.cube_tree.specs.declared.refused.CubeRefused.TheVariants.{BadDimension, BadStations, OutOfMemory}
 use Rattle.cubejobs_tree.specs.declared.codes.TheConstants.{BAD_DIMENSION, BAD_STATIONS, OUT_OF_MEMORY}
 use Rattle.cubejobs_tree.specs.declared.machine.Machine.{Machine}
-use Rattle.cubejobs_tree.specs.Ends.{seated}
+use Rattle.cubejobs_tree.specs.Ends.{machine_cube}
 
--- one load of the roll more, which found these stations missing, of those that got a handle
-pub record Looks (before after : Machine) (missing : ℕ) : Type 0 where
-  pub same : arc_value after.cube ≡ arc_value before.cube
-  pub list : after.stations ≡ before.stations
+-- a machine of this cube, none of whose stations waits, after one load of the roll more, which found stations missing
+pub record FindsMissing (cube : Cube) (reader : RollReader) (after : Machine) (missing : ℕ) : Type 0 where
+  pub same : machine_cube after ≡ cube
+  pub none_waits : after.stations.items ≡ []
   pub roll : ℕ
-  pub loads : reader_loads after.reader ≡ roll ∷ reader_loads before.reader
-  pub found : IsMissing (seated after) roll missing
+  pub loads : reader_loads after.reader ≡ roll ∷ reader_loads reader
+  pub found : IsMissing (cube_size cube).stations roll missing
+  pub some : missing ≢ 0
 
 -- the code of a machine that is not made
 abbrev pub code_for : CubeRefused → ℕ

@@ -1,6 +1,10 @@
+pub mod InnerBoxed
 pub mod InnerHidden
 pub mod Handle
 pub mod Answers
+pub mod Ask
+pub mod InnerAsk
+pub mod Share
 pub mod Calls
 pub mod Ends
 pub mod InnerEnds
@@ -8,3 +12,4 @@ pub mod Apart
 pub mod Occupancy
 pub use Rattle.cube_shape.specs.Node.{IsInCube}
 pub use Rattle.cube_shape.specs.Region.{AreApart}
+pub use Rattle.cube_tree.specs.Tries.{no_refusal}

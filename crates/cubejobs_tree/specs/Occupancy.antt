@@ -1,12 +1,11 @@
 -- What an answer counts of a machine.
 use Rattle.std.specs.Prelude.{◌≡◌, ℕ, ◌-◌, ◌<◌, ◌≤◌, if◌then◌else◌, List, Option, Some, None, slice_index}
-use Rattle.std.specs.Arc.{arc_value}
-use Rattle.cube_ledger.specs.Occupancy.{IsLargestFree, free_regions, held_processors}
+use Rattle.cube_occupancy.specs.Occupancy.{IsLargestFree, free_regions, held_processors}
 use Rattle.cubejobs_tree.specs.declared.answer.OccupancyAnswer.{OccupancyAnswer}
 use Rattle.cubejobs_tree.specs.declared.content.Content.{Content}
 use Rattle.cubejobs_tree.specs.declared.content.Content.TheVariants.{Owner}
 use Rattle.cubejobs_tree.specs.declared.machine.Machine.{Machine}
-use Rattle.cubejobs_tree.specs.Ends.{dim_of_machine}
+use Rattle.cubejobs_tree.specs.Ends.{dim_of_machine, machine_cube}
 
 -- the words of a machine as they were last read, each at some moment of the call that read them
 abbrev pub words_read : Machine → List ℕ
@@ -26,9 +25,9 @@ pub record Counts (n : ℕ) (words : List ℕ) (answer : OccupancyAnswer) : Type
 pub record IsCounted (old new : Option Content) (answer : OccupancyAnswer) : Type 0 where
   pub before : Machine
   pub after : Machine
-  pub was : old ≡ Some (Owner before)
-  pub is : new ≡ Some (Owner after)
-  pub same : arc_value after.cube ≡ arc_value before.cube
+  pub was : old ≡ Some (Owner (Some before))
+  pub is : new ≡ Some (Owner (Some after))
+  pub same : machine_cube after ≡ machine_cube before
   pub list : after.stations ≡ before.stations
   pub reader : after.reader ≡ before.reader
   pub counts : Counts (dim_of_machine after) (words_read after) answer

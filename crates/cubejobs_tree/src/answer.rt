@@ -1,10 +1,10 @@
 //! What crosses to the caller: the answers.
 ghost use Rattle.std.specs.Prelude.{◌≡◌};
 ghost use Rattle.cube_tree.specs.Tries.{counted, no_refusal};
-ghost use Rattle.cubejobs_tree.specs.Answers.{counts_of, region_of};
+ghost use Rattle.cubejobs_tree.specs.Answers.{counts_of, region_of, NamesNone};
 
 use crate::codes::{DONE, NO_SUBCUBE};
-use cube_ledger::FREE_PLACES;
+use cube_occupancy::FREE_PLACES;
 use cube_shape::Region;
 use cube_tree::{Refusal, Why};
 
@@ -77,6 +77,7 @@ pub struct OccupancyAnswer {
 }
 
 // The answer of a call that was done with a region.
+#[inline(always)]
 pub(crate) fn done(region: Region) -> Answer
     ensures code { result.code ≡ DONE }
     ensures region { region_of result ≡ region }
@@ -93,9 +94,10 @@ pub(crate) fn done(region: Region) -> Answer
 }
 
 // The answer of a call that was refused before it did anything.
+#[inline(always)]
 pub(crate) fn refused(code: u32) -> Answer
     ensures code { result.code ≡ code }
-    ensures no_region { (result.base ≡ 0) × (result.dim ≡ 0) }
+    ensures no_region { NamesNone result }
     ensures no_counts { counts_of result ≡ no_refusal }
 {
     Answer {
@@ -109,9 +111,10 @@ pub(crate) fn refused(code: u32) -> Answer
 }
 
 // The answer of a take whose tries were all refused.
+#[inline(always)]
 pub(crate) fn no_subcube(refusal: Refusal) -> Answer
     ensures code { result.code ≡ NO_SUBCUBE }
-    ensures no_region { (result.base ≡ 0) × (result.dim ≡ 0) }
+    ensures no_region { NamesNone result }
     ensures counts { counts_of result ≡ refusal }
 {
     Answer {

@@ -1,32 +1,63 @@
 //! The calls of a station, by value.
-ghost use Rattle.std.specs.Prelude.{◌≡◌, ◌≢◌, ◌<◌, ◌≤◌, Some};
-ghost use Rattle.cube_shape.specs.Node.{IsInCube};
-ghost use Rattle.cubejobs_tree.specs.Calls.{bar_to_release, bar_to_take, FreeOn, Gives, GivesNode, Names, Refuses, RefusesNode, TakesBack};
+ghost use Rattle.std.specs.Prelude.{◌≡◌, ◌≢◌, ◌<◌, ◌≤◌, Some, IfOk, IfErr};
+ghost use Rattle.std.specs.Arc.{arc_value};
+ghost use Rattle.cube_tree.specs.Handles.{station_entry};
+ghost use Rattle.cube_tree.specs.Tries.{no_refusal};
+ghost use Rattle.cubejobs_tree.specs.Answers.{counts_of, NamesNone};
+ghost use Rattle.cubejobs_tree.specs.Ask.{AreTriesRefused, Takes};
+ghost use Rattle.cubejobs_tree.specs.InnerAsk.{code_of_misfit, HasRegionFor};
+ghost use Rattle.cubejobs_tree.specs.Calls.{bar_to_release, bar_to_take, dim_of_idle, FreeOn, Gives, Names, Refuses, TakesBack};
 
 use crate::answer::{Answer, count_of, done, no_subcube, refused};
-use crate::codes::{
-    BAD_DIMENSION, BAD_NODE, DONE, NO_SUBCUBE, NOTHING_HELD, OTHER_KIND, STATION_HOLDS,
-};
+use crate::ask::Ask;
+use crate::codes::{DONE, NO_SUBCUBE, NOTHING_HELD, OTHER_KIND, STATION_HOLDS};
 use crate::content::Content;
+use crate::station::{Holding, Idle};
 use cube_shape::Node;
+use cube_tree::Refusal;
 
-// A search of the regions of dimension `k`.
-pub(crate) fn take(content: Content, k: u32) -> (Content, Answer)
+// An idle station takes a region, as its machine can.
+#[inline(always)]
+fn take_idle(idle: Idle, ask: Ask) -> Result<Holding, (Idle, Refusal)>
+    requires { HasRegionFor (dim_of_idle idle) ask }
+    ensures cube { IfOk result (λ held. arc_value held.cube ≡ arc_value idle.cube) }
+    ensures taken { IfOk result (λ held.
+        Takes ask (arc_value idle.cube) (station_entry idle.station) held.subcube) }
+    ensures same { IfErr result (λ out. arc_value out.0.cube ≡ arc_value idle.cube) }
+    ensures refused { IfErr result (λ out. AreTriesRefused ask (dim_of_idle idle)
+        (station_entry idle.station) (station_entry out.0.station) out.1) }
+{
+    match ask {
+        Ask::Dim(k) => idle.take(k),
+        Ask::Node(node) => match idle.try_node(Node(node)) {
+            Ok(held) => Ok(held),
+            Err((idle, why)) => Err((idle, count_of(why))),
+        },
+    }
+}
+
+// A station is asked to take a region.
+#[inline(always)]
+pub(crate) fn take(content: Content, ask: Ask) -> (Content, Answer)
     ensures barred { bar_to_take (Some content) ≢ DONE
         → result.1.code ≡ bar_to_take (Some content) }
-    ensures bad_dimension { FreeOn (λ n. n < k) (Some content) → result.1.code ≡ BAD_DIMENSION }
-    ensures tried { FreeOn (λ n. k ≤ n) (Some content) → result.1.code ≤ NO_SUBCUBE }
-    ensures given { result.1.code ≡ DONE → Gives k (Some content) (Some result.0) result.1 }
+    ensures misfit { FreeOn (λ n. HasRegionFor n ask → ⊥) (Some content)
+        → result.1.code ≡ code_of_misfit ask }
+    ensures tried { FreeOn (λ n. HasRegionFor n ask) (Some content)
+        → result.1.code ≤ NO_SUBCUBE }
+    ensures given { result.1.code ≡ DONE → Gives ask (Some content) (Some result.0) result.1 }
     ensures refused { result.1.code ≡ NO_SUBCUBE
-        → Refuses k (Some content) (Some result.0) result.1 }
+        → Refuses ask (Some content) (Some result.0) result.1 }
     ensures unchanged { NO_SUBCUBE < result.1.code → result.0 ≡ content }
+    ensures names_none { result.1.code ≢ DONE → NamesNone result.1 }
+    ensures counts_none { result.1.code ≢ NO_SUBCUBE → counts_of result.1 ≡ no_refusal }
 {
     match content {
         Content::Free(idle) => {
-            if k > idle.cube.dim() {
-                return (Content::Free(idle), refused(BAD_DIMENSION));
+            if !ask.is_within(idle.cube.dim()) {
+                return (Content::Free(idle), refused(ask.misfit()));
             }
-            match idle.take(k) {
+            match take_idle(idle, ask) {
                 Ok(held) => {
                     let region = held.subcube.region();
                     (Content::Busy(held), done(region))
@@ -39,44 +70,16 @@ pub(crate) fn take(content: Content, k: u32) -> (Content, Answer)
     }
 }
 
-// One try at a node.
-pub(crate) fn try_node(content: Content, node: u64) -> (Content, Answer)
-    ensures barred { bar_to_take (Some content) ≢ DONE
-        → result.1.code ≡ bar_to_take (Some content) }
-    ensures bad_node { FreeOn (λ n. IsInCube n node → ⊥) (Some content)
-        → result.1.code ≡ BAD_NODE }
-    ensures tried { FreeOn (λ n. IsInCube n node) (Some content) → result.1.code ≤ NO_SUBCUBE }
-    ensures given { result.1.code ≡ DONE
-        → GivesNode node (Some content) (Some result.0) result.1 }
-    ensures refused { result.1.code ≡ NO_SUBCUBE
-        → RefusesNode node (Some content) (Some result.0) result.1 }
-    ensures unchanged { NO_SUBCUBE < result.1.code → result.0 ≡ content }
-{
-    match content {
-        Content::Free(idle) => {
-            if !Node(node).is_in(idle.cube.dim()) {
-                return (Content::Free(idle), refused(BAD_NODE));
-            }
-            match idle.try_node(Node(node)) {
-                Ok(held) => {
-                    let region = held.subcube.region();
-                    (Content::Busy(held), done(region))
-                }
-                Err((idle, why)) => (Content::Free(idle), no_subcube(count_of(why))),
-            }
-        }
-        Content::Busy(held) => (Content::Busy(held), refused(STATION_HOLDS)),
-        other => (other, refused(OTHER_KIND)),
-    }
-}
-
 // The region is given back.
+#[inline(always)]
 pub(crate) fn release(content: Content) -> (Content, Answer)
     ensures barred { bar_to_release (Some content) ≢ DONE
         → result.1.code ≡ bar_to_release (Some content) }
     ensures done { bar_to_release (Some content) ≡ DONE → result.1.code ≡ DONE }
     ensures released { result.1.code ≡ DONE → TakesBack (Some content) (Some result.0) result.1 }
     ensures unchanged { result.1.code ≢ DONE → result.0 ≡ content }
+    ensures names_none { result.1.code ≢ DONE → NamesNone result.1 }
+    ensures counts_none { counts_of result.1 ≡ no_refusal }
 {
     match content {
         Content::Busy(held) => {
@@ -94,6 +97,8 @@ pub(crate) fn region(content: &Content) -> Answer
         → result.code ≡ bar_to_release (Some content.now) }
     ensures done { bar_to_release (Some content.now) ≡ DONE → result.code ≡ DONE }
     ensures named { result.code ≡ DONE → Names (Some content.now) result }
+    ensures names_none { result.code ≢ DONE → NamesNone result }
+    ensures counts_none { counts_of result ≡ no_refusal }
 {
     match content {
         Content::Busy(held) => done(held.subcube.region()),

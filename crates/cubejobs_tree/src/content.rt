@@ -1,14 +1,14 @@
 //! What stands behind a handle: a machine, or one of its stations.
 
-use crate::machine::Machine;
+use crate::boxed::Boxed;
 use crate::station::{Holding, Idle};
 use cube_tree::FreeMachine;
 
 /// What stands behind a handle.
 #[derive(Drop)]
 pub enum Content {
-    /// A machine.
-    Owner(Machine),
+    /// A machine, in a box of its own, since it is larger than a station.
+    Owner(Boxed),
     /// A station that holds nothing.
     Free(Idle),
     /// A station that holds a region.

@@ -1,24 +1,25 @@
 //! A machine is opened, its stations get handles, and it is closed.
-ghost use Rattle.std.specs.Prelude.{◌≡◌, ◌≢◌, ℕ, ◌<◌, ◌≤◌, None, Some, IfOk, IfErr, IfSome, IsErrOf, ◌∷◌, ◌↔◌, ◌⊎◌, [], List, All};
+ghost use Rattle.std.specs.Prelude.{◌≡◌, ◌+◌, ◌^◌, ◌<◌, ◌≤◌, Some, IfOk, IfErr, IfSome, IsErrOf, ◌↔◌, ◌⊎◌, [], All, vec_len};
 ghost use Rattle.cubejobs_tree.specs.declared.content.Content.TheVariants.{Owner};
-ghost use Rattle.std.specs.Arc.{arc_value};
-ghost use Rattle.cube_tree.specs.Handles.{IsStationOf};
-ghost use Rattle.cube_tree.specs.Ends.{reader_loads, ClosedByRoll, IsReaderOf};
-ghost use Rattle.cubejobs_tree.specs.Ends.{seated, Closes, IsNew, Seats, StaysOpen};
-ghost use Rattle.cubejobs_tree.specs.InnerEnds.{code_for, Looks};
+ghost use Rattle.cube_tree.specs.Handles.{cube_dim, cube_size, IsStationOf};
+ghost use Rattle.cube_tree.specs.Ends.{reader_loads, ClosedByRoll, IsReaderOf, IsWhollyFree};
+ghost use Rattle.cubejobs_tree.specs.Share.{cube_of, IsShared};
+ghost use Rattle.cubejobs_tree.specs.Ends.{machine_cube, seated, Closes, IsNew, Looks, NotClosed, Seats};
+ghost use Rattle.cubejobs_tree.specs.InnerEnds.{code_for, FindsMissing};
 
 use crate::codes::{BAD_DIMENSION, BAD_STATIONS, NO_STATION, OUT_OF_MEMORY};
 use crate::content::Content;
 use crate::machine::{Machine, retire_all};
+use crate::share::Share;
 use crate::station::Idle;
 use cube_shape::{MAX_DIM, MAX_STATIONS};
-use cube_tree::{Cube, CubeRefused, FreeMachine, RollReader, Station};
+use cube_tree::{Cube, CubeRefused, FreeMachine, RollReader, TreeStation};
 use std::alloc::{AllocFailed, Global};
 use std::collections::VecDeque;
 use std::sync::Arc;
 
 // A cube that is not shared after all: its stations retire, and it is let go.
-fn give_up(cube: Cube, stations: VecDeque<Station>)
+fn give_up(cube: Cube, stations: VecDeque<TreeStation>)
     requires { All (IsStationOf cube) stations.items }
 {
     let mut stations = stations;
@@ -31,12 +32,12 @@ fn give_up(cube: Cube, stations: VecDeque<Station>)
 fn share(
     alloc: Global,
     cube: Cube,
-    stations: VecDeque<Station>,
+    stations: VecDeque<TreeStation>,
     reader: RollReader,
 ) -> Option<Machine>
     requires of_cube { All (IsStationOf cube) stations.items }
     requires reads { IsReaderOf cube reader }
-    ensures cube { IfSome result (λ machine. arc_value machine.cube ≡ cube) }
+    ensures cube { IfSome result (λ machine. machine_cube machine ≡ cube) }
     ensures stations { IfSome result (λ machine. machine.stations ≡ stations) }
     ensures reader { IfSome result (λ machine. machine.reader ≡ reader) }
 {
@@ -46,7 +47,7 @@ fn share(
     };
     match Arc::new(alloc, cube) {
         Ok(cube) => Some(Machine {
-            cube,
+            cube: Share::Many(cube),
             stations,
             reader,
             room,
@@ -64,7 +65,7 @@ pub(crate) fn machine_of(alloc: Global, n: u32, stations: u32) -> Result<Machine
     ensures dimension { IsErrOf result CubeRefused.BadDimension ↔ (MAX_DIM < n) }
     ensures stations { IsErrOf result CubeRefused.BadStations
         ↔ ((n ≤ MAX_DIM) × ((stations ≡ 0) ⊎ (MAX_STATIONS < stations))) }
-    ensures made { IfOk result (λ machine. IsNew n stations (Some (Owner machine))) }
+    ensures made { IfOk result (λ machine. IsNew n stations (Some (Owner (Some machine)))) }
 {
     let (mut cube, list) = Cube::open(alloc, n, stations)?;
     let reader = cube.roll_reader();
@@ -88,8 +89,8 @@ pub(crate) fn code_of(why: CubeRefused) -> u32
 impl Machine {
     /// The first station that waits, behind a handle of its own, and its number.
     pub fn seat(self, alloc: Global) -> (Machine, Result<(Box<Content>, u32), u32>)
-        ensures seated { IfOk result.1 (λ seat. Seats (Some (Owner self)) (Some (Owner result.0))
-            (Some seat.0.value) seat.1) }
+        ensures seated { IfOk result.1 (λ seat. Seats (Some (Owner (Some self)))
+            (Some (Owner (Some result.0))) (Some seat.0.value) seat.1) }
         ensures same { IfErr result.1 (λ code. result.0 ≡ self) }
         ensures refused { IfErr result.1 (λ code. (code ≡ NO_STATION) ⊎ (code ≡ OUT_OF_MEMORY)) }
         ensures no_station { IsErrOf result.1 NO_STATION ↔ (self.stations.items ≡ []) }
@@ -100,7 +101,7 @@ impl Machine {
         let Ok(mut place) = Box::new(alloc, Content::Away) else {
             return (self, Err(OUT_OF_MEMORY));
         };
-        let Ok(shared) = Arc::try_clone(&self.cube) else {
+        let Some(shared) = self.cube.another() else {
             return (self, Err(OUT_OF_MEMORY));
         };
         let (cube, mut stations, reader, room) = self.into_parts();
@@ -125,7 +126,7 @@ impl Machine {
         ensures value { result ≡ seated self.now }
         ensures limit { result ≤ MAX_STATIONS }
     {
-        let count = self.cube.stations() as usize;
+        let count = self.cube.get().stations() as usize;
         count.saturating_sub(self.stations.len()) as u32
     }
 
@@ -135,7 +136,7 @@ impl Machine {
     {
         let seated = self.seated();
         let (cube, stations, mut reader, room) = self.into_parts();
-        let missing = reader.missing(&cube, seated);
+        let missing = reader.missing(cube.get(), seated);
         let machine = Machine {
             cube,
             stations,
@@ -145,39 +146,21 @@ impl Machine {
         (machine, missing)
     }
 
-    // The stations that wait retire.
-    fn retire_waiting(self) -> Machine
-        ensures same { arc_value result.cube ≡ arc_value self.cube }
-        ensures none_waits { result.stations.items ≡ [] }
-        ensures reader { result.reader ≡ self.reader }
-    {
-        let (cube, mut stations, reader, room) = self.into_parts();
-        retire_all(&mut stations, &cube);
-        Machine {
-            cube,
-            stations,
-            reader,
-            room,
-        }
-    }
-
-    // Closes a machine of which no station waits, if a load of the roll finds the bit of each.
-    fn close_rest(self) -> Result<FreeMachine, (Machine, u64)>
-        requires none_waits { self.stations.items ≡ [] }
+    /// Closes the machine if each station that got a handle has retired and no call with one is left:
+    /// then those that wait retire, and the tree is closed, wholly free. Otherwise it comes back as it
+    /// was, with the stations that are missing, of which there is none where such a call is left.
+    pub fn close(self) -> Result<FreeMachine, (Machine, u64)>
         ensures closed { IfOk result (Closes self) }
-        ensures open { IfErr result (λ out. Looks self out.0 out.1) }
+        ensures open { IfErr result (λ out. NotClosed self out.0 out.1) }
+        ensures shared { IfErr result (λ out. out.1 ≡ 0 → IsShared self.cube) }
     {
         let (machine, missing) = self.look();
         if missing != 0 {
             return Err((machine, missing));
         }
-        let (cube, stations, reader, room) = machine.into_parts();
-        match Arc::try_unwrap(cube) {
-            Ok(cube) => {
-                stations.destroy_empty();
-                drop(room);
-                Ok(cube.close_by(reader))
-            }
+        let (share, stations, reader, room) = machine.into_parts();
+        match share.into_cube() {
+            Ok(cube) => close_rest(cube, stations, reader, room),
             Err(cube) => {
                 let machine = Machine {
                     cube,
@@ -185,22 +168,40 @@ impl Machine {
                     reader,
                     room,
                 };
-                Err((machine, missing))
+                Err((machine, 0))
             }
         }
     }
+}
 
-    /// Closes the machine if each station that got a handle has retired and no call with one is left:
-    /// then those that wait retire, and the tree is closed, wholly free. Otherwise it comes back, with the
-    /// stations that are missing, of which there is none where such a call is left.
-    pub fn close(self) -> Result<FreeMachine, (Machine, u64)>
-        ensures closed { IfOk result (Closes self) }
-        ensures open { IfErr result (λ out. StaysOpen self out.0 out.1) }
-    {
-        let (machine, missing) = self.look();
-        if missing != 0 || Arc::strong_count(&machine.cube) > 1 {
-            return Err((machine, missing));
-        }
-        machine.retire_waiting().close_rest()
+// The stations that wait retire, and the cube is closed if a load of the roll finds the bit of each station.
+fn close_rest(
+    cube: Cube,
+    stations: VecDeque<TreeStation>,
+    reader: RollReader,
+    room: Vec<u64>,
+) -> Result<FreeMachine, (Machine, u64)>
+    requires of_cube { All (IsStationOf cube) stations.items }
+    requires reads { IsReaderOf cube reader }
+    requires has_room { vec_len room ≡ 2 ^ (cube_dim cube + 1) }
+    ensures free { IfOk result (IsWhollyFree (cube_dim cube)) }
+    ensures roll { IfOk result (ClosedByRoll (cube_size cube).stations (reader_loads reader)) }
+    ensures open { IfErr result (λ out. FindsMissing cube reader out.0 out.1) }
+    ensures room { IfErr result (λ out. out.0.room ≡ room) }
+{
+    let (mut stations, mut reader) = (stations, reader);
+    retire_all(&mut stations, &cube);
+    let missing = reader.missing(&cube, cube.stations());
+    if missing == 0 {
+        stations.destroy_empty();
+        drop(room);
+        return Ok(cube.close_by(reader));
     }
+    let machine = Machine {
+        cube: Share::One(cube),
+        stations,
+        reader,
+        room,
+    };
+    Err((machine, missing))
 }

@@ -1,13 +1,20 @@
 //! The functions of the library, under the names that C declares.
-ghost use Rattle.std.specs.Prelude.{◌≡◌, ◌≢◌, ◌<◌, ◌≤◌, ◌⊎◌, None, Some, IsSome, []};
+ghost use Rattle.std.specs.Prelude.{◌≡◌, ◌≢◌, ◌<◌, ◌≤◌, ◌⊎◌, None, Some, IfSome, IsSome, []};
 ghost use Rattle.cubejobs_tree.specs.declared.content.Content.TheVariants.{Away, Owner};
 ghost use Rattle.cube_shape.specs.declared.limits.TheConstants.{MAX_DIM, MAX_STATIONS};
 ghost use Rattle.cube_shape.specs.Node.{IsInCube};
 ghost use Rattle.cubejobs_tree.specs.Handle.{content_of};
+ghost use Rattle.cubejobs_tree.specs.Share.{IsShared};
+ghost use Rattle.cube_tree.specs.Tries.{no_refusal};
+ghost use Rattle.cubejobs_tree.specs.declared.ask.Ask.TheVariants.{Dim, Node};
+ghost use Rattle.cubejobs_tree.specs.Answers.{counts_of, NamesNone};
+ghost use Rattle.cubejobs_tree.specs.InnerAsk.{code_of_misfit, HasRegionFor};
 ghost use Rattle.cubejobs_tree.specs.Ends.{bar_to_free, bar_to_machine, IsClosed, IsNew, IsStillOpen, OnMachine, Seats};
-ghost use Rattle.cubejobs_tree.specs.Calls.{bar_to_release, bar_to_take, FreeOn, Gives, GivesNode, Refuses, RefusesNode, TakesBack};
+ghost use Rattle.cubejobs_tree.specs.Calls.{bar_to_release, bar_to_take, FreeOn, Gives, Refuses, TakesBack};
 
 use crate::answer::{Answer, Seated, refused};
+use crate::ask::Ask;
+use crate::boxed::Boxed;
 use crate::codes::{
     ALREADY_OPEN, BAD_DIMENSION, BAD_NODE, BAD_STATIONS, BAD_VERSION, DONE, NO_STATION, NO_SUBCUBE,
     NOT_OPEN, OTHER_KIND, OUT_OF_MEMORY, RETIRING, STATION_HOLDS, STILL_OUT, VERSION,
@@ -18,6 +25,20 @@ use crate::machine::Machine;
 use crate::places::{put_back, take_out};
 use crate::{calls, ends};
 use std::alloc::Global;
+
+// A machine in a box of its own goes into a place, unless memory is refused.
+fn place_of(alloc: Global, machine: Machine) -> Option<Box<Content>>
+    ensures { IfSome result (λ place. place.value ≡ Owner (Some machine)) }
+{
+    let boxed = Boxed::of(alloc, machine)?;
+    match Box::new(alloc, Content::Owner(boxed)) {
+        Ok(place) => Some(place),
+        Err(failed) => {
+            drop(failed);
+            None
+        }
+    }
+}
 
 // The handle of a machine that is made, or why none is.
 fn open_as(alloc: Global, cube: &mut Handle, n: u32, stations: u32) -> u32
@@ -31,12 +52,9 @@ fn open_as(alloc: Global, cube: &mut Handle, n: u32, stations: u32) -> u32
 {
     match ends::machine_of(alloc, n, stations) {
         Err(why) => ends::code_of(why),
-        Ok(made) => match Box::new(alloc, Content::Owner(made)) {
-            Err(failed) => {
-                drop(failed);
-                OUT_OF_MEMORY
-            }
-            Ok(content) => {
+        Ok(made) => match place_of(alloc, made) {
+            None => OUT_OF_MEMORY,
+            Some(content) => {
                 *cube = Handle::of(content);
                 DONE
             }
@@ -90,6 +108,8 @@ pub extern "C" fn cubejobs_tree_seat(
     ensures else_memory { content_of station.old ≡ None
         → OnMachine (λ machine. machine.stations.items ≢ []) (content_of cube.old)
         → (result.code ≡ DONE) ⊎ (result.code ≡ OUT_OF_MEMORY) }
+    ensures none_left { result.code ≡ NO_STATION
+        → OnMachine (λ machine. machine.stations.items ≡ []) (content_of cube.old) }
     ensures seated { result.code ≡ DONE → Seats (content_of cube.old) (content_of cube.new)
         (content_of station.new) result.number }
     ensures no_number { result.code ≢ DONE → result.number ≡ 0 }
@@ -103,9 +123,10 @@ pub extern "C" fn cubejobs_tree_seat(
         return Seated::refused(NOT_OPEN);
     };
     match content {
-        Content::Owner(owner) => {
+        Content::Owner(boxed) => {
+            let (owner, place) = boxed.open();
             let (owner, seated) = owner.seat(alloc);
-            put_back(cube, room, Content::Owner(owner));
+            put_back(cube, room, Content::Owner(Boxed::fill(place, owner)));
             match seated {
                 Ok((seat, number)) => {
                     *station = Handle::of(seat);
@@ -121,27 +142,51 @@ pub extern "C" fn cubejobs_tree_seat(
     }
 }
 
+// The station of a handle is asked to take a region.
+#[inline(always)]
+fn take_as(alloc: Global, station: &mut Handle, ask: Ask) -> Answer
+    ensures barred { bar_to_take (content_of station.old) ≢ DONE
+        → result.code ≡ bar_to_take (content_of station.old) }
+    ensures misfit { FreeOn (λ n. HasRegionFor n ask → ⊥) (content_of station.old)
+        → result.code ≡ code_of_misfit ask }
+    ensures tried { FreeOn (λ n. HasRegionFor n ask) (content_of station.old)
+        → result.code ≤ NO_SUBCUBE }
+    ensures given { result.code ≡ DONE
+        → Gives ask (content_of station.old) (content_of station.new) result }
+    ensures refused { result.code ≡ NO_SUBCUBE
+        → Refuses ask (content_of station.old) (content_of station.new) result }
+    ensures unchanged { NO_SUBCUBE < result.code
+        → content_of station.new ≡ content_of station.old }
+    ensures names_none { result.code ≢ DONE → NamesNone result }
+    ensures counts_none { result.code ≢ NO_SUBCUBE → counts_of result ≡ no_refusal }
+{
+    let Some((content, room)) = take_out(station, alloc) else {
+        return refused(NOT_OPEN);
+    };
+    let (content, answer) = calls::take(content, ask);
+    put_back(station, room, content);
+    answer
+}
+
 /// Searches the regions of dimension `k` for one that can be taken, from the first one on.
 #[unsafe(no_mangle)]
 pub extern "C" fn cubejobs_tree_take(alloc: Global, station: &mut Handle, k: u32) -> Answer
     ensures barred { bar_to_take (content_of station.old) ≢ DONE
         → result.code ≡ bar_to_take (content_of station.old) }
-    ensures bad_dimension { FreeOn (λ n. n < k) (content_of station.old)
+    ensures bad_dimension { FreeOn (λ n. k ≤ n → ⊥) (content_of station.old)
         → result.code ≡ BAD_DIMENSION }
-    ensures tried { FreeOn (λ n. k ≤ n) (content_of station.old) → result.code ≤ NO_SUBCUBE }
+    ensures tried { FreeOn (λ n. k ≤ n) (content_of station.old)
+        → result.code ≤ NO_SUBCUBE }
     ensures given { result.code ≡ DONE
-        → Gives k (content_of station.old) (content_of station.new) result }
+        → Gives (Dim k) (content_of station.old) (content_of station.new) result }
     ensures refused { result.code ≡ NO_SUBCUBE
-        → Refuses k (content_of station.old) (content_of station.new) result }
+        → Refuses (Dim k) (content_of station.old) (content_of station.new) result }
     ensures unchanged { NO_SUBCUBE < result.code
         → content_of station.new ≡ content_of station.old }
+    ensures names_none { result.code ≢ DONE → NamesNone result }
+    ensures counts_none { result.code ≢ NO_SUBCUBE → counts_of result ≡ no_refusal }
 {
-    let Some((content, room)) = take_out(station, alloc) else {
-        return refused(NOT_OPEN);
-    };
-    let (content, answer) = calls::take(content, k);
-    put_back(station, room, content);
-    answer
+    take_as(alloc, station, Ask::Dim(k))
 }
 
 /// Tries the region of one node.
@@ -154,18 +199,15 @@ pub extern "C" fn cubejobs_tree_try_node(alloc: Global, station: &mut Handle, no
     ensures tried { FreeOn (λ n. IsInCube n node) (content_of station.old)
         → result.code ≤ NO_SUBCUBE }
     ensures given { result.code ≡ DONE
-        → GivesNode node (content_of station.old) (content_of station.new) result }
+        → Gives (Node node) (content_of station.old) (content_of station.new) result }
     ensures refused { result.code ≡ NO_SUBCUBE
-        → RefusesNode node (content_of station.old) (content_of station.new) result }
+        → Refuses (Node node) (content_of station.old) (content_of station.new) result }
     ensures unchanged { NO_SUBCUBE < result.code
         → content_of station.new ≡ content_of station.old }
+    ensures names_none { result.code ≢ DONE → NamesNone result }
+    ensures counts_none { result.code ≢ NO_SUBCUBE → counts_of result ≡ no_refusal }
 {
-    let Some((content, room)) = take_out(station, alloc) else {
-        return refused(NOT_OPEN);
-    };
-    let (content, answer) = calls::try_node(content, node);
-    put_back(station, room, content);
-    answer
+    take_as(alloc, station, Ask::Node(node))
 }
 
 /// Gives the station's region back, and answers which it was.
@@ -177,6 +219,8 @@ pub extern "C" fn cubejobs_tree_release(alloc: Global, station: &mut Handle) -> 
     ensures released { result.code ≡ DONE
         → TakesBack (content_of station.old) (content_of station.new) result }
     ensures unchanged { result.code ≢ DONE → content_of station.new ≡ content_of station.old }
+    ensures names_none { result.code ≢ DONE → NamesNone result }
+    ensures counts_none { counts_of result ≡ no_refusal }
 {
     let Some((content, room)) = take_out(station, alloc) else {
         return refused(NOT_OPEN);
@@ -228,6 +272,8 @@ pub extern "C" fn cubejobs_tree_close(alloc: Global, cube: &mut Handle, missing:
         × IsStillOpen (content_of cube.old) (content_of cube.new) missing.new }
     ensures retiring { result ≡ RETIRING
         → IsStillOpen (content_of cube.old) (content_of cube.new) 0 }
+    ensures shared { result ≡ RETIRING
+        → OnMachine (λ machine. IsShared machine.cube) (content_of cube.old) }
     ensures unchanged { bar_to_machine (content_of cube.old) ≢ DONE
         → content_of cube.new ≡ content_of cube.old }
     ensures same_missing { result ≢ STILL_OUT → missing.new ≡ missing.old }
@@ -236,7 +282,7 @@ pub extern "C" fn cubejobs_tree_close(alloc: Global, cube: &mut Handle, missing:
         return NOT_OPEN;
     };
     match content {
-        Content::Owner(owner) => close_owner(cube, room, owner, missing),
+        Content::Owner(boxed) => close_boxed(cube, room, boxed, missing),
         other => {
             put_back(cube, room, other);
             OTHER_KIND
@@ -245,23 +291,28 @@ pub extern "C" fn cubejobs_tree_close(alloc: Global, cube: &mut Handle, missing:
 }
 
 // The machine is closed, or comes back behind its handle.
-fn close_owner(cube: &mut Handle, room: Box<Content>, owner: Machine, missing: &mut u64) -> u32
+fn close_boxed(cube: &mut Handle, room: Box<Content>, boxed: Boxed, missing: &mut u64) -> u32
     requires away { room.value ≡ Away }
     ensures tried { (result ≡ DONE) ⊎ (result ≡ STILL_OUT) ⊎ (result ≡ RETIRING) }
-    ensures closed { result ≡ DONE → IsClosed (Some (Owner owner)) (content_of cube.new) }
+    ensures closed { result ≡ DONE → IsClosed (Some (Owner boxed)) (content_of cube.new) }
     ensures still_out { result ≡ STILL_OUT → (missing.new ≢ 0)
-        × IsStillOpen (Some (Owner owner)) (content_of cube.new) missing.new }
+        × IsStillOpen (Some (Owner boxed)) (content_of cube.new) missing.new }
     ensures retiring { result ≡ RETIRING
-        → IsStillOpen (Some (Owner owner)) (content_of cube.new) 0 }
+        → IsStillOpen (Some (Owner boxed)) (content_of cube.new) 0 }
+    ensures shared { result ≡ RETIRING
+        → OnMachine (λ machine. IsShared machine.cube) (Some (Owner boxed)) }
+    ensures is_machine { bar_to_machine (Some (Owner boxed)) ≡ DONE }
     ensures same_missing { result ≢ STILL_OUT → missing.new ≡ missing.old }
 {
+    let (owner, place) = boxed.open();
     match owner.close() {
         Ok(free) => {
+            drop(place);
             put_back(cube, room, Content::Closed(free));
             DONE
         }
         Err((owner, found)) => {
-            put_back(cube, room, Content::Owner(owner));
+            put_back(cube, room, Content::Owner(Boxed::fill(place, owner)));
             if found == 0 {
                 RETIRING
             } else {

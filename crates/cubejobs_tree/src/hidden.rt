@@ -22,6 +22,7 @@ impl Model for Hidden {
 }
 
 impl Hidden {
+    #[inline(always)]
     fn of_parts(parts: Parts<Content, Global>) -> Hidden
         ensures { result.content ≡ Some parts.value }
     {
@@ -32,6 +33,7 @@ impl Hidden {
         }
     }
 
+    #[inline(always)]
     fn into_parts(self) -> Parts<Content, Global>
         requires { (inside : Inside) × (self.content ≡ Some inside) }
         ensures { self.content ≡ Some result.value }
@@ -43,6 +45,7 @@ impl Hidden {
         }
     }
 
+    #[inline(always)]
     pub fn nothing(alloc: Global) -> Hidden
         ensures { result.content ≡ None }
     {
@@ -52,12 +55,14 @@ impl Hidden {
         }
     }
 
+    #[inline(always)]
     pub fn of(content: Box<Content>) -> Hidden
         ensures { result.content ≡ Some content.value }
     {
         Hidden::of_parts(Parts::of(content))
     }
 
+    #[inline(always)]
     pub fn into_box(self) -> Box<Content>
         requires { (inside : Inside) × (self.content ≡ Some inside) }
         ensures { self.content ≡ Some result.value }

@@ -8,6 +8,8 @@
 #![tactic(auto)]
 
 mod answer;
+mod ask;
+mod boxed;
 mod calls;
 mod codes;
 mod content;
@@ -21,9 +23,11 @@ mod occupancy;
 mod parts;
 mod places;
 mod readouts;
+mod share;
 mod station;
 
 pub use answer::{Answer, OccupancyAnswer, Seated, SizeAnswer, WordAnswer};
+pub use ask::Ask;
 pub use codes::{
     ALREADY_OPEN, BAD_DIMENSION, BAD_NODE, BAD_STATIONS, BAD_VERSION, DONE, NO_STATION, NO_SUBCUBE,
     NOT_OPEN, NOTHING_HELD, OPEN, OTHER_KIND, OUT_OF_MEMORY, RETIRING, STATION_HOLDS, STILL_OUT,

@@ -1,30 +1,30 @@
 //! The read-out of how much of a machine is free.
 ghost use Rattle.std.specs.Prelude.{◌≡◌, ◌≢◌, ℕ, ◌+◌, ◌^◌, ◌≤◌, length};
-ghost use Rattle.std.specs.Arc.{arc_value};
 ghost use Rattle.cubejobs_tree.specs.Handle.{content_of};
-ghost use Rattle.cubejobs_tree.specs.Ends.{bar_to_machine};
+ghost use Rattle.cubejobs_tree.specs.Ends.{bar_to_machine, machine_cube};
 ghost use Rattle.cubejobs_tree.specs.Occupancy.{Counts, IsCounted};
 
 use crate::answer::OccupancyAnswer;
+use crate::boxed::Boxed;
 use crate::codes::{DONE, NOT_OPEN, OTHER_KIND};
 use crate::content::Content;
 use crate::handle::Handle;
 use crate::machine::Machine;
 use crate::places::{put_back, take_out};
-use cube_ledger::occupancy;
+use cube_occupancy::occupancy;
 use cube_shape::MAX_DIM;
 use std::alloc::Global;
 
 impl Machine {
     // Reads each word into the room.
     fn read_words(self) -> Machine
-        ensures same { arc_value result.cube ≡ arc_value self.cube }
+        ensures same { machine_cube result ≡ machine_cube self }
         ensures list { result.stations ≡ self.stations }
         ensures reader { result.reader ≡ self.reader }
     {
         let (cube, stations, reader, mut room) = self.into_parts();
         for word in 0..room.len() {
-            room[word] = cube.word(word as u64);
+            room[word] = cube.get().word(word as u64);
         }
         Machine {
             cube,
@@ -67,10 +67,11 @@ pub extern "C" fn cubejobs_tree_occupancy(alloc: Global, cube: &mut Handle) -> O
         return OccupancyAnswer::refused(NOT_OPEN);
     };
     match content {
-        Content::Owner(machine) => {
+        Content::Owner(boxed) => {
+            let (machine, empty) = boxed.open();
             let machine = machine.read_words();
-            let answer = count(machine.cube.dim(), &machine.room);
-            put_back(cube, place, Content::Owner(machine));
+            let answer = count(machine.cube.get().dim(), &machine.room);
+            put_back(cube, place, Content::Owner(Boxed::fill(empty, machine)));
             answer
         }
         other => {

@@ -12,6 +12,7 @@ use std::mem::replace;
 
 impl Handle {
     // A handle that is shut.
+    #[inline(always)]
     pub(crate) fn shut(alloc: Global) -> Handle
         ensures { content_of result ≡ None }
     {
@@ -22,6 +23,7 @@ impl Handle {
     }
 
     // The handle of a content.
+    #[inline(always)]
     pub(crate) fn of(content: Box<Content>) -> Handle
         ensures { content_of result ≡ Some content.value }
     {
@@ -32,6 +34,7 @@ impl Handle {
     }
 
     // Whether it is open.
+    #[inline(always)]
     pub(crate) fn is_open(&self) -> bool
         ensures { IsTrue result ↔ IsSome (content_of self.now) }
     {
@@ -39,6 +42,7 @@ impl Handle {
     }
 
     // The content, if it is open.
+    #[inline(always)]
     fn into_box(self) -> Option<Box<Content>>
         ensures some { IfSome result (λ b. content_of self ≡ Some b.value) }
         ensures none { IfNone result (content_of self ≡ None) }
@@ -53,6 +57,7 @@ impl Handle {
 }
 
 // Takes the content out of its place, and the place away from the handle, which is shut.
+#[inline(always)]
 pub(crate) fn take_out(handle: &mut Handle, alloc: Global) -> Option<(Content, Box<Content>)>
     ensures some { IfSome result (λ r. (content_of handle.old ≡ Some r.0) × (r.1.value ≡ Away)) }
     ensures none { IfNone result (content_of handle.old ≡ None) }
@@ -68,11 +73,14 @@ pub(crate) fn take_out(handle: &mut Handle, alloc: Global) -> Option<(Content, B
 }
 
 // Puts a content into its place, and the place behind the handle.
+#[inline(always)]
 pub(crate) fn put_back(handle: &mut Handle, room: Box<Content>, content: Content)
     requires away { room.value ≡ Away }
     ensures { content_of handle.new ≡ Some content }
 {
     let mut room = room;
-    drop(Box::replace(&mut room, content));
+    let Content::Away = Box::replace(&mut room, content) else {
+        unreachable!()
+    };
     *handle = Handle::of(room);
 }

@@ -1,5 +1,7 @@
 //! Read-outs of a machine and of its stations, under the names that C declares.
 ghost use Rattle.std.specs.Prelude.{◌≡◌, ◌≢◌, ◌<◌, ◌≤◌, ◌+◌, ◌^◌};
+ghost use Rattle.cube_tree.specs.Tries.{no_refusal};
+ghost use Rattle.cubejobs_tree.specs.Answers.{counts_of, NamesNone};
 ghost use Rattle.cubejobs_tree.specs.Handle.{content_of};
 ghost use Rattle.cubejobs_tree.specs.Ends.{bar_to_machine, dim_of_machine, seated, station_count, OnMachine};
 ghost use Rattle.cubejobs_tree.specs.Calls.{bar_to_release, Names};
@@ -20,6 +22,8 @@ pub extern "C" fn cubejobs_tree_region(alloc: Global, station: &mut Handle) -> A
         → result.code ≡ bar_to_release (content_of station.old) }
     ensures done { bar_to_release (content_of station.old) ≡ DONE → result.code ≡ DONE }
     ensures named { result.code ≡ DONE → Names (content_of station.old) result }
+    ensures names_none { result.code ≢ DONE → NamesNone result }
+    ensures counts_none { counts_of result ≡ no_refusal }
     ensures unchanged { content_of station.new ≡ content_of station.old }
 {
     let Some((content, room)) = take_out(station, alloc) else {
@@ -39,8 +43,8 @@ fn size_of(machine: &Machine) -> SizeAnswer
 {
     SizeAnswer {
         code: DONE,
-        dim: machine.cube.dim(),
-        stations: machine.cube.stations(),
+        dim: machine.cube.get().dim(),
+        stations: machine.cube.get().stations(),
         seated: machine.seated(),
     }
 }
@@ -57,13 +61,15 @@ pub extern "C" fn cubejobs_tree_size(alloc: Global, cube: &mut Handle) -> SizeAn
         → OnMachine (λ machine. result.stations ≡ station_count machine) (content_of cube.old) }
     ensures seated { result.code ≡ DONE
         → OnMachine (λ machine. result.seated ≡ seated machine) (content_of cube.old) }
+    ensures nothing { result.code ≢ DONE
+        → (result.dim ≡ 0) × (result.stations ≡ 0) × (result.seated ≡ 0) }
     ensures unchanged { content_of cube.new ≡ content_of cube.old }
 {
     let Some((content, room)) = take_out(cube, alloc) else {
         return SizeAnswer::refused(NOT_OPEN);
     };
     let answer = match &content {
-        Content::Owner(machine) => size_of(machine),
+        Content::Owner(boxed) => size_of(boxed.get()),
         _ => SizeAnswer::refused(OTHER_KIND),
     };
     put_back(cube, room, content);
@@ -74,8 +80,9 @@ pub extern "C" fn cubejobs_tree_size(alloc: Global, cube: &mut Handle) -> SizeAn
 fn word_of(machine: &Machine, node: u64) -> WordAnswer
     ensures bad_node { 2 ^ (dim_of_machine machine.now + 1) ≤ node → result.code ≡ BAD_NODE }
     ensures done { node < 2 ^ (dim_of_machine machine.now + 1) → result.code ≡ DONE }
+    ensures no_word { result.code ≢ DONE → result.word ≡ 0 }
 {
-    if node >= 1 << (machine.cube.dim() + 1) {
+    if node >= 1 << (machine.cube.get().dim() + 1) {
         return WordAnswer {
             code: BAD_NODE,
             word: 0,
@@ -83,7 +90,7 @@ fn word_of(machine: &Machine, node: u64) -> WordAnswer
     }
     WordAnswer {
         code: DONE,
-        word: machine.cube.word(node),
+        word: machine.cube.get().word(node),
     }
 }
 
@@ -95,6 +102,7 @@ pub extern "C" fn cubejobs_tree_word(alloc: Global, cube: &mut Handle, node: u64
         → result.code ≡ bar_to_machine (content_of cube.old) }
     ensures bad_node { OnMachine (λ machine. 2 ^ (dim_of_machine machine + 1) ≤ node)
         (content_of cube.old) → result.code ≡ BAD_NODE }
+    ensures no_word { result.code ≢ DONE → result.word ≡ 0 }
     ensures done { OnMachine (λ machine. node < 2 ^ (dim_of_machine machine + 1))
         (content_of cube.old) → result.code ≡ DONE }
     ensures unchanged { content_of cube.new ≡ content_of cube.old }
@@ -106,7 +114,7 @@ pub extern "C" fn cubejobs_tree_word(alloc: Global, cube: &mut Handle, node: u64
         };
     };
     let answer = match &content {
-        Content::Owner(machine) => word_of(machine, node),
+        Content::Owner(boxed) => word_of(boxed.get(), node),
         _ => WordAnswer {
             code: OTHER_KIND,
             word: 0,

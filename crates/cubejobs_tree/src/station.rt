@@ -6,13 +6,13 @@ ghost use Rattle.cube_tree.specs.Handles.{cube_dim, held_node, station_entry, su
 ghost use Rattle.cube_tree.specs.Search.{IsRefusedEach, TakesNext};
 
 use cube_shape::Node;
-use cube_tree::{Cube, Refusal, Station, Subcube, Why};
+use cube_tree::{Cube, Refusal, Subcube, TreeStation, Why};
 use std::sync::Arc;
 
 /// A station that holds nothing.
 pub struct Idle {
     pub(crate) cube: Arc<Cube>,
-    pub(crate) station: Station,
+    pub(crate) station: TreeStation,
     ghost of_cube: { IsStationOf (arc_value cube) station },
 }
 
@@ -32,6 +32,7 @@ pub(crate) fn let_go(cube: Arc<Cube>) {
 
 impl Idle {
     /// One try at a node.
+    #[inline(always)]
     pub fn try_node(self, node: Node) -> Result<Holding, (Idle, Why)>
         requires node { IsInCube (cube_dim (arc_value self.cube)) node.0 }
         ensures cube { IfOk result (λ held. arc_value held.cube ≡ arc_value self.cube) }
@@ -50,6 +51,7 @@ impl Idle {
     }
 
     /// A search of the nodes of a dimension that passes over those under an ancestor found occupied.
+    #[inline(always)]
     pub fn take(self, k: u32) -> Result<Holding, (Idle, Refusal)>
         requires dim { k ≤ cube_dim (arc_value self.cube) }
         ensures cube { IfOk result (λ held. arc_value held.cube ≡ arc_value self.cube) }
@@ -88,6 +90,7 @@ impl Holding {
     }
 
     /// The region is given back.
+    #[inline(always)]
     pub fn release(self) -> Idle
         ensures cube { arc_value result.cube ≡ arc_value self.cube }
         ensures back { GivesBack (arc_value self.cube) (held_node self.subcube)

@@ -10,6 +10,22 @@ use job_types::Reply;
 use std::alloc::{AllocError, Global};
 use std::collections::VecDeque;
 
+// The replies of the only worker, where it has all of them.
+fn only_list<M: Drop>(finished: Finished<M>) -> Result<Vec<Reply>, Finished<M>>
+    ensures all { IfOk result (λ replies. replies.items
+        ≡ all_replies (map (λ rs. rs.items) finished.by_worker.items) finished.rest.items) }
+    ensures gives_back { IfErr result (λ back. back ≡ finished) }
+{
+    if finished.by_worker.len() != 1 || !finished.rest.is_empty() {
+        return Err(finished);
+    }
+    let Finished { mut by_worker, .. } = finished;
+    let Some(replies) = by_worker.pop() else {
+        unreachable!()
+    };
+    Ok(replies)
+}
+
 // How many replies there are, if that is a number of this machine.
 fn reply_count(by_worker: &[Vec<Reply>], rest: &[Reply]) -> Option<usize>
     ensures { IfSome result (λ count.
@@ -57,9 +73,37 @@ fn sort(replies: &mut Vec<Reply>)
     replies.sort_unstable_by_key(|reply| reply.id());
 }
 
+// All replies in one list, each worker's list after the one before.
+fn all_in_one<M: Drop>(
+    alloc: Global,
+    finished: Finished<M>,
+) -> Result<Vec<Reply>, (AllocError, Finished<M>)>
+    ensures all { IfOk result (λ replies. replies.items
+        ≡ all_replies (map (λ rs. rs.items) finished.by_worker.items) finished.rest.items) }
+    ensures gives_back { IfErr result (λ r. r.1 ≡ finished) }
+{
+    let finished = match only_list(finished) {
+        Ok(replies) => return Ok(replies),
+        Err(finished) => finished,
+    };
+    let Some(count) = reply_count(&finished.by_worker, &finished.rest) else {
+        return Err((AllocError, finished));
+    };
+    let Ok(room) = Vec::with_capacity(alloc, count) else {
+        return Err((AllocError, finished));
+    };
+    let Finished {
+        by_worker,
+        rest,
+        ..
+    } = finished;
+    Ok(gather(by_worker, rest, room))
+}
+
 /// All replies, sorted by lane and in a lane by number. Where they answer lists of jobs, one for each lane,
-/// they are then the answers to these jobs lane by lane. Where there is no memory for them the replies and
-/// the machine come back as they were.
+/// they are then the answers to these jobs lane by lane. It asks for one list, and ends each worker's list
+/// once its replies have moved there; where one worker has all replies its list serves. Where there is no
+/// memory the replies and the machine come back as they were.
 pub fn sorted_replies<M: Drop>(
     alloc: Global,
     finished: Finished<M>,
@@ -73,18 +117,10 @@ pub fn sorted_replies<M: Drop>(
         AreInOrder n jobs replies.items) }
     ensures gives_back { IfErr result (λ r. r.1 ≡ finished) }
 {
-    let Some(count) = reply_count(&finished.by_worker, &finished.rest) else {
-        return Err((AllocError, finished));
+    let mut replies = match all_in_one(alloc, finished) {
+        Ok(replies) => replies,
+        Err(refused) => return Err(refused),
     };
-    let Ok(room) = Vec::with_capacity(alloc, count) else {
-        return Err((AllocError, finished));
-    };
-    let Finished {
-        by_worker,
-        rest,
-        ..
-    } = finished;
-    let mut replies = gather(by_worker, rest, room);
     sort(&mut replies);
     Ok(replies)
 }

@@ -2,10 +2,10 @@
 use Rattle.std.proofs.Common.{◌≡◌, ℕ, zero, suc, ◌+◌, ◌-◌, ◌^◌, ◌<◌, ◌≤◌, inl, inr, List, [], ◌∷◌, ◌++◌, length, take, get_or, refl, sym, ap, subst, ◌∙◌, arith}
 use Rattle.std.specs.Prelude.{map, fold, replicate, Some, option_map, All, slice_get, ◌==◌, if◌then◌else◌}
 use Rattle.std.proofs.lemmas.Bool.{cases_Bool}
-use Rattle.std.proofs.lemmas.List.{get_or_append_left, length-append, length-map, map-append, take-map}
+use Rattle.std.proofs.lemmas.List.{get_or_append_left, length-append, take-map}
 use Rattle.std.proofs.lemmas.List.Elements.{All-map, All-take}
 use Rattle.std.proofs.Math.Seq.{take-append_seam}
-use Rattle.std.proofs.lemmas.Option.{slice_get-map, slice_get-get_or, same_Some}
+use Rattle.std.proofs.lemmas.Option.{slice_get-map, slice_get-get_or}
 use Rattle.collectives.specs.Laws.{MonoidLaws}
 use Rattle.collectives.specs.Places.{Holds, padded, total, prefix_total}
 use Rattle.collectives.proofs.PadLemmas.{total_padded, prefix_padded}
@@ -42,20 +42,10 @@ module _ {M : Type 0} {op : Op} {unit : M} {joined : M → M → M} {number : M 
       → (rank : ℕ) → rank < 2 ^ k → slice_get (map number places) rank ≡ Some (number (held rank))
   number-held places k held holds rank within = slice_get-map number places rank ∙ ap (option_map number) (holds rank within)
 
-  number_units : (count : ℕ) → map number (replicate count unit) ≡ replicate count (unit_of op)
+  pub number_units : (count : ℕ) → map number (replicate count unit) ≡ replicate count (unit_of op)
   number_units zero = refl
   number_units (suc count) =
       ap (λ (rest : List ℕ). number unit ∷ rest) (number_units count) ∙ ap (λ (n : ℕ). n ∷ replicate count (unit_of op)) is.unit_number
-
-  -- members and then units stand for their numbers and then the operation's unit
-  pub numbers_padded : (k : ℕ) (members places : List M) (items : List ℕ) → map number members ≡ items → places ≡ padded unit k members
-      → map number places ≡ padded (unit_of op) k items
-  numbers_padded k members places items same filled =
-      ap (map number) filled
-      ∙ map-append number members (replicate (2 ^ k - length members) unit)
-      ∙ ap (λ (units : List ℕ). map number members ++ units) (number_units (2 ^ k - length members))
-      ∙ ap (λ (front : List ℕ). front ++ replicate (2 ^ k - length members) (unit_of op)) same
-      ∙ ap (λ (count : ℕ). items ++ replicate (2 ^ k - count) (unit_of op)) (sym (length-map members number) ∙ ap length same)
 
   -- numbers joined are the number of their values joined
   joined_numbers : (x y : M) (a b : ℕ) → number x ≡ a → number y ≡ b → join op a b ≡ number (joined x y)
@@ -138,11 +128,3 @@ broadcast_result number k root old new held items are place within =
     ∙ sym (slice_get-map number old root)
     ∙ ap (λ (numbers : List ℕ). slice_get numbers root) are.padded
     ∙ item_in_front items (replicate (2 ^ k - length items) (unit_of Add)) root (root_below root (length items) are.rooted)
-
--- every place has the item of the root, which is a value
-pub all_values : {M : Type 0} (IsValue : M → Type 0) (k root : ℕ) (old new : List M) → length old ≡ 2 ^ k → length new ≡ length old → root < 2 ^ k
-    → All IsValue old → ((rank : ℕ) → rank < 2 ^ k → slice_get new rank ≡ slice_get old root) → All IsValue new
-all_values IsValue k root old new places same within values held = λ i d inside.
-    (let item : Some (get_or new i d) ≡ Some (get_or old root d) =
-    sym (slice_get-get_or new i d inside) ∙ held i (omega (arith, places, same)) ∙ slice_get-get_or old root d (omega (arith, places)) in
-    subst IsValue (sym (same_Some (get_or new i d) (get_or old root d) item)) (values root d (omega (arith, places))))

@@ -1,7 +1,6 @@
 -- What no public contract reaches: how a job is held and how its rounds are tied to plain folds.
 pub mod Collective
 pub mod Job
+pub mod Kept
 pub mod Operation
-pub mod RankBuffer
 pub mod Reply
-pub mod Workspace

@@ -5,16 +5,16 @@ ghost use Rattle.cube_shape.specs.Region.{IsAligned};
 ghost use Rattle.job_types.specs.Dim.{IsLeastDim, dim_of};
 ghost use Rattle.job_types.specs.Job.{refusal_of};
 
+use crate::kept::Kept;
 use crate::kind::Kind;
 use crate::reply::{JobId, Reply};
-use crate::request::{JobRefused, Request, least_dim, refusal};
+use crate::request::{JobRefused, Request, refusal};
 use crate::work::Work;
-use crate::workspace::Workspace;
 use cube_shape::{MAX_DIM, MAX_LANES, Region};
 use std::alloc::Global;
 use std::marker::Model;
 
-/// A job that is not answered yet: a request, and the workspace for its rounds and its result.
+/// A job that is not answered yet: a request, and the room for its result.
 #[derive(Debug, Drop)]
 pub struct Job {
     work: Box<Work>,
@@ -22,22 +22,20 @@ pub struct Job {
 
 impl Model for Job {
     ghost use Rattle.std.specs.Prelude.{length};
-    ghost use Rattle.job_types.specs.Dim.{dim_of};
     ghost use Rattle.job_types.specs.Job.{JobData};
-    ghost use Rattle.job_types.specs.Inner.Workspace.{IsWorkspaceFor};
+    ghost use Rattle.job_types.specs.Inner.Kept.{HasRoomFor};
 
     ghost Value = { JobData };
 
     ghost view = { λ j. j.work.value.request };
 
-    ghost invariant = { λ j. IsWorkspaceFor j.work.value.request.kind
-        (dim_of (length j.work.value.request.items))
-        j.work.value.request.items j.work.value.workspace };
+    ghost invariant = { λ j. HasRoomFor j.work.value.request.kind
+        (length j.work.value.request.items) j.work.value.kept };
 }
 
 impl Job {
     /// A job for a machine of dimension `n` and one of its lanes, of 1 to `2^n` items. It reserves the
-    /// workspace for its rounds, so that answering it takes no memory.
+    /// room for its result, so that answering it takes no memory.
     ///
     /// An error gives the items back, as they were. It is the first reason of `JobRefused` that
     /// holds, and `OutOfMemory` only where a reservation was refused.
@@ -62,13 +60,13 @@ impl Job {
         if let Some(refused) = refusal(n, kind, &items) {
             return Err((items, refused));
         }
-        let dim = least_dim(items.len());
-        let Ok(workspace) = Workspace::new(alloc, kind, dim, &items) else {
+        let Ok(kept) = Kept::new(alloc, kind, items.len()) else {
             return Err((items, JobRefused::OutOfMemory));
         };
         let work = Work {
             request: Request::new(n, lane, kind, items),
-            workspace,
+            base: 0,
+            kept,
         };
         match Box::new(alloc, work) {
             Ok(work) => Ok(Job { work }),
@@ -124,14 +122,15 @@ impl Job {
     }
 
     /// Runs the job on a region of its machine: the smallest that has a processor for each item. It
-    /// takes no memory, since its rounds work in the workspace that was reserved for them.
+    /// takes no memory: its rounds work on the stack, and the room for its result was reserved before.
     pub fn answer(self, id: JobId, region: Region) -> Reply
         requires aligned { IsAligned self.machine region }
         requires dimension { region.dim ≡ dim_of (length self.items) }
         ensures { result ≡ record { id = id; job = self; region = region } }
     {
         let Job { mut work } = self;
-        let tally = work.run();
-        Reply::new(id, region, tally, work)
+        work.base = region.base;
+        work.run();
+        Reply::new(id, work)
     }
 }

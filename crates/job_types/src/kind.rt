@@ -1,8 +1,12 @@
 //! The collectives that jobs ask for, and the operations that join their items.
 
 ghost use Rattle.std.specs.Prelude.{◌≡◌};
+ghost use Rattle.job_types.specs.Collective.{shape_of};
 ghost use Rattle.job_types.specs.Job.{has_bad_root};
-ghost use Rattle.job_types.specs.Inner.Collective.{operation_of, scratch_len};
+ghost use Rattle.job_types.specs.Inner.Collective.{operation_of};
+ghost use Rattle.job_types.specs.Inner.Kept.{is_scan, shown_place};
+
+use collectives::Shape;
 
 /// An operation that joins two items into one. Each is associative.
 #[derive(Clone, Copy, Debug, PartialEq, Eq, Hash)]
@@ -78,13 +82,38 @@ impl Kind {
         }
     }
 
-    // How many scratch items the collective needs besides its `places` items.
-    pub(crate) fn scratch_len(self, places: usize) -> usize
-        ensures { result ≡ scratch_len self places }
+    // Whether each place of an item may hold a number of its own in the end.
+    pub(crate) fn is_scan(self) -> bool
+        ensures { result ≡ is_scan self }
     {
         match self {
-            Kind::Broadcast { .. } | Kind::Reduce { .. } | Kind::AllReduce { .. } => 0,
-            Kind::Scan { .. } | Kind::ExScan { .. } => places,
+            Kind::Broadcast { .. } | Kind::Reduce { .. } | Kind::AllReduce { .. } => false,
+            Kind::Scan { .. } | Kind::ExScan { .. } => true,
+        }
+    }
+
+    // A place that holds what the collective makes of all items, where it is no scan.
+    pub(crate) fn shown_place(self) -> u64
+        ensures { result ≡ shown_place self }
+    {
+        match self {
+            Kind::Reduce { root, .. } => root,
+            Kind::Broadcast { .. }
+            | Kind::AllReduce { .. }
+            | Kind::Scan { .. }
+            | Kind::ExScan { .. } => 0,
+        }
+    }
+
+    // Which messages the collective sends.
+    pub(crate) fn shape(self) -> Shape
+        ensures { result ≡ shape_of self }
+    {
+        match self {
+            Kind::Broadcast { .. } => Shape::Broadcast,
+            Kind::Reduce { .. } => Shape::Reduce,
+            Kind::AllReduce { .. } => Shape::AllReduce,
+            Kind::Scan { .. } | Kind::ExScan { .. } => Shape::Scan,
         }
     }
 }

@@ -4,19 +4,20 @@
 //! runs on a region of dimension `k`, the least that holds them, with one item on each of the first
 //! processors. The other processors of the region stand idle, and have the unit of the operation, which
 //! changes nothing. The reply names that region and holds the collective's result, at the places of the
-//! items alone. A job is answered by the rounds of `collectives`, in a workspace that it reserved when it
-//! was made. Only answering a job makes a `Reply`, so its result is always the plain definition of the
-//! collective.
+//! items alone. A job is answered by the rounds of `collectives`, which work on the stack, and keeps its
+//! result in room that it reserved when it was made. Only answering a job makes a `Reply`, so its result
+//! is always the plain definition of the collective.
 #![tactic(auto)]
 
+mod arrays;
 mod job;
+mod kept;
 mod kind;
 mod operation;
-mod rank_buffer;
 mod reply;
 mod request;
+mod rounds;
 mod work;
-mod workspace;
 
 pub use collectives::{Shape, Tally};
 pub use cube_shape::{MAX_DIM, Region};

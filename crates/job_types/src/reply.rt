@@ -5,8 +5,7 @@ ghost use Rattle.cube_shape.specs.Region.{IsAligned};
 ghost use Rattle.collectives.specs.Shape.{tally_of};
 ghost use Rattle.job_types.specs.Collective.{result_at, shape_of};
 ghost use Rattle.job_types.specs.Dim.{dim_of};
-ghost use Rattle.job_types.specs.Inner.Reply.{IsAnswer};
-ghost use Rattle.job_types.specs.Inner.Workspace.{numbers_of};
+ghost use Rattle.job_types.specs.Inner.Reply.{IsAnswer, region_at};
 
 use crate::kind::Kind;
 use crate::request::Request;
@@ -29,36 +28,36 @@ pub struct JobId {
 #[derive(Debug, Drop)]
 pub struct Reply {
     id: JobId,
-    region: Region,
-    tally: Tally,
     work: Box<Work>,
 }
 
 impl Model for Reply {
     ghost use Rattle.job_types.specs.Reply.{ReplyData};
-    ghost use Rattle.job_types.specs.Inner.Reply.{IsAnswer};
-    ghost use Rattle.job_types.specs.Inner.Workspace.{numbers_of};
+    ghost use Rattle.job_types.specs.Inner.Reply.{IsAnswer, region_at};
 
     ghost Value = { ReplyData };
 
-    ghost view = { λ r. record { id = r.id; job = r.work.value.request; region = r.region } };
+    ghost view = { λ r. record {
+      id = r.id;
+      job = r.work.value.request;
+      region = region_at r.work.value.request r.work.value.base;
+    } };
 
-    ghost invariant = { λ r. IsAnswer r.work.value.request r.region r.tally
-        (numbers_of r.work.value.workspace) };
+    ghost invariant = { λ r.
+        IsAnswer r.work.value.request r.work.value.base r.work.value.kept };
 }
 
 impl Reply {
     // The reply with these parts, which fit together.
-    pub(crate) fn new(id: JobId, region: Region, tally: Tally, work: Box<Work>) -> Self
-        requires { IsAnswer work.value.request region tally (numbers_of work.value.workspace) }
-        ensures { result ≡ record { id = id; job = work.value.request; region = region } }
+    pub(crate) fn new(id: JobId, work: Box<Work>) -> Self
+        requires { IsAnswer work.value.request work.value.base work.value.kept }
+        ensures { result ≡ record {
+          id = id;
+          job = work.value.request;
+          region = region_at work.value.request work.value.base;
+        } }
     {
-        Reply {
-            id,
-            region,
-            tally,
-            work,
-        }
+        Reply { id, work }
     }
 
     /// The id of the job.
@@ -82,7 +81,10 @@ impl Reply {
         ensures aligned { IsAligned self.now.job.machine result }
         ensures dimension { result.dim ≡ dim_of (length self.now.job.items) }
     {
-        self.region
+        Region {
+            base: self.work.base,
+            dim: self.work.request.dim(),
+        }
     }
 
     /// The rounds and messages of the collective, on all processors of the region.
@@ -90,7 +92,11 @@ impl Reply {
         ensures { result ≡
             tally_of (shape_of self.now.job.kind) (dim_of (length self.now.job.items)) }
     {
-        self.tally
+        self.work
+            .request
+            .kind()
+            .shape()
+            .tally(self.work.request.dim())
     }
 
     /// What the region's processor of this rank holds in the end. It is `None` for a rank that has
@@ -104,7 +110,7 @@ impl Reply {
         }
         match self.work.request.kind() {
             Kind::Reduce { root, .. } if rank != root => None,
-            _ => self.work.workspace.at(rank),
+            _ => self.work.kept.at(rank),
         }
     }
 }

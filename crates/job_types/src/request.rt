@@ -1,16 +1,13 @@
 //! What a job asks for, and why a request is refused.
 
 ghost use Rattle.std.specs.Prelude.{◌≡◌, ℕ, ◌^◌, ◌<◌, ◌≤◌, length, None};
-ghost use Rattle.collectives.specs.Shape.{tally_of};
-ghost use Rattle.job_types.specs.Collective.{shape_of};
 ghost use Rattle.job_types.specs.Dim.{IsLeastDim, dim_of};
 ghost use Rattle.job_types.specs.Job.{refusal_of};
-ghost use Rattle.job_types.specs.Inner.Collective.{IsResult};
-ghost use Rattle.job_types.specs.Inner.Workspace.{IsWorkspaceFor, numbers_of};
+ghost use Rattle.job_types.specs.Inner.Kept.{HasRoomFor, IsShown};
 
+use crate::kept::Kept;
 use crate::kind::Kind;
-use crate::workspace::Workspace;
-use collectives::Tally;
+use crate::rounds::answer;
 use cube_shape::{MAX_DIM, MAX_LANES};
 use std::marker::Model;
 use thiserror::Error;
@@ -32,14 +29,13 @@ pub enum JobRefused {
     OutOfMemory,
 }
 
-/// What a job asks for. Every request can be met: it has an item at least, `dim` is the least dimension
-/// that holds its items, and its machine has regions of that dimension.
+/// What a job asks for. Every request can be met: it has an item at least, and its machine has regions of
+/// the least dimension that holds its items.
 #[derive(Debug, Drop)]
 pub struct Request {
     machine: u32,
     lane: u32,
     kind: Kind,
-    dim: u32,
     items: Vec<u64>,
 }
 
@@ -52,7 +48,7 @@ impl Model for Request {
     ghost view = { λ r.
         record { machine = r.machine; lane = r.lane; kind = r.kind; items = r.items.items } };
 
-    ghost invariant = { λ r. IsJob r.machine r.lane r.kind r.dim r.items.items };
+    ghost invariant = { λ r. IsJob r.machine r.lane r.kind r.items.items };
 }
 
 // Why a machine of dimension `n` refuses these items: the first reason, in the order of
@@ -95,20 +91,16 @@ impl Request {
             machine: n,
             lane,
             kind,
-            dim: least_dim(items.len()),
             items,
         }
     }
 
-    // Runs the collective in a workspace that holds the items, and the unit at the other places.
-    pub(crate) fn run_in(&self, workspace: &mut Workspace) -> Tally
-        requires { IsWorkspaceFor self.now.kind (dim_of (length self.now.items)) self.now.items
-            workspace.old }
-        ensures result { IsResult self.now.kind self.now.items (numbers_of workspace.new) }
-        ensures tally { result ≡
-            tally_of (shape_of self.now.kind) (dim_of (length self.now.items)) }
+    // Runs the collective on the items, and keeps its result.
+    pub(crate) fn run_into(&self, kept: &mut Kept)
+        requires { HasRoomFor self.now.kind (length self.now.items) kept.old }
+        ensures { IsShown self.now.kind self.now.items kept.new }
     {
-        workspace.run(self.kind, self.dim())
+        answer(&self.items, self.kind, self.dim(), kept);
     }
 
     // The items.
@@ -152,7 +144,7 @@ impl Request {
         // What `dim_of` means, of any number of items.
         ensures means { (p : ℕ) → IsLeastDim p (dim_of p) }
     {
-        self.dim
+        least_dim(self.items.len())
     }
 
     /// The items, from 1 to as many as the machine has processors. The `i`-th one is on the region's

@@ -1,36 +1,28 @@
 //! What a job and its reply hold on the heap.
 
 ghost use Rattle.std.specs.Prelude.{◌≡◌, length};
-ghost use Rattle.collectives.specs.Shape.{tally_of};
-ghost use Rattle.job_types.specs.Collective.{shape_of};
-ghost use Rattle.job_types.specs.Dim.{dim_of};
-ghost use Rattle.job_types.specs.Inner.Collective.{IsResult};
-ghost use Rattle.job_types.specs.Inner.Workspace.{IsWorkspaceFor, numbers_of};
+ghost use Rattle.job_types.specs.Inner.Kept.{HasRoomFor, IsShown};
 
+use crate::kept::Kept;
 use crate::request::Request;
-use crate::workspace::Workspace;
-use collectives::Tally;
 
-// A request, and the workspace for its rounds and its result. Jobs and replies are moved often, and hold
-// it in a box.
+// A request, the least processor of the region that it ran on, and what is kept of its result. Jobs and
+// replies are moved often, and hold it in a box.
 #[derive(Debug, Drop)]
 pub(crate) struct Work {
     pub request: Request,
-    pub workspace: Workspace,
+    pub base: u64,
+    pub kept: Kept,
 }
 
 impl Work {
-    // Runs the rounds of the request in the workspace, which holds its items and the unit at the other
-    // places.
-    pub(crate) fn run(&mut self) -> Tally
-        requires { IsWorkspaceFor self.old.request.kind (dim_of (length self.old.request.items))
-            self.old.request.items self.old.workspace }
+    // Runs the rounds of the request, and keeps its result.
+    pub(crate) fn run(&mut self)
+        requires { HasRoomFor self.old.request.kind (length self.old.request.items) self.old.kept }
         ensures request { self.new.request ≡ self.old.request }
-        ensures result { IsResult self.old.request.kind self.old.request.items
-            (numbers_of self.new.workspace) }
-        ensures tally { result ≡
-            tally_of (shape_of self.old.request.kind) (dim_of (length self.old.request.items)) }
+        ensures base { self.new.base ≡ self.old.base }
+        ensures shown { IsShown self.old.request.kind self.old.request.items self.new.kept }
     {
-        self.request.run_in(&mut self.workspace)
+        self.request.run_into(&mut self.kept);
     }
 }

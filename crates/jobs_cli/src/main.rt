@@ -1,10 +1,12 @@
 //! Jobs, regions and schedules of a hypercube machine: `cubejobs run --dim N`,
 //! `cubejobs report --dim N`, `cubejobs place --dim N` and `cubejobs replay --dim N --stations S`.
 //!
-//! The input comes as CSV from standard input, and its answer goes as CSV to standard output. Jobs are
+//! The input comes as CSV from the file that the command names or from standard input, and its answer
+//! goes as CSV to the file that `--output` names, whole or not at all, or to standard output. Jobs are
 //! answered on threads, by the dispatchers and over the line that `--dispatchers` and `--capacity` ask
 //! for. Where standard error is a terminal that can write a line anew, it shows how far a long run is,
-//! unless `--quiet` is given. Where standard input is a terminal, standard error says what is waited for.
+//! unless `--quiet` is given. Where standard input is read and is a terminal, standard error says what is
+//! waited for.
 //! The whole program is `program::run` of `cli_commands`, over any words, reader and writers; this file
 //! ties them to the process, which ends by `program::exit_code`.
 #![tactic(auto)]
@@ -16,6 +18,7 @@ use std::io;
 use std::io::IsTerminal;
 use std::process::ExitCode;
 use std::rt::Env;
+use whole_file::SystemFiles;
 
 // The words of the command line, from the program's name on.
 fn words<R: Env + AllocGlobal>(rt: &R) -> io::Result<Vec<String>> {
@@ -51,6 +54,7 @@ fn main(rt: HostRuntime) -> ExitCode {
     } else {
         None
     };
+    let mut store = SystemFiles { rt: &rt };
     let mut reader = Counted::new(input);
     let mut writer = Counted::new(rt.stdout());
     let mut errors = rt.stderr();
@@ -63,11 +67,14 @@ fn main(rt: HostRuntime) -> ExitCode {
         &rt,
         rt.alloc(),
         &words,
+        &mut store,
         &mut reader,
         &mut writer,
         &mut errors,
         &mut terminal,
         &mut prompt,
     );
+    // The store holds nothing that has to end.
+    let SystemFiles { rt: _ } = store;
     program::exit_code(ending)
 }

@@ -20,4 +20,4 @@ pub use entered::{Entered, EnteredLate, Pushed};
 pub use gate::{Counts, Gate, Witness};
 pub use handle::{GateCloser, GateEnd, GateLane, GateMembers, GateNote, GatePass};
 pub use record::{LaneEntries, PassReadings, Reading, SettledEntry};
-pub use steps::Counted;
+pub use steps::EntryCount;

@@ -10,7 +10,7 @@ use crate::rule::{Close, Enter, Look, ReadGate, ReadSettled, SettleAccepted, Set
 
 /// What a pass reads in the first word of a gate.
 #[derive(Clone, Copy, Debug, PartialEq, Eq)]
-pub struct Counted {
+pub struct EntryCount {
     /// The count of entries.
     pub entries: u64,
     /// Whether the closed mark stands beside it.
@@ -118,7 +118,7 @@ impl<P: Pushed, F: Pushed, E: Witness> Gate<P, F, E> {
 
     /// Reads the count of entries and the closed mark, for a pass that found the line empty and has
     /// read how many entries are settled.
-    pub fn read_gate(&self, pass: &mut GatePass, _settled: u64, empty: E) -> Counted
+    pub fn read_gate(&self, pass: &mut GatePass, _settled: u64, empty: E) -> EntryCount
         requires gate { pass.old.gate ≡ self.now.table }
         requires half { pass.old.known.settled ≡ Some _settled }
         ensures gate { pass.new.gate ≡ self.now.table }
@@ -128,12 +128,12 @@ impl<P: Pushed, F: Pushed, E: Witness> Gate<P, F, E> {
         empty.spend();
         let found = self.table.shared.load::<ReadGate>(&mut pass.seat, GATE);
         if found < CLOSED {
-            Counted {
+            EntryCount {
                 entries: found,
                 closed: false,
             }
         } else {
-            Counted {
+            EntryCount {
                 entries: found - CLOSED,
                 closed: true,
             }

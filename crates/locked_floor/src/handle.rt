@@ -10,7 +10,7 @@ use alloc_bits::AllocBits;
 use cube_shape::Region;
 
 /// One who may take a subcube of a `LockedFloor`, and has none at the moment. It cannot be dropped.
-pub struct Station {
+pub struct LockedStation {
     pub(crate) number: u32,
     pub(crate) seat: Seat,
     ghost known: { IsStationSeat seat.me number None },

@@ -14,5 +14,5 @@ mod members;
 mod plays;
 mod view;
 
-pub use handle::{FreeMachine, Held, Station};
+pub use handle::{FreeMachine, Held, LockedStation};
 pub use locked_floor::LockedFloor;

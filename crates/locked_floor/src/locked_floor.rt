@@ -7,7 +7,7 @@ ghost use Rattle.locked_floor.specs.Inner.Step.{IsStationSeat};
 ghost use Rattle.locked_floor.specs.Inner.Handle.{floor_id, size_of, IsOf, grants_in};
 
 use crate::bits_lock::{BitsLock, Seat};
-use crate::handle::{FreeMachine, Held, Station};
+use crate::handle::{FreeMachine, Held, LockedStation};
 use crate::members::{deal_stations, gather_stations};
 use crate::view::Size;
 use cube_shape::{MAX_DIM, MAX_STATIONS, Region};
@@ -53,7 +53,7 @@ impl LockedFloor {
 }
 
 impl Floor for LockedFloor {
-    type Station = Station;
+    type Station = LockedStation;
 
     type Held = Held;
 
@@ -79,7 +79,11 @@ impl Floor for LockedFloor {
 
     ghost is_closed = { AreBitsFree };
 
-    fn open(alloc: Global, n: u32, stations: u32) -> Result<(LockedFloor, Vec<Station>), AllocError>
+    fn open(
+        alloc: Global,
+        n: u32,
+        stations: u32,
+    ) -> Result<(LockedFloor, Vec<LockedStation>), AllocError>
         requires dim { n ≤ MAX_DIM }
         requires some { 0 < stations }
         requires few { stations ≤ MAX_STATIONS }
@@ -100,8 +104,8 @@ impl Floor for LockedFloor {
         Ok((LockedFloor { lock, words }, list))
     }
 
-    fn take<R: Wait>(&self, rt: &R, station: Station, k: u32) -> Held {
-        let Station { number, mut seat } = station;
+    fn take<R: Wait>(&self, rt: &R, station: LockedStation, k: u32) -> Held {
+        let LockedStation { number, mut seat } = station;
         let mut pause = Pause::new();
         for _ in rt.forever() {
             if let Some(region) = self.try_take(rt, &mut seat, number, k) {
@@ -147,7 +151,7 @@ impl Floor for LockedFloor {
         (first, second)
     }
 
-    fn release<R: Wait>(&self, rt: &R, held: Held) -> Station {
+    fn release<R: Wait>(&self, rt: &R, held: Held) -> LockedStation {
         let Held {
             number,
             region: _,
@@ -156,10 +160,10 @@ impl Floor for LockedFloor {
         self.lock.enter(rt, &mut seat);
         self.lock.withdraw(&mut seat, number);
         self.lock.free(&mut seat);
-        Station { number, seat }
+        LockedStation { number, seat }
     }
 
-    fn close(self, stations: Vec<Station>) -> FreeMachine
+    fn close(self, stations: Vec<LockedStation>) -> FreeMachine
         requires of_floor { All (IsStation (floor_id self.lock)) stations.items }
         requires all { length stations.items ≡ (floor_id self.lock).stations }
         ensures granted { All (λ s. All (IsAligned (floor_id self.lock).dim) (grants_of s))

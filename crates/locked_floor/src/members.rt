@@ -7,16 +7,16 @@ ghost use Rattle.locked_floor.specs.Inner.End.{IsWhole};
 ghost use Rattle.locked_floor.specs.Inner.Handle.{table_of, size_of, floor_id, is_seated, grants_of};
 
 use crate::bits_lock::{BitsLock, Seat};
-use crate::handle::Station;
+use crate::handle::LockedStation;
 use cube_shape::MAX_STATIONS;
 
 // Makes the stations, of the first seat's records.
 pub fn deal_stations(
     lock: &BitsLock,
     mut seat: Seat,
-    mut stations: Vec<Station>,
+    mut stations: Vec<LockedStation>,
     count: u32,
-) -> Vec<Station>
+) -> Vec<LockedStation>
     requires table { seat.table_id ≡ table_of lock.now }
     requires first { seat.me ≡ (first_view (size_of lock.now), []) }
     requires count { count ≡ (size_of lock.now).stations }
@@ -29,13 +29,13 @@ pub fn deal_stations(
 {
     for number in 0..count {
         let seat = lock.deal(&mut seat);
-        stations.push_reserved(Station { number, seat });
+        stations.push_reserved(LockedStation { number, seat });
     }
     stations
 }
 
 // One seat with the records of all stations.
-pub fn gather_stations(lock: &BitsLock, mut stations: Vec<Station>) -> Seat
+pub fn gather_stations(lock: &BitsLock, mut stations: Vec<LockedStation>) -> Seat
     requires stations { All (is_seated (floor_id lock.now)) stations.items }
     requires all { length stations.items ≡ (size_of lock.now).stations }
     requires some { 0 < length stations.items }
@@ -43,7 +43,7 @@ pub fn gather_stations(lock: &BitsLock, mut stations: Vec<Station>) -> Seat
     ensures whole { IsWhole (size_of lock.now) result.me }
 {
     let Some(
-        Station {
+        LockedStation {
             number: _,
             mut seat,
         },
@@ -52,7 +52,7 @@ pub fn gather_stations(lock: &BitsLock, mut stations: Vec<Station>) -> Seat
         unreachable!()
     };
     while let Some(
-        Station {
+        LockedStation {
             number: _,
             seat: other,
         },

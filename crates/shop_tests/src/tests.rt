@@ -9,4 +9,5 @@ mod job_crowd;
 mod over;
 mod runs;
 mod shop;
+mod slot;
 mod stage;

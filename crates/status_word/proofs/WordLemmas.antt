@@ -64,14 +64,19 @@ IsSet-test w bit = (into, back)
     back : IsSet w bit → eqb (bit_and w (2 ^ bit)) (2 ^ bit) ≡ true
     back set = eq-eqb (bit_and w (2 ^ bit)) (2 ^ bit) (mask ∙ ap (λ b. b * 2 ^ bit) set ∙ one-mul (2 ^ bit))
 
+-- a number of so many binary digits has no bit from there on
+pub bit_beyond : (w digits bit : ℕ) → w < 2 ^ digits → digits ≤ bit → bit_at w bit ≡ 0
+bit_beyond w digits bit short far =
+    let big : 2 ^ digits ≤ 2 ^ bit = pow_mono far in
+    let below : w < 2 ^ bit = omega arith in
+    ap (λ x. x % 2) (div-eq_of_lt below)
+
 -- ---- the three bits of use
 
 -- a number below 8 has no bit from 3 on
 low_has_no_mark : (m bit : ℕ) → m < 8 → 3 ≤ bit → IsSet m bit → ⊥
 low_has_no_mark m bit small far set =
-    let big : 2 ^ 3 ≤ 2 ^ bit = pow_mono far in
-    let below : m < 2 ^ bit = omega arith in
-    let none : bit_at m bit ≡ 0 = ap (λ x. x % 2) (div-eq_of_lt below) in
+    let none : bit_at m bit ≡ 0 = bit_beyond m 3 bit small far in
     omega arith
 
 -- the bits of use are those of the word, and no other

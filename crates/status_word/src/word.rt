@@ -1,4 +1,4 @@
-ghost use Rattle.std.specs.Prelude.{◌≡◌, ℕ, ◌^◌, ◌<◌, ◌↔◌, ◌++◌, false, IsTrue, IfOk, OnOk, string_bytes};
+ghost use Rattle.std.specs.Prelude.{◌≡◌, ℕ, ◌^◌, ◌<◌, ◌≤◌, ◌↔◌, [], ◌++◌, false, IsTrue, IfOk, OnOk, string_bytes};
 ghost use Rattle.status_word.specs.Word.{HasSide, IsFree, IsMarked, IsOccupied, IsSet, SameElsewhere, cleared as cleared_word, mark_bit, side_bit, use_of, with_mark, with_side as word_with_side};
 ghost use Rattle.status_word.specs.declared.word.TheConstants.Word.{BUSY};
 ghost use Rattle.status_word.specs.declared.use_bits.TheConstants.UseBits.{LEFT, OCC, RIGHT};
@@ -131,10 +131,20 @@ impl Word {
         ensures { IfOk result (λ text. string_bytes text ≡ word_text self.0) }
     {
         let mut text = String::from_str(alloc, self.letters())?;
-        for station in 0..MAX_STATIONS {
+        for station in 0..self.mark_end() {
             self.push_mark(&mut text, station)?;
         }
         Ok(text)
+    }
+
+    // The number after that of the last station whose mark stands, and 0 if none stands.
+    fn mark_end(self) -> u32
+        ensures within { result ≤ MAX_STATIONS }
+        ensures past { (station : ℕ) → result ≤ station → station < MAX_STATIONS
+            → mark_text self.0 station ≡ [] }
+    {
+        let digits = u64::BITS - self.0.leading_zeros();
+        digits.saturating_sub(FIRST_MARK).min(MAX_STATIONS)
     }
 
     // The letters of the bits of use, or a dash for none.

@@ -1,2 +1,3 @@
 mod ListLemmas
+mod OnlyLemmas
 pub mod PairLemmas

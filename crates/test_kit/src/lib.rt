@@ -1,15 +1,18 @@
 //! What tests share: lists of jobs, lists of one member or two, a table of the processors that are in use,
-//! and runners that see what is inside them at one moment. No program stands on this crate.
+//! the members of a small shop, and runners that see what is inside them at one moment. Tests stand on this crate,
+//! and the measurements.
 #![tactic(auto)]
 
 mod job_lists;
 mod meeting;
 mod members;
+mod shop_members;
 mod table;
 mod waiting;
 
 pub use job_lists::{Plan, Row, SUM, job, jobs, listed, lists};
 pub use meeting::{Keeper, Meeting};
 pub use members::{Pair, both, only, sole};
+pub use shop_members::{only_lane, only_worker};
 pub use table::{Table, Tabled};
 pub use waiting::wait_for;

@@ -14,7 +14,7 @@ use Rattle.tree_steps.specs.declared.view.Entry.{Entry}
 use Rattle.tree_steps.specs.Rule.{idle_entries}
 use Rattle.tree_steps.specs.Tree.{id_of}
 use Rattle.cube_tree.specs.declared.handles.Cube.{Cube}
-use Rattle.cube_tree.specs.declared.handles.Station.{Station}
+use Rattle.cube_tree.specs.declared.handles.TreeStation.{TreeStation}
 use Rattle.cube_tree.specs.declared.handles.Subcube.{Subcube}
 use Rattle.cube_tree.specs.declared.refusal.Refusal.{Refusal}
 use Rattle.cube_tree.specs.Handles.{cube_dim, cube_size, station_entry, subcube_entry, held_node, held_region, IsStationOf, IsSubcubeOf, IsSameSubcube, GivesBack}
@@ -46,7 +46,7 @@ dim_of_cube cube table is = ap dim_of is ∙ dim_of_words (cube_dim cube) (id_of
 
 -- ---- handles and tables
 
-pub own_table : (cube : Cube) (station : Station) → IsStation (floor_id cube) station → IsStationOf cube station
+pub own_table : (cube : Cube) (station : TreeStation) → IsStation (floor_id cube) station → IsStationOf cube station
 own_table cube station of_floor = sym (ap (λ tables. get_or tables 0 (id_of cube.tree)) of_floor.table)
 
 pub held_table : (cube : Cube) (subcube : Subcube) → IsHeld (floor_id cube) subcube → IsSubcubeOf cube subcube
@@ -54,11 +54,11 @@ held_table cube subcube of_floor = sym (ap (λ tables. get_or tables 0 (id_of cu
 
 -- ---- takes
 
-pub record Takes (cube : Cube) (station : Station) (subcube : Subcube) : Type 0 where
+pub record Takes (cube : Cube) (station : TreeStation) (subcube : Subcube) : Type 0 where
   pub of_floor : IsHeld (floor_id cube) subcube
   pub granted : subcube_grants subcube ≡ station_grants station ++ held_region subcube ∷ []
 
-pub takes : (cube : Cube) (j : ℕ) (station : Station) (subcube : Subcube) → IsStation (floor_id cube) station → TakesNext cube j (station_entry station) subcube → Takes cube station subcube
+pub takes : (cube : Cube) (j : ℕ) (station : TreeStation) (subcube : Subcube) → IsStation (floor_id cube) station → TakesNext cube j (station_entry station) subcube → Takes cube station subcube
 takes cube j station subcube of_floor t = record {
   of_floor = record {
     table = ap (λ (table : TableId). table ∷ []) (sym t.taken.of_cube);
@@ -82,7 +82,7 @@ takes cube j station subcube of_floor t = record {
         ∙ ap (λ (r : Region). station_grants station ++ r ∷ []) (sym t.taken.region_is)
 
 -- where all tries were refused the station is as it was
-pub stays : (cube : Cube) (j : ℕ) (old new : Station) (r : Refusal) → IsStation (floor_id cube) old → IsStationOf cube new → IsRefusedEach (cube_dim cube) j (station_entry old) (station_entry new) r → IsStation (floor_id cube) new × (station_grants new ≡ station_grants old)
+pub stays : (cube : Cube) (j : ℕ) (old new : TreeStation) (r : Refusal) → IsStation (floor_id cube) old → IsStationOf cube new → IsRefusedEach (cube_dim cube) j (station_entry old) (station_entry new) r → IsStation (floor_id cube) new × (station_grants new ≡ station_grants old)
 stays cube j old new r of_floor back t = (
   record {
     table = ap (λ (table : TableId). table ∷ []) (sym back);
@@ -100,7 +100,7 @@ stays cube j old new r of_floor back t = (
 
 -- ---- releases
 
-pub comes_back : (cube : Cube) (held : Subcube) (station : Station) → IsHeld (floor_id cube) held → GivesBack cube (held_node held) (subcube_entry held) station → IsStation (floor_id cube) station × (station_grants station ≡ subcube_grants held)
+pub comes_back : (cube : Cube) (held : Subcube) (station : TreeStation) → IsHeld (floor_id cube) held → GivesBack cube (held_node held) (subcube_entry held) station → IsStation (floor_id cube) station × (station_grants station ≡ subcube_grants held)
 comes_back cube held station of_floor back = (
   record {
     table = ap (λ (table : TableId). table ∷ []) (sym back.of_cube);
@@ -132,7 +132,7 @@ record IsFresh (most : ℕ) (e : Entry) : Type 0 where
   below : e.station < most
   trail : e.trail ≡ []
 
-fresh_at : (a count most i : ℕ) (list : List Station) (d : Station) → a + count ≤ most → map station_entry list ≡ idle_entries a count → i < length list → IsFresh most (station_entry (get_or list i d))
+fresh_at : (a count most i : ℕ) (list : List TreeStation) (d : TreeStation) → a + count ≤ most → map station_entry list ≡ idle_entries a count → i < length list → IsFresh most (station_entry (get_or list i d))
 fresh_at a zero most i [] d le is below = absurd (omega arith)
 fresh_at a zero most i (s ∷ list) d le is below = absurd (let none = ap length is in omega arith)
 fresh_at a (suc count) most i [] d le is below = absurd (omega arith)
@@ -143,10 +143,10 @@ fresh_at a (suc count) most (suc i) (s ∷ list) d le is below = fresh_at (suc a
     tail [] = []
     tail (e ∷ es) = es
 
-pub opened_grants : (count : ℕ) (list : List Station) → map station_entry list ≡ idle_entries 0 count → All (λ s. station_grants s ≡ []) list
+pub opened_grants : (count : ℕ) (list : List TreeStation) → map station_entry list ≡ idle_entries 0 count → All (λ s. station_grants s ≡ []) list
 opened_grants count list idle = λ i d below. ap (grants_in (dim_of (get_or list i d).seat.table_id)) (fresh_at 0 count count i list d (omega arith) idle below).trail
 
-pub opened_stations : (cube : Cube) (count : ℕ) (list : List Station) → (cube_size cube).stations ≡ count → All (IsStationOf cube) list → map station_entry list ≡ idle_entries 0 count → All (IsStation (floor_id cube)) list
+pub opened_stations : (cube : Cube) (count : ℕ) (list : List TreeStation) → (cube_size cube).stations ≡ count → All (IsStationOf cube) list → map station_entry list ≡ idle_entries 0 count → All (IsStation (floor_id cube)) list
 opened_stations cube count list size of_cube idle = λ i d below. record {
   table = ap (λ (table : TableId). table ∷ []) (sym (of_cube i d below));
   below = subst (λ most. (station_entry (get_or list i d)).station < most) (sym size) (fresh_at 0 count count i list d (omega arith) idle below).below;
@@ -156,5 +156,5 @@ opened_stations cube count list size of_cube idle = λ i d below. record {
 -- ---- the end
 
 -- each region that a station of the floor was given is aligned
-pub closed_grants : (cube : Cube) (list : List Station) → All (IsStation (floor_id cube)) list → All (λ s. All (IsAligned (cube_dim cube)) (station_grants s)) list
+pub closed_grants : (cube : Cube) (list : List TreeStation) → All (IsStation (floor_id cube)) list → All (λ s. All (IsAligned (cube_dim cube)) (station_grants s)) list
 closed_grants cube list of_floor = λ i d below. (of_floor i d below).granted

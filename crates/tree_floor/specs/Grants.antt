@@ -9,7 +9,7 @@ use Rattle.cube_core.specs.declared.event.Kind.TheVariants.{Look}
 use Rattle.cube_core.specs.declared.event.Note.{Note}
 use Rattle.cube_core.specs.declared.event.Note.TheVariants.{Held}
 use Rattle.cube_core.specs.Held.{region_at}
-use Rattle.cube_tree.specs.declared.handles.Station.{Station}
+use Rattle.cube_tree.specs.declared.handles.TreeStation.{TreeStation}
 use Rattle.cube_tree.specs.declared.handles.Subcube.{Subcube}
 use Rattle.cube_tree.specs.Handles.{station_entry, subcube_entry}
 
@@ -37,7 +37,7 @@ grants_in n (e ∷ earlier) = if is_held e.note then grants_in n earlier ++ regi
 abbrev pub dim_of : TableId → ℕ
 dim_of table = trailing_zeros w64 table.words - 1
 
-abbrev pub station_grants : Station → List Region
+abbrev pub station_grants : TreeStation → List Region
 station_grants station = grants_in (dim_of station.seat.table_id) (station_entry station).trail
 
 abbrev pub subcube_grants : Subcube → List Region

@@ -7,5 +7,5 @@
 
 mod tree_floor;
 
-pub use cube_tree::{FreeMachine, Station, Subcube};
+pub use cube_tree::{FreeMachine, Subcube, TreeStation};
 pub use tree_floor::TreeFloor;

@@ -5,7 +5,7 @@ ghost use Rattle.cube_shape.specs.Region.{AreApart, IsAligned};
 ghost use Rattle.floors.specs.Floor.{IsWhollyFree};
 
 use cube_shape::{MAX_DIM, MAX_STATIONS, Region};
-use cube_tree::{Cube, FreeMachine, Station, Subcube, apart};
+use cube_tree::{Cube, FreeMachine, Subcube, TreeStation, apart};
 use floors::Floor;
 use pause::Pause;
 use std::alloc::{AllocError, Global};
@@ -18,7 +18,7 @@ pub struct TreeFloor {
 }
 
 impl Floor for TreeFloor {
-    type Station = Station;
+    type Station = TreeStation;
 
     type Held = Subcube;
 
@@ -48,7 +48,11 @@ impl Floor for TreeFloor {
 
     ghost is_closed = { IsRollWhole };
 
-    fn open(alloc: Global, n: u32, stations: u32) -> Result<(TreeFloor, Vec<Station>), AllocError>
+    fn open(
+        alloc: Global,
+        n: u32,
+        stations: u32,
+    ) -> Result<(TreeFloor, Vec<TreeStation>), AllocError>
         requires dim { n ≤ MAX_DIM }
         requires some { 0 < stations }
         requires few { stations ≤ MAX_STATIONS }
@@ -65,7 +69,7 @@ impl Floor for TreeFloor {
         }
     }
 
-    fn take<R: Wait>(&self, rt: &R, station: Station, k: u32) -> Subcube {
+    fn take<R: Wait>(&self, rt: &R, station: TreeStation, k: u32) -> Subcube {
         let mut station = station;
         let mut pause = Pause::new();
         for _ in rt.forever() {
@@ -86,11 +90,11 @@ impl Floor for TreeFloor {
         apart(a, b, &self.cube)
     }
 
-    fn release<R: Wait>(&self, _rt: &R, held: Subcube) -> Station {
+    fn release<R: Wait>(&self, _rt: &R, held: Subcube) -> TreeStation {
         held.release(&self.cube)
     }
 
-    fn close(self, stations: Vec<Station>) -> FreeMachine
+    fn close(self, stations: Vec<TreeStation>) -> FreeMachine
         requires of_floor { All (IsStation (floor_id self.cube)) stations.items }
         requires all { length stations.items ≡ (floor_id self.cube).stations }
         ensures granted { All (λ s. All (IsAligned (floor_id self.cube).dim) (station_grants s))

@@ -6,15 +6,15 @@ ghost use Rattle.cube_tree.specs.Ends.{IsWhollyFree};
 ghost use Rattle.cube_tree.specs.Handles.{cube_dim, IsStationOf};
 
 use cube_shape::Region;
-use cube_tree::{Cube, FreeMachine, Station, StillOut, apart};
+use cube_tree::{Cube, FreeMachine, StillOut, TreeStation, apart};
 
 /// Two stations hold a region of dimension `k` and one of dimension `l` at the same moment, give them
 /// back and retire. The regions that they held are aligned, of the dimensions asked, and apart; none are
 /// told where a take was refused.
 pub fn hold_two(
     cube: &Cube,
-    first: Station,
-    second: Station,
+    first: TreeStation,
+    second: TreeStation,
     k: u32,
     l: u32,
 ) -> Option<(Region, Region)>
@@ -54,8 +54,8 @@ pub fn hold_two(
 /// machine is wholly free.
 pub fn hold_two_and_close(
     cube: Cube,
-    first: Station,
-    second: Station,
+    first: TreeStation,
+    second: TreeStation,
     k: u32,
     l: u32,
 ) -> (Option<(Region, Region)>, Result<FreeMachine, StillOut>)

@@ -1,5 +1,5 @@
 -- How a call of the program ends, by the request of its words or by the error that `clap` gives for them.
-use Rattle.std.specs.Prelude.{◌≡◌, ◌≢◌, ◌⊎◌, ℕ, false, List, Option, Ok, Err, IfSome}
+use Rattle.std.specs.Prelude.{◌≡◌, ◌≢◌, ◌⊎◌, ℕ, Bool, true, false, List, Option, Ok, Err, IfSome}
 use Rattle.clap.specs.declared.error.kind.ErrorKind.{ErrorKind}
 use Rattle.clap.specs.declared.error.kind.ErrorKind.TheVariants.{DisplayHelp, DisplayVersion, OutOfMemory}
 use Rattle.jobs_csv.specs.Fault.{is_refusal}
@@ -7,15 +7,18 @@ use Rattle.jobs_csv.specs.declared.fault.Fault.{Fault}
 use Rattle.jobs_csv.specs.declared.fault.FaultKind.TheVariants as what
 use Rattle.cli_words.specs.declared.invocation.Invocation.{Invocation}
 use Rattle.cli_commands.specs.declared.program.Ending.{Ending}
-use Rattle.cli_commands.specs.declared.program.Ending.TheVariants.{Done, Rejected, Failed}
+use Rattle.cli_commands.specs.declared.program.Ending.TheVariants.{Done, Rejected, Failed, FileFailed}
 use Rattle.cli_commands.specs.Program.{IsAnswerTo}
+use Rattle.whole_file.specs.declared.file_fault.FileSide.{FileSide}
 
--- the request is answered, or it failed for one of the reasons that are given, which is its answer too
-abbrev pub EndsAfter : Invocation → Option (List ℕ) → Option (List ℕ) → Option (List ℕ) → (Fault → Type 0) → Ending → Type 0
-EndsAfter invocation bytes old new may_fail Done = IfSome bytes (λ b. IsAnswerTo invocation b old new (Ok tt))
-EndsAfter invocation bytes old new may_fail Rejected = ⊥
-EndsAfter invocation bytes old new may_fail (Failed fault is_reported) =
+-- the request is answered, or it failed for one of the reasons that are given, which is its answer too, or a file of
+-- one of these sides could not be had
+abbrev pub EndsAfter : Invocation → Option (List ℕ) → Option (List ℕ) → Option (List ℕ) → (Fault → Type 0) → (FileSide → Bool) → Ending → Type 0
+EndsAfter invocation bytes old new may_fail names Done = IfSome bytes (λ b. IsAnswerTo invocation b old new (Ok tt))
+EndsAfter invocation bytes old new may_fail names Rejected = ⊥
+EndsAfter invocation bytes old new may_fail names (Failed fault is_reported) =
     IfSome bytes (λ b. IsAnswerTo invocation b old new (Err fault)) × may_fail fault
+EndsAfter invocation bytes old new may_fail names (FileFailed fault is_reported) = names fault.side ≡ true
 
 -- an error of this kind shows the help or the version
 abbrev pub IsShown : ErrorKind → Type 0
@@ -28,3 +31,4 @@ EndsOn kind Done = IsShown kind
 EndsOn kind Rejected = (kind ≢ DisplayHelp) × (kind ≢ DisplayVersion) × (kind ≢ OutOfMemory)
 EndsOn kind (Failed fault is_reported) =
     (is_refusal fault.what ≡ false) × ((fault.what ≡ what.OutOfMemory) ⊎ IsShown kind)
+EndsOn kind (FileFailed fault is_reported) = ⊥

@@ -21,6 +21,34 @@ pub struct Invocation {
     pub jobs: usize,
 }
 
+// Whether this is the shop with no lock, if it is one.
+fn is_free(name: &str) -> Option<bool> {
+    match name {
+        "free" => Some(true),
+        "locked" => Some(false),
+        _ => None,
+    }
+}
+
+// The run that the words ask for, whatever its sizes are.
+fn asked_for(words: &[String]) -> Option<Invocation> {
+    Some(Invocation {
+        is_free: is_free(words.first()?)?,
+        items: words.get(1)?.parse::<usize>().ok()?,
+        lanes: words.get(2)?.parse::<u32>().ok()?,
+        dispatchers: words.get(3)?.parse::<u32>().ok()?,
+        capacity: words.get(4)?.parse::<usize>().ok()?,
+        jobs: words.get(5)?.parse::<usize>().ok()?,
+    })
+}
+
+// Whether a shop of these sizes can be opened, and its machine has a processor for each number of a job.
+fn can_run(run: &Invocation) -> bool {
+    run.items > 0
+        && run.items <= 1 << DIM
+        && refusal(DIM, run.lanes, run.dispatchers, run.capacity).is_none()
+}
+
 /// The run that the words ask for, if they are well formed and a shop of these sizes can be opened.
 pub fn parse_words(words: &[String]) -> Option<Invocation>
     ensures { IfSome result (λ it. it.lanes ≤ MAX_LANES) }
@@ -28,27 +56,9 @@ pub fn parse_words(words: &[String]) -> Option<Invocation>
     if words.len() != 6 {
         return None;
     }
-    let is_free = words[0].as_str() == "free";
-    if !is_free && words[0].as_str() != "locked" {
+    let run = asked_for(words)?;
+    if run.lanes > MAX_LANES || !can_run(&run) {
         return None;
     }
-    let items = words[1].parse::<usize>().ok()?;
-    let lanes = words[2].parse::<u32>().ok()?;
-    let dispatchers = words[3].parse::<u32>().ok()?;
-    let capacity = words[4].parse::<usize>().ok()?;
-    let jobs = words[5].parse::<usize>().ok()?;
-    if items == 0 || items > 1 << DIM || lanes > MAX_LANES {
-        return None;
-    }
-    if refusal(DIM, lanes, dispatchers, capacity).is_some() {
-        return None;
-    }
-    Some(Invocation {
-        is_free,
-        items,
-        lanes,
-        dispatchers,
-        capacity,
-        jobs,
-    })
+    Some(run)
 }

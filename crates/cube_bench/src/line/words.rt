@@ -20,8 +20,35 @@ pub struct Invocation {
     pub times_calls: bool,
 }
 
-/// The run that the words ask for, if they are well formed. The passes share the jobs evenly.
-pub fn parse_words(words: &[String]) -> Option<Invocation>
+// The numbers of a run, as they stand in the words.
+struct Numbers {
+    lanes: u32,
+    passes: u32,
+    capacity: usize,
+    jobs: usize,
+}
+
+// The numbers of these words.
+fn numbers_of(words: &[String]) -> Option<Numbers> {
+    Some(Numbers {
+        lanes: words.get(1)?.parse::<u32>().ok()?,
+        passes: words.get(2)?.parse::<u32>().ok()?,
+        capacity: words.get(3)?.parse::<usize>().ok()?,
+        jobs: words.get(4)?.parse::<usize>().ok()?,
+    })
+}
+
+// Whether this is the line with no lock, if it is one.
+fn is_ruled(name: &str) -> Option<bool> {
+    match name {
+        "ruled" => Some(true),
+        "locked" => Some(false),
+        _ => None,
+    }
+}
+
+// The run of these numbers, if they are within the limits. The passes share the jobs evenly.
+fn run_of(is_ruled: bool, numbers: Numbers, times_calls: bool) -> Option<Invocation>
     ensures lanes { IfSome result (λ it. it.sizes.lanes ≤ MAX_LANES) }
     ensures passes { IfSome result (λ it.
         (0 < it.sizes.passes) × (it.sizes.passes ≤ MAX_PASSES)) }
@@ -30,18 +57,12 @@ pub fn parse_words(words: &[String]) -> Option<Invocation>
     ensures machine { IfSome result (λ it. it.sizes.machine ≡ MACHINE) }
     ensures jobs { IfSome result (λ it. it.jobs ≤ MAX_JOBS) }
 {
-    if words.len() != 5 && words.len() != 6 {
-        return None;
-    }
-    let is_ruled = words[0].as_str() == "ruled";
-    let times_calls = words.len() == 6;
-    let lanes = words[1].parse::<u32>().ok()?;
-    let passes = words[2].parse::<u32>().ok()?;
-    let capacity = words[3].parse::<usize>().ok()?;
-    let jobs = words[4].parse::<usize>().ok()?;
-    if !is_ruled && words[0].as_str() != "locked" {
-        return None;
-    }
+    let Numbers {
+        lanes,
+        passes,
+        capacity,
+        jobs,
+    } = numbers;
     if lanes > MAX_LANES || passes > MAX_PASSES || capacity > MAX_CAPACITY || jobs > MAX_JOBS {
         return None;
     }
@@ -60,4 +81,24 @@ pub fn parse_words(words: &[String]) -> Option<Invocation>
         jobs,
         times_calls,
     })
+}
+
+/// The run that the words ask for, if they are well formed.
+pub fn parse_words(words: &[String]) -> Option<Invocation>
+    ensures lanes { IfSome result (λ it. it.sizes.lanes ≤ MAX_LANES) }
+    ensures passes { IfSome result (λ it.
+        (0 < it.sizes.passes) × (it.sizes.passes ≤ MAX_PASSES)) }
+    ensures capacity { IfSome result (λ it.
+        (0 < it.sizes.capacity) × (it.sizes.capacity ≤ MAX_CAPACITY)) }
+    ensures machine { IfSome result (λ it. it.sizes.machine ≡ MACHINE) }
+    ensures jobs { IfSome result (λ it. it.jobs ≤ MAX_JOBS) }
+{
+    if words.len() != 5 && words.len() != 6 {
+        return None;
+    }
+    run_of(
+        is_ruled(words.first()?)?,
+        numbers_of(words)?,
+        words.len() == 6,
+    )
 }

@@ -1,13 +1,13 @@
 //! A cube is opened, and becomes one machine with all its stations.
 use crate::memory::told::{tell_given, tell_refused};
-use cube_tree::{Cube, CubeRefused, Solo, Station};
+use cube_tree::{Cube, CubeRefused, Solo, TreeStation};
 use std::alloc::Global;
 use std::io;
 
 const DIM: u32 = 2;
 
 // The numbers of three stations, or as many as there are.
-fn numbers(stations: &[Station]) -> [u64; 3] {
+fn numbers(stations: &[TreeStation]) -> [u64; 3] {
     let mut numbers = [u64::MAX; 3];
     for (place, station) in stations.iter().enumerate() {
         if let Some(number) = numbers.get_mut(place) {

@@ -6,14 +6,9 @@ use std::io;
 
 const ITEMS: [u64; 4] = [4, 7, 1, 8];
 
-// A job of this kind, which has its items, or else the items that came back.
-fn call_new<R: Print>(rt: &R, alloc: Global, kind: Kind) -> io::Result<u64> {
-    let Ok(items) = Vec::from_slice(alloc, &ITEMS) else {
-        tell_refused(rt, "items", &[])?;
-        return Ok(0);
-    };
-    tell_given(rt, "items", &items)?;
-    match Job::new(alloc, 3, 0, kind, items) {
+// Tells the items of a job, or else those that came back where it had no memory; how many calls had memory.
+fn tell_job<R: Print>(rt: &R, made: Result<Job, (Vec<u64>, JobRefused)>) -> io::Result<u64> {
+    match made {
         Ok(job) => {
             tell_given(rt, "Job::new", job.items())?;
             Ok(2)
@@ -24,6 +19,16 @@ fn call_new<R: Print>(rt: &R, alloc: Global, kind: Kind) -> io::Result<u64> {
         }
         Err(_) => Ok(0),
     }
+}
+
+// A job of this kind, which has its items, or else the items that came back.
+fn call_new<R: Print>(rt: &R, alloc: Global, kind: Kind) -> io::Result<u64> {
+    let Ok(items) = Vec::from_slice(alloc, &ITEMS) else {
+        tell_refused(rt, "items", &[])?;
+        return Ok(0);
+    };
+    tell_given(rt, "items", &items)?;
+    tell_job(rt, Job::new(alloc, 3, 0, kind, items))
 }
 
 /// Makes the items and a job of each kind, one after the other.

@@ -1,5 +1,5 @@
 //! A shop of one lane and one worker, whose members are out of their lists.
-ghost use Rattle.std.specs.Prelude.{◌≡◌, ◌≤◌, [], ◌∷◌, IfOk, length};
+ghost use Rattle.std.specs.Prelude.{◌≡◌, ◌≤◌, [], IfOk};
 ghost use Rattle.std.specs.Vec.{vec_capacity};
 ghost use Rattle.dispatcher.specs.Members.{IsEndOf, IsNoteOf};
 
@@ -11,6 +11,7 @@ use job_queue::JobLine;
 use std::alloc::Global;
 use std::marker::Model;
 use std::sync::Wait;
+use test_kit::{only_lane, only_worker, sole};
 
 /// A new shop with its lane, its worker and its closer, and room for what its end is given.
 pub struct Single<L: JobLine, F: Floor> {
@@ -25,7 +26,6 @@ pub struct Single<L: JobLine, F: Floor> {
 impl<L: JobLine, F: Floor> Model for Single<L, F> {
     ghost use Rattle.std.specs.Prelude.{◌≡◌, ◌≤◌, []};
     ghost use Rattle.std.specs.Vec.{vec_capacity};
-    ghost use Rattle.job_queue.specs.Record.{fresh_lane};
     ghost use Rattle.dispatcher.specs.Shop.{ShopId};
     ghost use Rattle.dispatcher.specs.Members.{IsWorkerOf, IsCloserOf};
 
@@ -33,33 +33,12 @@ impl<L: JobLine, F: Floor> Model for Single<L, F> {
 
     ghost view = { λ s. s.shop };
 
-    ghost invariant = { λ s. L.is_lane s.shop.line s.lane × (L.lane_record s.lane ≡ fresh_lane 0)
+    ghost invariant = { λ s. L.is_lane s.shop.line s.lane × ((L.lane_record s.lane).number ≡ 0)
         × IsWorkerOf s.shop s.worker
         × (s.shop.line.sizes.lanes ≡ 1) × (s.shop.line.sizes.passes ≡ 1)
         × IsCloserOf L.JobLine s.shop s.closer
         × (s.lanes.items ≡ []) × (1 ≤ vec_capacity s.lanes)
         × (s.ends.items ≡ []) × (1 ≤ vec_capacity s.ends) };
-}
-
-// The only member of a list, which keeps its room.
-fn only<T>(members: &mut Vec<T>) -> T
-    requires { length members.old.items ≡ 1 }
-    ensures member { members.old.items ≡ result ∷ [] }
-    ensures room { (members.new.items ≡ []) × (1 ≤ vec_capacity members.new) }
-{
-    let Some(member) = members.pop() else {
-        unreachable!()
-    };
-    member
-}
-
-// The list of one member.
-fn sole<T>(mut room: Vec<T>, member: T) -> Vec<T>
-    requires { (room.items ≡ []) × (1 ≤ vec_capacity room) }
-    ensures { result.items ≡ member ∷ [] }
-{
-    room.push_reserved(member);
-    room
 }
 
 impl<L: JobLine, F: Floor> Single<L, F> {
@@ -85,8 +64,8 @@ impl<L: JobLine, F: Floor> Single<L, F> {
             mut workers,
             closer,
         } = opened;
-        let lane = only(&mut lanes);
-        let worker = only(&mut workers);
+        let lane = only_lane(&shop, &mut lanes);
+        let worker = only_worker(&shop, &mut workers);
         workers.destroy_empty();
         Ok(Single {
             shop,

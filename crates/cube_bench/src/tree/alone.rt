@@ -1,6 +1,6 @@
 //! The turns of one station that no other thread disturbs: on the tree in one hand, and on the
 //! allocation bits.
-ghost use Rattle.std.specs.Prelude.{◌≡◌};
+ghost use Rattle.std.specs.Prelude.{◌≡◌, ◌≤◌};
 ghost use Rattle.cube_tree.specs.Solo.{solo_dim};
 
 use crate::tree::lanes::DIM;
@@ -10,16 +10,26 @@ use alloc_bits::AllocBits;
 use cube_tree::{Cube, CubeRefused, Solo};
 use std::alloc::{AllocError, Global};
 
+// One take with its release: whether it was given.
+fn solo_turn(solo: &mut Solo, k: u32) -> bool
+    requires { k ≤ solo_dim solo.old }
+    ensures { solo_dim solo.new ≡ solo_dim solo.old }
+{
+    let Ok(station) = solo.take(k) else {
+        return false;
+    };
+    solo.release(station);
+    true
+}
+
 // Takes, each with its release: how many were given.
 fn solo_turns(solo: &mut Solo, workload: Workload) -> u64
     requires { solo_dim solo.old ≡ DIM }
 {
     let mut given = 0u64;
     for index in 0..workload.turns {
-        if let Ok(station) = solo.take(dim_of(workload.sizes, 0, index)) {
-            solo.release(station);
-            given = given.wrapping_add(1);
-        }
+        let is_given = solo_turn(solo, dim_of(workload.sizes, 0, index));
+        given = given.wrapping_add(u64::from(is_given));
     }
     given
 }

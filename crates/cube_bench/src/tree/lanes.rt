@@ -6,7 +6,7 @@ ghost use Rattle.cube_bench.specs.TreeLanes.{HasStation};
 
 use crate::tree::turns::turns;
 use crate::tree::words::Workload;
-use cube_tree::{Cube, CubeRefused, Station, StillOut, Subcube};
+use cube_tree::{Cube, CubeRefused, StillOut, Subcube, TreeStation};
 use std::alloc::Global;
 use std::sync::Wait;
 use std::thread::Threads;
@@ -17,7 +17,7 @@ pub const DIM: u32 = 10;
 
 // A station that one thread steps with, and what came of its turns.
 struct Lane {
-    station: Option<Station>,
+    station: Option<TreeStation>,
     // How many takes were given.
     given: u64,
 }
@@ -56,7 +56,7 @@ fn run_all<R: Threads + Sync>(rt: &R, cube: &Cube, workload: Workload, lanes: &m
 }
 
 // Each station of the list gets a lane.
-fn seat_all(cube: &Cube, list: &mut Vec<Station>, lanes: &mut Vec<Lane>)
+fn seat_all(cube: &Cube, list: &mut Vec<TreeStation>, lanes: &mut Vec<Lane>)
     requires stations { All (IsStationOf cube.now) list.old.items }
     requires empty { lanes.old.items ≡ [] }
     requires enough { vec_len list.old ≤ vec_capacity lanes.old }
@@ -90,7 +90,7 @@ fn retire_all(cube: &Cube, lanes: &mut Vec<Lane>) -> u64
 }
 
 // The last station of the list.
-fn last(cube: &Cube, list: &mut Vec<Station>) -> Station
+fn last(cube: &Cube, list: &mut Vec<TreeStation>) -> TreeStation
     requires of_cube { All (IsStationOf cube.now) list.old.items }
     requires some { 0 < vec_len list.old }
     ensures station { IsStationOf cube.now result }
@@ -101,7 +101,7 @@ fn last(cube: &Cube, list: &mut Vec<Station>) -> Station
 }
 
 // The station that has no thread: it takes a half of the machine where the run is beside one.
-fn hold_half(cube: &Cube, station: Station, beside_half: bool) -> Result<Subcube, Station>
+fn hold_half(cube: &Cube, station: TreeStation, beside_half: bool) -> Result<Subcube, TreeStation>
     requires cube { IsStationOf cube.now station }
     requires dim { cube_dim cube.now ≡ DIM }
     ensures { MatchResult result (IsSubcubeOf cube.now) (IsStationOf cube.now) }
@@ -116,7 +116,7 @@ fn hold_half(cube: &Cube, station: Station, beside_half: bool) -> Result<Subcube
 }
 
 // It gives the half back and retires.
-fn leave(cube: &Cube, holder: Result<Subcube, Station>)
+fn leave(cube: &Cube, holder: Result<Subcube, TreeStation>)
     requires { MatchResult holder (IsSubcubeOf cube.now) (IsStationOf cube.now) }
 {
     let station = match holder {

@@ -3,7 +3,7 @@ ghost use Rattle.std.specs.Prelude.{◌≡◌, ◌≤◌};
 ghost use Rattle.cube_tree.specs.Handles.{cube_dim, IsStationOf};
 ghost use Rattle.cube_bench.specs.declared.tree.lanes.TheConstants.{DIM};
 
-use cube_tree::{Cube, Station};
+use cube_tree::{Cube, TreeStation};
 
 /// The dimensions that takes ask for.
 #[derive(Clone, Copy)]
@@ -28,7 +28,7 @@ pub fn dim_of(sizes: Sizes, number: u32, turn: u64) -> u32
 }
 
 // One take with its release: the station, and whether it was given the region.
-fn turn(cube: &Cube, station: Station, k: u32) -> (Station, bool)
+fn turn(cube: &Cube, station: TreeStation, k: u32) -> (TreeStation, bool)
     requires cube { IsStationOf cube.now station }
     requires dim { k ≤ cube_dim cube.now }
     ensures { IsStationOf cube.now result.0 }
@@ -40,7 +40,7 @@ fn turn(cube: &Cube, station: Station, k: u32) -> (Station, bool)
 }
 
 /// So many turns of a station: how many takes were given.
-pub fn turns(cube: &Cube, station: Station, sizes: Sizes, count: u64) -> (Station, u64)
+pub fn turns(cube: &Cube, station: TreeStation, sizes: Sizes, count: u64) -> (TreeStation, u64)
     requires cube { IsStationOf cube.now station }
     requires dim { cube_dim cube.now ≡ DIM }
     ensures { IsStationOf cube.now result.0 }

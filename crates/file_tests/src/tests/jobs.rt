@@ -156,6 +156,22 @@ fn answers_small_jobs(rt: HostRuntime) -> Result<(), Fail> {
     )
 }
 
+// Jobs that still work on the small arrays, and jobs that are one item too large for these.
+#[test]
+fn answers_jobs_on_both_arrays(rt: HostRuntime) -> Result<(), Fail> {
+    let largest = Kind::Scan { op: Op::Max };
+    expect_replies(
+        &rt,
+        rt.alloc(),
+        &[
+            (6, SUM, &[1; 64], &[Some(64); 64], 6, 384),
+            (7, SUM, &[1; 65], &[Some(65); 65], 7, 896),
+            (6, largest, &[3; 64], &[Some(3); 64], 6, 384),
+            (7, largest, &[3; 65], &[Some(3); 65], 7, 896),
+        ],
+    )
+}
+
 // The numbers 0 to 4095.
 fn numbers(alloc: Global) -> Result<Vec<u64>, Fail> {
     let mut items = Vec::with_capacity(alloc, 4096)?;

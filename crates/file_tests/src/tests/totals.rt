@@ -4,7 +4,8 @@ ghost use Rattle.std.specs.Prelude.{◌≡◌, ◌^◌, ◌+◌, ◌≤◌, IfOk
 ghost use Rattle.floors.specs.Floor.{IsWhollyFree};
 
 use crate::tests::jobs::{answered, asked, made};
-use cube_ledger::{FREE_PLACES, Ledger, Occupancy, Slip, Totals, occupancy};
+use cube_ledger::{Ledger, Slip, Totals};
+use cube_occupancy::{FREE_PLACES, Occupancy, occupancy};
 use cube_report::report_rows;
 use cube_shape::{MAX_DIM, Region};
 use dispatcher::Finished;

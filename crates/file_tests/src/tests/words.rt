@@ -1,12 +1,12 @@
 //! What good command lines ask for. Bad ones and the helps are seen by running the program.
 
-use cli_words::{Invocation, ShopOptions, parse_args};
+use cli_words::{FileNames, Invocation, Request, ShopOptions, parse_args};
 use cube_shape::MAX_STATIONS;
 use std::process::Abort;
 use std::test::Fail;
 
 // What these words, with a space between two of them, ask for.
-fn ask(rt: &(impl AllocGlobal + Abort), line: &str) -> Result<Option<Invocation>, Fail> {
+fn ask(rt: &(impl AllocGlobal + Abort), line: &str) -> Result<Option<Request>, Fail> {
     let mut words = Vec::new(rt.alloc());
     for word in line.split(' ') {
         words.push(word.to_string(rt.alloc())?)?;
@@ -14,10 +14,42 @@ fn ask(rt: &(impl AllocGlobal + Abort), line: &str) -> Result<Option<Invocation>
     Ok(parse_args(rt.alloc(), &words).ok())
 }
 
-// Each of these lines asks for this.
+// Each of these lines asks for this, with no file.
 fn expect_lines(rt: &(impl AllocGlobal + Abort), rows: &[(&str, Invocation)]) -> Result<(), Fail> {
     for (line, wanted) in rows {
-        assert!(rt; ask(rt, line)? == Some(*wanted), "{line}");
+        let files = FileNames {
+            input: None,
+            output: None,
+        };
+        let invocation = *wanted;
+        assert!(rt;
+            ask(rt, line)? == Some(Request { invocation, files }),
+            "{line}"
+        );
+    }
+    Ok(())
+}
+
+// The name of a file, where there is one.
+fn a_name(rt: &impl AllocGlobal, name: &str) -> Result<Option<String>, Fail> {
+    if name.is_empty() {
+        return Ok(None);
+    }
+    Ok(Some(name.to_string(rt.alloc())?))
+}
+
+// Each of these lines asks for a machine of dimension 3 with the files of these names, of which none is empty.
+fn expect_files(rt: &(impl AllocGlobal + Abort), rows: &[(&str, &str, &str)]) -> Result<(), Fail> {
+    for (line, input, output) in rows {
+        let files = FileNames {
+            input: a_name(rt, input)?,
+            output: a_name(rt, output)?,
+        };
+        let invocation = Invocation::Place { n: 3 };
+        assert!(rt;
+            ask(rt, line)? == Some(Request { invocation, files }),
+            "{line}"
+        );
     }
     Ok(())
 }
@@ -72,6 +104,27 @@ fn reads_command_lines(rt: HostRuntime) -> Result<(), Fail> {
             ),
             ("cubejobs place --dim 3", Invocation::Place { n: 3 }),
             ("cubejobs replay --dim 2 --stations 48", replay),
+        ],
+    )
+}
+
+#[test]
+fn reads_names_of_files(rt: HostRuntime) -> Result<(), Fail> {
+    expect_files(
+        &rt,
+        &[
+            ("cubejobs place --dim 3 in.csv", "in.csv", ""),
+            ("cubejobs place in.csv --dim 3", "in.csv", ""),
+            ("cubejobs place --dim 3 --output out.csv", "", "out.csv"),
+            (
+                "cubejobs place --output=out.csv --dim 3 in.csv",
+                "in.csv",
+                "out.csv",
+            ),
+            ("cubejobs place --dim 3 -- --dim", "--dim", ""),
+            ("cubejobs place --dim 3 -", "", ""),
+            ("cubejobs place --dim 3 in.csv --output -", "in.csv", ""),
+            ("cubejobs place --dim 3 ./-", "./-", ""),
         ],
     )
 }

@@ -28,14 +28,6 @@ operation_of (AllReduce op) = op
 operation_of (Scan op) = op
 operation_of (ExScan op) = op
 
--- how many scratch items the collective needs besides its `places` items: each of the scans has a total at each
-abbrev pub scratch_len : Kind → ℕ → ℕ
-scratch_len (Broadcast root) places = 0
-scratch_len (Reduce op root) places = 0
-scratch_len (AllReduce op) places = 0
-scratch_len (Scan op) places = places
-scratch_len (ExScan op) places = places
-
 -- the number at each of the 2 ^ k places before the rounds of a job: its items, and the unit of the
 -- operation at the other places
 abbrev pub places_for : Kind → ℕ → List ℕ → List ℕ

@@ -2,16 +2,12 @@
 use Rattle.std.specs.Prelude.{◌≡◌, ℕ, ◌^◌, ◌<◌, ◌≤◌, false, List, length}
 use Rattle.cube_shape.specs.declared.limits.TheConstants.{MAX_DIM, MAX_LANES}
 use Rattle.job_types.specs.declared.kind.Kind.{Kind}
-use Rattle.job_types.specs.Dim.{IsLeastDim}
 use Rattle.job_types.specs.Job.{has_bad_root}
 
--- it has items, and no more than its machine has processors; dim is the least dimension that holds them,
--- of which its machine has regions; and its root, if it has one, is the place of an item
-pub record IsJob (machine lane : ℕ) (kind : Kind) (dim : ℕ) (items : List ℕ) : Type 0 where
+-- it has items, and no more than its machine has processors; and its root, if it has one, is the place of an item
+pub record IsJob (machine lane : ℕ) (kind : Kind) (items : List ℕ) : Type 0 where
   pub limit : machine ≤ MAX_DIM
   pub lane_below : lane < MAX_LANES
-  pub within : dim ≤ machine
   pub some : 0 < length items
   pub fits : length items ≤ 2 ^ machine
-  pub least : IsLeastDim (length items) dim
   pub rooted : has_bad_root kind (length items) ≡ false

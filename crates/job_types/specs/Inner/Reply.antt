@@ -1,17 +1,17 @@
 -- What is true of every reply.
-use Rattle.std.specs.Prelude.{◌≡◌, ℕ, List, length}
+use Rattle.std.specs.Prelude.{ℕ, length}
 use Rattle.cube_shape.specs.declared.region.Region.{Region}
 use Rattle.cube_shape.specs.Region.{IsAligned}
-use Rattle.collectives.specs.declared.shape.Tally.{Tally}
-use Rattle.collectives.specs.Shape.{tally_of}
-use Rattle.job_types.specs.Collective.{shape_of}
+use Rattle.job_types.specs.declared.kept.Kept.{Kept}
 use Rattle.job_types.specs.Dim.{dim_of}
 use Rattle.job_types.specs.Job.{JobData}
-use Rattle.job_types.specs.Inner.Collective.{IsResult}
+use Rattle.job_types.specs.Inner.Kept.{IsShown}
 
--- the region could run the job, and the tally and the result are those of its collective
-pub record IsAnswer (job : JobData) (region : Region) (tally : Tally) (numbers : List ℕ) : Type 0 where
-  pub aligned : IsAligned job.machine region
-  pub dimension : region.dim ≡ dim_of (length job.items)
-  pub tallied : tally ≡ tally_of (shape_of job.kind) (dim_of (length job.items))
-  pub computed : IsResult job.kind job.items numbers
+-- the region of a job that begins at this processor: the least that has one for each item
+abbrev pub region_at : JobData → ℕ → Region
+region_at job base = record { base = base; dim = dim_of (length job.items) }
+
+-- the region could run the job, and what is kept shows the result of its collective
+pub record IsAnswer (job : JobData) (base : ℕ) (kept : Kept) : Type 0 where
+  pub aligned : IsAligned job.machine (region_at job base)
+  pub computed : IsShown job.kind job.items kept

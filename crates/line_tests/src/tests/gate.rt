@@ -2,8 +2,9 @@
 ghost use Rattle.std.specs.Prelude.{◌≡◌, ◌+◌, ◌<◌, ◌≤◌, None, Some, true, false, length, MatchResult};
 ghost use Rattle.line_gate.specs.Record.{lanes_from, passes_from, fresh_lane, IsSettled};
 
+use cube_shape::MAX_ENTRIES;
 use line_gate::{
-    Counted, Counts, Entered, EnteredLate, Gate, GateCloser, GateLane, GateMembers, GateNote,
+    Counts, Entered, EnteredLate, EntryCount, Gate, GateCloser, GateLane, GateMembers, GateNote,
     GatePass, Pushed, Witness,
 };
 use std::test::Fail;
@@ -37,7 +38,7 @@ pub const COUNTS: Counts = Counts {
 };
 
 // Settles or undoes what came of an entry: its number, or the count that a late one found.
-pub fn leave(
+fn leave(
     gate: &TestGate,
     lane: &mut GateLane,
     entry: Result<Entered, EnteredLate>,
@@ -66,7 +67,7 @@ pub fn leave(
 }
 
 // What the pass reads.
-pub fn read(gate: &TestGate, pass: &mut GatePass) -> (u64, Counted)
+pub fn read(gate: &TestGate, pass: &mut GatePass) -> (u64, EntryCount)
     requires { pass.old.gate ≡ gate.now.table }
     ensures { pass.new.gate ≡ gate.now.table }
 {
@@ -117,6 +118,70 @@ pub fn end(gate: TestGate, members: (GateLane, GateLane, GatePass), note: GateNo
     gate.end(end);
 }
 
+// One entry, which is settled, or undone where it is late.
+pub fn go_through(gate: &TestGate, lane: &mut GateLane, full: bool) -> Result<u64, u64>
+    requires gate { lane.old.gate ≡ gate.now.table }
+    requires settled { IsSettled lane.old.known }
+    requires unspent { length lane.old.known.entries < MAX_ENTRIES }
+    ensures gate { lane.new.gate ≡ gate.now.table }
+    ensures settled { IsSettled lane.new.known }
+    ensures few { length lane.new.known.entries ≤ length lane.old.known.entries + 1 }
+{
+    let entry = gate.enter(lane);
+    leave(gate, lane, entry, full)
+}
+
+// The same, and what the pass reads while it is pending.
+fn go_through_seen(
+    gate: &TestGate,
+    lane: &mut GateLane,
+    pass: &mut GatePass,
+    full: bool,
+) -> (Result<u64, u64>, (u64, EntryCount))
+    requires gates { (lane.old.gate ≡ gate.now.table) × (pass.old.gate ≡ gate.now.table) }
+    requires settled { IsSettled lane.old.known }
+    requires unspent { length lane.old.known.entries < MAX_ENTRIES }
+    ensures gates { (lane.new.gate ≡ gate.now.table) × (pass.new.gate ≡ gate.now.table) }
+    ensures settled { IsSettled lane.new.known }
+    ensures few { length lane.new.known.entries ≤ length lane.old.known.entries + 1 }
+{
+    let entry = gate.enter(lane);
+    let pending = read(gate, pass);
+    (leave(gate, lane, entry, full), pending)
+}
+
+// The same with the close before the reading.
+fn close_inside(
+    gate: &TestGate,
+    lane: &mut GateLane,
+    pass: &mut GatePass,
+    closer: GateCloser,
+) -> (Result<u64, u64>, (u64, EntryCount), GateNote)
+    requires gates { (lane.old.gate ≡ gate.now.table) × (pass.old.gate ≡ gate.now.table) }
+    requires closer { closer.gate ≡ gate.now.table }
+    requires settled { IsSettled lane.old.known }
+    requires unspent { length lane.old.known.entries < MAX_ENTRIES }
+    ensures gates { (lane.new.gate ≡ gate.now.table) × (pass.new.gate ≡ gate.now.table) }
+    ensures note { result.2.gate ≡ gate.now.table }
+    ensures settled { IsSettled lane.new.known }
+{
+    let entry = gate.enter(lane);
+    let note = gate.close(closer);
+    let unsettled = read(gate, pass);
+    (leave(gate, lane, entry, true), unsettled, note)
+}
+
+// What the lane sees of the close.
+fn look(gate: &TestGate, lane: &mut GateLane) -> Option<u64>
+    requires gate { lane.old.gate ≡ gate.now.table }
+    requires settled { IsSettled lane.old.known }
+    ensures gate { lane.new.gate ≡ gate.now.table }
+    ensures settled { IsSettled lane.new.known }
+    ensures entries { lane.new.known.entries ≡ lane.old.known.entries }
+{
+    gate.look(lane)
+}
+
 #[test]
 fn entries_and_readings(rt: HostRuntime) -> Result<(), Fail> {
     let (gate, members) = TestGate::open(rt.alloc(), COUNTS)?;
@@ -127,22 +192,16 @@ fn entries_and_readings(rt: HostRuntime) -> Result<(), Fail> {
         closer,
     } = deal(&gate, members);
     let before = read(&gate, &mut pass);
-    let entry = gate.enter(&mut first);
-    let pending = read(&gate, &mut pass);
-    let accepted = leave(&gate, &mut first, entry, false);
-    let entry = gate.enter(&mut second);
-    let full = leave(&gate, &mut second, entry, true);
-    let looks = [gate.look(&mut first), gate.look(&mut second)];
+    let (accepted, pending) = go_through_seen(&gate, &mut first, &mut pass, false);
+    let full = go_through(&gate, &mut second, true);
+    let looks = [look(&gate, &mut first), look(&gate, &mut second)];
     let still_open = read(&gate, &mut pass);
-    let entry = gate.enter(&mut first);
-    let note = gate.close(closer);
+    let (last, unsettled, note) = close_inside(&gate, &mut first, &mut pass, closer);
     let number = note.number();
-    let unsettled = read(&gate, &mut pass);
-    let last = leave(&gate, &mut first, entry, true);
     let sealed = read(&gate, &mut pass);
-    let late_look = gate.look(&mut second);
+    let late_look = look(&gate, &mut second);
     end(gate, (first, second, pass), note);
-    let at = |entries, closed| Counted { entries, closed };
+    let at = |entries, closed| EntryCount { entries, closed };
     assert_eq!(rt; [accepted, full, last], [Ok(0), Ok(1), Ok(2)]);
     assert_eq!(rt; [before, pending], [(0, at(0, false)), (0, at(1, false))]);
     assert_eq!(rt; looks, [None, None]);
@@ -151,6 +210,45 @@ fn entries_and_readings(rt: HostRuntime) -> Result<(), Fail> {
     assert_eq!(rt; [unsettled, sealed], [(2, at(3, true)), (3, at(3, true))]);
     assert_eq!(rt; late_look, Some(3));
     Ok(())
+}
+
+// What two late entries find, which are made and taken back one after the other.
+#[derive(Drop)]
+struct Late {
+    // The counts that they find.
+    found: [Result<u64, u64>; 2],
+    // What the pass reads while both are there, and once none is.
+    read: [(u64, EntryCount); 2],
+    // What the first lane sees once its own is taken back.
+    look: Option<u64>,
+}
+
+fn enter_late(
+    gate: &TestGate,
+    first: &mut GateLane,
+    second: &mut GateLane,
+    pass: &mut GatePass,
+) -> Late
+    requires gates { (first.old.gate ≡ gate.now.table) × (second.old.gate ≡ gate.now.table) }
+    requires pass { pass.old.gate ≡ gate.now.table }
+    requires settled { IsSettled first.old.known × IsSettled second.old.known }
+    requires unspent { (length first.old.known.entries < MAX_ENTRIES)
+        × (length second.old.known.entries < MAX_ENTRIES) }
+    ensures gates { (first.new.gate ≡ gate.now.table) × (second.new.gate ≡ gate.now.table) }
+    ensures pass { pass.new.gate ≡ gate.now.table }
+    ensures settled { IsSettled first.new.known × IsSettled second.new.known }
+{
+    let first_late = gate.enter(first);
+    let second_late = gate.enter(second);
+    let both_late = read(gate, pass);
+    let one = leave(gate, first, first_late, false);
+    let look = look(gate, first);
+    let two = leave(gate, second, second_late, false);
+    Late {
+        found: [one, two],
+        read: [both_late, read(gate, pass)],
+        look,
+    }
 }
 
 #[test]
@@ -162,26 +260,19 @@ fn late_entries(rt: HostRuntime) -> Result<(), Fail> {
         mut pass,
         closer,
     } = deal(&gate, members);
-    let look = gate.look(&mut first);
-    let entry = gate.enter(&mut second);
-    let accepted = leave(&gate, &mut second, entry, false);
+    let look = look(&gate, &mut first);
+    let accepted = go_through(&gate, &mut second, false);
     let note = gate.close(closer);
     let number = note.number();
-    let first_late = gate.enter(&mut first);
-    let second_late = gate.enter(&mut second);
-    let both_late = read(&gate, &mut pass);
-    let one = leave(&gate, &mut first, first_late, false);
-    let one_late = gate.look(&mut first);
-    let two = leave(&gate, &mut second, second_late, false);
-    let undone = read(&gate, &mut pass);
+    let late = enter_late(&gate, &mut first, &mut second, &mut pass);
     end(gate, (first, second, pass), note);
-    let at = |entries| Counted {
+    let at = |entries| EntryCount {
         entries,
         closed: true,
     };
     assert_eq!(rt; (look, accepted, number), (None, Ok(0), 1));
-    assert_eq!(rt; [one, two], [Err(1), Err(2)]);
-    assert_eq!(rt; [both_late, undone], [(1, at(3)), (1, at(1))]);
-    assert_eq!(rt; one_late, Some(2));
+    assert_eq!(rt; late.found, [Err(1), Err(2)]);
+    assert_eq!(rt; late.read, [(1, at(3)), (1, at(1))]);
+    assert_eq!(rt; late.look, Some(2));
     Ok(())
 }

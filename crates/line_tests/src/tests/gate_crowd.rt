@@ -1,10 +1,10 @@
 //! Two lanes race with the close of their gate: each makes one entry after it, and takes that back.
-ghost use Rattle.std.specs.Prelude.{◌≡◌, [], None, Some, IsSome, IsSomeAnd};
+ghost use Rattle.std.specs.Prelude.{◌≡◌, ◌+◌, ◌<◌, ◌≤◌, [], None, Some, IsSome, IsSomeAnd, length};
 ghost use Rattle.line_gate.specs.Record.{IsSettled};
 
-use crate::tests::gate::{COUNTS, Table, TestGate, deal, end, leave, read};
+use crate::tests::gate::{COUNTS, Table, TestGate, deal, end, go_through, read};
 use cube_shape::MAX_ENTRIES;
-use line_gate::{Counted, GateCloser, GateLane, GateNote};
+use line_gate::{EntryCount, GateCloser, GateLane, GateNote};
 use std::sync::Wait;
 use std::sync::atomic::AtomicU64;
 use std::sync::atomic::Ordering::SeqCst;
@@ -18,6 +18,34 @@ struct Board {
     late: AtomicU64,
 }
 
+impl Board {
+    // Counts what came of an entry: whether it was late.
+    fn count(&self, outcome: Result<u64, u64>) -> bool {
+        match outcome {
+            Ok(_) => {
+                self.entered.fetch_add(1, SeqCst);
+                false
+            }
+            Err(_) => {
+                self.late.fetch_add(1, SeqCst);
+                true
+            }
+        }
+    }
+}
+
+// Enters once and settles that, or takes it back where it is late: whether it is.
+fn enter_once(gate: &TestGate, lane: &mut GateLane, full: bool, board: &Board) -> bool
+    requires gate { lane.old.gate ≡ gate.now.table }
+    requires settled { IsSettled lane.old.known }
+    requires unspent { length lane.old.known.entries < MAX_ENTRIES }
+    ensures gate { lane.new.gate ≡ gate.now.table }
+    ensures settled { IsSettled lane.new.known }
+    ensures few { length lane.new.known.entries ≤ length lane.old.known.entries + 1 }
+{
+    board.count(go_through(gate, lane, full))
+}
+
 // Enters and settles until an entry comes after the close, and takes that one back.
 fn enter_until_late<R: Wait>(rt: &R, gate: &TestGate, lane: &mut GateLane, board: &Board)
     requires gate { lane.old.gate ≡ gate.now.table }
@@ -28,16 +56,10 @@ fn enter_until_late<R: Wait>(rt: &R, gate: &TestGate, lane: &mut GateLane, board
 {
     let mut entries: u64 = 0;
     for _ in rt.forever() {
-        if entries >= MAX_ENTRIES {
-            return;
-        }
-        let entry = gate.enter(lane);
-        if leave(gate, lane, entry, entries % 2 == 1).is_err() {
-            board.late.fetch_add(1, SeqCst);
+        if entries >= MAX_ENTRIES || enter_once(gate, lane, entries % 2 == 1, board) {
             return;
         }
         entries += 1;
-        board.entered.fetch_add(1, SeqCst);
     }
     unreachable!()
 }
@@ -185,7 +207,7 @@ fn each_lane_takes_one_late_entry_back(rt: HostRuntime) -> Result<(), Fail> {
     assert!(rt;
         entries >= 50
             && counted
-                == (Counted {
+                == (EntryCount {
                     entries,
                     closed: true
                 })

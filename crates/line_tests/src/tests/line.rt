@@ -226,28 +226,41 @@ fn fill<R: Wait, L: JobLine>(rt: &R, hand: Hand<L>, jobs: VecDeque<Job>, takes: 
     }
 }
 
-// Whether these are lane 0's jobs from this seq to that one, in order.
-fn stand_from(jobs: &VecDeque<QueuedJob>, from: u64, to: u64) -> bool {
-    let mut seq = from;
-    for queued in jobs.iter() {
-        if queued.id != (JobId { lane: 0, seq }) {
+// Whether the jobs have these ids, in order.
+fn have_ids(jobs: &VecDeque<QueuedJob>, ids: &[JobId]) -> bool {
+    for (place, queued) in jobs.iter().enumerate() {
+        if !matches!(ids.get(place), Some(id) if *id == queued.id) {
             return false;
         }
-        seq = seq.wrapping_add(1);
     }
-    seq == to
+    jobs.len() == ids.len()
+}
+
+// The id of a lane's job.
+fn at(lane: u32, seq: u64) -> JobId {
+    JobId { lane, seq }
+}
+
+// So many of lane 0's jobs are handed in and the first is taken if that is asked: whether these are left.
+fn leaves<R: Wait + Abort, L: JobLine>(
+    rt: &R,
+    alloc: Global,
+    count: u32,
+    takes: bool,
+    left: &[JobId],
+) -> bool {
+    let jobs = jobs(alloc, 2, 0, Plan::Same(count)).expect(rt, "no memory");
+    let hand = Hand::<L>::open(alloc, 4).expect(rt, "no memory");
+    let filled = fill(rt, hand, jobs, takes);
+    let first = takes.then_some(at(0, 0));
+    filled.accepts_all && filled.taken == first && have_ids(&filled.rest.jobs, left)
 }
 
 // A line holds nothing, then three jobs that were handed in, and then the two that were not taken.
 fn jobs_wait_in_order_over<R: Wait + Abort, L: JobLine>(rt: &R, alloc: Global) {
-    for (count, takes, from) in [(0, false, 0), (3, false, 0), (3, true, 1)] {
-        let jobs = jobs(alloc, 2, 0, Plan::Same(count)).expect(rt, "no memory");
-        let hand = Hand::<L>::open(alloc, 4).expect(rt, "no memory");
-        let filled = fill(rt, hand, jobs, takes);
-        let first = takes.then_some(JobId { lane: 0, seq: 0 });
-        assert!(rt; filled.accepts_all && filled.taken == first);
-        assert!(rt; stand_from(&filled.rest.jobs, from, count as u64));
-    }
+    assert!(rt; leaves::<R, L>(rt, alloc, 0, false, &[]));
+    assert!(rt; leaves::<R, L>(rt, alloc, 3, false, &[at(0, 0), at(0, 1), at(0, 2)]));
+    assert!(rt; leaves::<R, L>(rt, alloc, 3, true, &[at(0, 1), at(0, 2)]));
 }
 
 #[test]
@@ -270,7 +283,7 @@ fn hand_in_next<R: Wait, L: JobLine>(
     let Some(job) = jobs.pop_front() else {
         return false;
     };
-    hand_in(rt, line, lane, job).is_ok()
+    matches!(hand_in(rt, line, lane, job), Ok(_))
 }
 
 // What is left once lane 1 and lane 0 have handed in a job each, both were taken, and lane 1, lane 0
@@ -309,10 +322,8 @@ fn rest_stands_in_order_over<R: Wait + Abort, L: JobLine>(rt: &R, alloc: Global)
     );
     let hand = Hand::<L>::open(alloc, 4).expect(rt, "no memory");
     let (accepted, taken, rest) = hand_in_by_turns(rt, hand, jobs);
-    let at = |lane, seq| JobId { lane, seq };
-    assert!(rt; accepted && taken == [Some(at(1, 0)), Some(at(0, 0))]);
-    let left = [at(1, 1), at(0, 1), at(1, 2)];
-    assert!(rt; rest.jobs.iter().map(|queued| queued.id).eq(left));
+    assert!(rt; accepted && taken[0] == Some(at(1, 0)) && taken[1] == Some(at(0, 0)));
+    assert!(rt; have_ids(&rest.jobs, &[at(1, 1), at(0, 1), at(1, 2)]));
 }
 
 #[test]

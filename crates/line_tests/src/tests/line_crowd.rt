@@ -6,7 +6,7 @@ ghost use Rattle.job_queue.specs.Record.{fresh_lanes, fresh_passes};
 use crate::tests::line::{JOBS, are_new_and_rise};
 use crate::tests::over::{BOTH, Over};
 use cube_shape::{MAX_CAPACITY, MAX_LANES, MAX_PASSES};
-use job_queue::{JobLine, Opened, QueuedJob, Refused, Rest, Sizes};
+use job_queue::{JobLine, Opened, QueuedJob, Receipt, Refused, Rest, Sizes};
 use job_types::{Job, JobRefused};
 use line_run::{Door, Naming, drain};
 use locked_line::LockedLine;
@@ -63,6 +63,34 @@ impl Found {
         unreachable!()
     }
 
+    // Waits until the line is closed, where each lane keeps its last job and this is the last one.
+    fn await_turn<R: Wait>(&self, rt: &R, is_last: bool) {
+        if self.keeps_last && is_last {
+            self.await_close(rt);
+        }
+    }
+
+    // Counts what came of a submit: the job, where it is to be handed in again.
+    fn count(&self, answer: Result<Receipt, (Job, Refused)>) -> Option<Job> {
+        match answer {
+            Ok(receipt) => {
+                self.accepted.fetch_add(1, SeqCst);
+                self.last.fetch_max(receipt.number, SeqCst);
+                None
+            }
+            Err((job, Refused::Full)) => Some(job),
+            Err((_, Refused::Closed { seen })) => {
+                self.closed.fetch_add(1, SeqCst);
+                self.least_seen.fetch_min(seen, SeqCst);
+                None
+            }
+            Err((_, Refused::LaneSpent)) => {
+                self.spent.fetch_add(1, SeqCst);
+                None
+            }
+        }
+    }
+
     fn await_close<R: Wait>(&self, rt: &R) {
         for _ in rt.forever() {
             if self.is_closed.load(SeqCst) == 1 {
@@ -92,6 +120,32 @@ fn jobs_of_all(
     Ok(all)
 }
 
+// Hands in the next job, which stays the next one where the line is full: whether there was one for this lane.
+fn hand_in_next<R: Wait, L: JobLine>(
+    rt: &R,
+    line: &L,
+    lane: &mut L::Lane,
+    jobs: &mut VecDeque<Job>,
+    found: &Found,
+) -> bool
+    requires lane { L.is_lane (L.id line.now) lane.old }
+    requires machine { (L.id line.now).sizes.machine ≡ 2 }
+    ensures { L.is_lane (L.id line.now) lane.new }
+{
+    let Some(job) = jobs.pop_front() else {
+        return false;
+    };
+    if job.machine() != 2 || job.lane() != L::lane_number(lane) {
+        return false;
+    }
+    found.await_turn(rt, jobs.is_empty());
+    if let Some(job) = found.count(line.submit(rt, lane, job)) {
+        jobs.push_front_reserved(job);
+        yield_now();
+    }
+    true
+}
+
 // Hands in the jobs, again where the line is full.
 fn hand_in<R: Wait, L: JobLine>(
     rt: &R,
@@ -105,31 +159,8 @@ fn hand_in<R: Wait, L: JobLine>(
     ensures { L.is_lane (L.id line.now) lane.new }
 {
     for _ in rt.forever() {
-        let Some(job) = jobs.pop_front() else {
+        if !hand_in_next(rt, line, lane, jobs, found) {
             return;
-        };
-        if job.machine() != 2 || job.lane() != L::lane_number(lane) {
-            return;
-        }
-        if found.keeps_last && jobs.is_empty() {
-            found.await_close(rt);
-        }
-        match line.submit(rt, lane, job) {
-            Ok(receipt) => {
-                found.accepted.fetch_add(1, SeqCst);
-                found.last.fetch_max(receipt.number, SeqCst);
-            }
-            Err((job, Refused::Full)) => {
-                jobs.push_front_reserved(job);
-                yield_now();
-            }
-            Err((_, Refused::Closed { seen })) => {
-                found.closed.fetch_add(1, SeqCst);
-                found.least_seen.fetch_min(seen, SeqCst);
-            }
-            Err((_, Refused::LaneSpent)) => {
-                found.spent.fetch_add(1, SeqCst);
-            }
         }
     }
     unreachable!()
@@ -166,6 +197,19 @@ where
     );
 }
 
+// A list with room for so many jobs for each pass.
+fn room_of_all(
+    alloc: Global,
+    passes: u32,
+    count: usize,
+) -> Result<Vec<Mutex<Vec<QueuedJob>>>, AllocError> {
+    let mut all = Vec::new(alloc);
+    for _ in 0..passes {
+        all.push(Mutex::new(Vec::with_capacity(alloc, count)?))?;
+    }
+    Ok(all)
+}
+
 // Closes the line once enough jobs were accepted.
 fn shut_late<R: Wait, J: Naming, L: JobLine>(
     rt: &R,
@@ -180,60 +224,41 @@ fn shut_late<R: Wait, J: Naming, L: JobLine>(
     found.is_closed.store(1, SeqCst);
 }
 
-// Hands in by all lanes, while one more thread closes the line.
-fn race<R: Threads + Wait + Sync, J: Naming + Send + Sync, L: JobLine + Sync>(
+// What the thread of a pass does: it takes jobs, or, where there is no list for it, it closes the line.
+fn take_or_close<R: Wait, J: Naming, L: JobLine>(
     rt: &R,
     line: &L,
-    lanes: &mut [L::Lane],
+    pass: &mut L::Pass,
     door: &Mutex<Door<J, L>>,
-    jobs: &[Mutex<VecDeque<Job>>],
+    taken: Option<&Mutex<Vec<QueuedJob>>>,
     found: &Found,
 )
-where
-    L::Lane: Send,
-    L::End: Send,
-    L::Closer: Send,
-    L::Note: Send,
     requires named { L.id line.now ≡ J.line }
-    requires lanes { All (L.is_lane (L.id line.now)) lanes.old }
-    requires machine { (L.id line.now).sizes.machine ≡ 2 }
-    ensures { All (L.is_lane (L.id line.now)) lanes.new }
+    requires pass { L.is_pass (L.id line.now) pass.old }
+    ensures { L.is_pass (L.id line.now) pass.new }
 {
-    let mut feeding = ||
-        requires lanes { All (L.is_lane (L.id line.now)) lanes.now }
-        requires machine { (L.id line.now).sizes.machine ≡ 2 }
-        ensures { All (L.is_lane (L.id line.entry.now)) lanes.exit.now }
-    { hand_in_all(rt, line, lanes, jobs, found) };
-    let mut closing = ||
-        requires { L.id line.now ≡ J.line }
-    { shut_late(rt, line, door, found) };
-    join_mut(rt, &mut closing, &mut feeding);
-}
-
-// A list with room for so many jobs for each pass.
-fn room_of_all(
-    alloc: Global,
-    passes: u32,
-    count: usize,
-) -> Result<Vec<Mutex<Vec<QueuedJob>>>, AllocError> {
-    let mut all = Vec::new(alloc);
-    for _ in 0..passes {
-        all.push(Mutex::new(Vec::with_capacity(alloc, count)?))?;
+    match taken {
+        Some(taken) => drain(rt, line, pass, &mut taken.lock(rt)),
+        None => shut_late(rt, line, door, found),
     }
-    Ok(all)
 }
 
-// Takes by all passes at once.
-fn take_all<R: Threads + Wait + Sync, L: JobLine + Sync>(
+// Takes by all passes at once. The one that has no list closes the line.
+fn take_all<R: Threads + Wait + Sync, J: Naming + Send + Sync, L: JobLine + Sync>(
     rt: &R,
     line: &L,
     passes: &mut [L::Pass],
+    door: &Mutex<Door<J, L>>,
     taken: &[Mutex<Vec<QueuedJob>>],
+    found: &Found,
 )
 where
     L::Pass: Send,
     L::End: Send,
-    requires { All (L.is_pass (L.id line.now)) passes.old }
+    L::Closer: Send,
+    L::Note: Send,
+    requires named { L.id line.now ≡ J.line }
+    requires passes { All (L.is_pass (L.id line.now)) passes.old }
     ensures { All (L.is_pass (L.id line.now)) passes.new }
 {
     for_each_mut(
@@ -241,18 +266,15 @@ where
         passes,
         16,
         &|number, pass|
-            requires { L.is_pass (L.id line.now) pass.now }
+            requires named { L.id line.now ≡ J.line }
+            requires pass { L.is_pass (L.id line.now) pass.now }
             ensures { L.is_pass (L.id line.entry.now) pass.exit.now }
-        {
-            if let Some(taken) = taken.get(number) {
-                drain(rt, line, pass, &mut taken.lock(rt));
-            }
-        },
+        { take_or_close(rt, line, pass, door, taken.get(number), found) },
     );
 }
 
-// Takes by all passes, while all lanes hand in and one more thread closes the line.
-fn race_and_take<R: Threads + Wait + Sync, J: Naming + Send + Sync, L: JobLine + Sync>(
+// Hands in by all lanes, while all passes but one take and that one closes the line.
+fn race<R: Threads + Wait + Sync, J: Naming + Send + Sync, L: JobLine + Sync>(
     rt: &R,
     line: &L,
     lanes: &mut [L::Lane],
@@ -275,17 +297,17 @@ where
     ensures lanes { All (L.is_lane (L.id line.now)) lanes.new }
     ensures passes { All (L.is_pass (L.id line.now)) passes.new }
 {
-    let mut racing = ||
-        requires named { L.id line.now ≡ J.line }
+    let mut feeding = ||
         requires lanes { All (L.is_lane (L.id line.now)) lanes.now }
         requires machine { (L.id line.now).sizes.machine ≡ 2 }
         ensures { All (L.is_lane (L.id line.entry.now)) lanes.exit.now }
-    { race(rt, line, lanes, door, jobs, found) };
+    { hand_in_all(rt, line, lanes, jobs, found) };
     let mut taking = ||
-        requires { All (L.is_pass (L.id line.now)) passes.now }
+        requires named { L.id line.now ≡ J.line }
+        requires passes { All (L.is_pass (L.id line.now)) passes.now }
         ensures { All (L.is_pass (L.id line.entry.now)) passes.exit.now }
-    { take_all(rt, line, passes, taken) };
-    join_mut(rt, &mut taking, &mut racing);
+    { take_all(rt, line, passes, door, taken, found) };
+    join_mut(rt, &mut taking, &mut feeding);
 }
 
 // What is left of a line after a run, and its close number.
@@ -295,7 +317,7 @@ struct Raced {
     close_number: u64,
 }
 
-// Lets all lanes and all passes of a line run. A pass with no list of its own takes nothing.
+// Lets all lanes and all passes of a line run. There is one list fewer than there are passes.
 fn run_crowd<R: Threads + Wait + Sync, J: Naming + Send + Sync, L: JobLine + Sync>(
     rt: &R,
     opened: Opened<L, L::Lane, L::Pass, L::Closer>,
@@ -326,7 +348,7 @@ where
         closer,
     } = opened;
     let door: Mutex<Door<J, L>> = Mutex::new(Door::new(closer));
-    race_and_take(
+    race(
         rt,
         &line,
         &mut lanes,
@@ -367,7 +389,8 @@ where
     run_crowd::<R, Brand, L>(rt, opened, jobs, taken, found)
 }
 
-// So many lanes and passes of a line with no lock, or of one under a lock, with this capacity.
+// So many lanes and passes of a line with no lock, or of one under a lock, with this capacity. The last pass
+// takes nothing.
 fn crowd_over<R: Threads + Wait + Abort + Sync>(
     rt: &R,
     alloc: Global,
@@ -459,7 +482,7 @@ fn ring_order(rt: HostRuntime) {
         let jobs = jobs_of_all(rt.alloc(), 4, JOBS as u32).expect(&rt, "no memory");
         let taken = room_of_all(rt.alloc(), 3, 4 * JOBS).expect(&rt, "no memory");
         let found = Found::nothing(4 * JOBS as u64, false);
-        let rest = crowd_over(&rt, rt.alloc(), over, (4, 3, 3), &jobs, &taken, &found).rest;
+        let rest = crowd_over(&rt, rt.alloc(), over, (4, 4, 3), &jobs, &taken, &found).rest;
         assert!(rt;
             rest.jobs.is_empty() && rest.accepted.as_slice() == [100, 100, 100, 100].as_slice()
         );
@@ -490,7 +513,7 @@ fn ends_empty<R: Threads + Wait + Abort + Sync>(
     let jobs = jobs_of_all(alloc, 16, 20).expect(rt, "no memory");
     let taken = room_of_all(alloc, 8, 320).expect(rt, "no memory");
     let found = Found::nothing(closes_after, false);
-    let rest = crowd_over(rt, alloc, over, (16, 8, capacity), &jobs, &taken, &found).rest;
+    let rest = crowd_over(rt, alloc, over, (16, 9, capacity), &jobs, &taken, &found).rest;
     let accepted = found.accepted.load(SeqCst);
     rest.jobs.is_empty()
         && accepted >= closes_after

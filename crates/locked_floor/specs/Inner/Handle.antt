@@ -8,7 +8,7 @@ use Rattle.alloc_bits.specs.Allocation.{held_in}
 use Rattle.locked_cell.specs.Handle.{table_of as table_of_cell, key_of}
 use Rattle.locked_floor.specs.declared.view.Size.{Size}
 use Rattle.locked_floor.specs.declared.bits_lock.BitsLock.{BitsLock}
-use Rattle.locked_floor.specs.declared.handle.Station.{Station}
+use Rattle.locked_floor.specs.declared.handle.LockedStation.{LockedStation}
 use Rattle.locked_floor.specs.declared.handle.Held.{Held}
 use Rattle.locked_floor.specs.declared.handle.FreeMachine.{FreeMachine}
 use Rattle.floors.specs.Floor.{FloorId}
@@ -31,18 +31,18 @@ IsOf id table about = (id.tables ≡ table ∷ []) × (about.dim ≡ id.dim) × 
 abbrev pub grants_in : Sat → List Region
 grants_in m = (station_in m.0.stations).grants
 
-abbrev pub grants_of : Station → List Region
+abbrev pub grants_of : LockedStation → List Region
 grants_of station = grants_in station.seat.me
 
 abbrev pub held_grants : Held → List Region
 held_grants held = grants_in held.seat.me
 
 -- its seat is of the floor
-abbrev pub is_seated : FloorId → Station → Type 0
+abbrev pub is_seated : FloorId → LockedStation → Type 0
 is_seated id station = IsOf id station.seat.table_id station.seat.me.0.about
 
 -- and each region that it was given is aligned
-abbrev pub is_station : FloorId → Station → Type 0
+abbrev pub is_station : FloorId → LockedStation → Type 0
 is_station id station = is_seated id station × All (IsAligned id.dim) (grants_of station)
 
 abbrev pub is_held : FloorId → Held → Type 0

@@ -57,6 +57,19 @@ fn sorted<M: Drop + AtRest>(rt: &impl Abort, alloc: Global, finished: Finished<M
 // Why a batch is refused, and how many lists came back.
 type Refused = (ShopRefused, usize);
 
+// What became of a batch of which nothing but its sizes may be refused.
+fn batch_from<M: Drop + AtRest>(
+    rt: &impl Abort,
+    alloc: Global,
+    answered: Result<RunEnd<M>, Stopped<M>>,
+) -> Result<Batch, Refused> {
+    match answered {
+        Ok(RunEnd { finished, .. }) => Ok(sorted(rt, alloc, finished)),
+        Err(Stopped::Refused { why, jobs }) => Err((why, jobs.len())),
+        Err(Stopped::Unfinished { .. }) => panic!(rt; "no memory, or no thread"),
+    }
+}
+
 // The batch of these jobs, over this line and this floor.
 fn batch_of<R: Threads + Wait + Abort + Sync, L: JobLine + Sync, F: Floor + Sync, T: Runner + Sync>(
     rt: &R,
@@ -78,11 +91,8 @@ where
 {
     let (workers, capacity) = sizes;
     let jobs = lists(alloc, DIM, lanes, plan).expect(rt, "no memory");
-    match answer_all::<R, L, F, T>(rt, alloc, DIM, workers, capacity, runner, jobs) {
-        Ok(RunEnd { finished, .. }) => Ok(sorted(rt, alloc, finished)),
-        Err(Stopped::Refused { why, jobs }) => Err((why, jobs.len())),
-        Err(Stopped::Unfinished { .. }) => panic!(rt; "no memory, or no thread"),
-    }
+    let answered = answer_all::<R, L, F, T>(rt, alloc, DIM, workers, capacity, runner, jobs);
+    batch_from(rt, alloc, answered)
 }
 
 // The batch of these jobs, by so many workers and with this capacity.

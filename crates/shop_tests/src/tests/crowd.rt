@@ -7,7 +7,7 @@ use crate::tests::at_rest::AtRest;
 use crate::tests::floor_calls::opened;
 use crate::tests::over::{BOTH, Over};
 use cube_shape::{MAX_STATIONS, Region};
-use cube_tree::{Cube, FreeMachine, Station, Subcube};
+use cube_tree::{Cube, FreeMachine, Subcube, TreeStation};
 use floors::Floor;
 use locked_floor::LockedFloor;
 use std::alloc::{AllocError, Global};
@@ -56,7 +56,7 @@ trait Regions {
 }
 
 impl Regions for Cube {
-    type Station = Station;
+    type Station = TreeStation;
 
     type Held = Subcube;
 
@@ -68,7 +68,7 @@ impl Regions for Cube {
 
     ghost is_held = { IsTaken };
 
-    fn take<R: Wait>(&self, _rt: &R, station: Station, k: u32) -> Result<Subcube, Station> {
+    fn take<R: Wait>(&self, _rt: &R, station: TreeStation, k: u32) -> Result<Subcube, TreeStation> {
         match station.try_take(self, k) {
             Ok(subcube) => Ok(subcube),
             Err((station, _)) => Err(station),
@@ -83,7 +83,7 @@ impl Regions for Cube {
         cube_tree::apart(a, b, self)
     }
 
-    fn release<R: Wait>(&self, _rt: &R, held: Subcube) -> Station {
+    fn release<R: Wait>(&self, _rt: &R, held: Subcube) -> TreeStation {
         held.release(self)
     }
 }
@@ -500,7 +500,7 @@ where
 }
 
 // A cube and its stations.
-fn opened_cube(rt: &impl Abort, alloc: Global, n: u32, stations: u32) -> (Cube, Vec<Station>)
+fn opened_cube(rt: &impl Abort, alloc: Global, n: u32, stations: u32) -> (Cube, Vec<TreeStation>)
     ensures dim { cube_dim result.0 ≡ n }
     ensures of_cube { All (IsStationOf result.0) result.1.items }
 {
@@ -508,7 +508,7 @@ fn opened_cube(rt: &impl Abort, alloc: Global, n: u32, stations: u32) -> (Cube, 
 }
 
 // The machine of a cube of which all stations retire.
-fn closed_cube(rt: &impl Abort, cube: Cube, mut list: Vec<Station>) -> FreeMachine
+fn closed_cube(rt: &impl Abort, cube: Cube, mut list: Vec<TreeStation>) -> FreeMachine
     requires { All (IsStationOf cube) list.items }
 {
     while let Some(station) = list.pop() {

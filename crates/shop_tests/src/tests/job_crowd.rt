@@ -1,10 +1,11 @@
 //! A crowd at one shop: sixteen feeders, four workers and one who closes, each on a thread of its own.
-ghost use Rattle.std.specs.Prelude.{◌≡◌, ◌++◌, [], ◌∷◌, IfSome, length};
+ghost use Rattle.std.specs.Prelude.{◌≡◌, ◌++◌, [], ◌∷◌, None, IfSome, MatchOption, length};
 ghost use Rattle.std.specs.List.{All};
 ghost use Rattle.dispatcher.specs.Members.{IsCloserOf, IsEndOf, IsNoteOf, IsWorkerOf};
 
 use crate::tests::at_rest::AtRest;
 use crate::tests::over::Over;
+use crate::tests::slot::fill;
 use cube_shape::MAX_LANES;
 use dispatcher::{
     CloseNote, Closer, FeedEnd, Finished, Opened, Plain, Shop, Worker, WorkerEnd, dispatch, feed,
@@ -128,6 +129,42 @@ struct Left<L: JobLine, F: Floor> {
     note: Option<CloseNote<L, F>>,
 }
 
+// The end of a worker, which stands down if it has not run.
+fn end_left<J: Naming, L: JobLine, F: Floor>(
+    alloc: Global,
+    worker: Option<Worker<L, F>>,
+    end: Option<WorkerEnd<L, F>>,
+) -> Option<WorkerEnd<L, F>>
+    requires { MatchOption worker (IfSome end (IsEndOf J.shop))
+        (λ w. IsWorkerOf J.shop w × (end ≡ None)) }
+    ensures { IfSome result (IsEndOf J.shop) }
+{
+    match (worker, end) {
+        (Some(worker), None) => Some(worker.stand_down(alloc)),
+        (None, end) => end,
+        (Some(_worker), Some(_end)) => unreachable!(),
+    }
+}
+
+// The note of the close, which comes now if it has not come before.
+fn note_left<R: Wait, J: Naming, L: JobLine, F: Floor>(
+    rt: &R,
+    shop: &Shop<L, F>,
+    closer: Option<Closer<L, F>>,
+    note: Option<CloseNote<L, F>>,
+) -> Option<CloseNote<L, F>>
+    requires shop { shop.now ≡ J.shop }
+    requires closer { MatchOption closer (IfSome note (IsNoteOf L.JobLine J.shop))
+        (λ c. IsCloserOf L.JobLine J.shop c × (note ≡ None)) }
+    ensures { IfSome result (IsNoteOf L.JobLine J.shop) }
+{
+    match (closer, note) {
+        (Some(closer), None) => Some(shop.close(rt, closer)),
+        (None, note) => note,
+        (Some(_closer), Some(_note)) => unreachable!(),
+    }
+}
+
 impl<J: Naming, L: JobLine, F: Floor> Member<J, L, F> {
     fn feeder(lane: L::Lane) -> Self
         requires { L.is_lane J.shop.line lane }
@@ -179,10 +216,7 @@ impl<J: Naming, L: JobLine, F: Floor> Member<J, L, F> {
             return;
         };
         let end = dispatch(rt, shared.alloc, shop, worker, &shared.runner);
-        match self.end.replace(end) {
-            None => {}
-            Some(_end) => unreachable!(),
-        }
+        fill(&mut self.end, end);
     }
 
     // Closes the shop when it is time, if it is who closes.
@@ -193,10 +227,7 @@ impl<J: Naming, L: JobLine, F: Floor> Member<J, L, F> {
             return;
         };
         shared.wait_for_the_close();
-        match self.note.replace(shop.close(rt, closer)) {
-            None => {}
-            Some(_note) => unreachable!(),
-        }
+        fill(&mut self.note, shop.close(rt, closer));
     }
 
     // Hands in jobs, if it is a feeder.
@@ -228,16 +259,8 @@ impl<J: Naming, L: JobLine, F: Floor> Member<J, L, F> {
         Left {
             lane,
             fed,
-            end: match (worker, end) {
-                (Some(worker), None) => Some(worker.stand_down(alloc)),
-                (None, end) => end,
-                (Some(_worker), Some(_end)) => unreachable!(),
-            },
-            note: match (closer, note) {
-                (Some(closer), None) => Some(shop.close(rt, closer)),
-                (None, note) => note,
-                (Some(_closer), Some(_note)) => unreachable!(),
-            },
+            end: end_left::<J, L, F>(alloc, worker, end),
+            note: note_left::<R, J, L, F>(rt, shop, closer, note),
         }
     }
 }
@@ -323,71 +346,65 @@ struct Parts<L: JobLine, F: Floor> {
 }
 
 // Counts what a lane did not hand in.
-fn count_unfed(unfed: &mut [u64; 16], lane: u32, fed: Option<FeedEnd>) {
-    if let Some(fed) = fed {
-        if lane < 16 {
-            let left = (fed.left.len() as u64).saturating_add(u64::from(fed.back.is_some()));
-            unfed[lane as usize] = left;
-        }
+fn count_unfed<L: JobLine>(unfed: &mut [u64; 16], lane: &Option<L::Lane>, fed: Option<FeedEnd>) {
+    let (Some(lane), Some(fed)) = (lane, fed) else {
+        return;
+    };
+    let number = L::lane_number(lane);
+    if number < 16 {
+        let left = (fed.left.len() as u64).saturating_add(u64::from(fed.back.is_some()));
+        unfed[number as usize] = left;
     }
 }
 
+// A lane is one of the lanes that come back.
 fn keep_lane<L: JobLine, F: Floor>(
     rt: &impl Abort,
     shop: &Shop<L, F>,
-    parts: &mut Parts<L, F>,
+    lanes: &mut Vec<L::Lane>,
     lane: Option<L::Lane>,
-    fed: Option<FeedEnd>,
 )
-    requires lanes { All (L.is_lane shop.now.line) parts.old.lanes.items }
-    requires ends { All (IsEndOf shop.now) parts.old.ends.items }
-    requires note { IfSome parts.old.note (IsNoteOf L.JobLine shop.now) }
+    requires lanes { All (L.is_lane shop.now.line) lanes.old.items }
     requires lane { IfSome lane (L.is_lane shop.now.line) }
-    ensures lanes { All (L.is_lane shop.now.line) parts.new.lanes.items }
-    ensures ends { All (IsEndOf shop.now) parts.new.ends.items }
-    ensures note { IfSome parts.new.note (IsNoteOf L.JobLine shop.now) }
+    ensures { All (L.is_lane shop.now.line) lanes.new.items }
 {
+    let _shop = shop;
     if let Some(lane) = lane {
-        count_unfed(&mut parts.unfed, L::lane_number(&lane), fed);
-        add(rt, &mut parts.lanes, lane);
+        add(rt, lanes, lane);
     }
 }
 
+// The end of a worker is one of the ends.
 fn keep_end<L: JobLine, F: Floor>(
     rt: &impl Abort,
     shop: &Shop<L, F>,
-    parts: &mut Parts<L, F>,
+    ends: &mut Vec<WorkerEnd<L, F>>,
     end: Option<WorkerEnd<L, F>>,
 )
-    requires lanes { All (L.is_lane shop.now.line) parts.old.lanes.items }
-    requires ends { All (IsEndOf shop.now) parts.old.ends.items }
-    requires note { IfSome parts.old.note (IsNoteOf L.JobLine shop.now) }
+    requires ends { All (IsEndOf shop.now) ends.old.items }
     requires end { IfSome end (IsEndOf shop.now) }
-    ensures lanes { All (L.is_lane shop.now.line) parts.new.lanes.items }
-    ensures ends { All (IsEndOf shop.now) parts.new.ends.items }
-    ensures note { IfSome parts.new.note (IsNoteOf L.JobLine shop.now) }
+    ensures { All (IsEndOf shop.now) ends.new.items }
 {
+    let _shop = shop;
     if let Some(end) = end {
-        add(rt, &mut parts.ends, end);
+        add(rt, ends, end);
     }
 }
 
+// The note of the close is kept, of which there is one.
 fn keep_note<L: JobLine, F: Floor>(
     rt: &impl Abort,
     shop: &Shop<L, F>,
-    parts: &mut Parts<L, F>,
+    kept: &mut Option<CloseNote<L, F>>,
     note: Option<CloseNote<L, F>>,
 )
-    requires lanes { All (L.is_lane shop.now.line) parts.old.lanes.items }
-    requires ends { All (IsEndOf shop.now) parts.old.ends.items }
-    requires note { IfSome parts.old.note (IsNoteOf L.JobLine shop.now) }
-    requires one { IfSome note (IsNoteOf L.JobLine shop.now) }
-    ensures lanes { All (L.is_lane shop.now.line) parts.new.lanes.items }
-    ensures ends { All (IsEndOf shop.now) parts.new.ends.items }
-    ensures note { IfSome parts.new.note (IsNoteOf L.JobLine shop.now) }
+    requires kept { IfSome kept.old (IsNoteOf L.JobLine shop.now) }
+    requires note { IfSome note (IsNoteOf L.JobLine shop.now) }
+    ensures { IfSome kept.new (IsNoteOf L.JobLine shop.now) }
 {
+    let _shop = shop;
     if let Some(note) = note {
-        match replace(&mut parts.note, Some(note)) {
+        match replace(kept, Some(note)) {
             None => {}
             Some(_note) => panic!(rt; "closed twice"),
         }
@@ -418,9 +435,10 @@ fn part<R: Wait + Abort, J: Naming, L: JobLine, F: Floor>(
             end,
             note,
         } = member.leave(rt, shop, alloc);
-        keep_lane(rt, shop, &mut parts, lane, fed);
-        keep_end(rt, shop, &mut parts, end);
-        keep_note(rt, shop, &mut parts, note);
+        count_unfed::<L>(&mut parts.unfed, &lane, fed);
+        keep_lane(rt, shop, &mut parts.lanes, lane);
+        keep_end(rt, shop, &mut parts.ends, end);
+        keep_note(rt, shop, &mut parts.note, note);
     }
     members.destroy_empty();
     parts
@@ -535,19 +553,27 @@ fn are_new(replies: &[Reply], seen: &mut [[bool; 20]; 16]) -> bool {
     true
 }
 
-// Whether the ids seen in each lane are those of its accepted jobs, and with what was not handed in they are
-// all jobs of the lane.
+// Whether the seqs seen in a lane are those of its accepted jobs, and with what was not handed in they are all
+// jobs of the lane.
+fn is_all(seen: &[bool], accepted: u64, unfed: u64) -> bool {
+    for (seq, seen) in seen.iter().enumerate() {
+        if *seen != ((seq as u64) < accepted) {
+            return false;
+        }
+    }
+    accepted.saturating_add(unfed) == u64::from(EACH)
+}
+
+// Whether that is so of each lane.
 fn are_all(seen: &[[bool; 20]; 16], accepted: &[u64], unfed: &[u64; 16]) -> bool {
     for (lane, seen) in seen.iter().enumerate() {
-        let count = seen.iter().filter(|seen| **seen).count() as u64;
-        let first = seen.iter().take_while(|seen| **seen).count() as u64;
         let Some(accepted) = accepted.get(lane) else {
             return false;
         };
         let Some(unfed) = unfed.get(lane) else {
             return false;
         };
-        if count != *accepted || first != count || count.saturating_add(*unfed) != u64::from(EACH) {
+        if !is_all(seen, *accepted, *unfed) {
             return false;
         }
     }

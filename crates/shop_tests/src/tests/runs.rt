@@ -8,11 +8,12 @@ use cube_shape::{MAX_DIM, MAX_LANES};
 use dispatcher::{FeedStop, Finished, Plain, Runner, ShopRefused, Stop};
 use floors::Floor;
 use job_queue::JobLine;
-use job_types::Reply;
+use job_types::{Job, Reply};
 use locked_floor::LockedFloor;
 use locked_line::LockedLine;
 use ruled_line::RuledLine;
 use std::alloc::Global;
+use std::collections::VecDeque;
 use std::process::Abort;
 use std::sync::Wait;
 use std::thread::Threads;
@@ -95,6 +96,18 @@ type Sizes = (u32, u32, usize);
 // Why a run is refused, and how many lists came back.
 type Refused = (ShopRefused, usize);
 
+// What became of a run of so many lanes on a machine of dimension `n`.
+fn ran_from<M: Drop + AtRest>(
+    ran: Result<RunEnd<M>, (ShopRefused, Vec<VecDeque<Job>>)>,
+    lanes: u32,
+    n: u32,
+) -> Result<Ran, Refused> {
+    match ran {
+        Ok(end) => Ok(told(&end, lanes, n)),
+        Err((why, jobs)) => Err((why, jobs.len())),
+    }
+}
+
 // The run of these jobs, over this line and this floor.
 fn run_of<R: Threads + Wait + Abort + Sync, L: JobLine + Sync, F: Floor + Sync, T: Runner + Sync>(
     rt: &R,
@@ -117,10 +130,8 @@ where
 {
     let (n, workers, capacity) = sizes;
     let jobs = lists(alloc, n, lanes, plan).expect(rt, "no memory");
-    match run::<R, L, F, T>(rt, alloc, n, workers, capacity, runner, jobs) {
-        Ok(end) => Ok(told(&end, lanes, n)),
-        Err((why, jobs)) => Err((why, jobs.len())),
-    }
+    let ran = run::<R, L, F, T>(rt, alloc, n, workers, capacity, runner, jobs);
+    ran_from(ran, lanes, n)
 }
 
 // The run of these jobs.

@@ -259,26 +259,38 @@ fn has_three<M>(finished: &Finished<M>) -> bool {
         && are_three_seqs(&finished.by_worker[0], &finished.rest)
 }
 
+// A worker that is to answer so many of three jobs stops when it is enough: whether each job is answered by the
+// runner that is lent at that moment.
+fn stops_when_enough<R: Wait + Abort, L: JobLine, F: Floor>(
+    rt: &R,
+    alloc: Global,
+    most: u32,
+) -> bool
+where
+    F::Machine: Drop,
+{
+    let mut stage = Stage::<L, F>::open(alloc, 4).expect(rt, "no memory");
+    let is_fed = is_done(&stage.feed(rt, alloc, &THREE_SUMS, None));
+    let close_number = stage.close(rt);
+    let (runner, last) = (Counting::new(Plain), Counting::new(Plain));
+    let stop = stage.dispatch(rt, alloc, &runner, Some(most));
+    let is_whole = has_three(&stage.finish(rt, alloc, &last));
+    is_fed
+        && close_number == 3
+        && stop == Stop::Enough
+        && is_whole
+        && runner.answered() == u64::from(most)
+        && last.answered() == u64::from(3 - most.min(3))
+}
+
 // A worker that is to answer two of three jobs leaves one to the end, and one that is to answer none leaves
-// all of them. Each job is answered by the runner that is lent at that moment.
+// all of them.
 fn worker_stops_when_it_is_enough_over<R: Wait + Abort, L: JobLine, F: Floor>(rt: &R, alloc: Global)
 where
     F::Machine: Drop,
 {
-    for (most, answered) in [(2, 2), (0, 0)] {
-        let mut stage = Stage::<L, F>::open(alloc, 4).expect(rt, "no memory");
-        let is_fed = is_done(&stage.feed(rt, alloc, &THREE_SUMS, None));
-        let close_number = stage.close(rt);
-        let (runner, last) = (Counting::new(Plain), Counting::new(Plain));
-        let stop = stage.dispatch(rt, alloc, &runner, Some(most));
-        let is_whole = has_three(&stage.finish(rt, alloc, &last));
-        assert_eq!(rt; (is_fed, close_number, stop), (true, 3, Stop::Enough));
-        assert!(rt; is_whole);
-        assert_eq!(rt;
-            (runner.answered(), last.answered()),
-            (answered, 3 - answered)
-        );
-    }
+    assert!(rt; stops_when_enough::<R, L, F>(rt, alloc, 2));
+    assert!(rt; stops_when_enough::<R, L, F>(rt, alloc, 0));
 }
 
 #[test]

@@ -1,12 +1,12 @@
 //! A shop of one lane and one worker for a machine of four processors, and what is done to it, one call
 //! after the other.
-ghost use Rattle.std.specs.Prelude.{◌≡◌, ◌≤◌, [], None, MatchOption, map};
+ghost use Rattle.std.specs.Prelude.{◌≡◌, ◌≤◌, [], None, MatchOption};
 ghost use Rattle.std.specs.List.{All};
 ghost use Rattle.std.specs.Vec.{vec_capacity};
 ghost use Rattle.job_queue.specs.Line.{IsFor};
-ghost use Rattle.job_queue.specs.Record.{fresh_lanes, fresh_passes};
-ghost use Rattle.dispatcher.specs.Members.{IsCloserOf, IsEndOf, IsNoteOf, IsWorkerOf, worker_record};
+ghost use Rattle.dispatcher.specs.Members.{IsCloserOf, IsEndOf, IsNoteOf, IsWorkerOf};
 
+use crate::tests::slot::fill;
 use dispatcher::{
     CloseNote, Closer, FeedEnd, Finished, Opened, Runner, Shop, ShopRefused, Stop, Worker,
     WorkerEnd, dispatch, dispatch_some, feed, feed_for,
@@ -19,7 +19,7 @@ use std::collections::VecDeque;
 use std::marker::Model;
 use std::process::Abort;
 use std::sync::Wait;
-use test_kit::{Row, SUM, job, listed, only, sole};
+use test_kit::{Row, SUM, job, listed, only_lane, only_worker, sole};
 
 // Such a shop. Its worker stands in one of two places, before it runs and after that, and so does the
 // right to close.
@@ -120,10 +120,7 @@ impl<L: JobLine, F: Floor> Stage<L, F> {
     // Closes the shop, where that was not done before: the close number.
     pub fn close<R: Wait>(&mut self, rt: &R) -> u64 {
         if let Some(closer) = self.closer.take() {
-            match self.note.replace(self.shop.close(rt, closer)) {
-                None => {}
-                Some(_note) => unreachable!(),
-            }
+            fill(&mut self.note, self.shop.close(rt, closer));
         }
         match &self.note {
             Some(note) => note.number(),
@@ -141,13 +138,8 @@ impl<L: JobLine, F: Floor> Stage<L, F> {
         most: Option<u32>,
     ) -> Stop {
         if let Some(worker) = self.worker.take() {
-            match self
-                .end
-                .replace(run_worker(rt, alloc, &self.shop, worker, runner, most))
-            {
-                None => {}
-                Some(_end) => unreachable!(),
-            }
+            let end = run_worker(rt, alloc, &self.shop, worker, runner, most);
+            fill(&mut self.end, end);
         }
         match &self.end {
             Some(end) => end.stop(),
@@ -174,36 +166,32 @@ impl<L: JobLine, F: Floor> Stage<L, F> {
         } = self;
         let note = note_of(rt, &shop, closer, note);
         let end = end_of(alloc, &shop, worker, end);
-        let lanes = sole(lanes, lane);
-        let ends = sole(ends, end);
-        shop.finish(rt, runner, lanes, ends, note)
+        finish_one(rt, runner, shop, (lane, lanes), (end, ends), note)
     }
 }
 
-// The only lane of a new shop.
-fn only_lane<L: JobLine, F: Floor>(shop: &Shop<L, F>, lanes: &mut Vec<L::Lane>) -> L::Lane
-    requires lanes { All (L.is_lane shop.now.line) lanes.old.items }
-    requires fresh { map L.lane_record lanes.old.items ≡ fresh_lanes 1 }
-    ensures lane { L.is_lane shop.now.line result }
-    ensures number { (L.lane_record result).number ≡ 0 }
-    ensures room { (lanes.new.items ≡ []) × (1 ≤ vec_capacity lanes.new) }
+// Finishes a shop, given its lane and its worker with the emptied lists of each.
+fn finish_one<R: Wait, L: JobLine, F: Floor, T: Runner>(
+    rt: &R,
+    runner: &T,
+    shop: Shop<L, F>,
+    lane: (L::Lane, Vec<L::Lane>),
+    end: (WorkerEnd<L, F>, Vec<WorkerEnd<L, F>>),
+    note: CloseNote<L, F>,
+) -> Finished<F::Machine>
+    requires lane { L.is_lane shop.line lane.0 }
+    requires one_lane { shop.line.sizes.lanes ≡ 1 }
+    requires lane_room { (lane.1.items ≡ []) × (1 ≤ vec_capacity lane.1) }
+    requires worker { IsEndOf shop end.0 }
+    requires one_worker { shop.line.sizes.passes ≡ 1 }
+    requires end_room { (end.1.items ≡ []) × (1 ≤ vec_capacity end.1) }
+    requires note { IsNoteOf L.JobLine shop note }
 {
-    let _shop = shop;
-    only(lanes)
-}
-
-// The only worker of a new shop.
-fn only_worker<L: JobLine, F: Floor>(
-    shop: &Shop<L, F>,
-    workers: &mut Vec<Worker<L, F>>,
-) -> Worker<L, F>
-    requires workers { All (IsWorkerOf shop.now) workers.old.items }
-    requires fresh { map worker_record workers.old.items ≡ fresh_passes 1 }
-    ensures worker { IsWorkerOf shop.now result }
-    ensures none { workers.new.items ≡ [] }
-{
-    let _shop = shop;
-    only(workers)
+    let (lane, lanes) = lane;
+    let (end, ends) = end;
+    let lanes = sole(lanes, lane);
+    let ends = sole(ends, end);
+    shop.finish(rt, runner, lanes, ends, note)
 }
 
 // Feeds jobs by the only lane, and gives up once the line was full so often if that is asked.

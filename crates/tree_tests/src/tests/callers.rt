@@ -7,7 +7,7 @@ ghost use Rattle.uses.specs.Extent.{IsExtentValue};
 use super::cube::{ends_free, last, made, opened};
 use alloc_bits::AllocBits;
 use cube_core::{Act, Phase};
-use cube_ledger::{Occupancy, occupancy};
+use cube_occupancy::{Occupancy, occupancy};
 use cube_shape::Region;
 use cube_tree::{Solo, SoloRefused};
 use jobs_csv::{Fault, FaultKind};

@@ -10,12 +10,14 @@ mod crowd;
 
 pub(super) use alone::{ends_free, made};
 use cube_shape::{Node, Region};
-use cube_tree::{Cube, CubeRefused, FreeMachine, Refusal, Station, StillOut, Subcube, Why, apart};
+use cube_tree::{
+    Cube, CubeRefused, FreeMachine, Refusal, StillOut, Subcube, TreeStation, Why, apart,
+};
 use std::alloc::Global;
 use std::process::Abort;
 
 // A cube and its stations, or why there is none.
-fn open(alloc: Global, n: u32, stations: u32) -> Result<(Cube, Vec<Station>), CubeRefused>
+fn open(alloc: Global, n: u32, stations: u32) -> Result<(Cube, Vec<TreeStation>), CubeRefused>
     ensures size { IfOk result (λ made. cube_size made.0 ≡ size_with n stations) }
     ensures count { IfOk result (λ made. vec_len made.1 ≡ stations) }
     ensures all { IfOk result (λ made. HasAll stations made.1.items) }
@@ -25,7 +27,12 @@ fn open(alloc: Global, n: u32, stations: u32) -> Result<(Cube, Vec<Station>), Cu
 }
 
 // A machine of dimension `n` with its stations.
-pub(super) fn opened(rt: &impl Abort, alloc: Global, n: u32, stations: u32) -> (Cube, Vec<Station>)
+pub(super) fn opened(
+    rt: &impl Abort,
+    alloc: Global,
+    n: u32,
+    stations: u32,
+) -> (Cube, Vec<TreeStation>)
     ensures size { cube_size result.0 ≡ size_with n stations }
     ensures count { vec_len result.1 ≡ stations }
     ensures all { HasAll stations result.1.items }
@@ -35,7 +42,12 @@ pub(super) fn opened(rt: &impl Abort, alloc: Global, n: u32, stations: u32) -> (
 }
 
 // The last station of the list, which has to have this number.
-pub(super) fn last(rt: &impl Abort, cube: &Cube, list: &mut Vec<Station>, number: u32) -> Station
+pub(super) fn last(
+    rt: &impl Abort,
+    cube: &Cube,
+    list: &mut Vec<TreeStation>,
+    number: u32,
+) -> TreeStation
     requires of_cube { All (IsStationOf cube.now) list.old.items }
     requires some { 0 < vec_len list.old }
     ensures station { IsStationOf cube.now result }
@@ -48,7 +60,7 @@ pub(super) fn last(rt: &impl Abort, cube: &Cube, list: &mut Vec<Station>, number
 }
 
 // A try to take the region of a node.
-fn try_node(cube: &Cube, station: Station, node: u64) -> Result<Subcube, (Station, Why)>
+fn try_node(cube: &Cube, station: TreeStation, node: u64) -> Result<Subcube, (TreeStation, Why)>
     requires cube { IsStationOf cube.now station }
     requires node { IsInCube (cube_dim cube.now) node }
     ensures held { IfOk result (IsSubcubeOf cube.now) }
@@ -58,7 +70,7 @@ fn try_node(cube: &Cube, station: Station, node: u64) -> Result<Subcube, (Statio
 }
 
 // The node, which has to be given as this region.
-fn given(rt: &impl Abort, cube: &Cube, station: Station, node: u64, region: Region) -> Subcube
+fn given(rt: &impl Abort, cube: &Cube, station: TreeStation, node: u64, region: Region) -> Subcube
     requires cube { IsStationOf cube.now station }
     requires node { IsInCube (cube_dim cube.now) node }
     ensures { IsSubcubeOf cube.now result }
@@ -73,7 +85,13 @@ fn given(rt: &impl Abort, cube: &Cube, station: Station, node: u64, region: Regi
 }
 
 // The node, which has to be refused for this reason.
-fn refused(rt: &impl Abort, cube: &Cube, station: Station, node: u64, reason: Why) -> Station
+fn refused(
+    rt: &impl Abort,
+    cube: &Cube,
+    station: TreeStation,
+    node: u64,
+    reason: Why,
+) -> TreeStation
     requires cube { IsStationOf cube.now station }
     requires node { IsInCube (cube_dim cube.now) node }
     ensures { IsStationOf cube.now result }
@@ -88,7 +106,7 @@ fn refused(rt: &impl Abort, cube: &Cube, station: Station, node: u64, reason: Wh
 }
 
 // A try to take any region of dimension `k`.
-fn try_take(cube: &Cube, station: Station, k: u32) -> Result<Subcube, (Station, Refusal)>
+fn try_take(cube: &Cube, station: TreeStation, k: u32) -> Result<Subcube, (TreeStation, Refusal)>
     requires cube { IsStationOf cube.now station }
     requires dim { k ≤ cube_dim cube.now }
     ensures held { IfOk result (IsSubcubeOf cube.now) }
@@ -98,7 +116,7 @@ fn try_take(cube: &Cube, station: Station, k: u32) -> Result<Subcube, (Station, 
 }
 
 // A region of dimension `k`, which has to be this one.
-fn given_any(rt: &impl Abort, cube: &Cube, station: Station, k: u32, base: u64) -> Subcube
+fn given_any(rt: &impl Abort, cube: &Cube, station: TreeStation, k: u32, base: u64) -> Subcube
     requires cube { IsStationOf cube.now station }
     requires dim { k ≤ cube_dim cube.now }
     ensures { IsSubcubeOf cube.now result }
@@ -113,7 +131,13 @@ fn given_any(rt: &impl Abort, cube: &Cube, station: Station, k: u32, base: u64) 
 }
 
 // A take of any region of dimension `k` that has to be refused with these counts.
-fn refused_all(rt: &impl Abort, cube: &Cube, station: Station, k: u32, counts: Refusal) -> Station
+fn refused_all(
+    rt: &impl Abort,
+    cube: &Cube,
+    station: TreeStation,
+    k: u32,
+    counts: Refusal,
+) -> TreeStation
     requires cube { IsStationOf cube.now station }
     requires dim { k ≤ cube_dim cube.now }
     ensures { IsStationOf cube.now result }
@@ -131,10 +155,10 @@ fn refused_all(rt: &impl Abort, cube: &Cube, station: Station, k: u32, counts: R
 fn refused_skipping(
     rt: &impl Abort,
     cube: &Cube,
-    station: Station,
+    station: TreeStation,
     k: u32,
     counts: Refusal,
-) -> Station
+) -> TreeStation
     requires cube { IsStationOf cube.now station }
     requires dim { k ≤ cube_dim cube.now }
     ensures { IsStationOf cube.now result }
@@ -159,7 +183,7 @@ fn both(cube: &Cube, a: Subcube, b: Subcube) -> (Subcube, Subcube)
 }
 
 // The station, which gives its region back.
-fn released(cube: &Cube, subcube: Subcube) -> Station
+fn released(cube: &Cube, subcube: Subcube) -> TreeStation
     requires { IsSubcubeOf cube.now subcube }
     ensures { IsStationOf cube.now result }
 {
@@ -290,7 +314,7 @@ fn refusal_of(rt: &impl Abort, alloc: Global, n: u32, stations: u32) -> CubeRefu
 }
 
 // Each station of the list takes a processor: the first one that is free.
-fn take_all(rt: &impl Abort, cube: &Cube, list: &mut Vec<Station>, held: &mut Vec<Subcube>)
+fn take_all(rt: &impl Abort, cube: &Cube, list: &mut Vec<TreeStation>, held: &mut Vec<Subcube>)
     requires stations { All (IsStationOf cube.now) list.old.items }
     requires empty { held.old.items ≡ [] }
     requires room { vec_len list.old ≤ vec_capacity held.old }

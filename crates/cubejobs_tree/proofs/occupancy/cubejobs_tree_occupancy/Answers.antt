@@ -1,6 +1,7 @@
 -- The words that the handle keeps are those that were counted.
 use Rattle.std.proofs.Common.{◌∙◌, ap, subst, Some}
 use Rattle.cube_tree.specs.Handles.{cube_dim}
+use Rattle.cubejobs_tree.specs.declared.content.Content.TheVariants.{Owner}
 use Rattle.cubejobs_tree.specs.Occupancy.{Counts, words_read}
 use Rattle.cubejobs_tree.proofs.occupancy.cubejobs_tree_occupancy.Goals as goal
 
@@ -9,13 +10,13 @@ returns-in-Owner-clause-counted c = λ code.
     let after = c.read_words-machine.result in
     let answer = c.count-answer.result in
     record {
-      before = c.in-Owner.machine;
+      before = c.open-machine.result.0;
       after = after;
-      was = c.in-Some.ensures.some.0 ∙ ap Some c.in-Owner.is;
-      is = c.put_back.ensures;
+      was = c.in-Some.ensures.some.0 ∙ ap Some (c.in-Owner.is ∙ ap Owner c.open-machine.ensures.machine);
+      is = c.put_back.ensures ∙ ap (λ b. Some (Owner b)) c.fill.ensures;
       same = c.read_words-machine.ensures.same;
       list = c.read_words-machine.ensures.list;
       reader = c.read_words-machine.ensures.reader;
-      counts = subst (λ n. Counts n (words_read after) answer) (c.dim.ensures.value ∙ ap cube_dim c.deref.ensures)
-          (subst (λ words. Counts c.dim.result words answer) c.deref-in-Owner.ensures.value c.count-answer.ensures.counts);
+      counts = subst (λ n. Counts n (words_read after) answer) (c.dim.ensures.value ∙ ap cube_dim c.get.ensures)
+          (subst (λ words. Counts c.dim.result words answer) c.deref.ensures.value c.count-answer.ensures.counts);
     }

@@ -6,7 +6,7 @@ ghost use Rattle.cube_tree.specs.Handles.{cube_dim, IsStationOf};
 
 use super::{closed, is_free, opened};
 use cube_shape::Node;
-use cube_tree::{Cube, Station, Why};
+use cube_tree::{Cube, TreeStation, Why};
 use std::alloc::Global;
 use std::process::Abort;
 use std::sync::atomic::AtomicU64;
@@ -57,7 +57,7 @@ fn meet_all(shared: &Shared) {
 }
 
 // Takes the leaf of the station's own, and gives it back once all hold theirs.
-fn hold(cube: &Cube, station: Station, shared: &Shared) -> Station
+fn hold(cube: &Cube, station: TreeStation, shared: &Shared) -> TreeStation
     requires cube { IsStationOf cube.now station }
     requires dim { cube_dim cube.now ≡ 2 }
     ensures { IsStationOf cube.now result }
@@ -73,7 +73,7 @@ fn hold(cube: &Cube, station: Station, shared: &Shared) -> Station
 }
 
 // One try of the only node of a machine of one processor.
-fn try_root(cube: &Cube, station: Station, shared: &Shared) -> Station
+fn try_root(cube: &Cube, station: TreeStation, shared: &Shared) -> TreeStation
     requires cube { IsStationOf cube.now station }
     requires dim { cube_dim cube.now ≡ 0 }
     ensures { IsStationOf cube.now result }
@@ -90,7 +90,7 @@ fn try_root(cube: &Cube, station: Station, shared: &Shared) -> Station
 }
 
 // One take of its only region.
-fn take_whole(cube: &Cube, station: Station, shared: &Shared) -> Station
+fn take_whole(cube: &Cube, station: TreeStation, shared: &Shared) -> TreeStation
     requires { IsStationOf cube.now station }
     ensures { IsStationOf cube.now result }
 {
@@ -109,7 +109,7 @@ fn take_whole(cube: &Cube, station: Station, shared: &Shared) -> Station
 }
 
 // Tries and takes in turn, until a try and a take were lost to another station.
-fn race(cube: &Cube, station: Station, shared: &Shared) -> Station
+fn race(cube: &Cube, station: TreeStation, shared: &Shared) -> TreeStation
     requires cube { IsStationOf cube.now station }
     requires dim { cube_dim cube.now ≡ 0 }
     ensures { IsStationOf cube.now result }
@@ -126,7 +126,7 @@ fn race(cube: &Cube, station: Station, shared: &Shared) -> Station
 
 // What each station does: one take of a processor on a machine of dimension 2, and takes of the whole on
 // a machine of one processor.
-fn act(cube: &Cube, station: Station, shared: &Shared) -> Station
+fn act(cube: &Cube, station: TreeStation, shared: &Shared) -> TreeStation
     requires cube { IsStationOf cube.now station }
     requires dim { cube_dim cube.now ≡ shared.now.dim }
     ensures { IsStationOf cube.now result }
@@ -139,7 +139,7 @@ fn act(cube: &Cube, station: Station, shared: &Shared) -> Station
 }
 
 // The station in this slot, which has one before and after, does its part.
-fn run(cube: &Cube, slot: &mut Option<Station>, shared: &Shared)
+fn run(cube: &Cube, slot: &mut Option<TreeStation>, shared: &Shared)
     requires station { IsSomeAnd slot.old (λ station. IsStationOf cube.now station) }
     requires dim { cube_dim cube.now ≡ shared.now.dim }
     ensures { IsSomeAnd slot.new (λ station. IsStationOf cube.now station) }
@@ -152,7 +152,12 @@ fn run(cube: &Cube, slot: &mut Option<Station>, shared: &Shared)
 }
 
 // The parts of all, in as many threads.
-fn run_all<R: Threads + Sync>(rt: &R, cube: &Cube, slots: &mut [Option<Station>], shared: &Shared)
+fn run_all<R: Threads + Sync>(
+    rt: &R,
+    cube: &Cube,
+    slots: &mut [Option<TreeStation>],
+    shared: &Shared,
+)
     requires stations { All (λ slot. IsSomeAnd slot (λ station. IsStationOf cube.now station))
         slots.old }
     requires dim { cube_dim cube.now ≡ shared.now.dim }
@@ -172,7 +177,7 @@ fn run_all<R: Threads + Sync>(rt: &R, cube: &Cube, slots: &mut [Option<Station>]
 }
 
 // Each station of the list gets a slot.
-fn seat_all(cube: &Cube, list: &mut Vec<Station>, slots: &mut Vec<Option<Station>>)
+fn seat_all(cube: &Cube, list: &mut Vec<TreeStation>, slots: &mut Vec<Option<TreeStation>>)
     requires stations { All (IsStationOf cube.now) list.old.items }
     requires empty { slots.old.items ≡ [] }
     requires room { vec_len list.old ≤ vec_capacity slots.old }
@@ -186,7 +191,7 @@ fn seat_all(cube: &Cube, list: &mut Vec<Station>, slots: &mut Vec<Option<Station
 }
 
 // All stations retire.
-fn retire_all(cube: &Cube, slots: &mut Vec<Option<Station>>)
+fn retire_all(cube: &Cube, slots: &mut Vec<Option<TreeStation>>)
     requires { All (λ slot. IsSomeAnd slot (λ station. IsStationOf cube.now station))
         slots.old.items }
     ensures { vec_len slots.new ≡ 0 }

@@ -1,21 +1,30 @@
--- The first load found no station missing, and then those that waited retired.
-use Rattle.std.proofs.Common.{◌∙◌, ap}
-use Rattle.cube_tree.specs.Ends.{reader_loads}
-use Rattle.cubejobs_tree.proofs.CloseLemmas.{closed_later, open_later}
+-- The first load found no station missing of those that got a handle, and then those that waited retired.
+use Rattle.std.proofs.Common.{◌∙◌, ap, subst}
+use Rattle.cubejobs_tree.specs.Share.{cube_of, IsShared}
+use Rattle.cubejobs_tree.specs.Ends.{Looks}
+use Rattle.cubejobs_tree.proofs.CloseLemmas.{closed_later, open_later, room_later}
 use Rattle.cubejobs_tree.proofs.machine.Machine.close.Goals as goal
 
-pub returns-clause-closed : goal.returns-clause-closed
-returns-clause-closed c =
-    let look = c.look-machine.ensures in
-    let retire = c.retire_waiting.ensures in
-    closed_later c.args.self c.retire_waiting.result c.close_rest.result
-    record { same = retire.same ∙ look.same; none_waits = retire.none_waits; roll = look.roll; loads = ap reader_loads retire.reader ∙ look.loads }
-    c.close_rest.ensures.closed
+pub returns-in-Ok-clause-closed : goal.returns-in-Ok-clause-closed
+returns-in-Ok-clause-closed c =
+    closed_later c.args.self c.look-machine.result.0 c.in-Ok.cube c.into_parts-share.result.2
+    record {
+      looks = subst (λ missing. Looks c.args.self c.look-machine.result.0 missing) c.if-missing-ne0.false c.look-machine.ensures;
+      cube_is = c.in-Ok.ensures.alone ∙ ap cube_of c.into_parts-share.ensures.cube;
+      reader_is = c.into_parts-share.ensures.reader;
+    }
+    c.close_rest.result c.close_rest.ensures.free c.close_rest.ensures.roll
 
-pub returns-clause-open : goal.returns-clause-open
-returns-clause-open c =
-    let look = c.look-machine.ensures in
-    let retire = c.retire_waiting.ensures in
-    open_later c.args.self c.retire_waiting.result c.close_rest.result
-    record { same = retire.same ∙ look.same; none_waits = retire.none_waits; roll = look.roll; loads = ap reader_loads retire.reader ∙ look.loads }
-    c.close_rest.ensures.open
+pub returns-in-Ok-clause-open : goal.returns-in-Ok-clause-open
+returns-in-Ok-clause-open c =
+    open_later c.args.self c.look-machine.result.0 c.in-Ok.cube c.into_parts-share.result.2
+    record {
+      looks = subst (λ missing. Looks c.args.self c.look-machine.result.0 missing) c.if-missing-ne0.false c.look-machine.ensures;
+      cube_is = c.in-Ok.ensures.alone ∙ ap cube_of c.into_parts-share.ensures.cube;
+      reader_is = c.into_parts-share.ensures.reader;
+    }
+    c.close_rest.result c.close_rest.ensures.open
+    (room_later (λ m. m.room) c.close_rest.result c.into_parts-share.result.3 c.args.self.room c.close_rest.ensures.room (c.into_parts-share.ensures.room ∙ c.look-machine.ensures.room))
+
+pub returns-in-Err-clause-shared : goal.returns-in-Err-clause-shared
+returns-in-Err-clause-shared c = λ none. subst IsShared (c.into_parts-share.ensures.cube ∙ c.look-machine.ensures.same) c.in-Err.ensures.shared

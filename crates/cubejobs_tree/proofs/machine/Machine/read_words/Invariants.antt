@@ -1,7 +1,7 @@
 use Rattle.std.proofs.Common.{◌≡◌, ◌+◌, ◌^◌, vec_len}
-use Rattle.std.specs.Arc.{arc_value}
+use Rattle.cubejobs_tree.specs.Share.{cube_of}
 use Rattle.cube_tree.specs.Handles.{cube_dim}
 use Rattle.cubejobs_tree.proofs.machine.Machine.read_words.Given as goal
 
 abbrev pub invariant-loop-word : goal.invariant-loop-word
-invariant-loop-word l = vec_len l.room ≡ 2 ^ (cube_dim (arc_value l.cube) + 1)
+invariant-loop-word l = vec_len l.room ≡ 2 ^ (cube_dim (cube_of l.cube) + 1)

@@ -1,14 +1,14 @@
 -- The first station that waits gets the handle.
 use Rattle.std.proofs.Common.{ap, sym, subst, refl, Some, rules}
 use Rattle.std.specs.List.{All}
-use Rattle.std.specs.Arc.{arc_value}
+use Rattle.cubejobs_tree.specs.Share.{cube_of}
 use Rattle.std.proofs.lemmas.List.Elements.{All-drop}
 use Rattle.cube_tree.specs.Handles.{IsStationOf}
 use Rattle.cubejobs_tree.proofs.machine.Machine.seat.Goals as goal
 
 pub invariant_of-machine : goal.invariant_of-machine
 invariant_of-machine c =
-    let P = IsStationOf (arc_value c.into_parts-cube.result.0) in
+    let P = IsStationOf (cube_of c.into_parts-cube.result.0) in
     record {
       of_cube = subst (All P) (sym c.pop_front.ensures.rest) (All-drop P 1 _ c.into_parts-cube.ensures.of_cube);
       reads = c.into_parts-cube.ensures.reads;
@@ -23,8 +23,8 @@ returns-clause-seated c = record {
   was = refl;
   is = refl;
   seat = ap Some c.replace.ensures.after;
-  same = ap arc_value c.into_parts-cube.ensures.cube;
-  of_cube = c.in-Ok-try_clone.ensures;
+  same = ap cube_of c.into_parts-cube.ensures.cube;
+  of_cube = c.in-Some.ensures;
   list = search rules;
   reader = c.into_parts-cube.ensures.reader;
   number_is = c.number-number.ensures;

@@ -4,7 +4,7 @@ use Rattle.dispatcher.specs.Members.{IsEndOf}
 use Rattle.shop_tests.proofs.PushLemmas.{all_pushed}
 use Rattle.shop_tests.proofs.tests.job_crowd.keep_end.Goals as goal
 
-pub returns-in-Some-clause-ends : goal.returns-in-Some-clause-ends
-returns-in-Some-clause-ends g c =
+pub returns-in-Some : goal.returns-in-Some
+returns-in-Some g c =
     let own = IsEndOf c.args.shop.now in
     all_pushed own _ _ c.in-Some.end c.add.ensures c.requires.ends (subst (λ end. IfSome end own) c.in-Some.is c.requires.end)

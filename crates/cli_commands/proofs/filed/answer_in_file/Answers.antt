@@ -1,0 +1,8 @@
+use Rattle.cli_commands.proofs.FiledLemmas.{thrown_away}
+use Rattle.cli_commands.proofs.filed.answer_in_file.Goals as goal
+
+pub returns-in-Err-answer-clause-outcome : goal.returns-in-Err-answer-clause-outcome
+returns-in-Err-answer-clause-outcome g c = λ writer_old writer_new before after. thrown_away g.S.FileStore.fresh (g.S.FileStore.bytes c.args.store.now) (g.S.FileStore.bytes c.discard.new.self) (g.R.Read.remaining c.args.reader.now)
+    writer_old writer_new (g.R.Device.failures c.args.reader.now) (g.R.Device.failures c.answer.new.reader) before after c.args.name.now c.args.invocation (g.S.FileStore.bytes c.draft.new.self) c.draft.ensures.kept
+    (g.S.Draft.Write.contents c.in-Ok.draft) (g.S.Draft.Write.contents c.answer.new.writer) (g.S.Draft.Device.failures c.in-Ok.draft) (g.S.Draft.Device.failures c.answer.new.writer)
+    c.in-Err-answer.fault c.in-Err-answer.ensures.answered c.in-Err-answer.ensures.failed c.discard.ensures

@@ -1,0 +1,2 @@
+pub mod RegionLemmas
+pub mod AncestorLemmas

@@ -1,0 +1,3 @@
+pub mod Occupancy
+pub mod Inner
+pub use Rattle.histories.specs.Sums.{below}

@@ -1,0 +1,58 @@
+-- What the words of a machine say of its regions. The nodes that are some levels below the root are
+-- those of the machine's regions of one dimension: 2 ^ levels + m for each m below 2 ^ levels.
+use Rattle.std.specs.Prelude.{◌≡◌, ◌≢◌, ℕ, zero, suc, ◌+◌, ◌-◌, ◌*◌, ◌/◌, ◌^◌, ◌<◌, ◌≤◌, ◌==◌, Bool, false, not, ◌&&◌, ◌||◌, cond, List, Option, Some, None, slice_index}
+use Rattle.std.specs.Int.{bit_at}
+use Rattle.cube_shape.specs.Node.{OnPath}
+use Rattle.histories.specs.Sums.{below}
+use Rattle.status_word.specs.Word.{IsOccupied, use_of}
+use Rattle.cube_occupancy.specs.declared.regions.Occupancy.{Occupancy}
+
+-- the word of a node is free; it is occupied
+abbrev pub is_free_word : List ℕ → ℕ → Bool
+is_free_word words node = use_of (slice_index words node) == 0
+
+abbrev pub is_occupied_word : List ℕ → ℕ → Bool
+is_occupied_word words node = bit_at (slice_index words node) 0 == 1
+
+-- one of the next nodes above is occupied, of as many as there are levels
+unfoldable pub has_occupied_above : List ℕ → ℕ → ℕ → Bool
+has_occupied_above words node zero = false
+has_occupied_above words node (suc levels) = is_occupied_word words (node / 2) || has_occupied_above words (node / 2) levels
+
+-- one of all nodes above is occupied
+abbrev pub HasOccupiedAncestor : List ℕ → ℕ → Type 0
+HasOccupiedAncestor words node = (a : ℕ) × OnPath a node × (a ≢ node) × IsOccupied (slice_index words a)
+
+-- the node's region is free: its word is free, and no ancestor is occupied
+abbrev pub is_free_node : List ℕ → ℕ → ℕ → Bool
+is_free_node words node levels = is_free_word words node && not (has_occupied_above words node levels)
+
+-- the node is occupied, and no ancestor is
+abbrev pub is_held_node : List ℕ → ℕ → ℕ → Bool
+is_held_node words node levels = is_occupied_word words node && not (has_occupied_above words node levels)
+
+-- how many nodes of a level pass the test
+abbrev pub count_of : (ℕ → Bool) → ℕ → ℕ
+count_of test levels = below (λ m. cond (test (2 ^ levels + m)) 1 0) (2 ^ levels)
+
+-- how many regions of a level are free, and how many are given out
+abbrev pub free_regions : List ℕ → ℕ → ℕ
+free_regions words levels = count_of (λ node. is_free_node words node levels) levels
+
+abbrev pub held_regions : List ℕ → ℕ → ℕ
+held_regions words levels = count_of (λ node. is_held_node words node levels) levels
+
+-- the processors of all regions that are given out: 2 ^ k for each of dimension k
+abbrev pub held_processors : ℕ → List ℕ → ℕ
+held_processors n words = below (λ k. held_regions words (n - k) * 2 ^ k) (n + 1)
+
+-- the largest dimension at which a count is not 0, or None where all are 0
+abbrev pub IsLargestFree : List ℕ → Option ℕ → Type 0
+IsLargestFree free (Some k) = (0 < slice_index free k) × ((j : ℕ) → k < j → slice_index free j ≡ 0)
+IsLargestFree free None = (j : ℕ) → slice_index free j ≡ 0
+
+-- a machine of dimension n in which every region is free
+pub record IsEmptyMachine (n : ℕ) (occupancy : Occupancy) : Type 0 where
+  pub free : (k : ℕ) → k ≤ n → slice_index occupancy.free k ≡ 2 ^ (n - k)
+  pub held : occupancy.held ≡ 0
+  pub largest : occupancy.largest ≡ Some n

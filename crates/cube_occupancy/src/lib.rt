@@ -1,0 +1,11 @@
+//! What the words of a machine say of its regions.
+//!
+//! `occupancy` counts the free regions of a machine and the processors that are given out, from its
+//! status words, whoever wrote them.
+#![tactic(auto)]
+
+mod counting;
+mod regions;
+
+pub use counting::occupancy;
+pub use regions::{FREE_PLACES, Occupancy};

@@ -1,0 +1,61 @@
+-- Items put at places, and numbers read from them.
+use Rattle.std.proofs.Common.{◌≡◌, ℕ, suc, ◌+◌, ◌-◌, ◌<◌, ◌≤◌, ◌^◌, List, [], ◌∷◌, ◌++◌, map, set, take, length, get_or, replicate, sym, ap, ◌∙◌, append_assoc, arith}
+use Rattle.std.proofs.lemmas.List.{length-take, map-set, set-append_right, take_more, take_more_set, length-replicate, take-replicate, get_or-map, length-map}
+use Rattle.std.proofs.Math.Pow.{pow_mono}
+use Rattle.cube_shape.specs.declared.limits.TheConstants.{MAX_DIM}
+use Rattle.job_types.specs.declared.arrays.TheConstants.{FEW_DIM, FEW_PLACES, MOST_PLACES}
+
+-- one item more in front of the units
+put_first : (front : List ℕ) (n rank u x : ℕ) → length front ≡ rank → rank < n
+    → set (front ++ replicate (n - rank) u) rank x ≡ front ++ x ∷ [] ++ replicate (n - (rank + 1)) u
+put_first front n rank u x long within =
+    let more : n - rank ≡ suc (n - (rank + 1)) = omega arith in
+    let here : rank - rank ≡ 0 = omega arith in
+    ap (λ (count : ℕ). set (front ++ replicate count u) rank x) more
+    ∙ set-append_right front (u ∷ replicate (n - (rank + 1)) u) rank rank x long (omega arith)
+    ∙ ap (λ (i : ℕ). front ++ set (u ∷ replicate (n - (rank + 1)) u) i x) here
+    ∙ sym (append_assoc front (x ∷ []) (replicate (n - (rank + 1)) u))
+
+-- how many places few dimensions have, and how many any machine has
+pub few_fit : (k : ℕ) → k ≤ FEW_DIM → 2 ^ k ≤ FEW_PLACES
+few_fit k few = pow_mono few
+
+pub all_fit : (k : ℕ) → k ≤ MAX_DIM → 2 ^ k ≤ MOST_PLACES
+all_fit k within = pow_mono within
+
+-- each place of an array holds the unit
+pub units_all : {M : Type 0} (n : ℕ) (x unit : M) → x ≡ unit → replicate n x ≡ replicate (length (replicate n x)) unit
+units_all n x unit same =
+    ap (replicate n) same ∙ ap (λ (count : ℕ). replicate count unit) (sym (length-replicate n x))
+
+-- the first of places that hold the unit hold it
+pub units_in_front : {M : Type 0} (unit : M) (places : List M) (m n : ℕ) → places ≡ replicate (length places) unit → n ≤ length places → m ≡ n
+    → take m places ≡ replicate n unit
+units_in_front unit places m n all within same =
+    ap (λ (count : ℕ). take count places) same ∙ ap (take n) all ∙ take-replicate n (length places) unit within
+
+-- no place has its item yet
+pub units_put : {M : Type 0} (number : M → ℕ) (u n : ℕ) (places : List M) → map number places ≡ replicate n u → map number places ≡ replicate (n - 0) u
+units_put number u n places all = let none : n ≡ n - 0 = omega arith in all ∙ ap (λ (count : ℕ). replicate count u) none
+
+-- the next place has its item
+pub item_put : {M : Type 0} (number : M → ℕ) (u n rank : ℕ) (items : List ℕ) (places : List M) (m : M) → rank < length items → length items ≤ n
+    → number m ≡ get_or items rank 0 → map number places ≡ take rank items ++ replicate (n - rank) u
+    → map number (set places rank m) ≡ take (rank + 1) items ++ replicate (n - (rank + 1)) u
+item_put number u n rank items places m within fits same so_far =
+    let long : length (take rank items) ≡ rank = omega (arith, length-take rank items) in
+    map-set number places rank m
+    ∙ ap (λ (numbers : List ℕ). set numbers rank (number m)) so_far
+    ∙ put_first (take rank items) n rank u (number m) long (omega (arith, within, fits))
+    ∙ ap (λ (x : ℕ). take rank items ++ x ∷ [] ++ replicate (n - (rank + 1)) u) same
+    ∙ ap (λ (front : List ℕ). front ++ replicate (n - (rank + 1)) u) (sym (take_more items rank 0 within))
+
+-- the next number is that of its place
+pub number_copied : {M : Type 0} (number : M → ℕ) (places : List M) (numbers : List ℕ) (i x : ℕ) (m : M) → i < length numbers → i < length places
+    → x ≡ number (get_or places i m) → take i numbers ≡ take i (map number places)
+    → take (i + 1) (set numbers i x) ≡ take (i + 1) (map number places)
+number_copied number places numbers i x m room within same so_far =
+    take_more_set numbers i x room
+    ∙ ap (λ (front : List ℕ). front ++ x ∷ []) so_far
+    ∙ ap (λ (y : ℕ). take i (map number places) ++ y ∷ []) (same ∙ sym (get_or-map number places i m 0 within))
+    ∙ sym (take_more (map number places) i 0 (omega (arith, within, length-map places number)))

@@ -1,0 +1,147 @@
+//! The rounds of a job. They work on the stack, on a place for each rank of its region.
+
+ghost use Rattle.std.specs.Prelude.{◌≡◌, ◌^◌, ◌<◌, ◌≤◌, false, length, map, replicate, take, All};
+ghost use Rattle.collectives.specs.Places.{padded};
+ghost use Rattle.job_types.specs.Collective.{unit_of};
+ghost use Rattle.job_types.specs.Job.{has_bad_root};
+ghost use Rattle.job_types.specs.Inner.Collective.{IsResult, MakesResult, operation_of};
+ghost use Rattle.job_types.specs.Inner.Kept.{CanRun, HasRoomFor, IsShown};
+
+use crate::arrays::{FEW_DIM, OnStack};
+use crate::kept::Kept;
+use crate::kind::{Kind, Op};
+use crate::operation::Operation;
+use collectives::{Add, And, Max, Min, Or, Xor, all_reduce, broadcast, exscan, reduce, scan};
+use cube_shape::MAX_DIM;
+
+// Runs the collective on `2^k` places, with the items and then the unit, and keeps its result. It takes
+// no memory but the stack's.
+pub(crate) fn answer(items: &[u64], kind: Kind, k: u32, kept: &mut Kept)
+    requires job { CanRun kind k items.now kept.old }
+    ensures { IsShown kind items.now kept.new }
+{
+    match kind.operation() {
+        Op::Add => answer_by::<Add>(items, kind, k, kept),
+        Op::Min => answer_by::<Min>(items, kind, k, kept),
+        Op::Max => answer_by::<Max>(items, kind, k, kept),
+        Op::Xor => answer_by::<Xor>(items, kind, k, kept),
+        Op::And => answer_by::<And>(items, kind, k, kept),
+        Op::Or => answer_by::<Or>(items, kind, k, kept),
+    }
+}
+
+// The same by the monoid of the job's operation.
+fn answer_by<M: OnStack>(items: &[u64], kind: Kind, k: u32, kept: &mut Kept)
+    requires operation { M.op ≡ operation_of kind }
+    requires job { CanRun kind k items.now kept.old }
+    ensures { IsShown kind items.now kept.new }
+{
+    if k <= FEW_DIM {
+        M::answer_few(items, kind, k, kept);
+    } else {
+        M::answer_many(items, kind, k, kept);
+    }
+}
+
+// The same on the first `2^k` of places that hold the unit, and as many for scratch.
+pub(crate) fn on_front<M: Operation>(
+    items: &[u64],
+    kind: Kind,
+    k: u32,
+    places: &mut [M],
+    scratch: &mut [M],
+    kept: &mut Kept,
+)
+    requires units { places.old ≡ replicate (length places.old) M.unit }
+    requires places { 2 ^ k ≤ length places.old }
+    requires scratch { 2 ^ k ≤ length scratch.old }
+    requires operation { M.op ≡ operation_of kind }
+    requires job { CanRun kind k items.now kept.old }
+    ensures { IsShown kind items.now kept.new }
+{
+    on_places(
+        items,
+        kind,
+        k,
+        &mut places[..1 << k],
+        &mut scratch[..1 << k],
+        kept,
+    );
+}
+
+// The same on places that hold the unit, with as many for scratch.
+fn on_places<M: Operation>(
+    items: &[u64],
+    kind: Kind,
+    k: u32,
+    places: &mut [M],
+    scratch: &mut [M],
+    kept: &mut Kept,
+)
+    requires units { places.old ≡ replicate (2 ^ k) M.unit }
+    requires scratch { length scratch.old ≡ 2 ^ k }
+    requires operation { M.op ≡ operation_of kind }
+    requires job { CanRun kind k items.now kept.old }
+    ensures { IsShown kind items.now kept.new }
+{
+    put_items(items, k, places);
+    run_rounds(places, scratch, kind, k);
+    show(items, kind, places, kept);
+}
+
+// Puts the items at the first places, of which there are `2^k` with the unit.
+fn put_items<M: Operation>(items: &[u64], k: u32, places: &mut [M])
+    requires units { places.old ≡ replicate (2 ^ k) M.unit }
+    requires fits { length items.now ≤ 2 ^ k }
+    ensures numbers { map M.number places.new ≡ padded (unit_of M.op) k items.now }
+    ensures values { All M.is_value places.new }
+{
+    for rank in 0..items.len() {
+        places[rank] = M::wrap(items[rank]);
+    }
+}
+
+// Runs the collective on its `2^k` places. They may hold the items of a job, and the unit past these.
+fn run_rounds<M: Operation>(places: &mut [M], scratch: &mut [M], kind: Kind, k: u32)
+    requires dim { k ≤ MAX_DIM }
+    requires operation { M.op ≡ operation_of kind }
+    requires places { length places.old ≡ 2 ^ k }
+    requires scratch { length scratch.old ≡ 2 ^ k }
+    requires root { has_bad_root kind (2 ^ k) ≡ false }
+    requires values { All M.is_value places.old }
+    ensures result { MakesResult kind k (map M.number places.old) (map M.number places.new) }
+    ensures length { length places.new ≡ length places.old }
+{
+    let _tally = match kind {
+        Kind::Broadcast { root } => broadcast(places, k, root as usize),
+        Kind::Reduce { root, .. } => reduce(places, k, root as usize),
+        Kind::AllReduce { .. } => all_reduce(places, k),
+        Kind::Scan { .. } => scan(places, scratch, k),
+        Kind::ExScan { .. } => exscan(places, scratch, k),
+    };
+}
+
+// Keeps of the places what is kept of the collective's result.
+fn show<M: Operation>(items: &[u64], kind: Kind, places: &[M], kept: &mut Kept)
+    requires rooted { has_bad_root kind (length items.now) ≡ false }
+    requires some { 0 < length items.now }
+    requires room { HasRoomFor kind (length items.now) kept.old }
+    requires fits { length items.now ≤ length places.now }
+    requires result { IsResult kind items.now (map M.number places.now) }
+    ensures { IsShown kind items.now kept.new }
+{
+    match kept {
+        Kept::One(number) => *number = places[kind.shown_place() as usize].number(),
+        Kept::Each(numbers) => copy_numbers(places, numbers),
+    }
+}
+
+// Copies the numbers of the first places.
+fn copy_numbers<M: Operation>(places: &[M], numbers: &mut [u64])
+    requires { length numbers.old ≤ length places.now }
+    ensures { numbers.new ≡ take (length numbers.old) (map M.number places.now) }
+{
+    for place in 0..numbers.len() {
+        numbers[place] = places[place].number();
+    }
+}
