@@ -39,8 +39,8 @@ pub begun_after : {number : ℕ} {p q : Phase} {m new : Known} → IsSeatOf numb
 begun_after {m = m} seat begun walk at = seat_after seat (leaves_on (begin_leaves m begun) (walk_leaves walk)) at
 
 -- a seat after a glance of its station
-pub seat_glanced : {number : ℕ} {p : Phase} {m new : Known} {node found : ℕ} → IsSeatOf number p m → new ≡ glance_at node found m → IsSeatOf number p new
-seat_glanced seat is = seat_after seat (glance_leaves is) (at_after_glance (at_of seat) is)
+pub seat_glanced : {number : ℕ} {p : Phase} {m new : Known} → IsSeatOf number p m → (node found : ℕ) → new ≡ glance_at node found m → IsSeatOf number p new
+seat_glanced seat node found is = seat_after seat (glance_leaves node found is) (at_after_glance (at_of seat) node found is)
 
 -- what the station made
 pub makes_after : {number : ℕ} {p : Phase} {m new : Known} → IsSeatOf number p m → (begun : Phase) → Walks (begin begun m) new → Makes (entry_in begun (first_of m)) (first_of new)

@@ -71,14 +71,14 @@ glance_leaves_parts : (es : List Entry) (loads : List ℕ) (alone : Bool) (c : L
 glance_leaves_parts [] loads alone c node found = record { station = refl; others = refl; loads = refl; alone = refl; slots = refl }
 glance_leaves_parts (e ∷ rest) loads alone c node found = record { station = refl; others = refl; loads = refl; alone = refl; slots = refl }
 
-pub glance_leaves : {m new : Known} {node found : ℕ} → new ≡ glance_at node found m → LeavesRest m new
-glance_leaves {m = m} {node = node} {found = found} is = subst (LeavesRest m) (sym is) (glance_leaves_parts m.0.stations m.0.loads m.0.alone m.1 node found)
+pub glance_leaves : {m new : Known} (node found : ℕ) → new ≡ glance_at node found m → LeavesRest m new
+glance_leaves {m = m} node found is = subst (LeavesRest m) (sym is) (glance_leaves_parts m.0.stations m.0.loads m.0.alone m.1 node found)
 
 -- the first station is where it was, and has noted what was found
-pub at_after_glance : {m new : Known} {p : Phase} {node found : ℕ} → IsAt m p → new ≡ glance_at node found m → IsAt new p
-at_after_glance {m = m} {p = p} {node = node} {found = found} at is = subst (λ x. IsAt x p) (sym is)
+pub at_after_glance : {m new : Known} {p : Phase} → IsAt m p → (node found : ℕ) → new ≡ glance_at node found m → IsAt new p
+at_after_glance {m = m} {p = p} at node found is = subst (λ x. IsAt x p) (sym is)
     (subst (λ q. IsAt (glance_at node found m) q) at.phase (by_parts (λ x. IsAt (glance_at node found x) (first_of x).phase) m at.there (record { there = refl; phase = refl })))
 
-pub entry_after_glance : {m new : Known} {p : Phase} {node found : ℕ} → IsAt m p → new ≡ glance_at node found m → first_of new ≡ with_glances (record { node = node; word = found } ∷ []) (first_of m)
-entry_after_glance {m = m} {new = new} {node = node} {found = found} at is = subst (λ x. first_of x ≡ with_glances (record { node = node; word = found } ∷ []) (first_of m)) (sym is)
+pub entry_after_glance : {m new : Known} {p : Phase} → IsAt m p → (node found : ℕ) → new ≡ glance_at node found m → first_of new ≡ with_glances (record { node = node; word = found } ∷ []) (first_of m)
+entry_after_glance {m = m} {new = new} at node found is = subst (λ x. first_of x ≡ with_glances (record { node = node; word = found } ∷ []) (first_of m)) (sym is)
     (by_parts (λ x. first_of (glance_at node found x) ≡ with_glances (record { node = node; word = found } ∷ []) (first_of x)) m at.there refl)

@@ -154,12 +154,11 @@ plays_reading k slots id v c e rest news d node f then is one at writes told = s
 
         new_view : IsView k (news ++ acts) new
         new_view = record {
-          stations = All-cons (IsEntryOf k (news ++ acts)) (entry_after d found e) rest
-              (
-                mine.0,
-                subst (λ x. record_of (world_after k (news ++ acts)) e.station ≡ record { phase = d.next x; trail = d.events x ++ e.trail }) word (record_next k news acts e.station (record_in e) d one mine.0 mine.1),
-                glances_kept k news acts e.station (record_in e) d one mine.0 mine.1 e.glances mine.2,
-              )
+          stations = All-cons (IsEntryOf k (news ++ acts)) (entry_after d found e) rest (
+            mine.0,
+            subst (λ x. record_of (world_after k (news ++ acts)) e.station ≡ record { phase = d.next x; trail = d.events x ++ e.trail }) word (record_next k news acts e.station (record_in e) d one mine.0 mine.1),
+            glances_kept k news acts e.station (record_in e) d one mine.0 mine.1 e.glances mine.2,
+          )
               (entries_else k news acts e.station (record_in e) d one mine.0 mine.1 rest only (All-tail (IsEntryOf k acts) e rest entries));
           loads = loads_kept k news acts e.station (record_in e) d one mine.0 mine.1 v.loads had.loads;
           alone = λ marked. record {
