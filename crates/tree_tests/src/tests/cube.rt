@@ -329,7 +329,7 @@ fn refusals_are_counted(rt: HostRuntime) {
 }
 
 #[test]
-fn a_search_glances_at_what_was_in_its_way(rt: HostRuntime) {
+fn a_search_glances_at_what_refused_an_earlier_one(rt: HostRuntime) {
     let (cube, mut list) = opened(&rt, rt.alloc(), 2, 2);
     let second = last(&rt, &cube, &mut list, 1);
     let first = last(&rt, &cube, &mut list, 0);
