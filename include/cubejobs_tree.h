@@ -82,7 +82,8 @@ struct cubejobs_station {
 
 /* Where the code is CUBEJOBS_TREE_DONE, the region is the 2^dim processors from base on, and otherwise both are
  * 0. Where it is CUBEJOBS_TREE_NO_SUBCUBE, the counts say how many tries were refused because the node was in
- * use, because another station was faster, and because an ancestor was occupied; otherwise they are 0. */
+ * use, because another station was faster, and because an ancestor was occupied; a take that finds at a glance that
+ * the whole machine is held makes no try. Otherwise the counts are 0. */
 struct cubejobs_tree_answer {
     uint32_t code;
     uint32_t dim;

@@ -1,11 +1,13 @@
 -- Which nodes a search tries, and for which a refusal stands.
-use Rattle.std.proofs.Common.{◌≡◌, ℕ, suc, ◌+◌, ◌-◌, ◌*◌, ◌/◌, ◌%◌, ◌^◌, ◌<◌, ◌≤◌, inl, inr, List, [], ◌∷◌, length, refl, sym, ◌∙◌, ap, subst, arith, suc-mul}
+use Rattle.std.proofs.Common.{◌≡◌, ℕ, zero, suc, ◌+◌, ◌-◌, ◌*◌, ◌/◌, ◌%◌, ◌^◌, ◌<◌, ◌≤◌, ◌⊎◌, inl, inr, List, [], ◌∷◌, length, refl, sym, ◌∙◌, ap, subst, arith, suc-mul}
 use Rattle.std.specs.Prelude.{All, Any}
 use Rattle.std.proofs.lemmas.Bool.{cases_eq, cases_lt}
 use Rattle.std.proofs.lemmas.Nat.{pow-add, pow_pos, shr_split, mod_below, mul-le, div-mul-add}
 use Rattle.std.proofs.lemmas.List.Elements.{All-nil, All-cons, All-head, All-tail, All-weaker}
 use Rattle.std.proofs.Math.Nat.{mul-le-mul_right}
-use Rattle.cube_shape.specs.Node.{OnPath}
+use Rattle.cube_shape.specs.declared.node.Node.{Node}
+use Rattle.cube_shape.specs.Node.{IsInCube, OnPath}
+use Rattle.status_word.specs.Word.{IsOccupied}
 use Rattle.cube_shape.proofs.PathLemmas.{OnPath-le, level_difference}
 use Rattle.cube_shape.proofs.RegionLemmas.{IsNodeOf-level}
 use Rattle.cube_core.specs.Held.{region_at}
@@ -13,13 +15,15 @@ use Rattle.cube_core.proofs.RunningLemmas.{region_named}
 use Rattle.tree_steps.specs.declared.why.Why.{Why}
 use Rattle.tree_steps.specs.declared.why.Why.TheVariants.{InUse, Lost, Under}
 use Rattle.tree_steps.specs.declared.view.Entry.{Entry}
+use Rattle.tree_steps.specs.declared.view.Glance.{Glance}
+use Rattle.tree_steps.specs.Steps.{with_glances}
 use Rattle.cube_tree.specs.declared.refusal.Refusal.{Refusal}
 use Rattle.cube_tree.specs.declared.handles.Cube.{Cube}
 use Rattle.cube_tree.specs.declared.handles.Subcube.{Subcube}
 use Rattle.cube_tree.specs.Handles.{cube_dim, subcube_entry, held_node, IsRefusedTry, TakesNode}
 use Rattle.cube_tree.specs.Tries.{counted, no_refusal, refusal_sum, refusals_in, added}
-use Rattle.cube_tree.specs.Search.{RefusedTry, StandsFor, IsPassedFor, AreRefused, Searches, TakesNext, IsRefusedEach}
-use Rattle.cube_tree.specs.InnerSearch.{NamesAncestor, IsUnder, IsNodeAfter, counts_of}
+use Rattle.cube_tree.specs.Search.{RefusedTry, StandsFor, IsPassedFor, IsGlancedOver, AreRefused, Searches, TakesNext, IsRefusedEach}
+use Rattle.cube_tree.specs.InnerSearch.{NamesAncestor, IsUnder, IsNodeAfter, Begins, counts_of}
 use Rattle.cube_tree.proofs.TryLemmas.{on_level, sum_counted}
 use Rattle.cube_tree.proofs.RefusalLemmas.{no_events, more_events}
 
@@ -114,7 +118,7 @@ is_beyond (Under at) v w next j low high (s, is, end) names from below on =
     let product : (at.0 + 1) * 2 ^ s ≡ (at.0 + 1) * 2 ^ on.1.0 = ap (λ e. (at.0 + 1) * 2 ^ e) same in
     omega (arith, from, end, before, product)
 
--- ---- lists of tries
+-- ---- lists of tries and of glances
 
 both_all : {X : Type 0} (P Q R : X → Type 0) (xs : List X) → ((x : X) → P x → Q x → R x) → All P xs → All Q xs → All R xs
 both_all P Q R xs both ps qs k d within = both _ (ps k d within) (qs k d within)
@@ -124,6 +128,77 @@ any_first P x xs has = (0, x, omega arith, refl, has)
 
 any_later : {X : Type 0} (P : X → Type 0) (x : X) (xs : List X) → Any P xs → Any P (x ∷ xs)
 any_later P x xs (i, y, within, is, has) = (suc i, y, omega (arith, within), is, has)
+
+any_none : {X : Type 0} (P : X → Type 0) → Any P [] → ⊥
+any_none P (i, x, within, is, has) = omega (arith, within)
+
+any_single : {X : Type 0} (P : X → Type 0) (x : X) → Any P (x ∷ []) → P x
+any_single P x (zero, y, within, is, has) = subst P (sym is) has
+any_single P x (suc i, y, within, is, has) = absurd (omega (arith, within))
+
+-- ---- where a search begins
+
+-- the first node of a level
+module _ (j first : ℕ) (is : first ≡ 2 ^ j) where
+  first_low : 2 ^ j ≤ first
+  first_low = omega (arith, is)
+
+  first_high : first < 2 * 2 ^ j
+  first_high = let some = pow_pos j in omega (arith, is, some)
+
+  -- an ancestor of it is a node of the machine
+  pub ancestor_in_cube : (n a : ℕ) → j ≤ n → OnPath a first × (a < first) → IsInCube n a
+  ancestor_in_cube n a le above =
+      let level = (on_level n j first le first_low first_high).0 in (above.0.0, omega (arith, level.1, above.1))
+
+  -- a search begins there where nothing is remembered
+  pub begins_first : (e : Entry) → Begins j first e e
+  begins_first e = record {
+    glances = [];
+    few = omega arith;
+    entry = refl;
+    low = first_low;
+    high = omega (arith, first_high);
+    each = λ v low before. absurd (omega (arith, low, before, is));
+    beyond = λ v from high over. any_none (λ (g : Glance). OnPath g.node v × IsOccupied g.word) over;
+  }
+
+  -- after one glance
+  module _ (a word : ℕ) (old new : Entry) (noted : new ≡ with_glances (record { node = a; word = word } ∷ []) old) where
+    found : (v : ℕ) → IsGlancedOver v (record { node = a; word = word } ∷ []) → OnPath a v × IsOccupied word
+    found v over = any_single (λ (g : Glance). OnPath g.node v × IsOccupied g.word) (record { node = a; word = word }) over
+
+    -- that did not find its node occupied, it begins there too
+    pub begins_free : (IsOccupied word → ⊥) → Begins j first old new
+    begins_free free = record {
+      glances = record { node = a; word = word } ∷ [];
+      few = omega arith;
+      entry = noted;
+      low = first_low;
+      high = omega (arith, first_high);
+      each = λ v low before. absurd (omega (arith, low, before, is));
+      beyond = λ v from high over. free (found v over).1;
+    }
+
+    -- and after one that found an ancestor occupied, behind the nodes under this
+    pub begins_behind : (at : Node) (next : ℕ) → at.0 ≡ a → IsOccupied word → NamesAncestor (Under at) first → IsNodeAfter (Under at) first next → Begins j next old new
+    begins_behind at next same occupied names after = record {
+      glances = record { node = a; word = word } ∷ [];
+      few = omega arith;
+      entry = noted;
+      low = let onward = is_onward (Under at) first next after in omega (arith, onward, is);
+      high = is_within (Under at) first next j first_low first_high after names;
+      each = λ v low before. any_first (λ (g : Glance). OnPath g.node v × IsOccupied g.word) (record { node = a; word = word }) [] (subst (λ x. OnPath x v) same (over v low before), occupied);
+      beyond = λ v from high over_it. is_beyond (Under at) first v next j first_low first_high after names from high (subst (λ x. OnPath x v) (sym same) (found v over_it).0);
+    }
+      where
+        over : (v : ℕ) → 2 ^ j ≤ v → v < next → OnPath at.0 v
+        over v low before = elim (cases_eq first v) [
+          | inl here ↦ subst (OnPath at.0) here names.0
+          | inr other ↦ is_between (Under at) first v next after names (omega (arith, low, other, is)) before
+        ]
+
+-- ---- a search
 
 -- the refusal stands for no node of the level from `end` on
 abbrev pub LeavesFrom : ℕ → ℕ → RefusedTry → Type 0
@@ -135,25 +210,31 @@ IsBefore j end t = (2 ^ j ≤ t.node) × (t.node < end)
 
 -- a search that has come to the node `end`
 pub record IsSearch (n j end : ℕ) (refusal : Refusal) (old new : Entry) : Type 0 where
+  pub glances : List Glance
   pub tries : List RefusedTry
-  pub searches : Searches n j end tries old new
+  pub searches : Searches n j end glances tries old new
   pub leaves : All (LeavesFrom j end) tries
+  pub beyond : (v : ℕ) → end ≤ v → v < 2 * 2 ^ j → IsGlancedOver v glances → ⊥
   pub counts : refusal ≡ counts_of tries
   pub low : 2 ^ j ≤ end
   pub high : end ≤ 2 * 2 ^ j
 
-pub search_begun : (n j : ℕ) (entry : Entry) → IsSearch n j (2 ^ j) no_refusal entry entry
-search_begun n j entry = record {
+pub search_begun : (n j start : ℕ) (old new : Entry) → Begins j start old new → IsSearch n j start no_refusal old new
+search_begun n j start old new begins = record {
+  glances = begins.glances;
   tries = [];
   searches = record {
-    refused = refl;
-    level = All-nil (IsBefore j (2 ^ j));
-    each = λ v low before. absurd (omega (arith, low, before));
+    one = begins.few;
+    refused = begins.entry;
+    level = All-nil (IsBefore j start);
+    beside = All-nil (λ (t : RefusedTry). IsGlancedOver t.node begins.glances → ⊥);
+    each = λ v low before. inr (begins.each v low before);
   };
-  leaves = All-nil (LeavesFrom j (2 ^ j));
+  leaves = All-nil (LeavesFrom j start);
+  beyond = begins.beyond;
   counts = refl;
-  low = omega arith;
-  high = omega arith;
+  low = begins.low;
+  high = begins.high;
 }
 
 -- no refusal stands for the node that is next
@@ -164,13 +245,17 @@ passed_for {j = j} {v = v} had below =
 -- one try more
 pub search_more : {n j v next : ℕ} {r s : Refusal} {old between new : Entry} {why : Why} → IsSearch n j v r old between → v < 2 * 2 ^ j → IsRefusedTry n v between new why → s ≡ counted why r → IsNodeAfter why v next → IsSearch n j next s old new
 search_more {j = j} {v = v} {next = next} {between = between} {why = why} had below refused counts after = record {
+  glances = had.glances;
   tries = own ∷ had.tries;
   searches = record {
+    one = had.searches.one;
     refused = (between, had.searches.refused, refused, passed_for had below);
     level = All-cons (IsBefore j next) own had.tries (had.low, onward)
         (All-weaker (IsBefore j v) (IsBefore j next) (λ t before. (before.0, later t before.1)) had.tries had.searches.level);
+    beside = All-cons (λ (t : RefusedTry). IsGlancedOver t.node had.glances → ⊥) own had.tries (had.beyond v (omega arith) below) had.searches.beside;
     each = each;
   };
+  beyond = λ w from high. had.beyond w (omega (arith, from, onward)) high;
   leaves = All-cons (LeavesFrom j next) own had.tries own_leaves
       (All-weaker (LeavesFrom j v) (LeavesFrom j next) (λ t leaves w from. leaves w (omega (arith, from, onward))) had.tries had.leaves);
   counts = counts ∙ ap (counted why) had.counts;
@@ -187,12 +272,18 @@ search_more {j = j} {v = v} {next = next} {between = between} {why = why} had be
     later : (t : RefusedTry) → t.node < v → t.node < next
     later t before = omega (arith, before, onward)
 
-    each : (w : ℕ) → 2 ^ j ≤ w → w < next → Any (StandsFor w) (own ∷ had.tries)
+    own_stands : (w : ℕ) → StandsFor w own → Any (StandsFor w) (own ∷ had.tries) ⊎ IsGlancedOver w had.glances
+    own_stands w stands = inl (any_first (StandsFor w) own had.tries stands)
+
+    each : (w : ℕ) → 2 ^ j ≤ w → w < next → Any (StandsFor w) (own ∷ had.tries) ⊎ IsGlancedOver w had.glances
     each w low before = elim (cases_lt w v) [
-      | inl less ↦ any_later (StandsFor w) own had.tries (had.searches.each w low less)
+      | inl less ↦ elim (had.searches.each w low less) [
+        | inl earlier ↦ inl (any_later (StandsFor w) own had.tries earlier)
+        | inr over ↦ inr over
+      ]
       | inr from ↦ elim (cases_eq v w) [
-        | inl same ↦ any_first (StandsFor w) own had.tries (inl same)
-        | inr other ↦ any_first (StandsFor w) own had.tries (inr (is_between why v w next after refused.names (omega (arith, from, other)) before))
+        | inl same ↦ own_stands w (inl same)
+        | inr other ↦ own_stands w (inr (is_between why v w next after refused.names (omega (arith, from, other)) before))
       ]
     ]
 
@@ -237,29 +328,35 @@ bound_of n j (t ∷ tries) old new le level (between, earlier, refused, passed) 
 
 pub refused_each : (n j end : ℕ) (r : Refusal) (old new : Entry) → j ≤ n → end ≡ 2 * 2 ^ j → IsSearch n j end r old new → IsRefusedEach n j old new r
 refused_each n j end r old new le is had = record {
+  glances = whole.glances;
   tries = whole.tries;
   searches = whole.searches;
-  few = let count = few_tries n j (2 * 2 ^ j) whole.tries old new whole.low whole.searches.level whole.searches.refused in omega (arith, count);
+  few = let count = few_tries n j (2 * 2 ^ j) whole.tries first new whole.low whole.searches.level whole.searches.refused in omega (arith, count);
   sum = ap refusal_sum whole.counts ∙ sum_of whole.tries;
-  events = events_of n whole.tries old new whole.searches.refused ∙ ap (λ c. added c (refusals_in old.trail)) (sym whole.counts);
-  bound = bound_of n j whole.tries old new le whole.searches.level whole.searches.refused;
+  events = events_of n whole.tries first new whole.searches.refused ∙ ap (λ c. added c (refusals_in old.trail)) (sym whole.counts);
+  bound = bound_of n j whole.tries first new le whole.searches.level whole.searches.refused;
 }
   where
     whole : IsSearch n j (2 * 2 ^ j) r old new
     whole = subst (λ e. IsSearch n j e r old new) is had
 
+    first : Entry
+    first = with_glances whole.glances old
+
 pub takes_next : (cube : Cube) (j node : ℕ) (r : Refusal) (old between : Entry) (subcube : Subcube) → j ≤ cube_dim cube → node < 2 * 2 ^ j → IsSearch (cube_dim cube) j node r old between → TakesNode cube node between subcube → TakesNext cube j old subcube
 takes_next cube j node r old between subcube le below had_node taken_node = record {
+  glances = had.glances;
   tries = had.tries;
   between = between;
   searches = had.searches;
   order = passed_for had high;
+  beside = had.beyond v (omega arith) high;
   low = had.low;
   high = high;
   taken = taken;
   bound =
-      let count = few_tries (cube_dim cube) j v had.tries old between had.low had.searches.level had.searches.refused in
-      let earlier = bound_of (cube_dim cube) j had.tries old between le
+      let count = few_tries (cube_dim cube) j v had.tries (with_glances had.glances old) between had.low had.searches.level had.searches.refused in
+      let earlier : length between.trail ≤ length old.trail + length had.tries * (3 + 7 * j) = bound_of (cube_dim cube) j had.tries (with_glances had.glances old) between le
       (All-weaker (IsBefore j v) (IsBefore j (2 * 2 ^ j)) (λ t before. (before.0, later t before.1)) had.tries had.searches.level) had.searches.refused in
       let last : length (subcube_entry subcube).trail ≤ length between.trail + (3 + 7 * j) = subst (λ d. length (subcube_entry subcube).trail ≤ length between.trail + (3 + 7 * d)) (on_level (cube_dim cube) j v le had.low high).1 taken.bound in
       let sum = suc-mul (length had.tries) (3 + 7 * j) in
@@ -285,6 +382,6 @@ takes_next cube j node r old between subcube le below had_node taken_node = reco
 -- as many refusals as tries, and so no more than the level has nodes
 pub search_sum : {n j end : ℕ} {r : Refusal} {old new : Entry} → IsSearch n j end r old new → refusal_sum r + 2 ^ j ≤ end
 search_sum {n = n} {j = j} {end = end} {old = old} {new = new} had =
-    let count = few_tries n j end had.tries old new had.low had.searches.level had.searches.refused in
+    let count = few_tries n j end had.tries (with_glances had.glances old) new had.low had.searches.level had.searches.refused in
     let same = ap refusal_sum had.counts ∙ sum_of had.tries in
     omega (arith, count, same)

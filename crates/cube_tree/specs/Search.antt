@@ -1,9 +1,12 @@
--- A search of one level of nodes that passes over those under an ancestor which a try found occupied.
+-- A search of one level of nodes that passes over those under an ancestor which a try or a glance found occupied.
 use Rattle.std.specs.Prelude.{◌≡◌, ℕ, ◌+◌, ◌*◌, ◌^◌, ◌<◌, ◌≤◌, ◌⊎◌, List, [], ◌∷◌, All, Any, length, MatchOption}
 use Rattle.cube_shape.specs.Node.{OnPath}
+use Rattle.status_word.specs.Word.{IsOccupied}
 use Rattle.tree_steps.specs.declared.why.Why.{Why}
 use Rattle.tree_steps.specs.declared.view.Entry.{Entry}
+use Rattle.tree_steps.specs.declared.view.Glance.{Glance}
 use Rattle.tree_steps.specs.Answer.{ancestor_of}
+use Rattle.tree_steps.specs.Steps.{with_glances}
 use Rattle.cube_tree.specs.declared.refusal.Refusal.{Refusal}
 use Rattle.cube_tree.specs.declared.handles.Cube.{Cube}
 use Rattle.cube_tree.specs.declared.handles.Subcube.{Subcube}
@@ -29,19 +32,27 @@ abbrev pub AreRefused : ℕ → List RefusedTry → Entry → Entry → Type 0
 AreRefused n [] old new = new ≡ old
 AreRefused n (t ∷ earlier) old new = (between : Entry) × AreRefused n earlier old between × IsRefusedTry n t.node between new t.why × All (IsPassedFor t.node) earlier
 
--- by these tries a station searched the level that is j levels below the root up to the node `end`: for
--- each node of the level before that one some refusal stands
-pub record Searches (n j end : ℕ) (tries : List RefusedTry) (old new : Entry) : Type 0 where
-  pub refused : AreRefused n tries old new
-  pub level : All (λ t. (2 ^ j ≤ t.node) × (t.node < end)) tries
-  pub each : (v : ℕ) → 2 ^ j ≤ v → v < end → Any (StandsFor v) tries
+-- a glance found node v or an ancestor of it occupied
+abbrev pub IsGlancedOver : ℕ → List Glance → Type 0
+IsGlancedOver v glances = Any (λ g. OnPath g.node v × IsOccupied g.word) glances
 
--- after a search up to its node, for which no refusal stands, it took this node
+-- by one glance at most, and then these tries, a station searched the level that is j levels below the root up to
+-- the node `end`: for each node of the level before that one some refusal stands, or it is glanced over
+pub record Searches (n j end : ℕ) (glances : List Glance) (tries : List RefusedTry) (old new : Entry) : Type 0 where
+  pub one : length glances ≤ 1
+  pub refused : AreRefused n tries (with_glances glances old) new
+  pub level : All (λ t. (2 ^ j ≤ t.node) × (t.node < end)) tries
+  pub beside : All (λ t. IsGlancedOver t.node glances → ⊥) tries
+  pub each : (v : ℕ) → 2 ^ j ≤ v → v < end → Any (StandsFor v) tries ⊎ IsGlancedOver v glances
+
+-- after a search up to its node, for which no refusal stands and which is not glanced over, it took this node
 pub record TakesNext (cube : Cube) (j : ℕ) (old : Entry) (subcube : Subcube) : Type 0 where
+  pub glances : List Glance
   pub tries : List RefusedTry
   pub between : Entry
-  pub searches : Searches (cube_dim cube) j (held_node subcube) tries old between
+  pub searches : Searches (cube_dim cube) j (held_node subcube) glances tries old between
   pub order : All (IsPassedFor (held_node subcube)) tries
+  pub beside : IsGlancedOver (held_node subcube) glances → ⊥
   pub low : 2 ^ j ≤ held_node subcube
   pub high : held_node subcube < 2 * 2 ^ j
   pub taken : TakesNode cube (held_node subcube) between subcube
@@ -49,8 +60,9 @@ pub record TakesNext (cube : Cube) (j : ℕ) (old : Entry) (subcube : Subcube) :
 
 -- it searched the whole level; there is one refusal for each try, and the counts are those of the events
 pub record IsRefusedEach (n j : ℕ) (old new : Entry) (refusal : Refusal) : Type 0 where
+  pub glances : List Glance
   pub tries : List RefusedTry
-  pub searches : Searches n j (2 * 2 ^ j) tries old new
+  pub searches : Searches n j (2 * 2 ^ j) glances tries old new
   pub few : length tries ≤ 2 ^ j
   pub sum : refusal_sum refusal ≡ length tries
   pub events : refusals_in new.trail ≡ added refusal (refusals_in old.trail)

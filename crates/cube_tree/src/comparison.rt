@@ -18,6 +18,7 @@ pub fn apart(a: Subcube, b: Subcube, cube: &Cube) -> (Subcube, Subcube)
         node,
         region,
         dim,
+        remembered,
         mut seat,
     } = a;
     let Subcube {
@@ -25,6 +26,7 @@ pub fn apart(a: Subcube, b: Subcube, cube: &Cube) -> (Subcube, Subcube)
         node: other_node,
         region: other_region,
         dim: other_dim,
+        remembered: other_remembered,
         seat: other_seat,
     } = b;
     cube.tree.merge(&mut seat, other_seat);
@@ -35,6 +37,7 @@ pub fn apart(a: Subcube, b: Subcube, cube: &Cube) -> (Subcube, Subcube)
         node,
         region,
         dim,
+        remembered,
         seat: own,
     };
     let second = Subcube {
@@ -42,6 +45,7 @@ pub fn apart(a: Subcube, b: Subcube, cube: &Cube) -> (Subcube, Subcube)
         node: other_node,
         region: other_region,
         dim: other_dim,
+        remembered: other_remembered,
         seat,
     };
     (first, second)

@@ -28,7 +28,11 @@ impl TreeStation {
         ensures table { result.table_id ≡ self.seat.table_id }
         ensures retires { (found : ℕ) × (result.me ≡ retire_at found self.seat.me) }
     {
-        let TreeStation { number, mut seat } = self;
+        let TreeStation {
+            number,
+            remembered: _,
+            mut seat,
+        } = self;
         tree.retire(&mut seat, number);
         seat
     }

@@ -89,6 +89,10 @@ fn deal(tree: &Tree, seat: &mut Seat, list: &mut Vec<TreeStation>, stations: u32
 {
     for number in 0..stations {
         let own = tree.cut_first(seat);
-        list.push_reserved(TreeStation { number, seat: own });
+        list.push_reserved(TreeStation {
+            number,
+            remembered: None,
+            seat: own,
+        });
     }
 }

@@ -1,14 +1,16 @@
 //! Takes of any region of a dimension that pass over what lies under an occupied ancestor.
-ghost use Rattle.std.specs.Prelude.{◌≡◌, ◌+◌, ◌-◌, ◌^◌, ◌<◌, ◌≤◌, IfOk, IfErr};
+ghost use Rattle.std.specs.Prelude.{◌≡◌, ◌+◌, ◌-◌, ◌^◌, ◌<◌, ◌≤◌, IfOk, IfErr, IfSome};
+ghost use Rattle.cube_shape.specs.Node.{IsInCube, OnPath};
 ghost use Rattle.cube_shape.specs.Region.{IsAligned};
 ghost use Rattle.cube_tree.specs.Handles.{cube_dim, held_region, station_entry, IsStationOf};
 ghost use Rattle.cube_tree.specs.Search.{TakesNext, IsRefusedEach};
-ghost use Rattle.cube_tree.specs.InnerSearch.{NamesAncestor, IsNodeAfter};
+ghost use Rattle.cube_tree.specs.InnerSearch.{NamesAncestor, IsNodeAfter, Finds, Begins};
 
 use crate::handles::{Cube, Subcube, TreeStation};
 use crate::refusal::{Refusal, count};
 use crate::tries::region_count;
-use cube_shape::{MAX_DIM, Node};
+use cube_shape::{MAX_DIM, Node, on_path};
+use status_word::Word;
 use tree_steps::Why;
 
 // The node of the same level to be tried after one that was refused: where an ancestor was occupied,
@@ -26,11 +28,99 @@ pub(crate) fn node_after(node: u64, why: Why) -> u64
     (at.0 + 1) << levels
 }
 
+// What is remembered, where it is an ancestor of the node.
+fn ancestor_remembered(remembered: Option<Node>, node: u64) -> Option<Node>
+    requires { 0 < node }
+    ensures { IfSome result (λ at. OnPath at.0 node × (at.0 < node)) }
+{
+    let Some(at) = remembered else {
+        return None;
+    };
+    if at.0 == 0 || at.0 >= node {
+        return None;
+    }
+    if on_path(at, Node(node)) {
+        Some(at)
+    } else {
+        None
+    }
+}
+
 impl TreeStation {
+    // A glance at a node, which the station remembers where it is occupied, and forgets else: whether it is.
+    fn glance(self, cube: &Cube, at: Node) -> (TreeStation, bool)
+        requires cube { IsStationOf cube.now self }
+        requires node { IsInCube (cube_dim cube.now) at.0 }
+        ensures cube { IsStationOf cube.now result.0 }
+        ensures finds { Finds at.0 result.1 (station_entry self) (station_entry result.0) }
+    {
+        let TreeStation {
+            number,
+            remembered: _,
+            mut seat,
+        } = self;
+        let word = cube.tree.glance(&mut seat, at.0);
+        let is_occupied = Word(word).is_occupied();
+        let remembered = if is_occupied { Some(at) } else { None };
+        (
+            TreeStation {
+                number,
+                remembered,
+                seat,
+            },
+            is_occupied,
+        )
+    }
+
+    // The node at which a search of the regions of dimension `k` begins: the first one, or where a glance
+    // finds an ancestor of it occupied that the station remembers, the one behind those under this.
+    fn begin_search(self, cube: &Cube, k: u32) -> (TreeStation, u64)
+        requires cube { IsStationOf cube.now self }
+        requires dim { k ≤ cube_dim cube.now }
+        ensures cube { IsStationOf cube.now result.0 }
+        ensures begins { Begins (cube_dim cube.now - k) result.1 (station_entry self)
+            (station_entry result.0) }
+    {
+        let first = region_count(&cube.tree, k);
+        let Some(at) = ancestor_remembered(self.remembered, first) else {
+            return (self, first);
+        };
+        let (station, is_occupied) = self.glance(cube, at);
+        if is_occupied {
+            (station, node_after(first, Why::Under(at)))
+        } else {
+            (station, first)
+        }
+    }
+
+    // Where the first node of a search is refused for an ancestor, the station remembers this.
+    fn remember(self, is_first: bool, why: Why) -> TreeStation
+        ensures table { result.seat.table_id ≡ self.seat.table_id }
+        ensures entry { station_entry result ≡ station_entry self }
+    {
+        let Why::Under(at) = why else {
+            return self;
+        };
+        if !is_first {
+            return self;
+        }
+        let TreeStation {
+            number,
+            remembered: _,
+            seat,
+        } = self;
+        TreeStation {
+            number,
+            remembered: Some(at),
+            seat,
+        }
+    }
+
     /// Tries the regions of dimension `k` one after another, from the first one on, until one is
-    /// taken, but for those under an ancestor that a try of this call found occupied: these are passed
-    /// over. For `j = n - k` it makes at most `2^j * (3 + 7 * j)` events; the three counts are those of
-    /// its tries.
+    /// taken, but for those under an ancestor that this call found occupied, by a try or by a glance:
+    /// these are passed over. The glance is at the ancestor that the first try of an earlier search found
+    /// occupied, as long as it still is. For `j = n - k` the call makes at most `2^j * (3 + 7 * j)`
+    /// events; the three counts are those of its tries.
     pub fn try_take_skipping(self, cube: &Cube, k: u32) -> Result<Subcube, (TreeStation, Refusal)>
         requires cube { IsStationOf cube.now self }
         requires dim { k ≤ cube_dim cube.now }
@@ -45,14 +135,13 @@ impl TreeStation {
             (station_entry self) (station_entry refused.0) refused.1) }
     {
         let first = region_count(&cube.tree, k);
-        let mut station = self;
+        let (mut station, mut node) = self.begin_search(cube, k);
         let mut refusal = Refusal::NONE;
-        let mut node = first;
         while node < 2 * first {
             match station.try_node(cube, Node(node)) {
                 Ok(subcube) => return Ok(subcube),
                 Err((back, why)) => {
-                    station = back;
+                    station = back.remember(node == first, why);
                     refusal = count(refusal, why);
                     node = node_after(node, why);
                 }

@@ -34,7 +34,11 @@ impl TreeStation {
         ensures refused { IfErr result (λ refused.
             IsRefusedTry (cube_dim cube.now) node.0 (station_entry self) (station_entry refused.0) refused.1) }
     {
-        let TreeStation { number, mut seat } = self;
+        let TreeStation {
+            number,
+            remembered,
+            mut seat,
+        } = self;
         match cube.tree.take(&mut seat, number, node.0) {
             Ok(()) => {
                 let dim = cube.tree.size().dim;
@@ -43,10 +47,18 @@ impl TreeStation {
                     node: node.0,
                     region: region_at_node(dim, node.0),
                     dim,
+                    remembered,
                     seat,
                 })
             }
-            Err(why) => Err((TreeStation { number, seat }, why)),
+            Err(why) => Err((
+                TreeStation {
+                    number,
+                    remembered,
+                    seat,
+                },
+                why,
+            )),
         }
     }
 }
@@ -69,9 +81,14 @@ impl Subcube {
             node,
             region: _,
             dim: _,
+            remembered,
             mut seat,
         } = self;
         cube.tree.give_back(&mut seat, number, node);
-        TreeStation { number, seat }
+        TreeStation {
+            number,
+            remembered,
+            seat,
+        }
     }
 }

@@ -11,9 +11,10 @@ use Rattle.cube_core.specs.Event.{Transition}
 use Rattle.cube_core.specs.Schedule.{Record, State, AreOneEvent, record_of, word_of, initial, apply_event}
 use Rattle.cube_core.proofs.RunningLemmas.{apply_all-append, apply_all_dim, initial_stations}
 use Rattle.tree_steps.specs.declared.view.Entry.{Entry}
+use Rattle.tree_steps.specs.declared.view.Glance.{Glance}
 use Rattle.tree_steps.specs.declared.view.View.{View}
 use Rattle.tree_steps.specs.declared.view.Size.{Size}
-use Rattle.tree_steps.specs.Rule.{record_in, others, times, times_in, world_after, IsEntryOf, WasRoll, IsView, IsRuled}
+use Rattle.tree_steps.specs.Rule.{record_in, others, times, times_in, world_after, IsEntryOf, WasSeen, WasWord, IsView, IsRuled}
 use Rattle.tree_steps.specs.Steps.{Known, entry_after}
 
 -- ---- how many entries are of a station
@@ -58,8 +59,22 @@ module _ (k : Size) (news acts : List Act) (s : ℕ) (r : Record) (d : Transitio
   record_else : (t : ℕ) → t ≢ s → record_of (world_after k (news ++ acts)) t ≡ record_of (world_after k acts) t
   record_else t other = ap (λ (w : State). record_of w t) world_next ∙ get_or-set_other (world_after k acts).records s t _ _ other
 
+  -- what was found before
+  word_kept : (v x : ℕ) → WasWord k acts v x → WasWord k (news ++ acts) v x
+  word_kept v x was = record { later = news ++ was.later; earlier = was.earlier; split = ap (λ l. news ++ l) was.split ∙ sym (append_again news was.later was.earlier); found = was.found }
+    where
+      append_again : (xs ys zs : List Act) → (xs ++ ys) ++ zs ≡ xs ++ (ys ++ zs)
+      append_again [] ys zs = refl
+      append_again (x ∷ xs) ys zs = ap (λ l. x ∷ l) (append_again xs ys zs)
+
+  glances_kept : (glances : List Glance) → All (WasSeen k acts) glances → All (WasSeen k (news ++ acts)) glances
+  glances_kept glances had = All-weaker (WasSeen k acts) (WasSeen k (news ++ acts)) (λ g. word_kept g.node g.word) glances had
+
+  loads_kept : (loads : List ℕ) → All (WasWord k acts 0) loads → All (WasWord k (news ++ acts) 0) loads
+  loads_kept loads had = All-weaker (WasWord k acts 0) (WasWord k (news ++ acts) 0) (word_kept 0) loads had
+
   entry_else : (e : Entry) → e.station ≢ s → IsEntryOf k acts e → IsEntryOf k (news ++ acts) e
-  entry_else e other had = (had.0, record_else e.station other ∙ had.1)
+  entry_else e other had = (had.0, record_else e.station other ∙ had.1, glances_kept e.glances had.2)
 
   entries_else : (entries : List Entry) → times s entries ≡ 0 → All (IsEntryOf k acts) entries → All (IsEntryOf k (news ++ acts)) entries
   entries_else [] none had = All-nil (IsEntryOf k (news ++ acts))
@@ -69,17 +84,6 @@ module _ (k : Size) (news acts : List Act) (s : ℕ) (r : Record) (d : Transitio
     where
       not_none : e.station ≡ s → times s (e ∷ rest) ≡ 0 → ⊥
       not_none same no_entry = let here : times s (e ∷ rest) ≡ 1 + times s rest = ap (λ t. cond t 1 0 + times s rest) (eq-eqb e.station s same) in omega arith
-
-  -- what was loaded before
-  load_kept : (x : ℕ) → WasRoll k acts x → WasRoll k (news ++ acts) x
-  load_kept x was = record { later = news ++ was.later; earlier = was.earlier; split = ap (λ l. news ++ l) was.split ∙ sym (append_again news was.later was.earlier); found = was.found }
-    where
-      append_again : (xs ys zs : List Act) → (xs ++ ys) ++ zs ≡ xs ++ (ys ++ zs)
-      append_again [] ys zs = refl
-      append_again (x ∷ xs) ys zs = ap (λ l. x ∷ l) (append_again xs ys zs)
-
-  loads_kept : (loads : List ℕ) → All (WasRoll k acts) loads → All (WasRoll k (news ++ acts)) loads
-  loads_kept loads had = All-weaker (WasRoll k acts) (WasRoll k (news ++ acts)) load_kept loads had
 
   -- a view without the station stays so
   view_else : (v : View) → times s v.stations ≡ 0 → IsView k acts v → IsView k (news ++ acts) v
@@ -150,8 +154,11 @@ plays_reading k slots id v c e rest news d node f then is one at writes told = s
 
         new_view : IsView k (news ++ acts) new
         new_view = record {
-          stations = All-cons (IsEntryOf k (news ++ acts)) (entry_after d found e) rest
-              (mine.0, subst (λ x. record_of (world_after k (news ++ acts)) e.station ≡ record { phase = d.next x; trail = d.events x ++ e.trail }) word (record_next k news acts e.station (record_in e) d one mine.0 mine.1))
+          stations = All-cons (IsEntryOf k (news ++ acts)) (entry_after d found e) rest (
+            mine.0,
+            subst (λ x. record_of (world_after k (news ++ acts)) e.station ≡ record { phase = d.next x; trail = d.events x ++ e.trail }) word (record_next k news acts e.station (record_in e) d one mine.0 mine.1),
+            glances_kept k news acts e.station (record_in e) d one mine.0 mine.1 e.glances mine.2,
+          )
               (entries_else k news acts e.station (record_in e) d one mine.0 mine.1 rest only (All-tail (IsEntryOf k acts) e rest entries));
           loads = loads_kept k news acts e.station (record_in e) d one mine.0 mine.1 v.loads had.loads;
           alone = λ marked. record {

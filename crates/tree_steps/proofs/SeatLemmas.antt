@@ -22,7 +22,7 @@ use Rattle.cube_core.proofs.RunningLemmas.{lawful_after, initial_stations, close
 use Rattle.tree_steps.specs.declared.view.Entry.{Entry}
 use Rattle.tree_steps.specs.declared.view.View.{View}
 use Rattle.tree_steps.specs.declared.view.Size.{Size}
-use Rattle.tree_steps.specs.Rule.{first, others, times, world_after, IsEntryOf, WasRoll, IsView, IsRuled, idle_entry, idle_entries, first_view}
+use Rattle.tree_steps.specs.Rule.{first, others, times, world_after, IsEntryOf, WasSeen, WasWord, IsView, IsRuled, idle_entry, idle_entries, first_view}
 use Rattle.tree_steps.specs.Steps.{Known, KeepsLoad, AreOffPath, IsOffAll, first_alone, without_first, only_first, without_stations, joined, blank}
 use Rattle.tree_steps.specs.Alone.{AreAllAtRest, Turns, picked, unpicked, turned_to}
 use Rattle.tree_steps.proofs.ClosedLemmas.{closed_world}
@@ -50,7 +50,7 @@ idle_once s a (suc count) = elim (cases_eq a s) [
 idle_entries_of : (k : Size) (a count : ℕ) → a + count ≡ k.stations → All (IsEntryOf k []) (idle_entries a count)
 idle_entries_of k a zero sum = All-nil (IsEntryOf k [])
 idle_entries_of k a (suc count) sum = All-cons (IsEntryOf k []) (idle_entry a) (idle_entries (suc a) count)
-    (below sum, get_or-replicate k.stations a (record { phase = Idle; trail = [] }) (record { phase = Retired; trail = [] }) (below sum))
+    (below sum, get_or-replicate k.stations a (record { phase = Idle; trail = [] }) (record { phase = Retired; trail = [] }) (below sum), All-nil (WasSeen k []))
     (idle_entries_of k (suc a) count (omega (arith, sum)))
   where
     below : a + suc count ≡ k.stations → a < k.stations
@@ -62,7 +62,7 @@ opens k words is = record {
   words = is;
   views = All-cons (IsView k []) (first_view k) [] (record {
     stations = idle_entries_of k 0 k.stations (omega arith);
-    loads = All-nil (WasRoll k []);
+    loads = All-nil (WasWord k [] 0);
     alone = λ marked. absurd (true≢false (sym marked));
   }) (All-nil (IsView k []));
   once = λ s. let few = idle_once s 0 k.stations in omega arith;
@@ -92,7 +92,7 @@ cuts_first k id v t ruled me = record {
   words = ruled.words;
   views = All-append (IsView k ruled.acts) (set t.views id (without_first v)) (only_first v ∷ [])
       (put_view k ruled.acts t.views id (without_first v) (record { stations = cut_rest (IsEntryOf k ruled.acts) v.stations had.stations; loads = had.loads; alone = λ marked. absurd (true≢false (sym marked)) }) ruled.views)
-      (All-cons (IsView k ruled.acts) (only_first v) [] (record { stations = cut_first (IsEntryOf k ruled.acts) v.stations had.stations; loads = All-nil (WasRoll k ruled.acts); alone = λ marked. absurd (true≢false (sym marked)) }) (All-nil (IsView k ruled.acts)));
+      (All-cons (IsView k ruled.acts) (only_first v) [] (record { stations = cut_first (IsEntryOf k ruled.acts) v.stations had.stations; loads = All-nil (WasWord k ruled.acts 0); alone = λ marked. absurd (true≢false (sym marked)) }) (All-nil (IsView k ruled.acts)));
   once = λ s.
       let sums = times_in-set s id t.views v (without_first v) me in let all = times_in-append s (set t.views id (without_first v)) (only_first v ∷ []) in let parts = cut_times s v.stations in let most = ruled.once s in omega arith;
 }
@@ -116,10 +116,10 @@ pub merges : (k : Size) (id : ℕ) (v : View) (other : ℕ) (w : View) → Joins
 merges k id v other w t ruled me differ them = record {
   acts = ruled.acts;
   words = ruled.words;
-  views = put_view k ruled.acts (set t.views id (joined v w)) other blank (record { stations = All-nil (IsEntryOf k ruled.acts); loads = All-nil (WasRoll k ruled.acts); alone = λ marked. absurd (true≢false (sym marked)) })
+  views = put_view k ruled.acts (set t.views id (joined v w)) other blank (record { stations = All-nil (IsEntryOf k ruled.acts); loads = All-nil (WasWord k ruled.acts 0); alone = λ marked. absurd (true≢false (sym marked)) })
       (put_view k ruled.acts t.views id (joined v w) (record {
         stations = All-append (IsEntryOf k ruled.acts) v.stations w.stations mine.stations theirs.stations;
-        loads = All-append (WasRoll k ruled.acts) v.loads w.loads mine.loads theirs.loads;
+        loads = All-append (WasWord k ruled.acts 0) v.loads w.loads mine.loads theirs.loads;
         alone = λ marked. absurd (true≢false (sym marked));
       }) ruled.views);
   once = λ s.
@@ -181,7 +181,7 @@ loads_roll k slots id m = loads_word k slots id m.0 m.1 0 (λ found. record m.0 
     known t ruled me had = (
       record {
         stations = had.stations;
-        loads = All-cons (WasRoll k ruled.acts) (get_or t.words 0 0) m.0.loads (record { later = []; earlier = ruled.acts; split = refl; found = sym roll }) had.loads;
+        loads = All-cons (WasWord k ruled.acts 0) (get_or t.words 0 0) m.0.loads (record { later = []; earlier = ruled.acts; split = refl; found = sym roll }) had.loads;
         alone = had.alone;
       },
       λ _. record { kept = refl; bits = subst (λ w. All (λ e. e.phase ≡ Retired → IsSet w e.station) m.0.stations) (sym roll) (retired_bits k ruled.acts m.0.stations had.stations) },
@@ -323,8 +323,8 @@ closes k t id v roll earlier ruled me loads whole node positive =
     ap (λ ws. get_or ws node 0) (ruled.words ∙ ap (λ acts. (world_after k acts).words) was.split)
     ∙ closed_words k.dim k.stations was.later was.earlier (λ s below. subst (λ w. IsSet w s) (sym was.found) (whole s below)) node positive
   where
-    was : WasRoll k ruled.acts roll
-    was = All-head (WasRoll k ruled.acts) roll earlier (subst (All (WasRoll k ruled.acts)) loads (view_at (IsView k ruled.acts) t.views id v me ruled.views).loads)
+    was : WasWord k ruled.acts 0 roll
+    was = All-head (WasWord k ruled.acts 0) roll earlier (subst (All (WasWord k ruled.acts 0)) loads (view_at (IsView k ruled.acts) t.views id v me ruled.views).loads)
 
 -- and the roll is what that load found
 pub roll_stays : (k : Size) (t : Table (Unit {0}) View) (id : ℕ) (v : View) (roll : ℕ) (earlier : List ℕ) → IsRuled k t → get_elem? t.views id ≡ some v → v.loads ≡ roll ∷ earlier → ((s : ℕ) → s < k.stations → IsSet roll s) → get_or t.words 0 0 ≡ roll
@@ -334,8 +334,8 @@ roll_stays k t id v roll earlier ruled me loads whole =
     ∙ ap (λ w. word_of w 0) (closed_world k was.later was.earlier (λ s below. subst (λ w. IsSet w s) (sym was.found) (whole s below)))
     ∙ was.found
   where
-    was : WasRoll k ruled.acts roll
-    was = All-head (WasRoll k ruled.acts) roll earlier (subst (All (WasRoll k ruled.acts)) loads (view_at (IsView k ruled.acts) t.views id v me ruled.views).loads)
+    was : WasWord k ruled.acts 0 roll
+    was = All-head (WasWord k ruled.acts 0) roll earlier (subst (All (WasWord k ruled.acts 0)) loads (view_at (IsView k ruled.acts) t.views id v me ruled.views).loads)
 
 -- words that are copied one by one
 read_at : (words : List ℕ) (i x : ℕ) → get_elem? words i ≡ some x → get_or words i 0 ≡ x

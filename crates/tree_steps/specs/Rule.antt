@@ -1,5 +1,5 @@
 -- What holds between any two steps: some schedule of the tree as a pure machine leads to these words and
--- phases, and the trail of each station is its events in that schedule.
+-- phases, the trail of each station is its events in that schedule, and its glances found words of it.
 use Rattle.std.specs.Prelude.{◌≡◌, ℕ, zero, suc, ◌+◌, ◌<◌, ◌≤◌, ◌==◌, if◌then◌else◌, true, false, List, [], ◌∷◌, ◌++◌, All}
 use Rattle.atomic_table.specs.Table.{State as Table}
 use Rattle.cube_core.specs.declared.act.Act.{Act}
@@ -7,6 +7,7 @@ use Rattle.cube_core.specs.declared.phase.Phase.TheVariants.{Idle, Retired}
 use Rattle.cube_core.specs.Phase.{IsAtRest}
 use Rattle.cube_core.specs.Schedule.{Record, State, record_of, word_of, initial, apply_all}
 use Rattle.tree_steps.specs.declared.view.Entry.{Entry}
+use Rattle.tree_steps.specs.declared.view.Glance.{Glance}
 use Rattle.tree_steps.specs.declared.view.View.{View}
 use Rattle.tree_steps.specs.declared.view.Size.{Size}
 
@@ -16,7 +17,7 @@ record_in e = record { phase = e.phase; trail = e.trail }
 
 -- the first entry, and the others
 abbrev pub first : List Entry → Entry
-first [] = record { station = 0; phase = Retired; trail = [] }
+first [] = record { station = 0; phase = Retired; trail = []; glances = [] }
 first (e ∷ rest) = e
 
 abbrev pub others : List Entry → List Entry
@@ -36,16 +37,20 @@ times_in s (v ∷ rest) = times s v.stations + times_in s rest
 abbrev pub world_after : Size → List Act → State
 world_after k acts = apply_all acts (initial k.dim k.stations)
 
--- the entry is the record of its station
-abbrev pub IsEntryOf : Size → List Act → Entry → Type 0
-IsEntryOf k acts e = (e.station < k.stations) × (record_of (world_after k acts) e.station ≡ record_in e)
-
--- the roll was x after an earlier part of the schedule
-pub record WasRoll (k : Size) (acts : List Act) (x : ℕ) : Type 0 where
+-- the word v was x after an earlier part of the schedule: that of node v, or the roll where v is 0
+pub record WasWord (k : Size) (acts : List Act) (v x : ℕ) : Type 0 where
   pub later : List Act
   pub earlier : List Act
   pub split : acts ≡ later ++ earlier
-  pub found : word_of (world_after k earlier) 0 ≡ x
+  pub found : word_of (world_after k earlier) v ≡ x
+
+-- the glance found the word of its node as it was then
+abbrev pub WasSeen : Size → List Act → Glance → Type 0
+WasSeen k acts g = WasWord k acts g.node g.word
+
+-- the entry is the record of its station, whose glances found words of the schedule
+abbrev pub IsEntryOf : Size → List Act → Entry → Type 0
+IsEntryOf k acts e = (e.station < k.stations) × (record_of (world_after k acts) e.station ≡ record_in e) × All (WasSeen k acts) e.glances
 
 -- all stations below the count are here, each once, and all but the first are at rest
 pub record AreAll (count : ℕ) (entries : List Entry) : Type 0 where
@@ -55,7 +60,7 @@ pub record AreAll (count : ℕ) (entries : List Entry) : Type 0 where
 -- what a seat knows is so
 pub record IsView (k : Size) (acts : List Act) (v : View) : Type 0 where
   pub stations : All (IsEntryOf k acts) v.stations
-  pub loads : All (WasRoll k acts) v.loads
+  pub loads : All (WasWord k acts 0) v.loads
   pub alone : v.alone ≡ true → AreAll k.stations v.stations
 
 -- the rule of the table
@@ -68,7 +73,7 @@ pub record IsRuled (k : Size) (t : Table (Unit {0}) View) : Type 0 where
 
 -- the view of the first seat: all stations are with it, idle and with no event
 abbrev pub idle_entry : ℕ → Entry
-idle_entry s = record { station = s; phase = Idle; trail = [] }
+idle_entry s = record { station = s; phase = Idle; trail = []; glances = [] }
 
 abbrev pub idle_entries : ℕ → ℕ → List Entry
 idle_entries s zero = []

@@ -1,13 +1,13 @@
-//! Seats are made, cut and joined, the roll is loaded, and the tree is closed.
+//! Seats are made, cut and joined, words are loaded by what is no event, and the tree is closed.
 ghost use Rattle.std.specs.Prelude.{◌≡◌, ℕ, ◌+◌, ◌^◌, ◌<◌, ◌≤◌, List, [], ◌∷◌, length, slice_index, vec_len, IfOk};
 ghost use Rattle.tree_steps.specs.Rule.{first_view};
-ghost use Rattle.tree_steps.specs.Steps.{KeepsLoad, IsOffAll, first_of, HasWholeRoll, joined, only_first, without_first, without_stations};
+ghost use Rattle.tree_steps.specs.Steps.{KeepsLoad, IsOffAll, first_of, glance_at, HasWholeRoll, joined, only_first, without_first, without_stations};
 ghost use Rattle.cube_core.specs.Phase.{IsAtRest};
 ghost use Rattle.tree_steps.specs.Alone.{AreAllAtRest, IsAlone, TellsWord, Turns};
 ghost use Rattle.tree_steps.specs.Tree.{id_of, dim_of, size_of, read_words, station_count};
 ghost use Rattle.cube_shape.specs.Node.{IsInCube, OnPath};
 
-use crate::rule::{Compare, CopyLoads, CutFirst, LoadRoll, Merge, Tell, Turn};
+use crate::rule::{Compare, CopyLoads, CutFirst, LoadGlance, LoadRoll, Merge, Tell, Turn};
 use crate::tree::{Seat, Tree};
 use crate::view::Size;
 use atomic_table::Table;
@@ -164,6 +164,17 @@ impl Tree {
         ensures loads { KeepsLoad seat.old.me result seat.new.me }
     {
         self.table.shared.load::<LoadRoll>(seat, 0)
+    }
+
+    /// A glance at a node: a load of its word, which is no event and changes no word. The first station of
+    /// the seat notes what it found.
+    pub fn glance(&self, seat: &mut Seat, node: u64) -> u64
+        requires seat { seat.old.table_id ≡ id_of self.now }
+        requires node { IsInCube (dim_of self.now) node }
+        ensures seat { seat.new.table_id ≡ seat.old.table_id }
+        ensures notes { seat.new.me ≡ glance_at node result seat.old.me }
+    {
+        self.table.shared.load::<LoadGlance>(seat, node as usize)
     }
 
     /// The words at the end, once a load of the roll has found the bit of each station. No word has

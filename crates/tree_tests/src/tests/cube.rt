@@ -151,7 +151,36 @@ fn refused_all(
     }
 }
 
-// The same of a take that passes over what is under an occupied node.
+// A search that passes over what is under an occupied node.
+fn try_skipping(
+    cube: &Cube,
+    station: TreeStation,
+    k: u32,
+) -> Result<Subcube, (TreeStation, Refusal)>
+    requires cube { IsStationOf cube.now station }
+    requires dim { k ≤ cube_dim cube.now }
+    ensures held { IfOk result (IsSubcubeOf cube.now) }
+    ensures back { IfErr result (λ refused. IsStationOf cube.now refused.0) }
+{
+    station.try_take_skipping(cube, k)
+}
+
+// A region of dimension `k` by such a search, which has to be this one.
+fn given_skipping(rt: &impl Abort, cube: &Cube, station: TreeStation, k: u32, base: u64) -> Subcube
+    requires cube { IsStationOf cube.now station }
+    requires dim { k ≤ cube_dim cube.now }
+    ensures { IsSubcubeOf cube.now result }
+{
+    match try_skipping(cube, station, k) {
+        Ok(subcube) => {
+            assert!(rt; subcube.region() == Region { base, dim: k });
+            subcube
+        }
+        Err(_) => panic!(rt; "no region is given"),
+    }
+}
+
+// Such a search, which has to be refused with these counts.
 fn refused_skipping(
     rt: &impl Abort,
     cube: &Cube,
@@ -163,7 +192,7 @@ fn refused_skipping(
     requires dim { k ≤ cube_dim cube.now }
     ensures { IsStationOf cube.now result }
 {
-    match station.try_take_skipping(cube, k) {
+    match try_skipping(cube, station, k) {
         Ok(_) => panic!(rt; "a region is given"),
         Err((station, refusal)) => {
             assert!(rt; refusal == counts);
@@ -286,12 +315,41 @@ fn refusals_are_counted(rt: HostRuntime) {
         under: 1,
     };
     let second = refused_skipping(&rt, &cube, second, 0, once);
-    let second = refused_skipping(&rt, &cube, second, 1, once);
+    let untried = Refusal {
+        in_use: 0,
+        lost: 0,
+        under: 0,
+    };
+    let second = refused_skipping(&rt, &cube, second, 1, untried);
     let second = refused_skipping(&rt, &cube, second, 2, whole);
     assert!(rt; cube.dim() == 2 && cube.stations() == 2);
     leave(&cube, first);
     second.retire(&cube);
     assert!(rt; closed(&rt, cube).dim() == 2);
+}
+
+#[test]
+fn a_search_glances_at_what_refused_an_earlier_one(rt: HostRuntime) {
+    let (cube, mut list) = opened(&rt, rt.alloc(), 2, 2);
+    let second = last(&rt, &cube, &mut list, 1);
+    let first = last(&rt, &cube, &mut list, 0);
+    list.destroy_empty();
+    let first = given(&rt, &cube, first, 2, Region { base: 0, dim: 1 });
+    // The roll-back of a try under node 2 leaves a mark there.
+    let second = given_skipping(&rt, &cube, second, 0, 2);
+    assert!(rt; cube.word(2) != 7);
+    let first = given(&rt, &cube, released(&cube, first), 2, Region { base: 0, dim: 1 });
+    assert_eq!(rt; cube.word(2), 7);
+    // No further search makes one, for a processor or for a half.
+    let second = given_skipping(&rt, &cube, released(&cube, second), 0, 2);
+    let second = given_skipping(&rt, &cube, released(&cube, second), 1, 2);
+    assert_eq!(rt; cube.word(2), 7);
+    // The half is free again, and is searched again.
+    let first = released(&cube, first);
+    let second = given_skipping(&rt, &cube, released(&cube, second), 0, 0);
+    first.retire(&cube);
+    leave(&cube, second);
+    assert!(rt; is_free(&closed(&rt, cube)));
 }
 
 #[test]

@@ -8,8 +8,8 @@ use Rattle.cube_tree.proofs.handles.TreeStation.try_take_skipping.Goals as goal
 
 pub loop-node-init : goal.loop-node-init
 loop-node-init c = record {
-  of_cube = c.requires.cube;
-  search = subst (λ x. IsSearch (cube_dim c.args.cube.now) (cube_dim c.args.cube.now - c.args.k) x no_refusal (station_entry c.args.self) (station_entry c.args.self)) (sym c.region_count-first.ensures.value) (search_begun (cube_dim c.args.cube.now) (cube_dim c.args.cube.now - c.args.k) (station_entry c.args.self));
+  of_cube = c.begin_search-station.ensures.cube;
+  search = search_begun (cube_dim c.args.cube.now) (cube_dim c.args.cube.now - c.args.k) _ (station_entry c.args.self) _ c.begin_search-station.ensures.begins;
 }
 
 pub try_node-requires-clause-node : goal.try_node-requires-clause-node
@@ -38,8 +38,9 @@ count-refusal-requires c =
 pub loop-node-preserved : goal.loop-node-preserved
 loop-node-preserved c =
     let count = c.region_count-first.ensures.value in record {
-      of_cube = c.in-Err.ensures.back;
-      search = search_more c.loop-node.invariant.search (omega (arith, count, c.loop-node-test.true)) c.in-Err.ensures.refused c.count-refusal.ensures c.node_after-node.ensures;
+      of_cube = c.remember-station.ensures.table ∙ c.in-Err.ensures.back;
+      search = subst (IsSearch (cube_dim c.args.cube.now) (cube_dim c.args.cube.now - c.args.k) c.node_after-node.result c.count-refusal.result (station_entry c.args.self)) (sym c.remember-station.ensures.entry)
+          (search_more c.loop-node.invariant.search (omega (arith, count, c.loop-node-test.true)) c.in-Err.ensures.refused c.count-refusal.ensures c.node_after-node.ensures);
     }
 
 pub returns-clause-refused : goal.returns-clause-refused

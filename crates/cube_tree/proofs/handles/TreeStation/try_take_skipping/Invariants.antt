@@ -9,5 +9,5 @@ decreases-loop-node l = 2 * l.first - l.node
 abbrev pub invariant-loop-node : goal.invariant-loop-node
 invariant-loop-node l = record {
   of_cube : IsStationOf l.cube l.station;
-  search : IsSearch (cube_dim l.cube) (cube_dim l.cube - l.k) l.node l.refusal (station_entry l.initial.station) (station_entry l.station);
+  search : IsSearch (cube_dim l.cube) (cube_dim l.cube - l.k) l.node l.refusal (station_entry l.fn.self) (station_entry l.station);
 }
