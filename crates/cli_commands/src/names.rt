@@ -1,5 +1,5 @@
 // The names of the stations of a machine.
-ghost use Rattle.std.specs.Prelude.{◌≡◌, ◌≢◌, ◌↔◌, ℕ, ◌<◌, ◌≤◌, None, Some, length, replicate, slice_set, IsTrue, IfOk, IfNone, IfSome};
+ghost use Rattle.std.specs.Prelude.{◌≡◌, ◌≢◌, ◌↔◌, ℕ, ◌-◌, ◌<◌, ◌≤◌, None, Some, length, replicate, slice_set, IsTrue, IfOk, IfNone, IfSome};
 ghost use Rattle.cli_commands.specs.Inner.Names.{AreNamedBelow, name_at};
 
 use cube_shape::MAX_STATIONS;
@@ -62,7 +62,8 @@ fn first_idle(names: &[Option<Name>]) -> Option<u32>
 
 // The number after the last station that has a name.
 fn used_in(names: &[Option<Name>]) -> usize
-    ensures { AreNamedBelow result names.now }
+    ensures below { AreNamedBelow result names.now }
+    ensures last { result ≢ 0 → name_at names.now (result - 1) ≢ None }
 {
     let mut used = names.len();
     while used > 0 && names[used - 1].is_none() {
@@ -83,6 +84,7 @@ impl Names {
     }
 
     /// The station of this name.
+    #[inline(always)]
     pub(crate) fn station_of(&self, name: Name) -> Option<u32>
         requires { length self.now ≡ MAX_STATIONS }
         ensures some { IfSome result (λ s. (s < MAX_STATIONS) × (name_at self.now s ≡ Some name)) }
