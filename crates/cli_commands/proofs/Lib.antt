@@ -2,6 +2,7 @@ pub mod LaneLemmas
 pub mod OrderLemmas
 pub mod RunLemmas
 pub mod TraceLemmas
+pub mod NameLemmas
 pub mod StationLemmas
 pub mod ReplayLemmas
 pub mod ProgramLemmas

@@ -7,7 +7,8 @@ use Rattle.cube_shape.specs.declared.region.Region.{Region}
 use Rattle.cube_shape.specs.Region.{block}
 use Rattle.cube_shape.specs.Machine.{Gives, Holdings, IsFirstFit, TakesBack}
 use Rattle.cli_commands.specs.Place.{Holding, HoldsSome, IsFirstIdle, IsFreed, IsFull, IsGiven, empty_table, region_of, regions}
-use Rattle.cli_commands.specs.Inner.Stations.{NamesAgree, held_under, name_at, named_holdings_with}
+use Rattle.cli_commands.specs.Inner.Names.{name_at}
+use Rattle.cli_commands.specs.Inner.Stations.{NamesAgree, held_under, named_holdings_with}
 
 -- a list of names, some of which are empty
 abbrev Names : Type 0
@@ -78,8 +79,8 @@ pub set_else : (names : Names) (s t : ℕ) (name : Option (List ℕ)) → t ≢ 
 set_else names s t name other = get_or-set_other names s t name None other
 
 -- the names with one more, and the regions that the machine has then
-pub names_agree_given : (names : Names) (held next : Holdings) (s n dim : ℕ) (r : Region) (name : List ℕ) → s < MAX_STATIONS → NamesAgree names held → Gives n s dim held next r → NamesAgree (slice_set names s (Some name)) next
-names_agree_given names held next s n dim r name lt k gives = record {
+pub names_agree_given : (names now : Names) (held next : Holdings) (s n dim : ℕ) (r : Region) (name : List ℕ) → now ≡ slice_set names s (Some name) → s < MAX_STATIONS → NamesAgree names held → Gives n s dim held next r → NamesAgree now next
+names_agree_given names now held next s n dim r name set lt k gives = subst (λ (xs : Names). NamesAgree xs next) (sym set) (record {
   size = length-set _ _ _ ∙ k.size;
   named = λ t other is. elim (cases_eq t s) [
     | inl here ↦ (r, ap next here ∙ gives.held)
@@ -89,11 +90,11 @@ names_agree_given names held next s n dim r name lt k gives = record {
     | inl here ↦ absurd (none_is_some (sym is ∙ ap (name_at (slice_set names s (Some name))) here ∙ set_here names s (Some name) (subst (λ m. s < m) (sym k.size) lt)))
     | inr else ↦ gives.others t else ∙ k.idle t (sym (set_else names s t (Some name) else) ∙ is)
   ];
-}
+})
 
 -- and with one less
-pub names_agree_freed : (names : Names) (held next : Holdings) (s : ℕ) (r : Region) → s < MAX_STATIONS → NamesAgree names held → TakesBack s held next r → NamesAgree (slice_set names s None) next
-names_agree_freed names held next s r lt k takes = record {
+pub names_agree_freed : (names now : Names) (held next : Holdings) (s : ℕ) (r : Region) → now ≡ slice_set names s None → s < MAX_STATIONS → NamesAgree names held → TakesBack s held next r → NamesAgree now next
+names_agree_freed names now held next s r set lt k takes = subst (λ (xs : Names). NamesAgree xs next) (sym set) (record {
   size = length-set _ _ _ ∙ k.size;
   named = λ t other is. elim (cases_eq t s) [
     | inl here ↦ absurd (none_is_some (sym (ap (name_at (slice_set names s None)) here ∙ set_here names s None (subst (λ m. s < m) (sym k.size) lt)) ∙ is))
@@ -103,34 +104,36 @@ names_agree_freed names held next s r lt k takes = record {
     | inl here ↦ ap next here ∙ takes.idle
     | inr else ↦ takes.others t else ∙ k.idle t (sym (set_else names s t None else) ∙ is)
   ];
-}
+})
 
 -- the first fit was given under the name
-pub is_given : (names : Names) (held next : Holdings) (s n dim m : ℕ) (r : Region) (name : List ℕ)
-    → NamesAgree names held → ((t : ℕ) → name_at names t ≢ Some name) → s < MAX_STATIONS → name_at names s ≡ None → ((t : ℕ) → t < s → name_at names t ≢ None)
+pub is_given : (names now : Names) (held next : Holdings) (s n dim m : ℕ) (r : Region) (name : List ℕ)
+    → now ≡ slice_set names s (Some name) → NamesAgree names held → ((t : ℕ) → name_at names t ≢ Some name) → s < MAX_STATIONS → name_at names s ≡ None → ((t : ℕ) → t < s → name_at names t ≢ None)
     → Gives n s dim held next r → r ≡ block dim m → IsFirstFit n dim held m
-    → IsGiven n name dim r.base (named_holdings_with names held) (named_holdings_with (slice_set names s (Some name)) next)
-is_given names held next s n dim m r name k fresh lt none first gives is fit = record {
-  fresh = holds_none names held name fresh;
-  station = s;
-  idle = first_idle names held k s lt none first;
-  m = m;
-  fit = rw (regions_are names held k) fit;
-  start = ap (λ (a : Region). a.base) is;
-  held = rw (set_here names s (Some name) (subst (λ len. s < len) (sym k.size) lt), gives.held, is) refl;
-  others = λ t else. rw (set_else names s t (Some name) else, gives.others t else) refl;
-}
+    → IsGiven n name dim r.base (named_holdings_with names held) (named_holdings_with now next)
+is_given names now held next s n dim m r name set k fresh lt none first gives is fit =
+    subst (λ (xs : Names). IsGiven n name dim r.base (named_holdings_with names held) (named_holdings_with xs next)) (sym set) (record {
+      fresh = holds_none names held name fresh;
+      station = s;
+      idle = first_idle names held k s lt none first;
+      m = m;
+      fit = rw (regions_are names held k) fit;
+      start = ap (λ (a : Region). a.base) is;
+      held = rw (set_here names s (Some name) (subst (λ len. s < len) (sym k.size) lt), gives.held, is) refl;
+      others = λ t else. rw (set_else names s t (Some name) else, gives.others t else) refl;
+    })
 
 -- the region of the name was taken away from it
-pub is_freed : (names : Names) (held next : Holdings) (s : ℕ) (r : Region) (name : List ℕ)
-    → NamesAgree names held → s < MAX_STATIONS → name_at names s ≡ Some name → TakesBack s held next r
-    → IsFreed name r.dim r.base (named_holdings_with names held) (named_holdings_with (slice_set names s None) next)
-is_freed names held next s r name k lt named takes = record {
-  station = s;
-  held = rw (named, takes.held) refl;
-  idle = rw (set_here names s None (subst (λ len. s < len) (sym k.size) lt)) refl;
-  others = λ t else. rw (set_else names s t None else, takes.others t else) refl;
-}
+pub is_freed : (names now : Names) (held next : Holdings) (s : ℕ) (r : Region) (name : List ℕ)
+    → now ≡ slice_set names s None → NamesAgree names held → s < MAX_STATIONS → name_at names s ≡ Some name → TakesBack s held next r
+    → IsFreed name r.dim r.base (named_holdings_with names held) (named_holdings_with now next)
+is_freed names now held next s r name set k lt named takes =
+    subst (λ (xs : Names). IsFreed name r.dim r.base (named_holdings_with names held) (named_holdings_with xs next)) (sym set) (record {
+      station = s;
+      held = rw (named, takes.held) refl;
+      idle = rw (set_here names s None (subst (λ len. s < len) (sym k.size) lt)) refl;
+      others = λ t else. rw (set_else names s t None else, takes.others t else) refl;
+    })
 
 -- at first no station has a name, and none holds a region
 pub names_agree_none : (names : Names) (held : Holdings) → names ≡ replicate MAX_STATIONS None → ((s : ℕ) → held s ≡ None) → NamesAgree names held

@@ -1,6 +1,7 @@
--- What no public contract reaches: how stations, lanes, shops, rows and endings are tied to the definitions above.
+-- What no public contract reaches: how names, stations, lanes, shops, rows and endings are tied to the definitions above.
 pub mod Ending
 pub mod Filed
+pub mod Names
 pub mod Replay
 pub mod Shop
 pub mod Stations

@@ -4,6 +4,7 @@
 
 mod filed;
 mod lanes;
+mod names;
 mod output;
 mod place;
 mod play;

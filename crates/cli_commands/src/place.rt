@@ -1,5 +1,5 @@
 // The command `place`: a region allocator over names.
-ghost use Rattle.std.specs.Prelude.{◌≡◌, ◌≤◌, All, IfErr, IfSome, OnOk, List};
+ghost use Rattle.std.specs.Prelude.{◌≡◌, ◌≤◌, ◌++◌, ℕ, All, IfErr, IfOk, IfSome, OnOk, List};
 ghost use Rattle.jobs_csv.specs.Place.{Fits};
 ghost use Rattle.jobs_csv.specs.PlaceRows.{place_columns, place_fields};
 ghost use Rattle.jobs_csv.specs.Text.{file_text};
@@ -8,13 +8,32 @@ ghost use Rattle.std.specs.Io.KnownBytes.{Appends};
 ghost use Rattle.cli_words.specs.declared.invocation.Invocation.TheVariants.{Place};
 ghost use Rattle.cli_commands.specs.Answer.{IsCommandFault, IsMetBeforeWriting};
 ghost use Rattle.cli_commands.specs.Place.{ArePlaced};
+ghost use Rattle.cli_commands.specs.Inner.Stations.{AreStations, IsAnswerLine, dim_of, named_holdings};
 ghost use Rattle.cli_commands.specs.Program.{IsAnswerTo};
 
 use crate::stations::Stations;
 use cube_shape::MAX_DIM;
 use jobs_csv::{Command, Device, Fault, FaultKind, LineBuffer, PlaceRow, WriteStopped};
-use std::alloc::Global;
+use std::alloc::{AllocError, Global};
 use std::io::{Read, Write};
+
+// Answers a command, and buffers the line of its row.
+fn answer_next(
+    stations: &mut Stations,
+    command: Command,
+    lines: LineBuffer,
+) -> Result<LineBuffer, AllocError>
+    requires made { AreStations stations.old }
+    requires fits { Fits (dim_of stations.old) command }
+    ensures made { AreStations stations.new }
+    ensures dim { dim_of stations.new ≡ dim_of stations.old }
+    ensures line { IfOk result (λ more. (line : List ℕ) × (more ≡ lines ++ line)
+        × IsAnswerLine (dim_of stations.old) command (named_holdings stations.old)
+        (named_holdings stations.new) line) }
+{
+    let row = stations.answer(command);
+    lines.push(&row)
+}
 
 // Answers the commands one after the other, and writes each row under the header as it comes.
 fn answer_all<W: Write>(
@@ -32,8 +51,7 @@ fn answer_all<W: Write>(
     let mut stations = Stations::new(alloc, n)?;
     let mut lines = LineBuffer::new(alloc)?.push_header::<PlaceRow>()?;
     for command in commands {
-        let row = stations.answer(command);
-        lines = lines.write_row(row, writer)?;
+        lines = answer_next(&mut stations, command, lines)?.flush_if_full(writer)?;
     }
     lines.finish(writer)
 }

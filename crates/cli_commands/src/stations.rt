@@ -1,12 +1,13 @@
 // The stations of a machine, each of which holds a region under a name or nothing.
-ghost use Rattle.std.specs.Prelude.{◌≡◌, ◌≢◌, ◌↔◌, ℕ, ◌<◌, ◌≤◌, None, Some, length, IsTrue, IfOk, IfNone, IfSome};
+ghost use Rattle.std.specs.Prelude.{◌≡◌, ℕ, ◌≤◌, IfOk};
 ghost use Rattle.jobs_csv.specs.declared.place.Command.TheVariants as command;
 ghost use Rattle.jobs_csv.specs.Place.{Fits};
 ghost use Rattle.cli_commands.specs.Place.{PlaceStep, command_in, empty_table};
-ghost use Rattle.cli_commands.specs.Inner.Stations.{AreStations, dim_of, name_at, named_holdings};
+ghost use Rattle.cli_commands.specs.Inner.Stations.{AreStations, dim_of, named_holdings};
 
+use crate::names::Names;
 use alloc_bits::AllocBits;
-use cube_shape::{MAX_DIM, MAX_STATIONS};
+use cube_shape::MAX_DIM;
 use jobs_csv::{Command, Name, PlaceRow};
 use std::alloc::{AllocError, Global};
 
@@ -14,39 +15,7 @@ use std::alloc::{AllocError, Global};
 #[derive(Drop)]
 pub struct Stations {
     bits: AllocBits,
-    names: Vec<Option<Name>>,
-}
-
-// Whether a station has this name.
-fn is_name(held: Option<Name>, name: Name) -> bool
-    ensures { IsTrue result ↔ (held ≡ Some name) }
-{
-    match held {
-        Some(other) => other == name,
-        None => false,
-    }
-}
-
-// The station of this name.
-#[tactic(auto, using(std::proofs::lemmas::List::get_or_past))]
-fn station_of(names: &[Option<Name>], name: Name) -> Option<u32>
-    requires { length names.now ≡ MAX_STATIONS }
-    ensures some { IfSome result (λ s. (s < MAX_STATIONS) × (name_at names.now s ≡ Some name)) }
-    ensures none { IfNone result ((s : ℕ) → name_at names.now s ≢ Some name) }
-{
-    let index = names.iter().position(|held| is_name(*held, name))?;
-    Some(index as u32)
-}
-
-// The first station that has no name.
-fn first_idle(names: &[Option<Name>]) -> Option<u32>
-    requires { length names.now ≡ MAX_STATIONS }
-    ensures some { IfSome result (λ s. (s < MAX_STATIONS) × (name_at names.now s ≡ None)
-        × ((t : ℕ) → t < s → name_at names.now t ≢ None)) }
-    ensures none { IfNone result ((s : ℕ) → s < MAX_STATIONS → name_at names.now s ≢ None) }
-{
-    let index = names.iter().position(|held| held.is_none())?;
-    Some(index as u32)
+    names: Names,
 }
 
 impl Stations {
@@ -59,7 +28,7 @@ impl Stations {
     {
         Ok(Stations {
             bits: AllocBits::new(alloc, n)?,
-            names: vec![in alloc; None; MAX_STATIONS as usize]?,
+            names: Names::new(alloc)?,
         })
     }
 
@@ -73,16 +42,16 @@ impl Stations {
         ensures step { PlaceStep (dim_of self.old) result (named_holdings self.old)
             (named_holdings self.new) }
     {
-        if let Some(_holder) = station_of(&self.names, name) {
+        if let Some(_holder) = self.names.station_of(name) {
             return PlaceRow::Held { name, dim };
         }
-        let Some(station) = first_idle(&self.names) else {
+        let Some(station) = self.names.first_idle() else {
             return PlaceRow::NoStation { name, dim };
         };
         let Ok(region) = self.bits.take(station, dim) else {
             return PlaceRow::NoSubcube { name, dim };
         };
-        self.names[station as usize] = Some(name);
+        self.names.set(station, Some(name));
         let base = region.base;
         PlaceRow::Given { name, dim, base }
     }
@@ -96,11 +65,11 @@ impl Stations {
         ensures step { PlaceStep (dim_of self.old) result (named_holdings self.old)
             (named_holdings self.new) }
     {
-        let Some(station) = station_of(&self.names, name) else {
+        let Some(station) = self.names.station_of(name) else {
             return PlaceRow::NothingHeld { name };
         };
         let region = self.bits.release(station).unwrap();
-        self.names[station as usize] = None;
+        self.names.set(station, None);
         let dim = region.dim;
         let base = region.base;
         PlaceRow::Freed { name, dim, base }

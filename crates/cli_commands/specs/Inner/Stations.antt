@@ -1,15 +1,16 @@
 -- What the stations of the program hold, as a table.
-use Rattle.std.specs.Prelude.{◌≡◌, ℕ, List, length, slice_index_or, Option, Some, None}
+use Rattle.std.specs.Prelude.{◌≡◌, ℕ, List, length, Option, Some, None}
 use Rattle.cube_shape.specs.declared.limits.TheConstants.{MAX_STATIONS}
 use Rattle.cube_shape.specs.declared.region.Region.{Region}
 use Rattle.cube_shape.specs.Machine.{Holdings}
 use Rattle.alloc_bits.specs.Allocation.{held_in}
+use Rattle.jobs_csv.specs.PlaceRows.{place_fields}
+use Rattle.jobs_csv.specs.Text.{line_of}
+use Rattle.jobs_csv.specs.declared.place.Command.{Command}
+use Rattle.jobs_csv.specs.declared.place_rows.PlaceRow.{PlaceRow}
 use Rattle.cli_commands.specs.declared.stations.Stations.{Stations}
-use Rattle.cli_commands.specs.Place.{Holding, NamedHoldings}
-
--- the name of a station; there is none past the stations
-abbrev pub name_at : List (Option (List ℕ)) → ℕ → Option (List ℕ)
-name_at names station = slice_index_or names station None
+use Rattle.cli_commands.specs.Place.{Holding, NamedHoldings, PlaceStep, command_in}
+use Rattle.cli_commands.specs.Inner.Names.{name_at}
 
 -- a name with its region
 abbrev pub held_under : Option (List ℕ) → Option Region → Option Holding
@@ -28,11 +29,15 @@ pub record NamesAgree (names : List (Option (List ℕ))) (held : Holdings) : Typ
   pub idle : (station : ℕ) → name_at names station ≡ None → held station ≡ None
 
 abbrev pub named_holdings : Stations → NamedHoldings
-named_holdings stations = named_holdings_with stations.names.items (held_in stations.bits)
+named_holdings stations = named_holdings_with stations.names (held_in stations.bits)
 
 abbrev pub AreStations : Stations → Type 0
-AreStations stations = NamesAgree stations.names.items (held_in stations.bits)
+AreStations stations = NamesAgree stations.names (held_in stations.bits)
 
 -- the dimension of the machine
 abbrev pub dim_of : Stations → ℕ
 dim_of stations = stations.bits.dim
+
+-- this is the line of a row that answers the command, by which the one table becomes the other
+abbrev pub IsAnswerLine : ℕ → Command → NamedHoldings → NamedHoldings → List ℕ → Type 0
+IsAnswerLine n command old new line = (row : PlaceRow) × (line ≡ line_of (place_fields row)) × (command_in row ≡ command) × PlaceStep n row old new

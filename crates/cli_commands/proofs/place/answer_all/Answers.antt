@@ -1,4 +1,4 @@
-use Rattle.std.proofs.Common.{◌≡◌, List, ℕ, [], ◌∷◌, ◌++◌, refl, sym, subst, ◌∙◌, append-nil, rules}
+use Rattle.std.proofs.Common.{◌≡◌, List, ℕ, [], ◌∷◌, ◌++◌, refl, sym, ap, subst, ◌∙◌, append-nil, rules}
 use Rattle.std.proofs.lemmas.List.{flat_map_more}
 use Rattle.jobs_csv.specs.declared.place_rows.PlaceRow.{PlaceRow}
 use Rattle.jobs_csv.specs.PlaceRows.{place_columns, place_fields}
@@ -23,18 +23,18 @@ pub loop-command-preserved : goal.loop-command-preserved
 loop-command-preserved g c =
     let old = g.W.Write.contents c.args.writer.now in
     let now = g.W.Write.contents c.loop-command.writer in
-    let row : PlaceRow = c.answer-row.result in
     let text : PlaceRow → List ℕ = λ (r : PlaceRow). line_of (place_fields r) in
     let (rows, turns, sent) = c.loop-command.invariant.sent in
     let before : NamedHoldings = named_holdings c.loop-command.stations in
-    let behind : NamedHoldings = named_holdings c.answer-row.new.self in
-    let step : PlaceStep c.args.n row before behind = subst (λ n. PlaceStep n row before behind) c.loop-command.invariant.dim c.answer-row.ensures.step in
-    let placed : IsPlaced c.args.n c.in-Some.command before behind (row ∷ []) = (row, refl, c.answer-row.ensures.command, step) in
+    let behind : NamedHoldings = named_holdings c.answer_next.new.stations in
+    let (line, more, (row, is, command, made)) = c.in_ok-answer_next.ensures.line in
+    let step : PlaceStep c.args.n row before behind = subst (λ n. PlaceStep n row before behind) c.loop-command.invariant.dim made in
+    let placed : IsPlaced c.args.n c.in-Some.command before behind (row ∷ []) = (row, refl, command, step) in
     let (out, sends, same) = c.in_ok-lines-2.ensures in
-    let buffered = more_buffered old now c.loop-command.lines (c.loop-command.lines ++ text row) (text row) (file_text place_columns place_fields rows) sent refl in
+    let buffered = more_buffered old now c.loop-command.lines c.in_ok-answer_next.field-0 (text row) (file_text place_columns place_fields rows) sent (more ∙ ap (λ l. c.loop-command.lines ++ l) is) in
     record {
-      made = c.answer-row.ensures.made;
-      dim = c.answer-row.ensures.dim ∙ c.loop-command.invariant.dim;
+      made = c.answer_next.ensures.made;
+      dim = c.answer_next.ensures.dim ∙ c.loop-command.invariant.dim;
       sent = (
         rows ++ row ∷ [],
         one_more (IsPlaced c.args.n) c.loop-command.yielded c.in-Some.command empty_table before behind rows (row ∷ []) turns placed,

@@ -3,18 +3,19 @@ use Rattle.cube_shape.specs.declared.limits.TheConstants.{MAX_STATIONS}
 use Rattle.alloc_bits.specs.Allocation.{Allocation, held_in}
 use Rattle.cube_shape.specs.Machine.{HasNoFit}
 use Rattle.cli_commands.specs.Place.{regions}
-use Rattle.cli_commands.specs.Inner.Stations.{name_at, named_holdings_with}
+use Rattle.cli_commands.specs.Inner.Names.{name_at}
+use Rattle.cli_commands.specs.Inner.Stations.{named_holdings_with}
 use Rattle.cli_commands.proofs.StationLemmas.{names_agree_given, holds_none, holds_some, is_given, not_full, regions_are}
 use Rattle.cli_commands.proofs.stations.Stations.take.Goals as goal
 
 pub returns-in-Some-clause-step : goal.returns-in-Some-clause-step
 returns-in-Some-clause-step c =
-    let named : name_at c.args.self.now.names.items c.in-Some._holder ≡ Some c.args.name = search rules in
-    (holds_some c.args.self.now.names.items (held_in c.args.self.now.bits) c.requires.made c.in-Some._holder c.args.name named, λ s. search rules)
+    let named : name_at c.args.self.now.names c.in-Some._holder ≡ Some c.args.name = search rules in
+    (holds_some c.args.self.now.names (held_in c.args.self.now.bits) c.requires.made c.in-Some._holder c.args.name named, λ s. search rules)
 
 pub returns-in_default-take-clause-step : goal.returns-in_default-take-clause-step
 returns-in_default-take-clause-step c =
-    let names = c.args.self.now.names.items in
+    let names = c.args.self.now.names in
     let held = held_in c.args.self.now.bits in
     let lacks : (s : ℕ) → name_at names s ≢ Some c.args.name = search rules in
     let idle : name_at names c.in-Some-first_idle.station ≡ None = search rules in
@@ -27,14 +28,14 @@ returns-in_default-take-clause-step c =
 pub returns-clause-made : goal.returns-clause-made
 returns-clause-made c =
     let below : c.in-Some-first_idle.station < MAX_STATIONS = search rules in
-    names_agree_given c.args.self.now.names.items (held_in c.args.self.now.bits) (held_in c.take.new.self) c.in-Some-first_idle.station c.args.self.now.bits.dim c.args.dim c.in-Ok.region c.args.name below c.requires.made c.in-Ok.ensures.given
+    names_agree_given c.args.self.now.names c.set.new.self (held_in c.args.self.now.bits) (held_in c.take.new.self) c.in-Some-first_idle.station c.args.self.now.bits.dim c.args.dim c.in-Ok.region c.args.name c.set.ensures below c.requires.made c.in-Ok.ensures.given
 
 pub returns-clause-step : goal.returns-clause-step
 returns-clause-step c =
-    let names = c.args.self.now.names.items in
+    let names = c.args.self.now.names in
     let lacks : (s : ℕ) → name_at names s ≢ Some c.args.name = search rules in
     let idle : name_at names c.in-Some-first_idle.station ≡ None = search rules in
     let below : c.in-Some-first_idle.station < MAX_STATIONS = search rules in
     let first : (t : ℕ) → t < c.in-Some-first_idle.station → name_at names t ≢ None = search rules in
     let (m, is, fit) = c.in-Ok.ensures.first in
-    is_given names (held_in c.args.self.now.bits) (held_in c.take.new.self) c.in-Some-first_idle.station c.args.self.now.bits.dim c.args.dim m c.in-Ok.region c.args.name c.requires.made lacks below idle first c.in-Ok.ensures.given is fit
+    is_given names c.set.new.self (held_in c.args.self.now.bits) (held_in c.take.new.self) c.in-Some-first_idle.station c.args.self.now.bits.dim c.args.dim m c.in-Ok.region c.args.name c.set.ensures c.requires.made lacks below idle first c.in-Ok.ensures.given is fit
