@@ -6,7 +6,7 @@ ghost use Rattle.cube_shape.specs.declared.limits.TheConstants.{MAX_DIM, MAX_STA
 ghost use Rattle.tree_steps.specs.Tree.{id_of, read_words};
 ghost use Rattle.cube_tree.specs.Seats.{IsSeatOf, IsBare};
 
-use cube_shape::{Node, Region};
+use cube_shape::Region;
 use tree_steps::{Seat, Tree};
 
 /// The status tree of a machine, shared by its stations. It cannot be dropped.
@@ -23,9 +23,9 @@ pub struct Cube {
 /// be dropped.
 pub struct TreeStation {
     pub(crate) number: u32,
-    // The ancestor at which the first node of a search was refused. A search glances at it before it tries
-    // what lies under it.
-    pub(crate) remembered: Option<Node>,
+    // The ancestor at which the first node of a search was refused, or 0. A search glances at it before it
+    // tries what lies under it.
+    pub(crate) remembered: u64,
     pub(crate) seat: Seat,
     ghost idle: { IsSeatOf number Idle seat.me },
     ghost limit: { number < MAX_STATIONS },
@@ -38,7 +38,7 @@ pub struct Subcube {
     pub(crate) region: Region,
     pub(crate) dim: u32,
     // What its station remembers.
-    pub(crate) remembered: Option<Node>,
+    pub(crate) remembered: u64,
     pub(crate) seat: Seat,
     ghost holds: { IsSeatOf number (Holding node) seat.me },
     ghost limit: { number < MAX_STATIONS },

@@ -91,7 +91,7 @@ fn deal(tree: &Tree, seat: &mut Seat, list: &mut Vec<TreeStation>, stations: u32
         let own = tree.cut_first(seat);
         list.push_reserved(TreeStation {
             number,
-            remembered: None,
+            remembered: 0,
             seat: own,
         });
     }

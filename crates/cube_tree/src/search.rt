@@ -29,16 +29,14 @@ pub(crate) fn node_after(node: u64, why: Why) -> u64
 }
 
 // What is remembered, where it is an ancestor of the node.
-fn ancestor_remembered(remembered: Option<Node>, node: u64) -> Option<Node>
+fn ancestor_remembered(remembered: u64, node: u64) -> Option<Node>
     requires { 0 < node }
     ensures { IfSome result (λ at. OnPath at.0 node × (at.0 < node)) }
 {
-    let Some(at) = remembered else {
-        return None;
-    };
-    if at.0 == 0 || at.0 >= node {
+    if remembered == 0 || remembered >= node {
         return None;
     }
+    let at = Node(remembered);
     if on_path(at, Node(node)) {
         Some(at)
     } else {
@@ -61,7 +59,7 @@ impl TreeStation {
         } = self;
         let word = cube.tree.glance(&mut seat, at.0);
         let is_occupied = Word(word).is_occupied();
-        let remembered = if is_occupied { Some(at) } else { None };
+        let remembered = if is_occupied { at.0 } else { 0 };
         (
             TreeStation {
                 number,
@@ -111,7 +109,7 @@ impl TreeStation {
         } = self;
         TreeStation {
             number,
-            remembered: Some(at),
+            remembered: at.0,
             seat,
         }
     }

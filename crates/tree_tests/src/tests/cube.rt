@@ -338,7 +338,13 @@ fn a_search_glances_at_what_refused_an_earlier_one(rt: HostRuntime) {
     // The roll-back of a try under node 2 leaves a mark there.
     let second = given_skipping(&rt, &cube, second, 0, 2);
     assert!(rt; cube.word(2) != 7);
-    let first = given(&rt, &cube, released(&cube, first), 2, Region { base: 0, dim: 1 });
+    let first = given(
+        &rt,
+        &cube,
+        released(&cube, first),
+        2,
+        Region { base: 0, dim: 1 },
+    );
     assert_eq!(rt; cube.word(2), 7);
     // No further search makes one, for a processor or for a half.
     let second = given_skipping(&rt, &cube, released(&cube, second), 0, 2);
