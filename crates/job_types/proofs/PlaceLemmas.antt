@@ -3,7 +3,7 @@ use Rattle.std.proofs.Common.{◌≡◌, ℕ, suc, ◌+◌, ◌-◌, ◌<◌, �
 use Rattle.std.proofs.lemmas.List.{length-take, map-set, set-append_right, take_more, take_more_set, length-replicate, take-replicate, get_or-map, length-map}
 use Rattle.std.proofs.Math.Pow.{pow_mono}
 use Rattle.cube_shape.specs.declared.limits.TheConstants.{MAX_DIM}
-use Rattle.job_types.specs.declared.arrays.TheConstants.{FEW_DIM, FEW_PLACES, MOST_PLACES}
+use Rattle.job_types.specs.declared.arrays.TheConstants.{SMALL_DIM, MIDDLE_DIM, LARGE_DIM, SMALL_PLACES, MIDDLE_PLACES, LARGE_PLACES, MOST_PLACES}
 
 -- one item more in front of the units
 put_first : (front : List ℕ) (n rank u x : ℕ) → length front ≡ rank → rank < n
@@ -16,9 +16,15 @@ put_first front n rank u x long within =
     ∙ ap (λ (i : ℕ). front ++ set (u ∷ replicate (n - (rank + 1)) u) i x) here
     ∙ sym (append_assoc front (x ∷ []) (replicate (n - (rank + 1)) u))
 
--- how many places few dimensions have, and how many any machine has
-pub few_fit : (k : ℕ) → k ≤ FEW_DIM → 2 ^ k ≤ FEW_PLACES
-few_fit k few = pow_mono few
+-- how many places there are for so many dimensions
+pub small_fit : (k : ℕ) → k ≤ SMALL_DIM → 2 ^ k ≤ SMALL_PLACES
+small_fit k within = pow_mono within
+
+pub middle_fit : (k : ℕ) → k ≤ MIDDLE_DIM → 2 ^ k ≤ MIDDLE_PLACES
+middle_fit k within = pow_mono within
+
+pub large_fit : (k : ℕ) → k ≤ LARGE_DIM → 2 ^ k ≤ LARGE_PLACES
+large_fit k within = pow_mono within
 
 pub all_fit : (k : ℕ) → k ≤ MAX_DIM → 2 ^ k ≤ MOST_PLACES
 all_fit k within = pow_mono within

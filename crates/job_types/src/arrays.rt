@@ -1,132 +1,119 @@
 //! The arrays that the rounds of a job work on, which stand on the stack.
 
-ghost use Rattle.std.specs.Prelude.{◌≡◌, ◌≤◌};
+ghost use Rattle.std.specs.Prelude.{◌≡◌, ◌^◌, ◌≤◌};
+ghost use Rattle.job_types.specs.declared.kind.Op.{Op};
 ghost use Rattle.job_types.specs.Inner.Collective.{operation_of};
 ghost use Rattle.job_types.specs.Inner.Kept.{CanRun, IsShown};
 
 use crate::kept::Kept;
-use crate::kind::Kind;
-use crate::operation::Operation;
+use crate::kind::{Kind, Op};
 use crate::rounds::on_front;
 use collectives::{Add, And, Max, Min, Monoid, Or, Xor};
 use cube_shape::MAX_DIM;
 
-// A job of at most so many places works on arrays of this size, and any other on arrays for the largest.
-pub(crate) const FEW_DIM: u32 = 6;
+// The dimensions up to which a job works on arrays of the smallest size and of the next ones. Each size is
+// four times the one below it, so that a job fills few places that it has no use for.
+pub(crate) const SMALL_DIM: u32 = MAX_DIM - 6;
+pub(crate) const MIDDLE_DIM: u32 = MAX_DIM - 4;
+pub(crate) const LARGE_DIM: u32 = MAX_DIM - 2;
 
-const FEW_PLACES: usize = 1 << FEW_DIM;
+pub(crate) const SMALL_PLACES: usize = 1 << SMALL_DIM;
+pub(crate) const MIDDLE_PLACES: usize = 1 << MIDDLE_DIM;
+pub(crate) const LARGE_PLACES: usize = 1 << LARGE_DIM;
+pub(crate) const MOST_PLACES: usize = 1 << MAX_DIM;
 
-const MOST_PLACES: usize = 1 << MAX_DIM;
-
-// An operation of which arrays can stand on the stack. Each `impl` makes them itself, since the size of
-// an array is known only where its type is.
-pub(crate) trait OnStack: Operation {
-    // Runs a collective with this operation on few places, and keeps its result.
-    fn answer_few(items: &[u64], kind: Kind, k: u32, kept: &mut Kept)
-        requires operation { Self.op ≡ operation_of kind }
-        requires job { CanRun kind k items.now kept.old }
-        requires few { k ≤ FEW_DIM }
-        ensures { IsShown kind items.now kept.new };
-
-    // Runs one on any number of places, and keeps its result.
-    fn answer_many(items: &[u64], kind: Kind, k: u32, kept: &mut Kept)
-        requires operation { Self.op ≡ operation_of kind }
-        requires job { CanRun kind k items.now kept.old }
-        ensures { IsShown kind items.now kept.new };
-}
-
-impl OnStack for Add {
-    #[tactic(auto, using(crate::proofs::PlaceLemmas::few_fit))]
-    fn answer_few(items: &[u64], kind: Kind, k: u32, kept: &mut Kept) {
-        let mut places = [Add::unit(); FEW_PLACES];
-        let mut scratch = [Add::unit(); FEW_PLACES];
-        on_front(items, kind, k, &mut places, &mut scratch, kept);
-    }
-
-    #[tactic(auto, using(crate::proofs::PlaceLemmas::all_fit))]
-    fn answer_many(items: &[u64], kind: Kind, k: u32, kept: &mut Kept) {
-        let mut places = [Add::unit(); MOST_PLACES];
-        let mut scratch = [Add::unit(); MOST_PLACES];
-        on_front(items, kind, k, &mut places, &mut scratch, kept);
+// Runs the collective on arrays of `N` places, and keeps its result.
+pub(crate) fn answer_on<const N: usize>(items: &[u64], kind: Kind, k: u32, kept: &mut Kept)
+    requires job { CanRun kind k items.now kept.old }
+    requires enough { 2 ^ k ≤ N }
+    requires stack { N ≤ MOST_PLACES }
+    ensures { IsShown kind items.now kept.new }
+{
+    match kind.operation() {
+        Op::Add => add_on::<N>(items, kind, k, kept),
+        Op::Min => min_on::<N>(items, kind, k, kept),
+        Op::Max => max_on::<N>(items, kind, k, kept),
+        Op::Xor => xor_on::<N>(items, kind, k, kept),
+        Op::And => and_on::<N>(items, kind, k, kept),
+        Op::Or => or_on::<N>(items, kind, k, kept),
     }
 }
 
-impl OnStack for Min {
-    #[tactic(auto, using(crate::proofs::PlaceLemmas::few_fit))]
-    fn answer_few(items: &[u64], kind: Kind, k: u32, kept: &mut Kept) {
-        let mut places = [Min::unit(); FEW_PLACES];
-        let mut scratch = [Min::unit(); FEW_PLACES];
-        on_front(items, kind, k, &mut places, &mut scratch, kept);
-    }
-
-    #[tactic(auto, using(crate::proofs::PlaceLemmas::all_fit))]
-    fn answer_many(items: &[u64], kind: Kind, k: u32, kept: &mut Kept) {
-        let mut places = [Min::unit(); MOST_PLACES];
-        let mut scratch = [Min::unit(); MOST_PLACES];
-        on_front(items, kind, k, &mut places, &mut scratch, kept);
-    }
+// The same of a job with the operation. The size of an array is known only where its type is, so each
+// operation makes them itself.
+fn add_on<const N: usize>(items: &[u64], kind: Kind, k: u32, kept: &mut Kept)
+    requires operation { operation_of kind ≡ Op.Add }
+    requires job { CanRun kind k items.now kept.old }
+    requires enough { 2 ^ k ≤ N }
+    requires stack { N ≤ MOST_PLACES }
+    ensures { IsShown kind items.now kept.new }
+{
+    let mut places = [Add::unit(); N];
+    let mut scratch = [Add::unit(); N];
+    on_front(items, kind, k, &mut places, &mut scratch, kept);
 }
 
-impl OnStack for Max {
-    #[tactic(auto, using(crate::proofs::PlaceLemmas::few_fit))]
-    fn answer_few(items: &[u64], kind: Kind, k: u32, kept: &mut Kept) {
-        let mut places = [Max::unit(); FEW_PLACES];
-        let mut scratch = [Max::unit(); FEW_PLACES];
-        on_front(items, kind, k, &mut places, &mut scratch, kept);
-    }
-
-    #[tactic(auto, using(crate::proofs::PlaceLemmas::all_fit))]
-    fn answer_many(items: &[u64], kind: Kind, k: u32, kept: &mut Kept) {
-        let mut places = [Max::unit(); MOST_PLACES];
-        let mut scratch = [Max::unit(); MOST_PLACES];
-        on_front(items, kind, k, &mut places, &mut scratch, kept);
-    }
+// See `add_on`.
+fn min_on<const N: usize>(items: &[u64], kind: Kind, k: u32, kept: &mut Kept)
+    requires operation { operation_of kind ≡ Op.Min }
+    requires job { CanRun kind k items.now kept.old }
+    requires enough { 2 ^ k ≤ N }
+    requires stack { N ≤ MOST_PLACES }
+    ensures { IsShown kind items.now kept.new }
+{
+    let mut places = [Min::unit(); N];
+    let mut scratch = [Min::unit(); N];
+    on_front(items, kind, k, &mut places, &mut scratch, kept);
 }
 
-impl OnStack for Xor {
-    #[tactic(auto, using(crate::proofs::PlaceLemmas::few_fit))]
-    fn answer_few(items: &[u64], kind: Kind, k: u32, kept: &mut Kept) {
-        let mut places = [Xor::unit(); FEW_PLACES];
-        let mut scratch = [Xor::unit(); FEW_PLACES];
-        on_front(items, kind, k, &mut places, &mut scratch, kept);
-    }
-
-    #[tactic(auto, using(crate::proofs::PlaceLemmas::all_fit))]
-    fn answer_many(items: &[u64], kind: Kind, k: u32, kept: &mut Kept) {
-        let mut places = [Xor::unit(); MOST_PLACES];
-        let mut scratch = [Xor::unit(); MOST_PLACES];
-        on_front(items, kind, k, &mut places, &mut scratch, kept);
-    }
+// See `add_on`.
+fn max_on<const N: usize>(items: &[u64], kind: Kind, k: u32, kept: &mut Kept)
+    requires operation { operation_of kind ≡ Op.Max }
+    requires job { CanRun kind k items.now kept.old }
+    requires enough { 2 ^ k ≤ N }
+    requires stack { N ≤ MOST_PLACES }
+    ensures { IsShown kind items.now kept.new }
+{
+    let mut places = [Max::unit(); N];
+    let mut scratch = [Max::unit(); N];
+    on_front(items, kind, k, &mut places, &mut scratch, kept);
 }
 
-impl OnStack for And {
-    #[tactic(auto, using(crate::proofs::PlaceLemmas::few_fit))]
-    fn answer_few(items: &[u64], kind: Kind, k: u32, kept: &mut Kept) {
-        let mut places = [And::unit(); FEW_PLACES];
-        let mut scratch = [And::unit(); FEW_PLACES];
-        on_front(items, kind, k, &mut places, &mut scratch, kept);
-    }
-
-    #[tactic(auto, using(crate::proofs::PlaceLemmas::all_fit))]
-    fn answer_many(items: &[u64], kind: Kind, k: u32, kept: &mut Kept) {
-        let mut places = [And::unit(); MOST_PLACES];
-        let mut scratch = [And::unit(); MOST_PLACES];
-        on_front(items, kind, k, &mut places, &mut scratch, kept);
-    }
+// See `add_on`.
+fn xor_on<const N: usize>(items: &[u64], kind: Kind, k: u32, kept: &mut Kept)
+    requires operation { operation_of kind ≡ Op.Xor }
+    requires job { CanRun kind k items.now kept.old }
+    requires enough { 2 ^ k ≤ N }
+    requires stack { N ≤ MOST_PLACES }
+    ensures { IsShown kind items.now kept.new }
+{
+    let mut places = [Xor::unit(); N];
+    let mut scratch = [Xor::unit(); N];
+    on_front(items, kind, k, &mut places, &mut scratch, kept);
 }
 
-impl OnStack for Or {
-    #[tactic(auto, using(crate::proofs::PlaceLemmas::few_fit))]
-    fn answer_few(items: &[u64], kind: Kind, k: u32, kept: &mut Kept) {
-        let mut places = [Or::unit(); FEW_PLACES];
-        let mut scratch = [Or::unit(); FEW_PLACES];
-        on_front(items, kind, k, &mut places, &mut scratch, kept);
-    }
+// See `add_on`.
+fn and_on<const N: usize>(items: &[u64], kind: Kind, k: u32, kept: &mut Kept)
+    requires operation { operation_of kind ≡ Op.And }
+    requires job { CanRun kind k items.now kept.old }
+    requires enough { 2 ^ k ≤ N }
+    requires stack { N ≤ MOST_PLACES }
+    ensures { IsShown kind items.now kept.new }
+{
+    let mut places = [And::unit(); N];
+    let mut scratch = [And::unit(); N];
+    on_front(items, kind, k, &mut places, &mut scratch, kept);
+}
 
-    #[tactic(auto, using(crate::proofs::PlaceLemmas::all_fit))]
-    fn answer_many(items: &[u64], kind: Kind, k: u32, kept: &mut Kept) {
-        let mut places = [Or::unit(); MOST_PLACES];
-        let mut scratch = [Or::unit(); MOST_PLACES];
-        on_front(items, kind, k, &mut places, &mut scratch, kept);
-    }
+// See `add_on`.
+fn or_on<const N: usize>(items: &[u64], kind: Kind, k: u32, kept: &mut Kept)
+    requires operation { operation_of kind ≡ Op.Or }
+    requires job { CanRun kind k items.now kept.old }
+    requires enough { 2 ^ k ≤ N }
+    requires stack { N ≤ MOST_PLACES }
+    ensures { IsShown kind items.now kept.new }
+{
+    let mut places = [Or::unit(); N];
+    let mut scratch = [Or::unit(); N];
+    on_front(items, kind, k, &mut places, &mut scratch, kept);
 }

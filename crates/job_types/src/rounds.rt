@@ -7,39 +7,30 @@ ghost use Rattle.job_types.specs.Job.{has_bad_root};
 ghost use Rattle.job_types.specs.Inner.Collective.{IsResult, MakesResult, operation_of};
 ghost use Rattle.job_types.specs.Inner.Kept.{CanRun, HasRoomFor, IsShown};
 
-use crate::arrays::{FEW_DIM, OnStack};
+use crate::arrays::{
+    LARGE_DIM, LARGE_PLACES, MIDDLE_DIM, MIDDLE_PLACES, MOST_PLACES, SMALL_DIM, SMALL_PLACES, answer_on,
+};
 use crate::kept::Kept;
-use crate::kind::{Kind, Op};
+use crate::kind::Kind;
 use crate::operation::Operation;
-use collectives::{Add, And, Max, Min, Or, Xor, all_reduce, broadcast, exscan, reduce, scan};
+use collectives::{all_reduce, broadcast, exscan, reduce, scan};
 use cube_shape::MAX_DIM;
 
 // Runs the collective on `2^k` places, with the items and then the unit, and keeps its result. It takes
 // no memory but the stack's.
+#[tactic(auto, using(crate::proofs::PlaceLemmas::small_fit, crate::proofs::PlaceLemmas::middle_fit, crate::proofs::PlaceLemmas::large_fit, crate::proofs::PlaceLemmas::all_fit))]
 pub(crate) fn answer(items: &[u64], kind: Kind, k: u32, kept: &mut Kept)
     requires job { CanRun kind k items.now kept.old }
     ensures { IsShown kind items.now kept.new }
 {
-    match kind.operation() {
-        Op::Add => answer_by::<Add>(items, kind, k, kept),
-        Op::Min => answer_by::<Min>(items, kind, k, kept),
-        Op::Max => answer_by::<Max>(items, kind, k, kept),
-        Op::Xor => answer_by::<Xor>(items, kind, k, kept),
-        Op::And => answer_by::<And>(items, kind, k, kept),
-        Op::Or => answer_by::<Or>(items, kind, k, kept),
-    }
-}
-
-// The same by the monoid of the job's operation.
-fn answer_by<M: OnStack>(items: &[u64], kind: Kind, k: u32, kept: &mut Kept)
-    requires operation { M.op ≡ operation_of kind }
-    requires job { CanRun kind k items.now kept.old }
-    ensures { IsShown kind items.now kept.new }
-{
-    if k <= FEW_DIM {
-        M::answer_few(items, kind, k, kept);
+    if k <= SMALL_DIM {
+        answer_on::<SMALL_PLACES>(items, kind, k, kept);
+    } else if k <= MIDDLE_DIM {
+        answer_on::<MIDDLE_PLACES>(items, kind, k, kept);
+    } else if k <= LARGE_DIM {
+        answer_on::<LARGE_PLACES>(items, kind, k, kept);
     } else {
-        M::answer_many(items, kind, k, kept);
+        answer_on::<MOST_PLACES>(items, kind, k, kept);
     }
 }
 
