@@ -1,6 +1,6 @@
 -- Items put at places, and numbers read from them.
 use Rattle.std.proofs.Common.{◌≡◌, ℕ, suc, ◌+◌, ◌-◌, ◌<◌, ◌≤◌, ◌^◌, List, [], ◌∷◌, ◌++◌, map, set, take, length, get_or, replicate, sym, ap, ◌∙◌, append_assoc, arith}
-use Rattle.std.proofs.lemmas.List.{length-take, map-set, set-append_right, take_more, take_more_set, length-replicate, take-replicate, get_or-map, length-map}
+use Rattle.std.proofs.lemmas.List.{length-take, map-set, set-append_right, take_more, take_more_set, take-replicate, get_or-map, length-map}
 use Rattle.std.proofs.Math.Pow.{pow_mono}
 use Rattle.cube_shape.specs.declared.limits.TheConstants.{MAX_DIM}
 use Rattle.job_types.specs.declared.arrays.TheConstants.{SMALL_DIM, MIDDLE_DIM, LARGE_DIM, SMALL_PLACES, MIDDLE_PLACES, LARGE_PLACES, MOST_PLACES}
@@ -28,11 +28,6 @@ large_fit k within = pow_mono within
 
 pub all_fit : (k : ℕ) → k ≤ MAX_DIM → 2 ^ k ≤ MOST_PLACES
 all_fit k within = pow_mono within
-
--- each place of an array holds the unit
-pub units_all : {M : Type 0} (n : ℕ) (x unit : M) → x ≡ unit → replicate n x ≡ replicate (length (replicate n x)) unit
-units_all n x unit same =
-    ap (replicate n) same ∙ ap (λ (count : ℕ). replicate count unit) (sym (length-replicate n x))
 
 -- the first of places that hold the unit hold it
 pub units_in_front : {M : Type 0} (unit : M) (places : List M) (m n : ℕ) → places ≡ replicate (length places) unit → n ≤ length places → m ≡ n

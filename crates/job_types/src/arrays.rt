@@ -14,12 +14,17 @@ use cube_shape::MAX_DIM;
 // The dimensions up to which a job works on arrays of the smallest size and of the next ones. Each size is
 // four times the one below it, so that a job fills few places that it has no use for.
 pub(crate) const SMALL_DIM: u32 = MAX_DIM - 6;
+
 pub(crate) const MIDDLE_DIM: u32 = MAX_DIM - 4;
+
 pub(crate) const LARGE_DIM: u32 = MAX_DIM - 2;
 
 pub(crate) const SMALL_PLACES: usize = 1 << SMALL_DIM;
+
 pub(crate) const MIDDLE_PLACES: usize = 1 << MIDDLE_DIM;
+
 pub(crate) const LARGE_PLACES: usize = 1 << LARGE_DIM;
+
 pub(crate) const MOST_PLACES: usize = 1 << MAX_DIM;
 
 // Runs the collective on arrays of `N` places, and keeps its result.

@@ -8,7 +8,8 @@ ghost use Rattle.job_types.specs.Inner.Collective.{IsResult, MakesResult, operat
 ghost use Rattle.job_types.specs.Inner.Kept.{CanRun, HasRoomFor, IsShown};
 
 use crate::arrays::{
-    LARGE_DIM, LARGE_PLACES, MIDDLE_DIM, MIDDLE_PLACES, MOST_PLACES, SMALL_DIM, SMALL_PLACES, answer_on,
+    LARGE_DIM, LARGE_PLACES, MIDDLE_DIM, MIDDLE_PLACES, MOST_PLACES, SMALL_DIM, SMALL_PLACES,
+    answer_on,
 };
 use crate::kept::Kept;
 use crate::kind::Kind;
