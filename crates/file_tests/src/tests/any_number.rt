@@ -1,15 +1,13 @@
 //! Jobs of any number of items: their replies beside plain folds, and a file of mixed sizes.
 
-use crate::tests::jobs::{answered, asked, made};
-use cli_commands::run_on;
-use cube_shape::MAX_DISPATCHERS;
+use crate::tests::commands::run_by;
+use crate::tests::jobs::{answered, is_job, made};
 use dispatcher::Plain;
 use job_types::{JobId, Kind, Op, Reply};
 use jobs_csv::Counted;
 use std::alloc::Global;
 use std::process::Abort;
 use std::sync::Wait;
-use std::test::Fail;
 use std::thread::Threads;
 
 const OPS: [Op; 6] = [Op::Add, Op::Min, Op::Max, Op::Xor, Op::And, Op::Or];
@@ -36,6 +34,11 @@ fn fold(op: Op, numbers: &[u64]) -> Option<u64> {
     Some(total)
 }
 
+// The first so many of these numbers, joined; nothing where there are fewer, or none.
+fn fold_first(op: Op, numbers: &[u64], count: usize) -> Option<u64> {
+    fold(op, numbers.get(..count)?)
+}
+
 // What joins with a number and leaves it as it was.
 fn unit(op: Op) -> u64 {
     match op {
@@ -46,24 +49,33 @@ fn unit(op: Op) -> u64 {
 
 // What the place of this rank has in the end.
 fn wanted(kind: Kind, items: &[u64], rank: usize) -> Option<u64> {
-    let _item = items.get(rank)?;
+    if rank >= items.len() {
+        return None;
+    }
     match kind {
         Kind::Broadcast { root } => items.get(root as usize).copied(),
         Kind::Reduce { root, .. } if rank as u64 != root => None,
         Kind::Reduce { op, .. } | Kind::AllReduce { op } => fold(op, items),
-        Kind::Scan { op } => fold(op, items.get(..rank.saturating_add(1))?),
+        Kind::Scan { op } => fold_first(op, items, rank.saturating_add(1)),
         Kind::ExScan { op } if rank == 0 => Some(unit(op)),
-        Kind::ExScan { op } => fold(op, items.get(..rank)?),
+        Kind::ExScan { op } => fold_first(op, items, rank),
     }
 }
 
 // Numbers that are far apart.
-fn numbers(alloc: Global, count: u64) -> Result<Vec<u64>, Fail> {
+fn numbers(rt: &impl Abort, alloc: Global, count: u64) -> Vec<u64> {
     let mut numbers = Vec::new(alloc);
     for number in 0..count {
-        numbers.push(number.wrapping_mul(11400714819323198485) ^ 85)?;
+        let far = number.wrapping_mul(11400714819323198485) ^ 85;
+        numbers.push(far).expect(rt, "no memory");
     }
-    Ok(numbers)
+    numbers
+}
+
+// A reply has at this rank what a plain fold gives.
+fn expect_place(rt: &impl Abort, reply: &Reply, kind: Kind, items: &[u64], rank: usize) {
+    let held = reply.at(rank as u64);
+    assert!(rt; held == wanted(kind, items, rank), "{kind:?} at {rank}");
 }
 
 // A reply has a region of this dimension, and at each rank what a plain fold gives. It has nothing past
@@ -71,26 +83,17 @@ fn numbers(alloc: Global, count: u64) -> Result<Vec<u64>, Fail> {
 fn expect_plain(rt: &impl Abort, reply: &Reply, kind: Kind, items: &[u64], dim: u32) {
     assert!(rt; reply.region().dim == dim, "{kind:?} on {dim}");
     for rank in 0..items.len().saturating_mul(3) {
-        let held = reply.at(rank as u64);
-        assert!(rt; held == wanted(kind, items, rank), "{kind:?} at {rank}");
+        expect_place(rt, reply, kind, items, rank);
     }
 }
 
 // A job of this kind on these items, for a machine of dimension `n`, has a reply on a region of this
 // dimension that is the plain fold.
-fn expect_kind(
-    rt: &impl Abort,
-    alloc: Global,
-    n: u32,
-    dim: u32,
-    kind: Kind,
-    items: &[u64],
-) -> Result<(), Fail> {
-    let job = made(asked(rt, alloc, n, 0, kind, items)?)?;
-    assert!(rt; job.dim() == dim && job.items() == items);
+fn expect_kind(rt: &impl Abort, alloc: Global, n: u32, dim: u32, kind: Kind, items: &[u64]) {
+    let job = made(rt, alloc, n, 0, kind, items);
+    assert!(rt; is_job(&job, n, 0, dim, kind, items));
     let reply = answered(job, JobId { lane: 0, seq: 0 });
     expect_plain(rt, &reply, kind, items, dim);
-    Ok(())
 }
 
 // Jobs of all kinds, with this operation and this root.
@@ -102,28 +105,28 @@ fn expect_kinds(
     op: Op,
     root: u64,
     items: &[u64],
-) -> Result<(), Fail> {
-    expect_kind(rt, alloc, n, dim, Kind::Broadcast { root }, items)?;
-    expect_kind(rt, alloc, n, dim, Kind::Reduce { op, root }, items)?;
-    expect_kind(rt, alloc, n, dim, Kind::AllReduce { op }, items)?;
-    expect_kind(rt, alloc, n, dim, Kind::Scan { op }, items)?;
-    expect_kind(rt, alloc, n, dim, Kind::ExScan { op }, items)
+) {
+    expect_kind(rt, alloc, n, dim, Kind::Broadcast { root }, items);
+    expect_kind(rt, alloc, n, dim, Kind::Reduce { op, root }, items);
+    expect_kind(rt, alloc, n, dim, Kind::AllReduce { op }, items);
+    expect_kind(rt, alloc, n, dim, Kind::Scan { op }, items);
+    expect_kind(rt, alloc, n, dim, Kind::ExScan { op }, items);
 }
 
 // Each row is the dimension of a machine, a number of items, and the dimension of the least region that
 // has a processor for each.
-fn expect_rows(rt: &impl Abort, alloc: Global, rows: &[(u32, u64, u32)]) -> Result<(), Fail> {
+fn expect_rows(rt: &impl Abort, alloc: Global, rows: &[(u32, u64, u32)]) {
     for (n, count, dim) in rows {
-        let items = numbers(alloc, *count)?;
+        let items = numbers(rt, alloc, *count);
         for op in OPS {
-            expect_kinds(rt, alloc, *n, *dim, op, *count / 2, &items)?;
+            expect_kinds(rt, alloc, *n, *dim, op, *count / 2, &items);
         }
     }
-    Ok(())
 }
 
+// Among them stand jobs that fill each size of the arrays that rounds work on, and jobs of one item more.
 #[test]
-fn replies_are_plain_folds(rt: HostRuntime) -> Result<(), Fail> {
+fn replies_are_plain_folds(rt: HostRuntime) {
     expect_rows(
         &rt,
         rt.alloc(),
@@ -139,13 +142,18 @@ fn replies_are_plain_folds(rt: HostRuntime) -> Result<(), Fail> {
             (10, 2, 1),
             (10, 3, 2),
             (10, 5, 3),
+            (10, 64, 6),
+            (10, 65, 7),
+            (10, 256, 8),
+            (10, 257, 9),
             (10, 1000, 10),
             (10, 1023, 10),
             (10, 1024, 10),
+            (12, 1025, 11),
             (12, 4095, 12),
             (12, 4096, 12),
         ],
-    )
+    );
 }
 
 const MIXED: &[u8] = b"lane,kind,op,root,items\n\
@@ -168,19 +176,9 @@ fn gives(
     file: &[u8],
     wanted: &str,
 ) -> bool {
-    assert!(rt; 1 <= dispatchers && dispatchers <= MAX_DISPATCHERS);
     let mut reader = Counted::new(file);
     let mut writer = Counted::new(Vec::new(rt.alloc()));
-    let answer = run_on(
-        rt,
-        rt.alloc(),
-        3,
-        dispatchers,
-        2,
-        &Plain,
-        &mut reader,
-        &mut writer,
-    );
+    let answer = run_by(rt, 3, dispatchers, 2, &Plain, &mut reader, &mut writer);
     answer.is_ok() && writer.get_ref().as_slice() == wanted.as_bytes()
 }
 

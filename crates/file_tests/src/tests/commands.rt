@@ -2,7 +2,7 @@
 
 use crate::tests::devices::FailsAt;
 use cli_commands::{place_on, replay_on, report_on, run_on};
-use cube_shape::{MAX_CAPACITY, MAX_DIM};
+use cube_shape::{MAX_CAPACITY, MAX_DIM, MAX_DISPATCHERS};
 use dispatcher::{Plain, Runner};
 use jobs_csv::{Counted, Device, Fault, FaultKind};
 use std::alloc::Global;
@@ -21,17 +21,20 @@ enum Command {
     Replay,
 }
 
-// A run by two dispatchers.
+// A run by so many dispatchers.
 pub fn run_by<T: Runner + Sync, R: Read + Device, W: Write + Device>(
     rt: &(impl AllocGlobal + Abort + Threads + Wait + Sync),
     n: u32,
+    dispatchers: u32,
     capacity: usize,
     runner: &T,
     reader: &mut R,
     writer: &mut W,
 ) -> Result<(), Fault> {
     assert!(rt; n <= MAX_DIM && 1 <= capacity && capacity <= MAX_CAPACITY);
-    run_on(rt, rt.alloc(), n, 2, capacity, runner, reader, writer)
+    assert!(rt; 1 <= dispatchers && dispatchers <= MAX_DISPATCHERS);
+    let alloc = rt.alloc();
+    run_on(rt, alloc, n, dispatchers, capacity, runner, reader, writer)
 }
 
 // A report by two dispatchers.
@@ -73,7 +76,7 @@ fn answer<R: Read + Device, W: Write + Device>(
     writer: &mut W,
 ) -> Result<(), Fault> {
     match command {
-        Command::Run => run_by(rt, 3, 16, &Plain, reader, writer),
+        Command::Run => run_by(rt, 3, 2, 16, &Plain, reader, writer),
         Command::Report => report_by(rt, 3, 16, &Plain, reader, writer),
         Command::Place => places(rt.alloc(), reader, writer),
         Command::Replay => replays(rt.alloc(), reader, writer),
@@ -91,6 +94,24 @@ fn good_file(command: Command) -> &'static [u8] {
     }
 }
 
+// Whether the device of a command failed. The answer of the command then is this fault of no record,
+// and else it is good.
+pub fn has_failed(
+    rt: &impl Abort,
+    answer: Result<(), Fault>,
+    failures: u64,
+    what: FaultKind,
+    calls: u64,
+) -> bool {
+    if failures == 0 {
+        assert!(rt; answer == Ok(()));
+        return false;
+    }
+    let row = 0;
+    assert!(rt; answer == Err(Fault { row, what }), "at call {calls}");
+    true
+}
+
 // Whether a reader that fails at this call has failed. The answer then is a failed read, and nothing
 // is written; else it is good.
 fn fails_to_read(
@@ -101,14 +122,9 @@ fn fails_to_read(
     let mut reader = Counted::new(FailsAt::new(good_file(command), calls));
     let mut writer = Counted::new(Vec::new(rt.alloc()));
     let answer = answer(rt, command, &mut reader, &mut writer);
-    if reader.failures() == 0 {
-        assert!(rt; answer == Ok(()));
-        return false;
-    }
-    let (row, what) = (0, FaultKind::Read);
-    assert!(rt; answer == Err(Fault { row, what }), "at call {calls}");
-    assert!(rt; writer.get_ref().is_empty());
-    true
+    let failed = has_failed(rt, answer, reader.failures(), FaultKind::Read, calls);
+    assert!(rt; !failed || writer.get_ref().is_empty());
+    failed
 }
 
 // How many reads a command makes, each of which is reported where it fails.
@@ -151,6 +167,12 @@ fn good_answer(command: Command) -> &'static [u8] {
     }
 }
 
+// What was written in so many calls is the beginning of what is wanted, seven bytes a call.
+fn expect_calls(rt: &impl Abort, written: &[u8], wanted: &[u8], calls: u64) {
+    let beginning = wanted.len().min(calls.saturating_mul(7) as usize);
+    assert!(rt; written == &wanted[..beginning], "at call {calls}");
+}
+
 // Whether a writer that fails at this call, with an error or by taking nothing, has failed. The
 // answer then is a failed write, and else it is good. What was written before it is the beginning of
 // the good answer, seven bytes a call.
@@ -167,19 +189,8 @@ fn fails_to_write(
         gives_zero,
     });
     let answer = answer(rt, command, &mut reader, &mut writer);
-    let wanted = good_answer(command);
-    let beginning = wanted.len().min(calls.saturating_mul(7) as usize);
-    assert!(rt;
-        writer.get_ref().device.as_slice() == &wanted[..beginning],
-        "at call {calls}"
-    );
-    if writer.failures() == 0 {
-        assert!(rt; answer == Ok(()));
-        return false;
-    }
-    let (row, what) = (0, FaultKind::Write);
-    assert!(rt; answer == Err(Fault { row, what }), "at call {calls}");
-    true
+    expect_calls(rt, &writer.get_ref().device, good_answer(command), calls);
+    has_failed(rt, answer, writer.failures(), FaultKind::Write, calls)
 }
 
 // How many writes a command makes, each of which is reported where it fails; and flushes too, where
@@ -220,16 +231,61 @@ fn reports_a_failed_write(rt: HostRuntime) {
     );
 }
 
-// So many jobs of one item, and their replies.
-pub fn long_file(alloc: Global, count: u64) -> Result<(Vec<u8>, Vec<u8>), Fail> {
+// So many jobs of one item.
+fn long_input(alloc: Global, count: u64) -> Result<Vec<u8>, Fail> {
     let mut input = Vec::from_slice(alloc, b"lane,kind,op,root,items\n")?;
+    for _ in 0..count {
+        input.extend_from_slice(b"3,scan,add,0,1\n")?;
+    }
+    Ok(input)
+}
+
+// The replies to so many jobs of one item.
+fn long_output(alloc: Global, count: u64) -> Result<Vec<u8>, Fail> {
     let mut wanted = Vec::from_slice(alloc, b"lane,seq,kind,dim,result,rounds,messages\n")?;
     for seq in 0..count {
-        input.extend_from_slice(b"3,scan,add,0,1\n")?;
         let reply = format!(in alloc; "3,{seq},scan,0,1,0,0\n")?;
         wanted.extend_from_slice(reply.as_bytes())?;
     }
-    Ok((input, wanted))
+    Ok(wanted)
+}
+
+// So many jobs of one item, and their replies.
+pub fn long_file(alloc: Global, count: u64) -> Result<(Vec<u8>, Vec<u8>), Fail> {
+    Ok((long_input(alloc, count)?, long_output(alloc, count)?))
+}
+
+// Whether a run of this file is good, and writes all of this.
+fn writes_all(
+    rt: &(impl AllocGlobal + Abort + Threads + Wait + Sync),
+    input: &[u8],
+    wanted: &[u8],
+) -> bool {
+    let mut reader = Counted::new(input);
+    let mut writer = Counted::new(Vec::new(rt.alloc()));
+    let answer = run_by(rt, 0, 2, 16, &Plain, &mut reader, &mut writer);
+    let failures = reader.failures().saturating_add(writer.failures());
+    answer == Ok(()) && failures == 0 && writer.get_ref().as_slice() == wanted
+}
+
+// A failed write, after 20,000 calls of seven bytes at most that wrote the beginning of this.
+fn expect_beginning(rt: &impl Abort, answer: Result<(), Fault>, written: &[u8], wanted: &[u8]) {
+    let (row, what) = (0, FaultKind::Write);
+    assert!(rt; answer == Err(Fault { row, what }));
+    assert!(rt; written.len() > 139_900 && written.len() <= 140_000);
+    assert!(rt; wanted.starts_with(written));
+}
+
+// A run of this file whose writer fails after 20,000 calls wrote the beginning of this.
+fn expect_failed_run(
+    rt: &(impl AllocGlobal + Abort + Threads + Wait + Sync),
+    input: &[u8],
+    wanted: &[u8],
+) {
+    let mut reader = Counted::new(input);
+    let mut writer = Counted::new(FailsAt::new(Vec::new(rt.alloc()), 20_000));
+    let answer = run_by(rt, 0, 2, 16, &Plain, &mut reader, &mut writer);
+    expect_beginning(rt, answer, &writer.get_ref().device, wanted);
 }
 
 // The replies are written in several pieces; what came before a failed write is their beginning.
@@ -237,18 +293,7 @@ pub fn long_file(alloc: Global, count: u64) -> Result<(Vec<u8>, Vec<u8>), Fail> 
 fn writes_long_files(rt: HostRuntime) -> Result<(), Fail> {
     let (input, wanted) = long_file(rt.alloc(), 8_000)?;
     assert!(rt; wanted.len() > 150_000);
-    let mut reader = Counted::new(input.as_slice());
-    let mut writer = Counted::new(Vec::new(rt.alloc()));
-    assert!(rt; run_by(&rt, 0, 16, &Plain, &mut reader, &mut writer) == Ok(()));
-    assert!(rt; reader.failures() == 0 && writer.failures() == 0);
-    assert!(rt; writer.get_ref() == &wanted);
-    let mut reader = Counted::new(input.as_slice());
-    let mut writer = Counted::new(FailsAt::new(Vec::new(rt.alloc()), 20_000));
-    let answer = run_by(&rt, 0, 16, &Plain, &mut reader, &mut writer);
-    let (row, what) = (0, FaultKind::Write);
-    assert!(rt; answer == Err(Fault { row, what }));
-    let written = &writer.get_ref().device;
-    assert!(rt; written.len() > 139_900 && written.len() <= 140_000);
-    assert!(rt; wanted.starts_with(written));
+    assert!(rt; writes_all(&rt, &input, &wanted));
+    expect_failed_run(&rt, &input, &wanted);
     Ok(())
 }

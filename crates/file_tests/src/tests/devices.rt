@@ -1,9 +1,8 @@
 //! Readers and writers that fail at one call, and texts that are joined.
 
-use std::alloc::Global;
 use std::io;
 use std::io::{Read, Write};
-use std::test::Fail;
+use std::process::Abort;
 
 // A device that moves at most seven bytes a call, and fails at one call: with an error, or where it
 // gives zero by taking nothing.
@@ -63,8 +62,8 @@ impl<D: Write> Write for FailsAt<D> {
 }
 
 // Two texts joined.
-pub fn joined(alloc: Global, a: &[u8], b: &[u8]) -> Result<Vec<u8>, Fail> {
-    let mut text = Vec::from_slice(alloc, a)?;
-    text.extend_from_slice(b)?;
-    Ok(text)
+pub fn joined(rt: &(impl AllocGlobal + Abort), a: &[u8], b: &[u8]) -> Vec<u8> {
+    let mut text = Vec::from_slice(rt.alloc(), a).expect(rt, "no memory");
+    text.extend_from_slice(b).expect(rt, "no memory");
+    text
 }

@@ -6,26 +6,23 @@ use jobs_csv::{Counted, Device, Fault, FaultKind, Name};
 use std::alloc::Global;
 use std::io::Write;
 use std::process::Abort;
-use std::test::Fail;
+
+// Whether a fault has this status and this line.
+fn is_told(rt: &(impl AllocGlobal + Abort), fault: Fault, status: u8, line: &str) -> bool {
+    let told = fault.to_string(rt.alloc()).expect(rt, "no memory");
+    fault.status() == status && fault.what.is_refusal() == (status == 1) && told.as_str() == line
+}
 
 // Each of these faults, of a record, has this status and this line.
-fn expect_lines(
-    rt: &(impl AllocGlobal + Abort),
-    rows: &[(u64, FaultKind, u8, &str)],
-) -> Result<(), Fail> {
+fn expect_lines(rt: &(impl AllocGlobal + Abort), rows: &[(u64, FaultKind, u8, &str)]) {
     for (row, what, status, line) in rows {
         let (row, what) = (*row, *what);
-        let fault = Fault { row, what };
-        assert!(rt; fault.status() == *status, "{line}");
-        assert!(rt; what.is_refusal() == (*status == 1), "{line}");
-        let told = fault.to_string(rt.alloc())?;
-        assert!(rt; told.as_str() == *line, "{line}");
+        assert!(rt; is_told(rt, Fault { row, what }, *status, line), "{line}");
     }
-    Ok(())
 }
 
 #[test]
-fn prints_faults(rt: HostRuntime) -> Result<(), Fail> {
+fn prints_faults(rt: HostRuntime) {
     expect_lines(
         &rt,
         &[
@@ -66,7 +63,7 @@ fn prints_faults(rt: HostRuntime) -> Result<(), Fail> {
             ),
             (0, FaultKind::Spent, 3, "failed: record 0: Spent"),
         ],
-    )
+    );
 }
 
 #[test]
@@ -87,27 +84,38 @@ fn failing(alloc: Global, calls: u64, gives_zero: bool) -> Counted<FailsAt<Vec<u
     })
 }
 
-// Whether a write of these bytes takes so many, and so many calls have failed then.
-fn writes(
+// A write of these bytes takes so many, and so many calls have failed then.
+fn expect_write(
+    rt: &impl Abort,
     writer: &mut Counted<FailsAt<Vec<u8>>>,
     bytes: &[u8],
     taken: usize,
     failures: u64,
-) -> Result<bool, Fail> {
-    Ok(writer.write(bytes)? == taken && writer.failures() == failures)
+) {
+    assert!(rt; writer.write(bytes).ok() == Some(taken));
+    assert!(rt; writer.failures() == failures);
+}
+
+// Whether a flush is good, and one call has failed then.
+fn flushes(writer: &mut Counted<FailsAt<Vec<u8>>>) -> bool {
+    writer.flush().is_ok() && writer.failures() == 1
+}
+
+// Whether a flush fails, and is the one call that has failed then.
+fn fails_to_flush(writer: &mut Counted<FailsAt<Vec<u8>>>) -> bool {
+    writer.flush().is_err() && writer.failures() == 1
 }
 
 #[test]
-fn counts_failures(rt: HostRuntime) -> Result<(), Fail> {
+fn counts_failures(rt: HostRuntime) {
     let mut writer = failing(rt.alloc(), 1, true);
-    assert!(rt; writes(&mut writer, b"abc", 3, 0)?);
-    assert!(rt; writes(&mut writer, b"d", 0, 1)?);
-    assert!(rt; writes(&mut writer, b"", 0, 1)?);
-    assert!(rt; writer.flush().is_ok() && writer.failures() == 1);
+    expect_write(&rt, &mut writer, b"abc", 3, 0);
+    expect_write(&rt, &mut writer, b"d", 0, 1);
+    expect_write(&rt, &mut writer, b"", 0, 1);
+    assert!(rt; flushes(&mut writer));
     assert!(rt; writer.get_ref().device.as_slice() == b"abc".as_slice());
     let mut writer = failing(rt.alloc(), 0, false);
-    assert!(rt; writer.flush().is_err() && writer.failures() == 1);
-    Ok(())
+    assert!(rt; fails_to_flush(&mut writer));
 }
 
 // Each of these texts is a name.

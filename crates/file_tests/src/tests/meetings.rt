@@ -4,10 +4,10 @@ use crate::tests::commands::{report_by, run_by};
 use dispatcher::Runner;
 use job_types::{Job, JobId, Region, Reply};
 use jobs_csv::Counted;
+use std::process::Abort;
 use std::sync::Wait;
 use std::sync::atomic::{AtomicU64, Ordering};
-use std::test::Fail;
-use std::thread::yield_now;
+use std::thread::{Threads, yield_now};
 
 // How often a runner looks for another job before it goes on alone.
 const TURNS: u32 = 1_000_000;
@@ -62,24 +62,36 @@ impl Runner for Meeting {
     }
 }
 
-#[test]
-fn two_jobs_of_a_run_are_inside_at_once(rt: HostRuntime) -> Result<(), Fail> {
+// What answers a file.
+#[derive(Clone, Copy)]
+enum Command {
+    Run,
+    Report,
+}
+
+// Two jobs of a file are inside at once where this command answers it, and it writes this.
+fn expect_meeting(
+    rt: &(impl AllocGlobal + Abort + Threads + Wait + Sync),
+    command: Command,
+    wanted: &str,
+) {
     let meeting = Meeting::new();
     let mut reader = Counted::new(TWO_JOBS);
     let mut writer = Counted::new(Vec::new(rt.alloc()));
-    let answer = run_by(&rt, 2, 2, &meeting, &mut reader, &mut writer);
+    let answer = match command {
+        Command::Run => run_by(rt, 2, 2, 2, &meeting, &mut reader, &mut writer),
+        Command::Report => report_by(rt, 2, 2, &meeting, &mut reader, &mut writer),
+    };
     assert!(rt; answer == Ok(()) && meeting.has_met());
-    assert!(rt; writer.get_ref().as_slice() == TWO_REPLIES.as_bytes());
-    Ok(())
+    assert!(rt; writer.get_ref().as_slice() == wanted.as_bytes());
 }
 
 #[test]
-fn two_jobs_of_a_report_are_inside_at_once(rt: HostRuntime) -> Result<(), Fail> {
-    let meeting = Meeting::new();
-    let mut reader = Counted::new(TWO_JOBS);
-    let mut writer = Counted::new(Vec::new(rt.alloc()));
-    let answer = report_by(&rt, 2, 2, &meeting, &mut reader, &mut writer);
-    assert!(rt; answer == Ok(()) && meeting.has_met());
-    assert!(rt; writer.get_ref().as_slice() == TWO_TOTALS.as_bytes());
-    Ok(())
+fn two_jobs_of_a_run_are_inside_at_once(rt: HostRuntime) {
+    expect_meeting(&rt, Command::Run, TWO_REPLIES);
+}
+
+#[test]
+fn two_jobs_of_a_report_are_inside_at_once(rt: HostRuntime) {
+    expect_meeting(&rt, Command::Report, TWO_TOTALS);
 }

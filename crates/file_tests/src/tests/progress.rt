@@ -18,17 +18,15 @@ const JOBS: u64 = 2_500;
 // What wipes the line.
 const WIPE: &str = "\r                               \r";
 
-// A run by two dispatchers, which shows its progress on this terminal unless it is quiet. It writes all
-// replies, and the terminal is given back.
-fn run_on_terminal<H, P>(rt: &H, is_quiet: bool, terminal: P) -> Result<Option<P>, Fail>
+// A run by two dispatchers of this file, which shows its progress on this terminal unless it is quiet,
+// writes all of this.
+fn expect_run<H, P>(rt: &H, is_quiet: bool, input: &[u8], wanted: &[u8], terminal: &mut Option<P>)
 where
     H: AllocGlobal + Abort + Threads + Wait + Clone + Send + Sync + 'static,
     P: Write + Send + Drop + 'static,
 {
-    let (input, wanted) = long_file(rt.alloc(), JOBS)?;
-    let mut reader = Counted::new(input.as_slice());
+    let mut reader = Counted::new(input);
     let mut writer = Counted::new(Vec::new(rt.alloc()));
-    let mut terminal = Some(terminal);
     let options = ShopOptions {
         n: 0,
         dispatchers: 2,
@@ -42,20 +40,44 @@ where
         &Plain,
         &mut reader,
         &mut writer,
-        &mut terminal,
+        terminal,
     );
-    assert!(rt; answer == Ok(()) && writer.get_ref() == &wanted);
+    assert!(rt; answer == Ok(()) && writer.get_ref().as_slice() == wanted);
+}
+
+// A long run, which shows its progress on this terminal unless it is quiet. It writes all replies, and
+// the terminal is given back.
+fn run_on_terminal<H, P>(rt: &H, is_quiet: bool, terminal: P) -> Result<Option<P>, Fail>
+where
+    H: AllocGlobal + Abort + Threads + Wait + Clone + Send + Sync + 'static,
+    P: Write + Send + Drop + 'static,
+{
+    let (input, wanted) = long_file(rt.alloc(), JOBS)?;
+    let mut terminal = Some(terminal);
+    expect_run(rt, is_quiet, &input, &wanted, &mut terminal);
     Ok(terminal)
+}
+
+// Whether a terminal is there, and what it shows is nothing or ends with what wipes the line.
+fn is_wiped(shown: Option<Vec<u8>>) -> bool {
+    match shown {
+        Some(text) => text.is_empty() || text.as_slice().ends_with(WIPE.as_bytes()),
+        None => false,
+    }
+}
+
+// Whether a terminal is there, and nothing is shown on it.
+fn is_blank(shown: Option<Vec<u8>>) -> bool {
+    match shown {
+        Some(text) => text.is_empty(),
+        None => false,
+    }
 }
 
 #[test]
 fn shows_progress(rt: HostRuntime) -> Result<(), Fail> {
-    let shown = run_on_terminal(&rt, false, Vec::new(rt.alloc()))?;
-    assert!(rt;
-        shown.is_some_and(|text| text.is_empty() || text.as_slice().ends_with(WIPE.as_bytes()))
-    );
-    let shown = run_on_terminal(&rt, true, Vec::new(rt.alloc()))?;
-    assert!(rt; shown.is_some_and(|text| text.is_empty()));
+    assert!(rt; is_wiped(run_on_terminal(&rt, false, Vec::new(rt.alloc()))?));
+    assert!(rt; is_blank(run_on_terminal(&rt, true, Vec::new(rt.alloc()))?));
     let failing = FailsAt::new(Vec::new(rt.alloc()), 0);
     run_on_terminal(&rt, false, failing)?;
     Ok(())

@@ -1,7 +1,7 @@
 //! Files that are read.
 
 use crate::tests::devices::joined;
-use crate::tests::jobs::answered;
+use crate::tests::jobs::{answered, is_job};
 use cube_shape::MAX_DIM;
 use job_types::{Job, JobId, Kind, Op, Reply};
 use jobs_csv::{
@@ -10,7 +10,6 @@ use jobs_csv::{
 };
 use std::alloc::Global;
 use std::process::Abort;
-use std::test::Fail;
 use std::thread::Threads;
 
 const JOBS: &[u8] = b"lane,kind,op,root,items\n";
@@ -22,37 +21,32 @@ const COMMANDS: &[u8] = b"command,name,dim\n";
 const CALLS: &[u8] = b"station,call,arg\n";
 
 // The jobs of a file.
-fn jobs_of(rt: &(impl AllocGlobal + Abort), n: u32, input: &[u8]) -> Result<Vec<Job>, Fail> {
+fn jobs_of(rt: &(impl AllocGlobal + Abort), n: u32, input: &[u8]) -> Vec<Job> {
     assert!(rt; n <= MAX_DIM);
     let mut reader = Counted::new(input);
-    let jobs = read_jobs(rt.alloc(), n, &mut reader)?;
+    let jobs = read_jobs(rt.alloc(), n, &mut reader).expect(rt, "jobs");
     assert!(rt; reader.failures() == 0);
-    Ok(jobs)
+    jobs
 }
 
 #[test]
-fn reads_jobs(rt: HostRuntime) -> Result<(), Fail> {
-    let input = joined(
-        rt.alloc(),
-        JOBS,
-        b"15,reduce,xor,1,4 18446744073709551615\n",
-    )?;
-    let jobs = jobs_of(&rt, 3, &input)?;
+fn reads_jobs(rt: HostRuntime) {
+    let input = joined(&rt, JOBS, b"15,reduce,xor,1,4 18446744073709551615\n");
+    let jobs = jobs_of(&rt, 3, &input);
     assert!(rt; jobs.len() == 1);
     for job in &jobs {
         let (op, root) = (Op::Xor, 1);
-        assert!(rt; job.machine() == 3 && job.lane() == 15 && job.dim() == 1);
-        assert!(rt; job.kind() == Kind::Reduce { op, root });
-        assert!(rt; job.items() == [4, 18446744073709551615].as_slice());
+        let kind = Kind::Reduce { op, root };
+        assert!(rt; is_job(job, 3, 15, 1, kind, &[4, 18446744073709551615]));
     }
-    Ok(())
 }
 
 // The jobs of a lane have these items, one each.
 fn expect_items(rt: &impl Abort, jobs: &[Job], wanted: &[u64]) {
     assert!(rt; jobs.len() == wanted.len());
-    for (job, item) in jobs.iter().zip(wanted) {
-        assert!(rt; job.items() == [*item].as_slice());
+    for (place, job) in jobs.iter().enumerate() {
+        let items = job.items();
+        assert!(rt; items.len() == 1 && items.first() == wanted.get(place));
     }
 }
 
@@ -68,25 +62,34 @@ fn lanes_and_jobs(alloc: Global, input: &[u8]) -> Result<(usize, u64), Fault> {
     Ok((lanes.len(), count.seen))
 }
 
-#[test]
-fn reads_lanes(rt: HostRuntime) -> Result<(), Fail> {
-    let records =
-        b"3,scan,add,0,5\n0,scan,add,0,6\n3,scan,add,0,7\n15,scan,add,0,8\n3,scan,add,0,5\n";
-    let input = joined(rt.alloc(), JOBS, records)?;
-    let lanes = lanes_of(rt.alloc(), &input)?;
+// The items of the jobs of a lane in the file of five jobs, one each.
+fn items_of_lane(lane: usize) -> &'static [u64] {
+    match lane {
+        0 => &[6],
+        3 => &[5, 7, 5],
+        15 => &[8],
+        _ => &[],
+    }
+}
+
+// There are 16 lanes, of these jobs.
+fn expect_lanes(rt: &impl Abort, lanes: &[Vec<Job>]) {
     assert!(rt; lanes.len() == 16);
     for (lane, jobs) in lanes.iter().enumerate() {
-        match lane {
-            0 => expect_items(&rt, jobs, &[6]),
-            3 => expect_items(&rt, jobs, &[5, 7, 5]),
-            15 => expect_items(&rt, jobs, &[8]),
-            _ => expect_items(&rt, jobs, &[]),
-        }
+        expect_items(rt, jobs, items_of_lane(lane));
     }
+}
+
+#[test]
+fn reads_lanes(rt: HostRuntime) {
+    let records =
+        b"3,scan,add,0,5\n0,scan,add,0,6\n3,scan,add,0,7\n15,scan,add,0,8\n3,scan,add,0,5\n";
+    let input = joined(&rt, JOBS, records);
+    expect_lanes(&rt, &lanes_of(rt.alloc(), &input).expect(&rt, "lanes"));
     assert!(rt; lanes_and_jobs(rt.alloc(), &input) == Ok((16, 5)));
     let fault = lanes_of(rt.alloc(), b"lane,kind\n").err();
-    assert!(rt; fault.map(|fault| fault.what) == Some(FaultKind::Fields));
-    Ok(())
+    let (row, what) = (0, FaultKind::Fields);
+    assert!(rt; fault == Some(Fault { row, what }));
 }
 
 // The reply to a job of a file, the first of its lane.
@@ -95,38 +98,49 @@ fn first_answered(job: Job) -> Reply {
     answered(job, JobId { lane, seq: 0 })
 }
 
-// The file of these replies.
-fn written(
+// Whether the file of these replies, written by so many threads, is this.
+pub fn writes(
     rt: &(impl AllocGlobal + Abort + Threads + Sync),
+    threads: usize,
     replies: Vec<Reply>,
-) -> Result<Vec<u8>, Fail> {
+    wanted: &[u8],
+) -> bool {
     let mut writer = Counted::new(Vec::new(rt.alloc()));
-    write_rows(rt, rt.alloc(), 1, replies, &mut writer)?;
-    assert!(rt; writer.failures() == 0);
-    Ok(Vec::from_slice(rt.alloc(), writer.get_ref())?)
+    let answer = write_rows(rt, rt.alloc(), threads, replies, &mut writer);
+    answer == Ok(()) && writer.failures() == 0 && writer.get_ref().as_slice() == wanted
+}
+
+// The replies to the jobs of a file.
+fn replies_to(rt: &(impl AllocGlobal + Abort), n: u32, input: &[u8]) -> Vec<Reply> {
+    let mut replies = Vec::new(rt.alloc());
+    for job in jobs_of(rt, n, input) {
+        replies.push(first_answered(job)).expect(rt, "no memory");
+    }
+    replies
+}
+
+// These records of jobs, for a machine of dimension `n`, have replies with these records.
+fn expect_answer(
+    rt: &(impl AllocGlobal + Abort + Threads + Sync),
+    n: u32,
+    records: &str,
+    wanted: &str,
+) {
+    let replies = replies_to(rt, n, &joined(rt, JOBS, records.as_bytes()));
+    let wanted = joined(rt, REPLIES, wanted.as_bytes());
+    assert!(rt; writes(rt, 1, replies, &wanted), "at {records}");
 }
 
 // Each row is the dimension of a machine, records of jobs for it and the records of their replies.
 // The records are of as many lanes as there are records.
-fn expect_replies(
-    rt: &(impl AllocGlobal + Abort + Threads + Sync),
-    rows: &[(u32, &str, &str)],
-) -> Result<(), Fail> {
+fn expect_replies(rt: &(impl AllocGlobal + Abort + Threads + Sync), rows: &[(u32, &str, &str)]) {
     for (n, records, wanted) in rows {
-        let input = joined(rt.alloc(), JOBS, records.as_bytes())?;
-        let mut replies = Vec::new(rt.alloc());
-        for job in jobs_of(rt, *n, &input)? {
-            replies.push(first_answered(job))?;
-        }
-        let text = written(rt, replies)?;
-        let wanted = joined(rt.alloc(), REPLIES, wanted.as_bytes())?;
-        assert!(rt; text == wanted, "at {records}");
+        expect_answer(rt, *n, records, wanted);
     }
-    Ok(())
 }
 
 #[test]
-fn answers_jobs(rt: HostRuntime) -> Result<(), Fail> {
+fn answers_jobs(rt: HostRuntime) {
     expect_replies(
         &rt,
         &[
@@ -164,11 +178,11 @@ fn answers_jobs(rt: HostRuntime) -> Result<(), Fail> {
                 "1,0,allreduce,1,3 3,1,2\n0,0,scan,2,2 9 9 9,2,8\n1,0,reduce,1,- 9,1,1\n",
             ),
         ],
-    )
+    );
 }
 
 #[test]
-fn answers_all_operations(rt: HostRuntime) -> Result<(), Fail> {
+fn answers_all_operations(rt: HostRuntime) {
     expect_replies(
         &rt,
         &[
@@ -189,45 +203,45 @@ fn answers_all_operations(rt: HostRuntime) -> Result<(), Fail> {
                 1,0,exscan,2,18446744073709551615 5 1 1,2,8\n",
             ),
         ],
-    )
+    );
 }
 
 #[test]
-fn reads_what_csv_reads(rt: HostRuntime) -> Result<(), Fail> {
-    let reply = "0,0,allreduce,1,3 3,1,2\n";
+fn reads_what_csv_reads(rt: HostRuntime) {
+    const REPLY: &str = "0,0,allreduce,1,3 3,1,2\n";
     expect_replies(
         &rt,
         &[
-            (3, "\"0\",allreduce,add,0,\"1 2\"\n", reply),
-            (3, "0,allreduce,add,0,1 2", reply),
-            (3, "0,allreduce,add,0,\"1 2", reply),
-            (3, "0,allreduce,add,0,1 2\r\n", reply),
-            (3, "\n\n0,allreduce,add,0,1 2\n\n", reply),
+            (3, "\"0\",allreduce,add,0,\"1 2\"\n", REPLY),
+            (3, "0,allreduce,add,0,1 2", REPLY),
+            (3, "0,allreduce,add,0,\"1 2", REPLY),
+            (3, "0,allreduce,add,0,1 2\r\n", REPLY),
+            (3, "\n\n0,allreduce,add,0,1 2\n\n", REPLY),
         ],
-    )?;
+    );
     let marked = b"\xEF\xBB\xBF\r\nlane,\"kind\",op,root,items\r\n0,allreduce,add,0,1 2\r\n";
-    assert!(rt; jobs_of(&rt, 3, marked)?.len() == 1);
-    Ok(())
+    assert!(rt; jobs_of(&rt, 3, marked).len() == 1);
+}
+
+// The commands of a file, for a machine of dimension 3.
+fn commands_of(rt: &(impl AllocGlobal + Abort), input: &[u8]) -> Vec<Command> {
+    let mut reader = Counted::new(input);
+    let commands = read_place(rt.alloc(), 3, &mut reader).expect(rt, "commands");
+    assert!(rt; reader.failures() == 0);
+    commands
 }
 
 // Each of these texts of records is that of these commands.
-fn expect_commands(
-    rt: &(impl AllocGlobal + Abort),
-    texts: &[&[u8]],
-    wanted: &[Command],
-) -> Result<(), Fail> {
+fn expect_commands(rt: &(impl AllocGlobal + Abort), texts: &[&[u8]], wanted: &[Command]) {
     for records in texts {
-        let input = joined(rt.alloc(), COMMANDS, records)?;
-        let mut reader = Counted::new(input.as_slice());
-        let commands = read_place(rt.alloc(), 3, &mut reader)?;
-        assert!(rt; commands.as_slice() == wanted && reader.failures() == 0);
+        let commands = commands_of(rt, &joined(rt, COMMANDS, records));
+        assert!(rt; commands.as_slice() == wanted);
     }
-    Ok(())
 }
 
 #[test]
-fn reads_commands(rt: HostRuntime) -> Result<(), Fail> {
-    expect_commands(&rt, &[b""], &[])?;
+fn reads_commands(rt: HostRuntime) {
+    expect_commands(&rt, &[b""], &[]);
     let a = Name::new(b"a").expect(&rt, "a name");
     let long = Name::new(b"abcdefghijklmno9").expect(&rt, "a name");
     expect_commands(
@@ -241,25 +255,26 @@ fn reads_commands(rt: HostRuntime) -> Result<(), Fail> {
             Command::Take { name: long, dim: 0 },
             Command::Free { name: a },
         ],
-    )
+    );
+}
+
+// The calls of a file.
+fn calls_of(rt: &(impl AllocGlobal + Abort), input: &[u8]) -> Vec<Line> {
+    let mut reader = Counted::new(input);
+    let lines = read_schedule(rt.alloc(), &mut reader).expect(rt, "calls");
+    assert!(rt; reader.failures() == 0);
+    lines
 }
 
 // A file of these records has these calls.
-fn expect_calls(
-    rt: &(impl AllocGlobal + Abort),
-    records: &[u8],
-    wanted: &[Line],
-) -> Result<(), Fail> {
-    let input = joined(rt.alloc(), CALLS, records)?;
-    let mut reader = Counted::new(input.as_slice());
-    let lines = read_schedule(rt.alloc(), &mut reader)?;
-    assert!(rt; lines.as_slice() == wanted && reader.failures() == 0);
-    Ok(())
+fn expect_calls(rt: &(impl AllocGlobal + Abort), records: &[u8], wanted: &[Line]) {
+    let lines = calls_of(rt, &joined(rt, CALLS, records));
+    assert!(rt; lines.as_slice() == wanted);
 }
 
 #[test]
-fn reads_schedules(rt: HostRuntime) -> Result<(), Fail> {
-    let last = u64::MAX;
+fn reads_schedules(rt: HostRuntime) {
+    const LAST: u64 = u64::MAX;
     expect_calls(
         &rt,
         b"0,take,4\n0,run,-\n0,release,-\n0,step,1\n47,step,100\n5,take,0\n18446744073709551615,retire,-",
@@ -282,7 +297,7 @@ fn reads_schedules(rt: HostRuntime) -> Result<(), Fail> {
                 station: 5,
                 node: 0,
             },
-            Line::Retire { station: last },
+            Line::Retire { station: LAST },
         ],
-    )
+    );
 }

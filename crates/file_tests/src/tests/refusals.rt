@@ -4,9 +4,8 @@ use crate::tests::devices::{FailsAt, joined};
 use cube_shape::MAX_DIM;
 use job_types::JobRefused;
 use jobs_csv::{Counted, Device, Fault, FaultKind, read_jobs, read_place, read_schedule};
-use std::alloc::Global;
+use std::alloc::{AllocError, Global};
 use std::process::Abort;
-use std::test::Fail;
 
 const JOBS: &[u8] = b"lane,kind,op,root,items\n";
 
@@ -32,6 +31,20 @@ fn fault_of(alloc: Global, format: Format, input: &[u8]) -> Option<Fault> {
     }
 }
 
+// A file of this format has this fault.
+fn expect_fault(
+    rt: &(impl AllocGlobal + Abort),
+    format: Format,
+    input: &[u8],
+    row: u64,
+    what: FaultKind,
+) {
+    match fault_of(rt.alloc(), format, input) {
+        None => assert!(rt; false, "no fault, wanted {what}"),
+        Some(fault) => assert!(rt; fault == Fault { row, what }, "{fault}, wanted {what}"),
+    }
+}
+
 // A file that begins with this head and ends with any of these texts has this fault at this record.
 fn expect_faults(
     rt: &(impl AllocGlobal + Abort),
@@ -39,20 +52,14 @@ fn expect_faults(
     head: &[u8],
     row: u64,
     rows: &[(&[u8], FaultKind)],
-) -> Result<(), Fail> {
+) {
     for (text, what) in rows {
-        let input = joined(rt.alloc(), head, text)?;
-        let what = *what;
-        match fault_of(rt.alloc(), format, &input) {
-            None => assert!(rt; false, "no fault, wanted {what}"),
-            Some(fault) => assert!(rt; fault == Fault { row, what }, "{fault}, wanted {what}"),
-        }
+        expect_fault(rt, format, &joined(rt, head, text), row, *what);
     }
-    Ok(())
 }
 
 #[test]
-fn refuses_headers(rt: HostRuntime) -> Result<(), Fail> {
+fn refuses_headers(rt: HostRuntime) {
     expect_faults(
         &rt,
         Format::Jobs,
@@ -71,7 +78,7 @@ fn refuses_headers(rt: HostRuntime) -> Result<(), Fail> {
                 FaultKind::Word,
             ),
         ],
-    )?;
+    );
     expect_faults(
         &rt,
         Format::Commands,
@@ -87,7 +94,7 @@ fn refuses_headers(rt: HostRuntime) -> Result<(), Fail> {
             (b"command, name,dim\n", FaultKind::Word),
             (b"station,call,arg\n", FaultKind::Word),
         ],
-    )?;
+    );
     expect_faults(
         &rt,
         Format::Calls,
@@ -100,124 +107,121 @@ fn refuses_headers(rt: HostRuntime) -> Result<(), Fail> {
             (b"station,Call,arg\nx,run,-\n", FaultKind::Word),
             (b"command,name,dim\n", FaultKind::Word),
         ],
-    )
+    );
+}
+
+// Records of jobs for a machine of dimension 3, and why each is refused.
+const REFUSED_JOBS: &[(&[u8], FaultKind)] = &[
+    (b"0,allreduce,add,0\n", FaultKind::Fields),
+    (b"0,allreduce,add,0,1,2\n", FaultKind::Fields),
+    (b" \n", FaultKind::Fields),
+    (b"\"\"\n", FaultKind::Fields),
+    (b"16,allreduce,add,0,4\n", FaultKind::Number),
+    (b"4294967296,allreduce,add,0,4\n", FaultKind::Number),
+    (b",allreduce,add,0,4\n", FaultKind::Number),
+    (b"00,allreduce,add,0,4\n", FaultKind::Number),
+    (b"+1,allreduce,add,0,4\n", FaultKind::Number),
+    (b" 1,allreduce,add,0,4\n", FaultKind::Number),
+    (b"0x1,allreduce,add,0,4\n", FaultKind::Number),
+    (b"16,scan,add,0,4\n", FaultKind::Number),
+    (b"0,gather,add,0,4\n", FaultKind::Word),
+    (b"0,Scan,add,0,4\n", FaultKind::Word),
+    (b"0,scan,plus,0,4\n", FaultKind::Word),
+    (b"0,scan,-,0,4\n", FaultKind::Word),
+    (b"0,exscan,-,0,4\n", FaultKind::Word),
+    (b"0,exscan,plus,0,4\n", FaultKind::Word),
+    (b"0,Exscan,add,0,4\n", FaultKind::Word),
+    (b"0,exscans,add,0,4\n", FaultKind::Word),
+    (b"0,exscan,add,x,4\n", FaultKind::Number),
+    (b"0,allreduce,plus,0,4\n", FaultKind::Word),
+    (b"0,reduce,-,0,1\n", FaultKind::Word),
+    (b"0,reduce,,0,4\n", FaultKind::Word),
+    (b"0,broadcast,add,0,1\n", FaultKind::Word),
+    (b"0,broadcast,add,0,4\n", FaultKind::Word),
+    (b"0,broadcast,,0,4\n", FaultKind::Word),
+    (b"0,broadcast,-,-,4\n", FaultKind::Number),
+    (b"0,,add,0,4\n", FaultKind::Word),
+    (b"0,allreduce ,add,0,4\n", FaultKind::Word),
+    (b"0,\xFF,add,0,4\n", FaultKind::Word),
+    (b"0,allreduce,-,x,4\n", FaultKind::Word),
+    (b"0,allreduce,add,00,1\n", FaultKind::Number),
+    (b"0,allreduce,add,,1\n", FaultKind::Number),
+    (b"0,allreduce,add,-1,1\n", FaultKind::Number),
+    (b"0,allreduce,add,1,1 x\n", FaultKind::Number),
+    (b"0,allreduce,add,0,1  2\n", FaultKind::Number),
+    (b"0,allreduce,add,0, 1 2\n", FaultKind::Number),
+    (b"0,allreduce,add,0, \n", FaultKind::Number),
+    (b"0,allreduce,add,0,1 02\n", FaultKind::Number),
+    (
+        b"0,allreduce,add,0,18446744073709551616\n",
+        FaultKind::Number,
+    ),
+    (b"0,broadcast,-,1,\n", FaultKind::Job(JobRefused::Empty)),
+    (b"0,broadcast,-,9,\n", FaultKind::Job(JobRefused::Empty)),
+    (b"0,allreduce,add,0,\n", FaultKind::Job(JobRefused::Empty)),
+    (
+        b"0,broadcast,-,3,1 2 3\n",
+        FaultKind::Job(JobRefused::BadRoot),
+    ),
+    (
+        b"0,broadcast,-,9,1 2 3\n",
+        FaultKind::Job(JobRefused::BadRoot),
+    ),
+    (
+        b"0,reduce,max,7,1 2 3 4 5\n",
+        FaultKind::Job(JobRefused::BadRoot),
+    ),
+    (
+        b"0,broadcast,-,9,1 1 1 1 1 1 1 1 1\n",
+        FaultKind::Job(JobRefused::TooLarge),
+    ),
+    (
+        b"0,broadcast,-,2,4 9\n",
+        FaultKind::Job(JobRefused::BadRoot),
+    ),
+    (
+        b"0,reduce,max,4,1 2 3 4\n",
+        FaultKind::Job(JobRefused::BadRoot),
+    ),
+    (b"0,scan,add,1,4 9\n", FaultKind::Job(JobRefused::BadRoot)),
+    (b"0,scan,add,1,1 2 3\n", FaultKind::Job(JobRefused::BadRoot)),
+    (b"0,exscan,add,1,4 9\n", FaultKind::Job(JobRefused::BadRoot)),
+    (b"0,exscan,add,1,\n", FaultKind::Job(JobRefused::Empty)),
+    (
+        b"0,exscan,add,1,1 1 1 1 1 1 1 1 1\n",
+        FaultKind::Job(JobRefused::TooLarge),
+    ),
+    (
+        b"0,reduce,add,99,1 1 1 1 1 1 1 1 1 1 1 1 1 1 1 1\n",
+        FaultKind::Job(JobRefused::TooLarge),
+    ),
+    (b"0,scan,add,0,\n", FaultKind::Job(JobRefused::Empty)),
+    (b"0,allreduce,add,1,\n", FaultKind::Job(JobRefused::Empty)),
+    (
+        b"0,allreduce,add,1,1 2 3\n",
+        FaultKind::Job(JobRefused::BadRoot),
+    ),
+    (
+        b"0,allreduce,add,1,1 1 1 1 1 1 1 1 1 1 1 1 1 1 1 1\n",
+        FaultKind::Job(JobRefused::TooLarge),
+    ),
+    (
+        b"0,allreduce,add,1,4 9\n",
+        FaultKind::Job(JobRefused::BadRoot),
+    ),
+    (
+        b"0,allreduce,add,18446744073709551615,4\n",
+        FaultKind::Job(JobRefused::BadRoot),
+    ),
+];
+
+#[test]
+fn refuses_jobs(rt: HostRuntime) {
+    expect_faults(&rt, Format::Jobs, JOBS, 1, REFUSED_JOBS);
 }
 
 #[test]
-fn refuses_jobs(rt: HostRuntime) -> Result<(), Fail> {
-    expect_faults(
-        &rt,
-        Format::Jobs,
-        JOBS,
-        1,
-        &[
-            (b"0,allreduce,add,0\n", FaultKind::Fields),
-            (b"0,allreduce,add,0,1,2\n", FaultKind::Fields),
-            (b" \n", FaultKind::Fields),
-            (b"\"\"\n", FaultKind::Fields),
-            (b"16,allreduce,add,0,4\n", FaultKind::Number),
-            (b"4294967296,allreduce,add,0,4\n", FaultKind::Number),
-            (b",allreduce,add,0,4\n", FaultKind::Number),
-            (b"00,allreduce,add,0,4\n", FaultKind::Number),
-            (b"+1,allreduce,add,0,4\n", FaultKind::Number),
-            (b" 1,allreduce,add,0,4\n", FaultKind::Number),
-            (b"0x1,allreduce,add,0,4\n", FaultKind::Number),
-            (b"16,scan,add,0,4\n", FaultKind::Number),
-            (b"0,gather,add,0,4\n", FaultKind::Word),
-            (b"0,Scan,add,0,4\n", FaultKind::Word),
-            (b"0,scan,plus,0,4\n", FaultKind::Word),
-            (b"0,scan,-,0,4\n", FaultKind::Word),
-            (b"0,exscan,-,0,4\n", FaultKind::Word),
-            (b"0,exscan,plus,0,4\n", FaultKind::Word),
-            (b"0,Exscan,add,0,4\n", FaultKind::Word),
-            (b"0,exscans,add,0,4\n", FaultKind::Word),
-            (b"0,exscan,add,x,4\n", FaultKind::Number),
-            (b"0,allreduce,plus,0,4\n", FaultKind::Word),
-            (b"0,reduce,-,0,1\n", FaultKind::Word),
-            (b"0,reduce,,0,4\n", FaultKind::Word),
-            (b"0,broadcast,add,0,1\n", FaultKind::Word),
-            (b"0,broadcast,add,0,4\n", FaultKind::Word),
-            (b"0,broadcast,,0,4\n", FaultKind::Word),
-            (b"0,broadcast,-,-,4\n", FaultKind::Number),
-            (b"0,,add,0,4\n", FaultKind::Word),
-            (b"0,allreduce ,add,0,4\n", FaultKind::Word),
-            (b"0,\xFF,add,0,4\n", FaultKind::Word),
-            (b"0,allreduce,-,x,4\n", FaultKind::Word),
-            (b"0,allreduce,add,00,1\n", FaultKind::Number),
-            (b"0,allreduce,add,,1\n", FaultKind::Number),
-            (b"0,allreduce,add,-1,1\n", FaultKind::Number),
-            (b"0,allreduce,add,1,1 x\n", FaultKind::Number),
-            (b"0,allreduce,add,0,1  2\n", FaultKind::Number),
-            (b"0,allreduce,add,0, 1 2\n", FaultKind::Number),
-            (b"0,allreduce,add,0, \n", FaultKind::Number),
-            (b"0,allreduce,add,0,1 02\n", FaultKind::Number),
-            (
-                b"0,allreduce,add,0,18446744073709551616\n",
-                FaultKind::Number,
-            ),
-            (b"0,broadcast,-,1,\n", FaultKind::Job(JobRefused::Empty)),
-            (b"0,broadcast,-,9,\n", FaultKind::Job(JobRefused::Empty)),
-            (b"0,allreduce,add,0,\n", FaultKind::Job(JobRefused::Empty)),
-            (
-                b"0,broadcast,-,3,1 2 3\n",
-                FaultKind::Job(JobRefused::BadRoot),
-            ),
-            (
-                b"0,broadcast,-,9,1 2 3\n",
-                FaultKind::Job(JobRefused::BadRoot),
-            ),
-            (
-                b"0,reduce,max,7,1 2 3 4 5\n",
-                FaultKind::Job(JobRefused::BadRoot),
-            ),
-            (
-                b"0,broadcast,-,9,1 1 1 1 1 1 1 1 1\n",
-                FaultKind::Job(JobRefused::TooLarge),
-            ),
-            (
-                b"0,broadcast,-,2,4 9\n",
-                FaultKind::Job(JobRefused::BadRoot),
-            ),
-            (
-                b"0,reduce,max,4,1 2 3 4\n",
-                FaultKind::Job(JobRefused::BadRoot),
-            ),
-            (b"0,scan,add,1,4 9\n", FaultKind::Job(JobRefused::BadRoot)),
-            (b"0,scan,add,1,1 2 3\n", FaultKind::Job(JobRefused::BadRoot)),
-            (b"0,exscan,add,1,4 9\n", FaultKind::Job(JobRefused::BadRoot)),
-            (b"0,exscan,add,1,\n", FaultKind::Job(JobRefused::Empty)),
-            (
-                b"0,exscan,add,1,1 1 1 1 1 1 1 1 1\n",
-                FaultKind::Job(JobRefused::TooLarge),
-            ),
-            (
-                b"0,reduce,add,99,1 1 1 1 1 1 1 1 1 1 1 1 1 1 1 1\n",
-                FaultKind::Job(JobRefused::TooLarge),
-            ),
-            (b"0,scan,add,0,\n", FaultKind::Job(JobRefused::Empty)),
-            (b"0,allreduce,add,1,\n", FaultKind::Job(JobRefused::Empty)),
-            (
-                b"0,allreduce,add,1,1 2 3\n",
-                FaultKind::Job(JobRefused::BadRoot),
-            ),
-            (
-                b"0,allreduce,add,1,1 1 1 1 1 1 1 1 1 1 1 1 1 1 1 1\n",
-                FaultKind::Job(JobRefused::TooLarge),
-            ),
-            (
-                b"0,allreduce,add,1,4 9\n",
-                FaultKind::Job(JobRefused::BadRoot),
-            ),
-            (
-                b"0,allreduce,add,18446744073709551615,4\n",
-                FaultKind::Job(JobRefused::BadRoot),
-            ),
-        ],
-    )
-}
-
-#[test]
-fn refuses_commands(rt: HostRuntime) -> Result<(), Fail> {
+fn refuses_commands(rt: HostRuntime) {
     expect_faults(
         &rt,
         Format::Commands,
@@ -247,12 +251,12 @@ fn refuses_commands(rt: HostRuntime) -> Result<(), Fail> {
             (b"free,a,\n", FaultKind::Word),
             (b"free,a,--\n", FaultKind::Word),
         ],
-    )
+    );
 }
 
 #[test]
-fn refuses_calls(rt: HostRuntime) -> Result<(), Fail> {
-    let head = joined(rt.alloc(), CALLS, b"0,run,-\n")?;
+fn refuses_calls(rt: HostRuntime) {
+    let head = joined(&rt, CALLS, b"0,run,-\n");
     expect_faults(
         &rt,
         Format::Calls,
@@ -278,12 +282,12 @@ fn refuses_calls(rt: HostRuntime) -> Result<(), Fail> {
             (b"0,run\n", FaultKind::Fields),
             (b"0,run,-,-\n", FaultKind::Fields),
         ],
-    )
+    );
 }
 
 #[test]
-fn reports_the_first_fault(rt: HostRuntime) -> Result<(), Fail> {
-    let head = joined(rt.alloc(), JOBS, b"0,allreduce,add,0,1 2\n")?;
+fn reports_the_first_fault(rt: HostRuntime) {
+    let head = joined(&rt, JOBS, b"0,allreduce,add,0,1 2\n");
     expect_faults(
         &rt,
         Format::Jobs,
@@ -293,35 +297,44 @@ fn reports_the_first_fault(rt: HostRuntime) -> Result<(), Fail> {
             (b"0,scan,add,0,1 2 ", FaultKind::Number),
             (b"0,allreduce,add\n16,x,x,x,x\n", FaultKind::Fields),
         ],
-    )?;
-    let head = joined(rt.alloc(), COMMANDS, b"take,a,1\n")?;
+    );
+    let head = joined(&rt, COMMANDS, b"take,a,1\n");
     let rows = &[(b"take,b,9\ntake,C,1\n".as_slice(), FaultKind::Number)];
-    expect_faults(&rt, Format::Commands, &head, 2, rows)
+    expect_faults(&rt, Format::Commands, &head, 2, rows);
+}
+
+// A file of one command more than are read.
+fn too_many(alloc: Global) -> Result<Vec<u8>, AllocError> {
+    let mut text = Vec::from_slice(alloc, COMMANDS)?;
+    for _ in 0..1_000_001 {
+        text.extend_from_slice(b"free,a,-\n")?;
+    }
+    Ok(text)
 }
 
 #[test]
-fn refuses_too_many(rt: HostRuntime) -> Result<(), Fail> {
-    let mut head = Vec::from_slice(rt.alloc(), COMMANDS)?;
-    for _ in 0..1_000_001 {
-        head.extend_from_slice(b"free,a,-\n")?;
-    }
-    let rows = &[(b"".as_slice(), FaultKind::TooMany)];
-    expect_faults(&rt, Format::Commands, &head, 1_000_001, rows)
+fn refuses_too_many(rt: HostRuntime) {
+    let text = too_many(rt.alloc()).expect(&rt, "no memory");
+    expect_fault(&rt, Format::Commands, &text, 1_000_001, FaultKind::TooMany);
 }
 
-// Whether a reader that fails at this call has failed: then the fault says so, and else there is
-// none.
-fn fails_to_read(rt: &(impl AllocGlobal + Abort), calls: u64) -> bool {
+// Whether a reader has failed: then the fault says so, and else there is none.
+fn has_failed(rt: &impl Abort, fault: Option<Fault>, failures: u64, calls: u64) -> bool {
     let (row, what) = (0, FaultKind::Read);
-    let text = b"command,name,dim\ntake,a,1\nfree,a,-\n".as_slice();
-    let mut reader = Counted::new(FailsAt::new(text, calls));
-    let fault = read_place(rt.alloc(), 3, &mut reader).err();
-    if reader.failures() == 0 {
+    if failures == 0 {
         assert!(rt; fault == None);
         return false;
     }
     assert!(rt; fault == Some(Fault { row, what }), "at call {calls}");
     true
+}
+
+// Whether a reader that fails at this call has failed.
+fn fails_to_read(rt: &(impl AllocGlobal + Abort), calls: u64) -> bool {
+    let text = b"command,name,dim\ntake,a,1\nfree,a,-\n".as_slice();
+    let mut reader = Counted::new(FailsAt::new(text, calls));
+    let fault = read_place(rt.alloc(), 3, &mut reader).err();
+    has_failed(rt, fault, reader.failures(), calls)
 }
 
 #[test]

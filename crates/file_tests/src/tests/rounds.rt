@@ -1,6 +1,6 @@
 //! The public functions of `collectives` once each on small cubes.
 
-ghost use Rattle.std.specs.Prelude.{◌^◌, ◌<◌, All};
+ghost use Rattle.std.specs.Prelude.{◌≡◌, ◌^◌, ◌<◌, ◌≤◌, All, length};
 ghost use Rattle.collectives.specs.Operations.{IsAffineValue};
 ghost use Rattle.collectives.specs.Shape.{message_count};
 
@@ -8,7 +8,7 @@ use collectives::{
     Add, Affine, And, DIM_LIMIT, Max, Message, Min, Monoid, Or, Shape, Tally, Xor, all_reduce,
     broadcast, exscan, message_at, pad, reduce, scan,
 };
-use std::test::Fail;
+use std::process::Abort;
 
 // Four maps that do not commute.
 fn maps() -> [Affine; 4]
@@ -70,104 +70,221 @@ fn values(rt: HostRuntime) {
     assert!(rt; !Affine { a: 1, b: most + 1 }.is_value());
 }
 
+// Whether a broadcast of these items leaves them so, with these rounds and messages.
+fn broadcasts<M: Copy + PartialEq>(
+    items: &mut [M],
+    k: u32,
+    root: usize,
+    after: &[M],
+    rounds: u32,
+    messages: u64,
+) -> bool
+    requires dim { k < DIM_LIMIT }
+    requires places { length items.old ≡ 2 ^ k }
+    requires root { root < 2 ^ k }
+{
+    took(broadcast(items, k, root), rounds, messages) && *items == *after
+}
+
 #[test]
 fn broadcast_from_one(rt: HostRuntime) {
-    let mut items = [Add(4), Add(9)];
-    assert!(rt; took(broadcast(&mut items, 1, 1), 1, 1));
-    assert_eq!(rt; items, [Add(9), Add(9)]);
-    let mut items = maps();
-    assert!(rt; took(broadcast(&mut items, 2, 2), 2, 3));
-    assert_eq!(rt; items, [Affine { a: 1, b: 5 }; 4]);
+    assert!(rt; broadcasts(&mut [Add(4), Add(9)], 1, 1, &[Add(9); 2], 1, 1));
+    let after = &[Affine { a: 1, b: 5 }; 4];
+    assert!(rt; broadcasts(&mut maps(), 2, 2, after, 2, 3));
+}
+
+// Whether a reduction of these items leaves them so, with these rounds and messages.
+fn reduces<M: Monoid + PartialEq>(
+    items: &mut [M],
+    k: u32,
+    root: usize,
+    after: &[M],
+    rounds: u32,
+    messages: u64,
+) -> bool
+    requires dim { k < DIM_LIMIT }
+    requires places { length items.old ≡ 2 ^ k }
+    requires root { root < 2 ^ k }
+    requires values { All M.is_value items.old }
+{
+    took(reduce(items, k, root), rounds, messages) && *items == *after
 }
 
 #[test]
 fn reduce_to_one(rt: HostRuntime) {
-    let mut items = [Min(5), Min(3), Min(9), Min(4)];
-    assert!(rt; took(reduce(&mut items, 2, 2), 2, 3));
     let unit = Min(u64::MAX);
-    assert_eq!(rt; items, [unit, unit, Min(3), unit]);
-    let mut items = maps();
-    assert!(rt; took(reduce(&mut items, 2, 1), 2, 3));
+    let after = &[unit, unit, Min(3), unit];
+    assert!(rt; reduces(&mut [Min(5), Min(3), Min(9), Min(4)], 2, 2, after, 2, 3));
     let unit = Affine { a: 1, b: 0 };
-    assert_eq!(rt; items, [unit, Affine { a: 12, b: 23 }, unit, unit]);
+    let after = &[unit, Affine { a: 12, b: 23 }, unit, unit];
+    assert!(rt; reduces(&mut maps(), 2, 1, after, 2, 3));
+}
+
+// Whether an all-reduce of these items leaves them so, with these rounds and messages.
+fn all_reduces<M: Monoid + PartialEq>(
+    items: &mut [M],
+    k: u32,
+    after: &[M],
+    rounds: u32,
+    messages: u64,
+) -> bool
+    requires dim { k < DIM_LIMIT }
+    requires places { length items.old ≡ 2 ^ k }
+    requires values { All M.is_value items.old }
+{
+    took(all_reduce(items, k), rounds, messages) && *items == *after
 }
 
 #[test]
 fn all_reduce_to_all(rt: HostRuntime) {
-    let mut items = [Add(1), Add(2), Add(3), Add(4)];
-    assert!(rt; took(all_reduce(&mut items, 2), 2, 8));
-    assert_eq!(rt; items, [Add(10); 4]);
-    let mut items = maps();
-    assert!(rt; took(all_reduce(&mut items, 2), 2, 8));
-    assert_eq!(rt; items, [Affine { a: 12, b: 23 }; 4]);
+    assert!(rt;
+        all_reduces(
+            &mut [Add(1), Add(2), Add(3), Add(4)],
+            2,
+            &[Add(10); 4],
+            2,
+            8
+        )
+    );
+    let after = &[Affine { a: 12, b: 23 }; 4];
+    assert!(rt; all_reduces(&mut maps(), 2, after, 2, 8));
+}
+
+// Whether a scan of these items leaves them so and their total at each place of the scratch, with
+// these rounds and messages.
+fn scans<M: Monoid + PartialEq>(
+    items: &mut [M],
+    scratch: &mut [M],
+    k: u32,
+    after: &[M],
+    totals: &[M],
+    rounds: u32,
+    messages: u64,
+) -> bool
+    requires dim { k < DIM_LIMIT }
+    requires places { length items.old ≡ 2 ^ k }
+    requires scratch { length scratch.old ≡ 2 ^ k }
+    requires values { All M.is_value items.old }
+{
+    took(scan(items, scratch, k), rounds, messages) && *items == *after && *scratch == *totals
 }
 
 #[test]
 fn scan_of_all(rt: HostRuntime) {
-    let mut items = [1, 2, 3, 4, 5, 6, 7, 8].map(Add);
-    let mut scratch = [Add(0); 8];
-    assert!(rt; took(scan(&mut items, &mut scratch, 3), 3, 24));
-    assert_eq!(rt; items, [1, 3, 6, 10, 15, 21, 28, 36].map(Add));
-    assert_eq!(rt; scratch, [Add(36); 8]);
-    let mut items = maps();
-    let mut scratch = maps();
-    assert!(rt; took(scan(&mut items, &mut scratch, 2), 2, 8));
-    let prefixes = [
+    let after = &[
+        Add(1),
+        Add(3),
+        Add(6),
+        Add(10),
+        Add(15),
+        Add(21),
+        Add(28),
+        Add(36),
+    ];
+    let items = &mut [
+        Add(1),
+        Add(2),
+        Add(3),
+        Add(4),
+        Add(5),
+        Add(6),
+        Add(7),
+        Add(8),
+    ];
+    assert!(rt; scans(items, &mut [Add(0); 8], 3, after, &[Add(36); 8], 3, 24));
+    let after = &[
         Affine { a: 2, b: 1 },
         Affine { a: 6, b: 3 },
         Affine { a: 6, b: 8 },
         Affine { a: 12, b: 23 },
     ];
-    assert_eq!(rt; items, prefixes);
+    let totals = &[Affine { a: 12, b: 23 }; 4];
+    assert!(rt; scans(&mut maps(), &mut maps(), 2, after, totals, 2, 8));
+}
+
+// Whether an exclusive scan of these items leaves them so and their total at each place of the
+// scratch, with these rounds and messages.
+fn exscans<M: Monoid + PartialEq>(
+    items: &mut [M],
+    scratch: &mut [M],
+    k: u32,
+    after: &[M],
+    totals: &[M],
+    rounds: u32,
+    messages: u64,
+) -> bool
+    requires dim { k < DIM_LIMIT }
+    requires places { length items.old ≡ 2 ^ k }
+    requires scratch { length scratch.old ≡ 2 ^ k }
+    requires values { All M.is_value items.old }
+{
+    took(exscan(items, scratch, k), rounds, messages) && *items == *after && *scratch == *totals
 }
 
 #[test]
 fn scan_of_those_before(rt: HostRuntime) {
-    let mut items = [1, 2, 3, 4, 5, 6, 7, 8].map(Add);
-    let mut scratch = [Add(0); 8];
-    assert!(rt; took(exscan(&mut items, &mut scratch, 3), 3, 24));
-    assert_eq!(rt; items, [0, 1, 3, 6, 10, 15, 21, 28].map(Add));
-    assert_eq!(rt; scratch, [Add(36); 8]);
-    let mut items = maps();
-    let mut scratch = maps();
-    assert!(rt; took(exscan(&mut items, &mut scratch, 2), 2, 8));
-    let prefixes = [
+    let after = &[
+        Add(0),
+        Add(1),
+        Add(3),
+        Add(6),
+        Add(10),
+        Add(15),
+        Add(21),
+        Add(28),
+    ];
+    let items = &mut [
+        Add(1),
+        Add(2),
+        Add(3),
+        Add(4),
+        Add(5),
+        Add(6),
+        Add(7),
+        Add(8),
+    ];
+    assert!(rt; exscans(items, &mut [Add(0); 8], 3, after, &[Add(36); 8], 3, 24));
+    let after = &[
         Affine { a: 1, b: 0 },
         Affine { a: 2, b: 1 },
         Affine { a: 6, b: 3 },
         Affine { a: 6, b: 8 },
     ];
-    assert_eq!(rt; items, prefixes);
-    assert_eq!(rt; scratch, [Affine { a: 12, b: 23 }; 4]);
+    let totals = &[Affine { a: 12, b: 23 }; 4];
+    assert!(rt; exscans(&mut maps(), &mut maps(), 2, after, totals, 2, 8));
 }
 
 #[test]
 fn one_place(rt: HostRuntime) {
-    let mut items = [Max(7)];
-    let mut scratch = [Max(0)];
-    assert!(rt; took(broadcast(&mut items, 0, 0), 0, 0));
-    assert!(rt; took(reduce(&mut items, 0, 0), 0, 0));
-    assert!(rt; took(all_reduce(&mut items, 0), 0, 0));
-    assert!(rt; took(scan(&mut items, &mut scratch, 0), 0, 0));
-    assert_eq!(rt; items, [Max(7)]);
-    assert!(rt; took(exscan(&mut items, &mut scratch, 0), 0, 0));
-    assert!(rt; items == [Max(0)] && scratch == [Max(7)]);
+    let seven = &[Max(7)];
+    assert!(rt; broadcasts(&mut [Max(7)], 0, 0, seven, 0, 0));
+    assert!(rt; reduces(&mut [Max(7)], 0, 0, seven, 0, 0));
+    assert!(rt; all_reduces(&mut [Max(7)], 0, seven, 0, 0));
+    assert!(rt; scans(&mut [Max(7)], &mut [Max(0)], 0, seven, seven, 0, 0));
+    assert!(rt; exscans(&mut [Max(7)], &mut [Max(7)], 0, &[Max(0)], seven, 0, 0));
+}
+
+// Whether these items, padded for a cube of this dimension, are these.
+fn pads<M: Monoid + PartialEq>(
+    rt: &(impl AllocGlobal + Abort),
+    items: &[M],
+    k: u32,
+    wanted: &[M],
+) -> bool
+    requires dim { k < DIM_LIMIT }
+    requires fits { length items.now ≤ 2 ^ k }
+    requires values { All M.is_value items.now }
+{
+    let mut padded = Vec::from_slice(rt.alloc(), items).expect(rt, "no memory");
+    pad(&mut padded, k).is_ok() && padded.as_slice() == wanted
 }
 
 #[test]
-fn units_past_the_items(rt: HostRuntime) -> Result<(), Fail> {
-    let mut items = Vec::new(rt.alloc());
-    items.push(Min(9))?;
-    items.push(Min(4))?;
-    items.push(Min(7))?;
-    pad(&mut items, 2)?;
-    assert!(rt; items.as_slice() == [Min(9), Min(4), Min(7), Min(18446744073709551615)].as_slice());
-    pad(&mut items, 2)?;
-    assert!(rt; items.len() == 4);
-    let mut none = Vec::new(rt.alloc());
-    pad(&mut none, 1)?;
-    assert!(rt; none.as_slice() == [Affine { a: 1, b: 0 }; 2].as_slice());
-    Ok(())
+fn units_past_the_items(rt: HostRuntime) {
+    let padded = &[Min(9), Min(4), Min(7), Min(18446744073709551615)];
+    assert!(rt; pads(&rt, &[Min(9), Min(4), Min(7)], 2, padded));
+    assert!(rt; pads(&rt, padded, 2, padded));
+    assert!(rt; pads(&rt, &[], 1, &[Affine { a: 1, b: 0 }; 2]));
 }
 
 // Whether the message of this number goes in this round between these ranks.

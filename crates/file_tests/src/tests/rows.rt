@@ -1,11 +1,13 @@
 //! Rows that are written, and writers that fail.
 
+use crate::tests::commands::has_failed;
 use crate::tests::devices::FailsAt;
-use crate::tests::jobs::{answered, asked, made};
+use crate::tests::jobs::reply_to;
+use crate::tests::readings::writes;
 use cube_core::{Event, Kind, Note, Refused};
 use job_types::{JobId, Op, Reply};
 use jobs_csv::{
-    Counted, Device, Fault, FaultKind, LineBuffer, Name, PlaceRow, ReplayRow, ReportRow, Row,
+    Counted, Device, FaultKind, LineBuffer, Name, PlaceRow, ReplayRow, ReportRow, Row,
     WriteStopped, write_rows,
 };
 use std::io::Write;
@@ -13,30 +15,45 @@ use std::process::Abort;
 use std::test::Fail;
 use std::thread::Threads;
 
-// These rows are written under their header, whether the buffer is written out once or after each.
-fn expect_text<T: Row>(
+// Writes these rows under their header. The buffer is written out once, or after each row too.
+fn write_text<T: Row, W: Write>(
+    lines: LineBuffer,
+    rows: &[T],
+    flushes: bool,
+    writer: &mut W,
+) -> Result<(), WriteStopped> {
+    let mut lines = lines.push_header::<T>()?;
+    for row in rows {
+        lines = lines.push(row)?;
+        if flushes {
+            lines = lines.flush(writer)?;
+        }
+    }
+    lines.finish(writer)
+}
+
+// These rows are written under their header, where the buffer is written out once, or after each too.
+fn expect_written<T: Row>(
     rt: &(impl AllocGlobal + Abort),
     rows: &[T],
+    flushes: bool,
     wanted: &str,
-) -> Result<(), Fail> {
-    for flushes in [false, true] {
-        let mut writer = Counted::new(Vec::new(rt.alloc()));
-        let mut lines = LineBuffer::new(rt.alloc())?.push_header::<T>()?;
-        for row in rows {
-            lines = lines.push(row)?;
-            if flushes {
-                lines = lines.flush(&mut writer)?;
-            }
-        }
-        lines.finish(&mut writer)?;
-        assert!(rt; writer.failures() == 0);
-        assert!(rt; writer.get_ref().as_slice() == wanted.as_bytes());
-    }
-    Ok(())
+) {
+    let mut writer = Counted::new(Vec::new(rt.alloc()));
+    let lines = LineBuffer::new(rt.alloc()).expect(rt, "no memory");
+    assert!(rt; write_text(lines, rows, flushes, &mut writer) == Ok(()));
+    assert!(rt; writer.failures() == 0);
+    assert!(rt; writer.get_ref().as_slice() == wanted.as_bytes());
+}
+
+// These rows are written under their header, whether the buffer is written out once or after each.
+fn expect_text<T: Row>(rt: &(impl AllocGlobal + Abort), rows: &[T], wanted: &str) {
+    expect_written(rt, rows, false, wanted);
+    expect_written(rt, rows, true, wanted);
 }
 
 #[test]
-fn writes_outcomes(rt: HostRuntime) -> Result<(), Fail> {
+fn writes_outcomes(rt: HostRuntime) {
     let name = Name::new(b"a").expect(&rt, "a name");
     let long = Name::new(b"abcdefghijklmno9").expect(&rt, "a name");
     expect_text(
@@ -70,12 +87,12 @@ fn writes_outcomes(rt: HostRuntime) -> Result<(), Fail> {
          take,a,2,-,nosubcube\n\
          free,a,0,7,freed\n\
          free,a,-,-,nothingheld\n",
-    )?;
-    expect_text::<PlaceRow>(&rt, &[], "command,name,dim,base,outcome\n")
+    );
+    expect_text::<PlaceRow>(&rt, &[], "command,name,dim,base,outcome\n");
 }
 
 #[test]
-fn writes_reports(rt: HostRuntime) -> Result<(), Fail> {
+fn writes_reports(rt: HostRuntime) {
     let (most_jobs, most) = (u64::MAX, u128::MAX);
     let past = 18446744073709551616;
     expect_text(
@@ -117,7 +134,7 @@ fn writes_reports(rt: HostRuntime) -> Result<(), Fail> {
          dim,10,0,0,0\n\
          free,1,4,8,0\n\
          total,-,3,18446744073709551616,10\n",
-    )
+    );
 }
 
 // The row of an event.
@@ -139,7 +156,7 @@ fn refused(station: u64, node: Option<u64>, why: Refused) -> ReplayRow {
 }
 
 #[test]
-fn writes_events(rt: HostRuntime) -> Result<(), Fail> {
+fn writes_events(rt: HostRuntime) {
     expect_text(
         &rt,
         &[
@@ -177,11 +194,11 @@ fn writes_events(rt: HostRuntime) -> Result<(), Fail> {
          3,look,1,-+0,inuse\n\
          47,mark,1,L+47,ok\n\
          47,retire,0,-,retired\n",
-    )
+    );
 }
 
 #[test]
-fn writes_refusals_and_words(rt: HostRuntime) -> Result<(), Fail> {
+fn writes_refusals_and_words(rt: HostRuntime) {
     expect_text(
         &rt,
         &[
@@ -203,7 +220,7 @@ fn writes_refusals_and_words(rt: HostRuntime) -> Result<(), Fail> {
          -,end,1,OLR,-\n\
          -,end,3,L+0,-\n\
          -,end,-,-,2\n",
-    )
+    );
 }
 
 // Writes `count` lines of 30 bytes.
@@ -219,27 +236,32 @@ fn write_many<W: Write>(
     Ok(lines)
 }
 
+// Two full buffers are written, and no third one.
+fn expect_two_pieces(rt: &impl Abort, written: usize) {
+    assert!(rt; written >= 131_072 && written < 150_000, "{written}");
+}
+
 // A buffer of 65,536 bytes is full: 180,000 bytes go out in two pieces, and the rest at the end.
 #[test]
-fn writes_out_full_buffers(rt: HostRuntime) -> Result<(), Fail> {
+fn writes_out_full_buffers(rt: HostRuntime) {
     let mut writer = Counted::new(Vec::new(rt.alloc()));
-    let lines = write_many(LineBuffer::new(rt.alloc())?, 6_000, &mut writer)?;
-    let written = writer.get_ref().len();
-    assert!(rt; written >= 131_072 && written < 150_000, "{written}");
+    let lines = LineBuffer::new(rt.alloc()).expect(&rt, "no memory");
+    let lines = write_many(lines, 6_000, &mut writer).expect(&rt, "all lines");
+    expect_two_pieces(&rt, writer.get_ref().len());
     assert!(rt; lines.finish(&mut writer) == Ok(()));
     assert!(rt; writer.get_ref().len() == 6_000 * 30);
-    Ok(())
 }
 
 // Two replies.
-fn two_replies(rt: &(impl AllocGlobal + Abort)) -> Result<Vec<Reply>, Fail> {
+fn two_replies(rt: &(impl AllocGlobal + Abort)) -> Vec<Reply> {
     let mut replies = Vec::new(rt.alloc());
     for seq in 0..2 {
         let kind = job_types::Kind::AllReduce { op: Op::Add };
-        let job = made(asked(rt, rt.alloc(), 3, 1, kind, &[5, 6])?)?;
-        replies.push(answered(job, JobId { lane: 1, seq }))?;
+        let id = JobId { lane: 1, seq };
+        let reply = reply_to(rt, rt.alloc(), 3, id, kind, &[5, 6]);
+        replies.push(reply).expect(rt, "no memory");
     }
-    Ok(replies)
+    replies
 }
 
 // A write of replies whose writer fails at this call, with an error or by taking nothing. Returns
@@ -248,45 +270,43 @@ fn fails_to_write(
     rt: &(impl AllocGlobal + Abort + Threads + Sync),
     calls: u64,
     gives_zero: bool,
-) -> Result<bool, Fail> {
-    let (row, what) = (0, FaultKind::Write);
+) -> bool {
     let device = FailsAt {
         device: Vec::new(rt.alloc()),
         calls,
         gives_zero,
     };
     let mut writer = Counted::new(device);
-    let answer = write_rows(rt, rt.alloc(), 2, two_replies(rt)?, &mut writer);
-    if writer.failures() == 0 {
-        assert!(rt; answer == Ok(()));
-        return Ok(false);
+    let answer = write_rows(rt, rt.alloc(), 2, two_replies(rt), &mut writer);
+    has_failed(rt, answer, writer.failures(), FaultKind::Write, calls)
+}
+
+// Fourteen writes fail, each where its call does, and then a flush where it may fail.
+fn expect_failures(rt: &(impl AllocGlobal + Abort + Threads + Sync), gives_zero: bool) {
+    for calls in 0..14 {
+        assert!(rt; fails_to_write(rt, calls, gives_zero), "at call {calls}");
     }
-    assert!(rt; answer == Err(Fault { row, what }), "at call {calls}");
-    Ok(true)
+    assert!(rt; fails_to_write(rt, 14, gives_zero) != gives_zero);
+    assert!(rt; !fails_to_write(rt, 15, gives_zero));
 }
 
 // The header has 41 bytes and each line 26: fourteen writes of seven bytes at most, and a flush.
 #[test]
-fn reports_a_failed_write(rt: HostRuntime) -> Result<(), Fail> {
-    for gives_zero in [false, true] {
-        for calls in 0..14 {
-            assert!(rt; fails_to_write(&rt, calls, gives_zero)?, "at call {calls}");
-        }
-        assert!(rt; fails_to_write(&rt, 14, gives_zero)? != gives_zero);
-        assert!(rt; !fails_to_write(&rt, 15, gives_zero)?);
-    }
-    Ok(())
+fn reports_a_failed_write(rt: HostRuntime) {
+    expect_failures(&rt, false);
+    expect_failures(&rt, true);
 }
 
 // So many replies of lane 1, each to a broadcast of its own number.
-fn many_replies(rt: &(impl AllocGlobal + Abort), count: u64) -> Result<Vec<Reply>, Fail> {
+fn many_replies(rt: &(impl AllocGlobal + Abort), count: u64) -> Vec<Reply> {
     let mut replies = Vec::new(rt.alloc());
     for seq in 0..count {
         let kind = job_types::Kind::Broadcast { root: 0 };
-        let job = made(asked(rt, rt.alloc(), 0, 1, kind, &[seq])?)?;
-        replies.push(answered(job, JobId { lane: 1, seq }))?;
+        let id = JobId { lane: 1, seq };
+        let reply = reply_to(rt, rt.alloc(), 0, id, kind, &[seq]);
+        replies.push(reply).expect(rt, "no memory");
     }
-    Ok(replies)
+    replies
 }
 
 // The file of so many of these replies.
@@ -304,19 +324,9 @@ fn expect_many(
     threads: usize,
     count: u64,
 ) -> Result<(), Fail> {
-    let mut writer = Counted::new(Vec::new(rt.alloc()));
-    write_rows(
-        rt,
-        rt.alloc(),
-        threads,
-        many_replies(rt, count)?,
-        &mut writer,
-    )?;
     let wanted = text_of_many(rt, count)?;
-    assert!(rt;
-        writer.get_ref().as_slice() == wanted.as_bytes(),
-        "{count} by {threads}"
-    );
+    let is_right = writes(rt, threads, many_replies(rt, count), wanted.as_bytes());
+    assert!(rt; is_right, "{count} by {threads}");
     Ok(())
 }
 

@@ -3,7 +3,7 @@
 ghost use Rattle.std.specs.Prelude.{◌≡◌, ◌^◌, ◌+◌, ◌≤◌, IfOk, length};
 ghost use Rattle.floors.specs.Floor.{IsWhollyFree};
 
-use crate::tests::jobs::{answered, asked, made};
+use crate::tests::jobs::reply_to;
 use cube_ledger::{Ledger, Slip, Totals};
 use cube_occupancy::{FREE_PLACES, Occupancy, occupancy};
 use cube_report::report_rows;
@@ -18,35 +18,42 @@ use std::process::Abort;
 use std::test::Fail;
 
 // The reply to the greatest of these numbers, on the machine of dimension 3.
-fn reply(
-    rt: &(impl AllocGlobal + Abort),
-    lane: u32,
-    seq: u64,
-    numbers: &[u64],
-) -> Result<Reply, Fail> {
+fn reply(rt: &(impl AllocGlobal + Abort), lane: u32, seq: u64, numbers: &[u64]) -> Reply {
     let kind = Kind::Scan { op: Op::Max };
-    let job = made(asked(rt, rt.alloc(), 3, lane, kind, numbers)?)?;
-    Ok(answered(job, JobId { lane, seq }))
+    reply_to(rt, rt.alloc(), 3, JobId { lane, seq }, kind, numbers)
+}
+
+// Replies with these lanes and numbers of jobs, each to the greatest of some numbers.
+fn replies(rt: &(impl AllocGlobal + Abort), rows: &[(u32, u64, &[u64])]) -> Vec<Reply> {
+    let mut replies = Vec::new(rt.alloc());
+    for (lane, seq, numbers) in rows {
+        let reply = reply(rt, *lane, *seq, numbers);
+        replies.push(reply).expect(rt, "no memory");
+    }
+    replies
+}
+
+// The replies of each worker.
+fn by_worker(
+    rt: &(impl AllocGlobal + Abort),
+    workers: &[&[(u32, u64, &[u64])]],
+) -> Vec<Vec<Reply>> {
+    let mut by_worker = Vec::new(rt.alloc());
+    for rows in workers {
+        by_worker.push(replies(rt, rows)).expect(rt, "no memory");
+    }
+    by_worker
 }
 
 // One reply of the first worker, one of the third and one of the rest.
-fn finished(rt: &(impl AllocGlobal + Abort)) -> Result<Finished<()>, Fail> {
-    let mut first = Vec::new(rt.alloc());
-    first.push(reply(rt, 1, 0, &[5, 6])?)?;
-    let mut third = Vec::new(rt.alloc());
-    third.push(reply(rt, 0, 0, &[2, 9, 4])?)?;
-    let mut by_worker = Vec::new(rt.alloc());
-    by_worker.push(first)?;
-    by_worker.push(Vec::new(rt.alloc()))?;
-    by_worker.push(third)?;
-    let mut rest = Vec::new(rt.alloc());
-    rest.push(reply(rt, 1, 1, &[8, 1, 3, 3, 5])?)?;
-    Ok(Finished {
-        by_worker,
-        rest,
+fn finished(rt: &(impl AllocGlobal + Abort)) -> Finished<()> {
+    let workers: &[&[(u32, u64, &[u64])]] = &[&[(1, 0, &[5, 6])], &[], &[(0, 0, &[2, 9, 4])]];
+    Finished {
+        by_worker: by_worker(rt, workers),
+        rest: replies(rt, &[(1, 1, &[8, 1, 3, 3, 5])]),
         accepted: Vec::new(rt.alloc()),
         machine: (),
-    })
+    }
 }
 
 // Whether these totals count so many jobs on so many processors, of which so many were idle.
@@ -77,8 +84,8 @@ fn expect_dims(rt: &impl Abort, ledger: &Ledger, rows: &[(u32, u64, u128, u128)]
 }
 
 // The ledger of a finished shop.
-fn ledger_of(alloc: Global, finished: &Finished<()>) -> Result<Ledger, Fail> {
-    Ok(Ledger::of(alloc, finished)?)
+fn ledger_of(rt: &(impl AllocGlobal + Abort), finished: &Finished<()>) -> Ledger {
+    Ledger::of(rt.alloc(), finished).expect(rt, "no memory")
 }
 
 // Whether the slip of a reply has this id, this region and so many idle processors.
@@ -87,13 +94,23 @@ fn is_slip(reply: &Reply, id: JobId, region: Region, idle: u64) -> bool {
     slip.id == id && slip.region == region && slip.idle == idle
 }
 
-#[test]
-fn totals_of_three_replies(rt: HostRuntime) -> Result<(), Fail> {
-    let finished = finished(&rt)?;
-    let reply = finished.rest.first().expect(&rt, "a reply of the rest");
+// The first of these replies is the second of lane 1, on the whole machine, with three idle processors.
+fn expect_slip(rt: &impl Abort, replies: &[Reply]) {
+    let reply = replies.first().expect(rt, "a reply");
     let (id, region) = (JobId { lane: 1, seq: 1 }, Region { base: 0, dim: 3 });
     assert!(rt; is_slip(reply, id, region, 3));
-    let ledger = ledger_of(rt.alloc(), &finished)?;
+}
+
+// A ledger counts three jobs in all on 14 processors, of which 4 were idle.
+fn expect_total(rt: &impl Abort, ledger: &Ledger) {
+    assert!(rt; are(ledger.total(), 3, 14, 4));
+}
+
+#[test]
+fn totals_of_three_replies(rt: HostRuntime) {
+    let finished = finished(&rt);
+    expect_slip(&rt, &finished.rest);
+    let ledger = ledger_of(&rt, &finished);
     expect_lanes(
         &rt,
         &ledger,
@@ -115,9 +132,7 @@ fn totals_of_three_replies(rt: HostRuntime) -> Result<(), Fail> {
             (u32::MAX, 0, 0, 0),
         ],
     );
-    let total = ledger.total();
-    assert!(rt; are(total, 3, 14, 4));
-    Ok(())
+    expect_total(&rt, &ledger);
 }
 
 // What these words say of the regions of their machine.
@@ -126,6 +141,12 @@ fn said(n: u32, words: &[u64]) -> Occupancy
     requires words { length words.now ≡ 2 ^ (n + 1) }
 {
     occupancy(n, words)
+}
+
+// So many free regions of a dimension are those of its place in a list, and none past its end.
+fn expect_free(rt: &impl Abort, count: u64, free: &[u64], dim: usize) {
+    let wanted = free.get(dim).copied().unwrap_or(0);
+    assert_eq!(rt; count, wanted, "of dimension {dim}");
 }
 
 // The machine with these words has these free regions, by dimension, and none of a higher
@@ -143,8 +164,7 @@ fn expect_occupancy(
 {
     let said = said(n, words);
     for dim in 0..FREE_PLACES {
-        let wanted = free.get(dim).copied().unwrap_or(0);
-        assert_eq!(rt; said.free[dim], wanted, "of dimension {dim}");
+        expect_free(rt, said.free[dim], free, dim);
     }
     assert!(rt; said.held == held && said.largest == largest);
 }
@@ -168,27 +188,28 @@ fn free_machine<F: Floor>(alloc: Global, n: u32) -> Result<F::Machine, Fail>
     Ok(floor.close(stations))
 }
 
-// The rows of a shop with two lanes that answered two jobs by its workers and one at its end.
-fn rows<F: Floor>(rt: &(impl AllocGlobal + Abort)) -> Result<Vec<ReportRow>, Fail>
+// The rows of a shop with two lanes and a floor that gave nothing out, and with these replies.
+fn rows_of<F: Floor>(
+    alloc: Global,
+    by_worker: Vec<Vec<Reply>>,
+    rest: Vec<Reply>,
+) -> Result<Vec<ReportRow>, Fail>
 where
     F::Machine: Drop,
 {
-    let mut first = Vec::new(rt.alloc());
-    first.push(reply(rt, 1, 0, &[5, 6])?)?;
-    first.push(reply(rt, 0, 0, &[2, 9, 4])?)?;
-    let mut by_worker = Vec::new(rt.alloc());
-    by_worker.push(first)?;
-    let mut rest = Vec::new(rt.alloc());
-    rest.push(reply(rt, 1, 1, &[8, 1])?)?;
-    let accepted = Vec::from_slice(rt.alloc(), &[1, 2])?;
-    let machine = free_machine::<F>(rt.alloc(), 3)?;
     let finished = Finished {
         by_worker,
         rest,
-        accepted,
-        machine,
+        accepted: Vec::from_slice(alloc, &[1, 2])?,
+        machine: free_machine::<F>(alloc, 3)?,
     };
-    Ok(report_rows::<F>(rt.alloc(), 3, &finished)?)
+    Ok(report_rows::<F>(alloc, 3, &finished)?)
+}
+
+// The rows of a shop with two lanes that answered two jobs by its workers and one at its end.
+fn rows(rt: &(impl AllocGlobal + Abort)) -> Result<Vec<ReportRow>, Fail> {
+    let by_worker = by_worker(rt, &[&[(1, 0, &[5, 6]), (0, 0, &[2, 9, 4])]]);
+    rows_of::<LockedFloor>(rt.alloc(), by_worker, replies(rt, &[(1, 1, &[8, 1])]))
 }
 
 // The rows are these.
@@ -201,7 +222,7 @@ fn expect_rows(rt: &impl Abort, rows: &[ReportRow], wanted: &[ReportRow]) {
 
 #[test]
 fn rows_of_two_lanes(rt: HostRuntime) -> Result<(), Fail> {
-    let rows = rows::<LockedFloor>(&rt)?;
+    let rows = rows(&rt)?;
     expect_rows(
         &rt,
         &rows,

@@ -3,55 +3,58 @@
 use cli_words::{FileNames, Invocation, Request, ShopOptions, parse_args};
 use cube_shape::MAX_STATIONS;
 use std::process::Abort;
-use std::test::Fail;
 
-// What these words, with a space between two of them, ask for.
-fn ask(rt: &(impl AllocGlobal + Abort), line: &str) -> Result<Option<Request>, Fail> {
+// The words of a line, with a space between two of them.
+fn words_of(rt: &(impl AllocGlobal + Abort), line: &str) -> Vec<String> {
     let mut words = Vec::new(rt.alloc());
     for word in line.split(' ') {
-        words.push(word.to_string(rt.alloc())?)?;
+        let word = word.to_string(rt.alloc()).expect(rt, "no memory");
+        words.push(word).expect(rt, "no memory");
     }
-    Ok(parse_args(rt.alloc(), &words).ok())
+    words
 }
 
-// Each of these lines asks for this, with no file.
-fn expect_lines(rt: &(impl AllocGlobal + Abort), rows: &[(&str, Invocation)]) -> Result<(), Fail> {
-    for (line, wanted) in rows {
-        let files = FileNames {
-            input: None,
-            output: None,
-        };
-        let invocation = *wanted;
-        assert!(rt;
-            ask(rt, line)? == Some(Request { invocation, files }),
-            "{line}"
-        );
-    }
-    Ok(())
+// What the words of a line ask for.
+fn ask(rt: &(impl AllocGlobal + Abort), line: &str) -> Option<Request> {
+    parse_args(rt.alloc(), &words_of(rt, line)).ok()
 }
 
 // The name of a file, where there is one.
-fn a_name(rt: &impl AllocGlobal, name: &str) -> Result<Option<String>, Fail> {
+fn a_name(rt: &(impl AllocGlobal + Abort), name: &str) -> Option<String> {
     if name.is_empty() {
-        return Ok(None);
+        return None;
     }
-    Ok(Some(name.to_string(rt.alloc())?))
+    Some(name.to_string(rt.alloc()).expect(rt, "no memory"))
+}
+
+// Whether a line asks for this, with files of these names. The name of no file is empty.
+fn asks_for(
+    rt: &(impl AllocGlobal + Abort),
+    line: &str,
+    invocation: Invocation,
+    input: &str,
+    output: &str,
+) -> bool {
+    let files = FileNames {
+        input: a_name(rt, input),
+        output: a_name(rt, output),
+    };
+    ask(rt, line) == Some(Request { invocation, files })
+}
+
+// Each of these lines asks for this, with no file.
+fn expect_lines(rt: &(impl AllocGlobal + Abort), rows: &[(&str, Invocation)]) {
+    for (line, wanted) in rows {
+        assert!(rt; asks_for(rt, line, *wanted, "", ""), "{line}");
+    }
 }
 
 // Each of these lines asks for a machine of dimension 3 with the files of these names, of which none is empty.
-fn expect_files(rt: &(impl AllocGlobal + Abort), rows: &[(&str, &str, &str)]) -> Result<(), Fail> {
+fn expect_files(rt: &(impl AllocGlobal + Abort), rows: &[(&str, &str, &str)]) {
     for (line, input, output) in rows {
-        let files = FileNames {
-            input: a_name(rt, input)?,
-            output: a_name(rt, output)?,
-        };
-        let invocation = Invocation::Place { n: 3 };
-        assert!(rt;
-            ask(rt, line)? == Some(Request { invocation, files }),
-            "{line}"
-        );
+        let place = Invocation::Place { n: 3 };
+        assert!(rt; asks_for(rt, line, place, input, output), "{line}");
     }
-    Ok(())
 }
 
 // A shop on a machine of this dimension, with this many dispatchers and this capacity.
@@ -75,7 +78,7 @@ fn a_report(n: u32, dispatchers: u32, capacity: usize) -> Invocation {
 }
 
 #[test]
-fn reads_command_lines(rt: HostRuntime) -> Result<(), Fail> {
+fn reads_command_lines(rt: HostRuntime) {
     let quiet = Invocation::Report(a_shop(3, 2, 16, true));
     let (n, stations) = (2, MAX_STATIONS);
     let replay = Invocation::Replay { n, stations };
@@ -105,11 +108,11 @@ fn reads_command_lines(rt: HostRuntime) -> Result<(), Fail> {
             ("cubejobs place --dim 3", Invocation::Place { n: 3 }),
             ("cubejobs replay --dim 2 --stations 48", replay),
         ],
-    )
+    );
 }
 
 #[test]
-fn reads_names_of_files(rt: HostRuntime) -> Result<(), Fail> {
+fn reads_names_of_files(rt: HostRuntime) {
     expect_files(
         &rt,
         &[
@@ -126,5 +129,5 @@ fn reads_names_of_files(rt: HostRuntime) -> Result<(), Fail> {
             ("cubejobs place --dim 3 in.csv --output -", "in.csv", ""),
             ("cubejobs place --dim 3 ./-", "./-", ""),
         ],
-    )
+    );
 }

@@ -7,7 +7,8 @@ use line_gate::{
     Counts, Entered, EnteredLate, EntryCount, Gate, GateCloser, GateLane, GateMembers, GateNote,
     GatePass, Pushed, Witness,
 };
-use std::test::Fail;
+use std::alloc::Global;
+use std::process::Abort;
 
 // Nothing outside the gate was found.
 pub struct Nothing(());
@@ -32,7 +33,7 @@ impl Pushed for Said {
 
 pub type TestGate = Gate<Said, Said, Nothing>;
 
-pub const COUNTS: Counts = Counts {
+const COUNTS: Counts = Counts {
     lanes: 2,
     passes: 1,
 };
@@ -84,7 +85,7 @@ pub struct Table {
     pub closer: GateCloser,
 }
 
-pub fn deal(gate: &TestGate, mut members: GateMembers) -> Table
+fn deal(gate: &TestGate, mut members: GateMembers) -> Table
     requires gate { members.gate ≡ gate.now.table }
     requires lanes { members.lanes ≡ lanes_from 0 2 }
     requires passes { members.passes ≡ passes_from 0 1 }
@@ -102,6 +103,21 @@ pub fn deal(gate: &TestGate, mut members: GateMembers) -> Table
         pass,
         closer,
     }
+}
+
+// A new gate, and its members.
+pub fn opened<R: Abort>(rt: &R, alloc: Global) -> (TestGate, Table)
+    ensures counts { result.0.counts ≡ record { lanes = 2; passes = 1 } }
+    ensures lanes { (result.1.first.gate ≡ result.0.table)
+        × (result.1.second.gate ≡ result.0.table) }
+    ensures others { (result.1.pass.gate ≡ result.0.table)
+        × (result.1.closer.gate ≡ result.0.table) }
+    ensures fresh { (result.1.first.known ≡ fresh_lane 0)
+        × (result.1.second.known ≡ fresh_lane 1) }
+{
+    let (gate, members) = TestGate::open(alloc, COUNTS).expect(rt, "no memory");
+    let table = deal(&gate, members);
+    (gate, table)
 }
 
 pub fn end(gate: TestGate, members: (GateLane, GateLane, GatePass), note: GateNote)
@@ -182,34 +198,66 @@ fn look(gate: &TestGate, lane: &mut GateLane) -> Option<u64>
     gate.look(lane)
 }
 
-#[test]
-fn entries_and_readings(rt: HostRuntime) -> Result<(), Fail> {
-    let (gate, members) = TestGate::open(rt.alloc(), COUNTS)?;
+// What entries give and what is read meanwhile.
+#[derive(Drop)]
+struct Steps {
+    // What comes of an entry whose push is accepted, of one that finds the line full, and of one around the close.
+    entries: [Result<u64, u64>; 3],
+    // What the pass reads before the first, inside it, after the second, inside the last, and after it.
+    read: [(u64, EntryCount); 5],
+    // What each lane sees after the second, and the second lane at the end.
+    looks: [Option<u64>; 3],
+    // The number of the note.
+    number: u64,
+}
+
+fn enter_and_read<R: Abort>(rt: &R, alloc: Global) -> Steps {
+    let (gate, table) = opened(rt, alloc);
     let Table {
         mut first,
         mut second,
         mut pass,
         closer,
-    } = deal(&gate, members);
+    } = table;
     let before = read(&gate, &mut pass);
     let (accepted, pending) = go_through_seen(&gate, &mut first, &mut pass, false);
     let full = go_through(&gate, &mut second, true);
-    let looks = [look(&gate, &mut first), look(&gate, &mut second)];
+    let (one, other) = (look(&gate, &mut first), look(&gate, &mut second));
     let still_open = read(&gate, &mut pass);
     let (last, unsettled, note) = close_inside(&gate, &mut first, &mut pass, closer);
     let number = note.number();
     let sealed = read(&gate, &mut pass);
     let late_look = look(&gate, &mut second);
     end(gate, (first, second, pass), note);
-    let at = |entries, closed| EntryCount { entries, closed };
-    assert_eq!(rt; [accepted, full, last], [Ok(0), Ok(1), Ok(2)]);
-    assert_eq!(rt; [before, pending], [(0, at(0, false)), (0, at(1, false))]);
-    assert_eq!(rt; looks, [None, None]);
-    assert_eq!(rt; still_open, (2, at(2, false)));
-    assert_eq!(rt; number, 3);
-    assert_eq!(rt; [unsettled, sealed], [(2, at(3, true)), (3, at(3, true))]);
-    assert_eq!(rt; late_look, Some(3));
-    Ok(())
+    Steps {
+        entries: [accepted, full, last],
+        read: [before, pending, still_open, unsettled, sealed],
+        looks: [one, other, late_look],
+        number,
+    }
+}
+
+// What a pass reads: so many entries, and whether the gate is closed.
+fn at(entries: u64, closed: bool) -> EntryCount {
+    EntryCount { entries, closed }
+}
+
+#[test]
+fn entries_and_readings(rt: HostRuntime) {
+    let steps = enter_and_read(&rt, rt.alloc());
+    assert!(rt; steps.entries == [Ok(0), Ok(1), Ok(2)]);
+    assert!(rt;
+        steps.read
+            == [
+                (0, at(0, false)),
+                (0, at(1, false)),
+                (2, at(2, false)),
+                (2, at(3, true)),
+                (3, at(3, true)),
+            ]
+    );
+    assert!(rt; steps.looks == [None, None, Some(3)]);
+    assert!(rt; steps.number == 3);
 }
 
 // What two late entries find, which are made and taken back one after the other.
@@ -251,28 +299,33 @@ fn enter_late(
     }
 }
 
-#[test]
-fn late_entries(rt: HostRuntime) -> Result<(), Fail> {
-    let (gate, members) = TestGate::open(rt.alloc(), COUNTS)?;
+// What the first lane sees at the start, what comes of an entry then, and the number of the note; and what two late
+// entries find.
+fn enter_after_close<R: Abort>(
+    rt: &R,
+    alloc: Global,
+) -> ((Option<u64>, Result<u64, u64>, u64), Late) {
+    let (gate, table) = opened(rt, alloc);
     let Table {
         mut first,
         mut second,
         mut pass,
         closer,
-    } = deal(&gate, members);
+    } = table;
     let look = look(&gate, &mut first);
     let accepted = go_through(&gate, &mut second, false);
     let note = gate.close(closer);
     let number = note.number();
     let late = enter_late(&gate, &mut first, &mut second, &mut pass);
     end(gate, (first, second, pass), note);
-    let at = |entries| EntryCount {
-        entries,
-        closed: true,
-    };
-    assert_eq!(rt; (look, accepted, number), (None, Ok(0), 1));
-    assert_eq!(rt; late.found, [Err(1), Err(2)]);
-    assert_eq!(rt; late.read, [(1, at(3)), (1, at(1))]);
-    assert_eq!(rt; late.look, Some(2));
-    Ok(())
+    ((look, accepted, number), late)
+}
+
+#[test]
+fn late_entries(rt: HostRuntime) {
+    let (before, late) = enter_after_close(&rt, rt.alloc());
+    assert!(rt; before == (None, Ok(0), 1));
+    assert!(rt; late.found == [Err(1), Err(2)]);
+    assert!(rt; late.read == [(1, at(3, true)), (1, at(1, true))]);
+    assert!(rt; late.look == Some(2));
 }

@@ -1,14 +1,13 @@
 //! Two lanes race with the close of their gate: each makes one entry after it, and takes that back.
-ghost use Rattle.std.specs.Prelude.{◌≡◌, ◌+◌, ◌<◌, ◌≤◌, [], None, Some, IsSome, IsSomeAnd, length};
+ghost use Rattle.std.specs.Prelude.{◌≡◌, [], None, Some, IsSome, IsSomeAnd};
 ghost use Rattle.line_gate.specs.Record.{IsSettled};
 
-use crate::tests::gate::{COUNTS, Table, TestGate, deal, end, go_through, read};
+use crate::tests::gate::{Table, TestGate, end, go_through, opened, read};
 use cube_shape::MAX_ENTRIES;
 use line_gate::{EntryCount, GateCloser, GateLane, GateNote};
 use std::sync::Wait;
 use std::sync::atomic::AtomicU64;
 use std::sync::atomic::Ordering::SeqCst;
-use std::test::Fail;
 use std::thread::{Threads, join_mut, yield_now};
 
 // What the lanes count: entries before the close, and those that came late and were taken back.
@@ -34,18 +33,6 @@ impl Board {
     }
 }
 
-// Enters once and settles that, or takes it back where it is late: whether it is.
-fn enter_once(gate: &TestGate, lane: &mut GateLane, full: bool, board: &Board) -> bool
-    requires gate { lane.old.gate ≡ gate.now.table }
-    requires settled { IsSettled lane.old.known }
-    requires unspent { length lane.old.known.entries < MAX_ENTRIES }
-    ensures gate { lane.new.gate ≡ gate.now.table }
-    ensures settled { IsSettled lane.new.known }
-    ensures few { length lane.new.known.entries ≤ length lane.old.known.entries + 1 }
-{
-    board.count(go_through(gate, lane, full))
-}
-
 // Enters and settles until an entry comes after the close, and takes that one back.
 fn enter_until_late<R: Wait>(rt: &R, gate: &TestGate, lane: &mut GateLane, board: &Board)
     requires gate { lane.old.gate ≡ gate.now.table }
@@ -56,7 +43,7 @@ fn enter_until_late<R: Wait>(rt: &R, gate: &TestGate, lane: &mut GateLane, board
 {
     let mut entries: u64 = 0;
     for _ in rt.forever() {
-        if entries >= MAX_ENTRIES || enter_once(gate, lane, entries % 2 == 1, board) {
+        if entries >= MAX_ENTRIES || board.count(go_through(gate, lane, entries % 2 == 1)) {
             return;
         }
         entries += 1;
@@ -175,14 +162,14 @@ fn note_of(closer: Option<GateCloser>, note: Option<GateNote>) -> GateNote
 }
 
 #[test]
-fn each_lane_takes_one_late_entry_back(rt: HostRuntime) -> Result<(), Fail> {
-    let (gate, members) = TestGate::open(rt.alloc(), COUNTS)?;
+fn each_lane_takes_one_late_entry_back(rt: HostRuntime) {
+    let (gate, table) = opened(&rt, rt.alloc());
     let Table {
         mut first,
         mut second,
         mut pass,
         closer,
-    } = deal(&gate, members);
+    } = table;
     let board = Board {
         entered: AtomicU64::new(0),
         late: AtomicU64::new(0),
@@ -202,8 +189,8 @@ fn each_lane_takes_one_late_entry_back(rt: HostRuntime) -> Result<(), Fail> {
     let entries = note.number();
     let (settled, counted) = read(&gate, &mut pass);
     end(gate, (first, second, pass), note);
-    assert_eq!(rt; board.late.load(SeqCst), 2);
-    assert_eq!(rt; [board.entered.load(SeqCst), settled], [entries, entries]);
+    assert!(rt; board.late.load(SeqCst) == 2);
+    assert!(rt; [board.entered.load(SeqCst), settled] == [entries, entries]);
     assert!(rt;
         entries >= 50
             && counted
@@ -212,5 +199,4 @@ fn each_lane_takes_one_late_entry_back(rt: HostRuntime) -> Result<(), Fail> {
                     closed: true
                 })
     );
-    Ok(())
 }

@@ -2,6 +2,7 @@
 ghost use Rattle.std.specs.Prelude.{◌≡◌, ◌<◌, ◌≤◌, [], IfOk};
 ghost use Rattle.std.specs.Vec.{vec_capacity};
 
+use cube_shape::MAX_LANES;
 use job_queue::{JobLine, Opened, QueuedJob, Receipt, Refused, Rest, Sizes, Taken};
 use job_types::{Job, JobId};
 use line_run::{Finished, run};
@@ -17,21 +18,27 @@ use test_kit::{Pair, Plan, SUM, both, job, jobs};
 
 pub const JOBS: usize = 100;
 
-// What a job gets that is handed in, and `LaneSpent` for one that is not for this line and lane.
-fn hand_in<R: Wait, L: JobLine>(
+// What comes of a job that is handed in, which comes back where it is refused: `LaneSpent` for one that is
+// not for this line and lane.
+pub fn hand_in<R: Wait, L: JobLine>(
     rt: &R,
     line: &L,
     lane: &mut L::Lane,
     job: Job,
-) -> Result<Receipt, Refused>
+) -> Result<Receipt, (Job, Refused)>
     requires lane { L.is_lane (L.id line.now) lane.old }
     requires machine { (L.id line.now).sizes.machine ≡ 2 }
     ensures { L.is_lane (L.id line.now) lane.new }
 {
     if job.machine() != 2 || job.lane() != L::lane_number(lane) {
-        return Err(Refused::LaneSpent);
+        return Err((job, Refused::LaneSpent));
     }
-    match line.submit(rt, lane, job) {
+    line.submit(rt, lane, job)
+}
+
+// The receipt of a job, or why it was refused.
+fn outcome(answer: Result<Receipt, (Job, Refused)>) -> Result<Receipt, Refused> {
+    match answer {
         Ok(receipt) => Ok(receipt),
         Err((_, refused)) => Err(refused),
     }
@@ -124,11 +131,11 @@ fn play<R: Wait, L: JobLine>(rt: &R, hand: Hand<L>, jobs: (Job, Job, Job)) -> Sc
         closer,
     } = hand;
     let (first, second, third) = jobs;
-    let first = hand_in(rt, &line, &mut lanes.first, first);
-    let second = hand_in(rt, &line, &mut lanes.first, second);
+    let first = outcome(hand_in(rt, &line, &mut lanes.first, first));
+    let second = outcome(hand_in(rt, &line, &mut lanes.first, second));
     let note = line.close(rt, closer);
     let close_number = L::close_number(&note);
-    let third = hand_in(rt, &line, &mut lanes.first, third);
+    let third = outcome(hand_in(rt, &line, &mut lanes.first, third));
     Script {
         outcomes: [first, second, third],
         close_number,
@@ -136,19 +143,24 @@ fn play<R: Wait, L: JobLine>(rt: &R, hand: Hand<L>, jobs: (Job, Job, Job)) -> Sc
     }
 }
 
+// A job of the first lane.
+fn own<R: Abort>(rt: &R, alloc: Global) -> Job {
+    job(alloc, 2, 0, SUM, &[1, 2]).expect(rt, "no memory")
+}
+
+// What becomes of them on a line with room for one job.
+fn script_over<R: Wait + Abort, L: JobLine>(rt: &R, alloc: Global) -> Script {
+    let jobs = (own(rt, alloc), own(rt, alloc), own(rt, alloc));
+    play(rt, Hand::<L>::open(alloc, 1).expect(rt, "no memory"), jobs)
+}
+
 // The first job is accepted, the second finds the line full, and the third finds it closed.
-fn close_against_submit_over<R: Wait + Abort, L: JobLine>(rt: &R, alloc: Global) {
-    let jobs = (
-        job(alloc, 2, 0, SUM, &[1, 2]).expect(rt, "no memory"),
-        job(alloc, 2, 0, SUM, &[1, 2]).expect(rt, "no memory"),
-        job(alloc, 2, 0, SUM, &[1, 2]).expect(rt, "no memory"),
-    );
-    let script = play(rt, Hand::<L>::open(alloc, 1).expect(rt, "no memory"), jobs);
+fn expect_closed<R: Abort>(rt: &R, script: &Script) {
     let id = JobId { lane: 0, seq: 0 };
-    assert_eq!(rt; script.outcomes[0], Ok(Receipt { id, number: 0 }));
-    assert_eq!(rt; script.outcomes[1], Err(Refused::Full));
-    assert_eq!(rt; script.close_number, 2);
-    assert_eq!(rt; script.outcomes[2], Err(Refused::Closed { seen: 2 }));
+    assert!(rt; script.outcomes[0] == Ok(Receipt { id, number: 0 }));
+    assert!(rt; script.outcomes[1] == Err(Refused::Full));
+    assert!(rt; script.close_number == 2);
+    assert!(rt; script.outcomes[2] == Err(Refused::Closed { seen: 2 }));
     assert!(rt;
         script.rest.jobs.len() == 1 && script.rest.accepted.as_slice() == [1, 0].as_slice()
     );
@@ -156,8 +168,8 @@ fn close_against_submit_over<R: Wait + Abort, L: JobLine>(rt: &R, alloc: Global)
 
 #[test]
 fn close_against_submit(rt: HostRuntime) {
-    close_against_submit_over::<_, LockedLine>(&rt, rt.alloc());
-    close_against_submit_over::<_, RuledLine>(&rt, rt.alloc());
+    expect_closed(&rt, &script_over::<_, LockedLine>(&rt, rt.alloc()));
+    expect_closed(&rt, &script_over::<_, RuledLine>(&rt, rt.alloc()));
 }
 
 // Whether all of lane 0's first jobs are accepted, each under the next id and the next number.
@@ -180,7 +192,7 @@ fn accepts_all<R: Wait, L: JobLine>(
             id: JobId { lane: 0, seq },
             number: seq,
         };
-        if hand_in(rt, line, lane, job) != Ok(receipt) {
+        if outcome(hand_in(rt, line, lane, job)) != Ok(receipt) {
             return false;
         }
     }
@@ -241,6 +253,13 @@ fn at(lane: u32, seq: u64) -> JobId {
     JobId { lane, seq }
 }
 
+// So many jobs of a lane.
+fn jobs_of<R: Abort>(rt: &R, alloc: Global, lane: u32, count: u32) -> VecDeque<Job>
+    requires { lane < MAX_LANES }
+{
+    jobs(alloc, 2, lane, Plan::Same(count)).expect(rt, "no memory")
+}
+
 // So many of lane 0's jobs are handed in and the first is taken if that is asked: whether these are left.
 fn leaves<R: Wait + Abort, L: JobLine>(
     rt: &R,
@@ -249,9 +268,8 @@ fn leaves<R: Wait + Abort, L: JobLine>(
     takes: bool,
     left: &[JobId],
 ) -> bool {
-    let jobs = jobs(alloc, 2, 0, Plan::Same(count)).expect(rt, "no memory");
     let hand = Hand::<L>::open(alloc, 4).expect(rt, "no memory");
-    let filled = fill(rt, hand, jobs, takes);
+    let filled = fill(rt, hand, jobs_of(rt, alloc, 0, count), takes);
     let first = takes.then_some(at(0, 0));
     filled.accepts_all && filled.taken == first && have_ids(&filled.rest.jobs, left)
 }
@@ -283,7 +301,7 @@ fn hand_in_next<R: Wait, L: JobLine>(
     let Some(job) = jobs.pop_front() else {
         return false;
     };
-    matches!(hand_in(rt, line, lane, job), Ok(_))
+    outcome(hand_in(rt, line, lane, job)).is_ok()
 }
 
 // What is left once lane 1 and lane 0 have handed in a job each, both were taken, and lane 1, lane 0
@@ -314,22 +332,26 @@ fn hand_in_by_turns<R: Wait, L: JobLine>(
     (accepted, taken, end(rt, line, lanes, passes, note))
 }
 
+// What is left of a line with room for four jobs.
+fn turns_over<R: Wait + Abort, L: JobLine>(
+    rt: &R,
+    alloc: Global,
+) -> (bool, [Option<JobId>; 2], Rest) {
+    let jobs = (jobs_of(rt, alloc, 0, 2), jobs_of(rt, alloc, 1, 3));
+    hand_in_by_turns(rt, Hand::<L>::open(alloc, 4).expect(rt, "no memory"), jobs)
+}
+
 // The jobs of two lanes come out, and are left, in the order in which they came in.
-fn rest_stands_in_order_over<R: Wait + Abort, L: JobLine>(rt: &R, alloc: Global) {
-    let jobs = (
-        jobs(alloc, 2, 0, Plan::Same(2)).expect(rt, "no memory"),
-        jobs(alloc, 2, 1, Plan::Same(3)).expect(rt, "no memory"),
-    );
-    let hand = Hand::<L>::open(alloc, 4).expect(rt, "no memory");
-    let (accepted, taken, rest) = hand_in_by_turns(rt, hand, jobs);
+fn expect_order<R: Abort>(rt: &R, turns: (bool, [Option<JobId>; 2], Rest)) {
+    let (accepted, taken, rest) = turns;
     assert!(rt; accepted && taken[0] == Some(at(1, 0)) && taken[1] == Some(at(0, 0)));
     assert!(rt; have_ids(&rest.jobs, &[at(1, 1), at(0, 1), at(1, 2)]));
 }
 
 #[test]
 fn rest_stands_in_order(rt: HostRuntime) {
-    rest_stands_in_order_over::<_, LockedLine>(&rt, rt.alloc());
-    rest_stands_in_order_over::<_, RuledLine>(&rt, rt.alloc());
+    expect_order(&rt, turns_over::<_, LockedLine>(&rt, rt.alloc()));
+    expect_order(&rt, turns_over::<_, RuledLine>(&rt, rt.alloc()));
 }
 
 // Whether the jobs of each lane stand in the order of their seqs, none of them seen before. Marks

@@ -3,8 +3,8 @@ ghost use Rattle.std.specs.Prelude.{◌≡◌, ◌<◌, ◌≤◌, map};
 ghost use Rattle.std.specs.List.{All};
 ghost use Rattle.job_queue.specs.Record.{fresh_lanes, fresh_passes};
 
-use crate::tests::line::{JOBS, are_new_and_rise};
-use crate::tests::over::{BOTH, Over};
+use crate::tests::line::{self, JOBS, are_new_and_rise};
+use crate::tests::over::Over;
 use cube_shape::{MAX_CAPACITY, MAX_LANES, MAX_PASSES};
 use job_queue::{JobLine, Opened, QueuedJob, Receipt, Refused, Rest, Sizes};
 use job_types::{Job, JobRefused};
@@ -102,6 +102,16 @@ impl Found {
     }
 }
 
+// What the threads of a run share.
+#[derive(Drop)]
+struct Crowd {
+    // The jobs of each lane, at its number.
+    jobs: Vec<Mutex<VecDeque<Job>>>,
+    // What each pass took. The last pass has no list.
+    taken: Vec<Mutex<Vec<QueuedJob>>>,
+    found: Found,
+}
+
 // The jobs of so many lanes, so many of each, at the lane's number.
 fn jobs_of_all(
     alloc: Global,
@@ -120,7 +130,7 @@ fn jobs_of_all(
     Ok(all)
 }
 
-// Hands in the next job, which stays the next one where the line is full: whether there was one for this lane.
+// Hands in the next job, which stays the next one where the line is full: whether there was one.
 fn hand_in_next<R: Wait, L: JobLine>(
     rt: &R,
     line: &L,
@@ -135,11 +145,8 @@ fn hand_in_next<R: Wait, L: JobLine>(
     let Some(job) = jobs.pop_front() else {
         return false;
     };
-    if job.machine() != 2 || job.lane() != L::lane_number(lane) {
-        return false;
-    }
     found.await_turn(rt, jobs.is_empty());
-    if let Some(job) = found.count(line.submit(rt, lane, job)) {
+    if let Some(job) = found.count(line::hand_in(rt, line, lane, job)) {
         jobs.push_front_reserved(job);
         yield_now();
     }
@@ -171,8 +178,7 @@ fn hand_in_all<R: Threads + Wait + Sync, L: JobLine + Sync>(
     rt: &R,
     line: &L,
     lanes: &mut [L::Lane],
-    jobs: &[Mutex<VecDeque<Job>>],
-    found: &Found,
+    crowd: &Crowd,
 )
 where
     L::Lane: Send,
@@ -190,8 +196,8 @@ where
             requires machine { (L.id line.now).sizes.machine ≡ 2 }
             ensures { L.is_lane (L.id line.entry.now) lane.exit.now }
         {
-            if let Some(jobs) = jobs.get(number) {
-                hand_in(rt, line, lane, &mut jobs.lock(rt), found);
+            if let Some(jobs) = crowd.jobs.get(number) {
+                hand_in(rt, line, lane, &mut jobs.lock(rt), &crowd.found);
             }
         },
     );
@@ -249,8 +255,7 @@ fn take_all<R: Threads + Wait + Sync, J: Naming + Send + Sync, L: JobLine + Sync
     line: &L,
     passes: &mut [L::Pass],
     door: &Mutex<Door<J, L>>,
-    taken: &[Mutex<Vec<QueuedJob>>],
-    found: &Found,
+    crowd: &Crowd,
 )
 where
     L::Pass: Send,
@@ -269,7 +274,7 @@ where
             requires named { L.id line.now ≡ J.line }
             requires pass { L.is_pass (L.id line.now) pass.now }
             ensures { L.is_pass (L.id line.entry.now) pass.exit.now }
-        { take_or_close(rt, line, pass, door, taken.get(number), found) },
+        { take_or_close(rt, line, pass, door, crowd.taken.get(number), &crowd.found) },
     );
 }
 
@@ -280,9 +285,7 @@ fn race<R: Threads + Wait + Sync, J: Naming + Send + Sync, L: JobLine + Sync>(
     lanes: &mut [L::Lane],
     passes: &mut [L::Pass],
     door: &Mutex<Door<J, L>>,
-    jobs: &[Mutex<VecDeque<Job>>],
-    taken: &[Mutex<Vec<QueuedJob>>],
-    found: &Found,
+    crowd: &Crowd,
 )
 where
     L::Lane: Send,
@@ -301,12 +304,12 @@ where
         requires lanes { All (L.is_lane (L.id line.now)) lanes.now }
         requires machine { (L.id line.now).sizes.machine ≡ 2 }
         ensures { All (L.is_lane (L.id line.entry.now)) lanes.exit.now }
-    { hand_in_all(rt, line, lanes, jobs, found) };
+    { hand_in_all(rt, line, lanes, crowd) };
     let mut taking = ||
         requires named { L.id line.now ≡ J.line }
         requires passes { All (L.is_pass (L.id line.now)) passes.now }
         ensures { All (L.is_pass (L.id line.entry.now)) passes.exit.now }
-    { take_all(rt, line, passes, door, taken, found) };
+    { take_all(rt, line, passes, door, crowd) };
     join_mut(rt, &mut taking, &mut feeding);
 }
 
@@ -321,9 +324,7 @@ struct Raced {
 fn run_crowd<R: Threads + Wait + Sync, J: Naming + Send + Sync, L: JobLine + Sync>(
     rt: &R,
     opened: Opened<L, L::Lane, L::Pass, L::Closer>,
-    jobs: &[Mutex<VecDeque<Job>>],
-    taken: &[Mutex<Vec<QueuedJob>>],
-    found: &Found,
+    crowd: &Crowd,
 ) -> Raced
 where
     L::Lane: Send,
@@ -348,16 +349,7 @@ where
         closer,
     } = opened;
     let door: Mutex<Door<J, L>> = Mutex::new(Door::new(closer));
-    race(
-        rt,
-        &line,
-        &mut lanes,
-        &mut passes,
-        &door,
-        jobs,
-        taken,
-        found,
-    );
+    race(rt, &line, &mut lanes, &mut passes, &door, crowd);
     let note = door.into_inner().into_note(rt, &line);
     let close_number = L::close_number(&note);
     Raced {
@@ -371,9 +363,7 @@ fn crowd_of<R: Threads + Wait + Abort + Sync, L: JobLine + Sync>(
     rt: &R,
     alloc: Global,
     sizes: Sizes,
-    jobs: &[Mutex<VecDeque<Job>>],
-    taken: &[Mutex<Vec<QueuedJob>>],
-    found: &Found,
+    crowd: &Crowd,
 ) -> Raced
 where
     L::Lane: Send,
@@ -386,7 +376,7 @@ where
     requires room { (0 < sizes.capacity) × (sizes.capacity ≤ MAX_CAPACITY) }
 {
     let opened = L::open(alloc, sizes).expect(rt, "no memory");
-    run_crowd::<R, Brand, L>(rt, opened, jobs, taken, found)
+    run_crowd::<R, Brand, L>(rt, opened, crowd)
 }
 
 // So many lanes and passes of a line with no lock, or of one under a lock, with this capacity. The last pass
@@ -396,9 +386,7 @@ fn crowd_over<R: Threads + Wait + Abort + Sync>(
     alloc: Global,
     over: Over,
     counts: (u32, u32, usize),
-    jobs: &[Mutex<VecDeque<Job>>],
-    taken: &[Mutex<Vec<QueuedJob>>],
-    found: &Found,
+    crowd: &Crowd,
 ) -> Raced
     requires few { (counts.0 ≤ MAX_LANES) × (counts.1 ≤ MAX_PASSES) }
     requires room { (0 < counts.2) × (counts.2 ≤ MAX_CAPACITY) }
@@ -411,8 +399,8 @@ fn crowd_over<R: Threads + Wait + Abort + Sync>(
         capacity,
     };
     match over {
-        Over::NoLock => crowd_of::<R, RuledLine>(rt, alloc, sizes, jobs, taken, found),
-        Over::Lock => crowd_of::<R, LockedLine>(rt, alloc, sizes, jobs, taken, found),
+        Over::NoLock => crowd_of::<R, RuledLine>(rt, alloc, sizes, crowd),
+        Over::Lock => crowd_of::<R, LockedLine>(rt, alloc, sizes, crowd),
     }
 }
 
@@ -439,24 +427,23 @@ fn sum(counts: &[u64]) -> u64 {
 
 // Eight lanes hand in fifty jobs each while a ninth thread closes the line, and each lane hands in its
 // last one after that.
+fn comes_late<R: Threads + Wait + Abort + Sync>(rt: &R, alloc: Global, over: Over) -> bool {
+    let crowd = Crowd {
+        jobs: jobs_of_all(alloc, 8, 50).expect(rt, "no memory"),
+        taken: Vec::new(alloc),
+        found: Found::nothing(20, true),
+    };
+    let Raced { rest, close_number } = crowd_over(rt, alloc, over, (8, 1, 400), &crowd);
+    let accepted = crowd.found.accepted.load(SeqCst);
+    are_late(&crowd.found, close_number)
+        && rest.jobs.len() as u64 == accepted
+        && sum(&rest.accepted) == accepted
+}
+
 #[test]
 fn late_entries(rt: HostRuntime) {
-    for over in BOTH {
-        let jobs = jobs_of_all(rt.alloc(), 8, 50).expect(&rt, "no memory");
-        let found = Found::nothing(20, true);
-        let Raced { rest, close_number } = crowd_over(
-            &rt,
-            rt.alloc(),
-            over,
-            (8, 1, 400),
-            &jobs,
-            &[],
-            &found,
-        );
-        let accepted = found.accepted.load(SeqCst);
-        assert!(rt; are_late(&found, close_number));
-        assert!(rt; rest.jobs.len() as u64 == accepted && sum(&rest.accepted) == accepted);
-    }
+    assert!(rt; comes_late(&rt, rt.alloc(), Over::NoLock));
+    assert!(rt; comes_late(&rt, rt.alloc(), Over::Lock));
 }
 
 // How many jobs the passes took, where the jobs of each lane came in the order of their seqs to each pass, and
@@ -476,18 +463,22 @@ fn count_in_order<R: Wait>(rt: &R, taken: &[Mutex<Vec<QueuedJob>>]) -> Option<us
 
 // Four lanes hand in a hundred jobs each through room for three, and three passes take until the line
 // has ended. It is closed after the last job.
+fn keeps_order<R: Threads + Wait + Abort + Sync>(rt: &R, alloc: Global, over: Over) -> bool {
+    let crowd = Crowd {
+        jobs: jobs_of_all(alloc, 4, JOBS as u32).expect(rt, "no memory"),
+        taken: room_of_all(alloc, 3, 4 * JOBS).expect(rt, "no memory"),
+        found: Found::nothing(4 * JOBS as u64, false),
+    };
+    let rest = crowd_over(rt, alloc, over, (4, 4, 3), &crowd).rest;
+    rest.jobs.is_empty()
+        && rest.accepted.as_slice() == [100, 100, 100, 100].as_slice()
+        && count_in_order(rt, &crowd.taken) == Some(4 * JOBS)
+}
+
 #[test]
 fn ring_order(rt: HostRuntime) {
-    for over in BOTH {
-        let jobs = jobs_of_all(rt.alloc(), 4, JOBS as u32).expect(&rt, "no memory");
-        let taken = room_of_all(rt.alloc(), 3, 4 * JOBS).expect(&rt, "no memory");
-        let found = Found::nothing(4 * JOBS as u64, false);
-        let rest = crowd_over(&rt, rt.alloc(), over, (4, 4, 3), &jobs, &taken, &found).rest;
-        assert!(rt;
-            rest.jobs.is_empty() && rest.accepted.as_slice() == [100, 100, 100, 100].as_slice()
-        );
-        assert_eq!(rt; count_in_order(&rt, &taken), Some(4 * JOBS));
-    }
+    assert!(rt; keeps_order(&rt, rt.alloc(), Over::NoLock));
+    assert!(rt; keeps_order(&rt, rt.alloc(), Over::Lock));
 }
 
 // How many jobs the passes took.
@@ -510,16 +501,18 @@ fn ends_empty<R: Threads + Wait + Abort + Sync>(
 ) -> bool
     requires { (0 < capacity) × (capacity ≤ MAX_CAPACITY) }
 {
-    let jobs = jobs_of_all(alloc, 16, 20).expect(rt, "no memory");
-    let taken = room_of_all(alloc, 8, 320).expect(rt, "no memory");
-    let found = Found::nothing(closes_after, false);
-    let rest = crowd_over(rt, alloc, over, (16, 9, capacity), &jobs, &taken, &found).rest;
-    let accepted = found.accepted.load(SeqCst);
+    let crowd = Crowd {
+        jobs: jobs_of_all(alloc, 16, 20).expect(rt, "no memory"),
+        taken: room_of_all(alloc, 8, 320).expect(rt, "no memory"),
+        found: Found::nothing(closes_after, false),
+    };
+    let rest = crowd_over(rt, alloc, over, (16, 9, capacity), &crowd).rest;
+    let accepted = crowd.found.accepted.load(SeqCst);
     rest.jobs.is_empty()
         && accepted >= closes_after
         && sum(&rest.accepted) == accepted
-        && accepted.wrapping_add(found.closed.load(SeqCst)) == 320
-        && count_taken(rt, &taken) == accepted
+        && accepted.wrapping_add(crowd.found.closed.load(SeqCst)) == 320
+        && count_taken(rt, &crowd.taken) == accepted
 }
 
 // Closes after as many jobs as a row of numbers by chance says, with room for one job and for 1,024.

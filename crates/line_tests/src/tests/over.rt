@@ -8,6 +8,3 @@ pub enum Over {
     /// The line under one lock.
     Lock,
 }
-
-/// One after the other.
-pub const BOTH: [Over; 2] = [Over::NoLock, Over::Lock];

@@ -1,15 +1,16 @@
 //! Four lanes and three passes, each on a thread of its own, share room for three pieces.
-ghost use Rattle.std.specs.Prelude.{◌≡◌, length};
+ghost use Rattle.std.specs.Prelude.{◌≡◌, MatchResult, length};
 ghost use Rattle.std.specs.List.{All};
 
-use crate::tests::ring::{Hand, Token, put, rest_of, take};
+use crate::tests::ring::{Hand, Member, Token, put, rest_of, take};
 use line_ring::{Ring, RingLane, RingPass};
 use std::alloc::{AllocError, Global};
+use std::collections::VecDeque;
+use std::process::Abort;
 use std::sync::Wait;
 use std::sync::atomic::AtomicU64;
 use std::sync::atomic::Ordering::SeqCst;
-use std::test::Fail;
-use std::thread::{Threads, for_each_mut, join_mut, yield_now};
+use std::thread::{Threads, for_each_mut, yield_now};
 
 // What the threads count.
 #[derive(Drop)]
@@ -47,6 +48,16 @@ impl Board {
             taken.fetch_add(1, SeqCst);
         }
     }
+
+    // Whether each piece was taken, and no piece twice.
+    fn is_each_taken_once(&self) -> bool {
+        for taken in &self.taken {
+            if taken.load(SeqCst) != 1 {
+                return false;
+            }
+        }
+        true
+    }
 }
 
 // Puts 100 pieces in.
@@ -83,96 +94,55 @@ fn drain<R: Wait>(rt: &R, ring: &Ring<Token>, pass: &mut RingPass<Token>, board:
     unreachable!()
 }
 
-// Feeds by all lanes at once.
-fn feed_all<R: Threads + Wait + Sync>(rt: &R, ring: &Ring<Token>, lanes: &mut [RingLane<Token>])
-    requires { All (λ lane. lane.ring ≡ ring.now.id) lanes.old }
-    ensures lanes { All (λ lane. lane.ring ≡ ring.now.id) lanes.new }
-    ensures len { length lanes.new ≡ length lanes.old }
+// What the thread of a member does.
+fn work<R: Wait>(rt: &R, ring: &Ring<Token>, member: &mut Member, board: &Board)
+    requires { MatchResult member.old (λ lane. lane.ring ≡ ring.now.id)
+        (λ pass. pass.ring ≡ ring.now.id) }
+    ensures { MatchResult member.new (λ lane. lane.ring ≡ ring.now.id)
+        (λ pass. pass.ring ≡ ring.now.id) }
+{
+    match member {
+        Ok(lane) => feed(rt, ring, lane),
+        Err(pass) => drain(rt, ring, pass, board),
+    }
+}
+
+// Feeds by all lanes and drains by all passes at once.
+fn run<R: Threads + Wait + Sync>(rt: &R, ring: &Ring<Token>, members: &mut [Member], board: &Board)
+    requires { All (λ member. MatchResult member (λ lane. lane.ring ≡ ring.now.id)
+        (λ pass. pass.ring ≡ ring.now.id)) members.old }
+    ensures members { All (λ member. MatchResult member (λ lane. lane.ring ≡ ring.now.id)
+        (λ pass. pass.ring ≡ ring.now.id)) members.new }
+    ensures len { length members.new ≡ length members.old }
 {
     for_each_mut(
         rt,
-        lanes,
-        4,
-        &|_, lane|
-            requires { lane.now.ring ≡ ring.now.id }
-            ensures { lane.exit.now.ring ≡ ring.entry.now.id }
-        { feed(rt, ring, lane) },
+        members,
+        7,
+        &|_, member|
+            requires { MatchResult member.now (λ lane. lane.ring ≡ ring.now.id)
+                (λ pass. pass.ring ≡ ring.now.id) }
+            ensures { MatchResult member.exit.now (λ lane. lane.ring ≡ ring.entry.now.id)
+                (λ pass. pass.ring ≡ ring.entry.now.id) }
+        { work(rt, ring, member, board) },
     );
 }
 
-// Drains by all passes at once.
-fn drain_all<R: Threads + Wait + Sync>(
+// What is left in a ring once four lanes have fed it and three passes have drained it.
+fn crowd<R: Threads + Wait + Abort + Sync>(
     rt: &R,
-    ring: &Ring<Token>,
-    passes: &mut [RingPass<Token>],
+    alloc: Global,
     board: &Board,
-)
-    requires { All (λ pass. pass.ring ≡ ring.now.id) passes.old }
-    ensures passes { All (λ pass. pass.ring ≡ ring.now.id) passes.new }
-    ensures len { length passes.new ≡ length passes.old }
-{
-    for_each_mut(
-        rt,
-        passes,
-        3,
-        &|_, pass|
-            requires { pass.now.ring ≡ ring.now.id }
-            ensures { pass.exit.now.ring ≡ ring.entry.now.id }
-        { drain(rt, ring, pass, board) },
-    );
-}
-
-fn run<'a, R: Threads + Wait + Sync>(
-    rt: &'a R,
-    ring: &'a Ring<Token>,
-    lanes: &'a mut [RingLane<Token>],
-    passes: &'a mut [RingPass<Token>],
-    board: &'a Board,
-)
-    requires lanes { All (λ lane. lane.ring ≡ ring.now.id) lanes.old }
-    requires passes { All (λ pass. pass.ring ≡ ring.now.id) passes.old }
-    ensures lanes { All (λ lane. lane.ring ≡ ring.now.id) lanes.new }
-    ensures passes { All (λ pass. pass.ring ≡ ring.now.id) passes.new }
-    ensures lane_count { length lanes.new ≡ length lanes.old }
-    ensures pass_count { length passes.new ≡ length passes.old }
-{
-    let mut feeding = ||
-        requires { All (λ lane. lane.ring ≡ ring.now.id) lanes.now }
-        ensures lanes { All (λ lane. lane.ring ≡ ring.entry.now.id) lanes.exit.now }
-        ensures len { length lanes.exit.now ≡ length lanes.entry.now }
-    { feed_all(rt, ring, lanes) };
-    let mut draining = ||
-        requires { All (λ pass. pass.ring ≡ ring.now.id) passes.now }
-        ensures passes { All (λ pass. pass.ring ≡ ring.entry.now.id) passes.exit.now }
-        ensures len { length passes.exit.now ≡ length passes.entry.now }
-    { drain_all(rt, ring, passes, board) };
-    join_mut(rt, &mut draining, &mut feeding);
+) -> VecDeque<Token> {
+    let mut hand = Hand::open(rt, alloc, 2, 3);
+    run(rt, &hand.ring, &mut hand.members, board);
+    rest_of(rt, hand)
 }
 
 #[test]
-fn seven_threads_share_room_for_three_pieces(rt: HostRuntime) -> Result<(), Fail> {
-    let board = empty_board(rt.alloc())?;
-    let Hand {
-        ring,
-        end,
-        mut lanes,
-        mut passes,
-    } = Hand::open(rt.alloc(), (2, 3), 4, 3)?;
-    run(
-        &rt,
-        &ring,
-        lanes.as_mut_slice(),
-        passes.as_mut_slice(),
-        &board,
-    );
-    let hand = Hand {
-        ring,
-        end,
-        lanes,
-        passes,
-    };
-    assert!(rt; rest_of(&rt, hand).is_empty());
-    assert_eq!(rt; board.late.load(SeqCst), 0);
-    assert!(rt; board.taken.iter().all(|taken| taken.load(SeqCst) == 1));
-    Ok(())
+fn seven_threads_share_room_for_three_pieces(rt: HostRuntime) {
+    let board = empty_board(rt.alloc()).expect(&rt, "no memory");
+    assert!(rt; crowd(&rt, rt.alloc(), &board).is_empty());
+    assert!(rt; board.late.load(SeqCst) == 0);
+    assert!(rt; board.is_each_taken_once());
 }

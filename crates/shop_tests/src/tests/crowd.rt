@@ -1,10 +1,11 @@
 //! Many threads on one machine: what is held at one moment is checked by a counter for each processor. One
 //! program serves a cube, the floor without a lock and the floor under one.
-ghost use Rattle.std.specs.Prelude.{◌≡◌, ℕ, ◌+◌, ◌<◌, ◌≤◌, [], All, IfOk, IsSomeAnd, MatchResult, length, vec_len, vec_capacity};
+ghost use Rattle.std.specs.Prelude.{◌≡◌, ℕ, ◌+◌, ◌<◌, ◌≤◌, [], All, IsSomeAnd, MatchResult, length};
 ghost use Rattle.cube_tree.specs.Handles.{cube_dim, IsStationOf};
 
 use crate::tests::at_rest::AtRest;
 use crate::tests::floor_calls::opened;
+use crate::tests::job_crowd::add;
 use crate::tests::over::{BOTH, Over};
 use cube_shape::{MAX_STATIONS, Region};
 use cube_tree::{Cube, FreeMachine, Subcube, TreeStation};
@@ -376,9 +377,8 @@ where
         (λ one. MatchResult one (T.is_held machine.now) (T.is_station machine.now))) slots.old }
     requires some { 0 < shared.now.play.sizes }
     requires sizes { shared.now.play.sizes ≤ T.dim machine.now + 1 }
-    ensures all { All (λ slot. IsSomeAnd slot
+    ensures { All (λ slot. IsSomeAnd slot
         (λ one. MatchResult one (T.is_held machine.now) (T.is_station machine.now))) slots.new }
-    ensures len { length slots.new ≡ length slots.old }
 {
     let count = slots.len().max(1);
     thread::for_each_mut(
@@ -395,23 +395,37 @@ where
     );
 }
 
+// A list with one more slot, which has a station.
+fn seat<T: Regions>(
+    rt: &impl Abort,
+    machine: &T,
+    slots: &mut Vec<Option<Result<T::Held, T::Station>>>,
+    station: T::Station,
+)
+    requires slots { All (λ slot. IsSomeAnd slot (λ one.
+        MatchResult one (T.is_held machine.now) (T.is_station machine.now))) slots.old.items }
+    requires station { T.is_station machine.now station }
+    ensures { All (λ slot. IsSomeAnd slot (λ one.
+        MatchResult one (T.is_held machine.now) (T.is_station machine.now))) slots.new.items }
+{
+    add(rt, slots, Some(Err(station)));
+}
+
 // Each station of the list gets a slot.
 fn seat_all<T: Regions>(
+    rt: &impl Abort,
     machine: &T,
     list: &mut Vec<T::Station>,
     slots: &mut Vec<Option<Result<T::Held, T::Station>>>,
 )
     requires stations { All (T.is_station machine.now) list.old.items }
     requires empty { slots.old.items ≡ [] }
-    requires room { length list.old.items ≤ vec_capacity slots.old }
     ensures none { list.new.items ≡ [] }
-    ensures room { vec_capacity list.new ≡ vec_capacity list.old }
     ensures seated { All (λ slot. IsSomeAnd slot (λ one.
         MatchResult one (T.is_held machine.now) (T.is_station machine.now))) slots.new.items }
-    ensures len { length slots.new.items ≡ length list.old.items }
 {
     while let Some(station) = list.pop() {
-        slots.push_reserved(Some(Err(station)));
+        seat(rt, machine, slots, station);
     }
 }
 
@@ -446,8 +460,22 @@ fn part<R: Wait, T: Regions>(
     }
 }
 
+// A list with one more station.
+fn add_station<T: Regions>(
+    rt: &impl Abort,
+    machine: &T,
+    list: &mut Vec<T::Station>,
+    station: T::Station,
+)
+    requires list { All (T.is_station machine.now) list.old.items }
+    requires station { T.is_station machine.now station }
+    ensures { All (T.is_station machine.now) list.new.items }
+{
+    add(rt, list, station);
+}
+
 // All come back into the list.
-fn unseat_all<R: Wait, T: Regions>(
+fn unseat_all<R: Abort + Wait, T: Regions>(
     rt: &R,
     machine: &T,
     slots: &mut Vec<Option<Result<T::Held, T::Station>>>,
@@ -456,20 +484,17 @@ fn unseat_all<R: Wait, T: Regions>(
     requires seated { All (λ slot. IsSomeAnd slot (λ one.
         MatchResult one (T.is_held machine.now) (T.is_station machine.now))) slots.old.items }
     requires empty { list.old.items ≡ [] }
-    requires room { length slots.old.items ≤ vec_capacity list.old }
     ensures none { slots.new.items ≡ [] }
     ensures stations { All (T.is_station machine.now) list.new.items }
-    ensures len { length list.new.items ≡ length slots.old.items }
-    ensures room { vec_capacity list.new ≡ vec_capacity list.old }
 {
     while let Some(slot) = slots.pop() {
         match slots.pop() {
             Some(other) => {
                 let (one, other) = part(rt, machine, slot.unwrap(), other.unwrap());
-                list.push_reserved(one);
-                list.push_reserved(other);
+                add_station(rt, machine, list, one);
+                add_station(rt, machine, list, other);
             }
-            None => list.push_reserved(back(rt, machine, slot.unwrap())),
+            None => add_station(rt, machine, list, back(rt, machine, slot.unwrap())),
         }
     }
 }
@@ -488,12 +513,10 @@ where
     requires stations { All (T.is_station machine.now) list.old.items }
     requires some { 0 < shared.now.play.sizes }
     requires sizes { shared.now.play.sizes ≤ T.dim machine.now + 1 }
-    ensures stations { All (T.is_station machine.now) list.new.items }
-    ensures len { length list.new.items ≡ length list.old.items }
-    ensures room { vec_capacity list.new ≡ vec_capacity list.old }
+    ensures { All (T.is_station machine.now) list.new.items }
 {
-    let mut slots = Vec::with_capacity(alloc, list.len()).expect(rt, "no memory");
-    seat_all(machine, list, &mut slots);
+    let mut slots = Vec::new(alloc);
+    seat_all(rt, machine, list, &mut slots);
     run_all(rt, machine, slots.as_mut_slice(), shared);
     unseat_all(rt, machine, &mut slots, list);
     slots.destroy_empty();
@@ -543,18 +566,17 @@ where
     let on = OnFloor { floor };
     crowd(rt, alloc, &on, &mut list, shared);
     crowd(rt, alloc, &on, &mut list, then);
+    assert!(rt; list.len() == stations as usize);
     let OnFloor { floor } = on;
     floor.close(list).is_at_rest(5)
 }
 
-// The last station of a list, which keeps its room.
+// The last station of a list.
 fn last<T: Regions>(machine: &T, list: &mut Vec<T::Station>) -> T::Station
     requires stations { All (T.is_station machine.now) list.old.items }
     requires some { 0 < length list.old.items }
     ensures station { T.is_station machine.now result }
     ensures rest { All (T.is_station machine.now) list.new.items }
-    ensures len { length list.new.items + 1 ≡ length list.old.items }
-    ensures room { length list.new.items + 1 ≤ vec_capacity list.new }
 {
     list.pop().unwrap()
 }
@@ -579,7 +601,8 @@ where
     let holder = last(&on, &mut list);
     let half = on.floor.take(rt, holder, 4);
     crowd(rt, alloc, &on, &mut list, shared);
-    list.push_reserved(on.floor.release(rt, half));
+    add_station(rt, &on, &mut list, on.floor.release(rt, half));
+    assert!(rt; list.len() == stations as usize);
     let OnFloor { floor } = on;
     floor.close(list).is_at_rest(5)
 }

@@ -1,6 +1,7 @@
 //! Calls of both floors by the contract of every floor, on one thread.
-ghost use Rattle.std.specs.Prelude.{◌≡◌, ◌<◌, ◌≤◌, length};
+ghost use Rattle.std.specs.Prelude.{◌≡◌, ◌<◌, ◌≤◌, [], length};
 ghost use Rattle.std.specs.List.{All};
+ghost use Rattle.std.specs.Vec.{vec_capacity};
 
 use crate::tests::at_rest::AtRest;
 use cube_shape::{MAX_DIM, MAX_STATIONS, Region};
@@ -31,6 +32,52 @@ pub fn opened<F: Floor>(
     F::open(alloc, n, stations).expect(rt, "no memory")
 }
 
+// Both stations are given two processors each.
+fn take_pairs<R: Wait, F: Floor>(
+    rt: &R,
+    floor: &F,
+    first: F::Station,
+    second: F::Station,
+) -> (F::Held, F::Held)
+    requires dim { 1 ≤ (F.id floor.now).dim }
+    requires first { F.is_station (F.id floor.now) first }
+    requires second { F.is_station (F.id floor.now) second }
+    ensures { F.is_held (F.id floor.now) result.0 × F.is_held (F.id floor.now) result.1 }
+{
+    let first = floor.take(rt, first, 1);
+    let second = floor.take(rt, second, 1);
+    floor.apart(first, second)
+}
+
+// Gives back what is held, and takes one processor in its place: its region, and the station.
+fn take_one_anew<R: Wait, F: Floor>(rt: &R, floor: &F, held: F::Held) -> (Region, F::Station)
+    requires { F.is_held (F.id floor.now) held }
+    ensures { F.is_station (F.id floor.now) result.1 }
+{
+    let held = floor.take(rt, floor.release(rt, held), 0);
+    (F::region(&held), floor.release(rt, held))
+}
+
+// The end of a floor of two stations, which come back in this order.
+fn close_pair<F: Floor>(
+    floor: F,
+    first: F::Station,
+    second: F::Station,
+    room: Vec<F::Station>,
+) -> F::Machine
+    requires two { (F.id floor).stations ≡ 2 }
+    requires first { F.is_station (F.id floor) first }
+    requires second { F.is_station (F.id floor) second }
+    requires room { (room.items ≡ []) × (2 ≤ vec_capacity room) }
+{
+    let stations = both(Pair {
+        first,
+        second,
+        room,
+    });
+    floor.close(stations)
+}
+
 // Three takes and as many releases by two stations, and the end of the floor, to which the stations
 // come back in their order or turned round: the regions that were given, and the machine.
 fn play<R: Wait, F: Floor>(
@@ -49,26 +96,16 @@ fn play<R: Wait, F: Floor>(
         second,
         room,
     } = Pair::of(stations);
-    let first = floor.take(rt, first, 1);
-    let second = floor.take(rt, second, 1);
-    let (first, second) = floor.apart(first, second);
+    let (first, second) = take_pairs(rt, &floor, first, second);
     let given = (F::region(&first), F::region(&second));
-    let first = floor.release(rt, first);
-    let first = floor.take(rt, first, 0);
-    let last = F::region(&first);
-    let first = floor.release(rt, first);
+    let (last, first) = take_one_anew(rt, &floor, first);
     let second = floor.release(rt, second);
-    let (first, second) = if turned {
-        (second, first)
+    let machine = if turned {
+        close_pair(floor, second, first, room)
     } else {
-        (first, second)
+        close_pair(floor, first, second, room)
     };
-    let stations = both(Pair {
-        first,
-        second,
-        room,
-    });
-    ([given.0, given.1, last], floor.close(stations))
+    ([given.0, given.1, last], machine)
 }
 
 // The regions of `play`.
@@ -97,20 +134,47 @@ fn each_call_once(rt: HostRuntime) {
     each_call_once_over::<_, LockedFloor>(&rt, rt.alloc());
 }
 
+// A floor of one station, which holds the whole machine, and the list without it.
+fn held_whole<R: Abort + Wait, F: Floor>(
+    rt: &R,
+    alloc: Global,
+    n: u32,
+) -> (F, F::Held, Vec<F::Station>)
+    requires { n ≤ MAX_DIM }
+    ensures one { (F.id result.0).stations ≡ 1 }
+    ensures held { F.is_held (F.id result.0) result.1 }
+    ensures room { (result.2.items ≡ []) × (1 ≤ vec_capacity result.2) }
+{
+    let (floor, mut stations) = opened::<F>(rt, alloc, n, 1);
+    let held = floor.take(rt, only(&mut stations), n);
+    (floor, held, stations)
+}
+
+// The end of such a floor.
+fn close_whole<R: Wait, F: Floor>(
+    rt: &R,
+    floor: F,
+    held: F::Held,
+    stations: Vec<F::Station>,
+) -> F::Machine
+    requires one { (F.id floor).stations ≡ 1 }
+    requires held { F.is_held (F.id floor) held }
+    requires room { (stations.items ≡ []) × (1 ≤ vec_capacity stations) }
+{
+    let stations = sole(stations, floor.release(rt, held));
+    floor.close(stations)
+}
+
 // Two floors of one station each, which holds the whole machine at the same moment.
 fn two_floors_share_nothing_over<R: Abort + Wait, F: Floor>(rt: &R, alloc: Global)
 where
     F::Machine: Drop + AtRest,
 {
-    let (floor, mut stations) = opened::<F>(rt, alloc, 3, 1);
-    let (other, mut others) = opened::<F>(rt, alloc, 3, 1);
-    let held = floor.take(rt, only(&mut stations), 3);
-    let also_held = other.take(rt, only(&mut others), 3);
+    let (floor, held, stations) = held_whole::<R, F>(rt, alloc, 3);
+    let (other, also_held, others) = held_whole::<R, F>(rt, alloc, 3);
     let regions = [F::region(&held), F::region(&also_held)];
-    let stations = sole(stations, floor.release(rt, held));
-    let others = sole(others, other.release(rt, also_held));
-    let machine = floor.close(stations);
-    let other = other.close(others);
+    let machine = close_whole(rt, floor, held, stations);
+    let other = close_whole(rt, other, also_held, others);
     assert_eq!(rt; regions, [Region { base: 0, dim: 3 }; 2]);
     assert!(rt; machine.is_at_rest(3) && other.is_at_rest(3));
 }

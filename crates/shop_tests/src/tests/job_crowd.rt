@@ -299,7 +299,7 @@ where
 }
 
 // A list with one more, where there is memory for it.
-fn add<T>(rt: &impl Abort, list: &mut Vec<T>, one: T)
+pub fn add<T>(rt: &impl Abort, list: &mut Vec<T>, one: T)
     ensures { list.new.items ≡ list.old.items ++ one ∷ [] }
 {
     match list.push(one) {

@@ -94,7 +94,7 @@ fn close_against_submit_over<R: Wait + Abort, L: JobLine, F: Floor>(rt: &R, allo
 where
     F::Machine: Drop + AtRest,
 {
-    let mut stage = Stage::<L, F>::open(alloc, 1).expect(rt, "no memory");
+    let mut stage = Stage::<L, F>::open(rt, alloc, 1);
     let first = stage.submit(rt, alloc, &[1, 2]);
     let second = stage.submit(rt, alloc, &[3, 4]);
     let close_number = stage.close(rt);
@@ -176,7 +176,7 @@ fn feed_stops_at_the_close_over<R: Wait + Abort, L: JobLine, F: Floor>(rt: &R, a
 where
     F::Machine: Drop + AtRest,
 {
-    let mut stage = Stage::<L, F>::open(alloc, 4).expect(rt, "no memory");
+    let mut stage = Stage::<L, F>::open(rt, alloc, 4);
     let fed = stage.feed(rt, alloc, &THREE_JOBS, None);
     stage.close(rt);
     let late = stage.feed(rt, alloc, &THREE_JOBS, None);
@@ -204,7 +204,7 @@ fn rest_is_answered_by_the_runner_lent_over<R: Wait + Abort, L: JobLine, F: Floo
 where
     F::Machine: Drop,
 {
-    let mut stage = Stage::<L, F>::open(alloc, 4).expect(rt, "no memory");
+    let mut stage = Stage::<L, F>::open(rt, alloc, 4);
     stage.feed(rt, alloc, &THREE_JOBS, None);
     let runner = Counting::new(Plain);
     let finished = stage.finish(rt, alloc, &runner);
@@ -235,7 +235,7 @@ fn feed_stops_after_its_turns_over<R: Wait + Abort, L: JobLine, F: Floor>(rt: &R
 where
     F::Machine: Drop,
 {
-    let mut stage = Stage::<L, F>::open(alloc, 1).expect(rt, "no memory");
+    let mut stage = Stage::<L, F>::open(rt, alloc, 1);
     let none = stage.feed(rt, alloc, &THREE_SUMS, Some(0));
     let fed = stage.feed(rt, alloc, &THREE_SUMS, Some(5));
     let close_number = stage.close(rt);
@@ -269,7 +269,7 @@ fn stops_when_enough<R: Wait + Abort, L: JobLine, F: Floor>(
 where
     F::Machine: Drop,
 {
-    let mut stage = Stage::<L, F>::open(alloc, 4).expect(rt, "no memory");
+    let mut stage = Stage::<L, F>::open(rt, alloc, 4);
     let is_fed = is_done(&stage.feed(rt, alloc, &THREE_SUMS, None));
     let close_number = stage.close(rt);
     let (runner, last) = (Counting::new(Plain), Counting::new(Plain));

@@ -1,15 +1,16 @@
 //! A shop of one lane and one worker for a machine of four processors, and what is done to it, one call
 //! after the other.
-ghost use Rattle.std.specs.Prelude.{◌≡◌, ◌≤◌, [], None, MatchOption};
+ghost use Rattle.std.specs.Prelude.{◌≡◌, [], ◌∷◌, None, MatchOption, map};
 ghost use Rattle.std.specs.List.{All};
-ghost use Rattle.std.specs.Vec.{vec_capacity};
 ghost use Rattle.job_queue.specs.Line.{IsFor};
-ghost use Rattle.dispatcher.specs.Members.{IsCloserOf, IsEndOf, IsNoteOf, IsWorkerOf};
+ghost use Rattle.job_queue.specs.Record.{fresh_lanes, fresh_passes};
+ghost use Rattle.dispatcher.specs.Members.{IsCloserOf, IsEndOf, IsNoteOf, IsWorkerOf, worker_record};
 
+use crate::tests::job_crowd::add;
 use crate::tests::slot::fill;
 use dispatcher::{
-    CloseNote, Closer, FeedEnd, Finished, Opened, Runner, Shop, ShopRefused, Stop, Worker,
-    WorkerEnd, dispatch, dispatch_some, feed, feed_for,
+    CloseNote, Closer, FeedEnd, Finished, Opened, Runner, Shop, Stop, Worker, WorkerEnd, dispatch,
+    dispatch_some, feed, feed_for,
 };
 use floors::Floor;
 use job_queue::{JobLine, Receipt, Refused};
@@ -19,24 +20,21 @@ use std::collections::VecDeque;
 use std::marker::Model;
 use std::process::Abort;
 use std::sync::Wait;
-use test_kit::{Row, SUM, job, listed, only_lane, only_worker, sole};
+use test_kit::{Row, SUM, job, listed, only_lane, only_worker};
 
 // Such a shop. Its worker stands in one of two places, before it runs and after that, and so does the
 // right to close.
 pub struct Stage<L: JobLine, F: Floor> {
     shop: Shop<L, F>,
     lane: L::Lane,
-    lanes: Vec<L::Lane>,
     worker: Option<Worker<L, F>>,
     end: Option<WorkerEnd<L, F>>,
-    ends: Vec<WorkerEnd<L, F>>,
     closer: Option<Closer<L, F>>,
     note: Option<CloseNote<L, F>>,
 }
 
 impl<L: JobLine, F: Floor> Model for Stage<L, F> {
-    ghost use Rattle.std.specs.Prelude.{◌≡◌, ◌≤◌, [], None, MatchOption};
-    ghost use Rattle.std.specs.Vec.{vec_capacity};
+    ghost use Rattle.std.specs.Prelude.{◌≡◌, None, MatchOption};
     ghost use Rattle.dispatcher.specs.Shop.{ShopId};
     ghost use Rattle.dispatcher.specs.Members.{IsCloserOf, IsEndOf, IsNoteOf, IsWorkerOf};
 
@@ -50,29 +48,31 @@ impl<L: JobLine, F: Floor> Model for Stage<L, F> {
         × MatchOption s.worker (MatchOption s.end ⊥ (IsEndOf s.shop))
         (λ w. IsWorkerOf s.shop w × (s.end ≡ None))
         × MatchOption s.closer (MatchOption s.note ⊥ (IsNoteOf L.JobLine s.shop))
-        (λ c. IsCloserOf L.JobLine s.shop c × (s.note ≡ None))
-        × (s.lanes.items ≡ []) × (1 ≤ vec_capacity s.lanes)
-        × (s.ends.items ≡ []) × (1 ≤ vec_capacity s.ends) };
+        (λ c. IsCloserOf L.JobLine s.shop c × (s.note ≡ None)) };
 }
 
 // A job that was given back, and why.
 pub type Back = (Job, Refused);
 
 impl<L: JobLine, F: Floor> Stage<L, F> {
-    pub fn open(alloc: Global, capacity: usize) -> Result<Self, ShopRefused>
+    pub fn open(rt: &impl Abort, alloc: Global, capacity: usize) -> Self
     where
         F::Machine: Drop,
     {
-        let Ok(ends) = Vec::with_capacity(alloc, 1) else {
-            return Err(ShopRefused::OutOfMemory);
-        };
-        let opened = match Shop::open(alloc, 2, 1, 1, capacity) {
-            Ok(opened) => opened,
-            Err(refused) => {
-                ends.destroy_empty();
-                return Err(refused);
-            }
-        };
+        Stage::of(Shop::open(alloc, 2, 1, 1, capacity).expect(rt, "no memory"))
+    }
+
+    // The stage of such a shop.
+    fn of(opened: Opened<L, F>) -> Self
+        requires machine { opened.shop.line.sizes.machine ≡ 2 }
+        requires one_lane { opened.shop.line.sizes.lanes ≡ 1 }
+        requires one_worker { opened.shop.line.sizes.passes ≡ 1 }
+        requires lanes { All (L.is_lane opened.shop.line) opened.lanes.items }
+        requires fresh_lanes { map L.lane_record opened.lanes.items ≡ fresh_lanes 1 }
+        requires workers { All (IsWorkerOf opened.shop) opened.workers.items }
+        requires fresh_passes { map worker_record opened.workers.items ≡ fresh_passes 1 }
+        requires closer { IsCloserOf L.JobLine opened.shop opened.closer }
+    {
         let Opened {
             shop,
             mut lanes,
@@ -81,17 +81,16 @@ impl<L: JobLine, F: Floor> Stage<L, F> {
         } = opened;
         let lane = only_lane(&shop, &mut lanes);
         let worker = only_worker(&shop, &mut workers);
+        lanes.destroy_empty();
         workers.destroy_empty();
-        Ok(Stage {
+        Stage {
             shop,
             lane,
-            lanes,
             worker: Some(worker),
             end: None,
-            ends,
             closer: Some(closer),
             note: None,
-        })
+        }
     }
 
     // Hands in a sum of these numbers.
@@ -148,7 +147,7 @@ impl<L: JobLine, F: Floor> Stage<L, F> {
     }
 
     // Ends the shop, which is closed now at the latest. A worker that has not run stands down.
-    pub fn finish<R: Wait, T: Runner>(
+    pub fn finish<R: Wait + Abort, T: Runner>(
         self,
         rt: &R,
         alloc: Global,
@@ -157,40 +156,44 @@ impl<L: JobLine, F: Floor> Stage<L, F> {
         let Stage {
             shop,
             lane,
-            lanes,
             worker,
             end,
-            ends,
             closer,
             note,
         } = self;
         let note = note_of(rt, &shop, closer, note);
         let end = end_of(alloc, &shop, worker, end);
-        finish_one(rt, runner, shop, (lane, lanes), (end, ends), note)
+        finish_one(rt, alloc, runner, shop, lane, end, note)
     }
 }
 
-// Finishes a shop, given its lane and its worker with the emptied lists of each.
-fn finish_one<R: Wait, L: JobLine, F: Floor, T: Runner>(
+// The list of one member.
+fn list_of<T>(rt: &impl Abort, alloc: Global, member: T) -> Vec<T>
+    ensures { result.items ≡ member ∷ [] }
+{
+    let mut list = Vec::new(alloc);
+    add(rt, &mut list, member);
+    list
+}
+
+// Finishes a shop, given its lane and its worker.
+fn finish_one<R: Wait + Abort, L: JobLine, F: Floor, T: Runner>(
     rt: &R,
+    alloc: Global,
     runner: &T,
     shop: Shop<L, F>,
-    lane: (L::Lane, Vec<L::Lane>),
-    end: (WorkerEnd<L, F>, Vec<WorkerEnd<L, F>>),
+    lane: L::Lane,
+    end: WorkerEnd<L, F>,
     note: CloseNote<L, F>,
 ) -> Finished<F::Machine>
-    requires lane { L.is_lane shop.line lane.0 }
+    requires lane { L.is_lane shop.line lane }
     requires one_lane { shop.line.sizes.lanes ≡ 1 }
-    requires lane_room { (lane.1.items ≡ []) × (1 ≤ vec_capacity lane.1) }
-    requires worker { IsEndOf shop end.0 }
+    requires worker { IsEndOf shop end }
     requires one_worker { shop.line.sizes.passes ≡ 1 }
-    requires end_room { (end.1.items ≡ []) × (1 ≤ vec_capacity end.1) }
     requires note { IsNoteOf L.JobLine shop note }
 {
-    let (lane, lanes) = lane;
-    let (end, ends) = end;
-    let lanes = sole(lanes, lane);
-    let ends = sole(ends, end);
+    let lanes = list_of(rt, alloc, lane);
+    let ends = list_of(rt, alloc, end);
     shop.finish(rt, runner, lanes, ends, note)
 }
 

@@ -1,4 +1,4 @@
-use Rattle.std.proofs.Common.{◌≡◌, ◌+◌, ◌≤◌, length, vec_len, vec_capacity}
+use Rattle.std.proofs.Common.{vec_len}
 use Rattle.std.specs.Prelude.{All, IsSomeAnd, MatchResult}
 use Rattle.shop_tests.proofs.tests.crowd.seat_all.Given as goal
 
@@ -9,7 +9,4 @@ abbrev pub invariant-loop-station : goal.invariant-loop-station
 invariant-loop-station g l = let machine = g.T.Regions in record {
   left : All (machine.is_station l.machine) l.list.items;
   seated : All (λ slot. IsSomeAnd slot (λ one. MatchResult one (machine.is_held l.machine) (machine.is_station l.machine))) l.slots.items;
-  count : length l.list.items + length l.slots.items ≡ length l.fn.list.items;
-  room : vec_len l.list + vec_len l.slots ≤ vec_capacity l.slots;
-  kept : vec_capacity l.list ≡ vec_capacity l.fn.list;
 }

@@ -1,4 +1,4 @@
-use Rattle.std.proofs.Common.{◌≡◌, ◌+◌, ◌≤◌, length, vec_len, vec_capacity}
+use Rattle.std.proofs.Common.{vec_len}
 use Rattle.std.specs.Prelude.{All, IsSomeAnd, MatchResult}
 use Rattle.shop_tests.proofs.tests.crowd.unseat_all.Given as goal
 
@@ -9,7 +9,4 @@ abbrev pub invariant-loop-slot : goal.invariant-loop-slot
 invariant-loop-slot g l = let machine = g.T.Regions in record {
   seated : All (λ slot. IsSomeAnd slot (λ one. MatchResult one (machine.is_held l.machine) (machine.is_station l.machine))) l.slots.items;
   stations : All (machine.is_station l.machine) l.list.items;
-  count : length l.slots.items + length l.list.items ≡ length l.fn.slots.items;
-  room : vec_len l.slots + vec_len l.list ≤ vec_capacity l.list;
-  kept : vec_capacity l.list ≡ vec_capacity l.fn.list;
 }
