@@ -3,6 +3,7 @@ ghost use Rattle.std.specs.Prelude.{◌≡◌, ◌≢◌, ℕ, ◌<◌, ◌≤�
 ghost use Rattle.std.specs.Vec.{vec_capacity};
 ghost use Rattle.dispatcher.specs.Members.{IsWorkerOf, IsEndOf, worker_record, stop_of, replies_of, end_record};
 ghost use Rattle.dispatcher.specs.Stop.{FindsTheEnd};
+ghost use Rattle.dispatcher.specs.InnerShop.{IsOneMachine, shop_of};
 
 use crate::limit::is_reached;
 use crate::runner::Runner;
@@ -39,19 +40,14 @@ fn make_room(replies: &mut Vec<Reply>, limit: Option<u32>) -> Option<Stop>
 }
 
 // Waits for the length of a pause, or until a job looks waiting.
-fn wait_for_job<R: Wait, L: JobLine, F: Floor>(
-    rt: &R,
-    shop: &Shop<L, F>,
-    pass: &mut L::Pass,
-    pause: &mut Pause,
-)
-    requires { L.is_pass shop.now.line pass.old }
-    ensures pass { L.is_pass shop.now.line pass.new }
+fn wait_for_job<R: Wait, L: JobLine>(rt: &R, line: &L, pass: &mut L::Pass, pause: &mut Pause)
+    requires { L.is_pass (L.id line.now) pass.old }
+    ensures pass { L.is_pass (L.id line.now) pass.new }
     ensures unchanged { L.pass_record pass.new ≡ L.pass_record pass.old }
 {
     for _ in 0..pause.next_burst(rt) {
         yield_now();
-        if shop.line.job_hint(rt, pass) {
+        if line.job_hint(rt, pass) {
             return;
         }
     }
@@ -61,15 +57,17 @@ fn wait_for_job<R: Wait, L: JobLine, F: Floor>(
 fn work<R: Wait, L: JobLine, F: Floor, T: Runner>(
     rt: &R,
     alloc: Global,
-    shop: &Shop<L, F>,
+    line: &L,
+    floor: &F,
     worker: Worker<L, F>,
     runner: &T,
     limit: Option<u32>,
 ) -> WorkerEnd<L, F>
-    requires { IsWorkerOf shop.now worker }
-    ensures of_shop { IsEndOf shop.now result }
+    requires one_machine { IsOneMachine (L.id line.now) (F.id floor.now) }
+    requires worker { IsWorkerOf (shop_of (L.id line.now) (F.id floor.now)) worker }
+    ensures of_shop { IsEndOf (shop_of (L.id line.now) (F.id floor.now)) result }
     ensures ended { stop_of result ≡ Stop.Ended → (before : L.Pass) ×
-        L.is_pass shop.now.line before × FindsTheEnd (L.pass_record before) (end_record result) }
+        L.is_pass (L.id line.now) before × FindsTheEnd (L.pass_record before) (end_record result) }
     ensures has_run { stop_of result ≢ Stop.NotRun }
     ensures enough { stop_of result ≡ Stop.Enough → limit ≡ Some (length (replies_of result)) }
     ensures fewer { (most : ℕ) → limit ≡ Some most → stop_of result ≢ Stop.Enough →
@@ -91,14 +89,14 @@ fn work<R: Wait, L: JobLine, F: Floor, T: Runner>(
                 stop,
             };
         }
-        match shop.line.take(rt, &mut pass) {
+        match line.take(rt, &mut pass) {
             Taken::Job(id, job) => {
-                let (back, reply) = serve(rt, &shop.floor, runner, station, id, job);
+                let (back, reply) = serve(rt, floor, runner, station, id, job);
                 station = back;
                 replies.push_reserved(reply);
                 pause.reset();
             }
-            Taken::EmptyNow => wait_for_job(rt, shop, &mut pass, &mut pause),
+            Taken::EmptyNow => wait_for_job(rt, line, &mut pass, &mut pause),
             Taken::Ended(_) => {
                 return WorkerEnd {
                     pass,
@@ -131,7 +129,8 @@ pub fn dispatch<R: Wait, L: JobLine, F: Floor, T: Runner>(
     ensures has_run { stop_of result ≢ Stop.NotRun }
     ensures no_limit { stop_of result ≢ Stop.Enough }
 {
-    work(rt, alloc, shop, worker, runner, None)
+    let Shop { line, floor } = shop;
+    work(rt, alloc, line, floor, worker, runner, None)
 }
 
 /// Takes jobs and answers them as `dispatch` does, and stops with `Enough` once there are `most` replies.
@@ -154,5 +153,6 @@ pub fn dispatch_some<R: Wait, L: JobLine, F: Floor, T: Runner>(
     ensures fewer { stop_of result ≢ Stop.Enough → length (replies_of result) < most }
     ensures at_once { most ≡ 0 → end_record result ≡ worker_record worker }
 {
-    work(rt, alloc, shop, worker, runner, Some(most))
+    let Shop { line, floor } = shop;
+    work(rt, alloc, line, floor, worker, runner, Some(most))
 }

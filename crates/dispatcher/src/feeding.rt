@@ -45,6 +45,20 @@ pub struct FeedEnd {
     pub stop: FeedStop,
 }
 
+// Waits for the length of a pause, or until half of the line looks free.
+fn wait_at_line<R: Wait, L: JobLine>(rt: &R, line: &L, lane: &mut L::Lane, pause: &mut Pause)
+    requires { L.is_lane (L.id line.now) lane.old }
+    ensures lane { L.is_lane (L.id line.now) lane.new }
+    ensures unchanged { L.lane_record lane.new ≡ L.lane_record lane.old }
+{
+    for _ in 0..pause.next_burst(rt) {
+        yield_now();
+        if line.room_hint(rt, lane) {
+            return;
+        }
+    }
+}
+
 /// Waits for the length of a pause, or until half of the line looks free: what a feeder does after a submit
 /// that found the line full.
 pub fn wait_for_room<R: Wait, L: JobLine, F: Floor>(
@@ -57,29 +71,24 @@ pub fn wait_for_room<R: Wait, L: JobLine, F: Floor>(
     ensures lane { L.is_lane shop.now.line lane.new }
     ensures unchanged { L.lane_record lane.new ≡ L.lane_record lane.old }
 {
-    for _ in 0..pause.next_burst(rt) {
-        yield_now();
-        if shop.line.room_hint(rt, lane) {
-            return;
-        }
-    }
+    wait_at_line(rt, &shop.line, lane, pause);
 }
 
 // Hands in the jobs, until one is refused for good or the line was full as often as the limit says.
-fn hand_in<R: Wait, L: JobLine, F: Floor>(
+fn hand_in<R: Wait, L: JobLine>(
     rt: &R,
-    shop: &Shop<L, F>,
+    line: &L,
     lane: &mut L::Lane,
     jobs: VecDeque<Job>,
     limit: Option<u32>,
 ) -> FeedEnd
-    requires lane { L.is_lane shop.now.line lane.old }
-    requires jobs { All (IsFor shop.now.line.sizes.machine (L.lane_record lane.old).number)
+    requires lane { L.is_lane (L.id line.now) lane.old }
+    requires jobs { All (IsFor (L.id line.now).sizes.machine (L.lane_record lane.old).number)
         jobs.items }
     requires limit { limit ≢ Some 0 }
-    ensures lane { L.is_lane shop.now.line lane.new }
+    ensures lane { L.is_lane (L.id line.now) lane.new }
     ensures number { (L.lane_record lane.new).number ≡ (L.lane_record lane.old).number }
-    ensures jobs { All (IsFor shop.now.line.sizes.machine (L.lane_record lane.new).number)
+    ensures jobs { All (IsFor (L.id line.now).sizes.machine (L.lane_record lane.new).number)
         (given_back result.back ++ result.left.items) }
     ensures entries { HandsIn jobs.items (given_back result.back ++ result.left.items)
         result.stop (L.lane_record lane.old) (L.lane_record lane.new) }
@@ -105,7 +114,7 @@ fn hand_in<R: Wait, L: JobLine, F: Floor>(
                 stop: FeedStop::Done,
             };
         };
-        let Err((job, refused)) = shop.line.submit(rt, lane, job) else {
+        let Err((job, refused)) = line.submit(rt, lane, job) else {
             pause.reset();
             continue;
         };
@@ -116,7 +125,7 @@ fn hand_in<R: Wait, L: JobLine, F: Floor>(
                     FeedStop::Turns
                 } else {
                     left.push_front_reserved(job);
-                    wait_for_room(rt, shop, lane, &mut pause);
+                    wait_at_line(rt, line, lane, &mut pause);
                     continue;
                 }
             }
@@ -162,7 +171,7 @@ pub fn feed<R: Wait, L: JobLine, F: Floor>(
         MAX_ENTRIES ≤ length (L.lane_record lane.new).entries }
     ensures no_limit { result.stop ≢ FeedStop.Turns }
 {
-    hand_in(rt, shop, lane, jobs, None)
+    hand_in(rt, &shop.line, lane, jobs, None)
 }
 
 /// Hands in the jobs by one lane as `feed` does, and stops with `Turns` once the line was full at `turns` tries
@@ -210,5 +219,5 @@ pub fn feed_for<R: Wait, L: JobLine, F: Floor>(
             stop: FeedStop::Turns,
         };
     }
-    hand_in(rt, shop, lane, jobs, Some(turns))
+    hand_in(rt, &shop.line, lane, jobs, Some(turns))
 }

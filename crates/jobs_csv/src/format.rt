@@ -1,8 +1,9 @@
 // Reading a file of any format: the loop over its records, and its first fault.
-ghost use Rattle.std.specs.Prelude.{◌≡◌, ◌∷◌, [], ◌++◌, ℕ, List, Result, All, IfOk, IfErr, IfSome, OnOk};
+ghost use Rattle.std.specs.Prelude.{◌≡◌, ◌∷◌, [], ◌++◌, ℕ, List, Option, Result, Ok, Err, All, IfOk, IfErr, IfSome, OnOk};
 ghost use Rattle.csv.specs.Records.{fields_of};
 ghost use Rattle.jobs_csv.specs.Fault.{IsInputFault};
 ghost use Rattle.jobs_csv.specs.Files.{Record, parse_file};
+ghost use Rattle.jobs_csv.specs.Inner.Input.{HasGiven, IsPlain};
 ghost use Rattle.jobs_csv.specs.Inner.Parse.{ReturnsParse};
 ghost use Rattle.jobs_csv.specs.Outcome.{ReturnsFile, ReturnsRows};
 ghost use Rattle.jobs_csv.specs.declared.fault.FaultKind.{FaultKind};
@@ -10,7 +11,7 @@ ghost use Rattle.jobs_csv.specs.declared.fault.FaultKind.{FaultKind};
 use crate::device::Device;
 use crate::fault::{Fault, FaultKind};
 use crate::input::{self, MAX_RECORDS};
-use csv::ByteRecord;
+use csv::{ByteRecord, Reader};
 use std::alloc::{AllocError, Global};
 use std::io::Read;
 
@@ -59,6 +60,71 @@ impl<Row: Drop> RowSink<Row> for Vec<Row> {
     }
 }
 
+// Reads the header, which stands in `record` after it.
+fn read_header<F: Format, R: Read>(
+    format: &F,
+    reader: &mut Reader<R>,
+    record: &mut ByteRecord,
+) -> Result<(), Fault>
+    requires { IsPlain reader.old }
+    ensures plain { OnOk result (IsPlain reader.new) }
+    ensures good { IfOk result (λ header. F.header_of (fields_of record.new) ≡ Ok tt
+        × ((text : Option (List ℕ)) → HasGiven R.remaining text [] reader.old
+        → HasGiven R.remaining text (fields_of record.new ∷ []) reader.new)) }
+    ensures refused { IfErr result (λ fault. (text : Option (List ℕ))
+        → HasGiven R.remaining text [] reader.old → IfSome text (λ bytes.
+        ReturnsFile (parse_file F.header_of (F.row_of format.now) bytes) (Err fault))) }
+{
+    if !input::next_record(reader, record)? {
+        let what = FaultKind::Fields;
+        return Err(Fault { row: 0, what });
+    }
+    if let Err(what) = format.header(record) {
+        return Err(Fault { row: 0, what });
+    }
+    Ok(())
+}
+
+// Reads the records after a good header and pushes their rows into `rows`, which must be empty. `record` is
+// where each of them stands in turn.
+fn read_rows<F: Format, G: RowSink<F::Row>, R: Read>(
+    alloc: Global,
+    format: &F,
+    rows: G,
+    reader: &mut Reader<R>,
+    record: &mut ByteRecord,
+) -> Result<G, Fault>
+    requires plain { IsPlain reader.old }
+    requires empty { G.contents rows [] }
+    ensures parse { (text : Option (List ℕ)) → (header : Record)
+        → HasGiven R.remaining text (header ∷ []) reader.old → F.header_of header ≡ Ok tt
+        → IfSome text (λ bytes. ReturnsRows G.contents
+        (parse_file F.header_of (F.row_of format.now) bytes) result) }
+    ensures good { IfOk result (λ gathered. (list : List F.Row)
+        × G.contents gathered list
+        × All (λ row. F.is_row format.now row) list) }
+{
+    let mut rows = rows;
+    for number in 1..MAX_RECORDS + 1 {
+        if !input::next_record(reader, record)? {
+            return Ok(rows);
+        }
+        let row = match format.row(alloc, record) {
+            Ok(row) => row,
+            Err(what) => return Err(input::fault_at(number, what)),
+        };
+        if rows.push(row).is_err() {
+            return Err(input::fault_at(number, FaultKind::OutOfMemory));
+        }
+    }
+    if input::next_record(reader, record)? {
+        let row = MAX_RECORDS + 1;
+        let what = FaultKind::TooMany;
+        return Err(Fault { row, what });
+    }
+    Ok(rows)
+}
+
 /// Reads a whole file and pushes its rows into `rows`, which must be empty.
 ///
 /// A refusal is the first fault of the file. Any other fault is `Read` or `OutOfMemory`.
@@ -75,34 +141,12 @@ pub fn read_records<F: Format, G: RowSink<F::Row>, R: Read + Drop>(
         × G.contents gathered list
         × All (λ row. F.is_row format.now row) list) }
 {
-    let mut rows = rows;
     let mut reader = input::open_reader(alloc, text);
     let mut record = ByteRecord::new(alloc);
-    if !input::next_record(&mut reader, &mut record)? {
-        let what = FaultKind::Fields;
-        return Err(Fault { row: 0, what });
+    if let Err(fault) = read_header(format, &mut reader, &mut record) {
+        return Err(fault);
     }
-    if let Err(what) = format.header(&record) {
-        return Err(Fault { row: 0, what });
-    }
-    for number in 1..MAX_RECORDS + 1 {
-        if !input::next_record(&mut reader, &mut record)? {
-            return Ok(rows);
-        }
-        let row = match format.row(alloc, &record) {
-            Ok(row) => row,
-            Err(what) => return Err(input::fault_at(number, what)),
-        };
-        if rows.push(row).is_err() {
-            return Err(input::fault_at(number, FaultKind::OutOfMemory));
-        }
-    }
-    if input::next_record(&mut reader, &mut record)? {
-        let row = MAX_RECORDS + 1;
-        let what = FaultKind::TooMany;
-        return Err(Fault { row, what });
-    }
-    Ok(rows)
+    read_rows(alloc, format, rows, &mut reader, &mut record)
 }
 
 /// Reads a whole file from a reader that is lent, and pushes its rows into `rows`, which must be

@@ -3,19 +3,19 @@ use Rattle.std.proofs.lemmas.List.{length_push}
 use Rattle.std.proofs.lemmas.List.Elements.{All-push, All-same}
 use Rattle.job_queue.specs.declared.record.PassRecord.{PassRecord}
 use Rattle.dispatcher.specs.Reply.{answered, region_of, IsRight}
-use Rattle.dispatcher.proofs.WorkLemmas.{gained, kept, at_line, at_floor, below_limit}
+use Rattle.dispatcher.proofs.WorkLemmas.{gained, kept, below_limit}
 use Rattle.dispatcher.proofs.dispatching.work.Goals as goal
 
 pub loop-preserved-in-Job : goal.loop-preserved-in-Job
 loop-preserved-in-Job g c =
     let inv = c.loop.invariant in
-    let P = IsRight c.args.shop.now.floor.dim in
+    let P = IsRight (g.F.Floor.id c.args.floor.now).dim in
     let reserved = c.make_room.ensures.items in
     let pushed = c.push_reserved.ensures.items in
     let few : (most : ℕ) → c.args.limit ≡ Some most → length c.make_room.new.replies.items < most = below_limit c.args.limit (length c.make_room.new.replies.items) (λ most is. omega (arith, ap length reserved, inv.5 most is)) (c.make_room.ensures.fewer (search rules)) in
-    let right = All-push P c.make_room.new.replies.items c.serve-back.result.1 (All-same P _ _ reserved inv.4) (at_floor (λ i. IsRight i.dim c.serve-back.result.1) _ _ c.shop.view_is c.serve-back.ensures.right) in (
-      at_line (λ i. g.L.JobLine.is_pass i c.take.new.pass) _ _ c.shop.view_is c.in-Job.ensures.pass,
-      at_floor (λ i. g.F.Floor.is_station i c.serve-back.result.0) _ _ c.shop.view_is c.serve-back.ensures.station,
+    let right = All-push P c.make_room.new.replies.items c.serve-back.result.1 (All-same P _ _ reserved inv.4) c.serve-back.ensures.right in (
+      c.in-Job.ensures.pass,
+      c.serve-back.ensures.station,
       gained answered _ _ _ _ _ _ _ inv.2 c.in-Job.ensures.taken c.serve-back.ensures.answers reserved pushed,
       gained region_of _ _ _ _ _ _ _ inv.3 c.serve-back.ensures.granted refl reserved pushed,
       All-same P _ _ pushed right,
@@ -33,24 +33,21 @@ loop-preserved g c =
       inv.1,
       same ∙ kept answered _ _ _ _ inv.2 c.in-EmptyNow.ensures.taken reserved,
       inv.3 ∙ ap (map region_of) (sym reserved),
-      All-same (IsRight c.args.shop.now.floor.dim) _ _ reserved inv.4,
+      All-same (IsRight (g.F.Floor.id c.args.floor.now).dim) _ _ reserved inv.4,
       λ most is. omega (arith, few most is),
       λ zero. absurd (omega (arith, few 0 zero)),
     )
-
-pub wait_for_job-requires : goal.wait_for_job-requires
-wait_for_job-requires g c = at_line (λ i. g.L.JobLine.is_pass i c.take.new.pass) _ _ c.shop.view_is c.in-EmptyNow.ensures.pass
 
 pub returns-in-Ended-clause-of_shop : goal.returns-in-Ended-clause-of_shop
 returns-in-Ended-clause-of_shop g c =
     let inv = c.loop.invariant in
     record {
-      pass = at_line (λ i. g.L.JobLine.is_pass i c.take.new.pass) _ _ c.shop.view_is c.in-Ended.ensures.pass;
+      pass = c.in-Ended.ensures.pass;
       station = inv.1;
-      right = All-same (IsRight c.args.shop.now.floor.dim) _ _ c.make_room.ensures.items inv.4;
+      right = All-same (IsRight (g.F.Floor.id c.args.floor.now).dim) _ _ c.make_room.ensures.items inv.4;
     }
 
 pub returns-in-Some-make_room-clause-of_shop : goal.returns-in-Some-make_room-clause-of_shop
 returns-in-Some-make_room-clause-of_shop g c =
     let inv = c.loop.invariant in
-    record { pass = inv.0; station = inv.1; right = All-same (IsRight c.args.shop.now.floor.dim) _ _ c.make_room.ensures.items inv.4 }
+    record { pass = inv.0; station = inv.1; right = All-same (IsRight (g.F.Floor.id c.args.floor.now).dim) _ _ c.make_room.ensures.items inv.4 }

@@ -5,9 +5,9 @@ use Rattle.dispatcher.proofs.dispatching.work.Given as goal
 
 abbrev pub invariant-loop : goal.invariant-loop
 invariant-loop g l = let line = g.L.JobLine in let floor = g.F.Floor in
-    line.is_pass l.fn.shop.line l.pass × floor.is_station l.fn.shop.floor l.station
+    line.is_pass (line.id l.fn.line) l.pass × floor.is_station (floor.id l.fn.floor) l.station
     × ((line.pass_record l.pass).taken ≡ map answered l.replies.items)
     × (floor.grants l.station ≡ map region_of l.replies.items)
-    × All (IsRight l.fn.shop.floor.dim) l.replies.items
+    × All (IsRight (floor.id l.fn.floor).dim) l.replies.items
     × ((most : ℕ) → l.fn.limit ≡ Some most → length l.replies.items ≤ most)
     × (l.fn.limit ≡ Some 0 → line.pass_record l.pass ≡ line.pass_record l.fn.worker.pass)

@@ -7,7 +7,6 @@ use Rattle.job_queue.specs.declared.record.LaneRecord.{LaneRecord}
 use Rattle.job_queue.specs.Line.{IsFor}
 use Rattle.job_queue.proofs.FeedLemmas.{refused_number}
 use Rattle.dispatcher.specs.Feed.{full_since}
-use Rattle.dispatcher.proofs.WorkLemmas.{at_line}
 use Rattle.dispatcher.proofs.EntryLemmas.{SoFar, one_accepted, one_full, full_same, full_more, stop_at, at_refusal, goes_on, is_last}
 use Rattle.dispatcher.proofs.feeding.hand_in.Goals.{in-Full+then-is_reached, in-Closed, in-LaneSpent}
 use Rattle.dispatcher.proofs.feeding.hand_in.Goals as goal
@@ -22,8 +21,8 @@ loop-preserved-in_default-submit g c =
     let rest = c.pop_front.new.self.items in
     let items = c.in-Some-pop_front.ensures.items in
     let gains = c.in_default-submit.ensures.accepted in (
-      at_line (λ i. line.is_lane i c.submit.new.lane) _ _ c.shop.view_is c.in_default-submit.ensures.lane,
-      All-rest (IsFor c.args.shop.now.line.sizes.machine before.number) c.in-Some-pop_front.job rest _ items inv.1,
+      c.in_default-submit.ensures.lane,
+      All-rest (IsFor (line.id c.args.line.now).sizes.machine before.number) c.in-Some-pop_front.job rest _ items inv.1,
       one_accepted c.args.jobs.items rest before now next _ _ (subst (λ (js : List JobData). SoFar c.args.jobs.items js before now) items inv.2) gains,
       λ turns is. ((inv.3 turns is).0 ∙ sym (full_same _ _ before now next _ _ inv.2 gains), (inv.3 turns is).1),
     )
@@ -39,21 +38,18 @@ loop-preserved g c =
     let full = c.in-Err in
     let gains = (rw c.in-Full.is at full.ensures.refused) in
     let more = full_more _ _ before now next gains.0 inv.2 gains.1 in
-    let same = sym c.wait_for_room.ensures.unchanged in
+    let same = sym c.wait_at_line.ensures.unchanged in
     let items : c.push_front_reserved.new.self.items ≡ c.loop.left.items = c.push_front_reserved.ensures.items ∙ (ap (λ (j : JobData). j ∷ rest) full.ensures.gives_back ∙ sym c.in-Some-pop_front.ensures.items) in (
-      c.wait_for_room.ensures.lane,
-      All-same (IsFor c.args.shop.now.line.sizes.machine before.number) _ _ items inv.1,
+      c.wait_at_line.ensures.lane,
+      All-same (IsFor (line.id c.args.line.now).sizes.machine before.number) _ _ items inv.1,
       subst (λ (r : LaneRecord). SoFar c.args.jobs.items c.push_front_reserved.new.self.items before r) same (subst (λ (js : List JobData). SoFar c.args.jobs.items js before next) (sym items) (one_full _ _ before now next gains.0 inv.2 gains.1)),
       λ turns is. subst (λ (r : LaneRecord). (c.saturating_add-full.result ≡ full_since before r) × (c.saturating_add-full.result < turns)) same (goes_on c.args.limit c.loop.full _ _ _ turns c.is_reached.ensures.word c.saturating_add-full.ensures more (λ last. true≢false (sym (c.is_reached.ensures.reached.1 last) ∙ c.if-is_reached.false)) is (inv.3 turns is)),
     )
 
-pub wait_for_room-requires : goal.wait_for_room-requires
-wait_for_room-requires g c = at_line (λ i. g.L.JobLine.is_lane i c.submit.new.lane) _ _ c.shop.view_is c.in-Err.ensures.lane
-
 pub returns-in-loop-clause-jobs : goal.returns-in-loop-clause-jobs
 returns-in-loop-clause-jobs g c =
     let line = g.L.JobLine in
-    let machine = c.args.shop.now.line.sizes.machine in
+    let machine = (line.id c.args.line.now).sizes.machine in
     let rest = c.pop_front.new.self.items in
     let items : c.in-Err.job ∷ rest ≡ c.loop.left.items = ap (λ (j : JobData). j ∷ rest) c.in-Err.ensures.gives_back ∙ sym c.in-Some-pop_front.ensures.items in
     let number = refused_number (line.lane_record c.loop.lane) _ (line.lane_record c.submit.new.lane) c.in-Err.ensures.refused ∙ ap (λ (r : LaneRecord). r.number) c.loop.invariant.2.gains in

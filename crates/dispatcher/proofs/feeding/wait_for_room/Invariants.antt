@@ -1,6 +1,0 @@
-use Rattle.std.proofs.Common.{◌≡◌}
-use Rattle.dispatcher.proofs.feeding.wait_for_room.Given as goal
-
-abbrev pub invariant-loop : goal.invariant-loop
-invariant-loop g l = let line = g.L.JobLine in
-    line.is_lane l.fn.shop.line l.lane × (line.lane_record l.lane ≡ line.lane_record l.fn.lane)
