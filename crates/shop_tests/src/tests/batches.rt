@@ -220,7 +220,7 @@ fn any_number_of_workers_gives_the_same_replies(rt: HostRuntime) {
             &runner,
         );
         assert!(rt; batch.workers == workers as usize && are_sums(&batch.replies));
-        assert_eq!(rt; runner.answered(), 16 * u64::from(EACH));
+        assert!(rt; runner.answered() == 16 * u64::from(EACH));
     }
 }
 

@@ -54,8 +54,8 @@ fn each_job_is_answered_once(rt: HostRuntime) -> Result<(), Fail> {
     let runner = Counting::new(Plain);
     let answered = count_on_tree(&rt, rt.alloc(), &runner)?;
     let (finished, processors) = answered.expect(&rt, "no memory, or no thread");
-    assert_eq!(rt; processors, 8);
-    assert_eq!(rt; runner.answered(), 3);
+    assert!(rt; processors == 8);
+    assert!(rt; runner.answered() == 3);
     assert!(rt; finished.accepted.as_slice() == [1, 2].as_slice());
     assert!(rt; is_once(&finished, 0, 0, Some(2), Some(9)));
     assert!(rt; is_once(&finished, 1, 0, Some(3), Some(3)));

@@ -175,7 +175,7 @@ where
     let regions = [F::region(&held), F::region(&also_held)];
     let machine = close_whole(rt, floor, held, stations);
     let other = close_whole(rt, other, also_held, others);
-    assert_eq!(rt; regions, [Region { base: 0, dim: 3 }; 2]);
+    assert!(rt; regions == [Region { base: 0, dim: 3 }; 2]);
     assert!(rt; machine.is_at_rest(3) && other.is_at_rest(3));
 }
 
@@ -195,7 +195,7 @@ where
     let (largest, stations) = opened::<F>(rt, alloc, MAX_DIM, MAX_STATIONS);
     let count = stations.len();
     let large = largest.close(stations);
-    assert_eq!(rt; count, 48);
+    assert!(rt; count == 48);
     assert!(rt; small.is_at_rest(0) && large.is_at_rest(12));
 }
 
@@ -212,10 +212,8 @@ where
     F::Machine: Drop + AtRest,
 {
     let (one, other, machine) = hold_pair::<R, F>(rt, alloc, 3, 1).expect(rt, "no memory");
-    assert_eq!(rt;
-        [one, other],
-        [Region { base: 0, dim: 1 }, Region { base: 2, dim: 1 }]
-    );
+    assert!(rt; one == Region { base: 0, dim: 1 });
+    assert!(rt; other == Region { base: 2, dim: 1 });
     assert!(rt; machine.is_at_rest(3));
 }
 

@@ -89,23 +89,26 @@ fn has_rest<M: AtRest>(finished: &Finished<M>) -> bool {
         && finished.machine.is_at_rest(2)
 }
 
+// Whether this is the receipt of lane 0's first entry, for its first job.
+fn is_first_receipt(outcome: &Result<Receipt, Back>) -> bool {
+    let id = JobId { lane: 0, seq: 0 };
+    matches!(outcome, Ok(receipt) if *receipt == Receipt { id, number: 0 })
+}
+
 // Three submits to a shop with room for one job, and a close before the third. The worker does not run.
 fn close_against_submit_over<R: Wait + Abort, L: JobLine, F: Floor>(rt: &R, alloc: Global)
 where
     F::Machine: Drop + AtRest,
 {
     let mut stage = Stage::<L, F>::open(rt, alloc, 1);
-    let first = stage.submit(rt, alloc, &[1, 2]);
-    let second = stage.submit(rt, alloc, &[3, 4]);
+    let is_first = is_first_receipt(&stage.submit(rt, alloc, &[1, 2]));
+    let is_full = gives_back(&stage.submit(rt, alloc, &[3, 4]), Refused::Full, &[3, 4]);
     let close_number = stage.close(rt);
     let third = stage.submit(rt, alloc, &[5, 6]);
-    let finished = stage.finish(rt, alloc, &Plain);
-    let id = JobId { lane: 0, seq: 0 };
-    assert!(rt; matches!(first, Ok(receipt) if receipt == Receipt { id, number: 0 }));
-    assert!(rt; gives_back(&second, Refused::Full, &[3, 4]));
-    assert_eq!(rt; close_number, 2);
-    assert!(rt; gives_back(&third, Refused::Closed { seen: 2 }, &[5, 6]));
-    assert!(rt; has_rest(&finished));
+    let is_closed = gives_back(&third, Refused::Closed { seen: 2 }, &[5, 6]);
+    let is_whole = has_rest(&stage.finish(rt, alloc, &Plain));
+    assert!(rt; is_first && is_full && is_closed);
+    assert!(rt; close_number == 2 && is_whole);
 }
 
 #[test]
@@ -171,22 +174,28 @@ fn have_first_regions(replies: &[Reply]) -> bool {
     true
 }
 
+// Whether the only worker answered all three jobs, on the first regions.
+fn has_first_regions<M: AtRest>(finished: &Finished<M>) -> bool {
+    finished.by_worker.len() == 1
+        && finished.rest.is_empty()
+        && have_first_regions(&finished.by_worker[0])
+        && finished.accepted.as_slice() == [3].as_slice()
+        && finished.machine.is_at_rest(2)
+}
+
 // The close comes between two feeds, and then the worker runs to its end.
 fn feed_stops_at_the_close_over<R: Wait + Abort, L: JobLine, F: Floor>(rt: &R, alloc: Global)
 where
     F::Machine: Drop + AtRest,
 {
     let mut stage = Stage::<L, F>::open(rt, alloc, 4);
-    let fed = stage.feed(rt, alloc, &THREE_JOBS, None);
+    let is_fed = is_done(&stage.feed(rt, alloc, &THREE_JOBS, None));
     stage.close(rt);
-    let late = stage.feed(rt, alloc, &THREE_JOBS, None);
+    let is_late = stops_at_the_close(&stage.feed(rt, alloc, &THREE_JOBS, None));
     let stop = stage.dispatch(rt, alloc, &Plain, None);
-    let finished = stage.finish(rt, alloc, &Plain);
-    assert!(rt; is_done(&fed) && stops_at_the_close(&late));
-    assert_eq!(rt; stop, Stop::Ended);
-    assert!(rt; finished.by_worker.len() == 1 && finished.rest.is_empty());
-    assert!(rt; have_first_regions(&finished.by_worker[0]));
-    assert!(rt; finished.accepted.as_slice() == [3].as_slice() && finished.machine.is_at_rest(2));
+    let is_whole = has_first_regions(&stage.finish(rt, alloc, &Plain));
+    assert!(rt; is_fed && is_late);
+    assert!(rt; stop == Stop::Ended && is_whole);
 }
 
 #[test]
@@ -209,7 +218,7 @@ where
     let runner = Counting::new(Plain);
     let finished = stage.finish(rt, alloc, &runner);
     assert!(rt; are_three_seqs(&[], &finished.rest));
-    assert_eq!(rt; runner.answered(), 3);
+    assert!(rt; runner.answered() == 3);
 }
 
 #[test]
@@ -230,20 +239,23 @@ fn left_by_turns(fed: &FeedEnd) -> Option<(usize, usize)> {
     }
 }
 
+// Whether one job was accepted, and is answered at the end.
+fn has_one_left<M>(finished: &Finished<M>) -> bool {
+    finished.rest.len() == 1 && finished.accepted.as_slice() == [1].as_slice()
+}
+
 // A feed with no turn hands in nothing. One with five into room for one job makes six entries.
 fn feed_stops_after_its_turns_over<R: Wait + Abort, L: JobLine, F: Floor>(rt: &R, alloc: Global)
 where
     F::Machine: Drop,
 {
     let mut stage = Stage::<L, F>::open(rt, alloc, 1);
-    let none = stage.feed(rt, alloc, &THREE_SUMS, Some(0));
-    let fed = stage.feed(rt, alloc, &THREE_SUMS, Some(5));
+    let none = left_by_turns(&stage.feed(rt, alloc, &THREE_SUMS, Some(0)));
+    let fed = left_by_turns(&stage.feed(rt, alloc, &THREE_SUMS, Some(5)));
     let close_number = stage.close(rt);
-    let finished = stage.finish(rt, alloc, &Plain);
-    assert_eq!(rt; left_by_turns(&none), Some((0, 3)));
-    assert_eq!(rt; left_by_turns(&fed), Some((1, 1)));
-    assert_eq!(rt; close_number, 6);
-    assert!(rt; finished.rest.len() == 1 && finished.accepted.as_slice() == [1].as_slice());
+    let is_whole = has_one_left(&stage.finish(rt, alloc, &Plain));
+    assert!(rt; none == Some((0, 3)) && fed == Some((1, 1)));
+    assert!(rt; close_number == 6 && is_whole);
 }
 
 #[test]

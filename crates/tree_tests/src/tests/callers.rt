@@ -18,8 +18,8 @@ use uses::{Extent, count_jobs, has_room, hold_two_and_close, play, share_extent,
 fn two_regions_are_apart(rt: HostRuntime) -> Result<(), Fail> {
     let mut bits = AllocBits::new(rt.alloc(), 2)?;
     let taken = take_two(&mut bits, 3, 7, 1)?;
-    assert_eq!(rt; taken.0, Region { base: 0, dim: 1 });
-    assert_eq!(rt; taken.1, Region { base: 2, dim: 1 });
+    assert!(rt; taken.0 == Region { base: 0, dim: 1 });
+    assert!(rt; taken.1 == Region { base: 2, dim: 1 });
     Ok(())
 }
 
@@ -55,7 +55,7 @@ fn every_rank_has_the_extent_of_all(rt: HostRuntime) {
         least: 2,
         greatest: 9,
     };
-    assert_eq!(rt; extents, [all; 4]);
+    assert!(rt; extents == [all; 4]);
 }
 
 // Station 0 holds node 2, the lower half, so station 1 finds it occupied and is idle again.
@@ -90,7 +90,7 @@ fn a_schedule_leaves_lawful_holdings(rt: HostRuntime) -> Result<(), Fail> {
 fn a_file_has_two_jobs(rt: HostRuntime) {
     let file = b"lane,kind,op,root,items\n0,allreduce,add,0,1 2\n1,broadcast,-,0,7\n";
     match count_jobs(rt.alloc(), 3, file.as_slice()) {
-        Ok(count) => assert_eq!(rt; count, 2),
+        Ok(count) => assert!(rt; count == 2),
         Err(fault) => assert!(rt; false, "{fault}"),
     }
     let wrong = Err(Fault {
@@ -110,9 +110,9 @@ fn two_subcubes_are_apart(rt: HostRuntime) {
     stations.destroy_empty();
     match hold_two_and_close(cube, first, second, 0, 0) {
         (Some((low, high)), Ok(machine)) => {
-            assert_eq!(rt; low, Region { base: 0, dim: 0 });
-            assert_eq!(rt; high, Region { base: 1, dim: 0 });
-            assert_eq!(rt; machine.words(), [3, 0, 0, 0].as_slice());
+            assert!(rt; low == Region { base: 0, dim: 0 });
+            assert!(rt; high == Region { base: 1, dim: 0 });
+            assert!(rt; machine.words() == [3, 0, 0, 0].as_slice());
         }
         _ => panic!(rt; "a take is refused, or the cube is not closed"),
     }
