@@ -69,22 +69,14 @@ fn call_ledger<R: Print, M>(rt: &R, alloc: Global, finished: &Finished<M>) -> io
     }
 }
 
-// How the lane and the worker of a shop have stopped.
-#[derive(Clone, Copy)]
-struct Ran {
-    fed: FeedStop,
-    left: usize,
-    stop: Stop,
-    replies: usize,
-}
-
-// Feeds the jobs, closes the shop, lets the worker run to its end, and finishes the shop.
-fn run_out<R: Wait, L: JobLine, F: Floor>(
+// Feeds the jobs, closes the shop, lets the worker run to its end, and finishes the shop. Answers
+// whether the worker had memory, and whether all could be told.
+fn run_out<R: Wait + Print, L: JobLine, F: Floor>(
     rt: &R,
     alloc: Global,
     single: Single<L, F>,
     jobs: VecDeque<Job>,
-) -> (Ran, Finished<F::Machine>)
+) -> (io::Result<()>, bool, Finished<F::Machine>)
     requires machine { single.line.sizes.machine ≡ MACHINE }
     requires jobs { All (IsFor MACHINE 0) jobs.items }
 {
@@ -97,47 +89,13 @@ fn run_out<R: Wait, L: JobLine, F: Floor>(
         closer,
     } = single;
     let fed = feed(rt, &shop, &mut lane, jobs);
+    let fed = tell_feed(rt, fed.stop, fed.left.len());
     let note = shop.close(rt, closer);
     let end = dispatch(rt, alloc, &shop, worker, &Plain);
-    let ran = Ran {
-        fed: fed.stop,
-        left: fed.left.len(),
-        stop: end.stop(),
-        replies: end.replies().len(),
-    };
-    (ran, finish(rt, shop, (lane, lanes), (end, ends), note))
-}
-
-// Tells of the calls on a shop, and makes its ledger: how many calls had memory, the opening of the shop included.
-fn tell_all<R: Print, M>(
-    rt: &R,
-    alloc: Global,
-    ran: &Ran,
-    finished: &Finished<M>,
-) -> io::Result<u64> {
-    tell_feed(rt, ran.fed, ran.left)?;
-    tell_dispatch(rt, ran.stop, ran.replies)?;
-    tell_replies(rt, finished)?;
-    let ledger = call_ledger(rt, alloc, finished)?;
-    Ok(ledger.wrapping_add(if ran.stop == Stop::Ended { 3 } else { 2 }))
-}
-
-// Makes the calls on an open shop.
-fn call_opened<R: Wait + Print, L: JobLine, F: Floor>(
-    rt: &R,
-    alloc: Global,
-    single: Single<L, F>,
-    jobs: VecDeque<Job>,
-) -> io::Result<u64>
-where
-    F::Machine: Drop,
-    requires machine { single.line.sizes.machine ≡ MACHINE }
-    requires jobs { All (IsFor MACHINE 0) jobs.items }
-{
-    let opened = rt.println("Shop::open");
-    let (ran, finished) = run_out(rt, alloc, single, jobs);
-    opened?;
-    tell_all(rt, alloc, &ran, &finished)
+    let has_ended = end.stop() == Stop::Ended;
+    let told = tell_dispatch(rt, end.stop(), end.replies().len());
+    let finished = finish(rt, shop, (lane, lanes), (end, ends), note);
+    (fed.and(told), has_ended, finished)
 }
 
 // Makes the calls on a shop that has room for all the jobs.
@@ -150,14 +108,21 @@ where
     F::Machine: Drop,
     requires jobs { All (IsFor MACHINE 0) jobs.items }
 {
-    match Single::<L, F>::open(alloc, MACHINE, MAX_CAPACITY) {
-        Ok(single) => call_opened(rt, alloc, single, jobs),
+    let single = match Single::<L, F>::open(alloc, MACHINE, MAX_CAPACITY) {
+        Ok(single) => single,
         Err(ShopRefused::OutOfMemory) => {
             tell_refused(rt, "Shop::open", &[])?;
-            Ok(1)
+            return Ok(1);
         }
-        Err(_) => Ok(1),
-    }
+        Err(_) => return Ok(1),
+    };
+    let opened = rt.println("Shop::open");
+    let (told, has_ended, finished) = run_out(rt, alloc, single, jobs);
+    opened?;
+    told?;
+    tell_replies(rt, &finished)?;
+    let ledger = call_ledger(rt, alloc, &finished)?;
+    Ok(ledger.wrapping_add(if has_ended { 3 } else { 2 }))
 }
 
 /// Makes so many jobs, and a shop of this kind that answers them, one call after the other.
