@@ -183,6 +183,51 @@ static void expect_stale_and_zeros(void) {
     expect(cubejobs_release(&zeros, 0).code == CUBEJOBS_DONE, "its release");
 }
 
+// Worked rows on a machine of dimension 3: opened in memory that is not empty, a take gets the least free region of its
+// dimension.
+static void expect_least_free_regions(void) {
+    struct cubejobs_machine *machine = &memory.machine;
+    memset(machine, 1, sizeof *machine);
+    expect(cubejobs_open(machine, 3) == CUBEJOBS_DONE, "open 3");
+    expect(same(cubejobs_take(machine, 0, 1), answer(CUBEJOBS_DONE, 1, 0)), "a pair at 0");
+    expect(same(cubejobs_take(machine, 1, 0), answer(CUBEJOBS_DONE, 0, 2)), "a processor at 2");
+    expect(same(cubejobs_take(machine, 2, 1), answer(CUBEJOBS_DONE, 1, 4)), "a pair at 4");
+    expect(same(cubejobs_release(machine, 1), answer(CUBEJOBS_DONE, 0, 2)), "the processor at 2 comes back");
+    expect(same(cubejobs_take(machine, 3, 1), answer(CUBEJOBS_DONE, 1, 2)), "a pair at 2");
+    expect(same(cubejobs_take(machine, 4, 2), answer(CUBEJOBS_NO_SUBCUBE, 0, 0)), "no four processors");
+    expect(cubejobs_holder(machine, 3).found && cubejobs_holder(machine, 3).station == 3, "the holder of processor 3");
+    expect(!cubejobs_holder(machine, 6).found && !cubejobs_is_wholly_free(machine), "nobody holds processor 6");
+}
+
+// Worked rows on a machine of dimension 3: a take of the region that is asked.
+static void expect_asked_region(void) {
+    struct cubejobs_machine *machine = &memory.machine;
+    const uint64_t left[] = {6, 3, 1, 0, 0};
+    expect(cubejobs_open(machine, 3) == CUBEJOBS_DONE, "open 3");
+    expect(same(cubejobs_take_region(machine, 0, 4, 1), answer(CUBEJOBS_DONE, 1, 4)), "the pair at 4");
+    expect(same(cubejobs_region(machine, 0), answer(CUBEJOBS_DONE, 1, 4)), "the region of station 0");
+    expect(cubejobs_region(machine, 1).code == CUBEJOBS_NOTHING_HELD, "the region of station 1");
+    expect(cubejobs_take_region(machine, 1, 3, 1).code == CUBEJOBS_BAD_BASE, "a pair at 3");
+    expect(cubejobs_take_region(machine, 1, 8, 1).code == CUBEJOBS_BAD_BASE, "a pair at 8");
+    expect(cubejobs_take_region(machine, 1, 4, 2).code == CUBEJOBS_NO_SUBCUBE, "four processors at 4");
+    expect(cubejobs_take_region(machine, 0, 0, 0).code == CUBEJOBS_STATION_HOLDS, "a second region of station 0");
+    for (unsigned k = 0; k < 5; k++) expect(cubejobs_free_regions(machine, k) == left[k], "free regions beside the pair at 4");
+}
+
+// Worked rows on the largest machine: the code of each bad argument, the first of two.
+static void expect_codes(void) {
+    struct cubejobs_machine *machine = &memory.machine;
+    expect(cubejobs_open(machine, 12) == CUBEJOBS_DONE, "open 12");
+    expect(cubejobs_open(machine, 13) == CUBEJOBS_BAD_DIMENSION, "open 13");
+    expect(cubejobs_is_wholly_free(machine), "a refused open changes nothing");
+    expect(cubejobs_take(machine, 48, 13).code == CUBEJOBS_BAD_STATION, "station 48 and dimension 13");
+    expect(cubejobs_take(machine, 47, 13).code == CUBEJOBS_BAD_DIMENSION, "dimension 13");
+    expect(cubejobs_release(machine, 47).code == CUBEJOBS_NOTHING_HELD, "a release of nothing");
+    expect(cubejobs_release(machine, 48).code == CUBEJOBS_BAD_STATION, "a release of station 48");
+    expect(same(cubejobs_take(machine, 47, 12), answer(CUBEJOBS_DONE, 12, 0)), "the whole machine");
+    expect(cubejobs_take(machine, 47, 0).code == CUBEJOBS_STATION_HOLDS, "a second take of station 47");
+}
+
 // Each station of the largest machine holds a processor, from the first one on.
 static void expect_every_station(void) {
     struct cubejobs_machine *machine = &memory.machine;
@@ -214,6 +259,9 @@ static void expect_guards(void) {
 int main(void) {
     expect(sizeof(struct cubejobs_machine) == 4872, "the struct's size is not the library's");
     expect_stale_and_zeros();
+    expect_least_free_regions();
+    expect_asked_region();
+    expect_codes();
     expect_every_station();
     for (unsigned dim = 0; dim <= CUBEJOBS_MAX_DIM; dim++) {
         open_both(dim);

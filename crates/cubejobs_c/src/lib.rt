@@ -21,6 +21,3 @@ pub use exports::{
 };
 pub use machine::{Answer, Holder, MACHINE_BYTES, Machine, Slot};
 pub use regions::{cubejobs_free_regions, cubejobs_region, cubejobs_take_region};
-
-#[cfg(test)]
-mod tests;
