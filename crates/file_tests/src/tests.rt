@@ -3,6 +3,7 @@
 mod any_number;
 mod commands;
 mod devices;
+mod facts;
 mod faults;
 mod jobs;
 mod meetings;

@@ -1,6 +1,7 @@
 //! Jobs of any number of items: their replies beside plain folds, and a file of mixed sizes.
 
 use crate::tests::commands::run_by;
+use crate::tests::facts::expect_true;
 use crate::tests::jobs::{answered, is_job, made};
 use dispatcher::Plain;
 use job_types::{JobId, Kind, Op, Reply};
@@ -72,18 +73,16 @@ fn numbers(rt: &impl Abort, alloc: Global, count: u64) -> Vec<u64> {
     numbers
 }
 
-// A reply has at this rank what a plain fold gives.
-fn expect_place(rt: &impl Abort, reply: &Reply, kind: Kind, items: &[u64], rank: usize) {
-    let held = reply.at(rank as u64);
-    assert!(rt; held == wanted(kind, items, rank), "{kind:?} at {rank}");
+// Whether a reply has at this rank what a plain fold gives.
+fn is_plain(reply: &Reply, kind: Kind, items: &[u64], rank: usize) -> bool {
+    reply.at(rank as u64) == wanted(kind, items, rank)
 }
 
-// A reply has a region of this dimension, and at each rank what a plain fold gives. It has nothing past
-// the items, as far as three times their number.
-fn expect_plain(rt: &impl Abort, reply: &Reply, kind: Kind, items: &[u64], dim: u32) {
-    assert!(rt; reply.region().dim == dim, "{kind:?} on {dim}");
+// A reply has at each rank what a plain fold gives. It has nothing past the items, as far as three
+// times their number.
+fn expect_plain(rt: &impl Abort, reply: &Reply, kind: Kind, items: &[u64]) {
     for rank in 0..items.len().saturating_mul(3) {
-        expect_place(rt, reply, kind, items, rank);
+        expect_true(rt, is_plain(reply, kind, items, rank));
     }
 }
 
@@ -91,9 +90,10 @@ fn expect_plain(rt: &impl Abort, reply: &Reply, kind: Kind, items: &[u64], dim: 
 // dimension that is the plain fold.
 fn expect_kind(rt: &impl Abort, alloc: Global, n: u32, dim: u32, kind: Kind, items: &[u64]) {
     let job = made(rt, alloc, n, 0, kind, items);
-    assert!(rt; is_job(&job, n, 0, dim, kind, items));
+    let is_asked = is_job(&job, n, 0, dim, kind, items);
     let reply = answered(job, JobId { lane: 0, seq: 0 });
-    expect_plain(rt, &reply, kind, items, dim);
+    expect_true(rt, is_asked & (reply.region().dim == dim));
+    expect_plain(rt, &reply, kind, items);
 }
 
 // Jobs of all kinds, with this operation and this root.
@@ -179,15 +179,12 @@ fn gives(
     let mut reader = Counted::new(file);
     let mut writer = Counted::new(Vec::new(rt.alloc()));
     let answer = run_by(rt, 3, dispatchers, 2, &Plain, &mut reader, &mut writer);
-    answer.is_ok() && writer.get_ref().as_slice() == wanted.as_bytes()
+    answer.is_ok() & (writer.get_ref().as_slice() == wanted.as_bytes())
 }
 
 #[test]
 fn mixed_sizes_over_dispatchers(rt: HostRuntime) {
     for dispatchers in [1, 2, 4, 16] {
-        assert!(rt;
-            gives(&rt, dispatchers, MIXED, MIXED_REPLIES),
-            "{dispatchers}"
-        );
+        expect_true(&rt, gives(&rt, dispatchers, MIXED, MIXED_REPLIES));
     }
 }

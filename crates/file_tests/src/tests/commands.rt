@@ -1,6 +1,10 @@
 //! The four commands over devices that fail, and over a large file.
 
+ghost use Rattle.std.specs.Prelude.{◌≤◌};
+ghost use Rattle.cli_words.specs.CommandLine.{AreShopSizes};
+
 use crate::tests::devices::FailsAt;
+use crate::tests::facts::{expect_all, expect_true};
 use cli_commands::{place_on, replay_on, report_on, run_on};
 use cube_shape::{MAX_CAPACITY, MAX_DIM, MAX_DISPATCHERS};
 use dispatcher::{Plain, Runner};
@@ -21,6 +25,15 @@ enum Command {
     Replay,
 }
 
+// These are the numbers of a shop.
+fn expect_shop(rt: &impl Abort, n: u32, dispatchers: u32, capacity: usize)
+    ensures machine { n ≤ MAX_DIM }
+    ensures sizes { AreShopSizes dispatchers capacity }
+{
+    assert!(rt; n <= MAX_DIM && 1 <= capacity && capacity <= MAX_CAPACITY);
+    assert!(rt; 1 <= dispatchers && dispatchers <= MAX_DISPATCHERS);
+}
+
 // A run by so many dispatchers.
 pub fn run_by<T: Runner + Sync, R: Read + Device, W: Write + Device>(
     rt: &(impl AllocGlobal + Abort + Threads + Wait + Sync),
@@ -31,8 +44,7 @@ pub fn run_by<T: Runner + Sync, R: Read + Device, W: Write + Device>(
     reader: &mut R,
     writer: &mut W,
 ) -> Result<(), Fault> {
-    assert!(rt; n <= MAX_DIM && 1 <= capacity && capacity <= MAX_CAPACITY);
-    assert!(rt; 1 <= dispatchers && dispatchers <= MAX_DISPATCHERS);
+    expect_shop(rt, n, dispatchers, capacity);
     let alloc = rt.alloc();
     run_on(rt, alloc, n, dispatchers, capacity, runner, reader, writer)
 }
@@ -46,7 +58,7 @@ pub fn report_by<T: Runner + Sync, R: Read + Device, W: Write + Device>(
     reader: &mut R,
     writer: &mut W,
 ) -> Result<(), Fault> {
-    assert!(rt; n <= MAX_DIM && 1 <= capacity && capacity <= MAX_CAPACITY);
+    expect_shop(rt, n, 2, capacity);
     report_on(rt, rt.alloc(), n, 2, capacity, runner, reader, writer)
 }
 
@@ -94,22 +106,11 @@ fn good_file(command: Command) -> &'static [u8] {
     }
 }
 
-// Whether the device of a command failed. The answer of the command then is this fault of no record,
-// and else it is good.
-pub fn has_failed(
-    rt: &impl Abort,
-    answer: Result<(), Fault>,
-    failures: u64,
-    what: FaultKind,
-    calls: u64,
-) -> bool {
-    if failures == 0 {
-        assert!(rt; answer == Ok(()));
-        return false;
-    }
-    let row = 0;
-    assert!(rt; answer == Err(Fault { row, what }), "at call {calls}");
-    true
+// Whether an answer tells whether a device has failed: it is this fault of no record where one has, and
+// else it is good.
+pub fn tells(answer: Result<(), Fault>, has_failed: bool, what: FaultKind) -> bool {
+    let fault = Fault { row: 0, what };
+    ((answer == Err(fault)) == has_failed) & ((answer == Ok(())) != has_failed)
 }
 
 // Whether a reader that fails at this call has failed. The answer then is a failed read, and nothing
@@ -122,28 +123,34 @@ fn fails_to_read(
     let mut reader = Counted::new(FailsAt::new(good_file(command), calls));
     let mut writer = Counted::new(Vec::new(rt.alloc()));
     let answer = answer(rt, command, &mut reader, &mut writer);
-    let failed = has_failed(rt, answer, reader.failures(), FaultKind::Read, calls);
-    assert!(rt; !failed || writer.get_ref().is_empty());
+    let failed = reader.failures() != 0;
+    let is_silent = !failed | writer.get_ref().is_empty();
+    expect_true(rt, is_silent & tells(answer, failed, FaultKind::Read));
     failed
 }
 
-// How many reads a command makes, each of which is reported where it fails.
+// How many reads a command makes, each of which is reported where it fails. Zero where each of a
+// thousand fails.
 fn reads_of(rt: &(impl AllocGlobal + Abort + Threads + Wait + Sync), command: Command) -> u64 {
     for calls in 0..1000 {
         if !fails_to_read(rt, command, calls) {
             return calls;
         }
     }
-    assert!(rt; false, "no answer without a failed read");
-    1000
+    0
 }
 
 #[test]
 fn reports_a_failed_read(rt: HostRuntime) {
-    assert!(rt; reads_of(&rt, Command::Run) > 5);
-    assert!(rt; reads_of(&rt, Command::Report) > 5);
-    assert!(rt; reads_of(&rt, Command::Place) > 5);
-    assert!(rt; reads_of(&rt, Command::Replay) > 5);
+    expect_all(
+        &rt,
+        &[
+            reads_of(&rt, Command::Run) > 5,
+            reads_of(&rt, Command::Report) > 5,
+            reads_of(&rt, Command::Place) > 5,
+            reads_of(&rt, Command::Replay) > 5,
+        ],
+    );
 }
 
 // The answer to the good file of a command.
@@ -167,10 +174,10 @@ fn good_answer(command: Command) -> &'static [u8] {
     }
 }
 
-// What was written in so many calls is the beginning of what is wanted, seven bytes a call.
-fn expect_calls(rt: &impl Abort, written: &[u8], wanted: &[u8], calls: u64) {
+// Whether what was written in so many calls is the beginning of what is wanted, seven bytes a call.
+fn is_beginning(written: &[u8], wanted: &[u8], calls: u64) -> bool {
     let beginning = wanted.len().min(calls.saturating_mul(7) as usize);
-    assert!(rt; written == &wanted[..beginning], "at call {calls}");
+    (written.len() == beginning) & wanted.starts_with(written)
 }
 
 // Whether a writer that fails at this call, with an error or by taking nothing, has failed. The
@@ -189,12 +196,14 @@ fn fails_to_write(
         gives_zero,
     });
     let answer = answer(rt, command, &mut reader, &mut writer);
-    expect_calls(rt, &writer.get_ref().device, good_answer(command), calls);
-    has_failed(rt, answer, writer.failures(), FaultKind::Write, calls)
+    let failed = writer.failures() != 0;
+    let is_so_far = is_beginning(&writer.get_ref().device, good_answer(command), calls);
+    expect_true(rt, is_so_far & tells(answer, failed, FaultKind::Write));
+    failed
 }
 
 // How many writes a command makes, each of which is reported where it fails; and flushes too, where
-// they may fail.
+// they may fail. Zero where each of a thousand fails.
 fn writes_of(
     rt: &(impl AllocGlobal + Abort + Threads + Wait + Sync),
     command: Command,
@@ -205,15 +214,17 @@ fn writes_of(
             return calls;
         }
     }
-    assert!(rt; false, "no answer without a failed write");
-    1000
+    0
 }
 
 // Each of these commands makes so many writes, and then a flush.
 fn expect_writes(rt: &(impl AllocGlobal + Abort + Threads + Wait + Sync), rows: &[(Command, u64)]) {
     for (command, writes) in rows {
-        assert!(rt; writes_of(rt, *command, true) == *writes);
-        assert!(rt; writes_of(rt, *command, false) == writes.wrapping_add(1));
+        let fails_to_flush = writes_of(rt, *command, false) == writes.wrapping_add(1);
+        expect_true(
+            rt,
+            fails_to_flush & (writes_of(rt, *command, true) == *writes),
+        );
     }
 }
 
@@ -265,35 +276,38 @@ fn writes_all(
     let mut writer = Counted::new(Vec::new(rt.alloc()));
     let answer = run_by(rt, 0, 2, 16, &Plain, &mut reader, &mut writer);
     let failures = reader.failures().saturating_add(writer.failures());
-    answer == Ok(()) && failures == 0 && writer.get_ref().as_slice() == wanted
+    (answer == Ok(())) & (failures == 0) & (writer.get_ref().as_slice() == wanted)
 }
 
-// A failed write, after 20,000 calls of seven bytes at most that wrote the beginning of this.
-fn expect_beginning(rt: &impl Abort, answer: Result<(), Fault>, written: &[u8], wanted: &[u8]) {
-    let (row, what) = (0, FaultKind::Write);
-    assert!(rt; answer == Err(Fault { row, what }));
-    assert!(rt; written.len() > 139_900 && written.len() <= 140_000);
-    assert!(rt; wanted.starts_with(written));
+// Whether this is a long beginning of this, of 20,000 calls of seven bytes at most.
+fn is_long_beginning(written: &[u8], wanted: &[u8]) -> bool {
+    (written.len() > 139_900) & (written.len() <= 140_000) & wanted.starts_with(written)
 }
 
-// A run of this file whose writer fails after 20,000 calls wrote the beginning of this.
-fn expect_failed_run(
+// Whether a run of this file whose writer fails after 20,000 calls wrote the beginning of this.
+fn writes_beginning(
     rt: &(impl AllocGlobal + Abort + Threads + Wait + Sync),
     input: &[u8],
     wanted: &[u8],
-) {
+) -> bool {
     let mut reader = Counted::new(input);
     let mut writer = Counted::new(FailsAt::new(Vec::new(rt.alloc()), 20_000));
     let answer = run_by(rt, 0, 2, 16, &Plain, &mut reader, &mut writer);
-    expect_beginning(rt, answer, &writer.get_ref().device, wanted);
+    let is_told = tells(answer, true, FaultKind::Write);
+    is_told & is_long_beginning(&writer.get_ref().device, wanted)
 }
 
 // The replies are written in several pieces; what came before a failed write is their beginning.
 #[test]
 fn writes_long_files(rt: HostRuntime) -> Result<(), Fail> {
     let (input, wanted) = long_file(rt.alloc(), 8_000)?;
-    assert!(rt; wanted.len() > 150_000);
-    assert!(rt; writes_all(&rt, &input, &wanted));
-    expect_failed_run(&rt, &input, &wanted);
+    expect_all(
+        &rt,
+        &[
+            wanted.len() > 150_000,
+            writes_all(&rt, &input, &wanted),
+            writes_beginning(&rt, &input, &wanted),
+        ],
+    );
     Ok(())
 }

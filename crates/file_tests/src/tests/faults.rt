@@ -1,6 +1,7 @@
 //! The texts of faults, names, and which device a fault names.
 
 use crate::tests::devices::FailsAt;
+use crate::tests::facts::{expect_all, expect_true};
 use job_types::JobRefused;
 use jobs_csv::{Counted, Device, Fault, FaultKind, Name};
 use std::alloc::Global;
@@ -10,14 +11,16 @@ use std::process::Abort;
 // Whether a fault has this status and this line.
 fn is_told(rt: &(impl AllocGlobal + Abort), fault: Fault, status: u8, line: &str) -> bool {
     let told = fault.to_string(rt.alloc()).expect(rt, "no memory");
-    fault.status() == status && fault.what.is_refusal() == (status == 1) && told.as_str() == line
+    (fault.status() == status)
+        & (fault.what.is_refusal() == (status == 1))
+        & (told.as_str() == line)
 }
 
 // Each of these faults, of a record, has this status and this line.
 fn expect_lines(rt: &(impl AllocGlobal + Abort), rows: &[(u64, FaultKind, u8, &str)]) {
     for (row, what, status, line) in rows {
         let (row, what) = (*row, *what);
-        assert!(rt; is_told(rt, Fault { row, what }, *status, line), "{line}");
+        expect_true(rt, is_told(rt, Fault { row, what }, *status, line));
     }
 }
 
@@ -70,9 +73,14 @@ fn prints_faults(rt: HostRuntime) {
 fn blames_devices(rt: HostRuntime) {
     let row = 0;
     let what = FaultKind::Read;
-    assert!(rt; Fault::attribute(what, 3, 4) == Fault { row, what });
-    assert!(rt; Fault::attribute(what, 3, 3) == Fault::no_memory());
-    assert!(rt; Fault::attribute(what, u64::MAX, u64::MAX) == Fault { row, what });
+    expect_all(
+        &rt,
+        &[
+            Fault::attribute(what, 3, 4) == Fault { row, what },
+            Fault::attribute(what, 3, 3) == Fault::no_memory(),
+            Fault::attribute(what, u64::MAX, u64::MAX) == Fault { row, what },
+        ],
+    );
 }
 
 // A writer that fails at this call, counted.
@@ -84,62 +92,71 @@ fn failing(alloc: Global, calls: u64, gives_zero: bool) -> Counted<FailsAt<Vec<u
     })
 }
 
-// A write of these bytes takes so many, and so many calls have failed then.
-fn expect_write(
-    rt: &impl Abort,
+// Whether a write of these bytes takes so many, and so many calls have failed then.
+fn takes(
     writer: &mut Counted<FailsAt<Vec<u8>>>,
     bytes: &[u8],
     taken: usize,
     failures: u64,
-) {
-    assert!(rt; writer.write(bytes).ok() == Some(taken));
-    assert!(rt; writer.failures() == failures);
+) -> bool {
+    (writer.write(bytes).ok() == Some(taken)) & (writer.failures() == failures)
 }
 
 // Whether a flush is good, and one call has failed then.
 fn flushes(writer: &mut Counted<FailsAt<Vec<u8>>>) -> bool {
-    writer.flush().is_ok() && writer.failures() == 1
+    writer.flush().is_ok() & (writer.failures() == 1)
 }
 
 // Whether a flush fails, and is the one call that has failed then.
 fn fails_to_flush(writer: &mut Counted<FailsAt<Vec<u8>>>) -> bool {
-    writer.flush().is_err() && writer.failures() == 1
+    writer.flush().is_err() & (writer.failures() == 1)
 }
 
 #[test]
 fn counts_failures(rt: HostRuntime) {
     let mut writer = failing(rt.alloc(), 1, true);
-    expect_write(&rt, &mut writer, b"abc", 3, 0);
-    expect_write(&rt, &mut writer, b"d", 0, 1);
-    expect_write(&rt, &mut writer, b"", 0, 1);
-    assert!(rt; flushes(&mut writer));
-    assert!(rt; writer.get_ref().device.as_slice() == b"abc".as_slice());
-    let mut writer = failing(rt.alloc(), 0, false);
-    assert!(rt; fails_to_flush(&mut writer));
+    expect_all(
+        &rt,
+        &[
+            takes(&mut writer, b"abc", 3, 0),
+            takes(&mut writer, b"d", 0, 1),
+            takes(&mut writer, b"", 0, 1),
+            flushes(&mut writer),
+            writer.get_ref().device.as_slice() == b"abc".as_slice(),
+            fails_to_flush(&mut failing(rt.alloc(), 0, false)),
+        ],
+    );
 }
 
-// Each of these texts is a name.
-fn expect_names(rt: &impl Abort, texts: &[&[u8]]) {
-    for text in texts {
-        let name = Name::new(text).expect(rt, "a name");
-        assert!(rt; name.text() == *text);
-        assert!(rt; Some(name) == Name::new(text));
+// Whether this text is a name, and the same one when it is made again.
+fn is_name(text: &[u8]) -> bool {
+    match Name::new(text) {
+        Some(name) => (name.text() == text) & (Some(name) == Name::new(text)),
+        None => false,
     }
 }
 
-// None of these texts is a name.
-fn expect_no_names(rt: &impl Abort, texts: &[&[u8]]) {
-    for text in texts {
-        assert!(rt; Name::new(text) == None);
-    }
+// Whether this text is no name.
+fn is_no_name(text: &[u8]) -> bool {
+    Name::new(text) == None
 }
 
 #[test]
 fn makes_names(rt: HostRuntime) {
-    expect_names(&rt, &[b"a", b"z09", b"0", b"abcdefghijklmnop"]);
-    expect_no_names(
+    expect_all(
         &rt,
-        &[b"", b"abcdefghijklmnopq", b"A", b"a b", b"-", b"a\xFF"],
+        &[
+            is_name(b"a"),
+            is_name(b"z09"),
+            is_name(b"0"),
+            is_name(b"abcdefghijklmnop"),
+            is_no_name(b""),
+            is_no_name(b"abcdefghijklmnopq"),
+            is_no_name(b"A"),
+            is_no_name(b"a b"),
+            is_no_name(b"-"),
+            is_no_name(b"a\xFF"),
+            Name::new(b"a") != Name::new(b"a0"),
+        ],
     );
-    assert!(rt; Name::new(b"a") != Name::new(b"a0"));
 }

@@ -1,9 +1,10 @@
 //! Jobs that are answered, and jobs that are refused.
 
-ghost use Rattle.std.specs.Prelude.{◌≡◌, length};
+ghost use Rattle.std.specs.Prelude.{◌≡◌, ◌<◌, ◌≤◌, length};
 ghost use Rattle.cube_shape.specs.Region.{IsAligned};
 ghost use Rattle.job_types.specs.Dim.{dim_of};
 
+use crate::tests::facts::{expect_all, expect_true};
 use collectives::Tally;
 use cube_shape::{MAX_DIM, MAX_LANES, Region};
 use job_types::{Job, JobId, JobRefused, Kind, Op, Reply, Request};
@@ -37,6 +38,14 @@ pub fn answered(job: Job, id: JobId) -> Reply {
     job.answer(id, region)
 }
 
+// This is the dimension of a machine, and this one of its lanes.
+pub fn expect_lane(rt: &impl Abort, n: u32, lane: u32)
+    ensures machine { n ≤ MAX_DIM }
+    ensures lane { lane < MAX_LANES }
+{
+    assert!(rt; n <= MAX_DIM && lane < MAX_LANES);
+}
+
 // What is made of a request for a job of this kind on these items.
 pub fn asked(
     rt: &impl Abort,
@@ -46,7 +55,7 @@ pub fn asked(
     kind: Kind,
     items: &[u64],
 ) -> Result<Job, (Vec<u64>, JobRefused)> {
-    assert!(rt; n <= MAX_DIM && lane < MAX_LANES);
+    expect_lane(rt, n, lane);
     let items = Vec::from_slice(alloc, items).expect(rt, "no memory");
     Job::new(alloc, n, lane, kind, items)
 }
@@ -70,11 +79,11 @@ pub fn reply_to(
 
 // Whether a job is one of this kind on these items, with this machine, lane and dimension.
 pub fn is_job(job: &Job, machine: u32, lane: u32, dim: u32, kind: Kind, items: &[u64]) -> bool {
-    job.machine() == machine
-        && job.lane() == lane
-        && job.dim() == dim
-        && job.kind() == kind
-        && job.items() == items
+    (job.machine() == machine)
+        & (job.lane() == lane)
+        & (job.dim() == dim)
+        & (job.kind() == kind)
+        & (job.items() == items)
 }
 
 // Whether the place of this rank holds this.
@@ -87,22 +96,20 @@ fn took(reply: &Reply, rounds: u32, messages: u64) -> bool {
     reply.tally() == Tally { rounds, messages }
 }
 
-// The place of this rank holds this.
-fn expect_place(rt: &impl Abort, reply: &Reply, rank: u64, held: Option<u64>) {
-    assert!(rt; holds(reply, rank, held), "place {rank} is not {held:?}");
+// Whether a reply holds nothing at this rank and at the last one.
+fn ends_at(reply: &Reply, rank: u64) -> bool {
+    holds(reply, rank, None) & holds(reply, u64::MAX, None)
 }
 
-// A reply holds these places, and nothing past them.
+// A reply holds these places.
 fn expect_places(rt: &impl Abort, reply: &Reply, places: &[Option<u64>]) {
     for (rank, held) in places.iter().enumerate() {
-        expect_place(rt, reply, rank as u64, *held);
+        expect_true(rt, holds(reply, rank as u64, *held));
     }
-    expect_place(rt, reply, places.len() as u64, None);
-    expect_place(rt, reply, u64::MAX, None);
 }
 
-// The reply to a job of this kind on these items holds these places, and took these rounds and
-// messages.
+// The reply to a job of this kind on these items holds these places and nothing past them, and took
+// these rounds and messages.
 fn expect_reply(
     rt: &impl Abort,
     alloc: Global,
@@ -115,7 +122,10 @@ fn expect_reply(
 ) {
     let reply = reply_to(rt, alloc, n, ID, kind, items);
     expect_places(rt, &reply, places);
-    assert!(rt; took(&reply, rounds, messages), "{kind:?} of {items:?}");
+    expect_true(
+        rt,
+        took(&reply, rounds, messages) & ends_at(&reply, places.len() as u64),
+    );
 }
 
 // Each row is the dimension of a machine, and the kind and the items of a job for it, and then what
@@ -274,9 +284,9 @@ fn expect_largest(
 ) {
     let reply = reply_to(rt, alloc, MAX_DIM, ID, kind, items);
     for (rank, held) in places {
-        expect_place(rt, &reply, *rank, *held);
+        expect_true(rt, holds(&reply, *rank, *held));
     }
-    assert!(rt; took(&reply, 12, messages), "{kind:?}");
+    expect_true(rt, took(&reply, 12, messages));
 }
 
 // Each row is the kind of a job on the items 0 to 4095, on the largest machine, the numbers that its
@@ -341,7 +351,7 @@ fn answers_the_largest_jobs(rt: HostRuntime) {
 
 // Whether a reply has this id and this region.
 fn is_reply(reply: &Reply, id: JobId, region: Region) -> bool {
-    reply.id() == id && reply.region() == region
+    (reply.id() == id) & (reply.region() == region)
 }
 
 // Whether this kind on these items was asked for, with this machine, lane and dimension.
@@ -353,24 +363,24 @@ fn is_request(
     kind: Kind,
     items: &[u64],
 ) -> bool {
-    request.machine() == machine
-        && request.lane() == lane
-        && request.dim() == dim
-        && request.kind() == kind
-        && request.items() == items
+    (request.machine() == machine)
+        & (request.lane() == lane)
+        & (request.dim() == dim)
+        & (request.kind() == kind)
+        & (request.items() == items)
 }
 
 #[test]
 fn a_reply_names_its_job_and_region(rt: HostRuntime) {
     let reply = answered(made(&rt, rt.alloc(), 3, 15, SUM, &[5, 6]), ID);
-    assert!(rt; is_reply(&reply, ID, Region { base: 0, dim: 1 }));
-    assert!(rt; is_request(reply.job(), 3, 15, 1, SUM, &[5, 6]));
+    let names = is_reply(&reply, ID, Region { base: 0, dim: 1 });
+    expect_true(&rt, names & is_request(reply.job(), 3, 15, 1, SUM, &[5, 6]));
 }
 
 #[test]
 fn a_job_keeps_what_was_asked(rt: HostRuntime) {
     let job = made(&rt, rt.alloc(), 5, 12, SUM, &[9, 8, 7, 6]);
-    assert!(rt; is_job(&job, 5, 12, 2, SUM, &[9, 8, 7, 6]));
+    expect_true(&rt, is_job(&job, 5, 12, 2, SUM, &[9, 8, 7, 6]));
 }
 
 // This request is refused for this reason, and its items come back.
@@ -384,8 +394,7 @@ fn expect_refusal(
 ) {
     let refused = asked(rt, alloc, n, 0, kind, items).err();
     let (back, why) = refused.expect(rt, "a refusal");
-    assert!(rt; why == wanted, "{kind:?} of {items:?} at {n}");
-    assert!(rt; back.as_slice() == items);
+    expect_true(rt, (why == wanted) & (back.as_slice() == items));
 }
 
 // Each of these requests is refused for this reason, and its items come back.
@@ -436,17 +445,22 @@ fn a_refusal_gives_the_items_back(rt: HostRuntime) {
     );
 }
 
-// This reason has this text.
-fn expect_reason(rt: &(impl AllocGlobal + Abort), refused: JobRefused, wanted: &str) {
+// Whether this reason has this text.
+fn is_told(rt: &(impl AllocGlobal + Abort), refused: JobRefused, wanted: &str) -> bool {
     let text = refused.to_string(rt.alloc()).expect(rt, "no memory");
-    assert_eq!(rt; text.as_str(), wanted);
+    text.as_str() == wanted
 }
 
 #[test]
 fn says_why_it_refuses(rt: HostRuntime) {
-    expect_reason(&rt, JobRefused::Empty, "no items");
-    expect_reason(&rt, JobRefused::TooLarge, "more items than processors");
     let bad_root = "the root is not the place of an item";
-    expect_reason(&rt, JobRefused::BadRoot, bad_root);
-    expect_reason(&rt, JobRefused::OutOfMemory, "out of memory");
+    expect_all(
+        &rt,
+        &[
+            is_told(&rt, JobRefused::Empty, "no items"),
+            is_told(&rt, JobRefused::TooLarge, "more items than processors"),
+            is_told(&rt, JobRefused::BadRoot, bad_root),
+            is_told(&rt, JobRefused::OutOfMemory, "out of memory"),
+        ],
+    );
 }

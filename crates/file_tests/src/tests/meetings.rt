@@ -1,6 +1,7 @@
 //! Two jobs that are inside the runner at one moment.
 
 use crate::tests::commands::{report_by, run_by};
+use crate::tests::facts::expect_true;
 use dispatcher::Runner;
 use job_types::{Job, JobId, Region, Reply};
 use jobs_csv::Counted;
@@ -48,7 +49,7 @@ impl Meeting {
 
     // Whether two jobs came in, and none of them went on alone.
     fn has_met(&self) -> bool {
-        self.inside.load(Ordering::SeqCst) == 2 && self.alone.load(Ordering::SeqCst) == 0
+        (self.inside.load(Ordering::SeqCst) == 2) & (self.alone.load(Ordering::SeqCst) == 0)
     }
 }
 
@@ -82,8 +83,8 @@ fn expect_meeting(
         Command::Run => run_by(rt, 2, 2, 2, &meeting, &mut reader, &mut writer),
         Command::Report => report_by(rt, 2, 2, &meeting, &mut reader, &mut writer),
     };
-    assert!(rt; answer == Ok(()) && meeting.has_met());
-    assert!(rt; writer.get_ref().as_slice() == wanted.as_bytes());
+    let is_written = writer.get_ref().as_slice() == wanted.as_bytes();
+    expect_true(rt, (answer == Ok(())) & meeting.has_met() & is_written);
 }
 
 #[test]

@@ -2,6 +2,7 @@
 
 use crate::tests::commands::long_file;
 use crate::tests::devices::FailsAt;
+use crate::tests::facts::expect_true;
 use cli_commands::{Replies, answer_with_progress};
 use cli_words::ShopOptions;
 use dispatcher::Plain;
@@ -42,7 +43,10 @@ where
         &mut writer,
         terminal,
     );
-    assert!(rt; answer == Ok(()) && writer.get_ref().as_slice() == wanted);
+    expect_true(
+        rt,
+        (answer == Ok(())) & (writer.get_ref().as_slice() == wanted),
+    );
 }
 
 // A long run, which shows its progress on this terminal unless it is quiet. It writes all replies, and
@@ -61,7 +65,7 @@ where
 // Whether a terminal is there, and what it shows is nothing or ends with what wipes the line.
 fn is_wiped(shown: Option<Vec<u8>>) -> bool {
     match shown {
-        Some(text) => text.is_empty() || text.as_slice().ends_with(WIPE.as_bytes()),
+        Some(text) => text.is_empty() | text.as_slice().ends_with(WIPE.as_bytes()),
         None => false,
     }
 }
@@ -76,8 +80,9 @@ fn is_blank(shown: Option<Vec<u8>>) -> bool {
 
 #[test]
 fn shows_progress(rt: HostRuntime) -> Result<(), Fail> {
-    assert!(rt; is_wiped(run_on_terminal(&rt, false, Vec::new(rt.alloc()))?));
-    assert!(rt; is_blank(run_on_terminal(&rt, true, Vec::new(rt.alloc()))?));
+    let shown = run_on_terminal(&rt, false, Vec::new(rt.alloc()))?;
+    let quiet = run_on_terminal(&rt, true, Vec::new(rt.alloc()))?;
+    expect_true(&rt, is_wiped(shown) & is_blank(quiet));
     let failing = FailsAt::new(Vec::new(rt.alloc()), 0);
     run_on_terminal(&rt, false, failing)?;
     Ok(())

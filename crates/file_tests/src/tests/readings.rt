@@ -1,8 +1,8 @@
 //! Files that are read.
 
 use crate::tests::devices::joined;
-use crate::tests::jobs::{answered, is_job};
-use cube_shape::MAX_DIM;
+use crate::tests::facts::{expect_all, expect_true};
+use crate::tests::jobs::{answered, expect_lane, is_job};
 use job_types::{Job, JobId, Kind, Op, Reply};
 use jobs_csv::{
     Command, Counted, Device, Fault, FaultKind, Line, Name, RecordCount, read_jobs, read_lanes,
@@ -22,31 +22,40 @@ const CALLS: &[u8] = b"station,call,arg\n";
 
 // The jobs of a file.
 fn jobs_of(rt: &(impl AllocGlobal + Abort), n: u32, input: &[u8]) -> Vec<Job> {
-    assert!(rt; n <= MAX_DIM);
+    expect_lane(rt, n, 0);
     let mut reader = Counted::new(input);
     let jobs = read_jobs(rt.alloc(), n, &mut reader).expect(rt, "jobs");
-    assert!(rt; reader.failures() == 0);
+    expect_true(rt, reader.failures() == 0);
     jobs
 }
+
+const SECOND_XOR: Kind = Kind::Reduce {
+    op: Op::Xor,
+    root: 1,
+};
 
 #[test]
 fn reads_jobs(rt: HostRuntime) {
     let input = joined(&rt, JOBS, b"15,reduce,xor,1,4 18446744073709551615\n");
     let jobs = jobs_of(&rt, 3, &input);
-    assert!(rt; jobs.len() == 1);
-    for job in &jobs {
-        let (op, root) = (Op::Xor, 1);
-        let kind = Kind::Reduce { op, root };
-        assert!(rt; is_job(job, 3, 15, 1, kind, &[4, 18446744073709551615]));
-    }
+    let only = jobs.first().expect(&rt, "a job");
+    expect_true(
+        &rt,
+        (jobs.len() == 1) & is_job(only, 3, 15, 1, SECOND_XOR, &[4, u64::MAX]),
+    );
+}
+
+// Whether a job has one item, and that item is this.
+fn is_of(job: &Job, item: Option<&u64>) -> bool {
+    let items = job.items();
+    (items.len() == 1) & (items.first() == item)
 }
 
 // The jobs of a lane have these items, one each.
 fn expect_items(rt: &impl Abort, jobs: &[Job], wanted: &[u64]) {
-    assert!(rt; jobs.len() == wanted.len());
+    expect_true(rt, jobs.len() == wanted.len());
     for (place, job) in jobs.iter().enumerate() {
-        let items = job.items();
-        assert!(rt; items.len() == 1 && items.first() == wanted.get(place));
+        expect_true(rt, is_of(job, wanted.get(place)));
     }
 }
 
@@ -74,7 +83,7 @@ fn items_of_lane(lane: usize) -> &'static [u64] {
 
 // There are 16 lanes, of these jobs.
 fn expect_lanes(rt: &impl Abort, lanes: &[Vec<Job>]) {
-    assert!(rt; lanes.len() == 16);
+    expect_true(rt, lanes.len() == 16);
     for (lane, jobs) in lanes.iter().enumerate() {
         expect_items(rt, jobs, items_of_lane(lane));
     }
@@ -86,10 +95,14 @@ fn reads_lanes(rt: HostRuntime) {
         b"3,scan,add,0,5\n0,scan,add,0,6\n3,scan,add,0,7\n15,scan,add,0,8\n3,scan,add,0,5\n";
     let input = joined(&rt, JOBS, records);
     expect_lanes(&rt, &lanes_of(rt.alloc(), &input).expect(&rt, "lanes"));
-    assert!(rt; lanes_and_jobs(rt.alloc(), &input) == Ok((16, 5)));
-    let fault = lanes_of(rt.alloc(), b"lane,kind\n").err();
     let (row, what) = (0, FaultKind::Fields);
-    assert!(rt; fault == Some(Fault { row, what }));
+    expect_all(
+        &rt,
+        &[
+            lanes_and_jobs(rt.alloc(), &input) == Ok((16, 5)),
+            lanes_of(rt.alloc(), b"lane,kind\n").err() == Some(Fault { row, what }),
+        ],
+    );
 }
 
 // The reply to a job of a file, the first of its lane.
@@ -107,7 +120,7 @@ pub fn writes(
 ) -> bool {
     let mut writer = Counted::new(Vec::new(rt.alloc()));
     let answer = write_rows(rt, rt.alloc(), threads, replies, &mut writer);
-    answer == Ok(()) && writer.failures() == 0 && writer.get_ref().as_slice() == wanted
+    (answer == Ok(())) & (writer.failures() == 0) & (writer.get_ref().as_slice() == wanted)
 }
 
 // The replies to the jobs of a file.
@@ -128,7 +141,7 @@ fn expect_answer(
 ) {
     let replies = replies_to(rt, n, &joined(rt, JOBS, records.as_bytes()));
     let wanted = joined(rt, REPLIES, wanted.as_bytes());
-    assert!(rt; writes(rt, 1, replies, &wanted), "at {records}");
+    expect_true(rt, writes(rt, 1, replies, &wanted));
 }
 
 // Each row is the dimension of a machine, records of jobs for it and the records of their replies.
@@ -220,22 +233,23 @@ fn reads_what_csv_reads(rt: HostRuntime) {
         ],
     );
     let marked = b"\xEF\xBB\xBF\r\nlane,\"kind\",op,root,items\r\n0,allreduce,add,0,1 2\r\n";
-    assert!(rt; jobs_of(&rt, 3, marked).len() == 1);
+    expect_true(&rt, jobs_of(&rt, 3, marked).len() == 1);
 }
 
-// The commands of a file, for a machine of dimension 3.
-fn commands_of(rt: &(impl AllocGlobal + Abort), input: &[u8]) -> Vec<Command> {
+// Whether a file, for a machine of dimension 3, has these commands.
+fn has_commands(alloc: Global, input: &[u8], wanted: &[Command]) -> bool {
     let mut reader = Counted::new(input);
-    let commands = read_place(rt.alloc(), 3, &mut reader).expect(rt, "commands");
-    assert!(rt; reader.failures() == 0);
-    commands
+    match read_place(alloc, 3, &mut reader) {
+        Ok(commands) => (reader.failures() == 0) & (commands.as_slice() == wanted),
+        Err(_) => false,
+    }
 }
 
 // Each of these texts of records is that of these commands.
 fn expect_commands(rt: &(impl AllocGlobal + Abort), texts: &[&[u8]], wanted: &[Command]) {
     for records in texts {
-        let commands = commands_of(rt, &joined(rt, COMMANDS, records));
-        assert!(rt; commands.as_slice() == wanted);
+        let input = joined(rt, COMMANDS, records);
+        expect_true(rt, has_commands(rt.alloc(), &input, wanted));
     }
 }
 
@@ -258,18 +272,21 @@ fn reads_commands(rt: HostRuntime) {
     );
 }
 
-// The calls of a file.
-fn calls_of(rt: &(impl AllocGlobal + Abort), input: &[u8]) -> Vec<Line> {
+// Whether a file has these calls.
+fn has_calls(alloc: Global, input: &[u8], wanted: &[Line]) -> bool {
     let mut reader = Counted::new(input);
-    let lines = read_schedule(rt.alloc(), &mut reader).expect(rt, "calls");
-    assert!(rt; reader.failures() == 0);
-    lines
+    match read_schedule(alloc, &mut reader) {
+        Ok(lines) => (reader.failures() == 0) & (lines.as_slice() == wanted),
+        Err(_) => false,
+    }
 }
 
 // A file of these records has these calls.
 fn expect_calls(rt: &(impl AllocGlobal + Abort), records: &[u8], wanted: &[Line]) {
-    let lines = calls_of(rt, &joined(rt, CALLS, records));
-    assert!(rt; lines.as_slice() == wanted);
+    expect_true(
+        rt,
+        has_calls(rt.alloc(), &joined(rt, CALLS, records), wanted),
+    );
 }
 
 #[test]

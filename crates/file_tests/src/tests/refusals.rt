@@ -1,6 +1,7 @@
 //! Files that are refused, in each of the three formats.
 
 use crate::tests::devices::{FailsAt, joined};
+use crate::tests::facts::expect_true;
 use cube_shape::MAX_DIM;
 use job_types::JobRefused;
 use jobs_csv::{Counted, Device, Fault, FaultKind, read_jobs, read_place, read_schedule};
@@ -31,18 +32,9 @@ fn fault_of(alloc: Global, format: Format, input: &[u8]) -> Option<Fault> {
     }
 }
 
-// A file of this format has this fault.
-fn expect_fault(
-    rt: &(impl AllocGlobal + Abort),
-    format: Format,
-    input: &[u8],
-    row: u64,
-    what: FaultKind,
-) {
-    match fault_of(rt.alloc(), format, input) {
-        None => assert!(rt; false, "no fault, wanted {what}"),
-        Some(fault) => assert!(rt; fault == Fault { row, what }, "{fault}, wanted {what}"),
-    }
+// Whether a file of this format has this fault.
+fn has_fault(alloc: Global, format: Format, input: &[u8], row: u64, what: FaultKind) -> bool {
+    fault_of(alloc, format, input) == Some(Fault { row, what })
 }
 
 // A file that begins with this head and ends with any of these texts has this fault at this record.
@@ -54,7 +46,8 @@ fn expect_faults(
     rows: &[(&[u8], FaultKind)],
 ) {
     for (text, what) in rows {
-        expect_fault(rt, format, &joined(rt, head, text), row, *what);
+        let input = joined(rt, head, text);
+        expect_true(rt, has_fault(rt.alloc(), format, &input, row, *what));
     }
 }
 
@@ -315,18 +308,18 @@ fn too_many(alloc: Global) -> Result<Vec<u8>, AllocError> {
 #[test]
 fn refuses_too_many(rt: HostRuntime) {
     let text = too_many(rt.alloc()).expect(&rt, "no memory");
-    expect_fault(&rt, Format::Commands, &text, 1_000_001, FaultKind::TooMany);
+    let (row, what) = (1_000_001, FaultKind::TooMany);
+    expect_true(
+        &rt,
+        has_fault(rt.alloc(), Format::Commands, &text, row, what),
+    );
 }
 
-// Whether a reader has failed: then the fault says so, and else there is none.
-fn has_failed(rt: &impl Abort, fault: Option<Fault>, failures: u64, calls: u64) -> bool {
+// Whether a fault tells whether a reader has failed: it is a failed read where one has, and else there
+// is none.
+fn tells(fault: Option<Fault>, has_failed: bool) -> bool {
     let (row, what) = (0, FaultKind::Read);
-    if failures == 0 {
-        assert!(rt; fault == None);
-        return false;
-    }
-    assert!(rt; fault == Some(Fault { row, what }), "at call {calls}");
-    true
+    ((fault == Some(Fault { row, what })) == has_failed) & ((fault == None) != has_failed)
 }
 
 // Whether a reader that fails at this call has failed.
@@ -334,16 +327,23 @@ fn fails_to_read(rt: &(impl AllocGlobal + Abort), calls: u64) -> bool {
     let text = b"command,name,dim\ntake,a,1\nfree,a,-\n".as_slice();
     let mut reader = Counted::new(FailsAt::new(text, calls));
     let fault = read_place(rt.alloc(), 3, &mut reader).err();
-    has_failed(rt, fault, reader.failures(), calls)
+    let failed = reader.failures() != 0;
+    expect_true(rt, tells(fault, failed));
+    failed
+}
+
+// How many reads there are, each of which is reported where it fails. Zero where each of a thousand
+// fails.
+fn reads(rt: &(impl AllocGlobal + Abort)) -> u64 {
+    for calls in 0..1000 {
+        if !fails_to_read(rt, calls) {
+            return calls;
+        }
+    }
+    0
 }
 
 #[test]
 fn reports_a_failed_read(rt: HostRuntime) {
-    for calls in 0..1000 {
-        if !fails_to_read(&rt, calls) {
-            assert!(rt; calls > 4);
-            return;
-        }
-    }
-    assert!(rt; false, "no read without a failed call");
+    expect_true(&rt, reads(&rt) > 4);
 }

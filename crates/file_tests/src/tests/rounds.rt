@@ -4,11 +4,18 @@ ghost use Rattle.std.specs.Prelude.{◌≡◌, ◌^◌, ◌<◌, ◌≤◌, All,
 ghost use Rattle.collectives.specs.Operations.{IsAffineValue};
 ghost use Rattle.collectives.specs.Shape.{message_count};
 
+use crate::tests::facts::expect_all;
 use collectives::{
     Add, Affine, And, DIM_LIMIT, Max, Message, Min, Monoid, Or, Shape, Tally, Xor, all_reduce,
     broadcast, exscan, message_at, pad, reduce, scan,
 };
 use std::process::Abort;
+
+// The map that changes nothing.
+const UNIT: Affine = Affine { a: 1, b: 0 };
+
+// All of the maps of `maps`, joined.
+const ALL_MAPS: Affine = Affine { a: 12, b: 23 };
 
 // Four maps that do not commute.
 fn maps() -> [Affine; 4]
@@ -34,15 +41,20 @@ fn joins<M: Monoid + PartialEq>(left: M, right: M, joined: M) -> bool {
 
 #[test]
 fn joined(rt: HostRuntime) {
-    assert!(rt; joins(Add(u64::MAX), Add(3), Add(2)));
-    assert!(rt; joins(Min(4), Min(9), Min(4)));
-    assert!(rt; joins(Max(4), Max(9), Max(9)));
-    assert!(rt; joins(Xor(6), Xor(3), Xor(5)));
-    assert!(rt; joins(And(6), And(3), And(2)));
-    assert!(rt; joins(Or(6), Or(3), Or(7)));
     let (first, second) = (Affine { a: 2, b: 1 }, Affine { a: 3, b: 4 });
-    assert!(rt; joins(first, second, Affine { a: 6, b: 7 }));
-    assert!(rt; joins(second, first, Affine { a: 6, b: 9 }));
+    expect_all(
+        &rt,
+        &[
+            joins(Add(u64::MAX), Add(3), Add(2)),
+            joins(Min(4), Min(9), Min(4)),
+            joins(Max(4), Max(9), Max(9)),
+            joins(Xor(6), Xor(3), Xor(5)),
+            joins(And(6), And(3), And(2)),
+            joins(Or(6), Or(3), Or(7)),
+            joins(first, second, Affine { a: 6, b: 7 }),
+            joins(second, first, Affine { a: 6, b: 9 }),
+        ],
+    );
 }
 
 // Whether this is the unit.
@@ -52,22 +64,32 @@ fn is_unit<M: Monoid + PartialEq>(unit: M) -> bool {
 
 #[test]
 fn units(rt: HostRuntime) {
-    assert!(rt; is_unit(Add(0)));
-    assert!(rt; is_unit(Min(18446744073709551615)));
-    assert!(rt; is_unit(Max(0)));
-    assert!(rt; is_unit(Xor(0)));
-    assert!(rt; is_unit(And(18446744073709551615)));
-    assert!(rt; is_unit(Or(0)));
-    assert!(rt; is_unit(Affine { a: 1, b: 0 }));
+    expect_all(
+        &rt,
+        &[
+            is_unit(Add(0)),
+            is_unit(Min(18446744073709551615)),
+            is_unit(Max(0)),
+            is_unit(Xor(0)),
+            is_unit(And(18446744073709551615)),
+            is_unit(Or(0)),
+            is_unit(Affine { a: 1, b: 0 }),
+        ],
+    );
 }
 
 #[test]
 fn values(rt: HostRuntime) {
     let most = 4294967295;
-    assert!(rt; Add(u64::MAX).is_value());
-    assert!(rt; Affine { a: most, b: most }.is_value());
-    assert!(rt; !Affine { a: most + 1, b: 0 }.is_value());
-    assert!(rt; !Affine { a: 1, b: most + 1 }.is_value());
+    expect_all(
+        &rt,
+        &[
+            Add(u64::MAX).is_value(),
+            Affine { a: most, b: most }.is_value(),
+            !Affine { a: most + 1, b: 0 }.is_value(),
+            !Affine { a: 1, b: most + 1 }.is_value(),
+        ],
+    );
 }
 
 // Whether a broadcast of these items leaves them so, with these rounds and messages.
@@ -83,14 +105,18 @@ fn broadcasts<M: Copy + PartialEq>(
     requires places { length items.old ≡ 2 ^ k }
     requires root { root < 2 ^ k }
 {
-    took(broadcast(items, k, root), rounds, messages) && *items == *after
+    took(broadcast(items, k, root), rounds, messages) & (*items == *after)
 }
 
 #[test]
 fn broadcast_from_one(rt: HostRuntime) {
-    assert!(rt; broadcasts(&mut [Add(4), Add(9)], 1, 1, &[Add(9); 2], 1, 1));
-    let after = &[Affine { a: 1, b: 5 }; 4];
-    assert!(rt; broadcasts(&mut maps(), 2, 2, after, 2, 3));
+    expect_all(
+        &rt,
+        &[
+            broadcasts(&mut [Add(4), Add(9)], 1, 1, &[Add(9); 2], 1, 1),
+            broadcasts(&mut maps(), 2, 2, &[Affine { a: 1, b: 5 }; 4], 2, 3),
+        ],
+    );
 }
 
 // Whether a reduction of these items leaves them so, with these rounds and messages.
@@ -107,17 +133,20 @@ fn reduces<M: Monoid + PartialEq>(
     requires root { root < 2 ^ k }
     requires values { All M.is_value items.old }
 {
-    took(reduce(items, k, root), rounds, messages) && *items == *after
+    took(reduce(items, k, root), rounds, messages) & (*items == *after)
 }
 
 #[test]
 fn reduce_to_one(rt: HostRuntime) {
     let unit = Min(u64::MAX);
-    let after = &[unit, unit, Min(3), unit];
-    assert!(rt; reduces(&mut [Min(5), Min(3), Min(9), Min(4)], 2, 2, after, 2, 3));
-    let unit = Affine { a: 1, b: 0 };
-    let after = &[unit, Affine { a: 12, b: 23 }, unit, unit];
-    assert!(rt; reduces(&mut maps(), 2, 1, after, 2, 3));
+    let items = &mut [Min(5), Min(3), Min(9), Min(4)];
+    expect_all(
+        &rt,
+        &[
+            reduces(items, 2, 2, &[unit, unit, Min(3), unit], 2, 3),
+            reduces(&mut maps(), 2, 1, &[UNIT, ALL_MAPS, UNIT, UNIT], 2, 3),
+        ],
+    );
 }
 
 // Whether an all-reduce of these items leaves them so, with these rounds and messages.
@@ -132,22 +161,19 @@ fn all_reduces<M: Monoid + PartialEq>(
     requires places { length items.old ≡ 2 ^ k }
     requires values { All M.is_value items.old }
 {
-    took(all_reduce(items, k), rounds, messages) && *items == *after
+    took(all_reduce(items, k), rounds, messages) & (*items == *after)
 }
 
 #[test]
 fn all_reduce_to_all(rt: HostRuntime) {
-    assert!(rt;
-        all_reduces(
-            &mut [Add(1), Add(2), Add(3), Add(4)],
-            2,
-            &[Add(10); 4],
-            2,
-            8
-        )
+    let items = &mut [Add(1), Add(2), Add(3), Add(4)];
+    expect_all(
+        &rt,
+        &[
+            all_reduces(items, 2, &[Add(10); 4], 2, 8),
+            all_reduces(&mut maps(), 2, &[ALL_MAPS; 4], 2, 8),
+        ],
     );
-    let after = &[Affine { a: 12, b: 23 }; 4];
-    assert!(rt; all_reduces(&mut maps(), 2, after, 2, 8));
 }
 
 // Whether a scan of these items leaves them so and their total at each place of the scratch, with
@@ -166,21 +192,30 @@ fn scans<M: Monoid + PartialEq>(
     requires scratch { length scratch.old ≡ 2 ^ k }
     requires values { All M.is_value items.old }
 {
-    took(scan(items, scratch, k), rounds, messages) && *items == *after && *scratch == *totals
+    took(scan(items, scratch, k), rounds, messages) & (*items == *after) & (*scratch == *totals)
 }
+
+const SUMS: &[Add] = &[
+    Add(1),
+    Add(3),
+    Add(6),
+    Add(10),
+    Add(15),
+    Add(21),
+    Add(28),
+    Add(36),
+];
+
+// Each of the maps after those before it.
+const MAPS_SO_FAR: &[Affine] = &[
+    Affine { a: 2, b: 1 },
+    Affine { a: 6, b: 3 },
+    Affine { a: 6, b: 8 },
+    ALL_MAPS,
+];
 
 #[test]
 fn scan_of_all(rt: HostRuntime) {
-    let after = &[
-        Add(1),
-        Add(3),
-        Add(6),
-        Add(10),
-        Add(15),
-        Add(21),
-        Add(28),
-        Add(36),
-    ];
     let items = &mut [
         Add(1),
         Add(2),
@@ -191,15 +226,15 @@ fn scan_of_all(rt: HostRuntime) {
         Add(7),
         Add(8),
     ];
-    assert!(rt; scans(items, &mut [Add(0); 8], 3, after, &[Add(36); 8], 3, 24));
-    let after = &[
-        Affine { a: 2, b: 1 },
-        Affine { a: 6, b: 3 },
-        Affine { a: 6, b: 8 },
-        Affine { a: 12, b: 23 },
-    ];
-    let totals = &[Affine { a: 12, b: 23 }; 4];
-    assert!(rt; scans(&mut maps(), &mut maps(), 2, after, totals, 2, 8));
+    let (zeros, totals) = (&mut [Add(0); 8], &[Add(36); 8]);
+    let (maps_of, scratch) = (&mut maps(), &mut maps());
+    expect_all(
+        &rt,
+        &[
+            scans(items, zeros, 3, SUMS, totals, 3, 24),
+            scans(maps_of, scratch, 2, MAPS_SO_FAR, &[ALL_MAPS; 4], 2, 8),
+        ],
+    );
 }
 
 // Whether an exclusive scan of these items leaves them so and their total at each place of the
@@ -218,21 +253,30 @@ fn exscans<M: Monoid + PartialEq>(
     requires scratch { length scratch.old ≡ 2 ^ k }
     requires values { All M.is_value items.old }
 {
-    took(exscan(items, scratch, k), rounds, messages) && *items == *after && *scratch == *totals
+    took(exscan(items, scratch, k), rounds, messages) & (*items == *after) & (*scratch == *totals)
 }
+
+const SUMS_BEFORE: &[Add] = &[
+    Add(0),
+    Add(1),
+    Add(3),
+    Add(6),
+    Add(10),
+    Add(15),
+    Add(21),
+    Add(28),
+];
+
+// The maps before each of the maps, joined.
+const MAPS_BEFORE: &[Affine] = &[
+    UNIT,
+    Affine { a: 2, b: 1 },
+    Affine { a: 6, b: 3 },
+    Affine { a: 6, b: 8 },
+];
 
 #[test]
 fn scan_of_those_before(rt: HostRuntime) {
-    let after = &[
-        Add(0),
-        Add(1),
-        Add(3),
-        Add(6),
-        Add(10),
-        Add(15),
-        Add(21),
-        Add(28),
-    ];
     let items = &mut [
         Add(1),
         Add(2),
@@ -243,25 +287,30 @@ fn scan_of_those_before(rt: HostRuntime) {
         Add(7),
         Add(8),
     ];
-    assert!(rt; exscans(items, &mut [Add(0); 8], 3, after, &[Add(36); 8], 3, 24));
-    let after = &[
-        Affine { a: 1, b: 0 },
-        Affine { a: 2, b: 1 },
-        Affine { a: 6, b: 3 },
-        Affine { a: 6, b: 8 },
-    ];
-    let totals = &[Affine { a: 12, b: 23 }; 4];
-    assert!(rt; exscans(&mut maps(), &mut maps(), 2, after, totals, 2, 8));
+    let (zeros, totals) = (&mut [Add(0); 8], &[Add(36); 8]);
+    let (maps_of, scratch) = (&mut maps(), &mut maps());
+    expect_all(
+        &rt,
+        &[
+            exscans(items, zeros, 3, SUMS_BEFORE, totals, 3, 24),
+            exscans(maps_of, scratch, 2, MAPS_BEFORE, &[ALL_MAPS; 4], 2, 8),
+        ],
+    );
 }
 
 #[test]
 fn one_place(rt: HostRuntime) {
-    let seven = &[Max(7)];
-    assert!(rt; broadcasts(&mut [Max(7)], 0, 0, seven, 0, 0));
-    assert!(rt; reduces(&mut [Max(7)], 0, 0, seven, 0, 0));
-    assert!(rt; all_reduces(&mut [Max(7)], 0, seven, 0, 0));
-    assert!(rt; scans(&mut [Max(7)], &mut [Max(0)], 0, seven, seven, 0, 0));
-    assert!(rt; exscans(&mut [Max(7)], &mut [Max(7)], 0, &[Max(0)], seven, 0, 0));
+    const SEVEN: &[Max] = &[Max(7)];
+    expect_all(
+        &rt,
+        &[
+            broadcasts(&mut [Max(7)], 0, 0, SEVEN, 0, 0),
+            reduces(&mut [Max(7)], 0, 0, SEVEN, 0, 0),
+            all_reduces(&mut [Max(7)], 0, SEVEN, 0, 0),
+            scans(&mut [Max(7)], &mut [Max(0)], 0, SEVEN, SEVEN, 0, 0),
+            exscans(&mut [Max(7)], &mut [Max(7)], 0, &[Max(0)], SEVEN, 0, 0),
+        ],
+    );
 }
 
 // Whether these items, padded for a cube of this dimension, are these.
@@ -276,15 +325,20 @@ fn pads<M: Monoid + PartialEq>(
     requires values { All M.is_value items.now }
 {
     let mut padded = Vec::from_slice(rt.alloc(), items).expect(rt, "no memory");
-    pad(&mut padded, k).is_ok() && padded.as_slice() == wanted
+    pad(&mut padded, k).is_ok() & (padded.as_slice() == wanted)
 }
 
 #[test]
 fn units_past_the_items(rt: HostRuntime) {
     let padded = &[Min(9), Min(4), Min(7), Min(18446744073709551615)];
-    assert!(rt; pads(&rt, &[Min(9), Min(4), Min(7)], 2, padded));
-    assert!(rt; pads(&rt, padded, 2, padded));
-    assert!(rt; pads(&rt, &[], 1, &[Affine { a: 1, b: 0 }; 2]));
+    expect_all(
+        &rt,
+        &[
+            pads(&rt, &[Min(9), Min(4), Min(7)], 2, padded),
+            pads(&rt, padded, 2, padded),
+            pads(&rt, &[], 1, &[UNIT; 2]),
+        ],
+    );
 }
 
 // Whether the message of this number goes in this round between these ranks.
@@ -298,13 +352,18 @@ fn sends(shape: Shape, k: u32, root: u64, number: u64, round: u32, from: u64, to
 
 #[test]
 fn messages(rt: HostRuntime) {
-    assert!(rt; sends(Shape::Broadcast, 2, 1, 0, 0, 1, 0));
-    assert!(rt; sends(Shape::Broadcast, 2, 1, 1, 1, 1, 3));
-    assert!(rt; sends(Shape::Broadcast, 2, 1, 2, 1, 0, 2));
-    assert!(rt; sends(Shape::Reduce, 2, 2, 0, 0, 1, 0));
-    assert!(rt; sends(Shape::Reduce, 2, 2, 1, 0, 3, 2));
-    assert!(rt; sends(Shape::Reduce, 2, 2, 2, 1, 0, 2));
-    assert!(rt; sends(Shape::AllReduce, 1, 0, 0, 0, 0, 1));
-    assert!(rt; sends(Shape::AllReduce, 1, 0, 1, 0, 1, 0));
-    assert!(rt; sends(Shape::Scan, 2, 0, 6, 1, 2, 0));
+    expect_all(
+        &rt,
+        &[
+            sends(Shape::Broadcast, 2, 1, 0, 0, 1, 0),
+            sends(Shape::Broadcast, 2, 1, 1, 1, 1, 3),
+            sends(Shape::Broadcast, 2, 1, 2, 1, 0, 2),
+            sends(Shape::Reduce, 2, 2, 0, 0, 1, 0),
+            sends(Shape::Reduce, 2, 2, 1, 0, 3, 2),
+            sends(Shape::Reduce, 2, 2, 2, 1, 0, 2),
+            sends(Shape::AllReduce, 1, 0, 0, 0, 0, 1),
+            sends(Shape::AllReduce, 1, 0, 1, 0, 1, 0),
+            sends(Shape::Scan, 2, 0, 6, 1, 2, 0),
+        ],
+    );
 }

@@ -1,7 +1,8 @@
 //! Rows that are written, and writers that fail.
 
-use crate::tests::commands::has_failed;
+use crate::tests::commands::tells;
 use crate::tests::devices::FailsAt;
+use crate::tests::facts::{expect_all, expect_true};
 use crate::tests::jobs::reply_to;
 use crate::tests::readings::writes;
 use cube_core::{Event, Kind, Note, Refused};
@@ -41,9 +42,12 @@ fn expect_written<T: Row>(
 ) {
     let mut writer = Counted::new(Vec::new(rt.alloc()));
     let lines = LineBuffer::new(rt.alloc()).expect(rt, "no memory");
-    assert!(rt; write_text(lines, rows, flushes, &mut writer) == Ok(()));
-    assert!(rt; writer.failures() == 0);
-    assert!(rt; writer.get_ref().as_slice() == wanted.as_bytes());
+    let answer = write_text(lines, rows, flushes, &mut writer);
+    let is_written = writer.get_ref().as_slice() == wanted.as_bytes();
+    expect_true(
+        rt,
+        (answer == Ok(())) & (writer.failures() == 0) & is_written,
+    );
 }
 
 // These rows are written under their header, whether the buffer is written out once or after each.
@@ -236,20 +240,23 @@ fn write_many<W: Write>(
     Ok(lines)
 }
 
-// Two full buffers are written, and no third one.
-fn expect_two_pieces(rt: &impl Abort, written: usize) {
-    assert!(rt; written >= 131_072 && written < 150_000, "{written}");
-}
-
-// A buffer of 65,536 bytes is full: 180,000 bytes go out in two pieces, and the rest at the end.
+// A buffer of 65,536 bytes is full: 180,000 bytes go out in two pieces, and the rest at the end. So two
+// full buffers are written before the end, and no third one.
 #[test]
 fn writes_out_full_buffers(rt: HostRuntime) {
     let mut writer = Counted::new(Vec::new(rt.alloc()));
     let lines = LineBuffer::new(rt.alloc()).expect(&rt, "no memory");
     let lines = write_many(lines, 6_000, &mut writer).expect(&rt, "all lines");
-    expect_two_pieces(&rt, writer.get_ref().len());
-    assert!(rt; lines.finish(&mut writer) == Ok(()));
-    assert!(rt; writer.get_ref().len() == 6_000 * 30);
+    let written = writer.get_ref().len();
+    expect_all(
+        &rt,
+        &[
+            written >= 131_072,
+            written < 150_000,
+            lines.finish(&mut writer) == Ok(()),
+            writer.get_ref().len() == 6_000 * 30,
+        ],
+    );
 }
 
 // Two replies.
@@ -278,16 +285,18 @@ fn fails_to_write(
     };
     let mut writer = Counted::new(device);
     let answer = write_rows(rt, rt.alloc(), 2, two_replies(rt), &mut writer);
-    has_failed(rt, answer, writer.failures(), FaultKind::Write, calls)
+    let failed = writer.failures() != 0;
+    expect_true(rt, tells(answer, failed, FaultKind::Write));
+    failed
 }
 
 // Fourteen writes fail, each where its call does, and then a flush where it may fail.
 fn expect_failures(rt: &(impl AllocGlobal + Abort + Threads + Sync), gives_zero: bool) {
     for calls in 0..14 {
-        assert!(rt; fails_to_write(rt, calls, gives_zero), "at call {calls}");
+        expect_true(rt, fails_to_write(rt, calls, gives_zero));
     }
-    assert!(rt; fails_to_write(rt, 14, gives_zero) != gives_zero);
-    assert!(rt; !fails_to_write(rt, 15, gives_zero));
+    let flushes = fails_to_write(rt, 14, gives_zero) != gives_zero;
+    expect_true(rt, flushes & !fails_to_write(rt, 15, gives_zero));
 }
 
 // The header has 41 bytes and each line 26: fourteen writes of seven bytes at most, and a flush.
@@ -326,7 +335,7 @@ fn expect_many(
 ) -> Result<(), Fail> {
     let wanted = text_of_many(rt, count)?;
     let is_right = writes(rt, threads, many_replies(rt, count), wanted.as_bytes());
-    assert!(rt; is_right, "{count} by {threads}");
+    expect_true(rt, is_right);
     Ok(())
 }
 

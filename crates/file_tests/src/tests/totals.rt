@@ -3,6 +3,7 @@
 ghost use Rattle.std.specs.Prelude.{◌≡◌, ◌^◌, ◌+◌, ◌≤◌, IfOk, length};
 ghost use Rattle.floors.specs.Floor.{IsWhollyFree};
 
+use crate::tests::facts::expect_true;
 use crate::tests::jobs::reply_to;
 use cube_ledger::{Ledger, Slip, Totals};
 use cube_occupancy::{FREE_PLACES, Occupancy, occupancy};
@@ -70,7 +71,7 @@ fn are(totals: Totals, jobs: u64, processors: u128, idle: u128) -> bool {
 fn expect_lanes(rt: &impl Abort, ledger: &Ledger, rows: &[(u32, u64, u128, u128)]) {
     for (lane, jobs, processors, idle) in rows {
         let totals = ledger.lane(*lane);
-        assert!(rt; are(totals, *jobs, *processors, *idle), "lane {lane}");
+        expect_true(rt, are(totals, *jobs, *processors, *idle));
     }
 }
 
@@ -79,7 +80,7 @@ fn expect_lanes(rt: &impl Abort, ledger: &Ledger, rows: &[(u32, u64, u128, u128)
 fn expect_dims(rt: &impl Abort, ledger: &Ledger, rows: &[(u32, u64, u128, u128)]) {
     for (dim, jobs, processors, idle) in rows {
         let totals = ledger.dim(*dim);
-        assert!(rt; are(totals, *jobs, *processors, *idle), "dimension {dim}");
+        expect_true(rt, are(totals, *jobs, *processors, *idle));
     }
 }
 
@@ -91,19 +92,19 @@ fn ledger_of(rt: &(impl AllocGlobal + Abort), finished: &Finished<()>) -> Ledger
 // Whether the slip of a reply has this id, this region and so many idle processors.
 fn is_slip(reply: &Reply, id: JobId, region: Region, idle: u64) -> bool {
     let slip = Slip::of(reply);
-    slip.id == id && slip.region == region && slip.idle == idle
+    (slip.id == id) & (slip.region == region) & (slip.idle == idle)
 }
 
 // The first of these replies is the second of lane 1, on the whole machine, with three idle processors.
 fn expect_slip(rt: &impl Abort, replies: &[Reply]) {
     let reply = replies.first().expect(rt, "a reply");
     let (id, region) = (JobId { lane: 1, seq: 1 }, Region { base: 0, dim: 3 });
-    assert!(rt; is_slip(reply, id, region, 3));
+    expect_true(rt, is_slip(reply, id, region, 3));
 }
 
 // A ledger counts three jobs in all on 14 processors, of which 4 were idle.
 fn expect_total(rt: &impl Abort, ledger: &Ledger) {
-    assert!(rt; are(ledger.total(), 3, 14, 4));
+    expect_true(rt, are(ledger.total(), 3, 14, 4));
 }
 
 #[test]
@@ -143,10 +144,9 @@ fn said(n: u32, words: &[u64]) -> Occupancy
     occupancy(n, words)
 }
 
-// So many free regions of a dimension are those of its place in a list, and none past its end.
-fn expect_free(rt: &impl Abort, count: u64, free: &[u64], dim: usize) {
-    let wanted = free.get(dim).copied().unwrap_or(0);
-    assert_eq!(rt; count, wanted, "of dimension {dim}");
+// Whether so many free regions of a dimension are those of its place in a list, and none past its end.
+fn is_free(count: u64, free: &[u64], dim: usize) -> bool {
+    count == free.get(dim).copied().unwrap_or(0)
 }
 
 // The machine with these words has these free regions, by dimension, and none of a higher
@@ -164,9 +164,9 @@ fn expect_occupancy(
 {
     let said = said(n, words);
     for dim in 0..FREE_PLACES {
-        expect_free(rt, said.free[dim], free, dim);
+        expect_true(rt, is_free(said.free[dim], free, dim));
     }
-    assert!(rt; said.held == held && said.largest == largest);
+    expect_true(rt, (said.held == held) & (said.largest == largest));
 }
 
 #[test]
@@ -214,10 +214,7 @@ fn rows(rt: &(impl AllocGlobal + Abort)) -> Result<Vec<ReportRow>, Fail> {
 
 // The rows are these.
 fn expect_rows(rt: &impl Abort, rows: &[ReportRow], wanted: &[ReportRow]) {
-    assert!(rt; rows.len() == wanted.len());
-    for (place, row) in wanted.iter().enumerate() {
-        assert!(rt; rows.get(place) == Some(row), "row {place}");
-    }
+    expect_true(rt, rows == wanted);
 }
 
 #[test]

@@ -1,8 +1,12 @@
 //! What good command lines ask for. Bad ones and the helps are seen by running the program.
 
+use crate::tests::facts::expect_true;
 use cli_words::{FileNames, Invocation, Request, ShopOptions, parse_args};
 use cube_shape::MAX_STATIONS;
 use std::process::Abort;
+
+// A machine of dimension 3.
+const PLACE: Invocation = Invocation::Place { n: 3 };
 
 // The words of a line, with a space between two of them.
 fn words_of(rt: &(impl AllocGlobal + Abort), line: &str) -> Vec<String> {
@@ -42,18 +46,10 @@ fn asks_for(
     ask(rt, line) == Some(Request { invocation, files })
 }
 
-// Each of these lines asks for this, with no file.
-fn expect_lines(rt: &(impl AllocGlobal + Abort), rows: &[(&str, Invocation)]) {
-    for (line, wanted) in rows {
-        assert!(rt; asks_for(rt, line, *wanted, "", ""), "{line}");
-    }
-}
-
-// Each of these lines asks for a machine of dimension 3 with the files of these names, of which none is empty.
-fn expect_files(rt: &(impl AllocGlobal + Abort), rows: &[(&str, &str, &str)]) {
-    for (line, input, output) in rows {
-        let place = Invocation::Place { n: 3 };
-        assert!(rt; asks_for(rt, line, place, input, output), "{line}");
+// Each of these lines asks for this, with files of these names.
+fn expect_lines(rt: &(impl AllocGlobal + Abort), rows: &[(&str, Invocation, &str, &str)]) {
+    for (line, wanted, input, output) in rows {
+        expect_true(rt, asks_for(rt, line, *wanted, input, output));
     }
 }
 
@@ -85,49 +81,68 @@ fn reads_command_lines(rt: HostRuntime) {
     expect_lines(
         &rt,
         &[
-            ("cubejobs run --dim 0", a_run(0, 2, 16)),
-            ("cubejobs run --dim=12", a_run(12, 2, 16)),
+            ("cubejobs run --dim 0", a_run(0, 2, 16), "", ""),
+            ("cubejobs run --dim=12", a_run(12, 2, 16), "", ""),
             (
                 "cubejobs run --dim 3 --dispatchers 1 --capacity=1",
                 a_run(3, 1, 1),
+                "",
+                "",
             ),
             (
                 "cubejobs run --capacity 1024 --dispatchers 16 --dim 3",
                 a_run(3, 16, 1024),
+                "",
+                "",
             ),
-            ("cubejobs report --quiet --dim 3", quiet),
-            ("cubejobs report --dim 3", a_report(3, 2, 16)),
+            ("cubejobs report --quiet --dim 3", quiet, "", ""),
+            ("cubejobs report --dim 3", a_report(3, 2, 16), "", ""),
             (
                 "cubejobs report --dim=12 --dispatchers=16 --capacity=1024",
                 a_report(12, 16, 1024),
+                "",
+                "",
             ),
             (
                 "cubejobs report --capacity 1 --dispatchers 3 --dim 0",
                 a_report(0, 3, 1),
+                "",
+                "",
             ),
-            ("cubejobs place --dim 3", Invocation::Place { n: 3 }),
-            ("cubejobs replay --dim 2 --stations 48", replay),
+            ("cubejobs place --dim 3", PLACE, "", ""),
+            ("cubejobs replay --dim 2 --stations 48", replay, "", ""),
         ],
     );
 }
 
 #[test]
 fn reads_names_of_files(rt: HostRuntime) {
-    expect_files(
+    expect_lines(
         &rt,
         &[
-            ("cubejobs place --dim 3 in.csv", "in.csv", ""),
-            ("cubejobs place in.csv --dim 3", "in.csv", ""),
-            ("cubejobs place --dim 3 --output out.csv", "", "out.csv"),
+            ("cubejobs place --dim 3 in.csv", PLACE, "in.csv", ""),
+            ("cubejobs place in.csv --dim 3", PLACE, "in.csv", ""),
+            (
+                "cubejobs place --dim 3 --output out.csv",
+                PLACE,
+                "",
+                "out.csv",
+            ),
             (
                 "cubejobs place --output=out.csv --dim 3 in.csv",
+                PLACE,
                 "in.csv",
                 "out.csv",
             ),
-            ("cubejobs place --dim 3 -- --dim", "--dim", ""),
-            ("cubejobs place --dim 3 -", "", ""),
-            ("cubejobs place --dim 3 in.csv --output -", "in.csv", ""),
-            ("cubejobs place --dim 3 ./-", "./-", ""),
+            ("cubejobs place --dim 3 -- --dim", PLACE, "--dim", ""),
+            ("cubejobs place --dim 3 -", PLACE, "", ""),
+            (
+                "cubejobs place --dim 3 in.csv --output -",
+                PLACE,
+                "in.csv",
+                "",
+            ),
+            ("cubejobs place --dim 3 ./-", PLACE, "./-", ""),
         ],
     );
 }
