@@ -1,11 +1,10 @@
 //! Jobs of any number of items: their replies beside plain folds, and a file of mixed sizes.
 
-use crate::tests::commands::run_by;
+use crate::tests::commands::writes_all;
 use crate::tests::facts::expect_true;
 use crate::tests::jobs::{answered, is_job, made};
 use dispatcher::Plain;
 use job_types::{JobId, Kind, Op, Reply};
-use jobs_csv::Counted;
 use std::alloc::Global;
 use std::process::Abort;
 use std::sync::Wait;
@@ -25,19 +24,14 @@ fn joined(op: Op, left: u64, right: u64) -> u64 {
     }
 }
 
-// These numbers, joined from the first on, with no unit; nothing for none.
-fn fold(op: Op, numbers: &[u64]) -> Option<u64> {
-    let mut numbers = numbers.iter();
-    let mut total = *numbers.next()?;
-    for number in numbers {
-        total = joined(op, total, *number);
+// The first so many of these numbers, of which there is one or more, joined with no unit; nothing where
+// there are fewer.
+fn fold(op: Op, numbers: &[u64], count: usize) -> Option<u64> {
+    let mut total = *numbers.first()?;
+    for place in 1..count {
+        total = joined(op, total, *numbers.get(place)?);
     }
     Some(total)
-}
-
-// The first so many of these numbers, joined; nothing where there are fewer, or none.
-fn fold_first(op: Op, numbers: &[u64], count: usize) -> Option<u64> {
-    fold(op, numbers.get(..count)?)
 }
 
 // What joins with a number and leaves it as it was.
@@ -56,10 +50,10 @@ fn wanted(kind: Kind, items: &[u64], rank: usize) -> Option<u64> {
     match kind {
         Kind::Broadcast { root } => items.get(root as usize).copied(),
         Kind::Reduce { root, .. } if rank as u64 != root => None,
-        Kind::Reduce { op, .. } | Kind::AllReduce { op } => fold(op, items),
-        Kind::Scan { op } => fold_first(op, items, rank.saturating_add(1)),
+        Kind::Reduce { op, .. } | Kind::AllReduce { op } => fold(op, items, items.len()),
+        Kind::Scan { op } => fold(op, items, rank.saturating_add(1)),
         Kind::ExScan { op } if rank == 0 => Some(unit(op)),
-        Kind::ExScan { op } => fold_first(op, items, rank),
+        Kind::ExScan { op } => fold(op, items, rank),
     }
 }
 
@@ -96,6 +90,13 @@ fn expect_kind(rt: &impl Abort, alloc: Global, n: u32, dim: u32, kind: Kind, ite
     expect_plain(rt, &reply, kind, items);
 }
 
+// Jobs of these kinds.
+fn expect_each(rt: &impl Abort, alloc: Global, n: u32, dim: u32, kinds: &[Kind], items: &[u64]) {
+    for kind in kinds {
+        expect_kind(rt, alloc, n, dim, *kind, items);
+    }
+}
+
 // Jobs of all kinds, with this operation and this root.
 fn expect_kinds(
     rt: &impl Abort,
@@ -106,11 +107,14 @@ fn expect_kinds(
     root: u64,
     items: &[u64],
 ) {
-    expect_kind(rt, alloc, n, dim, Kind::Broadcast { root }, items);
-    expect_kind(rt, alloc, n, dim, Kind::Reduce { op, root }, items);
-    expect_kind(rt, alloc, n, dim, Kind::AllReduce { op }, items);
-    expect_kind(rt, alloc, n, dim, Kind::Scan { op }, items);
-    expect_kind(rt, alloc, n, dim, Kind::ExScan { op }, items);
+    let kinds = &[
+        Kind::Broadcast { root },
+        Kind::Reduce { op, root },
+        Kind::AllReduce { op },
+        Kind::Scan { op },
+        Kind::ExScan { op },
+    ];
+    expect_each(rt, alloc, n, dim, kinds, items);
 }
 
 // Each row is the dimension of a machine, a number of items, and the dimension of the least region that
@@ -174,17 +178,17 @@ fn gives(
     rt: &(impl AllocGlobal + Abort + Threads + Wait + Sync),
     dispatchers: u32,
     file: &[u8],
-    wanted: &str,
+    wanted: &[u8],
 ) -> bool {
-    let mut reader = Counted::new(file);
-    let mut writer = Counted::new(Vec::new(rt.alloc()));
-    let answer = run_by(rt, 3, dispatchers, 2, &Plain, &mut reader, &mut writer);
-    answer.is_ok() & (writer.get_ref().as_slice() == wanted.as_bytes())
+    writes_all(rt, false, 3, dispatchers, 2, &Plain, file, wanted)
 }
 
 #[test]
 fn mixed_sizes_over_dispatchers(rt: HostRuntime) {
     for dispatchers in [1, 2, 4, 16] {
-        expect_true(&rt, gives(&rt, dispatchers, MIXED, MIXED_REPLIES));
+        expect_true(
+            &rt,
+            gives(&rt, dispatchers, MIXED, MIXED_REPLIES.as_bytes()),
+        );
     }
 }

@@ -3,7 +3,7 @@
 ghost use Rattle.std.specs.Prelude.{◌≤◌};
 ghost use Rattle.cli_words.specs.CommandLine.{AreShopSizes};
 
-use crate::tests::devices::FailsAt;
+use crate::tests::devices::{FailsAt, add, joined, replies_text};
 use crate::tests::facts::{expect_all, expect_true};
 use cli_commands::{place_on, replay_on, report_on, run_on};
 use cube_shape::{MAX_CAPACITY, MAX_DIM, MAX_DISPATCHERS};
@@ -13,7 +13,6 @@ use std::alloc::Global;
 use std::io::{Read, Write};
 use std::process::Abort;
 use std::sync::Wait;
-use std::test::Fail;
 use std::thread::Threads;
 
 // A command of the program.
@@ -35,7 +34,7 @@ fn expect_shop(rt: &impl Abort, n: u32, dispatchers: u32, capacity: usize)
 }
 
 // A run by so many dispatchers.
-pub fn run_by<T: Runner + Sync, R: Read + Device, W: Write + Device>(
+fn run_by<T: Runner + Sync, R: Read + Device, W: Write + Device>(
     rt: &(impl AllocGlobal + Abort + Threads + Wait + Sync),
     n: u32,
     dispatchers: u32,
@@ -49,17 +48,19 @@ pub fn run_by<T: Runner + Sync, R: Read + Device, W: Write + Device>(
     run_on(rt, alloc, n, dispatchers, capacity, runner, reader, writer)
 }
 
-// A report by two dispatchers.
-pub fn report_by<T: Runner + Sync, R: Read + Device, W: Write + Device>(
+// A report by so many dispatchers.
+fn report_by<T: Runner + Sync, R: Read + Device, W: Write + Device>(
     rt: &(impl AllocGlobal + Abort + Threads + Wait + Sync),
     n: u32,
+    dispatchers: u32,
     capacity: usize,
     runner: &T,
     reader: &mut R,
     writer: &mut W,
 ) -> Result<(), Fault> {
-    expect_shop(rt, n, 2, capacity);
-    report_on(rt, rt.alloc(), n, 2, capacity, runner, reader, writer)
+    expect_shop(rt, n, dispatchers, capacity);
+    let alloc = rt.alloc();
+    report_on(rt, alloc, n, dispatchers, capacity, runner, reader, writer)
 }
 
 // The commands of a file, on a machine of dimension 3.
@@ -89,7 +90,7 @@ fn answer<R: Read + Device, W: Write + Device>(
 ) -> Result<(), Fault> {
     match command {
         Command::Run => run_by(rt, 3, 2, 16, &Plain, reader, writer),
-        Command::Report => report_by(rt, 3, 16, &Plain, reader, writer),
+        Command::Report => report_by(rt, 3, 2, 16, &Plain, reader, writer),
         Command::Place => places(rt.alloc(), reader, writer),
         Command::Replay => replays(rt.alloc(), reader, writer),
     }
@@ -243,38 +244,56 @@ fn reports_a_failed_write(rt: HostRuntime) {
 }
 
 // So many jobs of one item.
-fn long_input(alloc: Global, count: u64) -> Result<Vec<u8>, Fail> {
-    let mut input = Vec::from_slice(alloc, b"lane,kind,op,root,items\n")?;
+fn long_input(rt: &(impl AllocGlobal + Abort), count: u64) -> Vec<u8> {
+    let mut input = joined(rt, b"lane,kind,op,root,items\n", b"");
     for _ in 0..count {
-        input.extend_from_slice(b"3,scan,add,0,1\n")?;
+        add(rt, &mut input, b"3,scan,add,0,1\n");
     }
-    Ok(input)
-}
-
-// The replies to so many jobs of one item.
-fn long_output(alloc: Global, count: u64) -> Result<Vec<u8>, Fail> {
-    let mut wanted = Vec::from_slice(alloc, b"lane,seq,kind,dim,result,rounds,messages\n")?;
-    for seq in 0..count {
-        let reply = format!(in alloc; "3,{seq},scan,0,1,0,0\n")?;
-        wanted.extend_from_slice(reply.as_bytes())?;
-    }
-    Ok(wanted)
+    input
 }
 
 // So many jobs of one item, and their replies.
-pub fn long_file(alloc: Global, count: u64) -> Result<(Vec<u8>, Vec<u8>), Fail> {
-    Ok((long_input(alloc, count)?, long_output(alloc, count)?))
+pub fn long_file(rt: &(impl AllocGlobal + Abort), count: u64) -> (Vec<u8>, String) {
+    (
+        long_input(rt, count),
+        replies_text(rt, "3", "scan", false, count),
+    )
 }
 
-// Whether a run of this file is good, and writes all of this.
-fn writes_all(
+// Whether a run or a report of this file by so many dispatchers is good, and writes all of this.
+pub fn writes_all<T: Runner + Sync>(
     rt: &(impl AllocGlobal + Abort + Threads + Wait + Sync),
+    is_report: bool,
+    n: u32,
+    dispatchers: u32,
+    capacity: usize,
+    runner: &T,
     input: &[u8],
     wanted: &[u8],
 ) -> bool {
     let mut reader = Counted::new(input);
     let mut writer = Counted::new(Vec::new(rt.alloc()));
-    let answer = run_by(rt, 0, 2, 16, &Plain, &mut reader, &mut writer);
+    let answer = if is_report {
+        report_by(
+            rt,
+            n,
+            dispatchers,
+            capacity,
+            runner,
+            &mut reader,
+            &mut writer,
+        )
+    } else {
+        run_by(
+            rt,
+            n,
+            dispatchers,
+            capacity,
+            runner,
+            &mut reader,
+            &mut writer,
+        )
+    };
     let failures = reader.failures().saturating_add(writer.failures());
     (answer == Ok(())) & (failures == 0) & (writer.get_ref().as_slice() == wanted)
 }
@@ -299,15 +318,15 @@ fn writes_beginning(
 
 // The replies are written in several pieces; what came before a failed write is their beginning.
 #[test]
-fn writes_long_files(rt: HostRuntime) -> Result<(), Fail> {
-    let (input, wanted) = long_file(rt.alloc(), 8_000)?;
+fn writes_long_files(rt: HostRuntime) {
+    let (input, wanted) = long_file(&rt, 8_000);
+    let (input, wanted) = (input.as_slice(), wanted.as_bytes());
     expect_all(
         &rt,
         &[
             wanted.len() > 150_000,
-            writes_all(&rt, &input, &wanted),
-            writes_beginning(&rt, &input, &wanted),
+            writes_all(&rt, false, 0, 2, 16, &Plain, input, wanted),
+            writes_beginning(&rt, input, wanted),
         ],
     );
-    Ok(())
 }

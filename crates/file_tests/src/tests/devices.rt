@@ -61,9 +61,40 @@ impl<D: Write> Write for FailsAt<D> {
     }
 }
 
+// Puts these bytes behind a text.
+pub fn add(rt: &impl Abort, text: &mut Vec<u8>, more: &[u8]) {
+    text.extend_from_slice(more).expect(rt, "no memory");
+}
+
 // Two texts joined.
 pub fn joined(rt: &(impl AllocGlobal + Abort), a: &[u8], b: &[u8]) -> Vec<u8> {
-    let mut text = Vec::from_slice(rt.alloc(), a).expect(rt, "no memory");
-    text.extend_from_slice(b).expect(rt, "no memory");
+    let mut text = Vec::new(rt.alloc());
+    add(rt, &mut text, a);
+    add(rt, &mut text, b);
+    text
+}
+
+// Puts these characters behind a text.
+fn add_str(rt: &impl Abort, text: &mut String, more: &str) {
+    text.push_str(more).expect(rt, "no memory");
+}
+
+// The file of so many replies of a lane, each to a job of this kind on one item, which is its own number
+// or 1.
+pub fn replies_text(
+    rt: &(impl AllocGlobal + Abort),
+    lane: &str,
+    kind: &str,
+    is_own: bool,
+    count: u64,
+) -> String {
+    let alloc = rt.alloc();
+    let mut text = String::new(alloc);
+    add_str(rt, &mut text, "lane,seq,kind,dim,result,rounds,messages\n");
+    for seq in 0..count {
+        let item = if is_own { seq } else { 1 };
+        let line = format!(in alloc; "{lane},{seq},{kind},0,{item},0,0\n");
+        add_str(rt, &mut text, line.expect(rt, "no memory").as_str());
+    }
     text
 }

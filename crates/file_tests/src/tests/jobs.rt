@@ -77,6 +77,25 @@ pub fn reply_to(
     answered(made(rt, alloc, n, id.lane, kind, items), id)
 }
 
+// The replies to jobs of this kind, for the machine of dimension 3. Each row is the lane and the number of
+// a job, and its items.
+pub fn replies_to(
+    rt: &(impl AllocGlobal + Abort),
+    kind: Kind,
+    rows: &[(u32, u64, &[u64])],
+) -> Vec<Reply> {
+    let mut replies = Vec::new(rt.alloc());
+    for (lane, seq, items) in rows {
+        let id = JobId {
+            lane: *lane,
+            seq: *seq,
+        };
+        let reply = reply_to(rt, rt.alloc(), 3, id, kind, items);
+        replies.push(reply).expect(rt, "no memory");
+    }
+    replies
+}
+
 // Whether a job is one of this kind on these items, with this machine, lane and dimension.
 pub fn is_job(job: &Job, machine: u32, lane: u32, dim: u32, kind: Kind, items: &[u64]) -> bool {
     (job.machine() == machine)

@@ -1,10 +1,9 @@
 //! Two jobs that are inside the runner at one moment.
 
-use crate::tests::commands::{report_by, run_by};
+use crate::tests::commands::writes_all;
 use crate::tests::facts::expect_true;
 use dispatcher::Runner;
 use job_types::{Job, JobId, Region, Reply};
-use jobs_csv::Counted;
 use std::process::Abort;
 use std::sync::Wait;
 use std::sync::atomic::{AtomicU64, Ordering};
@@ -63,36 +62,32 @@ impl Runner for Meeting {
     }
 }
 
-// What answers a file.
-#[derive(Clone, Copy)]
-enum Command {
-    Run,
-    Report,
-}
-
-// Two jobs of a file are inside at once where this command answers it, and it writes this.
+// Two jobs of a file are inside at once where a run or a report answers it, and it writes this.
 fn expect_meeting(
     rt: &(impl AllocGlobal + Abort + Threads + Wait + Sync),
-    command: Command,
+    is_report: bool,
     wanted: &str,
 ) {
     let meeting = Meeting::new();
-    let mut reader = Counted::new(TWO_JOBS);
-    let mut writer = Counted::new(Vec::new(rt.alloc()));
-    let answer = match command {
-        Command::Run => run_by(rt, 2, 2, 2, &meeting, &mut reader, &mut writer),
-        Command::Report => report_by(rt, 2, 2, &meeting, &mut reader, &mut writer),
-    };
-    let is_written = writer.get_ref().as_slice() == wanted.as_bytes();
-    expect_true(rt, (answer == Ok(())) & meeting.has_met() & is_written);
+    let is_written = writes_all(
+        rt,
+        is_report,
+        2,
+        2,
+        2,
+        &meeting,
+        TWO_JOBS,
+        wanted.as_bytes(),
+    );
+    expect_true(rt, is_written & meeting.has_met());
 }
 
 #[test]
 fn two_jobs_of_a_run_are_inside_at_once(rt: HostRuntime) {
-    expect_meeting(&rt, Command::Run, TWO_REPLIES);
+    expect_meeting(&rt, false, TWO_REPLIES);
 }
 
 #[test]
 fn two_jobs_of_a_report_are_inside_at_once(rt: HostRuntime) {
-    expect_meeting(&rt, Command::Report, TWO_TOTALS);
+    expect_meeting(&rt, true, TWO_TOTALS);
 }

@@ -10,7 +10,6 @@ use jobs_csv::Counted;
 use std::io::Write;
 use std::process::Abort;
 use std::sync::Wait;
-use std::test::Fail;
 use std::thread::Threads;
 
 // A long run, of which something may be shown.
@@ -51,15 +50,15 @@ where
 
 // A long run, which shows its progress on this terminal unless it is quiet. It writes all replies, and
 // the terminal is given back.
-fn run_on_terminal<H, P>(rt: &H, is_quiet: bool, terminal: P) -> Result<Option<P>, Fail>
+fn run_on_terminal<H, P>(rt: &H, is_quiet: bool, terminal: P) -> Option<P>
 where
     H: AllocGlobal + Abort + Threads + Wait + Clone + Send + Sync + 'static,
     P: Write + Send + Drop + 'static,
 {
-    let (input, wanted) = long_file(rt.alloc(), JOBS)?;
+    let (input, wanted) = long_file(rt, JOBS);
     let mut terminal = Some(terminal);
-    expect_run(rt, is_quiet, &input, &wanted, &mut terminal);
-    Ok(terminal)
+    expect_run(rt, is_quiet, &input, wanted.as_bytes(), &mut terminal);
+    terminal
 }
 
 // Whether a terminal is there, and what it shows is nothing or ends with what wipes the line.
@@ -79,11 +78,9 @@ fn is_blank(shown: Option<Vec<u8>>) -> bool {
 }
 
 #[test]
-fn shows_progress(rt: HostRuntime) -> Result<(), Fail> {
-    let shown = run_on_terminal(&rt, false, Vec::new(rt.alloc()))?;
-    let quiet = run_on_terminal(&rt, true, Vec::new(rt.alloc()))?;
+fn shows_progress(rt: HostRuntime) {
+    let shown = run_on_terminal(&rt, false, Vec::new(rt.alloc()));
+    let quiet = run_on_terminal(&rt, true, Vec::new(rt.alloc()));
     expect_true(&rt, is_wiped(shown) & is_blank(quiet));
-    let failing = FailsAt::new(Vec::new(rt.alloc()), 0);
-    run_on_terminal(&rt, false, failing)?;
-    Ok(())
+    run_on_terminal(&rt, false, FailsAt::new(Vec::new(rt.alloc()), 0));
 }

@@ -1,9 +1,9 @@
 //! Rows that are written, and writers that fail.
 
 use crate::tests::commands::tells;
-use crate::tests::devices::FailsAt;
+use crate::tests::devices::{FailsAt, replies_text};
 use crate::tests::facts::{expect_all, expect_true};
-use crate::tests::jobs::reply_to;
+use crate::tests::jobs::{replies_to, reply_to};
 use crate::tests::readings::writes;
 use cube_core::{Event, Kind, Note, Refused};
 use job_types::{JobId, Op, Reply};
@@ -13,22 +13,35 @@ use jobs_csv::{
 };
 use std::io::Write;
 use std::process::Abort;
-use std::test::Fail;
 use std::thread::Threads;
+
+// Puts a row behind these lines, and writes them out where that is asked.
+fn push_row<T: Row, W: Write>(
+    rt: &impl Abort,
+    lines: LineBuffer,
+    row: &T,
+    flushes: bool,
+    writer: &mut W,
+) -> LineBuffer {
+    let lines = lines.push(row).expect(rt, "no memory");
+    if flushes {
+        lines.flush(writer).expect(rt, "lines are written")
+    } else {
+        lines
+    }
+}
 
 // Writes these rows under their header. The buffer is written out once, or after each row too.
 fn write_text<T: Row, W: Write>(
+    rt: &impl Abort,
     lines: LineBuffer,
     rows: &[T],
     flushes: bool,
     writer: &mut W,
 ) -> Result<(), WriteStopped> {
-    let mut lines = lines.push_header::<T>()?;
+    let mut lines = lines.push_header::<T>().expect(rt, "no memory");
     for row in rows {
-        lines = lines.push(row)?;
-        if flushes {
-            lines = lines.flush(writer)?;
-        }
+        lines = push_row(rt, lines, row, flushes, writer);
     }
     lines.finish(writer)
 }
@@ -42,7 +55,7 @@ fn expect_written<T: Row>(
 ) {
     let mut writer = Counted::new(Vec::new(rt.alloc()));
     let lines = LineBuffer::new(rt.alloc()).expect(rt, "no memory");
-    let answer = write_text(lines, rows, flushes, &mut writer);
+    let answer = write_text(rt, lines, rows, flushes, &mut writer);
     let is_written = writer.get_ref().as_slice() == wanted.as_bytes();
     expect_true(
         rt,
@@ -260,16 +273,7 @@ fn writes_out_full_buffers(rt: HostRuntime) {
 }
 
 // Two replies.
-fn two_replies(rt: &(impl AllocGlobal + Abort)) -> Vec<Reply> {
-    let mut replies = Vec::new(rt.alloc());
-    for seq in 0..2 {
-        let kind = job_types::Kind::AllReduce { op: Op::Add };
-        let id = JobId { lane: 1, seq };
-        let reply = reply_to(rt, rt.alloc(), 3, id, kind, &[5, 6]);
-        replies.push(reply).expect(rt, "no memory");
-    }
-    replies
-}
+const TWO: &[(u32, u64, &[u64])] = &[(1, 0, &[5, 6]), (1, 1, &[5, 6])];
 
 // A write of replies whose writer fails at this call, with an error or by taking nothing. Returns
 // whether the writer failed.
@@ -284,7 +288,8 @@ fn fails_to_write(
         gives_zero,
     };
     let mut writer = Counted::new(device);
-    let answer = write_rows(rt, rt.alloc(), 2, two_replies(rt), &mut writer);
+    let two = replies_to(rt, job_types::Kind::AllReduce { op: Op::Add }, TWO);
+    let answer = write_rows(rt, rt.alloc(), 2, two, &mut writer);
     let failed = writer.failures() != 0;
     expect_true(rt, tells(answer, failed, FaultKind::Write));
     failed
@@ -318,34 +323,22 @@ fn many_replies(rt: &(impl AllocGlobal + Abort), count: u64) -> Vec<Reply> {
     replies
 }
 
-// The file of so many of these replies.
-fn text_of_many(rt: &impl AllocGlobal, count: u64) -> Result<String, Fail> {
-    let mut text = String::from_str(rt.alloc(), "lane,seq,kind,dim,result,rounds,messages\n")?;
-    for seq in 0..count {
-        write!(text, "1,{seq},broadcast,0,{seq},0,0\n")?;
-    }
-    Ok(text)
-}
-
-// So many replies are written by so many threads.
-fn expect_many(
+// Whether so many replies are written by so many threads.
+fn writes_many(
     rt: &(impl AllocGlobal + Abort + Threads + Sync),
     threads: usize,
     count: u64,
-) -> Result<(), Fail> {
-    let wanted = text_of_many(rt, count)?;
-    let is_right = writes(rt, threads, many_replies(rt, count), wanted.as_bytes());
-    expect_true(rt, is_right);
-    Ok(())
+) -> bool {
+    let wanted = replies_text(rt, "1", "broadcast", true, count);
+    writes(rt, threads, many_replies(rt, count), wanted.as_bytes())
 }
 
 // A part has 64 rows at first, and then 128, and so on: none, one, a whole part, and some more than parts.
 #[test]
-fn any_number_of_threads_writes_the_same(rt: HostRuntime) -> Result<(), Fail> {
+fn any_number_of_threads_writes_the_same(rt: HostRuntime) {
     for threads in [0, 1, 2, 3, 16] {
         for count in [0, 1, 64, 65, 1_000] {
-            expect_many(&rt, threads, count)?;
+            expect_true(&rt, writes_many(&rt, threads, count));
         }
     }
-    Ok(())
 }

@@ -4,7 +4,7 @@ ghost use Rattle.std.specs.Prelude.{◌≡◌, ◌^◌, ◌+◌, ◌≤◌, IfOk
 ghost use Rattle.floors.specs.Floor.{IsWhollyFree};
 
 use crate::tests::facts::expect_true;
-use crate::tests::jobs::reply_to;
+use crate::tests::jobs::replies_to;
 use cube_ledger::{Ledger, Slip, Totals};
 use cube_occupancy::{FREE_PLACES, Occupancy, occupancy};
 use cube_report::report_rows;
@@ -14,25 +14,11 @@ use floors::Floor;
 use job_types::{JobId, Kind, Op, Reply};
 use jobs_csv::ReportRow;
 use locked_floor::LockedFloor;
-use std::alloc::Global;
+use std::alloc::{AllocError, Global};
 use std::process::Abort;
-use std::test::Fail;
 
-// The reply to the greatest of these numbers, on the machine of dimension 3.
-fn reply(rt: &(impl AllocGlobal + Abort), lane: u32, seq: u64, numbers: &[u64]) -> Reply {
-    let kind = Kind::Scan { op: Op::Max };
-    reply_to(rt, rt.alloc(), 3, JobId { lane, seq }, kind, numbers)
-}
-
-// Replies with these lanes and numbers of jobs, each to the greatest of some numbers.
-fn replies(rt: &(impl AllocGlobal + Abort), rows: &[(u32, u64, &[u64])]) -> Vec<Reply> {
-    let mut replies = Vec::new(rt.alloc());
-    for (lane, seq, numbers) in rows {
-        let reply = reply(rt, *lane, *seq, numbers);
-        replies.push(reply).expect(rt, "no memory");
-    }
-    replies
-}
+// What is asked for is the greatest of some numbers.
+const GREATEST: Kind = Kind::Scan { op: Op::Max };
 
 // The replies of each worker.
 fn by_worker(
@@ -41,7 +27,9 @@ fn by_worker(
 ) -> Vec<Vec<Reply>> {
     let mut by_worker = Vec::new(rt.alloc());
     for rows in workers {
-        by_worker.push(replies(rt, rows)).expect(rt, "no memory");
+        by_worker
+            .push(replies_to(rt, GREATEST, rows))
+            .expect(rt, "no memory");
     }
     by_worker
 }
@@ -51,7 +39,7 @@ fn finished(rt: &(impl AllocGlobal + Abort)) -> Finished<()> {
     let workers: &[&[(u32, u64, &[u64])]] = &[&[(1, 0, &[5, 6])], &[], &[(0, 0, &[2, 9, 4])]];
     Finished {
         by_worker: by_worker(rt, workers),
-        rest: replies(rt, &[(1, 1, &[8, 1, 3, 3, 5])]),
+        rest: replies_to(rt, GREATEST, &[(1, 1, &[8, 1, 3, 3, 5])]),
         accepted: Vec::new(rt.alloc()),
         machine: (),
     }
@@ -180,7 +168,7 @@ fn occupancy_of_small_machines(rt: HostRuntime) {
 }
 
 // What is left of a floor that gave nothing out.
-fn free_machine<F: Floor>(alloc: Global, n: u32) -> Result<F::Machine, Fail>
+fn free_machine<F: Floor>(alloc: Global, n: u32) -> Result<F::Machine, AllocError>
     requires { n ≤ MAX_DIM }
     ensures { IfOk result (λ machine. IsWhollyFree n (F.machine_words machine)) }
 {
@@ -190,39 +178,39 @@ fn free_machine<F: Floor>(alloc: Global, n: u32) -> Result<F::Machine, Fail>
 
 // The rows of a shop with two lanes and a floor that gave nothing out, and with these replies.
 fn rows_of<F: Floor>(
-    alloc: Global,
+    rt: &(impl AllocGlobal + Abort),
     by_worker: Vec<Vec<Reply>>,
     rest: Vec<Reply>,
-) -> Result<Vec<ReportRow>, Fail>
+) -> Vec<ReportRow>
 where
     F::Machine: Drop,
 {
+    let alloc = rt.alloc();
     let finished = Finished {
         by_worker,
         rest,
-        accepted: Vec::from_slice(alloc, &[1, 2])?,
-        machine: free_machine::<F>(alloc, 3)?,
+        accepted: Vec::from_slice(alloc, &[1, 2]).expect(rt, "no memory"),
+        machine: free_machine::<F>(alloc, 3).expect(rt, "no memory"),
     };
-    Ok(report_rows::<F>(alloc, 3, &finished)?)
+    report_rows::<F>(alloc, 3, &finished).expect(rt, "no memory")
 }
 
 // The rows of a shop with two lanes that answered two jobs by its workers and one at its end.
-fn rows(rt: &(impl AllocGlobal + Abort)) -> Result<Vec<ReportRow>, Fail> {
+fn rows(rt: &(impl AllocGlobal + Abort)) -> Vec<ReportRow> {
     let by_worker = by_worker(rt, &[&[(1, 0, &[5, 6]), (0, 0, &[2, 9, 4])]]);
-    rows_of::<LockedFloor>(rt.alloc(), by_worker, replies(rt, &[(1, 1, &[8, 1])]))
+    let rest = replies_to(rt, GREATEST, &[(1, 1, &[8, 1])]);
+    rows_of::<LockedFloor>(rt, by_worker, rest)
 }
 
 // The rows are these.
-fn expect_rows(rt: &impl Abort, rows: &[ReportRow], wanted: &[ReportRow]) {
-    expect_true(rt, rows == wanted);
+fn expect_rows(rt: &(impl AllocGlobal + Abort), wanted: &[ReportRow]) {
+    expect_true(rt, rows(rt).as_slice() == wanted);
 }
 
 #[test]
-fn rows_of_two_lanes(rt: HostRuntime) -> Result<(), Fail> {
-    let rows = rows(&rt)?;
+fn rows_of_two_lanes(rt: HostRuntime) {
     expect_rows(
         &rt,
-        &rows,
         &[
             ReportRow::Lane {
                 lane: 0,
@@ -287,5 +275,4 @@ fn rows_of_two_lanes(rt: HostRuntime) -> Result<(), Fail> {
             },
         ],
     );
-    Ok(())
 }

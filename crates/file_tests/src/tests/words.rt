@@ -8,12 +8,22 @@ use std::process::Abort;
 // A machine of dimension 3.
 const PLACE: Invocation = Invocation::Place { n: 3 };
 
+// All stations of a machine of dimension 2.
+const REPLAY: Invocation = Invocation::Replay {
+    n: 2,
+    stations: MAX_STATIONS,
+};
+
+// A text of its own that is this one.
+fn a_text(rt: &(impl AllocGlobal + Abort), text: &str) -> String {
+    text.to_string(rt.alloc()).expect(rt, "no memory")
+}
+
 // The words of a line, with a space between two of them.
 fn words_of(rt: &(impl AllocGlobal + Abort), line: &str) -> Vec<String> {
     let mut words = Vec::new(rt.alloc());
     for word in line.split(' ') {
-        let word = word.to_string(rt.alloc()).expect(rt, "no memory");
-        words.push(word).expect(rt, "no memory");
+        words.push(a_text(rt, word)).expect(rt, "no memory");
     }
     words
 }
@@ -28,7 +38,7 @@ fn a_name(rt: &(impl AllocGlobal + Abort), name: &str) -> Option<String> {
     if name.is_empty() {
         return None;
     }
-    Some(name.to_string(rt.alloc()).expect(rt, "no memory"))
+    Some(a_text(rt, name))
 }
 
 // Whether a line asks for this, with files of these names. The name of no file is empty.
@@ -53,96 +63,116 @@ fn expect_lines(rt: &(impl AllocGlobal + Abort), rows: &[(&str, Invocation, &str
     }
 }
 
-// A shop on a machine of this dimension, with this many dispatchers and this capacity.
-fn a_shop(n: u32, dispatchers: u32, capacity: usize, is_quiet: bool) -> ShopOptions {
-    ShopOptions {
+// A run or a report with these options.
+fn a_shop(
+    is_report: bool,
+    n: u32,
+    dispatchers: u32,
+    capacity: usize,
+    is_quiet: bool,
+) -> Invocation {
+    let options = ShopOptions {
         n,
         dispatchers,
         capacity,
         is_quiet,
+    };
+    if is_report {
+        Invocation::Report(options)
+    } else {
+        Invocation::Run(options)
     }
 }
 
-// A run with these options, which is not quiet.
-fn a_run(n: u32, dispatchers: u32, capacity: usize) -> Invocation {
-    Invocation::Run(a_shop(n, dispatchers, capacity, false))
+// Each row is a line with no file, whether it asks for a report and no run, and then its options: the
+// dimension of the machine, the dispatchers, the capacity, and whether it is quiet.
+fn expect_shops(rt: &(impl AllocGlobal + Abort), rows: &[(&str, bool, u32, u32, usize, bool)]) {
+    for (line, is_report, n, dispatchers, capacity, is_quiet) in rows {
+        let wanted = a_shop(*is_report, *n, *dispatchers, *capacity, *is_quiet);
+        expect_true(rt, asks_for(rt, line, wanted, "", ""));
+    }
 }
 
-// A report with these options, which is not quiet.
-fn a_report(n: u32, dispatchers: u32, capacity: usize) -> Invocation {
-    Invocation::Report(a_shop(n, dispatchers, capacity, false))
-}
+// Rows of `expect_shops`.
+const SHOPS: &[(&str, bool, u32, u32, usize, bool)] = &[
+    ("cubejobs run --dim 0", false, 0, 2, 16, false),
+    ("cubejobs run --dim=12", false, 12, 2, 16, false),
+    (
+        "cubejobs run --dim 3 --dispatchers 1 --capacity=1",
+        false,
+        3,
+        1,
+        1,
+        false,
+    ),
+    (
+        "cubejobs run --capacity 1024 --dispatchers 16 --dim 3",
+        false,
+        3,
+        16,
+        1024,
+        false,
+    ),
+    ("cubejobs report --quiet --dim 3", true, 3, 2, 16, true),
+    ("cubejobs report --dim 3", true, 3, 2, 16, false),
+    (
+        "cubejobs report --dim=12 --dispatchers=16 --capacity=1024",
+        true,
+        12,
+        16,
+        1024,
+        false,
+    ),
+    (
+        "cubejobs report --capacity 1 --dispatchers 3 --dim 0",
+        true,
+        0,
+        3,
+        1,
+        false,
+    ),
+];
+
+// Lines of the other commands, with no file.
+const OTHERS: &[(&str, Invocation, &str, &str)] = &[
+    ("cubejobs place --dim 3", PLACE, "", ""),
+    ("cubejobs replay --dim 2 --stations 48", REPLAY, "", ""),
+];
 
 #[test]
 fn reads_command_lines(rt: HostRuntime) {
-    let quiet = Invocation::Report(a_shop(3, 2, 16, true));
-    let (n, stations) = (2, MAX_STATIONS);
-    let replay = Invocation::Replay { n, stations };
-    expect_lines(
-        &rt,
-        &[
-            ("cubejobs run --dim 0", a_run(0, 2, 16), "", ""),
-            ("cubejobs run --dim=12", a_run(12, 2, 16), "", ""),
-            (
-                "cubejobs run --dim 3 --dispatchers 1 --capacity=1",
-                a_run(3, 1, 1),
-                "",
-                "",
-            ),
-            (
-                "cubejobs run --capacity 1024 --dispatchers 16 --dim 3",
-                a_run(3, 16, 1024),
-                "",
-                "",
-            ),
-            ("cubejobs report --quiet --dim 3", quiet, "", ""),
-            ("cubejobs report --dim 3", a_report(3, 2, 16), "", ""),
-            (
-                "cubejobs report --dim=12 --dispatchers=16 --capacity=1024",
-                a_report(12, 16, 1024),
-                "",
-                "",
-            ),
-            (
-                "cubejobs report --capacity 1 --dispatchers 3 --dim 0",
-                a_report(0, 3, 1),
-                "",
-                "",
-            ),
-            ("cubejobs place --dim 3", PLACE, "", ""),
-            ("cubejobs replay --dim 2 --stations 48", replay, "", ""),
-        ],
-    );
+    expect_shops(&rt, SHOPS);
+    expect_lines(&rt, OTHERS);
 }
+
+// Lines with files.
+const FILES: &[(&str, Invocation, &str, &str)] = &[
+    ("cubejobs place --dim 3 in.csv", PLACE, "in.csv", ""),
+    ("cubejobs place in.csv --dim 3", PLACE, "in.csv", ""),
+    (
+        "cubejobs place --dim 3 --output out.csv",
+        PLACE,
+        "",
+        "out.csv",
+    ),
+    (
+        "cubejobs place --output=out.csv --dim 3 in.csv",
+        PLACE,
+        "in.csv",
+        "out.csv",
+    ),
+    ("cubejobs place --dim 3 -- --dim", PLACE, "--dim", ""),
+    ("cubejobs place --dim 3 -", PLACE, "", ""),
+    (
+        "cubejobs place --dim 3 in.csv --output -",
+        PLACE,
+        "in.csv",
+        "",
+    ),
+    ("cubejobs place --dim 3 ./-", PLACE, "./-", ""),
+];
 
 #[test]
 fn reads_names_of_files(rt: HostRuntime) {
-    expect_lines(
-        &rt,
-        &[
-            ("cubejobs place --dim 3 in.csv", PLACE, "in.csv", ""),
-            ("cubejobs place in.csv --dim 3", PLACE, "in.csv", ""),
-            (
-                "cubejobs place --dim 3 --output out.csv",
-                PLACE,
-                "",
-                "out.csv",
-            ),
-            (
-                "cubejobs place --output=out.csv --dim 3 in.csv",
-                PLACE,
-                "in.csv",
-                "out.csv",
-            ),
-            ("cubejobs place --dim 3 -- --dim", PLACE, "--dim", ""),
-            ("cubejobs place --dim 3 -", PLACE, "", ""),
-            (
-                "cubejobs place --dim 3 in.csv --output -",
-                PLACE,
-                "in.csv",
-                "",
-            ),
-            ("cubejobs place --dim 3 ./-", PLACE, "./-", ""),
-        ],
-    );
+    expect_lines(&rt, FILES);
 }
