@@ -1,6 +1,7 @@
 //! Jobs of any number of items: their replies beside plain folds, and a file of mixed sizes.
 
 use crate::tests::commands::writes_all;
+use crate::tests::devices::push;
 use crate::tests::facts::expect_true;
 use crate::tests::jobs::{answered, is_job, made};
 use dispatcher::Plain;
@@ -62,7 +63,7 @@ fn numbers(rt: &impl Abort, alloc: Global, count: u64) -> Vec<u64> {
     let mut numbers = Vec::new(alloc);
     for number in 0..count {
         let far = number.wrapping_mul(11400714819323198485) ^ 85;
-        numbers.push(far).expect(rt, "no memory");
+        push(rt, &mut numbers, far);
     }
     numbers
 }
@@ -128,36 +129,35 @@ fn expect_rows(rt: &impl Abort, alloc: Global, rows: &[(u32, u64, u32)]) {
     }
 }
 
+// Rows of `expect_rows`.
+static SIZES: [(u32, u64, u32); 21] = [
+    (0, 1, 0),
+    (3, 1, 0),
+    (3, 2, 1),
+    (3, 3, 2),
+    (3, 5, 3),
+    (3, 7, 3),
+    (3, 8, 3),
+    (10, 1, 0),
+    (10, 2, 1),
+    (10, 3, 2),
+    (10, 5, 3),
+    (10, 64, 6),
+    (10, 65, 7),
+    (10, 256, 8),
+    (10, 257, 9),
+    (10, 1000, 10),
+    (10, 1023, 10),
+    (10, 1024, 10),
+    (12, 1025, 11),
+    (12, 4095, 12),
+    (12, 4096, 12),
+];
+
 // Among them stand jobs that fill each size of the arrays that rounds work on, and jobs of one item more.
 #[test]
 fn replies_are_plain_folds(rt: HostRuntime) {
-    expect_rows(
-        &rt,
-        rt.alloc(),
-        &[
-            (0, 1, 0),
-            (3, 1, 0),
-            (3, 2, 1),
-            (3, 3, 2),
-            (3, 5, 3),
-            (3, 7, 3),
-            (3, 8, 3),
-            (10, 1, 0),
-            (10, 2, 1),
-            (10, 3, 2),
-            (10, 5, 3),
-            (10, 64, 6),
-            (10, 65, 7),
-            (10, 256, 8),
-            (10, 257, 9),
-            (10, 1000, 10),
-            (10, 1023, 10),
-            (10, 1024, 10),
-            (12, 1025, 11),
-            (12, 4095, 12),
-            (12, 4096, 12),
-        ],
-    );
+    expect_rows(&rt, rt.alloc(), &SIZES);
 }
 
 const MIXED: &[u8] = b"lane,kind,op,root,items\n\

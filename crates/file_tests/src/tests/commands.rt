@@ -3,7 +3,7 @@
 ghost use Rattle.std.specs.Prelude.{◌≤◌};
 ghost use Rattle.cli_words.specs.CommandLine.{AreShopSizes};
 
-use crate::tests::devices::{FailsAt, add, joined, replies_text};
+use crate::tests::devices::{FailsAt, add, replies_text};
 use crate::tests::facts::{expect_all, expect_true};
 use cli_commands::{place_on, replay_on, report_on, run_on};
 use cube_shape::{MAX_CAPACITY, MAX_DIM, MAX_DISPATCHERS};
@@ -114,46 +114,6 @@ pub fn tells(answer: Result<(), Fault>, has_failed: bool, what: FaultKind) -> bo
     ((answer == Err(fault)) == has_failed) & ((answer == Ok(())) != has_failed)
 }
 
-// Whether a reader that fails at this call has failed. The answer then is a failed read, and nothing
-// is written; else it is good.
-fn fails_to_read(
-    rt: &(impl AllocGlobal + Abort + Threads + Wait + Sync),
-    command: Command,
-    calls: u64,
-) -> bool {
-    let mut reader = Counted::new(FailsAt::new(good_file(command), calls));
-    let mut writer = Counted::new(Vec::new(rt.alloc()));
-    let answer = answer(rt, command, &mut reader, &mut writer);
-    let failed = reader.failures() != 0;
-    let is_silent = !failed | writer.get_ref().is_empty();
-    expect_true(rt, is_silent & tells(answer, failed, FaultKind::Read));
-    failed
-}
-
-// How many reads a command makes, each of which is reported where it fails. Zero where each of a
-// thousand fails.
-fn reads_of(rt: &(impl AllocGlobal + Abort + Threads + Wait + Sync), command: Command) -> u64 {
-    for calls in 0..1000 {
-        if !fails_to_read(rt, command, calls) {
-            return calls;
-        }
-    }
-    0
-}
-
-#[test]
-fn reports_a_failed_read(rt: HostRuntime) {
-    expect_all(
-        &rt,
-        &[
-            reads_of(&rt, Command::Run) > 5,
-            reads_of(&rt, Command::Report) > 5,
-            reads_of(&rt, Command::Place) > 5,
-            reads_of(&rt, Command::Replay) > 5,
-        ],
-    );
-}
-
 // The answer to the good file of a command.
 fn good_answer(command: Command) -> &'static [u8] {
     match command {
@@ -181,50 +141,83 @@ fn is_beginning(written: &[u8], wanted: &[u8], calls: u64) -> bool {
     (written.len() == beginning) & wanted.starts_with(written)
 }
 
-// Whether a writer that fails at this call, with an error or by taking nothing, has failed. The
-// answer then is a failed write, and else it is good. What was written before it is the beginning of
-// the good answer, seven bytes a call.
-fn fails_to_write(
+// A call that no command comes to.
+const NEVER: u64 = u64::MAX;
+
+// The calls at which a reader and a writer fail where a read or a write is to fail at this call, and the
+// fault that tells so.
+fn failing(is_read: bool, calls: u64) -> (u64, u64, FaultKind) {
+    if is_read {
+        (calls, NEVER, FaultKind::Read)
+    } else {
+        (NEVER, calls, FaultKind::Write)
+    }
+}
+
+// Whether a command fails whose reader or writer fails at this call, with an error or by taking nothing.
+// The answer then tells so, and else it is good. What was written is the beginning of the good answer,
+// seven bytes a call; and it is nothing after a failed read.
+fn fails(
     rt: &(impl AllocGlobal + Abort + Threads + Wait + Sync),
     command: Command,
+    is_read: bool,
     calls: u64,
     gives_zero: bool,
 ) -> bool {
-    let mut reader = Counted::new(good_file(command));
+    let (reads, writes, what) = failing(is_read, calls);
+    let mut reader = Counted::new(FailsAt::new(good_file(command), reads));
     let mut writer = Counted::new(FailsAt {
         device: Vec::new(rt.alloc()),
-        calls,
+        calls: writes,
         gives_zero,
     });
     let answer = answer(rt, command, &mut reader, &mut writer);
-    let failed = writer.failures() != 0;
-    let is_so_far = is_beginning(&writer.get_ref().device, good_answer(command), calls);
-    expect_true(rt, is_so_far & tells(answer, failed, FaultKind::Write));
+    let failed = (reader.failures() | writer.failures()) != 0;
+    let written = writer.get_ref().device.as_slice();
+    let is_cut = is_read & failed;
+    let is_silent = is_cut & written.is_empty();
+    let is_so_far = !is_cut & is_beginning(written, good_answer(command), writes);
+    expect_true(rt, (is_silent | is_so_far) & tells(answer, failed, what));
     failed
 }
 
-// How many writes a command makes, each of which is reported where it fails; and flushes too, where
-// they may fail. Zero where each of a thousand fails.
-fn writes_of(
+// How many reads or writes a command makes, each of which is reported where it fails; and flushes too,
+// where they may fail. Zero where each of a thousand fails.
+fn calls_of(
     rt: &(impl AllocGlobal + Abort + Threads + Wait + Sync),
     command: Command,
+    is_read: bool,
     gives_zero: bool,
 ) -> u64 {
     for calls in 0..1000 {
-        if !fails_to_write(rt, command, calls, gives_zero) {
+        if !fails(rt, command, is_read, calls, gives_zero) {
             return calls;
         }
     }
     0
 }
 
+#[test]
+fn reports_a_failed_read(rt: HostRuntime) {
+    expect_all(
+        &rt,
+        &[
+            calls_of(&rt, Command::Run, true, false) > 5,
+            calls_of(&rt, Command::Report, true, false) > 5,
+            calls_of(&rt, Command::Place, true, false) > 5,
+            calls_of(&rt, Command::Replay, true, false) > 5,
+        ],
+    );
+}
+
 // Each of these commands makes so many writes, and then a flush.
 fn expect_writes(rt: &(impl AllocGlobal + Abort + Threads + Wait + Sync), rows: &[(Command, u64)]) {
     for (command, writes) in rows {
-        let fails_to_flush = writes_of(rt, *command, false) == writes.wrapping_add(1);
+        let found = calls_of(rt, *command, false, true);
+        let with_flush = calls_of(rt, *command, false, false);
         expect_true(
             rt,
-            fails_to_flush & (writes_of(rt, *command, true) == *writes),
+            (found == *writes) & (with_flush == writes.wrapping_add(1)),
         );
     }
 }
@@ -245,7 +238,8 @@ fn reports_a_failed_write(rt: HostRuntime) {
 
 // So many jobs of one item.
 fn long_input(rt: &(impl AllocGlobal + Abort), count: u64) -> Vec<u8> {
-    let mut input = joined(rt, b"lane,kind,op,root,items\n", b"");
+    let mut input = Vec::new(rt.alloc());
+    add(rt, &mut input, b"lane,kind,op,root,items\n");
     for _ in 0..count {
         add(rt, &mut input, b"3,scan,add,0,1\n");
     }

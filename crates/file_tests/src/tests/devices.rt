@@ -1,5 +1,6 @@
-//! Readers and writers that fail at one call, and texts that are joined.
+//! Readers and writers that fail at one call, and lists and texts that are made.
 
+use std::fmt::Display;
 use std::io;
 use std::io::{Read, Write};
 use std::process::Abort;
@@ -61,6 +62,11 @@ impl<D: Write> Write for FailsAt<D> {
     }
 }
 
+// Puts an item behind a list.
+pub fn push<T>(rt: &impl Abort, list: &mut Vec<T>, item: T) {
+    list.push(item).expect(rt, "no memory");
+}
+
 // Puts these bytes behind a text.
 pub fn add(rt: &impl Abort, text: &mut Vec<u8>, more: &[u8]) {
     text.extend_from_slice(more).expect(rt, "no memory");
@@ -72,6 +78,12 @@ pub fn joined(rt: &(impl AllocGlobal + Abort), a: &[u8], b: &[u8]) -> Vec<u8> {
     add(rt, &mut text, a);
     add(rt, &mut text, b);
     text
+}
+
+// Whether this is told in these words.
+pub fn says<T: Display>(rt: &(impl AllocGlobal + Abort), what: &T, wanted: &str) -> bool {
+    let told = what.to_string(rt.alloc()).expect(rt, "no memory");
+    told.as_str() == wanted
 }
 
 // Puts these characters behind a text.

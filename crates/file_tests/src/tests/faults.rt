@@ -1,6 +1,6 @@
 //! The texts of faults, names, and which device a fault names.
 
-use crate::tests::devices::FailsAt;
+use crate::tests::devices::{FailsAt, says};
 use crate::tests::facts::{expect_all, expect_true};
 use job_types::JobRefused;
 use jobs_csv::{Counted, Device, Fault, FaultKind, Name};
@@ -10,10 +10,7 @@ use std::process::Abort;
 
 // Whether a fault has this status and this line.
 fn is_told(rt: &(impl AllocGlobal + Abort), fault: Fault, status: u8, line: &str) -> bool {
-    let told = fault.to_string(rt.alloc()).expect(rt, "no memory");
-    (fault.status() == status)
-        & (fault.what.is_refusal() == (status == 1))
-        & (told.as_str() == line)
+    (fault.status() == status) & (fault.what.is_refusal() == (status == 1)) & says(rt, &fault, line)
 }
 
 // Each of these faults, of a record, has this status and this line.
@@ -24,49 +21,49 @@ fn expect_lines(rt: &(impl AllocGlobal + Abort), rows: &[(u64, FaultKind, u8, &s
     }
 }
 
+// Faults, with the status and the line of each.
+static LINES: [(u64, FaultKind, u8, &str); 11] = [
+    (0, FaultKind::Fields, 1, "refused: record 0: Fields"),
+    (7, FaultKind::Number, 1, "refused: record 7: Number"),
+    (1, FaultKind::Word, 1, "refused: record 1: Word"),
+    (
+        1,
+        FaultKind::Job(JobRefused::Empty),
+        1,
+        "refused: record 1: Job Empty",
+    ),
+    (
+        3,
+        FaultKind::Job(JobRefused::TooLarge),
+        1,
+        "refused: record 3: Job TooLarge",
+    ),
+    (
+        4,
+        FaultKind::Job(JobRefused::BadRoot),
+        1,
+        "refused: record 4: Job BadRoot",
+    ),
+    (
+        1_000_001,
+        FaultKind::TooMany,
+        1,
+        "refused: record 1000001: TooMany",
+    ),
+    (0, FaultKind::Read, 3, "failed: record 0: Read"),
+    (0, FaultKind::Write, 3, "failed: record 0: Write"),
+    (
+        0,
+        FaultKind::OutOfMemory,
+        3,
+        "failed: record 0: OutOfMemory",
+    ),
+    (0, FaultKind::Spent, 3, "failed: record 0: Spent"),
+];
+
 #[test]
 fn prints_faults(rt: HostRuntime) {
-    expect_lines(
-        &rt,
-        &[
-            (0, FaultKind::Fields, 1, "refused: record 0: Fields"),
-            (7, FaultKind::Number, 1, "refused: record 7: Number"),
-            (1, FaultKind::Word, 1, "refused: record 1: Word"),
-            (
-                1,
-                FaultKind::Job(JobRefused::Empty),
-                1,
-                "refused: record 1: Job Empty",
-            ),
-            (
-                3,
-                FaultKind::Job(JobRefused::TooLarge),
-                1,
-                "refused: record 3: Job TooLarge",
-            ),
-            (
-                4,
-                FaultKind::Job(JobRefused::BadRoot),
-                1,
-                "refused: record 4: Job BadRoot",
-            ),
-            (
-                1_000_001,
-                FaultKind::TooMany,
-                1,
-                "refused: record 1000001: TooMany",
-            ),
-            (0, FaultKind::Read, 3, "failed: record 0: Read"),
-            (0, FaultKind::Write, 3, "failed: record 0: Write"),
-            (
-                0,
-                FaultKind::OutOfMemory,
-                3,
-                "failed: record 0: OutOfMemory",
-            ),
-            (0, FaultKind::Spent, 3, "failed: record 0: Spent"),
-        ],
-    );
+    expect_lines(&rt, &LINES);
 }
 
 #[test]
@@ -107,8 +104,9 @@ fn flushes(writer: &mut Counted<FailsAt<Vec<u8>>>) -> bool {
     writer.flush().is_ok() & (writer.failures() == 1)
 }
 
-// Whether a flush fails, and is the one call that has failed then.
-fn fails_to_flush(writer: &mut Counted<FailsAt<Vec<u8>>>) -> bool {
+// Whether a flush that is to fail does so, and is the one call that has failed then.
+fn fails_to_flush(alloc: Global) -> bool {
+    let mut writer = failing(alloc, 0, false);
     writer.flush().is_err() & (writer.failures() == 1)
 }
 
@@ -123,7 +121,7 @@ fn counts_failures(rt: HostRuntime) {
             takes(&mut writer, b"", 0, 1),
             flushes(&mut writer),
             writer.get_ref().device.as_slice() == b"abc".as_slice(),
-            fails_to_flush(&mut failing(rt.alloc(), 0, false)),
+            fails_to_flush(rt.alloc()),
         ],
     );
 }

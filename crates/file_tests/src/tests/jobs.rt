@@ -4,6 +4,7 @@ ghost use Rattle.std.specs.Prelude.{◌≡◌, ◌<◌, ◌≤◌, length};
 ghost use Rattle.cube_shape.specs.Region.{IsAligned};
 ghost use Rattle.job_types.specs.Dim.{dim_of};
 
+use crate::tests::devices::{push, says};
 use crate::tests::facts::{expect_all, expect_true};
 use collectives::Tally;
 use cube_shape::{MAX_DIM, MAX_LANES, Region};
@@ -91,7 +92,7 @@ pub fn replies_to(
             seq: *seq,
         };
         let reply = reply_to(rt, rt.alloc(), 3, id, kind, items);
-        replies.push(reply).expect(rt, "no memory");
+        push(rt, &mut replies, reply);
     }
     replies
 }
@@ -181,7 +182,7 @@ const SECOND: Kind = Kind::Broadcast { root: 1 };
 const FIRST: Kind = Kind::Broadcast { root: 0 };
 
 // Jobs on the smallest arrays. Each row is as those of `expect_replies`.
-const SMALL_JOBS: &[(u32, Kind, &[u64], &[Option<u64>], u32, u64)] = &[
+static SMALL_JOBS: [(u32, Kind, &[u64], &[Option<u64>], u32, u64); 18] = [
     (3, SUM, &[1, 2, 3, 4], &[Some(10); 4], 2, 8),
     (1, SUM, &[u64::MAX, 1], &[Some(0); 2], 1, 2),
     (0, SUM, &[7], &[Some(7)], 0, 0),
@@ -264,29 +265,28 @@ const SMALL_JOBS: &[(u32, Kind, &[u64], &[Option<u64>], u32, u64)] = &[
 
 #[test]
 fn answers_small_jobs(rt: HostRuntime) {
-    expect_replies(&rt, rt.alloc(), SMALL_JOBS);
+    expect_replies(&rt, rt.alloc(), &SMALL_JOBS);
 }
+
+// Jobs around the end of the smallest arrays. Each row is as those of `expect_replies`.
+static JOBS_AT_ENDS: [(u32, Kind, &[u64], &[Option<u64>], u32, u64); 4] = [
+    (6, SUM, &[1; 64], &[Some(64); 64], 6, 384),
+    (7, SUM, &[1; 65], &[Some(65); 65], 7, 896),
+    (6, GREATEST, &[3; 64], &[Some(3); 64], 6, 384),
+    (7, GREATEST, &[3; 65], &[Some(3); 65], 7, 896),
+];
 
 // Jobs that still work on the smallest arrays, and jobs that are one item too large for these.
 #[test]
 fn answers_jobs_at_the_end_of_the_smallest_arrays(rt: HostRuntime) {
-    expect_replies(
-        &rt,
-        rt.alloc(),
-        &[
-            (6, SUM, &[1; 64], &[Some(64); 64], 6, 384),
-            (7, SUM, &[1; 65], &[Some(65); 65], 7, 896),
-            (6, GREATEST, &[3; 64], &[Some(3); 64], 6, 384),
-            (7, GREATEST, &[3; 65], &[Some(3); 65], 7, 896),
-        ],
-    );
+    expect_replies(&rt, rt.alloc(), &JOBS_AT_ENDS);
 }
 
 // The numbers 0 to 4095.
 fn numbers(rt: &impl Abort, alloc: Global) -> Vec<u64> {
     let mut items = Vec::new(alloc);
     for item in 0..4096 {
-        items.push(item).expect(rt, "no memory");
+        push(rt, &mut items, item);
     }
     items
 }
@@ -319,7 +319,7 @@ fn expect_all_largest(rt: &impl Abort, alloc: Global, rows: &[(Kind, &[(u64, Opt
 
 // Jobs on the largest machine. Each row is as those of `expect_all_largest`. The items 0 to r add up to
 // r * (r + 1) / 2.
-const LARGEST_JOBS: &[(Kind, &[(u64, Option<u64>)], u64)] = &[
+static LARGEST_JOBS: [(Kind, &[(u64, Option<u64>)], u64); 5] = [
     (
         Kind::Broadcast { root: 700 },
         &[(0, Some(700)), (4095, Some(700)), (4096, None)],
@@ -365,7 +365,7 @@ const LARGEST_JOBS: &[(Kind, &[(u64, Option<u64>)], u64)] = &[
 
 #[test]
 fn answers_the_largest_jobs(rt: HostRuntime) {
-    expect_all_largest(&rt, rt.alloc(), LARGEST_JOBS);
+    expect_all_largest(&rt, rt.alloc(), &LARGEST_JOBS);
 }
 
 // Whether a reply has this id and this region.
@@ -423,51 +423,48 @@ fn expect_refusals(rt: &impl Abort, alloc: Global, rows: &[(u32, Kind, &[u64], J
     }
 }
 
+const THIRD: Kind = Kind::Broadcast { root: 2 };
+
+const FOURTH: Kind = Kind::Broadcast { root: 3 };
+
+const EIGHTH: Kind = Kind::Reduce {
+    op: Op::Add,
+    root: 7,
+};
+
+const LAST: Kind = Kind::Reduce {
+    op: Op::Add,
+    root: u64::MAX,
+};
+
+// Requests that are refused, and why.
+static REFUSED: [(u32, Kind, &[u64], JobRefused); 21] = [
+    (3, SUM, &[], JobRefused::Empty),
+    (1, SUM, &[1, 2, 3], JobRefused::TooLarge),
+    (3, SUM, &[4; 9], JobRefused::TooLarge),
+    (3, SUM, &[4; 16], JobRefused::TooLarge),
+    (0, SUM, &[1, 2], JobRefused::TooLarge),
+    (0, SUMS, &[1, 2, 3], JobRefused::TooLarge),
+    (0, SUMS_BEFORE, &[1, 2, 3], JobRefused::TooLarge),
+    (3, SUMS_BEFORE, &[], JobRefused::Empty),
+    (12, SUMS, &[1; 4097], JobRefused::TooLarge),
+    (12, LAST, &[1; 4097], JobRefused::TooLarge),
+    (12, THIRD, &[1; 4097], JobRefused::TooLarge),
+    (12, SUM, &[1; 4097], JobRefused::TooLarge),
+    (0, SUM, &[], JobRefused::Empty),
+    (3, THIRD, &[4, 9], JobRefused::BadRoot),
+    (3, LAST, &[4, 9], JobRefused::BadRoot),
+    (0, THIRD, &[4, 9], JobRefused::TooLarge),
+    (3, THIRD, &[], JobRefused::Empty),
+    (3, LAST, &[4, 9, 1], JobRefused::BadRoot),
+    (3, FOURTH, &[4, 9, 6], JobRefused::BadRoot),
+    (3, EIGHTH, &[4; 5], JobRefused::BadRoot),
+    (3, LAST, &[4; 9], JobRefused::TooLarge),
+];
+
 #[test]
 fn a_refusal_gives_the_items_back(rt: HostRuntime) {
-    const THIRD: Kind = Kind::Broadcast { root: 2 };
-    const FOURTH: Kind = Kind::Broadcast { root: 3 };
-    const EIGHTH: Kind = Kind::Reduce {
-        op: Op::Add,
-        root: 7,
-    };
-    const LAST: Kind = Kind::Reduce {
-        op: Op::Add,
-        root: u64::MAX,
-    };
-    expect_refusals(
-        &rt,
-        rt.alloc(),
-        &[
-            (3, SUM, &[], JobRefused::Empty),
-            (1, SUM, &[1, 2, 3], JobRefused::TooLarge),
-            (3, SUM, &[4; 9], JobRefused::TooLarge),
-            (3, SUM, &[4; 16], JobRefused::TooLarge),
-            (0, SUM, &[1, 2], JobRefused::TooLarge),
-            (0, SUMS, &[1, 2, 3], JobRefused::TooLarge),
-            (0, SUMS_BEFORE, &[1, 2, 3], JobRefused::TooLarge),
-            (3, SUMS_BEFORE, &[], JobRefused::Empty),
-            (12, SUMS, &[1; 4097], JobRefused::TooLarge),
-            (12, LAST, &[1; 4097], JobRefused::TooLarge),
-            (12, THIRD, &[1; 4097], JobRefused::TooLarge),
-            (12, SUM, &[1; 4097], JobRefused::TooLarge),
-            (0, SUM, &[], JobRefused::Empty),
-            (3, THIRD, &[4, 9], JobRefused::BadRoot),
-            (3, LAST, &[4, 9], JobRefused::BadRoot),
-            (0, THIRD, &[4, 9], JobRefused::TooLarge),
-            (3, THIRD, &[], JobRefused::Empty),
-            (3, LAST, &[4, 9, 1], JobRefused::BadRoot),
-            (3, FOURTH, &[4, 9, 6], JobRefused::BadRoot),
-            (3, EIGHTH, &[4; 5], JobRefused::BadRoot),
-            (3, LAST, &[4; 9], JobRefused::TooLarge),
-        ],
-    );
-}
-
-// Whether this reason has this text.
-fn is_told(rt: &(impl AllocGlobal + Abort), refused: JobRefused, wanted: &str) -> bool {
-    let text = refused.to_string(rt.alloc()).expect(rt, "no memory");
-    text.as_str() == wanted
+    expect_refusals(&rt, rt.alloc(), &REFUSED);
 }
 
 #[test]
@@ -476,10 +473,10 @@ fn says_why_it_refuses(rt: HostRuntime) {
     expect_all(
         &rt,
         &[
-            is_told(&rt, JobRefused::Empty, "no items"),
-            is_told(&rt, JobRefused::TooLarge, "more items than processors"),
-            is_told(&rt, JobRefused::BadRoot, bad_root),
-            is_told(&rt, JobRefused::OutOfMemory, "out of memory"),
+            says(&rt, &JobRefused::Empty, "no items"),
+            says(&rt, &JobRefused::TooLarge, "more items than processors"),
+            says(&rt, &JobRefused::BadRoot, bad_root),
+            says(&rt, &JobRefused::OutOfMemory, "out of memory"),
         ],
     );
 }

@@ -1,6 +1,6 @@
 //! Files that are read.
 
-use crate::tests::devices::joined;
+use crate::tests::devices::{joined, push};
 use crate::tests::facts::{expect_all, expect_true};
 use crate::tests::jobs::{answered, expect_lane, is_job};
 use job_types::{Job, JobId, Kind, Op, Reply};
@@ -127,7 +127,7 @@ pub fn writes(
 fn replies_to(rt: &(impl AllocGlobal + Abort), n: u32, input: &[u8]) -> Vec<Reply> {
     let mut replies = Vec::new(rt.alloc());
     for job in jobs_of(rt, n, input) {
-        replies.push(first_answered(job)).expect(rt, "no memory");
+        push(rt, &mut replies, first_answered(job));
     }
     replies
 }
@@ -152,86 +152,87 @@ fn expect_replies(rt: &(impl AllocGlobal + Abort + Threads + Sync), rows: &[(u32
     }
 }
 
+// Jobs of each kind. Each row is as those of `expect_replies`.
+static ANSWERS: [(u32, &str, &str); 9] = [
+    (3, "", ""),
+    (
+        3,
+        "0,allreduce,add,0,1 2 3 4\n",
+        "0,0,allreduce,2,10 10 10 10,2,8\n",
+    ),
+    (
+        1,
+        "0,allreduce,add,0,18446744073709551615 1\n",
+        "0,0,allreduce,1,0 0,1,2\n",
+    ),
+    (
+        3,
+        "0,scan,add,0,1 2 3 4 5 6 7 8\n",
+        "0,0,scan,3,1 3 6 10 15 21 28 36,3,24\n",
+    ),
+    (
+        2,
+        "0,reduce,min,2,5 3 9 4\n1,broadcast,-,1,4 9\n",
+        "0,0,reduce,2,- - 3 -,2,3\n1,0,broadcast,1,9 9,1,1\n",
+    ),
+    (0, "0,scan,add,0,7\n", "0,0,scan,0,7,0,0\n"),
+    (
+        3,
+        "0,exscan,add,0,1 2 3 4 5 6 7 8\n1,exscan,min,0,9 4 7\n",
+        "0,0,exscan,3,0 1 3 6 10 15 21 28,3,24\n1,0,exscan,2,18446744073709551615 9 4,2,8\n",
+    ),
+    (0, "0,exscan,add,0,7\n", "0,0,exscan,0,0,0,0\n"),
+    (
+        3,
+        "1,allreduce,xor,0,5 6\n0,scan,max,0,2 9 4 7\n1,reduce,or,1,8 1\n",
+        "1,0,allreduce,1,3 3,1,2\n0,0,scan,2,2 9 9 9,2,8\n1,0,reduce,1,- 9,1,1\n",
+    ),
+];
+
 #[test]
 fn answers_jobs(rt: HostRuntime) {
-    expect_replies(
-        &rt,
-        &[
-            (3, "", ""),
-            (
-                3,
-                "0,allreduce,add,0,1 2 3 4\n",
-                "0,0,allreduce,2,10 10 10 10,2,8\n",
-            ),
-            (
-                1,
-                "0,allreduce,add,0,18446744073709551615 1\n",
-                "0,0,allreduce,1,0 0,1,2\n",
-            ),
-            (
-                3,
-                "0,scan,add,0,1 2 3 4 5 6 7 8\n",
-                "0,0,scan,3,1 3 6 10 15 21 28 36,3,24\n",
-            ),
-            (
-                2,
-                "0,reduce,min,2,5 3 9 4\n1,broadcast,-,1,4 9\n",
-                "0,0,reduce,2,- - 3 -,2,3\n1,0,broadcast,1,9 9,1,1\n",
-            ),
-            (0, "0,scan,add,0,7\n", "0,0,scan,0,7,0,0\n"),
-            (
-                3,
-                "0,exscan,add,0,1 2 3 4 5 6 7 8\n1,exscan,min,0,9 4 7\n",
-                "0,0,exscan,3,0 1 3 6 10 15 21 28,3,24\n1,0,exscan,2,18446744073709551615 9 4,2,8\n",
-            ),
-            (0, "0,exscan,add,0,7\n", "0,0,exscan,0,0,0,0\n"),
-            (
-                3,
-                "1,allreduce,xor,0,5 6\n0,scan,max,0,2 9 4 7\n1,reduce,or,1,8 1\n",
-                "1,0,allreduce,1,3 3,1,2\n0,0,scan,2,2 9 9 9,2,8\n1,0,reduce,1,- 9,1,1\n",
-            ),
-        ],
-    );
+    expect_replies(&rt, &ANSWERS);
 }
+
+// Jobs of each operation. Each row is as those of `expect_replies`.
+static OPERATIONS: [(u32, &str, &str); 11] = [
+    (2, "0,scan,add,0,5 3 9 4\n", "0,0,scan,2,5 8 17 21,2,8\n"),
+    (2, "0,scan,min,0,5 3 9 4\n", "0,0,scan,2,5 3 3 3,2,8\n"),
+    (2, "0,scan,max,0,5 3 9 4\n", "0,0,scan,2,5 5 9 9,2,8\n"),
+    (2, "0,scan,xor,0,5 3 9 4\n", "0,0,scan,2,5 6 15 11,2,8\n"),
+    (2, "0,scan,and,0,5 3 9 4\n", "0,0,scan,2,5 1 1 0,2,8\n"),
+    (2, "0,scan,or,0,5 3 9 4\n", "0,0,scan,2,5 7 15 15,2,8\n"),
+    (2, "0,exscan,add,0,5 3 9 4\n", "0,0,exscan,2,0 5 8 17,2,8\n"),
+    (2, "0,exscan,max,0,5 3 9 4\n", "0,0,exscan,2,0 5 5 9,2,8\n"),
+    (2, "0,exscan,xor,0,5 3 9 4\n", "0,0,exscan,2,0 5 6 15,2,8\n"),
+    (2, "0,exscan,or,0,5 3 9 4\n", "0,0,exscan,2,0 5 7 15,2,8\n"),
+    (
+        2,
+        "0,exscan,min,0,5 3 9 4\n1,exscan,and,0,5 3 9 4\n",
+        "0,0,exscan,2,18446744073709551615 5 3 3,2,8\n\
+                1,0,exscan,2,18446744073709551615 5 1 1,2,8\n",
+    ),
+];
 
 #[test]
 fn answers_all_operations(rt: HostRuntime) {
-    expect_replies(
-        &rt,
-        &[
-            (2, "0,scan,add,0,5 3 9 4\n", "0,0,scan,2,5 8 17 21,2,8\n"),
-            (2, "0,scan,min,0,5 3 9 4\n", "0,0,scan,2,5 3 3 3,2,8\n"),
-            (2, "0,scan,max,0,5 3 9 4\n", "0,0,scan,2,5 5 9 9,2,8\n"),
-            (2, "0,scan,xor,0,5 3 9 4\n", "0,0,scan,2,5 6 15 11,2,8\n"),
-            (2, "0,scan,and,0,5 3 9 4\n", "0,0,scan,2,5 1 1 0,2,8\n"),
-            (2, "0,scan,or,0,5 3 9 4\n", "0,0,scan,2,5 7 15 15,2,8\n"),
-            (2, "0,exscan,add,0,5 3 9 4\n", "0,0,exscan,2,0 5 8 17,2,8\n"),
-            (2, "0,exscan,max,0,5 3 9 4\n", "0,0,exscan,2,0 5 5 9,2,8\n"),
-            (2, "0,exscan,xor,0,5 3 9 4\n", "0,0,exscan,2,0 5 6 15,2,8\n"),
-            (2, "0,exscan,or,0,5 3 9 4\n", "0,0,exscan,2,0 5 7 15,2,8\n"),
-            (
-                2,
-                "0,exscan,min,0,5 3 9 4\n1,exscan,and,0,5 3 9 4\n",
-                "0,0,exscan,2,18446744073709551615 5 3 3,2,8\n\
-                1,0,exscan,2,18446744073709551615 5 1 1,2,8\n",
-            ),
-        ],
-    );
+    expect_replies(&rt, &OPERATIONS);
 }
+
+const REPLY: &str = "0,0,allreduce,1,3 3,1,2\n";
+
+// One job, spelt in several ways. Each row is as those of `expect_replies`.
+static SPELLINGS: [(u32, &str, &str); 5] = [
+    (3, "\"0\",allreduce,add,0,\"1 2\"\n", REPLY),
+    (3, "0,allreduce,add,0,1 2", REPLY),
+    (3, "0,allreduce,add,0,\"1 2", REPLY),
+    (3, "0,allreduce,add,0,1 2\r\n", REPLY),
+    (3, "\n\n0,allreduce,add,0,1 2\n\n", REPLY),
+];
 
 #[test]
 fn reads_what_csv_reads(rt: HostRuntime) {
-    const REPLY: &str = "0,0,allreduce,1,3 3,1,2\n";
-    expect_replies(
-        &rt,
-        &[
-            (3, "\"0\",allreduce,add,0,\"1 2\"\n", REPLY),
-            (3, "0,allreduce,add,0,1 2", REPLY),
-            (3, "0,allreduce,add,0,\"1 2", REPLY),
-            (3, "0,allreduce,add,0,1 2\r\n", REPLY),
-            (3, "\n\n0,allreduce,add,0,1 2\n\n", REPLY),
-        ],
-    );
+    expect_replies(&rt, &SPELLINGS);
     let marked = b"\xEF\xBB\xBF\r\nlane,\"kind\",op,root,items\r\n0,allreduce,add,0,1 2\r\n";
     expect_true(&rt, jobs_of(&rt, 3, marked).len() == 1);
 }
@@ -289,32 +290,34 @@ fn expect_calls(rt: &(impl AllocGlobal + Abort), records: &[u8], wanted: &[Line]
     );
 }
 
+// The calls of a file of each kind of call.
+static CALLED: [Line; 7] = [
+    Line::Take {
+        station: 0,
+        node: 4,
+    },
+    Line::Run { station: 0 },
+    Line::Release { station: 0 },
+    Line::Step {
+        station: 0,
+        times: 1,
+    },
+    Line::Step {
+        station: 47,
+        times: 100,
+    },
+    Line::Take {
+        station: 5,
+        node: 0,
+    },
+    Line::Retire { station: u64::MAX },
+];
+
 #[test]
 fn reads_schedules(rt: HostRuntime) {
-    const LAST: u64 = u64::MAX;
     expect_calls(
         &rt,
         b"0,take,4\n0,run,-\n0,release,-\n0,step,1\n47,step,100\n5,take,0\n18446744073709551615,retire,-",
-        &[
-            Line::Take {
-                station: 0,
-                node: 4,
-            },
-            Line::Run { station: 0 },
-            Line::Release { station: 0 },
-            Line::Step {
-                station: 0,
-                times: 1,
-            },
-            Line::Step {
-                station: 47,
-                times: 100,
-            },
-            Line::Take {
-                station: 5,
-                node: 0,
-            },
-            Line::Retire { station: LAST },
-        ],
+        &CALLED,
     );
 }

@@ -1,11 +1,11 @@
 //! Files that are refused, in each of the three formats.
 
-use crate::tests::devices::{FailsAt, joined};
+use crate::tests::devices::{FailsAt, add, joined};
 use crate::tests::facts::expect_true;
 use cube_shape::MAX_DIM;
 use job_types::JobRefused;
 use jobs_csv::{Counted, Device, Fault, FaultKind, read_jobs, read_place, read_schedule};
-use std::alloc::{AllocError, Global};
+use std::alloc::Global;
 use std::process::Abort;
 
 const JOBS: &[u8] = b"lane,kind,op,root,items\n";
@@ -51,60 +51,51 @@ fn expect_faults(
     }
 }
 
+// Bad headers of a file of jobs.
+static JOB_HEADERS: [(&[u8], FaultKind); 8] = [
+    (b"", FaultKind::Fields),
+    (b"\n\n", FaultKind::Fields),
+    (b"lane,kind,op,root\n", FaultKind::Fields),
+    (b"lane,kind,op,root,items,more\n", FaultKind::Fields),
+    (b"lane,kind,op,root,item\n", FaultKind::Word),
+    (b"Lane,kind,op,root,items\n", FaultKind::Word),
+    (b"lane,kind,op,root, items\n", FaultKind::Word),
+    (
+        b"\xEF\xBB\xBF\xEF\xBB\xBFlane,kind,op,root,items\n",
+        FaultKind::Word,
+    ),
+];
+
+// Bad headers of a file of commands.
+static COMMAND_HEADERS: [(&[u8], FaultKind); 8] = [
+    (b"", FaultKind::Fields),
+    (b"\n\n", FaultKind::Fields),
+    (b"command,name\n", FaultKind::Fields),
+    (b"command,name,dim,base\n", FaultKind::Fields),
+    (b"command,name,dims\n", FaultKind::Word),
+    (b"Command,name,dim\ntake,A,1\n", FaultKind::Word),
+    (b"command, name,dim\n", FaultKind::Word),
+    (b"station,call,arg\n", FaultKind::Word),
+];
+
+// Bad headers of a file of calls.
+static CALL_HEADERS: [(&[u8], FaultKind); 5] = [
+    (b"", FaultKind::Fields),
+    (b"station,call\n", FaultKind::Fields),
+    (b"station,call,args\n", FaultKind::Word),
+    (b"station,Call,arg\nx,run,-\n", FaultKind::Word),
+    (b"command,name,dim\n", FaultKind::Word),
+];
+
 #[test]
 fn refuses_headers(rt: HostRuntime) {
-    expect_faults(
-        &rt,
-        Format::Jobs,
-        b"",
-        0,
-        &[
-            (b"", FaultKind::Fields),
-            (b"\n\n", FaultKind::Fields),
-            (b"lane,kind,op,root\n", FaultKind::Fields),
-            (b"lane,kind,op,root,items,more\n", FaultKind::Fields),
-            (b"lane,kind,op,root,item\n", FaultKind::Word),
-            (b"Lane,kind,op,root,items\n", FaultKind::Word),
-            (b"lane,kind,op,root, items\n", FaultKind::Word),
-            (
-                b"\xEF\xBB\xBF\xEF\xBB\xBFlane,kind,op,root,items\n",
-                FaultKind::Word,
-            ),
-        ],
-    );
-    expect_faults(
-        &rt,
-        Format::Commands,
-        b"",
-        0,
-        &[
-            (b"", FaultKind::Fields),
-            (b"\n\n", FaultKind::Fields),
-            (b"command,name\n", FaultKind::Fields),
-            (b"command,name,dim,base\n", FaultKind::Fields),
-            (b"command,name,dims\n", FaultKind::Word),
-            (b"Command,name,dim\ntake,A,1\n", FaultKind::Word),
-            (b"command, name,dim\n", FaultKind::Word),
-            (b"station,call,arg\n", FaultKind::Word),
-        ],
-    );
-    expect_faults(
-        &rt,
-        Format::Calls,
-        b"",
-        0,
-        &[
-            (b"", FaultKind::Fields),
-            (b"station,call\n", FaultKind::Fields),
-            (b"station,call,args\n", FaultKind::Word),
-            (b"station,Call,arg\nx,run,-\n", FaultKind::Word),
-            (b"command,name,dim\n", FaultKind::Word),
-        ],
-    );
+    expect_faults(&rt, Format::Jobs, b"", 0, &JOB_HEADERS);
+    expect_faults(&rt, Format::Commands, b"", 0, &COMMAND_HEADERS);
+    expect_faults(&rt, Format::Calls, b"", 0, &CALL_HEADERS);
 }
 
 // Records of jobs for a machine of dimension 3, and why each is refused.
-const REFUSED_JOBS: &[(&[u8], FaultKind)] = &[
+static REFUSED_JOBS: [(&[u8], FaultKind); 62] = [
     (b"0,allreduce,add,0\n", FaultKind::Fields),
     (b"0,allreduce,add,0,1,2\n", FaultKind::Fields),
     (b" \n", FaultKind::Fields),
@@ -210,72 +201,66 @@ const REFUSED_JOBS: &[(&[u8], FaultKind)] = &[
 
 #[test]
 fn refuses_jobs(rt: HostRuntime) {
-    expect_faults(&rt, Format::Jobs, JOBS, 1, REFUSED_JOBS);
+    expect_faults(&rt, Format::Jobs, JOBS, 1, &REFUSED_JOBS);
 }
+
+// Commands for a machine of dimension 3, and why each is refused.
+static REFUSED_COMMANDS: [(&[u8], FaultKind); 22] = [
+    (b"take,A,1\n", FaultKind::Word),
+    (b"take,abcdefghijklmnopq,1\n", FaultKind::Word),
+    (b"take,a,4\n", FaultKind::Number),
+    (b"free,a,0\n", FaultKind::Word),
+    (b"take,a\n", FaultKind::Fields),
+    (b"take,a,1,2\n", FaultKind::Fields),
+    (b" \n", FaultKind::Fields),
+    (b"\"\"\n", FaultKind::Fields),
+    (b"give,A,x\n", FaultKind::Word),
+    (b"Take,a,1\n", FaultKind::Word),
+    (b",a,1\n", FaultKind::Word),
+    (b"\xFF,a,1\n", FaultKind::Word),
+    (b"take,,x\n", FaultKind::Word),
+    (b"take,a_b,1\n", FaultKind::Word),
+    (b"free,a\xFF,-\n", FaultKind::Word),
+    (b"take,a,-\n", FaultKind::Number),
+    (b"take,a,\n", FaultKind::Number),
+    (b"take,a,00\n", FaultKind::Number),
+    (b"take,a,+1\n", FaultKind::Number),
+    (b"take,a,18446744073709551616\n", FaultKind::Number),
+    (b"free,a,\n", FaultKind::Word),
+    (b"free,a,--\n", FaultKind::Word),
+];
 
 #[test]
 fn refuses_commands(rt: HostRuntime) {
-    expect_faults(
-        &rt,
-        Format::Commands,
-        COMMANDS,
-        1,
-        &[
-            (b"take,A,1\n", FaultKind::Word),
-            (b"take,abcdefghijklmnopq,1\n", FaultKind::Word),
-            (b"take,a,4\n", FaultKind::Number),
-            (b"free,a,0\n", FaultKind::Word),
-            (b"take,a\n", FaultKind::Fields),
-            (b"take,a,1,2\n", FaultKind::Fields),
-            (b" \n", FaultKind::Fields),
-            (b"\"\"\n", FaultKind::Fields),
-            (b"give,A,x\n", FaultKind::Word),
-            (b"Take,a,1\n", FaultKind::Word),
-            (b",a,1\n", FaultKind::Word),
-            (b"\xFF,a,1\n", FaultKind::Word),
-            (b"take,,x\n", FaultKind::Word),
-            (b"take,a_b,1\n", FaultKind::Word),
-            (b"free,a\xFF,-\n", FaultKind::Word),
-            (b"take,a,-\n", FaultKind::Number),
-            (b"take,a,\n", FaultKind::Number),
-            (b"take,a,00\n", FaultKind::Number),
-            (b"take,a,+1\n", FaultKind::Number),
-            (b"take,a,18446744073709551616\n", FaultKind::Number),
-            (b"free,a,\n", FaultKind::Word),
-            (b"free,a,--\n", FaultKind::Word),
-        ],
-    );
+    expect_faults(&rt, Format::Commands, COMMANDS, 1, &REFUSED_COMMANDS);
 }
+
+// Calls, and why each is refused.
+static REFUSED_CALLS: [(&[u8], FaultKind); 18] = [
+    (b"0,step,101\n", FaultKind::Number),
+    (b"0,run,1\n", FaultKind::Word),
+    (b"0,step,0\n", FaultKind::Number),
+    (b"0,step,-\n", FaultKind::Number),
+    (b"0,step,01\n", FaultKind::Number),
+    (b"0,take,-\n", FaultKind::Number),
+    (b"0,take,\n", FaultKind::Number),
+    (b"0,take,18446744073709551616\n", FaultKind::Number),
+    (b"0,release,0\n", FaultKind::Word),
+    (b"0,retire,\n", FaultKind::Word),
+    (b"0,walk,-\n", FaultKind::Word),
+    (b"0,Run,-\n", FaultKind::Word),
+    (b"0,,-\n", FaultKind::Word),
+    (b"00,walk,-\n", FaultKind::Number),
+    (b",run,-\n", FaultKind::Number),
+    (b"-,run,-\n", FaultKind::Number),
+    (b"0,run\n", FaultKind::Fields),
+    (b"0,run,-,-\n", FaultKind::Fields),
+];
 
 #[test]
 fn refuses_calls(rt: HostRuntime) {
     let head = joined(&rt, CALLS, b"0,run,-\n");
-    expect_faults(
-        &rt,
-        Format::Calls,
-        &head,
-        2,
-        &[
-            (b"0,step,101\n", FaultKind::Number),
-            (b"0,run,1\n", FaultKind::Word),
-            (b"0,step,0\n", FaultKind::Number),
-            (b"0,step,-\n", FaultKind::Number),
-            (b"0,step,01\n", FaultKind::Number),
-            (b"0,take,-\n", FaultKind::Number),
-            (b"0,take,\n", FaultKind::Number),
-            (b"0,take,18446744073709551616\n", FaultKind::Number),
-            (b"0,release,0\n", FaultKind::Word),
-            (b"0,retire,\n", FaultKind::Word),
-            (b"0,walk,-\n", FaultKind::Word),
-            (b"0,Run,-\n", FaultKind::Word),
-            (b"0,,-\n", FaultKind::Word),
-            (b"00,walk,-\n", FaultKind::Number),
-            (b",run,-\n", FaultKind::Number),
-            (b"-,run,-\n", FaultKind::Number),
-            (b"0,run\n", FaultKind::Fields),
-            (b"0,run,-,-\n", FaultKind::Fields),
-        ],
-    );
+    expect_faults(&rt, Format::Calls, &head, 2, &REFUSED_CALLS);
 }
 
 #[test]
@@ -297,17 +282,18 @@ fn reports_the_first_fault(rt: HostRuntime) {
 }
 
 // A file of one command more than are read.
-fn too_many(alloc: Global) -> Result<Vec<u8>, AllocError> {
-    let mut text = Vec::from_slice(alloc, COMMANDS)?;
+fn too_many(rt: &(impl AllocGlobal + Abort)) -> Vec<u8> {
+    let mut text = Vec::new(rt.alloc());
+    add(rt, &mut text, COMMANDS);
     for _ in 0..1_000_001 {
-        text.extend_from_slice(b"free,a,-\n")?;
+        add(rt, &mut text, b"free,a,-\n");
     }
-    Ok(text)
+    text
 }
 
 #[test]
 fn refuses_too_many(rt: HostRuntime) {
-    let text = too_many(rt.alloc()).expect(&rt, "no memory");
+    let text = too_many(&rt);
     let (row, what) = (1_000_001, FaultKind::TooMany);
     expect_true(
         &rt,

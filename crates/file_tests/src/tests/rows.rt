@@ -1,7 +1,7 @@
 //! Rows that are written, and writers that fail.
 
 use crate::tests::commands::tells;
-use crate::tests::devices::{FailsAt, replies_text};
+use crate::tests::devices::{FailsAt, push, replies_text};
 use crate::tests::facts::{expect_all, expect_true};
 use crate::tests::jobs::{replies_to, reply_to};
 use crate::tests::readings::writes;
@@ -108,42 +108,43 @@ fn writes_outcomes(rt: HostRuntime) {
     expect_text::<PlaceRow>(&rt, &[], "command,name,dim,base,outcome\n");
 }
 
+// Rows of a report, some with the greatest numbers.
+static REPORTS: [ReportRow; 5] = [
+    ReportRow::Lane {
+        lane: 0,
+        jobs: 1,
+        processors: 4,
+        idle: 1,
+    },
+    ReportRow::Lane {
+        lane: 15,
+        jobs: u64::MAX,
+        processors: u128::MAX,
+        idle: u128::MAX,
+    },
+    ReportRow::Dim {
+        dim: 10,
+        jobs: 0,
+        processors: 0,
+        idle: 0,
+    },
+    ReportRow::Free {
+        dim: 1,
+        regions: 4,
+        processors: 8,
+    },
+    ReportRow::Total {
+        jobs: 3,
+        processors: 18446744073709551616,
+        idle: 10,
+    },
+];
+
 #[test]
 fn writes_reports(rt: HostRuntime) {
-    let (most_jobs, most) = (u64::MAX, u128::MAX);
-    let past = 18446744073709551616;
     expect_text(
         &rt,
-        &[
-            ReportRow::Lane {
-                lane: 0,
-                jobs: 1,
-                processors: 4,
-                idle: 1,
-            },
-            ReportRow::Lane {
-                lane: 15,
-                jobs: most_jobs,
-                processors: most,
-                idle: most,
-            },
-            ReportRow::Dim {
-                dim: 10,
-                jobs: 0,
-                processors: 0,
-                idle: 0,
-            },
-            ReportRow::Free {
-                dim: 1,
-                regions: 4,
-                processors: 8,
-            },
-            ReportRow::Total {
-                jobs: 3,
-                processors: past,
-                idle: 10,
-            },
-        ],
+        &REPORTS,
         "group,key,count,processors,idle\n\
          lane,0,1,4,1\n\
          lane,15,18446744073709551615,340282366920938463463374607431768211455,\
@@ -214,20 +215,43 @@ fn writes_events(rt: HostRuntime) {
     );
 }
 
+// Refused calls, two words and the end.
+static REFUSALS: [ReplayRow; 8] = [
+    ReplayRow::Refused {
+        station: 0,
+        node: None,
+        why: Refused::Resting,
+    },
+    ReplayRow::Refused {
+        station: 0,
+        node: None,
+        why: Refused::NotHolding,
+    },
+    ReplayRow::Refused {
+        station: 5,
+        node: Some(1),
+        why: Refused::NoStation,
+    },
+    ReplayRow::Refused {
+        station: 0,
+        node: Some(4),
+        why: Refused::NotInCube,
+    },
+    ReplayRow::Refused {
+        station: 0,
+        node: Some(1),
+        why: Refused::NotIdle,
+    },
+    ReplayRow::Word { node: 1, word: 7 },
+    ReplayRow::Word { node: 3, word: 258 },
+    ReplayRow::End { count: 2 },
+];
+
 #[test]
 fn writes_refusals_and_words(rt: HostRuntime) {
     expect_text(
         &rt,
-        &[
-            refused(0, None, Refused::Resting),
-            refused(0, None, Refused::NotHolding),
-            refused(5, Some(1), Refused::NoStation),
-            refused(0, Some(4), Refused::NotInCube),
-            refused(0, Some(1), Refused::NotIdle),
-            ReplayRow::Word { node: 1, word: 7 },
-            ReplayRow::Word { node: 3, word: 258 },
-            ReplayRow::End { count: 2 },
-        ],
+        &REFUSALS,
         "station,event,node,word,note\n\
          0,refused,-,-,resting\n\
          0,refused,-,-,notholding\n\
@@ -273,7 +297,7 @@ fn writes_out_full_buffers(rt: HostRuntime) {
 }
 
 // Two replies.
-const TWO: &[(u32, u64, &[u64])] = &[(1, 0, &[5, 6]), (1, 1, &[5, 6])];
+static TWO: [(u32, u64, &[u64]); 2] = [(1, 0, &[5, 6]), (1, 1, &[5, 6])];
 
 // A write of replies whose writer fails at this call, with an error or by taking nothing. Returns
 // whether the writer failed.
@@ -288,7 +312,7 @@ fn fails_to_write(
         gives_zero,
     };
     let mut writer = Counted::new(device);
-    let two = replies_to(rt, job_types::Kind::AllReduce { op: Op::Add }, TWO);
+    let two = replies_to(rt, job_types::Kind::AllReduce { op: Op::Add }, &TWO);
     let answer = write_rows(rt, rt.alloc(), 2, two, &mut writer);
     let failed = writer.failures() != 0;
     expect_true(rt, tells(answer, failed, FaultKind::Write));
@@ -318,7 +342,7 @@ fn many_replies(rt: &(impl AllocGlobal + Abort), count: u64) -> Vec<Reply> {
         let kind = job_types::Kind::Broadcast { root: 0 };
         let id = JobId { lane: 1, seq };
         let reply = reply_to(rt, rt.alloc(), 0, id, kind, &[seq]);
-        replies.push(reply).expect(rt, "no memory");
+        push(rt, &mut replies, reply);
     }
     replies
 }

@@ -3,6 +3,7 @@
 ghost use Rattle.std.specs.Prelude.{◌≡◌, ◌^◌, ◌+◌, ◌≤◌, IfOk, length};
 ghost use Rattle.floors.specs.Floor.{IsWhollyFree};
 
+use crate::tests::devices::push;
 use crate::tests::facts::expect_true;
 use crate::tests::jobs::replies_to;
 use cube_ledger::{Ledger, Slip, Totals};
@@ -27,9 +28,7 @@ fn by_worker(
 ) -> Vec<Vec<Reply>> {
     let mut by_worker = Vec::new(rt.alloc());
     for rows in workers {
-        by_worker
-            .push(replies_to(rt, GREATEST, rows))
-            .expect(rt, "no memory");
+        push(rt, &mut by_worker, replies_to(rt, GREATEST, rows));
     }
     by_worker
 }
@@ -55,20 +54,27 @@ fn are(totals: Totals, jobs: u64, processors: u128, idle: u128) -> bool {
         }
 }
 
-// Each of these lanes of a ledger has so many jobs on so many processors, of which so many were idle.
-fn expect_lanes(rt: &impl Abort, ledger: &Ledger, rows: &[(u32, u64, u128, u128)]) {
-    for (lane, jobs, processors, idle) in rows {
-        let totals = ledger.lane(*lane);
-        expect_true(rt, are(totals, *jobs, *processors, *idle));
+// What a ledger counts together: a lane, a dimension, or all.
+#[derive(Clone, Copy)]
+enum Part {
+    Lane(u32),
+    Dim(u32),
+    All,
+}
+
+// What a ledger counts of a part.
+fn counted(ledger: &Ledger, part: Part) -> Totals {
+    match part {
+        Part::Lane(lane) => ledger.lane(lane),
+        Part::Dim(dim) => ledger.dim(dim),
+        Part::All => ledger.total(),
     }
 }
 
-// Each of these dimensions of a ledger has so many jobs on so many processors, of which so many were
-// idle.
-fn expect_dims(rt: &impl Abort, ledger: &Ledger, rows: &[(u32, u64, u128, u128)]) {
-    for (dim, jobs, processors, idle) in rows {
-        let totals = ledger.dim(*dim);
-        expect_true(rt, are(totals, *jobs, *processors, *idle));
+// Each of these parts of a ledger has so many jobs on so many processors, of which so many were idle.
+fn expect_totals(rt: &impl Abort, ledger: &Ledger, rows: &[(Part, u64, u128, u128)]) {
+    for (part, jobs, processors, idle) in rows {
+        expect_true(rt, are(counted(ledger, *part), *jobs, *processors, *idle));
     }
 }
 
@@ -90,38 +96,25 @@ fn expect_slip(rt: &impl Abort, replies: &[Reply]) {
     expect_true(rt, is_slip(reply, id, region, 3));
 }
 
-// A ledger counts three jobs in all on 14 processors, of which 4 were idle.
-fn expect_total(rt: &impl Abort, ledger: &Ledger) {
-    expect_true(rt, are(ledger.total(), 3, 14, 4));
-}
+// The totals of three jobs.
+static TOTALS: [(Part, u64, u128, u128); 10] = [
+    (Part::Lane(0), 1, 4, 1),
+    (Part::Lane(1), 2, 10, 3),
+    (Part::Lane(2), 0, 0, 0),
+    (Part::Lane(u32::MAX), 0, 0, 0),
+    (Part::Dim(0), 0, 0, 0),
+    (Part::Dim(1), 1, 2, 0),
+    (Part::Dim(2), 1, 4, 1),
+    (Part::Dim(3), 1, 8, 3),
+    (Part::Dim(u32::MAX), 0, 0, 0),
+    (Part::All, 3, 14, 4),
+];
 
 #[test]
 fn totals_of_three_replies(rt: HostRuntime) {
     let finished = finished(&rt);
     expect_slip(&rt, &finished.rest);
-    let ledger = ledger_of(&rt, &finished);
-    expect_lanes(
-        &rt,
-        &ledger,
-        &[
-            (0, 1, 4, 1),
-            (1, 2, 10, 3),
-            (2, 0, 0, 0),
-            (u32::MAX, 0, 0, 0),
-        ],
-    );
-    expect_dims(
-        &rt,
-        &ledger,
-        &[
-            (0, 0, 0, 0),
-            (1, 1, 2, 0),
-            (2, 1, 4, 1),
-            (3, 1, 8, 3),
-            (u32::MAX, 0, 0, 0),
-        ],
-    );
-    expect_total(&rt, &ledger);
+    expect_totals(&rt, &ledger_of(&rt, &finished), &TOTALS);
 }
 
 // What these words say of the regions of their machine.
@@ -207,72 +200,72 @@ fn expect_rows(rt: &(impl AllocGlobal + Abort), wanted: &[ReportRow]) {
     expect_true(rt, rows(rt).as_slice() == wanted);
 }
 
+// The rows of three jobs in two lanes.
+static ROWS: [ReportRow; 11] = [
+    ReportRow::Lane {
+        lane: 0,
+        jobs: 1,
+        processors: 4,
+        idle: 1,
+    },
+    ReportRow::Lane {
+        lane: 1,
+        jobs: 2,
+        processors: 4,
+        idle: 0,
+    },
+    ReportRow::Dim {
+        dim: 0,
+        jobs: 0,
+        processors: 0,
+        idle: 0,
+    },
+    ReportRow::Dim {
+        dim: 1,
+        jobs: 2,
+        processors: 4,
+        idle: 0,
+    },
+    ReportRow::Dim {
+        dim: 2,
+        jobs: 1,
+        processors: 4,
+        idle: 1,
+    },
+    ReportRow::Dim {
+        dim: 3,
+        jobs: 0,
+        processors: 0,
+        idle: 0,
+    },
+    ReportRow::Free {
+        dim: 0,
+        regions: 8,
+        processors: 8,
+    },
+    ReportRow::Free {
+        dim: 1,
+        regions: 4,
+        processors: 8,
+    },
+    ReportRow::Free {
+        dim: 2,
+        regions: 2,
+        processors: 8,
+    },
+    ReportRow::Free {
+        dim: 3,
+        regions: 1,
+        processors: 8,
+    },
+    ReportRow::Total {
+        jobs: 3,
+        processors: 8,
+        idle: 1,
+    },
+];
+
 #[test]
 fn rows_of_two_lanes(rt: HostRuntime) {
-    expect_rows(
-        &rt,
-        &[
-            ReportRow::Lane {
-                lane: 0,
-                jobs: 1,
-                processors: 4,
-                idle: 1,
-            },
-            ReportRow::Lane {
-                lane: 1,
-                jobs: 2,
-                processors: 4,
-                idle: 0,
-            },
-            ReportRow::Dim {
-                dim: 0,
-                jobs: 0,
-                processors: 0,
-                idle: 0,
-            },
-            ReportRow::Dim {
-                dim: 1,
-                jobs: 2,
-                processors: 4,
-                idle: 0,
-            },
-            ReportRow::Dim {
-                dim: 2,
-                jobs: 1,
-                processors: 4,
-                idle: 1,
-            },
-            ReportRow::Dim {
-                dim: 3,
-                jobs: 0,
-                processors: 0,
-                idle: 0,
-            },
-            ReportRow::Free {
-                dim: 0,
-                regions: 8,
-                processors: 8,
-            },
-            ReportRow::Free {
-                dim: 1,
-                regions: 4,
-                processors: 8,
-            },
-            ReportRow::Free {
-                dim: 2,
-                regions: 2,
-                processors: 8,
-            },
-            ReportRow::Free {
-                dim: 3,
-                regions: 1,
-                processors: 8,
-            },
-            ReportRow::Total {
-                jobs: 3,
-                processors: 8,
-                idle: 1,
-            },
-        ],
-    );
+    expect_rows(&rt, &ROWS);
 }

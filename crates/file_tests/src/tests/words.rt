@@ -1,5 +1,6 @@
 //! What good command lines ask for. Bad ones and the helps are seen by running the program.
 
+use crate::tests::devices::push;
 use crate::tests::facts::expect_true;
 use cli_words::{FileNames, Invocation, Request, ShopOptions, parse_args};
 use cube_shape::MAX_STATIONS;
@@ -23,7 +24,7 @@ fn a_text(rt: &(impl AllocGlobal + Abort), text: &str) -> String {
 fn words_of(rt: &(impl AllocGlobal + Abort), line: &str) -> Vec<String> {
     let mut words = Vec::new(rt.alloc());
     for word in line.split(' ') {
-        words.push(a_text(rt, word)).expect(rt, "no memory");
+        push(rt, &mut words, a_text(rt, word));
     }
     words
 }
@@ -94,7 +95,7 @@ fn expect_shops(rt: &(impl AllocGlobal + Abort), rows: &[(&str, bool, u32, u32, 
 }
 
 // Rows of `expect_shops`.
-const SHOPS: &[(&str, bool, u32, u32, usize, bool)] = &[
+static SHOPS: [(&str, bool, u32, u32, usize, bool); 8] = [
     ("cubejobs run --dim 0", false, 0, 2, 16, false),
     ("cubejobs run --dim=12", false, 12, 2, 16, false),
     (
@@ -134,19 +135,19 @@ const SHOPS: &[(&str, bool, u32, u32, usize, bool)] = &[
 ];
 
 // Lines of the other commands, with no file.
-const OTHERS: &[(&str, Invocation, &str, &str)] = &[
+static OTHERS: [(&str, Invocation, &str, &str); 2] = [
     ("cubejobs place --dim 3", PLACE, "", ""),
     ("cubejobs replay --dim 2 --stations 48", REPLAY, "", ""),
 ];
 
 #[test]
 fn reads_command_lines(rt: HostRuntime) {
-    expect_shops(&rt, SHOPS);
-    expect_lines(&rt, OTHERS);
+    expect_shops(&rt, &SHOPS);
+    expect_lines(&rt, &OTHERS);
 }
 
 // Lines with files.
-const FILES: &[(&str, Invocation, &str, &str)] = &[
+static FILES: [(&str, Invocation, &str, &str); 8] = [
     ("cubejobs place --dim 3 in.csv", PLACE, "in.csv", ""),
     ("cubejobs place in.csv --dim 3", PLACE, "in.csv", ""),
     (
@@ -174,5 +175,5 @@ const FILES: &[(&str, Invocation, &str, &str)] = &[
 
 #[test]
 fn reads_names_of_files(rt: HostRuntime) {
-    expect_lines(&rt, FILES);
+    expect_lines(&rt, &FILES);
 }
