@@ -6,6 +6,7 @@ mod beside_bits;
 mod bits;
 mod callers;
 mod cube;
+mod expect;
 mod shape;
 mod text;
 mod words;

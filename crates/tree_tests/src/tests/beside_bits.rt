@@ -4,6 +4,7 @@ ghost use Rattle.std.specs.Prelude.{◌≡◌, ◌≤◌};
 ghost use Rattle.cube_tree.specs.Solo.{solo_dim};
 
 use super::cube::{ends_free, made};
+use super::expect::expect_all;
 use alloc_bits::{AllocBits, NoSubcube, NothingHeld};
 use cube_shape::Region;
 use cube_tree::{Solo, SoloRefused};
@@ -96,7 +97,6 @@ fn agree(solo: &mut Solo, bits: &mut AllocBits, count: u32) -> bool
 fn the_tree_in_one_hand_answers_as_the_bits(rt: HostRuntime) -> Result<(), Fail> {
     let mut bits = AllocBits::new(rt.alloc(), 5)?;
     let mut solo = made(&rt, rt.alloc(), 5, STATIONS);
-    assert!(rt; agree(&mut solo, &mut bits, 10_000));
-    assert!(rt; ends_free(solo));
+    expect_all(&rt, &[agree(&mut solo, &mut bits, 10_000), ends_free(solo)]);
     Ok(())
 }

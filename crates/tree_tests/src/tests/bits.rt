@@ -2,7 +2,8 @@
 
 ghost use Rattle.std.specs.Prelude.{◌≡◌, ◌≤◌, length};
 
-use super::text::reads;
+use super::expect::expect_all;
+use super::text::expect_texts;
 use alloc_bits::{AllocBits, NoSubcube, NothingHeld};
 use cube_shape::{MAX_DIM, MAX_STATIONS, Region};
 use region_bits::{clear_all, clear_region, first_fit, set_region};
@@ -36,15 +37,16 @@ fn take_pair_back(bits: &mut [bool])
 #[test]
 fn the_first_fit_is_the_first_clear_region(rt: HostRuntime) {
     let mut bits = [true; 8];
-    assert!(rt; fits(&bits, 0, None));
+    let full = fits(&bits, 0, None);
     clear_all(&mut bits);
-    assert!(rt; fits(&bits, 3, Some(Region { base: 0, dim: 3 })));
+    let clear = fits(&bits, 3, Some(Region { base: 0, dim: 3 }));
     give_pair(&mut bits);
-    assert!(rt; fits(&bits, 0, Some(Region { base: 2, dim: 0 })));
-    assert!(rt; fits(&bits, 2, Some(Region { base: 4, dim: 2 })));
-    assert!(rt; fits(&bits, 3, None));
+    let behind = fits(&bits, 0, Some(Region { base: 2, dim: 0 }));
+    let half = fits(&bits, 2, Some(Region { base: 4, dim: 2 }));
+    let whole = fits(&bits, 3, None);
     take_pair_back(&mut bits);
-    assert!(rt; fits(&bits, 3, Some(Region { base: 0, dim: 3 })));
+    let again = fits(&bits, 3, Some(Region { base: 0, dim: 3 }));
+    expect_all(&rt, &[full, clear, behind, half, whole, again]);
 }
 
 // A line of a schedule: a take of a station and a dimension, with the base of the region; a release
@@ -73,12 +75,12 @@ fn takes(machine: &mut AllocBits, station: u32, k: u32, base: Option<u64>) -> bo
     }
 }
 
-// Whether a machine of this dimension goes as these lines say, from the first to the last.
-fn plays(rt: &impl Abort, alloc: Global, n: u32, rows: &[Row]) -> bool
+// A machine of this dimension has to go as these lines say, from the first to the last.
+fn plays(rt: &impl Abort, alloc: Global, n: u32, rows: &[Row])
     requires { n ≤ MAX_DIM }
 {
     let mut machine = AllocBits::new(alloc, n).expect(rt, "no memory");
-    machine.dim() == n && follows(&mut machine, rows)
+    assert!(rt; machine.dim() == n && follows(&mut machine, rows));
 }
 
 // Whether the machine goes so.
@@ -101,93 +103,89 @@ fn follows(machine: &mut AllocBits, rows: &[Row]) -> bool {
 
 #[test]
 fn gives_the_least_free_region(rt: HostRuntime) {
-    assert!(rt;
-        plays(
-            &rt,
-            rt.alloc(),
-            3,
-            &[
-                Row::Takes(0, 1, Some(0)),
-                Row::Takes(1, 0, Some(2)),
-                Row::Takes(2, 1, Some(4)),
-                Row::GivesBack(1, Ok(Region { base: 2, dim: 0 })),
-                Row::Takes(3, 1, Some(2)),
-                Row::Takes(4, 2, None),
-                Row::HasHolder(3, Some(3)),
-                Row::HasHolder(4, Some(2)),
-                Row::HasHolder(6, None),
-                Row::HasHolder(8, None),
-                Row::HasRegion(3, Some(Region { base: 2, dim: 1 })),
-                Row::HasRegion(4, None),
-            ],
-        )
+    plays(
+        &rt,
+        rt.alloc(),
+        3,
+        &[
+            Row::Takes(0, 1, Some(0)),
+            Row::Takes(1, 0, Some(2)),
+            Row::Takes(2, 1, Some(4)),
+            Row::GivesBack(1, Ok(Region { base: 2, dim: 0 })),
+            Row::Takes(3, 1, Some(2)),
+            Row::Takes(4, 2, None),
+            Row::HasHolder(3, Some(3)),
+            Row::HasHolder(4, Some(2)),
+            Row::HasHolder(6, None),
+            Row::HasHolder(8, None),
+            Row::HasRegion(3, Some(Region { base: 2, dim: 1 })),
+            Row::HasRegion(4, None),
+        ],
     );
 }
 
 #[test]
 fn is_wholly_free_after_the_last_release(rt: HostRuntime) {
-    assert!(rt;
-        plays(
-            &rt,
-            rt.alloc(),
-            3,
-            &[
-                Row::IsWhollyFree(true),
-                Row::Takes(47, 3, Some(0)),
-                Row::Holds(47, true),
-                Row::IsWhollyFree(false),
-                Row::Takes(0, 0, None),
-                Row::GivesBack(47, Ok(Region { base: 0, dim: 3 })),
-                Row::IsWhollyFree(true),
-                Row::Takes(0, 3, Some(0)),
-            ],
-        )
+    plays(
+        &rt,
+        rt.alloc(),
+        3,
+        &[
+            Row::IsWhollyFree(true),
+            Row::Takes(47, 3, Some(0)),
+            Row::Holds(47, true),
+            Row::IsWhollyFree(false),
+            Row::Takes(0, 0, None),
+            Row::GivesBack(47, Ok(Region { base: 0, dim: 3 })),
+            Row::IsWhollyFree(true),
+            Row::Takes(0, 3, Some(0)),
+        ],
     );
 }
 
 #[test]
 fn refuses_to_release_what_is_not_held(rt: HostRuntime) {
-    assert!(rt;
-        plays(
-            &rt,
-            rt.alloc(),
-            0,
-            &[
-                Row::GivesBack(0, Err(NothingHeld)),
-                Row::GivesBack(4_000_000_000, Err(NothingHeld)),
-                Row::Takes(5, 0, Some(0)),
-                Row::GivesBack(4, Err(NothingHeld)),
-                Row::HasHolder(0, Some(5)),
-            ],
-        )
+    plays(
+        &rt,
+        rt.alloc(),
+        0,
+        &[
+            Row::GivesBack(0, Err(NothingHeld)),
+            Row::GivesBack(4_000_000_000, Err(NothingHeld)),
+            Row::Takes(5, 0, Some(0)),
+            Row::GivesBack(4, Err(NothingHeld)),
+            Row::HasHolder(0, Some(5)),
+        ],
     );
 }
 
 #[test]
 fn four_free_processors_may_hold_no_aligned_region(rt: HostRuntime) {
-    assert!(rt;
-        plays(
-            &rt,
-            rt.alloc(),
-            3,
-            &[
-                Row::Takes(0, 1, Some(0)),
-                Row::Takes(1, 1, Some(2)),
-                Row::Takes(2, 1, Some(4)),
-                Row::Takes(3, 1, Some(6)),
-                Row::GivesBack(1, Ok(Region { base: 2, dim: 1 })),
-                Row::GivesBack(2, Ok(Region { base: 4, dim: 1 })),
-                Row::Holds(4, false),
-                Row::Takes(4, 2, None),
-                Row::Holds(4, false),
-            ],
-        )
+    plays(
+        &rt,
+        rt.alloc(),
+        3,
+        &[
+            Row::Takes(0, 1, Some(0)),
+            Row::Takes(1, 1, Some(2)),
+            Row::Takes(2, 1, Some(4)),
+            Row::Takes(3, 1, Some(6)),
+            Row::GivesBack(1, Ok(Region { base: 2, dim: 1 })),
+            Row::GivesBack(2, Ok(Region { base: 4, dim: 1 })),
+            Row::Holds(4, false),
+            Row::Takes(4, 2, None),
+            Row::Holds(4, false),
+        ],
     );
 }
 
 #[test]
 fn faults_as_text(rt: HostRuntime) {
     let alloc = rt.alloc();
-    assert!(rt; reads(&rt, alloc, &NoSubcube, "no free subcube of this dimension"));
-    assert!(rt; reads(&rt, alloc, &NothingHeld, "the station holds nothing"));
+    expect_texts(
+        &rt,
+        alloc,
+        &[(NoSubcube, "no free subcube of this dimension")],
+    );
+    expect_texts(&rt, alloc, &[(NothingHeld, "the station holds nothing")]);
 }

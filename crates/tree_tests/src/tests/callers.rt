@@ -1,25 +1,25 @@
 //! Each caller once; the results are worked out by hand.
 
-ghost use Rattle.std.specs.Prelude.{◌≡◌, All};
-ghost use Rattle.cube_tree.specs.Solo.{solo_dim};
+ghost use Rattle.std.specs.Prelude.{All};
 ghost use Rattle.uses.specs.Extent.{IsExtentValue};
 
 use super::cube::{ends_free, last, made, opened};
+use super::expect::expect_all;
 use alloc_bits::AllocBits;
 use cube_core::{Act, Phase};
-use cube_occupancy::{Occupancy, occupancy};
+use cube_occupancy::occupancy;
 use cube_shape::Region;
-use cube_tree::{Solo, SoloRefused};
+use cube_tree::{FreeMachine, Solo, SoloRefused, StillOut};
 use jobs_csv::{Fault, FaultKind};
+use std::process::Abort;
 use std::test::Fail;
 use uses::{Extent, count_jobs, has_room, hold_two_and_close, play, share_extent, take_two};
 
 #[test]
 fn two_regions_are_apart(rt: HostRuntime) -> Result<(), Fail> {
     let mut bits = AllocBits::new(rt.alloc(), 2)?;
-    let taken = take_two(&mut bits, 3, 7, 1)?;
-    assert!(rt; taken.0 == Region { base: 0, dim: 1 });
-    assert!(rt; taken.1 == Region { base: 2, dim: 1 });
+    let regions = (Region { base: 0, dim: 1 }, Region { base: 2, dim: 1 });
+    assert!(rt; take_two(&mut bits, 3, 7, 1) == Ok(regions));
     Ok(())
 }
 
@@ -81,24 +81,38 @@ fn a_schedule_leaves_lawful_holdings(rt: HostRuntime) -> Result<(), Fail> {
             Act::Step { station: 1 },
         ],
     )?;
-    assert!(rt; world.phase(0) == Phase::Holding { node: 2 });
-    assert!(rt; world.phase(1) == Phase::Idle);
+    assert!(rt; (world.phase(0), world.phase(1)) == (Phase::Holding { node: 2 }, Phase::Idle));
     Ok(())
 }
 
 #[test]
 fn a_file_has_two_jobs(rt: HostRuntime) {
-    let file = b"lane,kind,op,root,items\n0,allreduce,add,0,1 2\n1,broadcast,-,0,7\n";
-    match count_jobs(rt.alloc(), 3, file.as_slice()) {
-        Ok(count) => assert!(rt; count == 2),
-        Err(fault) => assert!(rt; false, "{fault}"),
-    }
-    let wrong = Err(Fault {
+    let wrong = Fault {
         row: 0,
         what: FaultKind::Word,
-    });
-    let file = b"lane,kind,op,root,item\n";
-    assert!(rt; count_jobs(rt.alloc(), 3, file.as_slice()) == wrong);
+    };
+    let file = b"lane,kind,op,root,items\n0,allreduce,add,0,1 2\n1,broadcast,-,0,7\n";
+    let with_wrong_word = b"lane,kind,op,root,item\n";
+    expect_all(
+        &rt,
+        &[
+            count_jobs(rt.alloc(), 3, file.as_slice()) == Ok(2),
+            count_jobs(rt.alloc(), 3, with_wrong_word.as_slice()) == Err(wrong),
+        ],
+    );
+}
+
+// Whether both processors of a machine of two were held at the same moment, and the machine is whole.
+fn held_both(
+    rt: &impl Abort,
+    held: Option<(Region, Region)>,
+    end: Result<FreeMachine, StillOut>,
+) -> bool {
+    let regions = (Region { base: 0, dim: 0 }, Region { base: 1, dim: 0 });
+    match end {
+        Ok(machine) => held == Some(regions) && machine.words() == [3, 0, 0, 0].as_slice(),
+        Err(_) => panic!(rt; "the cube is not closed"),
+    }
 }
 
 // On a machine of two processors each station gets one, and both together are the machine.
@@ -108,27 +122,17 @@ fn two_subcubes_are_apart(rt: HostRuntime) {
     let second = last(&rt, &cube, &mut stations, 1);
     let first = last(&rt, &cube, &mut stations, 0);
     stations.destroy_empty();
-    match hold_two_and_close(cube, first, second, 0, 0) {
-        (Some((low, high)), Ok(machine)) => {
-            assert!(rt; low == Region { base: 0, dim: 0 });
-            assert!(rt; high == Region { base: 1, dim: 0 });
-            assert!(rt; machine.words() == [3, 0, 0, 0].as_slice());
-        }
-        _ => panic!(rt; "a take is refused, or the cube is not closed"),
-    }
+    let (held, end) = hold_two_and_close(cube, first, second, 0, 0);
+    assert!(rt; held_both(&rt, held, end));
 }
 
 // Whether a take on a machine of dimension 2 or 3 has this answer.
-fn takes(solo: &mut Solo, k: u32, answer: Result<usize, SoloRefused>) -> bool
-    ensures { solo_dim solo.new ≡ solo_dim solo.old }
-{
+fn takes(solo: &mut Solo, k: u32, answer: Result<usize, SoloRefused>) -> bool {
     k <= solo.dim() && solo.take(k) == answer
 }
 
 // Whether there is room for a region of dimension `k`, as is said.
-fn room_is(solo: &mut Solo, k: u32, room: bool) -> bool
-    ensures { solo_dim solo.new ≡ solo_dim solo.old }
-{
+fn room_is(solo: &mut Solo, k: u32, room: bool) -> bool {
     k <= solo.dim() && has_room(solo, k) == room
 }
 
@@ -136,30 +140,43 @@ fn room_is(solo: &mut Solo, k: u32, room: bool) -> bool
 #[test]
 fn one_processor_is_left(rt: HostRuntime) {
     let mut solo = made(&rt, rt.alloc(), 2, 4);
-    assert!(rt; room_is(&mut solo, 2, true));
-    assert!(rt; takes(&mut solo, 1, Ok(0)) && takes(&mut solo, 0, Ok(1)));
-    assert!(rt; room_is(&mut solo, 0, true) && room_is(&mut solo, 1, false));
-    assert!(rt; takes(&mut solo, 0, Ok(2)));
-    assert!(rt; room_is(&mut solo, 0, false));
-    assert!(rt; ends_free(solo));
+    expect_all(
+        &rt,
+        &[
+            room_is(&mut solo, 2, true),
+            takes(&mut solo, 1, Ok(0)),
+            takes(&mut solo, 0, Ok(1)),
+            room_is(&mut solo, 0, true),
+            room_is(&mut solo, 1, false),
+            takes(&mut solo, 0, Ok(2)),
+            room_is(&mut solo, 0, false),
+            ends_free(solo),
+        ],
+    );
 }
 
-// What the words of a machine of dimension 3 say.
-fn said_by(solo: &Solo) -> Occupancy
-    requires { solo_dim solo.now ≡ 3 }
-{
-    occupancy(3, solo.words())
+// Whether the words of a machine of dimension 3 say this.
+fn words_say(solo: &Solo, free: [u64; 4], held: u64, largest: u32) -> bool {
+    if solo.dim() != 3 {
+        return false;
+    }
+    let said = occupancy(3, solo.words());
+    said.free.starts_with(free.as_slice()) && said.held == held && said.largest == Some(largest)
 }
 
 // What the words of a machine in one hand say of its free regions.
 #[test]
 fn the_words_in_one_hand_say_what_is_free(rt: HostRuntime) {
     let mut solo = made(&rt, rt.alloc(), 3, 4);
-    assert!(rt; takes(&mut solo, 1, Ok(0)) && takes(&mut solo, 0, Ok(1)));
-    let said = said_by(&solo);
-    assert!(rt; said.free.starts_with([5, 2, 1, 0].as_slice()));
-    assert!(rt; said.held == 3 && said.largest == Some(2));
-    assert!(rt; takes(&mut solo, 2, Ok(2)));
-    assert!(rt; takes(&mut solo, 1, Err(SoloRefused::NoSubcube)));
-    assert!(rt; ends_free(solo));
+    expect_all(
+        &rt,
+        &[
+            takes(&mut solo, 1, Ok(0)),
+            takes(&mut solo, 0, Ok(1)),
+            words_say(&solo, [5, 2, 1, 0], 3, 2),
+            takes(&mut solo, 2, Ok(2)),
+            takes(&mut solo, 1, Err(SoloRefused::NoSubcube)),
+            ends_free(solo),
+        ],
+    );
 }

@@ -8,6 +8,7 @@ ghost use Rattle.cube_tree.specs.Handles.{cube_dim, cube_size, size_with, IsSame
 mod alone;
 mod crowd;
 
+use super::expect::expect_all;
 pub(super) use alone::{ends_free, made};
 use cube_shape::{Node, Region};
 use cube_tree::{
@@ -272,7 +273,7 @@ fn regions_of_one_moment_are_apart(rt: HostRuntime) {
     leave(&cube, second);
     third.retire(&cube);
     let machine = closed(&rt, cube);
-    assert!(rt; machine.dim() == 2 && is_free(&machine));
+    expect_all(&rt, &[machine.dim() == 2, is_free(&machine)]);
 }
 
 #[test]
@@ -322,10 +323,13 @@ fn refusals_are_counted(rt: HostRuntime) {
     };
     let second = refused_skipping(&rt, &cube, second, 1, untried);
     let second = refused_skipping(&rt, &cube, second, 2, whole);
-    assert!(rt; cube.dim() == 2 && cube.stations() == 2);
+    let (dim, stations) = (cube.dim(), cube.stations());
     leave(&cube, first);
     second.retire(&cube);
-    assert!(rt; closed(&rt, cube).dim() == 2);
+    expect_all(
+        &rt,
+        &[dim == 2, stations == 2, closed(&rt, cube).dim() == 2],
+    );
 }
 
 #[test]
@@ -337,7 +341,7 @@ fn a_search_glances_at_what_refused_an_earlier_one(rt: HostRuntime) {
     let first = given(&rt, &cube, first, 2, Region { base: 0, dim: 1 });
     // The roll-back of a try under node 2 leaves a mark there.
     let second = given_skipping(&rt, &cube, second, 0, 2);
-    assert!(rt; cube.word(2) != 7);
+    let is_marked = cube.word(2) != 7;
     let first = given(
         &rt,
         &cube,
@@ -345,17 +349,20 @@ fn a_search_glances_at_what_refused_an_earlier_one(rt: HostRuntime) {
         2,
         Region { base: 0, dim: 1 },
     );
-    assert!(rt; cube.word(2) == 7);
+    let is_anew = cube.word(2) == 7;
     // No further search makes one, for a processor or for a half.
     let second = given_skipping(&rt, &cube, released(&cube, second), 0, 2);
     let second = given_skipping(&rt, &cube, released(&cube, second), 1, 2);
-    assert!(rt; cube.word(2) == 7);
+    let is_unmarked = cube.word(2) == 7;
     // The half is free again, and is searched again.
     let first = released(&cube, first);
     let second = given_skipping(&rt, &cube, released(&cube, second), 0, 0);
     first.retire(&cube);
     leave(&cube, second);
-    assert!(rt; is_free(&closed(&rt, cube)));
+    expect_all(
+        &rt,
+        &[is_marked, is_anew, is_unmarked, is_free(&closed(&rt, cube))],
+    );
 }
 
 #[test]
@@ -369,11 +376,11 @@ fn a_cube_with_a_station_out_is_given_back(rt: HostRuntime) {
     assert!(rt; has_words(&closed(&rt, cube), &[3, 0, 0, 0]));
 }
 
-// Why no cube of this size is opened.
-fn refusal_of(rt: &impl Abort, alloc: Global, n: u32, stations: u32) -> CubeRefused {
+// Whether no cube of this size is opened, for this reason.
+fn is_refused(rt: &impl Abort, alloc: Global, n: u32, stations: u32, reason: CubeRefused) -> bool {
     match open(alloc, n, stations) {
         Ok(_) => panic!(rt; "the cube is opened"),
-        Err(why) => why,
+        Err(why) => why == reason,
     }
 }
 
@@ -403,17 +410,24 @@ fn give_all_back(cube: &Cube, held: &mut Vec<Subcube>)
 
 #[test]
 fn cubes_at_the_limits(rt: HostRuntime) {
-    assert!(rt; refusal_of(&rt, rt.alloc(), 3, 49) == CubeRefused::BadStations);
-    assert!(rt; refusal_of(&rt, rt.alloc(), 3, 0) == CubeRefused::BadStations);
-    assert!(rt; refusal_of(&rt, rt.alloc(), 13, 1) == CubeRefused::BadDimension);
-    assert!(rt; refusal_of(&rt, rt.alloc(), 13, 49) == CubeRefused::BadDimension);
-    let (small, stations) = opened(&rt, rt.alloc(), 3, 33);
-    assert!(rt; is_free(&small.close_with(stations)));
-    let mut held = Vec::with_capacity(rt.alloc(), 48).expect(&rt, "no memory");
-    let (cube, mut list) = opened(&rt, rt.alloc(), 12, 48);
+    let alloc = rt.alloc();
+    let (small, stations) = opened(&rt, alloc, 3, 33);
+    let small_is_free = is_free(&small.close_with(stations));
+    let mut held = Vec::with_capacity(alloc, 48).expect(&rt, "no memory");
+    let (cube, mut list) = opened(&rt, alloc, 12, 48);
     take_all(&rt, &cube, &mut list, &mut held);
     list.destroy_empty();
     give_all_back(&cube, &mut held);
     held.destroy_empty();
-    assert!(rt; is_free(&closed(&rt, cube)));
+    expect_all(
+        &rt,
+        &[
+            is_refused(&rt, alloc, 3, 49, CubeRefused::BadStations),
+            is_refused(&rt, alloc, 3, 0, CubeRefused::BadStations),
+            is_refused(&rt, alloc, 13, 1, CubeRefused::BadDimension),
+            is_refused(&rt, alloc, 13, 49, CubeRefused::BadDimension),
+            small_is_free,
+            is_free(&closed(&rt, cube)),
+        ],
+    );
 }

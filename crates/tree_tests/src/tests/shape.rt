@@ -1,5 +1,6 @@
 //! The public functions once each, on a machine of dimension 3 and at the limits.
 
+use super::expect::expect_all;
 use cube_shape::{
     Dim, MAX_DIM, Node, Region, Side, child_towards, neighbour, node_of, on_path, parent,
     region_of, regions_apart, side,
@@ -69,14 +70,19 @@ fn names(n: u32, node: u64, region: Region) -> bool {
 
 #[test]
 fn nodes_name_regions(rt: HostRuntime) {
-    assert!(rt; has_name(3, 3, 0, 1));
-    assert!(rt; has_name(3, 1, 2, 6));
-    assert!(rt; has_name(3, 0, 7, 15));
-    assert!(rt; has_name(0, 0, 0, 1));
-    assert!(rt; names(3, 1, Region { base: 0, dim: 3 }));
-    assert!(rt; names(3, 6, Region { base: 4, dim: 1 }));
-    assert!(rt; names(3, 15, Region { base: 7, dim: 0 }));
-    assert!(rt; names(12, 8191, Region { base: 4095, dim: 0 }));
+    expect_all(
+        &rt,
+        &[
+            has_name(3, 3, 0, 1),
+            has_name(3, 1, 2, 6),
+            has_name(3, 0, 7, 15),
+            has_name(0, 0, 0, 1),
+            names(3, 1, Region { base: 0, dim: 3 }),
+            names(3, 6, Region { base: 4, dim: 1 }),
+            names(3, 15, Region { base: 7, dim: 0 }),
+            names(12, 8191, Region { base: 4095, dim: 0 }),
+        ],
+    );
 }
 
 // Whether a node is this child of this parent.
@@ -99,15 +105,20 @@ fn goes_by(above: u64, node: u64, child: u64) -> bool {
 
 #[test]
 fn the_way_up_and_down(rt: HostRuntime) {
-    assert!(rt; is_child(13, 6, Side::Right));
-    assert!(rt; is_child(2, 1, Side::Left));
-    assert!(rt; is_on_path(1, 13));
-    assert!(rt; is_on_path(6, 13));
-    assert!(rt; is_on_path(13, 13));
-    assert!(rt; !is_on_path(13, 6));
-    assert!(rt; !is_on_path(7, 13));
-    assert!(rt; goes_by(1, 13, 3));
-    assert!(rt; goes_by(6, 13, 13));
+    expect_all(
+        &rt,
+        &[
+            is_child(13, 6, Side::Right),
+            is_child(2, 1, Side::Left),
+            is_on_path(1, 13),
+            is_on_path(6, 13),
+            is_on_path(13, 13),
+            !is_on_path(13, 6),
+            !is_on_path(7, 13),
+            goes_by(1, 13, 3),
+            goes_by(6, 13, 13),
+        ],
+    );
 }
 
 // Whether two regions, which are within the limits, are apart as this row says.
@@ -121,11 +132,16 @@ fn are_apart(a: Region, b: Region, apart: bool) -> bool {
 #[test]
 fn regions_that_share_processors(rt: HostRuntime) {
     let pair = Region { base: 4, dim: 1 };
-    assert!(rt; are_apart(pair, Region { base: 5, dim: 0 }, false));
-    assert!(rt; are_apart(Region { base: 4, dim: 2 }, pair, false));
-    assert!(rt; are_apart(pair, pair, false));
-    assert!(rt; are_apart(pair, Region { base: 6, dim: 1 }, true));
-    assert!(rt; are_apart(pair, Region { base: 0, dim: 2 }, true));
+    expect_all(
+        &rt,
+        &[
+            are_apart(pair, Region { base: 5, dim: 0 }, false),
+            are_apart(Region { base: 4, dim: 2 }, pair, false),
+            are_apart(pair, pair, false),
+            are_apart(pair, Region { base: 6, dim: 1 }, true),
+            are_apart(pair, Region { base: 0, dim: 2 }, true),
+        ],
+    );
 }
 
 // Whether the neighbour of a processor across this bit is this one.
@@ -135,8 +151,13 @@ fn has_neighbour(processor: u64, bit: u32, other: u64) -> bool {
 
 #[test]
 fn neighbours_differ_in_one_bit(rt: HostRuntime) {
-    assert!(rt; has_neighbour(0, 0, 1));
-    assert!(rt; has_neighbour(5, 1, 7));
-    assert!(rt; has_neighbour(7, 2, 3));
-    assert!(rt; neighbour(neighbour(6, 0), 0) == 6);
+    expect_all(
+        &rt,
+        &[
+            has_neighbour(0, 0, 1),
+            has_neighbour(5, 1, 7),
+            has_neighbour(7, 2, 3),
+            neighbour(neighbour(6, 0), 0) == 6,
+        ],
+    );
 }

@@ -4,8 +4,10 @@ use std::alloc::Global;
 use std::fmt::Display;
 use std::process::Abort;
 
-// Whether a value shows as this text.
-pub(super) fn reads(rt: &impl Abort, alloc: Global, value: &impl Display, text: &str) -> bool {
-    let shown = format!(in alloc; "{value}").expect(rt, "no memory");
-    shown.as_str() == text
+// Each value has to show as its text.
+pub(super) fn expect_texts<T: Display>(rt: &impl Abort, alloc: Global, rows: &[(T, &str)]) {
+    for (value, text) in rows {
+        let shown = format!(in alloc; "{value}").expect(rt, "no memory");
+        assert!(rt; shown.as_str() == *text);
+    }
 }

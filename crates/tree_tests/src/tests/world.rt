@@ -10,7 +10,7 @@ mod interleavings;
 mod outcomes;
 mod schedules;
 
-use super::text::reads;
+use super::text::expect_texts;
 use cube_core::{Act, Event, Kind, MAX_DIM, MAX_STATIONS, Note, Phase, Refused, World};
 use std::alloc::Global;
 use std::process::Abort;
@@ -114,53 +114,42 @@ fn follows(world: &mut World, n: u32, stations: u32, rows: &[Row]) -> bool
     true
 }
 
-// Whether a new world goes as these lines say once these acts have been run on it.
-fn plays_after(
-    rt: &impl Abort,
-    alloc: Global,
-    n: u32,
-    stations: u32,
-    acts: &[Act],
-    rows: &[Row],
-) -> bool {
-    if n > MAX_DIM || stations > MAX_STATIONS {
-        return false;
-    }
+// A new world has to go as these lines say once these acts have been run on it.
+fn plays_after(rt: &impl Abort, alloc: Global, n: u32, stations: u32, acts: &[Act], rows: &[Row]) {
+    assert!(rt; n <= MAX_DIM && stations <= MAX_STATIONS);
     let mut world = World::new(alloc, n, stations).expect(rt, "no memory");
     world.run(acts);
-    follows(&mut world, n, stations, rows)
+    assert!(rt; follows(&mut world, n, stations, rows));
 }
 
-// Whether a new world goes as these lines say.
-fn plays(rt: &impl Abort, alloc: Global, n: u32, stations: u32, rows: &[Row]) -> bool {
-    plays_after(rt, alloc, n, stations, &[], rows)
+// A new world has to go as these lines say.
+fn plays(rt: &impl Abort, alloc: Global, n: u32, stations: u32, rows: &[Row]) {
+    plays_after(rt, alloc, n, stations, &[], rows);
 }
 
 #[test]
 fn gives_back_under_a_held_root(rt: HostRuntime) {
-    assert!(rt;
-        plays(
-            &rt,
-            rt.alloc(),
-            1,
-            3,
-            &[
-                Row::Takes(1, 1),
-                Row::Makes(1, Kind::Look, 1, 0, Note::Free),
-                Row::Makes(1, Kind::Claim, 1, 7, Note::Held),
-                Row::Takes(0, 2),
-                Row::Makes(0, Kind::Look, 2, 0, Note::Free),
-                Row::Makes(0, Kind::Claim, 2, 7, Note::Climb),
-                Row::Makes(0, Kind::Sweep, 1, 7, Note::Ok),
-                Row::Makes(0, Kind::Raise, 1, 7, Note::Under),
-                Row::Stands(0, Phase::Backing { node: 2, at: 1 }),
-                Row::Makes(0, Kind::Zero, 2, 0, Note::Climb),
-                Row::Stands(0, Phase::Arriving { at: 1 }),
-                Row::Stands(1, Phase::Holding { node: 1 }),
-                Row::HasWord(1, 7),
-                Row::HasWord(2, 0),
-            ],
-        )
+    plays(
+        &rt,
+        rt.alloc(),
+        1,
+        3,
+        &[
+            Row::Takes(1, 1),
+            Row::Makes(1, Kind::Look, 1, 0, Note::Free),
+            Row::Makes(1, Kind::Claim, 1, 7, Note::Held),
+            Row::Takes(0, 2),
+            Row::Makes(0, Kind::Look, 2, 0, Note::Free),
+            Row::Makes(0, Kind::Claim, 2, 7, Note::Climb),
+            Row::Makes(0, Kind::Sweep, 1, 7, Note::Ok),
+            Row::Makes(0, Kind::Raise, 1, 7, Note::Under),
+            Row::Stands(0, Phase::Backing { node: 2, at: 1 }),
+            Row::Makes(0, Kind::Zero, 2, 0, Note::Climb),
+            Row::Stands(0, Phase::Arriving { at: 1 }),
+            Row::Stands(1, Phase::Holding { node: 1 }),
+            Row::HasWord(1, 7),
+            Row::HasWord(2, 0),
+        ],
     );
 }
 
@@ -186,120 +175,110 @@ fn retire(station: u64) -> Act {
 
 #[test]
 fn refuses_in_order(rt: HostRuntime) {
-    assert!(rt;
-        plays(
-            &rt,
-            rt.alloc(),
-            1,
-            2,
-            &[
-                Row::Refuses(take(2, 0), Refused::NoStation),
-                Row::Refuses(release(2), Refused::NoStation),
-                Row::Refuses(step(u64::MAX), Refused::NoStation),
-                Row::Refuses(take(0, 0), Refused::NotInCube),
-                Row::Refuses(take(0, 4), Refused::NotInCube),
-                Row::Refuses(release(0), Refused::NotHolding),
-                Row::Refuses(step(0), Refused::Resting),
-                Row::Takes(0, 3),
-                Row::Refuses(take(0, 4), Refused::NotIdle),
-                Row::Refuses(release(0), Refused::NotHolding),
-                Row::Refuses(retire(0), Refused::NotIdle),
-                Row::Refuses(retire(2), Refused::NoStation),
-            ],
-        )
+    plays(
+        &rt,
+        rt.alloc(),
+        1,
+        2,
+        &[
+            Row::Refuses(take(2, 0), Refused::NoStation),
+            Row::Refuses(release(2), Refused::NoStation),
+            Row::Refuses(step(u64::MAX), Refused::NoStation),
+            Row::Refuses(take(0, 0), Refused::NotInCube),
+            Row::Refuses(take(0, 4), Refused::NotInCube),
+            Row::Refuses(release(0), Refused::NotHolding),
+            Row::Refuses(step(0), Refused::Resting),
+            Row::Takes(0, 3),
+            Row::Refuses(take(0, 4), Refused::NotIdle),
+            Row::Refuses(release(0), Refused::NotHolding),
+            Row::Refuses(retire(0), Refused::NotIdle),
+            Row::Refuses(retire(2), Refused::NoStation),
+        ],
     );
 }
 
 #[test]
 fn retires_for_good(rt: HostRuntime) {
-    assert!(rt;
-        plays(
-            &rt,
-            rt.alloc(),
-            1,
-            2,
-            &[
-                Row::Retires(1, 2),
-                Row::Stands(1, Phase::Retired),
-                Row::HasWord(0, 2),
-                Row::Refuses(take(1, 1), Refused::NotIdle),
-                Row::Refuses(release(1), Refused::NotHolding),
-                Row::Refuses(step(1), Refused::Resting),
-                Row::Refuses(retire(1), Refused::NotIdle),
-            ],
-        )
+    plays(
+        &rt,
+        rt.alloc(),
+        1,
+        2,
+        &[
+            Row::Retires(1, 2),
+            Row::Stands(1, Phase::Retired),
+            Row::HasWord(0, 2),
+            Row::Refuses(take(1, 1), Refused::NotIdle),
+            Row::Refuses(release(1), Refused::NotHolding),
+            Row::Refuses(step(1), Refused::Resting),
+            Row::Refuses(retire(1), Refused::NotIdle),
+        ],
     );
 }
 
 #[test]
 fn a_machine_of_one_node(rt: HostRuntime) {
-    assert!(rt;
-        plays(
-            &rt,
-            rt.alloc(),
-            0,
-            2,
-            &[
-                Row::Refuses(take(0, 2), Refused::NotInCube),
-                Row::Takes(0, 1),
-                Row::Takes(1, 1),
-                Row::Makes(0, Kind::Look, 1, 0, Note::Free),
-                Row::Makes(1, Kind::Look, 1, 0, Note::Free),
-                Row::Makes(0, Kind::Claim, 1, 7, Note::Held),
-                Row::Makes(1, Kind::Claim, 1, 7, Note::Lost),
-                Row::Takes(1, 1),
-                Row::Makes(1, Kind::Look, 1, 7, Note::InUse),
-                Row::Releases(0),
-                Row::Makes(0, Kind::Zero, 1, 0, Note::Done),
-            ],
-        )
+    plays(
+        &rt,
+        rt.alloc(),
+        0,
+        2,
+        &[
+            Row::Refuses(take(0, 2), Refused::NotInCube),
+            Row::Takes(0, 1),
+            Row::Takes(1, 1),
+            Row::Makes(0, Kind::Look, 1, 0, Note::Free),
+            Row::Makes(1, Kind::Look, 1, 0, Note::Free),
+            Row::Makes(0, Kind::Claim, 1, 7, Note::Held),
+            Row::Makes(1, Kind::Claim, 1, 7, Note::Lost),
+            Row::Takes(1, 1),
+            Row::Makes(1, Kind::Look, 1, 7, Note::InUse),
+            Row::Releases(0),
+            Row::Makes(0, Kind::Zero, 1, 0, Note::Done),
+        ],
     );
 }
 
 #[test]
 fn runs_acts_and_reads_the_end(rt: HostRuntime) {
-    assert!(rt;
-        plays_after(
-            &rt,
-            rt.alloc(),
-            1,
-            2,
-            &[
-                take(0, 3),
-                step(0),
-                step(0),
-                release(0),
-                step(0),
-                step(0),
-                step(0),
-                release(0),
-                take(1, 2),
-            ],
-            &[
-                Row::Stands(0, Phase::Leaving { node: 3 }),
-                Row::Stands(1, Phase::Looking { node: 2 }),
-                Row::HasWord(0, 0),
-                Row::HasWord(1, 4),
-                Row::HasWord(2, 0),
-                Row::HasWord(3, 7),
-            ],
-        )
+    plays_after(
+        &rt,
+        rt.alloc(),
+        1,
+        2,
+        &[
+            take(0, 3),
+            step(0),
+            step(0),
+            release(0),
+            step(0),
+            step(0),
+            step(0),
+            release(0),
+            take(1, 2),
+        ],
+        &[
+            Row::Stands(0, Phase::Leaving { node: 3 }),
+            Row::Stands(1, Phase::Looking { node: 2 }),
+            Row::HasWord(0, 0),
+            Row::HasWord(1, 4),
+            Row::HasWord(2, 0),
+            Row::HasWord(3, 7),
+        ],
     );
 }
 
 #[test]
 fn refusals_as_text(rt: HostRuntime) {
-    let alloc = rt.alloc();
-    assert!(rt; reads(&rt, alloc, &Refused::NotIdle, "the station is not idle"));
-    assert!(rt;
-        reads(
-            &rt,
-            alloc,
-            &Refused::NotHolding,
-            "the station holds nothing"
-        )
+    expect_texts(
+        &rt,
+        rt.alloc(),
+        &[
+            (Refused::NotIdle, "the station is not idle"),
+            (Refused::NotHolding, "the station holds nothing"),
+            (Refused::NoStation, "there is no such station"),
+            (Refused::NotInCube, "there is no such node"),
+            (Refused::Resting, "the station makes no step"),
+        ],
     );
-    assert!(rt; reads(&rt, alloc, &Refused::NoStation, "there is no such station"));
-    assert!(rt; reads(&rt, alloc, &Refused::NotInCube, "there is no such node"));
-    assert!(rt; reads(&rt, alloc, &Refused::Resting, "the station makes no step"));
 }

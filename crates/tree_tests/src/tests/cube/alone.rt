@@ -4,6 +4,7 @@ ghost use Rattle.std.specs.Prelude.{◌≡◌};
 ghost use Rattle.cube_tree.specs.Solo.{solo_dim};
 
 use super::{is_free, opened};
+use crate::tests::expect::expect_all;
 use cube_shape::Region;
 use cube_tree::{FreeMachine, Solo, SoloRefused};
 use std::alloc::Global;
@@ -79,29 +80,27 @@ fn follows(solo: &mut Solo, rows: &[Row]) -> bool {
 #[test]
 fn the_lowest_station_gets_the_first_fit(rt: HostRuntime) {
     let mut solo = made(&rt, rt.alloc(), 3, 4);
-    assert!(rt; solo.dim() == 3);
-    assert!(rt;
-        follows(
-            &mut solo,
-            &[
-                Row::Takes(1, Ok((0, 0))),
-                Row::Takes(0, Ok((1, 2))),
-                Row::HasWords([0, 2, 6, 0, 519, 2, 0, 0, 0, 0, 7, 0, 0, 0, 0, 0]),
-                Row::Takes(2, Ok((2, 4))),
-                Row::Takes(1, Err(SoloRefused::NoSubcube)),
-                Row::Takes(0, Ok((3, 3))),
-                Row::Takes(3, Err(SoloRefused::NoStation)),
-                Row::GivesBack(1),
-                Row::HasRegion(0, Some(Region { base: 0, dim: 1 })),
-                Row::HasRegion(1, None),
-                Row::HasRegion(2, Some(Region { base: 4, dim: 2 })),
-                Row::HasRegion(4, None),
-                Row::Takes(1, Err(SoloRefused::NoSubcube)),
-                Row::Takes(0, Ok((1, 2))),
-            ]
-        )
+    let dim = solo.dim();
+    let went = follows(
+        &mut solo,
+        &[
+            Row::Takes(1, Ok((0, 0))),
+            Row::Takes(0, Ok((1, 2))),
+            Row::HasWords([0, 2, 6, 0, 519, 2, 0, 0, 0, 0, 7, 0, 0, 0, 0, 0]),
+            Row::Takes(2, Ok((2, 4))),
+            Row::Takes(1, Err(SoloRefused::NoSubcube)),
+            Row::Takes(0, Ok((3, 3))),
+            Row::Takes(3, Err(SoloRefused::NoStation)),
+            Row::GivesBack(1),
+            Row::HasRegion(0, Some(Region { base: 0, dim: 1 })),
+            Row::HasRegion(1, None),
+            Row::HasRegion(2, Some(Region { base: 4, dim: 2 })),
+            Row::HasRegion(4, None),
+            Row::Takes(1, Err(SoloRefused::NoSubcube)),
+            Row::Takes(0, Ok((1, 2))),
+        ],
     );
-    assert!(rt; ends_free(solo));
+    expect_all(&rt, &[dim == 3, went, ends_free(solo)]);
 }
 
 // Whether the stations below this number take a processor each, by rising numbers.
@@ -117,9 +116,14 @@ fn all_take(solo: &mut Solo, stations: u32) -> bool {
 #[test]
 fn each_station_of_the_largest_machine_holds(rt: HostRuntime) {
     let mut solo = made(&rt, rt.alloc(), 12, 48);
-    assert!(rt; all_take(&mut solo, 48));
-    assert!(rt; takes(&mut solo, 0, Err(SoloRefused::NoStation)));
-    assert!(rt; ends_free(solo));
+    expect_all(
+        &rt,
+        &[
+            all_take(&mut solo, 48),
+            takes(&mut solo, 0, Err(SoloRefused::NoStation)),
+            ends_free(solo),
+        ],
+    );
 }
 
 // The machine of dimension 2 with three stations at its end. Where memory for it is refused, the cube

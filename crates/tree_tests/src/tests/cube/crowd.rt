@@ -5,6 +5,7 @@ ghost use Rattle.std.specs.Prelude.{◌≡◌, ◌≤◌, [], All, IsSomeAnd, ve
 ghost use Rattle.cube_tree.specs.Handles.{cube_dim, IsStationOf};
 
 use super::{closed, is_free, opened};
+use crate::tests::expect::expect_all;
 use cube_shape::Node;
 use cube_tree::{Cube, TreeStation, Why};
 use std::alloc::Global;
@@ -230,7 +231,12 @@ fn four_threads_hold_a_processor_each(rt: HostRuntime) {
 fn a_lost_claim_is_told_and_counted(rt: HostRuntime) {
     let shared = unused(0);
     play(&rt, rt.alloc(), 4, &shared);
-    assert!(rt; shared.lost_tries.load(SeqCst) > 0);
-    assert!(rt; shared.lost_takes.load(SeqCst) > 0);
-    assert!(rt; shared.miscounted.load(SeqCst) == 0);
+    expect_all(
+        &rt,
+        &[
+            shared.lost_tries.load(SeqCst) > 0,
+            shared.lost_takes.load(SeqCst) > 0,
+            shared.miscounted.load(SeqCst) == 0,
+        ],
+    );
 }
