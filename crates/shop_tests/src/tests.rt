@@ -4,6 +4,7 @@ mod at_rest;
 mod batches;
 mod counted;
 mod crowd;
+mod expect;
 mod floor_calls;
 mod job_crowd;
 mod over;

@@ -2,6 +2,7 @@
 ghost use Rattle.std.specs.Prelude.{◌≤◌};
 
 use crate::tests::at_rest::AtRest;
+use crate::tests::expect::expect_all;
 use crate::tests::over::{BOTH, Over};
 use crew::{RunEnd, Stopped, answer_all};
 use cube_shape::MAX_LANES;
@@ -181,18 +182,16 @@ fn has_accepted(batch: &Batch, accepted: &[u64]) -> bool {
 fn replies_stand_in_the_order_of_their_ids(rt: HostRuntime) {
     for over in BOTH {
         let batch = answer(&rt, rt.alloc(), over, 3, Plan::Kinds, (2, 2), &Plain);
-        assert!(rt; has_accepted(&batch, &[1, 2, 1]));
-        assert!(rt;
-            are_rows(
-                &batch.replies,
-                &[
-                    (0, 0, [Some(2), Some(9), Some(9), Some(9)]),
-                    (1, 0, [Some(3), Some(3), None, None]),
-                    (1, 1, [None, Some(9), None, None]),
-                    (2, 0, [Some(3), Some(3), None, None]),
-                ],
-            )
+        let are_these = are_rows(
+            &batch.replies,
+            &[
+                (0, 0, [Some(2), Some(9), Some(9), Some(9)]),
+                (1, 0, [Some(3), Some(3), None, None]),
+                (1, 1, [None, Some(9), None, None]),
+                (2, 0, [Some(3), Some(3), None, None]),
+            ],
         );
+        expect_all(&rt, &[has_accepted(&batch, &[1, 2, 1]), are_these]);
     }
 }
 
@@ -219,8 +218,14 @@ fn any_number_of_workers_gives_the_same_replies(rt: HostRuntime) {
             (workers, 1),
             &runner,
         );
-        assert!(rt; batch.workers == workers as usize && are_sums(&batch.replies));
-        assert!(rt; runner.answered() == 16 * u64::from(EACH));
+        expect_all(
+            &rt,
+            &[
+                batch.workers == workers as usize,
+                are_sums(&batch.replies),
+                runner.answered() == 16 * u64::from(EACH),
+            ],
+        );
     }
 }
 
@@ -242,7 +247,12 @@ fn is_refused<R: Threads + Wait + Abort + Sync>(
 #[test]
 fn sizes_of_a_batch_are_refused(rt: HostRuntime) {
     for over in BOTH {
-        assert!(rt; is_refused(&rt, rt.alloc(), over, (17, 1), ShopRefused::BadDispatchers));
-        assert!(rt; is_refused(&rt, rt.alloc(), over, (1, 0), ShopRefused::BadCapacity));
+        expect_all(
+            &rt,
+            &[
+                is_refused(&rt, rt.alloc(), over, (17, 1), ShopRefused::BadDispatchers),
+                is_refused(&rt, rt.alloc(), over, (1, 0), ShopRefused::BadCapacity),
+            ],
+        );
     }
 }

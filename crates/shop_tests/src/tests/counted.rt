@@ -1,5 +1,6 @@
 //! The jobs of two lanes, answered on the tree; the results are worked out by hand.
 use crate::tests::at_rest::AtRest;
+use crate::tests::expect::expect_all;
 use dispatcher::{Finished, Plain};
 use job_types::{JobId, JobRefused, Reply};
 use std::alloc::Global;
@@ -54,12 +55,17 @@ fn each_job_is_answered_once(rt: HostRuntime) -> Result<(), Fail> {
     let runner = Counting::new(Plain);
     let answered = count_on_tree(&rt, rt.alloc(), &runner)?;
     let (finished, processors) = answered.expect(&rt, "no memory, or no thread");
-    assert!(rt; processors == 8);
-    assert!(rt; runner.answered() == 3);
-    assert!(rt; finished.accepted.as_slice() == [1, 2].as_slice());
-    assert!(rt; is_once(&finished, 0, 0, Some(2), Some(9)));
-    assert!(rt; is_once(&finished, 1, 0, Some(3), Some(3)));
-    assert!(rt; is_once(&finished, 1, 1, None, Some(9)));
-    assert!(rt; finished.machine.is_at_rest(3));
+    expect_all(
+        &rt,
+        &[
+            processors == 8,
+            runner.answered() == 3,
+            finished.accepted.as_slice() == [1, 2].as_slice(),
+            is_once(&finished, 0, 0, Some(2), Some(9)),
+            is_once(&finished, 1, 0, Some(3), Some(3)),
+            is_once(&finished, 1, 1, None, Some(9)),
+            finished.machine.is_at_rest(3),
+        ],
+    );
     Ok(())
 }

@@ -4,6 +4,7 @@ ghost use Rattle.std.specs.Prelude.{◌≡◌, ℕ, ◌+◌, ◌<◌, ◌≤◌,
 ghost use Rattle.cube_tree.specs.Handles.{cube_dim, IsStationOf};
 
 use crate::tests::at_rest::AtRest;
+use crate::tests::expect::expect_all;
 use crate::tests::floor_calls::opened;
 use crate::tests::job_crowd::add;
 use crate::tests::over::{BOTH, Over};
@@ -637,9 +638,14 @@ fn a_crowd_on_a_cube_holds_no_processor_twice(rt: HostRuntime) {
     let (cube, mut list) = opened_cube(&rt, rt.alloc(), 5, 8);
     crowd(&rt, rt.alloc(), &cube, &mut list, &shared);
     let machine = closed_cube(&rt, cube, list);
-    assert!(rt; shared.table.clashes() == 0);
-    assert!(rt; shared.given.iter().all(|count| count.load(SeqCst) > 0));
-    assert!(rt; machine.is_at_rest(5));
+    expect_all(
+        &rt,
+        &[
+            shared.table.clashes() == 0,
+            shared.given.iter().all(|count| count.load(SeqCst) > 0),
+            machine.is_at_rest(5),
+        ],
+    );
 }
 
 // Two plays on the floor with no lock, or on the one under a lock.
@@ -675,8 +681,14 @@ fn a_crowd_holds_no_processor_twice(rt: HostRuntime) {
     for over in BOTH {
         let shared = unused(&rt, rt.alloc(), 32, 8, turning(1000, 6));
         let then = unused(&rt, rt.alloc(), 32, 8, holding);
-        assert!(rt; crowd_over(&rt, rt.alloc(), over, 8, &shared, &then));
-        assert!(rt; all_given(&shared, 1000) && all_given(&then, 501));
+        expect_all(
+            &rt,
+            &[
+                crowd_over(&rt, rt.alloc(), over, 8, &shared, &then),
+                all_given(&shared, 1000),
+                all_given(&then, 501),
+            ],
+        );
     }
 }
 
@@ -684,11 +696,16 @@ fn a_crowd_holds_no_processor_twice(rt: HostRuntime) {
 #[test]
 fn sixteen_stations_beside_a_held_half_end(rt: HostRuntime) {
     let shared = unused(&rt, rt.alloc(), 32, 16, turning(200, 1));
-    assert!(rt; crowd_beside_half::<_, TreeFloor>(&rt, rt.alloc(), 17, &shared));
-    assert!(rt; all_given(&shared, 200));
-    let shared = unused(&rt, rt.alloc(), 32, 16, turning(200, 1));
-    assert!(rt; crowd_beside_half::<_, LockedFloor>(&rt, rt.alloc(), 17, &shared));
-    assert!(rt; all_given(&shared, 200));
+    let also_shared = unused(&rt, rt.alloc(), 32, 16, turning(200, 1));
+    expect_all(
+        &rt,
+        &[
+            crowd_beside_half::<_, TreeFloor>(&rt, rt.alloc(), 17, &shared),
+            all_given(&shared, 200),
+            crowd_beside_half::<_, LockedFloor>(&rt, rt.alloc(), 17, &also_shared),
+            all_given(&also_shared, 200),
+        ],
+    );
 }
 
 // One station holds the whole machine while the other comes for a processor of it, and then they take turns.
@@ -703,7 +720,13 @@ fn a_take_waits_for_a_release(rt: HostRuntime) {
     for over in BOTH {
         let shared = unused(&rt, rt.alloc(), 32, 2, waiting);
         let then = unused(&rt, rt.alloc(), 32, 2, turning(10, 6));
-        assert!(rt; crowd_over(&rt, rt.alloc(), over, 2, &shared, &then) && all_given(&then, 10));
-        assert!(rt; came_after(&shared));
+        expect_all(
+            &rt,
+            &[
+                crowd_over(&rt, rt.alloc(), over, 2, &shared, &then),
+                all_given(&then, 10),
+                came_after(&shared),
+            ],
+        );
     }
 }

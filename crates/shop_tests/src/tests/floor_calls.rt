@@ -4,6 +4,7 @@ ghost use Rattle.std.specs.List.{All};
 ghost use Rattle.std.specs.Vec.{vec_capacity};
 
 use crate::tests::at_rest::AtRest;
+use crate::tests::expect::expect_all;
 use cube_shape::{MAX_DIM, MAX_STATIONS, Region};
 use floors::Floor;
 use locked_floor::LockedFloor;
@@ -120,12 +121,11 @@ fn each_call_once_over<R: Abort + Wait, F: Floor>(rt: &R, alloc: Global)
 where
     F::Machine: Drop + AtRest,
 {
-    let (floor, stations) = opened::<F>(rt, alloc, 2, 2);
-    let (regions, machine) = play(rt, floor, stations, false);
-    assert!(rt; are_first_regions(&regions) && machine.is_at_rest(2));
-    let (floor, stations) = opened::<F>(rt, alloc, 2, 2);
-    let (regions, machine) = play(rt, floor, stations, true);
-    assert!(rt; are_first_regions(&regions) && machine.is_at_rest(2));
+    for turned in [false, true] {
+        let (floor, stations) = opened::<F>(rt, alloc, 2, 2);
+        let (regions, machine) = play(rt, floor, stations, turned);
+        expect_all(rt, &[are_first_regions(&regions), machine.is_at_rest(2)]);
+    }
 }
 
 #[test]
@@ -175,8 +175,14 @@ where
     let regions = [F::region(&held), F::region(&also_held)];
     let machine = close_whole(rt, floor, held, stations);
     let other = close_whole(rt, other, also_held, others);
-    assert!(rt; regions == [Region { base: 0, dim: 3 }; 2]);
-    assert!(rt; machine.is_at_rest(3) && other.is_at_rest(3));
+    expect_all(
+        rt,
+        &[
+            regions == [Region { base: 0, dim: 3 }; 2],
+            machine.is_at_rest(3),
+            other.is_at_rest(3),
+        ],
+    );
 }
 
 #[test]
@@ -195,8 +201,10 @@ where
     let (largest, stations) = opened::<F>(rt, alloc, MAX_DIM, MAX_STATIONS);
     let count = stations.len();
     let large = largest.close(stations);
-    assert!(rt; count == 48);
-    assert!(rt; small.is_at_rest(0) && large.is_at_rest(12));
+    expect_all(
+        rt,
+        &[count == 48, small.is_at_rest(0), large.is_at_rest(12)],
+    );
 }
 
 #[test]
@@ -212,9 +220,14 @@ where
     F::Machine: Drop + AtRest,
 {
     let (one, other, machine) = hold_pair::<R, F>(rt, alloc, 3, 1).expect(rt, "no memory");
-    assert!(rt; one == Region { base: 0, dim: 1 });
-    assert!(rt; other == Region { base: 2, dim: 1 });
-    assert!(rt; machine.is_at_rest(3));
+    expect_all(
+        rt,
+        &[
+            one == Region { base: 0, dim: 1 },
+            other == Region { base: 2, dim: 1 },
+            machine.is_at_rest(3),
+        ],
+    );
 }
 
 #[test]

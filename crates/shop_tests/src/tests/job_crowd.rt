@@ -4,6 +4,7 @@ ghost use Rattle.std.specs.List.{All};
 ghost use Rattle.dispatcher.specs.Members.{IsCloserOf, IsEndOf, IsNoteOf, IsWorkerOf};
 
 use crate::tests::at_rest::AtRest;
+use crate::tests::expect::expect_all;
 use crate::tests::over::Over;
 use crate::tests::slot::fill;
 use cube_shape::MAX_LANES;
@@ -620,8 +621,14 @@ fn every_job_of_a_crowd_is_answered(rt: HostRuntime) {
             closes_after,
         };
         let crowd = crowd_over(&rt, rt.alloc(), over, &shared);
-        assert!(rt; crowd.is_answered && crowd.is_at_rest);
-        assert!(rt; shared.runner.runner().answered() >= closes_after);
-        assert!(rt; shared.runner.clashes() == 0);
+        expect_all(
+            &rt,
+            &[
+                crowd.is_answered,
+                crowd.is_at_rest,
+                shared.runner.runner().answered() >= closes_after,
+                shared.runner.clashes() == 0,
+            ],
+        );
     }
 }

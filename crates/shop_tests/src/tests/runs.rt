@@ -2,6 +2,7 @@
 ghost use Rattle.std.specs.Prelude.{◌≤◌};
 
 use crate::tests::at_rest::AtRest;
+use crate::tests::expect::expect_all;
 use crate::tests::over::{BOTH, Over};
 use crew::{LaneEnd, RunEnd, run};
 use cube_shape::{MAX_DIM, MAX_LANES};
@@ -182,8 +183,17 @@ fn two_jobs_are_inside_at_once(rt: HostRuntime) {
     for over in BOTH {
         let runner = Tabled::new(rt.alloc(), 4, Meeting::of(2)).expect(&rt, "no memory");
         let ran = run_through(&rt, rt.alloc(), over, (2, 2, 2), 1, Plan::Same(2), &runner);
-        assert!(rt; ran.is_whole && ran.is_at_rest && ran.rest == 0 && ran.is_by_two);
-        assert!(rt; runner.runner().has_met() && runner.clashes() == 0);
+        expect_all(
+            &rt,
+            &[
+                ran.is_whole,
+                ran.is_at_rest,
+                ran.rest == 0,
+                ran.is_by_two,
+                runner.runner().has_met(),
+                runner.clashes() == 0,
+            ],
+        );
     }
 }
 
@@ -201,8 +211,15 @@ fn as_many_workers_run_as_were_asked(rt: HostRuntime) {
         let runner = Counting::new(Meeting::of(u64::from(workers)));
         let sizes = (4, workers, 1);
         let ran = run_through(&rt, rt.alloc(), over, sizes, 8, Plan::Same(1), &runner);
-        assert!(rt; ran.is_whole && ran.workers == workers as usize);
-        assert!(rt; runner.answered() == 8 && ran.replies == 8);
+        expect_all(
+            &rt,
+            &[
+                ran.is_whole,
+                ran.workers == workers as usize,
+                runner.answered() == 8,
+                ran.replies == 8,
+            ],
+        );
     }
 }
 
@@ -225,8 +242,15 @@ fn each_lane_has_a_feeder(rt: HostRuntime) {
         let runner = Keeper::new(lane, TURNS);
         let plan = Plan::OneHas { lane, count: MANY };
         let ran = run_through(&rt, rt.alloc(), over, (2, 2, 1), 2, plan, &runner);
-        assert!(rt; ran.is_whole && ran.replies == MANY as usize + 1);
-        assert!(rt; runner.others() == 1 && runner.before() < u64::from(MANY - 1));
+        expect_all(
+            &rt,
+            &[
+                ran.is_whole,
+                ran.replies == MANY as usize + 1,
+                runner.others() == 1,
+                runner.before() < u64::from(MANY - 1),
+            ],
+        );
     }
 }
 
@@ -245,9 +269,17 @@ fn many_feeders_share_room_for_one_job(rt: HostRuntime) {
             Plan::Same(20),
             &runner,
         );
-        assert!(rt; ran.is_whole && ran.is_at_rest && ran.rest == 0);
-        assert!(rt; ran.replies == 320 && runner.runner().answered() == 320);
-        assert!(rt; runner.clashes() == 0);
+        expect_all(
+            &rt,
+            &[
+                ran.is_whole,
+                ran.is_at_rest,
+                ran.rest == 0,
+                ran.replies == 320,
+                runner.runner().answered() == 320,
+                runner.clashes() == 0,
+            ],
+        );
     }
 }
 

@@ -1,5 +1,6 @@
 //! A shop of one lane and one worker: over the line and the floor with no lock, and over the two locks.
 use crate::tests::at_rest::AtRest;
+use crate::tests::expect::expect_all;
 use crate::tests::stage::{Back, Stage};
 use dispatcher::{FeedEnd, FeedStop, Finished, Plain, Shop, ShopRefused, Stop, refusal};
 use floors::Floor;
@@ -59,8 +60,13 @@ where
 
 #[test]
 fn first_bad_size_is_the_refusal(rt: HostRuntime) {
-    assert!(rt; first_bad_size_is_the_refusal_over::<RuledLine, TreeFloor>(rt.alloc()));
-    assert!(rt; first_bad_size_is_the_refusal_over::<LockedLine, LockedFloor>(rt.alloc()));
+    expect_all(
+        &rt,
+        &[
+            first_bad_size_is_the_refusal_over::<RuledLine, TreeFloor>(rt.alloc()),
+            first_bad_size_is_the_refusal_over::<LockedLine, LockedFloor>(rt.alloc()),
+        ],
+    );
 }
 
 // Whether this is a refusal for this reason, with a job of these numbers.
@@ -107,8 +113,10 @@ where
     let third = stage.submit(rt, alloc, &[5, 6]);
     let is_closed = gives_back(&third, Refused::Closed { seen: 2 }, &[5, 6]);
     let is_whole = has_rest(&stage.finish(rt, alloc, &Plain));
-    assert!(rt; is_first && is_full && is_closed);
-    assert!(rt; close_number == 2 && is_whole);
+    expect_all(
+        rt,
+        &[is_first, is_full, is_closed, close_number == 2, is_whole],
+    );
 }
 
 #[test]
@@ -194,8 +202,7 @@ where
     let is_late = stops_at_the_close(&stage.feed(rt, alloc, &THREE_JOBS, None));
     let stop = stage.dispatch(rt, alloc, &Plain, None);
     let is_whole = has_first_regions(&stage.finish(rt, alloc, &Plain));
-    assert!(rt; is_fed && is_late);
-    assert!(rt; stop == Stop::Ended && is_whole);
+    expect_all(rt, &[is_fed, is_late, stop == Stop::Ended, is_whole]);
 }
 
 #[test]
@@ -217,8 +224,10 @@ where
     stage.feed(rt, alloc, &THREE_JOBS, None);
     let runner = Counting::new(Plain);
     let finished = stage.finish(rt, alloc, &runner);
-    assert!(rt; are_three_seqs(&[], &finished.rest));
-    assert!(rt; runner.answered() == 3);
+    expect_all(
+        rt,
+        &[are_three_seqs(&[], &finished.rest), runner.answered() == 3],
+    );
 }
 
 #[test]
@@ -254,8 +263,15 @@ where
     let fed = left_by_turns(&stage.feed(rt, alloc, &THREE_SUMS, Some(5)));
     let close_number = stage.close(rt);
     let is_whole = has_one_left(&stage.finish(rt, alloc, &Plain));
-    assert!(rt; none == Some((0, 3)) && fed == Some((1, 1)));
-    assert!(rt; close_number == 6 && is_whole);
+    expect_all(
+        rt,
+        &[
+            none == Some((0, 3)),
+            fed == Some((1, 1)),
+            close_number == 6,
+            is_whole,
+        ],
+    );
 }
 
 #[test]
@@ -287,12 +303,16 @@ where
     let (runner, last) = (Counting::new(Plain), Counting::new(Plain));
     let stop = stage.dispatch(rt, alloc, &runner, Some(most));
     let is_whole = has_three(&stage.finish(rt, alloc, &last));
-    is_fed
-        && close_number == 3
-        && stop == Stop::Enough
-        && is_whole
-        && runner.answered() == u64::from(most)
-        && last.answered() == u64::from(3 - most.min(3))
+    [
+        is_fed,
+        close_number == 3,
+        stop == Stop::Enough,
+        is_whole,
+        runner.answered() == u64::from(most),
+        last.answered() == u64::from(3 - most.min(3)),
+    ]
+    .iter()
+    .all(|fact| *fact)
 }
 
 // A worker that is to answer two of three jobs leaves one to the end, and one that is to answer none leaves
@@ -301,8 +321,13 @@ fn worker_stops_when_it_is_enough_over<R: Wait + Abort, L: JobLine, F: Floor>(rt
 where
     F::Machine: Drop,
 {
-    assert!(rt; stops_when_enough::<R, L, F>(rt, alloc, 2));
-    assert!(rt; stops_when_enough::<R, L, F>(rt, alloc, 0));
+    expect_all(
+        rt,
+        &[
+            stops_when_enough::<R, L, F>(rt, alloc, 2),
+            stops_when_enough::<R, L, F>(rt, alloc, 0),
+        ],
+    );
 }
 
 #[test]
