@@ -1,6 +1,6 @@
 //! The running tree with all stations in one hand beside the allocation bits.
 
-ghost use Rattle.std.specs.Prelude.{◌≡◌, ◌≤◌};
+ghost use Rattle.std.specs.Prelude.{◌≤◌};
 ghost use Rattle.cube_tree.specs.Solo.{solo_dim};
 
 use super::cube::{ends_free, made};
@@ -22,7 +22,6 @@ fn next(stream: u64) -> u64 {
 // A take of the tree: the station and its region.
 fn tree_take(solo: &mut Solo, k: u32) -> Result<(u32, Option<Region>), SoloRefused>
     requires { k ≤ solo_dim solo.old }
-    ensures { solo_dim solo.new ≡ solo_dim solo.old }
 {
     match solo.take(k) {
         Ok(station) => Ok((station as u32, solo.region(station))),
@@ -33,7 +32,6 @@ fn tree_take(solo: &mut Solo, k: u32) -> Result<(u32, Option<Region>), SoloRefus
 // A take of the bits by the lowest station that holds nothing, with the answer that the tree would give.
 fn bits_take(bits: &mut AllocBits, k: u32) -> Result<(u32, Option<Region>), SoloRefused>
     requires { k ≤ bits.old.dim }
-    ensures { bits.new.dim ≡ bits.old.dim }
 {
     for station in 0..STATIONS {
         if !bits.holds(station) {
@@ -47,9 +45,7 @@ fn bits_take(bits: &mut AllocBits, k: u32) -> Result<(u32, Option<Region>), Solo
 }
 
 // The region of a station of the tree, which is given back.
-fn tree_release(solo: &mut Solo, station: u32) -> Option<Region>
-    ensures { solo_dim solo.new ≡ solo_dim solo.old }
-{
+fn tree_release(solo: &mut Solo, station: u32) -> Option<Region> {
     let station = station as usize;
     let region = solo.region(station);
     if solo.holds(station) {
@@ -59,9 +55,7 @@ fn tree_release(solo: &mut Solo, station: u32) -> Option<Region>
 }
 
 // The region of a station of the bits, and the one that is given back.
-fn bits_release(bits: &mut AllocBits, station: u32) -> (Option<Region>, Option<Region>)
-    ensures { bits.new.dim ≡ bits.old.dim }
-{
+fn bits_release(bits: &mut AllocBits, station: u32) -> (Option<Region>, Option<Region>) {
     let region = bits.region(station);
     match bits.release(station) {
         Ok(back) => (region, Some(back)),
@@ -69,22 +63,27 @@ fn bits_release(bits: &mut AllocBits, station: u32) -> (Option<Region>, Option<R
     }
 }
 
+// Whether a take of both has one answer.
+fn takes_agree(solo: &mut Solo, bits: &mut AllocBits, k: u32) -> bool {
+    k <= solo.dim() && k <= bits.dim() && tree_take(solo, k) == bits_take(bits, k)
+}
+
+// Whether a release of both has one answer.
+fn releases_agree(solo: &mut Solo, bits: &mut AllocBits, station: u32) -> bool {
+    let region = tree_release(solo, station);
+    bits_release(bits, station) == (region, region)
+}
+
 // Whether so many takes and releases of both, by a stream of numbers, have one answer each.
-fn agree(solo: &mut Solo, bits: &mut AllocBits, count: u32) -> bool
-    requires solo { solo_dim solo.old ≡ 5 }
-    requires bits { bits.old.dim ≡ 5 }
-{
+fn agree(solo: &mut Solo, bits: &mut AllocBits, count: u32) -> bool {
     let mut stream = 1u64;
     for _ in 0..count {
         stream = next(stream);
         let number = (stream >> 33) as u32;
         let same = if number % 2 == 0 {
-            let k = number / 2 % 4;
-            tree_take(solo, k) == bits_take(bits, k)
+            takes_agree(solo, bits, number / 2 % 4)
         } else {
-            let station = number / 2 % STATIONS;
-            let region = tree_release(solo, station);
-            bits_release(bits, station) == (region, region)
+            releases_agree(solo, bits, number / 2 % STATIONS)
         };
         if !same {
             return false;

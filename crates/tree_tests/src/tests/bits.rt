@@ -80,21 +80,25 @@ fn plays(rt: &impl Abort, alloc: Global, n: u32, rows: &[Row])
     requires { n ≤ MAX_DIM }
 {
     let mut machine = AllocBits::new(alloc, n).expect(rt, "no memory");
-    assert!(rt; machine.dim() == n && follows(&mut machine, rows));
+    expect_all(rt, &[machine.dim() == n, follows(&mut machine, rows)]);
 }
 
-// Whether the machine goes so.
+// Whether the machine goes as this line says.
+fn goes(machine: &mut AllocBits, row: &Row) -> bool {
+    match row {
+        Row::Takes(station, k, base) => takes(machine, *station, *k, *base),
+        Row::GivesBack(station, answer) => machine.release(*station) == *answer,
+        Row::HasHolder(processor, holder) => machine.holder(*processor) == *holder,
+        Row::HasRegion(station, region) => machine.region(*station) == *region,
+        Row::Holds(station, holds) => machine.holds(*station) == *holds,
+        Row::IsWhollyFree(free) => machine.is_wholly_free() == *free,
+    }
+}
+
+// Whether the machine goes as these lines say.
 fn follows(machine: &mut AllocBits, rows: &[Row]) -> bool {
     for row in rows {
-        let went = match row {
-            Row::Takes(station, k, base) => takes(machine, *station, *k, *base),
-            Row::GivesBack(station, answer) => machine.release(*station) == *answer,
-            Row::HasHolder(processor, holder) => machine.holder(*processor) == *holder,
-            Row::HasRegion(station, region) => machine.region(*station) == *region,
-            Row::Holds(station, holds) => machine.holds(*station) == *holds,
-            Row::IsWhollyFree(free) => machine.is_wholly_free() == *free,
-        };
-        if !went {
+        if !goes(machine, row) {
             return false;
         }
     }

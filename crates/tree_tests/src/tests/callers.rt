@@ -3,7 +3,7 @@
 ghost use Rattle.std.specs.Prelude.{All};
 ghost use Rattle.uses.specs.Extent.{IsExtentValue};
 
-use super::cube::{ends_free, last, made, opened};
+use super::cube::{ends_free, made, opened_pair};
 use super::expect::expect_all;
 use alloc_bits::AllocBits;
 use cube_core::{Act, Phase};
@@ -118,10 +118,7 @@ fn held_both(
 // On a machine of two processors each station gets one, and both together are the machine.
 #[test]
 fn two_subcubes_are_apart(rt: HostRuntime) {
-    let (cube, mut stations) = opened(&rt, rt.alloc(), 1, 2);
-    let second = last(&rt, &cube, &mut stations, 1);
-    let first = last(&rt, &cube, &mut stations, 0);
-    stations.destroy_empty();
+    let (cube, first, second) = opened_pair(&rt, rt.alloc(), 1);
     let (held, end) = hold_two_and_close(cube, first, second, 0, 0);
     assert!(rt; held_both(&rt, held, end));
 }

@@ -43,12 +43,7 @@ pub(super) fn opened(
 }
 
 // The last station of the list, which has to have this number.
-pub(super) fn last(
-    rt: &impl Abort,
-    cube: &Cube,
-    list: &mut Vec<TreeStation>,
-    number: u32,
-) -> TreeStation
+fn last(rt: &impl Abort, cube: &Cube, list: &mut Vec<TreeStation>, number: u32) -> TreeStation
     requires of_cube { All (IsStationOf cube.now) list.old.items }
     requires some { 0 < vec_len list.old }
     ensures station { IsStationOf cube.now result }
@@ -58,6 +53,23 @@ pub(super) fn last(
     let station = list.pop().unwrap();
     assert!(rt; station.number() == number);
     station
+}
+
+// A machine of dimension `n` with two stations, the first of them and the second.
+pub(super) fn opened_pair(
+    rt: &impl Abort,
+    alloc: Global,
+    n: u32,
+) -> (Cube, TreeStation, TreeStation)
+    ensures size { cube_size result.0 ≡ size_with n 2 }
+    ensures first { IsStationOf result.0 result.1 }
+    ensures second { IsStationOf result.0 result.2 }
+{
+    let (cube, mut list) = opened(rt, alloc, n, 2);
+    let second = last(rt, &cube, &mut list, 1);
+    let first = last(rt, &cube, &mut list, 0);
+    list.destroy_empty();
+    (cube, first, second)
 }
 
 // A try to take the region of a node.
@@ -70,42 +82,6 @@ fn try_node(cube: &Cube, station: TreeStation, node: u64) -> Result<Subcube, (Tr
     station.try_node(cube, Node(node))
 }
 
-// The node, which has to be given as this region.
-fn given(rt: &impl Abort, cube: &Cube, station: TreeStation, node: u64, region: Region) -> Subcube
-    requires cube { IsStationOf cube.now station }
-    requires node { IsInCube (cube_dim cube.now) node }
-    ensures { IsSubcubeOf cube.now result }
-{
-    match try_node(cube, station, node) {
-        Ok(subcube) => {
-            assert!(rt; subcube.region() == region);
-            subcube
-        }
-        Err(_) => panic!(rt; "the node is refused"),
-    }
-}
-
-// The node, which has to be refused for this reason.
-fn refused(
-    rt: &impl Abort,
-    cube: &Cube,
-    station: TreeStation,
-    node: u64,
-    reason: Why,
-) -> TreeStation
-    requires cube { IsStationOf cube.now station }
-    requires node { IsInCube (cube_dim cube.now) node }
-    ensures { IsStationOf cube.now result }
-{
-    match try_node(cube, station, node) {
-        Ok(_) => panic!(rt; "the node is given"),
-        Err((station, why)) => {
-            assert!(rt; why == reason);
-            station
-        }
-    }
-}
-
 // A try to take any region of dimension `k`.
 fn try_take(cube: &Cube, station: TreeStation, k: u32) -> Result<Subcube, (TreeStation, Refusal)>
     requires cube { IsStationOf cube.now station }
@@ -116,48 +92,8 @@ fn try_take(cube: &Cube, station: TreeStation, k: u32) -> Result<Subcube, (TreeS
     station.try_take(cube, k)
 }
 
-// A region of dimension `k`, which has to be this one.
-fn given_any(rt: &impl Abort, cube: &Cube, station: TreeStation, k: u32, base: u64) -> Subcube
-    requires cube { IsStationOf cube.now station }
-    requires dim { k ≤ cube_dim cube.now }
-    ensures { IsSubcubeOf cube.now result }
-{
-    match try_take(cube, station, k) {
-        Ok(subcube) => {
-            assert!(rt; subcube.region() == Region { base, dim: k });
-            subcube
-        }
-        Err(_) => panic!(rt; "no region is given"),
-    }
-}
-
-// A take of any region of dimension `k` that has to be refused with these counts.
-fn refused_all(
-    rt: &impl Abort,
-    cube: &Cube,
-    station: TreeStation,
-    k: u32,
-    counts: Refusal,
-) -> TreeStation
-    requires cube { IsStationOf cube.now station }
-    requires dim { k ≤ cube_dim cube.now }
-    ensures { IsStationOf cube.now result }
-{
-    match try_take(cube, station, k) {
-        Ok(_) => panic!(rt; "a region is given"),
-        Err((station, refusal)) => {
-            assert!(rt; refusal == counts);
-            station
-        }
-    }
-}
-
 // A search that passes over what is under an occupied node.
-fn try_skipping(
-    cube: &Cube,
-    station: TreeStation,
-    k: u32,
-) -> Result<Subcube, (TreeStation, Refusal)>
+fn search(cube: &Cube, station: TreeStation, k: u32) -> Result<Subcube, (TreeStation, Refusal)>
     requires cube { IsStationOf cube.now station }
     requires dim { k ≤ cube_dim cube.now }
     ensures held { IfOk result (IsSubcubeOf cube.now) }
@@ -166,37 +102,40 @@ fn try_skipping(
     station.try_take_skipping(cube, k)
 }
 
-// A region of dimension `k` by such a search, which has to be this one.
-fn given_skipping(rt: &impl Abort, cube: &Cube, station: TreeStation, k: u32, base: u64) -> Subcube
-    requires cube { IsStationOf cube.now station }
-    requires dim { k ≤ cube_dim cube.now }
+// The subcube that was given, which has to be this region.
+fn given<W: Copy>(
+    rt: &impl Abort,
+    cube: &Cube,
+    tried: Result<Subcube, (TreeStation, W)>,
+    base: u64,
+    dim: u32,
+) -> Subcube
+    requires { IfOk tried (IsSubcubeOf cube.now) }
     ensures { IsSubcubeOf cube.now result }
 {
-    match try_skipping(cube, station, k) {
+    match tried {
         Ok(subcube) => {
-            assert!(rt; subcube.region() == Region { base, dim: k });
+            assert!(rt; subcube.region() == Region { base, dim });
             subcube
         }
-        Err(_) => panic!(rt; "no region is given"),
+        Err(_) => panic!(rt; "it is refused"),
     }
 }
 
-// Such a search, which has to be refused with these counts.
-fn refused_skipping(
+// The station that was refused, which has to be for this reason.
+fn refused<W: Copy + PartialEq>(
     rt: &impl Abort,
     cube: &Cube,
-    station: TreeStation,
-    k: u32,
-    counts: Refusal,
+    tried: Result<Subcube, (TreeStation, W)>,
+    reason: W,
 ) -> TreeStation
-    requires cube { IsStationOf cube.now station }
-    requires dim { k ≤ cube_dim cube.now }
+    requires { IfErr tried (λ refused. IsStationOf cube.now refused.0) }
     ensures { IsStationOf cube.now result }
 {
-    match try_skipping(cube, station, k) {
-        Ok(_) => panic!(rt; "a region is given"),
-        Err((station, refusal)) => {
-            assert!(rt; refusal == counts);
+    match tried {
+        Ok(_) => panic!(rt; "it is given"),
+        Err((station, why)) => {
+            assert!(rt; why == reason);
             station
         }
     }
@@ -265,10 +204,10 @@ fn regions_of_one_moment_are_apart(rt: HostRuntime) {
     let second = last(&rt, &cube, &mut list, 1);
     let first = last(&rt, &cube, &mut list, 0);
     list.destroy_empty();
-    let first = given(&rt, &cube, first, 4, Region { base: 0, dim: 0 });
-    let second = given(&rt, &cube, second, 5, Region { base: 1, dim: 0 });
+    let first = given(&rt, &cube, try_node(&cube, first, 4), 0, 0);
+    let second = given(&rt, &cube, try_node(&cube, second, 5), 1, 0);
     let (first, second) = both(&cube, first, second);
-    let third = refused(&rt, &cube, third, 2, Why::InUse);
+    let third = refused(&rt, &cube, try_node(&cube, third, 2), Why::InUse);
     leave(&cube, first);
     leave(&cube, second);
     third.retire(&cube);
@@ -278,14 +217,11 @@ fn regions_of_one_moment_are_apart(rt: HostRuntime) {
 
 #[test]
 fn a_take_under_an_occupied_node_rolls_back(rt: HostRuntime) {
-    let (cube, mut list) = opened(&rt, rt.alloc(), 2, 2);
-    let second = last(&rt, &cube, &mut list, 1);
-    let first = last(&rt, &cube, &mut list, 0);
-    list.destroy_empty();
-    let first = given(&rt, &cube, first, 2, Region { base: 0, dim: 1 });
-    let second = refused(&rt, &cube, second, 4, Why::Under(Node(2)));
-    let second = given_any(&rt, &cube, second, 0, 2);
-    let first = given_any(&rt, &cube, released(&cube, first), 0, 0);
+    let (cube, first, second) = opened_pair(&rt, rt.alloc(), 2);
+    let first = given(&rt, &cube, try_node(&cube, first, 2), 0, 1);
+    let second = refused(&rt, &cube, try_node(&cube, second, 4), Why::Under(Node(2)));
+    let second = given(&rt, &cube, try_take(&cube, second, 0), 2, 0);
+    let first = given(&rt, &cube, try_take(&cube, released(&cube, first), 0), 0, 0);
     leave(&cube, first);
     leave(&cube, second);
     assert!(rt; has_words(&closed(&rt, cube), &[3, 0, 0, 0, 0, 0, 0, 0]));
@@ -293,11 +229,8 @@ fn a_take_under_an_occupied_node_rolls_back(rt: HostRuntime) {
 
 #[test]
 fn refusals_are_counted(rt: HostRuntime) {
-    let (cube, mut list) = opened(&rt, rt.alloc(), 2, 2);
-    let second = last(&rt, &cube, &mut list, 1);
-    let first = last(&rt, &cube, &mut list, 0);
-    list.destroy_empty();
-    let first = given_any(&rt, &cube, first, 2, 0);
+    let (cube, first, second) = opened_pair(&rt, rt.alloc(), 2);
+    let first = given(&rt, &cube, try_take(&cube, first, 2), 0, 2);
     let halves = Refusal {
         in_use: 0,
         lost: 0,
@@ -308,21 +241,21 @@ fn refusals_are_counted(rt: HostRuntime) {
         lost: 0,
         under: 0,
     };
-    let second = refused_all(&rt, &cube, second, 1, halves);
-    let second = refused_all(&rt, &cube, second, 2, whole);
+    let second = refused(&rt, &cube, try_take(&cube, second, 1), halves);
+    let second = refused(&rt, &cube, try_take(&cube, second, 2), whole);
     let once = Refusal {
         in_use: 0,
         lost: 0,
         under: 1,
     };
-    let second = refused_skipping(&rt, &cube, second, 0, once);
+    let second = refused(&rt, &cube, search(&cube, second, 0), once);
     let untried = Refusal {
         in_use: 0,
         lost: 0,
         under: 0,
     };
-    let second = refused_skipping(&rt, &cube, second, 1, untried);
-    let second = refused_skipping(&rt, &cube, second, 2, whole);
+    let second = refused(&rt, &cube, search(&cube, second, 1), untried);
+    let second = refused(&rt, &cube, search(&cube, second, 2), whole);
     let (dim, stations) = (cube.dim(), cube.stations());
     leave(&cube, first);
     second.retire(&cube);
@@ -334,29 +267,20 @@ fn refusals_are_counted(rt: HostRuntime) {
 
 #[test]
 fn a_search_glances_at_what_refused_an_earlier_one(rt: HostRuntime) {
-    let (cube, mut list) = opened(&rt, rt.alloc(), 2, 2);
-    let second = last(&rt, &cube, &mut list, 1);
-    let first = last(&rt, &cube, &mut list, 0);
-    list.destroy_empty();
-    let first = given(&rt, &cube, first, 2, Region { base: 0, dim: 1 });
+    let (cube, first, second) = opened_pair(&rt, rt.alloc(), 2);
+    let first = given(&rt, &cube, try_node(&cube, first, 2), 0, 1);
     // The roll-back of a try under node 2 leaves a mark there.
-    let second = given_skipping(&rt, &cube, second, 0, 2);
+    let second = given(&rt, &cube, search(&cube, second, 0), 2, 0);
     let is_marked = cube.word(2) != 7;
-    let first = given(
-        &rt,
-        &cube,
-        released(&cube, first),
-        2,
-        Region { base: 0, dim: 1 },
-    );
+    let first = given(&rt, &cube, try_node(&cube, released(&cube, first), 2), 0, 1);
     let is_anew = cube.word(2) == 7;
     // No further search makes one, for a processor or for a half.
-    let second = given_skipping(&rt, &cube, released(&cube, second), 0, 2);
-    let second = given_skipping(&rt, &cube, released(&cube, second), 1, 2);
+    let second = given(&rt, &cube, search(&cube, released(&cube, second), 0), 2, 0);
+    let second = given(&rt, &cube, search(&cube, released(&cube, second), 1), 2, 1);
     let is_unmarked = cube.word(2) == 7;
     // The half is free again, and is searched again.
     let first = released(&cube, first);
-    let second = given_skipping(&rt, &cube, released(&cube, second), 0, 0);
+    let second = given(&rt, &cube, search(&cube, released(&cube, second), 0), 0, 0);
     first.retire(&cube);
     leave(&cube, second);
     expect_all(
@@ -367,10 +291,8 @@ fn a_search_glances_at_what_refused_an_earlier_one(rt: HostRuntime) {
 
 #[test]
 fn a_cube_with_a_station_out_is_given_back(rt: HostRuntime) {
-    let (cube, mut list) = opened(&rt, rt.alloc(), 1, 2);
-    let second = last(&rt, &cube, &mut list, 1);
-    last(&rt, &cube, &mut list, 0).retire(&cube);
-    list.destroy_empty();
+    let (cube, first, second) = opened_pair(&rt, rt.alloc(), 1);
+    first.retire(&cube);
     let cube = still_open(&rt, cube, 2);
     second.retire(&cube);
     assert!(rt; has_words(&closed(&rt, cube), &[3, 0, 0, 0]));
@@ -394,7 +316,7 @@ fn take_all(rt: &impl Abort, cube: &Cube, list: &mut Vec<TreeStation>, held: &mu
 {
     while let Some(station) = list.pop() {
         let base = held.len() as u64;
-        held.push_reserved(given_any(rt, cube, station, 0, base));
+        held.push_reserved(given(rt, cube, try_take(cube, station, 0), base, 0));
     }
 }
 

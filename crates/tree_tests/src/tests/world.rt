@@ -84,30 +84,38 @@ fn is_clear(world: &World, end: u64) -> bool
     true
 }
 
-// Whether the world of this dimension and with so many stations goes as these lines say, from the first
-// to the last.
+// Whether the world of this dimension and with so many stations goes as this line says.
+fn goes(world: &mut World, n: u32, stations: u32, row: &Row) -> bool
+    requires limit { n ≤ MAX_DIM }
+    requires dim { world.old.dim ≡ n }
+    requires stations { length world.old.records ≡ stations }
+    ensures { HasShapeOf world.old world.new }
+{
+    match row {
+        Row::Takes(station, node) => world.begin_take(*station, *node).is_ok(),
+        Row::Releases(station) => world.begin_release(*station).is_ok(),
+        Row::Makes(station, kind, node, word, note) => {
+            makes(world, *station, *kind, *node, *word, *note)
+        }
+        Row::Rests(station) => world.step(*station) == Err(Refused::Resting),
+        Row::Refuses(act, reason) => refuses(world, *act, *reason),
+        Row::Retires(station, roll) => retires(world, *station, *roll),
+        Row::Stands(station, phase) => {
+            *station < u64::from(stations) && world.phase(*station) == *phase
+        }
+        Row::HasWord(node, word) => *node < 1 << (n + 1) && world.word(*node) == *word,
+        Row::IsClear => is_clear(world, 1 << (n + 1)),
+    }
+}
+
+// Whether it goes as these lines say, from the first to the last.
 fn follows(world: &mut World, n: u32, stations: u32, rows: &[Row]) -> bool
     requires limit { n ≤ MAX_DIM }
     requires dim { world.old.dim ≡ n }
     requires stations { length world.old.records ≡ stations }
 {
     for row in rows {
-        let went = match row {
-            Row::Takes(station, node) => world.begin_take(*station, *node).is_ok(),
-            Row::Releases(station) => world.begin_release(*station).is_ok(),
-            Row::Makes(station, kind, node, word, note) => {
-                makes(world, *station, *kind, *node, *word, *note)
-            }
-            Row::Rests(station) => world.step(*station) == Err(Refused::Resting),
-            Row::Refuses(act, reason) => refuses(world, *act, *reason),
-            Row::Retires(station, roll) => retires(world, *station, *roll),
-            Row::Stands(station, phase) => {
-                *station < u64::from(stations) && world.phase(*station) == *phase
-            }
-            Row::HasWord(node, word) => *node < 1 << (n + 1) && world.word(*node) == *word,
-            Row::IsClear => is_clear(world, 1 << (n + 1)),
-        };
-        if !went {
+        if !goes(world, n, stations, row) {
             return false;
         }
     }

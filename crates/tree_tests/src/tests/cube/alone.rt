@@ -1,8 +1,5 @@
 //! A machine with all its stations in one hand.
 
-ghost use Rattle.std.specs.Prelude.{◌≡◌};
-ghost use Rattle.cube_tree.specs.Solo.{solo_dim};
-
 use super::{is_free, opened};
 use crate::tests::expect::expect_all;
 use cube_shape::Region;
@@ -11,9 +8,7 @@ use std::alloc::Global;
 use std::process::Abort;
 
 // A machine of dimension `n` with all its stations.
-pub(in crate::tests) fn made(rt: &impl Abort, alloc: Global, n: u32, stations: u32) -> Solo
-    ensures { solo_dim result ≡ n }
-{
+pub(in crate::tests) fn made(rt: &impl Abort, alloc: Global, n: u32, stations: u32) -> Solo {
     let (cube, list) = opened(rt, alloc, n, stations);
     match Solo::new(alloc, cube, list) {
         Ok(solo) => solo,
