@@ -141,6 +141,24 @@ fn refused<W: Copy + PartialEq>(
     }
 }
 
+// A region of dimension `k`, which has to be this one.
+fn given_any(rt: &impl Abort, cube: &Cube, station: TreeStation, k: u32, base: u64) -> Subcube
+    requires cube { IsStationOf cube.now station }
+    requires dim { k ≤ cube_dim cube.now }
+    ensures { IsSubcubeOf cube.now result }
+{
+    given(rt, cube, try_take(cube, station, k), base, k)
+}
+
+// A region of dimension `k` by such a search, which has to be this one.
+fn found(rt: &impl Abort, cube: &Cube, station: TreeStation, k: u32, base: u64) -> Subcube
+    requires cube { IsStationOf cube.now station }
+    requires dim { k ≤ cube_dim cube.now }
+    ensures { IsSubcubeOf cube.now result }
+{
+    given(rt, cube, search(cube, station, k), base, k)
+}
+
 // Both subcubes, as they were.
 fn both(cube: &Cube, a: Subcube, b: Subcube) -> (Subcube, Subcube)
     requires first { IsSubcubeOf cube.now a }
@@ -220,8 +238,8 @@ fn a_take_under_an_occupied_node_rolls_back(rt: HostRuntime) {
     let (cube, first, second) = opened_pair(&rt, rt.alloc(), 2);
     let first = given(&rt, &cube, try_node(&cube, first, 2), 0, 1);
     let second = refused(&rt, &cube, try_node(&cube, second, 4), Why::Under(Node(2)));
-    let second = given(&rt, &cube, try_take(&cube, second, 0), 2, 0);
-    let first = given(&rt, &cube, try_take(&cube, released(&cube, first), 0), 0, 0);
+    let second = given_any(&rt, &cube, second, 0, 2);
+    let first = given_any(&rt, &cube, released(&cube, first), 0, 0);
     leave(&cube, first);
     leave(&cube, second);
     assert!(rt; has_words(&closed(&rt, cube), &[3, 0, 0, 0, 0, 0, 0, 0]));
@@ -230,7 +248,7 @@ fn a_take_under_an_occupied_node_rolls_back(rt: HostRuntime) {
 #[test]
 fn refusals_are_counted(rt: HostRuntime) {
     let (cube, first, second) = opened_pair(&rt, rt.alloc(), 2);
-    let first = given(&rt, &cube, try_take(&cube, first, 2), 0, 2);
+    let first = given_any(&rt, &cube, first, 2, 0);
     let halves = Refusal {
         in_use: 0,
         lost: 0,
@@ -270,17 +288,17 @@ fn a_search_glances_at_what_refused_an_earlier_one(rt: HostRuntime) {
     let (cube, first, second) = opened_pair(&rt, rt.alloc(), 2);
     let first = given(&rt, &cube, try_node(&cube, first, 2), 0, 1);
     // The roll-back of a try under node 2 leaves a mark there.
-    let second = given(&rt, &cube, search(&cube, second, 0), 2, 0);
+    let second = found(&rt, &cube, second, 0, 2);
     let is_marked = cube.word(2) != 7;
     let first = given(&rt, &cube, try_node(&cube, released(&cube, first), 2), 0, 1);
     let is_anew = cube.word(2) == 7;
     // No further search makes one, for a processor or for a half.
-    let second = given(&rt, &cube, search(&cube, released(&cube, second), 0), 2, 0);
-    let second = given(&rt, &cube, search(&cube, released(&cube, second), 1), 2, 1);
+    let second = found(&rt, &cube, released(&cube, second), 0, 2);
+    let second = found(&rt, &cube, released(&cube, second), 1, 2);
     let is_unmarked = cube.word(2) == 7;
     // The half is free again, and is searched again.
     let first = released(&cube, first);
-    let second = given(&rt, &cube, search(&cube, released(&cube, second), 0), 0, 0);
+    let second = found(&rt, &cube, released(&cube, second), 0, 0);
     first.retire(&cube);
     leave(&cube, second);
     expect_all(
@@ -316,7 +334,7 @@ fn take_all(rt: &impl Abort, cube: &Cube, list: &mut Vec<TreeStation>, held: &mu
 {
     while let Some(station) = list.pop() {
         let base = held.len() as u64;
-        held.push_reserved(given(rt, cube, try_take(cube, station, 0), base, 0));
+        held.push_reserved(given_any(rt, cube, station, 0, base));
     }
 }
 
