@@ -1,5 +1,6 @@
 //! Each layer by itself, on one thread and on many: the gate, the ring, and lines.
 
+mod expect;
 mod gate;
 mod gate_crowd;
 mod line;

@@ -2,6 +2,7 @@
 ghost use Rattle.std.specs.Prelude.{◌≡◌, ◌+◌, ◌<◌, ◌≤◌, None, Some, true, false, length, MatchResult};
 ghost use Rattle.line_gate.specs.Record.{lanes_from, passes_from, fresh_lane, IsSettled};
 
+use crate::tests::expect::{expect_all, made};
 use cube_shape::MAX_ENTRIES;
 use line_gate::{
     Counts, Entered, EnteredLate, EntryCount, Gate, GateCloser, GateLane, GateMembers, GateNote,
@@ -115,7 +116,7 @@ pub fn opened<R: Abort>(rt: &R, alloc: Global) -> (TestGate, Table)
     ensures fresh { (result.1.first.known ≡ fresh_lane 0)
         × (result.1.second.known ≡ fresh_lane 1) }
 {
-    let (gate, members) = TestGate::open(alloc, COUNTS).expect(rt, "no memory");
+    let (gate, members) = made(rt, TestGate::open(alloc, COUNTS));
     let table = deal(&gate, members);
     (gate, table)
 }
@@ -245,19 +246,22 @@ fn at(entries: u64, closed: bool) -> EntryCount {
 #[test]
 fn entries_and_readings(rt: HostRuntime) {
     let steps = enter_and_read(&rt, rt.alloc());
-    assert!(rt; steps.entries == [Ok(0), Ok(1), Ok(2)]);
-    assert!(rt;
-        steps.read
-            == [
-                (0, at(0, false)),
-                (0, at(1, false)),
-                (2, at(2, false)),
-                (2, at(3, true)),
-                (3, at(3, true)),
-            ]
+    expect_all(
+        &rt,
+        &[
+            steps.entries == [Ok(0), Ok(1), Ok(2)],
+            steps.read
+                == [
+                    (0, at(0, false)),
+                    (0, at(1, false)),
+                    (2, at(2, false)),
+                    (2, at(3, true)),
+                    (3, at(3, true)),
+                ],
+            steps.looks == [None, None, Some(3)],
+            steps.number == 3,
+        ],
     );
-    assert!(rt; steps.looks == [None, None, Some(3)]);
-    assert!(rt; steps.number == 3);
 }
 
 // What two late entries find, which are made and taken back one after the other.
@@ -324,8 +328,13 @@ fn enter_after_close<R: Abort>(
 #[test]
 fn late_entries(rt: HostRuntime) {
     let (before, late) = enter_after_close(&rt, rt.alloc());
-    assert!(rt; before == (None, Ok(0), 1));
-    assert!(rt; late.found == [Err(1), Err(2)]);
-    assert!(rt; late.read == [(1, at(3, true)), (1, at(1, true))]);
-    assert!(rt; late.look == Some(2));
+    expect_all(
+        &rt,
+        &[
+            before == (None, Ok(0), 1),
+            late.found == [Err(1), Err(2)],
+            late.read == [(1, at(3, true)), (1, at(1, true))],
+            late.look == Some(2),
+        ],
+    );
 }

@@ -2,6 +2,7 @@
 ghost use Rattle.std.specs.Prelude.{◌≡◌, [], None, Some, IsSome, IsSomeAnd};
 ghost use Rattle.line_gate.specs.Record.{IsSettled};
 
+use crate::tests::expect::expect_all;
 use crate::tests::gate::{Table, TestGate, end, go_through, opened, read};
 use cube_shape::MAX_ENTRIES;
 use line_gate::{EntryCount, GateCloser, GateLane, GateNote};
@@ -189,14 +190,18 @@ fn each_lane_takes_one_late_entry_back(rt: HostRuntime) {
     let entries = note.number();
     let (settled, counted) = read(&gate, &mut pass);
     end(gate, (first, second, pass), note);
-    assert!(rt; board.late.load(SeqCst) == 2);
-    assert!(rt; [board.entered.load(SeqCst), settled] == [entries, entries]);
-    assert!(rt;
-        entries >= 50
-            && counted
-                == (EntryCount {
-                    entries,
-                    closed: true
-                })
+    let sealed = EntryCount {
+        entries,
+        closed: true,
+    };
+    expect_all(
+        &rt,
+        &[
+            board.late.load(SeqCst) == 2,
+            board.entered.load(SeqCst) == entries,
+            settled == entries,
+            entries >= 50,
+            counted == sealed,
+        ],
     );
 }

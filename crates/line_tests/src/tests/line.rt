@@ -2,7 +2,8 @@
 ghost use Rattle.std.specs.Prelude.{◌≡◌, ◌<◌, ◌≤◌, [], IfOk};
 ghost use Rattle.std.specs.Vec.{vec_capacity};
 
-use cube_shape::MAX_LANES;
+use crate::tests::expect::{expect_all, made};
+use cube_shape::{MAX_CAPACITY, MAX_LANES};
 use job_queue::{JobLine, Opened, QueuedJob, Receipt, Refused, Rest, Sizes, Taken};
 use job_types::{Job, JobId};
 use line_run::{Finished, run};
@@ -44,58 +45,46 @@ fn outcome(answer: Result<Receipt, (Job, Refused)>) -> Result<Receipt, Refused> 
     }
 }
 
-// A new line of two lanes and two passes, whose members are out of their lists.
-struct Hand<L: JobLine> {
-    line: L,
-    lanes: Pair<L::Lane>,
-    passes: Pair<L::Pass>,
-    closer: L::Closer,
+// What is done at a line of two lanes and two passes, and what comes of it.
+#[derive(Clone, Copy)]
+enum Row {
+    // The first lane hands in a job.
+    First(Result<Receipt, Refused>),
+    // The second lane hands in a job.
+    Second(Result<Receipt, Refused>),
+    // The first pass takes the job at the front.
+    TakeFirst(JobId),
+    // The second pass takes the job at the front.
+    TakeSecond(JobId),
 }
 
-impl<L: JobLine> Model for Hand<L> {
-    ghost use Rattle.std.specs.Prelude.{◌≡◌, ◌≤◌, []};
-    ghost use Rattle.std.specs.Vec.{vec_capacity};
-    ghost use Rattle.job_queue.specs.Line.{LineId};
-
-    ghost Value = { LineId };
-
-    ghost view = { λ h. L.id h.line };
-
-    ghost invariant = { λ h. ((L.id h.line).sizes.machine ≡ 2)
-        × ((L.id h.line).sizes.lanes ≡ 2) × ((L.id h.line).sizes.passes ≡ 2)
-        × L.is_lane (L.id h.line) h.lanes.first × L.is_lane (L.id h.line) h.lanes.second
-        × L.is_pass (L.id h.line) h.passes.first × L.is_pass (L.id h.line) h.passes.second
-        × (h.lanes.room.items ≡ []) × (2 ≤ vec_capacity h.lanes.room)
-        × (h.passes.room.items ≡ []) × (2 ≤ vec_capacity h.passes.room)
-        × L.is_closer (L.id h.line) h.closer };
+// Hands in a new job of the lane of this number: whether this comes of it.
+fn gives<R: Wait + Abort, L: JobLine>(
+    rt: &R,
+    alloc: Global,
+    line: &L,
+    lane: &mut L::Lane,
+    number: u32,
+    due: Result<Receipt, Refused>,
+) -> bool
+    requires lane { L.is_lane (L.id line.now) lane.old }
+    requires machine { (L.id line.now).sizes.machine ≡ 2 }
+    requires number { number < MAX_LANES }
+    ensures { L.is_lane (L.id line.now) lane.new }
+{
+    let job = made(rt, job(alloc, 2, number, SUM, &[1, 2]));
+    outcome(hand_in(rt, line, lane, job)) == due
 }
 
-impl<L: JobLine> Hand<L> {
-    fn open(alloc: Global, capacity: usize) -> Result<Self, AllocError>
-        requires { (0 < capacity) × (capacity ≤ 1024) }
-    {
-        let sizes = Sizes {
-            machine: 2,
-            lanes: 2,
-            passes: 2,
-            capacity,
-        };
-        let Opened {
-            line,
-            lanes,
-            passes,
-            closer,
-        } = L::open(alloc, sizes)?;
-        Ok(Hand {
-            line,
-            lanes: Pair::of(lanes),
-            passes: Pair::of(passes),
-            closer,
-        })
-    }
+// Takes the job at the front of the line: whether it is this one.
+fn takes<R: Wait, L: JobLine>(rt: &R, line: &L, pass: &mut L::Pass, due: JobId) -> bool
+    requires { L.is_pass (L.id line.now) pass.old }
+    ensures { L.is_pass (L.id line.now) pass.new }
+{
+    matches!(line.take(rt, pass), Taken::Job(id, _) if id == due)
 }
 
-// What is left of such a line.
+// What is left of a line of two lanes and two passes.
 fn end<R: Wait, L: JobLine>(
     rt: &R,
     line: L,
@@ -115,137 +104,137 @@ fn end<R: Wait, L: JobLine>(
     line.into_rest(rt, lanes, passes, note)
 }
 
-// What became of three submits by one lane, with a close before the third.
-#[derive(Drop)]
-struct Script {
-    outcomes: [Result<Receipt, Refused>; 3],
-    close_number: u64,
-    rest: Rest,
+// A line of two lanes and two passes, which are out of their lists.
+struct Hand<L: JobLine> {
+    line: L,
+    lanes: Pair<L::Lane>,
+    passes: Pair<L::Pass>,
 }
 
-fn play<R: Wait, L: JobLine>(rt: &R, hand: Hand<L>, jobs: (Job, Job, Job)) -> Script {
-    let Hand {
-        line,
-        mut lanes,
-        passes,
-        closer,
-    } = hand;
-    let (first, second, third) = jobs;
-    let first = outcome(hand_in(rt, &line, &mut lanes.first, first));
-    let second = outcome(hand_in(rt, &line, &mut lanes.first, second));
-    let note = line.close(rt, closer);
-    let close_number = L::close_number(&note);
-    let third = outcome(hand_in(rt, &line, &mut lanes.first, third));
-    Script {
-        outcomes: [first, second, third],
-        close_number,
-        rest: end(rt, line, lanes, passes, note),
+impl<L: JobLine> Model for Hand<L> {
+    ghost use Rattle.std.specs.Prelude.{◌≡◌, ◌≤◌, []};
+    ghost use Rattle.std.specs.Vec.{vec_capacity};
+    ghost use Rattle.job_queue.specs.Line.{LineId};
+
+    ghost Value = { LineId };
+
+    ghost view = { λ h. L.id h.line };
+
+    ghost invariant = { λ h. ((L.id h.line).sizes.machine ≡ 2)
+        × ((L.id h.line).sizes.lanes ≡ 2) × ((L.id h.line).sizes.passes ≡ 2)
+        × L.is_lane (L.id h.line) h.lanes.first × L.is_lane (L.id h.line) h.lanes.second
+        × L.is_pass (L.id h.line) h.passes.first × L.is_pass (L.id h.line) h.passes.second
+        × (h.lanes.room.items ≡ []) × (2 ≤ vec_capacity h.lanes.room)
+        × (h.passes.room.items ≡ []) × (2 ≤ vec_capacity h.passes.room) };
+}
+
+impl<L: JobLine> Hand<L> {
+    // A new line with room for so many jobs, and what closes it.
+    fn open(alloc: Global, capacity: usize) -> Result<(Self, L::Closer), AllocError>
+        requires { (0 < capacity) × (capacity ≤ MAX_CAPACITY) }
+        ensures { IfOk result (λ made. L.is_closer made.0 made.1) }
+    {
+        let sizes = Sizes {
+            machine: 2,
+            lanes: 2,
+            passes: 2,
+            capacity,
+        };
+        let Opened {
+            line,
+            lanes,
+            passes,
+            closer,
+        } = L::open(alloc, sizes)?;
+        let hand = Hand {
+            line,
+            lanes: Pair::of(lanes),
+            passes: Pair::of(passes),
+        };
+        Ok((hand, closer))
     }
-}
 
-// A job of the first lane.
-fn own<R: Abort>(rt: &R, alloc: Global) -> Job {
-    job(alloc, 2, 0, SUM, &[1, 2]).expect(rt, "no memory")
-}
-
-// What becomes of them on a line with room for one job.
-fn script_over<R: Wait + Abort, L: JobLine>(rt: &R, alloc: Global) -> Script {
-    let jobs = (own(rt, alloc), own(rt, alloc), own(rt, alloc));
-    play(rt, Hand::<L>::open(alloc, 1).expect(rt, "no memory"), jobs)
-}
-
-// The first job is accepted, the second finds the line full, and the third finds it closed.
-fn expect_closed<R: Abort>(rt: &R, script: &Script) {
-    let id = JobId { lane: 0, seq: 0 };
-    assert!(rt; script.outcomes[0] == Ok(Receipt { id, number: 0 }));
-    assert!(rt; script.outcomes[1] == Err(Refused::Full));
-    assert!(rt; script.close_number == 2);
-    assert!(rt; script.outcomes[2] == Err(Refused::Closed { seen: 2 }));
-    assert!(rt;
-        script.rest.jobs.len() == 1 && script.rest.accepted.as_slice() == [1, 0].as_slice()
-    );
-}
-
-#[test]
-fn close_against_submit(rt: HostRuntime) {
-    expect_closed(&rt, &script_over::<_, LockedLine>(&rt, rt.alloc()));
-    expect_closed(&rt, &script_over::<_, RuledLine>(&rt, rt.alloc()));
-}
-
-// Whether all of lane 0's first jobs are accepted, each under the next id and the next number.
-fn accepts_all<R: Wait, L: JobLine>(
-    rt: &R,
-    line: &L,
-    lane: &mut L::Lane,
-    jobs: VecDeque<Job>,
-) -> bool
-    requires lane { L.is_lane (L.id line.now) lane.old }
-    requires machine { (L.id line.now).sizes.machine ≡ 2 }
-    ensures { L.is_lane (L.id line.now) lane.new }
-{
-    let mut jobs = jobs;
-    for seq in 0..jobs.len() as u64 {
-        let Some(job) = jobs.pop_front() else {
-            return false;
-        };
-        let receipt = Receipt {
-            id: JobId { lane: 0, seq },
-            number: seq,
-        };
-        if outcome(hand_in(rt, line, lane, job)) != Ok(receipt) {
-            return false;
+    // Does what a row says: whether that comes of it.
+    fn plays<R: Wait + Abort>(&mut self, rt: &R, alloc: Global, row: Row) -> bool
+        ensures { self.new ≡ self.old }
+    {
+        match row {
+            Row::First(due) => gives(rt, alloc, &self.line, &mut self.lanes.first, 0, due),
+            Row::Second(due) => gives(rt, alloc, &self.line, &mut self.lanes.second, 1, due),
+            Row::TakeFirst(due) => takes(rt, &self.line, &mut self.passes.first, due),
+            Row::TakeSecond(due) => takes(rt, &self.line, &mut self.passes.second, due),
         }
     }
-    true
-}
 
-// The id of the job at the front of the line, taken out where this is asked for.
-fn take_if<R: Wait, L: JobLine>(rt: &R, line: &L, pass: &mut L::Pass, takes: bool) -> Option<JobId>
-    requires { L.is_pass (L.id line.now) pass.old }
-    ensures { L.is_pass (L.id line.now) pass.new }
-{
-    if !takes {
-        return None;
-    }
-    match line.take(rt, pass) {
-        Taken::Job(id, _) => Some(id),
-        Taken::EmptyNow | Taken::Ended(_) => None,
-    }
-}
-
-// What became of jobs that a line accepted, and of the first of them where it was taken.
-#[derive(Drop)]
-struct Filled {
-    accepts_all: bool,
-    taken: Option<JobId>,
-    rest: Rest,
-}
-
-fn fill<R: Wait, L: JobLine>(rt: &R, hand: Hand<L>, jobs: VecDeque<Job>, takes: bool) -> Filled {
-    let Hand {
-        line,
-        mut lanes,
-        mut passes,
-        closer,
-    } = hand;
-    let accepts_all = accepts_all(rt, &line, &mut lanes.first, jobs);
-    let taken = take_if(rt, &line, &mut passes.first, takes);
-    let note = line.close(rt, closer);
-    Filled {
-        accepts_all,
-        taken,
-        rest: end(rt, line, lanes, passes, note),
+    // Does what the rows say: whether that comes of each.
+    fn plays_all<R: Wait + Abort>(&mut self, rt: &R, alloc: Global, rows: &[Row]) -> bool
+        ensures { self.new ≡ self.old }
+    {
+        let mut is_so = true;
+        for row in rows {
+            is_so = self.plays(rt, alloc, *row) & is_so;
+        }
+        is_so
     }
 }
 
 // Whether the jobs have these ids, in order.
 fn have_ids(jobs: &VecDeque<QueuedJob>, ids: &[JobId]) -> bool {
-    for (place, queued) in jobs.iter().enumerate() {
-        if !matches!(ids.get(place), Some(id) if *id == queued.id) {
-            return false;
-        }
-    }
-    jobs.len() == ids.len()
+    jobs.iter().map(|queued| queued.id).eq(ids.iter().copied())
+}
+
+// Whether so many jobs of each lane were accepted, and these are left.
+fn is_left(rest: &Rest, accepted: [u64; 2], left: &[JobId]) -> bool {
+    have_ids(&rest.jobs, left) & (rest.accepted.as_slice() == accepted.as_slice())
+}
+
+// Whether this comes of the rows before the close of a new line and of those after it, with this close number, so many
+// accepted jobs of each lane, and these jobs left.
+fn plays<R: Wait + Abort, L: JobLine>(
+    rt: &R,
+    alloc: Global,
+    capacity: usize,
+    before: &[Row],
+    after: &[Row],
+    ended: (u64, [u64; 2]),
+    left: &[JobId],
+) -> bool
+    requires { (0 < capacity) × (capacity ≤ MAX_CAPACITY) }
+{
+    let (number, accepted) = ended;
+    let (mut hand, closer) = made(rt, Hand::<L>::open(alloc, capacity));
+    let is_so_before = hand.plays_all(rt, alloc, before);
+    let note = hand.line.close(rt, closer);
+    let is_number = L::close_number(&note) == number;
+    let is_so_after = hand.plays_all(rt, alloc, after);
+    let Hand {
+        line,
+        lanes,
+        passes,
+    } = hand;
+    let rest = end(rt, line, lanes, passes, note);
+    is_so_before & is_number & is_so_after & is_left(&rest, accepted, left)
+}
+
+// The same has to be so of both lines.
+fn play<R: Wait + Abort>(
+    rt: &R,
+    alloc: Global,
+    capacity: usize,
+    before: &[Row],
+    after: &[Row],
+    ended: (u64, [u64; 2]),
+    left: &[JobId],
+)
+    requires { (0 < capacity) × (capacity ≤ MAX_CAPACITY) }
+{
+    expect_all(
+        rt,
+        &[
+            plays::<R, LockedLine>(rt, alloc, capacity, before, after, ended, left),
+            plays::<R, RuledLine>(rt, alloc, capacity, before, after, ended, left),
+        ],
+    );
 }
 
 // The id of a lane's job.
@@ -253,105 +242,84 @@ fn at(lane: u32, seq: u64) -> JobId {
     JobId { lane, seq }
 }
 
-// So many jobs of a lane.
-fn jobs_of<R: Abort>(rt: &R, alloc: Global, lane: u32, count: u32) -> VecDeque<Job>
-    requires { lane < MAX_LANES }
-{
-    jobs(alloc, 2, lane, Plan::Same(count)).expect(rt, "no memory")
+// A lane's job is accepted, by the entry of this number.
+fn accepted(lane: u32, seq: u64, number: u64) -> Result<Receipt, Refused> {
+    Ok(Receipt {
+        id: JobId { lane, seq },
+        number,
+    })
 }
 
-// So many of lane 0's jobs are handed in and the first is taken if that is asked: whether these are left.
-fn leaves<R: Wait + Abort, L: JobLine>(
-    rt: &R,
-    alloc: Global,
-    count: u32,
-    takes: bool,
-    left: &[JobId],
-) -> bool {
-    let hand = Hand::<L>::open(alloc, 4).expect(rt, "no memory");
-    let filled = fill(rt, hand, jobs_of(rt, alloc, 0, count), takes);
-    let first = takes.then_some(at(0, 0));
-    filled.accepts_all && filled.taken == first && have_ids(&filled.rest.jobs, left)
+// The first job is accepted, the second finds the line full, and the third finds it closed.
+#[test]
+fn close_against_submit(rt: HostRuntime) {
+    play(
+        &rt,
+        rt.alloc(),
+        1,
+        &[
+            Row::First(accepted(0, 0, 0)),
+            Row::First(Err(Refused::Full)),
+        ],
+        &[Row::First(Err(Refused::Closed { seen: 2 }))],
+        (2, [1, 0]),
+        &[at(0, 0)],
+    );
 }
 
 // A line holds nothing, then three jobs that were handed in, and then the two that were not taken.
-fn jobs_wait_in_order_over<R: Wait + Abort, L: JobLine>(rt: &R, alloc: Global) {
-    assert!(rt; leaves::<R, L>(rt, alloc, 0, false, &[]));
-    assert!(rt; leaves::<R, L>(rt, alloc, 3, false, &[at(0, 0), at(0, 1), at(0, 2)]));
-    assert!(rt; leaves::<R, L>(rt, alloc, 3, true, &[at(0, 1), at(0, 2)]));
-}
-
 #[test]
 fn jobs_wait_in_order(rt: HostRuntime) {
-    jobs_wait_in_order_over::<_, LockedLine>(&rt, rt.alloc());
-    jobs_wait_in_order_over::<_, RuledLine>(&rt, rt.alloc());
-}
-
-// Hands in the lane's next job: whether it is accepted.
-fn hand_in_next<R: Wait, L: JobLine>(
-    rt: &R,
-    line: &L,
-    lane: &mut L::Lane,
-    jobs: &mut VecDeque<Job>,
-) -> bool
-    requires lane { L.is_lane (L.id line.now) lane.old }
-    requires machine { (L.id line.now).sizes.machine ≡ 2 }
-    ensures { L.is_lane (L.id line.now) lane.new }
-{
-    let Some(job) = jobs.pop_front() else {
-        return false;
-    };
-    outcome(hand_in(rt, line, lane, job)).is_ok()
-}
-
-// What is left once lane 1 and lane 0 have handed in a job each, both were taken, and lane 1, lane 0
-// and lane 1 have handed in one more.
-fn hand_in_by_turns<R: Wait, L: JobLine>(
-    rt: &R,
-    hand: Hand<L>,
-    jobs: (VecDeque<Job>, VecDeque<Job>),
-) -> (bool, [Option<JobId>; 2], Rest) {
-    let Hand {
-        line,
-        mut lanes,
-        mut passes,
-        closer,
-    } = hand;
-    let (mut own, mut others) = jobs;
-    let first = hand_in_next(rt, &line, &mut lanes.second, &mut others);
-    let second = hand_in_next(rt, &line, &mut lanes.first, &mut own);
-    let taken = [
-        take_if(rt, &line, &mut passes.first, true),
-        take_if(rt, &line, &mut passes.second, true),
-    ];
-    let third = hand_in_next(rt, &line, &mut lanes.second, &mut others);
-    let fourth = hand_in_next(rt, &line, &mut lanes.first, &mut own);
-    let fifth = hand_in_next(rt, &line, &mut lanes.second, &mut others);
-    let note = line.close(rt, closer);
-    let accepted = first && second && third && fourth && fifth;
-    (accepted, taken, end(rt, line, lanes, passes, note))
-}
-
-// What is left of a line with room for four jobs.
-fn turns_over<R: Wait + Abort, L: JobLine>(
-    rt: &R,
-    alloc: Global,
-) -> (bool, [Option<JobId>; 2], Rest) {
-    let jobs = (jobs_of(rt, alloc, 0, 2), jobs_of(rt, alloc, 1, 3));
-    hand_in_by_turns(rt, Hand::<L>::open(alloc, 4).expect(rt, "no memory"), jobs)
+    play(&rt, rt.alloc(), 4, &[], &[], (0, [0, 0]), &[]);
+    play(
+        &rt,
+        rt.alloc(),
+        4,
+        &[
+            Row::First(accepted(0, 0, 0)),
+            Row::First(accepted(0, 1, 1)),
+            Row::First(accepted(0, 2, 2)),
+        ],
+        &[],
+        (3, [3, 0]),
+        &[at(0, 0), at(0, 1), at(0, 2)],
+    );
+    play(
+        &rt,
+        rt.alloc(),
+        4,
+        &[
+            Row::First(accepted(0, 0, 0)),
+            Row::First(accepted(0, 1, 1)),
+            Row::First(accepted(0, 2, 2)),
+            Row::TakeFirst(at(0, 0)),
+        ],
+        &[],
+        (3, [3, 0]),
+        &[at(0, 1), at(0, 2)],
+    );
 }
 
 // The jobs of two lanes come out, and are left, in the order in which they came in.
-fn expect_order<R: Abort>(rt: &R, turns: (bool, [Option<JobId>; 2], Rest)) {
-    let (accepted, taken, rest) = turns;
-    assert!(rt; accepted && taken[0] == Some(at(1, 0)) && taken[1] == Some(at(0, 0)));
-    assert!(rt; have_ids(&rest.jobs, &[at(1, 1), at(0, 1), at(1, 2)]));
-}
-
 #[test]
 fn rest_stands_in_order(rt: HostRuntime) {
-    expect_order(&rt, turns_over::<_, LockedLine>(&rt, rt.alloc()));
-    expect_order(&rt, turns_over::<_, RuledLine>(&rt, rt.alloc()));
+    play(
+        &rt,
+        rt.alloc(),
+        4,
+        &[
+            Row::Second(accepted(1, 0, 0)),
+            Row::First(accepted(0, 0, 1)),
+            Row::TakeFirst(at(1, 0)),
+            Row::TakeSecond(at(0, 0)),
+            Row::Second(accepted(1, 1, 2)),
+            Row::First(accepted(0, 1, 3)),
+            Row::Second(accepted(1, 2, 4)),
+        ],
+        &[],
+        (5, [2, 3]),
+        &[at(1, 1), at(0, 1), at(1, 2)],
+    );
 }
 
 // Whether the jobs of each lane stand in the order of their seqs, none of them seen before. Marks
@@ -412,6 +380,11 @@ where
 
 #[test]
 fn two_lanes_and_two_passes(rt: HostRuntime) {
-    assert!(rt; are_all_taken(&two_lanes_and_two_passes_over::<_, LockedLine>(&rt, rt.alloc())));
-    assert!(rt; are_all_taken(&two_lanes_and_two_passes_over::<_, RuledLine>(&rt, rt.alloc())));
+    expect_all(
+        &rt,
+        &[
+            are_all_taken(&two_lanes_and_two_passes_over::<_, LockedLine>(&rt, rt.alloc())),
+            are_all_taken(&two_lanes_and_two_passes_over::<_, RuledLine>(&rt, rt.alloc())),
+        ],
+    );
 }

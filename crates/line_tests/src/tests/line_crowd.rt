@@ -3,15 +3,16 @@ ghost use Rattle.std.specs.Prelude.{◌≡◌, ◌<◌, ◌≤◌, map};
 ghost use Rattle.std.specs.List.{All};
 ghost use Rattle.job_queue.specs.Record.{fresh_lanes, fresh_passes};
 
+use crate::tests::expect::{expect_all, made};
 use crate::tests::line::{self, JOBS, are_new_and_rise};
 use crate::tests::over::Over;
 use cube_shape::{MAX_CAPACITY, MAX_LANES, MAX_PASSES};
 use job_queue::{JobLine, Opened, QueuedJob, Receipt, Refused, Rest, Sizes};
-use job_types::{Job, JobRefused};
+use job_types::Job;
 use line_run::{Door, Naming, drain};
 use locked_line::LockedLine;
 use ruled_line::RuledLine;
-use std::alloc::{AllocError, Global};
+use std::alloc::Global;
 use std::collections::VecDeque;
 use std::marker::Brand;
 use std::process::Abort;
@@ -113,21 +114,15 @@ struct Crowd {
 }
 
 // The jobs of so many lanes, so many of each, at the lane's number.
-fn jobs_of_all(
-    alloc: Global,
-    lanes: u32,
-    count: u32,
-) -> Result<Vec<Mutex<VecDeque<Job>>>, JobRefused>
+fn jobs_of_all<R: Abort>(rt: &R, alloc: Global, lanes: u32, count: u32) -> Vec<Mutex<VecDeque<Job>>>
     requires { lanes ≤ MAX_LANES }
 {
     let mut all = Vec::new(alloc);
     for lane in 0..lanes {
-        let jobs = jobs(alloc, 2, lane, Plan::Same(count))?;
-        let Ok(()) = all.push(Mutex::new(jobs)) else {
-            return Err(JobRefused::OutOfMemory);
-        };
+        let jobs = made(rt, jobs(alloc, 2, lane, Plan::Same(count)));
+        made(rt, all.push(Mutex::new(jobs)));
     }
-    Ok(all)
+    all
 }
 
 // Hands in the next job, which stays the next one where the line is full: whether there was one.
@@ -204,16 +199,18 @@ where
 }
 
 // A list with room for so many jobs for each pass.
-fn room_of_all(
+fn room_of_all<R: Abort>(
+    rt: &R,
     alloc: Global,
     passes: u32,
     count: usize,
-) -> Result<Vec<Mutex<Vec<QueuedJob>>>, AllocError> {
+) -> Vec<Mutex<Vec<QueuedJob>>> {
     let mut all = Vec::new(alloc);
     for _ in 0..passes {
-        all.push(Mutex::new(Vec::with_capacity(alloc, count)?))?;
+        let room = made(rt, Vec::with_capacity(alloc, count));
+        made(rt, all.push(Mutex::new(room)));
     }
-    Ok(all)
+    all
 }
 
 // Closes the line once enough jobs were accepted.
@@ -375,7 +372,7 @@ where
     requires few { (sizes.lanes ≤ MAX_LANES) × (sizes.passes ≤ MAX_PASSES) }
     requires room { (0 < sizes.capacity) × (sizes.capacity ≤ MAX_CAPACITY) }
 {
-    let opened = L::open(alloc, sizes).expect(rt, "no memory");
+    let opened = made(rt, L::open(alloc, sizes));
     run_crowd::<R, Brand, L>(rt, opened, crowd)
 }
 
@@ -404,17 +401,78 @@ fn crowd_over<R: Threads + Wait + Abort + Sync>(
     }
 }
 
-// Whether no lane was spent, at least 20 jobs were accepted and at least 8 came late, of 400 in all, and the
-// receipts are below the close number and the counts that were seen are not.
-fn are_late(found: &Found, close_number: u64) -> bool {
-    let accepted = found.accepted.load(SeqCst);
-    let closed = found.closed.load(SeqCst);
-    accepted >= 20
-        && closed >= 8
-        && found.spent.load(SeqCst) == 0
-        && accepted.wrapping_add(closed) == 400
-        && found.last.load(SeqCst) < close_number
-        && found.least_seen.load(SeqCst) >= close_number
+// What a run is made of.
+#[derive(Clone, Copy)]
+struct Setting {
+    // So many lanes, and jobs of each.
+    lanes: u32,
+    jobs: u32,
+    // So many passes that take jobs. One more closes the line.
+    takers: u32,
+    capacity: usize,
+    // The line is closed once so many jobs were accepted.
+    closes_after: u64,
+    // Whether each lane keeps its last job until then.
+    keeps_last: bool,
+}
+
+// What came of a run.
+#[derive(Drop)]
+struct Came {
+    // How many jobs were accepted, how many found the line closed, and how many a spent lane.
+    accepted: u64,
+    closed: u64,
+    spent: u64,
+    // The greatest number of a receipt, and the least count that was seen with the closed mark.
+    last: u64,
+    least_seen: u64,
+    // How many jobs the passes took, where they took each lane's in order and none twice.
+    taken: Option<u64>,
+    raced: Raced,
+}
+
+// How many jobs the passes took, where the jobs of each lane came in the order of their seqs to each pass, and
+// none came twice.
+fn count_in_order<R: Wait>(rt: &R, taken: &[Mutex<Vec<QueuedJob>>]) -> Option<u64> {
+    let mut seen = [[false; JOBS]; 16];
+    let mut count: u64 = 0;
+    for list in taken {
+        let list = list.lock(rt);
+        if !are_new_and_rise(&mut seen, &list) {
+            return None;
+        }
+        count = count.wrapping_add(list.len() as u64);
+    }
+    Some(count)
+}
+
+// What comes of a run in this setting, over the line with no lock or the one under a lock.
+fn run<R: Threads + Wait + Abort + Sync>(
+    rt: &R,
+    alloc: Global,
+    over: Over,
+    setting: Setting,
+) -> Came
+    requires few { (setting.lanes ≤ MAX_LANES) × (setting.takers < MAX_PASSES) }
+    requires room { (0 < setting.capacity) × (setting.capacity ≤ MAX_CAPACITY) }
+{
+    let all = (setting.lanes as usize).wrapping_mul(setting.jobs as usize);
+    let crowd = Crowd {
+        jobs: jobs_of_all(rt, alloc, setting.lanes, setting.jobs),
+        taken: room_of_all(rt, alloc, setting.takers, all),
+        found: Found::nothing(setting.closes_after, setting.keeps_last),
+    };
+    let counts = (setting.lanes, setting.takers + 1, setting.capacity);
+    let raced = crowd_over(rt, alloc, over, counts, &crowd);
+    Came {
+        accepted: crowd.found.accepted.load(SeqCst),
+        closed: crowd.found.closed.load(SeqCst),
+        spent: crowd.found.spent.load(SeqCst),
+        last: crowd.found.last.load(SeqCst),
+        least_seen: crowd.found.least_seen.load(SeqCst),
+        taken: count_in_order(rt, &crowd.taken),
+        raced,
+    }
 }
 
 fn sum(counts: &[u64]) -> u64 {
@@ -425,69 +483,74 @@ fn sum(counts: &[u64]) -> u64 {
     sum
 }
 
+// Whether no lane was spent, at least 20 jobs were accepted and at least 8 came late, of 400 in all, and the
+// receipts are below the close number and the counts that were seen are not.
+fn are_late(came: &Came) -> bool {
+    let number = came.raced.close_number;
+    (came.accepted >= 20)
+        & (came.closed >= 8)
+        & (came.spent == 0)
+        & (came.accepted.wrapping_add(came.closed) == 400)
+        & (came.last < number)
+        & (came.least_seen >= number)
+}
+
 // Eight lanes hand in fifty jobs each while a ninth thread closes the line, and each lane hands in its
 // last one after that.
 fn comes_late<R: Threads + Wait + Abort + Sync>(rt: &R, alloc: Global, over: Over) -> bool {
-    let crowd = Crowd {
-        jobs: jobs_of_all(alloc, 8, 50).expect(rt, "no memory"),
-        taken: Vec::new(alloc),
-        found: Found::nothing(20, true),
+    let setting = Setting {
+        lanes: 8,
+        jobs: 50,
+        takers: 0,
+        capacity: 400,
+        closes_after: 20,
+        keeps_last: true,
     };
-    let Raced { rest, close_number } = crowd_over(rt, alloc, over, (8, 1, 400), &crowd);
-    let accepted = crowd.found.accepted.load(SeqCst);
-    are_late(&crowd.found, close_number)
-        && rest.jobs.len() as u64 == accepted
-        && sum(&rest.accepted) == accepted
+    let came = run(rt, alloc, over, setting);
+    let rest = &came.raced.rest;
+    are_late(&came)
+        & (rest.jobs.len() as u64 == came.accepted)
+        & (sum(&rest.accepted) == came.accepted)
 }
 
 #[test]
 fn late_entries(rt: HostRuntime) {
-    assert!(rt; comes_late(&rt, rt.alloc(), Over::NoLock));
-    assert!(rt; comes_late(&rt, rt.alloc(), Over::Lock));
-}
-
-// How many jobs the passes took, where the jobs of each lane came in the order of their seqs to each pass, and
-// none came twice.
-fn count_in_order<R: Wait>(rt: &R, taken: &[Mutex<Vec<QueuedJob>>]) -> Option<usize> {
-    let mut seen = [[false; JOBS]; 4];
-    let mut count: usize = 0;
-    for list in taken {
-        let list = list.lock(rt);
-        if !are_new_and_rise(&mut seen, &list) {
-            return None;
-        }
-        count = count.wrapping_add(list.len());
-    }
-    Some(count)
+    expect_all(
+        &rt,
+        &[
+            comes_late(&rt, rt.alloc(), Over::NoLock),
+            comes_late(&rt, rt.alloc(), Over::Lock),
+        ],
+    );
 }
 
 // Four lanes hand in a hundred jobs each through room for three, and three passes take until the line
 // has ended. It is closed after the last job.
 fn keeps_order<R: Threads + Wait + Abort + Sync>(rt: &R, alloc: Global, over: Over) -> bool {
-    let crowd = Crowd {
-        jobs: jobs_of_all(alloc, 4, JOBS as u32).expect(rt, "no memory"),
-        taken: room_of_all(alloc, 3, 4 * JOBS).expect(rt, "no memory"),
-        found: Found::nothing(4 * JOBS as u64, false),
+    let setting = Setting {
+        lanes: 4,
+        jobs: 100,
+        takers: 3,
+        capacity: 3,
+        closes_after: 400,
+        keeps_last: false,
     };
-    let rest = crowd_over(rt, alloc, over, (4, 4, 3), &crowd).rest;
+    let came = run(rt, alloc, over, setting);
+    let rest = &came.raced.rest;
     rest.jobs.is_empty()
-        && rest.accepted.as_slice() == [100, 100, 100, 100].as_slice()
-        && count_in_order(rt, &crowd.taken) == Some(4 * JOBS)
+        & (rest.accepted.as_slice() == [100, 100, 100, 100].as_slice())
+        & (came.taken == Some(400))
 }
 
 #[test]
 fn ring_order(rt: HostRuntime) {
-    assert!(rt; keeps_order(&rt, rt.alloc(), Over::NoLock));
-    assert!(rt; keeps_order(&rt, rt.alloc(), Over::Lock));
-}
-
-// How many jobs the passes took.
-fn count_taken<R: Wait>(rt: &R, taken: &[Mutex<Vec<QueuedJob>>]) -> u64 {
-    let mut count: u64 = 0;
-    for list in taken {
-        count = count.wrapping_add(list.lock(rt).len() as u64);
-    }
-    count
+    expect_all(
+        &rt,
+        &[
+            keeps_order(&rt, rt.alloc(), Over::NoLock),
+            keeps_order(&rt, rt.alloc(), Over::Lock),
+        ],
+    );
 }
 
 // Sixteen lanes hand in twenty jobs each and eight passes take until the line has ended, while one more
@@ -501,18 +564,21 @@ fn ends_empty<R: Threads + Wait + Abort + Sync>(
 ) -> bool
     requires { (0 < capacity) × (capacity ≤ MAX_CAPACITY) }
 {
-    let crowd = Crowd {
-        jobs: jobs_of_all(alloc, 16, 20).expect(rt, "no memory"),
-        taken: room_of_all(alloc, 8, 320).expect(rt, "no memory"),
-        found: Found::nothing(closes_after, false),
+    let setting = Setting {
+        lanes: 16,
+        jobs: 20,
+        takers: 8,
+        capacity,
+        closes_after,
+        keeps_last: false,
     };
-    let rest = crowd_over(rt, alloc, over, (16, 9, capacity), &crowd).rest;
-    let accepted = crowd.found.accepted.load(SeqCst);
+    let came = run(rt, alloc, over, setting);
+    let rest = &came.raced.rest;
     rest.jobs.is_empty()
-        && accepted >= closes_after
-        && sum(&rest.accepted) == accepted
-        && accepted.wrapping_add(crowd.found.closed.load(SeqCst)) == 320
-        && count_taken(rt, &crowd.taken) == accepted
+        & (came.accepted >= closes_after)
+        & (sum(&rest.accepted) == came.accepted)
+        & (came.accepted.wrapping_add(came.closed) == 320)
+        & (came.taken == Some(came.accepted))
 }
 
 // Closes after as many jobs as a row of numbers by chance says, with room for one job and for 1,024.
@@ -522,9 +588,14 @@ fn nothing_is_left(rt: HostRuntime) {
     for _ in 0..10u32 {
         chance = chance.wrapping_mul(1_664_525).wrapping_add(1_013_904_223);
         let closes_after = u64::from(chance >> 16) % 321;
-        assert!(rt; ends_empty(&rt, rt.alloc(), Over::NoLock, 1, closes_after));
-        assert!(rt; ends_empty(&rt, rt.alloc(), Over::NoLock, 1024, closes_after));
-        assert!(rt; ends_empty(&rt, rt.alloc(), Over::Lock, 1, closes_after));
-        assert!(rt; ends_empty(&rt, rt.alloc(), Over::Lock, 1024, closes_after));
+        expect_all(
+            &rt,
+            &[
+                ends_empty(&rt, rt.alloc(), Over::NoLock, 1, closes_after),
+                ends_empty(&rt, rt.alloc(), Over::NoLock, 1024, closes_after),
+                ends_empty(&rt, rt.alloc(), Over::Lock, 1, closes_after),
+                ends_empty(&rt, rt.alloc(), Over::Lock, 1024, closes_after),
+            ],
+        );
     }
 }

@@ -3,6 +3,7 @@ ghost use Rattle.std.specs.Prelude.{◌≡◌, ◌<◌, ◌≤◌, [], MatchResu
 ghost use Rattle.std.specs.List.{All};
 ghost use Rattle.std.specs.Vec.{vec_capacity};
 
+use crate::tests::expect::{expect_all, made};
 use cube_shape::MAX_DIM;
 use line_ring::{DidPut, Piece, Ring, RingEnd, RingLane, RingPass, SawEmpty, SawFull};
 use std::alloc::{AllocError, Global};
@@ -179,9 +180,8 @@ impl Hand {
         ensures count { length result.members.items ≡ 7 }
         ensures dealt { (result.end.dealt_lanes ≡ 4) × (result.end.dealt_passes ≡ 3) }
     {
-        let mut members = Vec::with_capacity(alloc, 7).expect(rt, "no memory");
-        let opened = Ring::<Token>::open(alloc, machine, capacity);
-        let (ring, mut end) = opened.expect(rt, "no memory");
+        let mut members = made(rt, Vec::with_capacity(alloc, 7));
+        let (ring, mut end) = made(rt, Ring::<Token>::open(alloc, machine, capacity));
         deal_lanes(&ring, &mut end, &mut members);
         deal_passes(&ring, &mut end, &mut members);
         Hand { ring, end, members }
@@ -220,22 +220,32 @@ fn put_and_take<R: Wait + Abort>(
     ensures lanes { (first.new.ring ≡ ring.now.id) × (second.new.ring ≡ ring.now.id) }
     ensures pass { pass.new.ring ≡ ring.now.id }
 {
-    assert!(rt; first.number() == 0 && second.number() == 1 && first.accepted() == 0);
-    assert!(rt; put(rt, ring, first) && put(rt, ring, second));
-    assert!(rt; put(rt, ring, first));
-    assert!(rt; len(rt, ring, pass) == 3);
-    assert!(rt; take(rt, ring, pass) == Some((0, 0)));
-    assert!(rt; len(rt, ring, pass) == 2);
-    assert!(rt; put(rt, ring, second) && put(rt, ring, second));
-    assert!(rt; !put(rt, ring, first) && !put(rt, ring, second));
-    assert!(rt; first.accepted() == 2 && second.accepted() == 3);
-    assert!(rt; take(rt, ring, pass) == Some((1, 0)));
+    expect_all(
+        rt,
+        &[
+            first.number() == 0,
+            second.number() == 1,
+            first.accepted() == 0,
+            put(rt, ring, first),
+            put(rt, ring, second),
+            put(rt, ring, first),
+            len(rt, ring, pass) == 3,
+            take(rt, ring, pass) == Some((0, 0)),
+            len(rt, ring, pass) == 2,
+            put(rt, ring, second),
+            put(rt, ring, second),
+            !put(rt, ring, first),
+            !put(rt, ring, second),
+            first.accepted() == 2,
+            second.accepted() == 3,
+            take(rt, ring, pass) == Some((1, 0)),
+        ],
+    );
 }
 
 #[test]
 fn pieces_come_out_as_they_came_in(rt: HostRuntime) {
-    let opened = Ring::<Token>::open(rt.alloc(), 3, 4);
-    let (ring, mut end) = opened.expect(&rt, "no memory");
+    let (ring, mut end) = made(&rt, Ring::<Token>::open(rt.alloc(), 3, 4));
     let mut first = ring.deal_lane(&mut end);
     let mut second = ring.deal_lane(&mut end);
     let mut pass = ring.deal_pass(&mut end);
@@ -249,7 +259,7 @@ fn pieces_come_out_as_they_came_in(rt: HostRuntime) {
         Token { lane: 1, seq: 1 },
         Token { lane: 1, seq: 2 },
     ];
-    assert!(rt; rest.len() == 3 && rest.iter().eq(left.iter()));
+    expect_all(&rt, &[rest.len() == 3, rest.iter().eq(left.iter())]);
 }
 
 // Puts a piece in and takes it, in a ring with room for one.
@@ -264,27 +274,45 @@ fn put_and_take_one<R: Wait + Abort>(
     ensures lane { lane.new.ring ≡ ring.now.id }
     ensures pass { pass.new.ring ≡ ring.now.id }
 {
-    assert!(rt; take(rt, ring, pass).is_none());
-    assert!(rt; put(rt, ring, lane) && !put(rt, ring, lane));
-    assert!(rt; take(rt, ring, pass) == Some((0, 0)));
-    assert!(rt; take(rt, ring, pass).is_none() && len(rt, ring, pass) == 0);
+    expect_all(
+        rt,
+        &[
+            take(rt, ring, pass).is_none(),
+            put(rt, ring, lane),
+            !put(rt, ring, lane),
+            take(rt, ring, pass) == Some((0, 0)),
+            take(rt, ring, pass).is_none(),
+            len(rt, ring, pass) == 0,
+        ],
+    );
+}
+
+// Whether there is no memory for a ring with so much room.
+fn is_refused<R: Wait>(rt: &R, alloc: Global, capacity: usize) -> bool
+    requires { 0 < capacity }
+{
+    match Ring::<Token>::open(alloc, 0, capacity) {
+        Ok((ring, end)) => {
+            ring.into_rest(rt, end);
+            false
+        }
+        Err(AllocError) => true,
+    }
 }
 
 #[test]
 fn an_empty_ring_gives_nothing(rt: HostRuntime) {
-    match Ring::<Token>::open(rt.alloc(), 0, 1 << 60) {
-        Ok((ring, end)) => {
-            ring.into_rest(&rt, end);
-            panic!(rt; "no ring has so much room");
-        }
-        Err(AllocError) => (),
-    }
-    let opened = Ring::<Token>::open(rt.alloc(), 10, 1);
-    let (ring, mut end) = opened.expect(&rt, "no memory");
+    let (ring, mut end) = made(&rt, Ring::<Token>::open(rt.alloc(), 10, 1));
     let mut lane = ring.deal_lane(&mut end);
     let mut pass = ring.deal_pass(&mut end);
     put_and_take_one(&rt, &ring, &mut lane, &mut pass);
     ring.gather_lane(&mut end, lane);
     ring.gather_pass(&mut end, pass);
-    assert!(rt; ring.into_rest(&rt, end).is_empty());
+    expect_all(
+        &rt,
+        &[
+            ring.into_rest(&rt, end).is_empty(),
+            is_refused(&rt, rt.alloc(), 1 << 60),
+        ],
+    );
 }

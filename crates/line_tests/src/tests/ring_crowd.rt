@@ -2,9 +2,10 @@
 ghost use Rattle.std.specs.Prelude.{◌≡◌, MatchResult, length};
 ghost use Rattle.std.specs.List.{All};
 
+use crate::tests::expect::{expect_all, made};
 use crate::tests::ring::{Hand, Member, Token, put, rest_of, take};
 use line_ring::{Ring, RingLane, RingPass};
-use std::alloc::{AllocError, Global};
+use std::alloc::Global;
 use std::collections::VecDeque;
 use std::process::Abort;
 use std::sync::Wait;
@@ -23,16 +24,16 @@ struct Board {
     late: AtomicU64,
 }
 
-fn empty_board(alloc: Global) -> Result<Board, AllocError> {
+fn empty_board(rt: &impl Abort, alloc: Global) -> Board {
     let mut taken = Vec::new(alloc);
     for _ in 0..400u32 {
-        taken.push(AtomicU64::new(0))?;
+        made(rt, taken.push(AtomicU64::new(0)));
     }
-    Ok(Board {
+    Board {
         taken,
         count: AtomicU64::new(0),
         late: AtomicU64::new(0),
-    })
+    }
 }
 
 impl Board {
@@ -141,8 +142,13 @@ fn crowd<R: Threads + Wait + Abort + Sync>(
 
 #[test]
 fn seven_threads_share_room_for_three_pieces(rt: HostRuntime) {
-    let board = empty_board(rt.alloc()).expect(&rt, "no memory");
-    assert!(rt; crowd(&rt, rt.alloc(), &board).is_empty());
-    assert!(rt; board.late.load(SeqCst) == 0);
-    assert!(rt; board.is_each_taken_once());
+    let board = empty_board(&rt, rt.alloc());
+    expect_all(
+        &rt,
+        &[
+            crowd(&rt, rt.alloc(), &board).is_empty(),
+            board.late.load(SeqCst) == 0,
+            board.is_each_taken_once(),
+        ],
+    );
 }

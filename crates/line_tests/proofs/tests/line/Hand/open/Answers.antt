@@ -2,8 +2,8 @@ use Rattle.std.proofs.Common.{ap}
 use Rattle.test_kit.proofs.PairLemmas.{first_of_two, second_of_two}
 use Rattle.line_tests.proofs.tests.line.Hand.open.Goals as goal
 
-pub invariant_of-result : goal.invariant_of-result
-invariant_of-result g c =
+pub invariant_of-hand : goal.invariant_of-hand
+invariant_of-hand g c =
     let line = g.L.JobLine in
     let id = line.id c.in_ok-line.field-0.line in
     let made = c.in_ok-line.ensures in (
@@ -18,5 +18,4 @@ invariant_of-result g c =
       c.of.ensures.room.1,
       c.of-2.ensures.room.0,
       c.of-2.ensures.room.1,
-      made.closer,
     )
