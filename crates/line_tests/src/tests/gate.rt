@@ -238,9 +238,10 @@ fn enter_and_read<R: Abort>(rt: &R, alloc: Global) -> Steps {
     }
 }
 
-// What a pass reads: so many entries, and whether the gate is closed.
-fn at(entries: u64, closed: bool) -> EntryCount {
-    EntryCount { entries, closed }
+// Whether a pass has read this: how many entries are settled, how many there are, and whether the gate is closed.
+fn is_read(read: (u64, EntryCount), settled: u64, entries: u64, closed: bool) -> bool {
+    let (found, count) = read;
+    (found == settled) & (count.entries == entries) & (count.closed == closed)
 }
 
 #[test]
@@ -249,16 +250,17 @@ fn entries_and_readings(rt: HostRuntime) {
     expect_all(
         &rt,
         &[
-            steps.entries == [Ok(0), Ok(1), Ok(2)],
-            steps.read
-                == [
-                    (0, at(0, false)),
-                    (0, at(1, false)),
-                    (2, at(2, false)),
-                    (2, at(3, true)),
-                    (3, at(3, true)),
-                ],
-            steps.looks == [None, None, Some(3)],
+            steps.entries[0] == Ok(0),
+            steps.entries[1] == Ok(1),
+            steps.entries[2] == Ok(2),
+            is_read(steps.read[0], 0, 0, false),
+            is_read(steps.read[1], 0, 1, false),
+            is_read(steps.read[2], 2, 2, false),
+            is_read(steps.read[3], 2, 3, true),
+            is_read(steps.read[4], 3, 3, true),
+            steps.looks[0].is_none(),
+            steps.looks[1].is_none(),
+            steps.looks[2] == Some(3),
             steps.number == 3,
         ],
     );
@@ -327,13 +329,17 @@ fn enter_after_close<R: Abort>(
 
 #[test]
 fn late_entries(rt: HostRuntime) {
-    let (before, late) = enter_after_close(&rt, rt.alloc());
+    let ((look, entered, number), late) = enter_after_close(&rt, rt.alloc());
     expect_all(
         &rt,
         &[
-            before == (None, Ok(0), 1),
-            late.found == [Err(1), Err(2)],
-            late.read == [(1, at(3, true)), (1, at(1, true))],
+            look.is_none(),
+            entered == Ok(0),
+            number == 1,
+            late.found[0] == Err(1),
+            late.found[1] == Err(2),
+            is_read(late.read[0], 1, 3, true),
+            is_read(late.read[1], 1, 1, true),
             late.look == Some(2),
         ],
     );

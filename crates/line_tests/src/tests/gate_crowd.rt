@@ -5,7 +5,7 @@ ghost use Rattle.line_gate.specs.Record.{IsSettled};
 use crate::tests::expect::expect_all;
 use crate::tests::gate::{Table, TestGate, end, go_through, opened, read};
 use cube_shape::MAX_ENTRIES;
-use line_gate::{EntryCount, GateCloser, GateLane, GateNote};
+use line_gate::{GateCloser, GateLane, GateNote};
 use std::sync::Wait;
 use std::sync::atomic::AtomicU64;
 use std::sync::atomic::Ordering::SeqCst;
@@ -19,6 +19,17 @@ struct Board {
 }
 
 impl Board {
+    // Waits until fifty entries were made.
+    fn await_entries<R: Wait>(&self, rt: &R) {
+        for _ in rt.forever() {
+            if self.entered.load(SeqCst) >= 50 {
+                return;
+            }
+            yield_now();
+        }
+        unreachable!()
+    }
+
     // Counts what came of an entry: whether it was late.
     fn count(&self, outcome: Result<u64, u64>) -> bool {
         match outcome {
@@ -96,12 +107,7 @@ fn close_late<R: Wait>(
     ensures closer { closer.new ≡ None }
     ensures note { IsSomeAnd note.new (λ n. n.gate ≡ gate.now.table) }
 {
-    for _ in rt.forever() {
-        if board.entered.load(SeqCst) >= 50 {
-            break;
-        }
-        yield_now();
-    }
+    board.await_entries(rt);
     let Some(closer) = closer.take() else {
         unreachable!()
     };
@@ -190,10 +196,6 @@ fn each_lane_takes_one_late_entry_back(rt: HostRuntime) {
     let entries = note.number();
     let (settled, counted) = read(&gate, &mut pass);
     end(gate, (first, second, pass), note);
-    let sealed = EntryCount {
-        entries,
-        closed: true,
-    };
     expect_all(
         &rt,
         &[
@@ -201,7 +203,8 @@ fn each_lane_takes_one_late_entry_back(rt: HostRuntime) {
             board.entered.load(SeqCst) == entries,
             settled == entries,
             entries >= 50,
-            counted == sealed,
+            counted.entries == entries,
+            counted.closed,
         ],
     );
 }

@@ -1,7 +1,6 @@
 //! Many threads at one line: lanes that race with its close, and passes that share a small line.
-ghost use Rattle.std.specs.Prelude.{◌≡◌, ◌<◌, ◌≤◌, map};
+ghost use Rattle.std.specs.Prelude.{◌≡◌, ◌<◌, ◌≤◌, ◌++◌, ◌∷◌, [], MatchResult};
 ghost use Rattle.std.specs.List.{All};
-ghost use Rattle.job_queue.specs.Record.{fresh_lanes, fresh_passes};
 
 use crate::tests::expect::{expect_all, made};
 use crate::tests::line::{self, JOBS, are_new_and_rise};
@@ -14,12 +13,12 @@ use locked_line::LockedLine;
 use ruled_line::RuledLine;
 use std::alloc::Global;
 use std::collections::VecDeque;
-use std::marker::Brand;
+use std::marker::{Brand, Model, PhantomData};
 use std::process::Abort;
 use std::sync::atomic::AtomicU64;
 use std::sync::atomic::Ordering::SeqCst;
 use std::sync::{Mutex, Wait};
-use std::thread::{Threads, for_each_mut, join_mut, yield_now};
+use std::thread::{Threads, for_each_mut, yield_now};
 use test_kit::{Plan, jobs};
 
 // What the lanes of a run found.
@@ -168,34 +167,15 @@ fn hand_in<R: Wait, L: JobLine>(
     unreachable!()
 }
 
-// Hands in by all lanes at once.
-fn hand_in_all<R: Threads + Wait + Sync, L: JobLine + Sync>(
-    rt: &R,
-    line: &L,
-    lanes: &mut [L::Lane],
-    crowd: &Crowd,
-)
-where
-    L::Lane: Send,
-    L::End: Send,
-    requires lanes { All (L.is_lane (L.id line.now)) lanes.old }
+// Hands in the jobs of the lane's number.
+fn hand_in_own<R: Wait, L: JobLine>(rt: &R, line: &L, lane: &mut L::Lane, crowd: &Crowd)
+    requires lane { L.is_lane (L.id line.now) lane.old }
     requires machine { (L.id line.now).sizes.machine ≡ 2 }
-    ensures { All (L.is_lane (L.id line.now)) lanes.new }
+    ensures { L.is_lane (L.id line.now) lane.new }
 {
-    for_each_mut(
-        rt,
-        lanes,
-        16,
-        &|number, lane|
-            requires lane { L.is_lane (L.id line.now) lane.now }
-            requires machine { (L.id line.now).sizes.machine ≡ 2 }
-            ensures { L.is_lane (L.id line.entry.now) lane.exit.now }
-        {
-            if let Some(jobs) = crowd.jobs.get(number) {
-                hand_in(rt, line, lane, &mut jobs.lock(rt), &crowd.found);
-            }
-        },
-    );
+    if let Some(jobs) = crowd.jobs.get(L::lane_number(lane) as usize) {
+        hand_in(rt, line, lane, &mut jobs.lock(rt), &crowd.found);
+    }
 }
 
 // A list with room for so many jobs for each pass.
@@ -246,41 +226,79 @@ fn take_or_close<R: Wait, J: Naming, L: JobLine>(
     }
 }
 
-// Takes by all passes at once. The one that has no list closes the line.
-fn take_all<R: Threads + Wait + Sync, J: Naming + Send + Sync, L: JobLine + Sync>(
+// What the thread of a member does: it hands in the jobs of the lane, or it takes by the pass.
+fn work<R: Wait, J: Naming, L: JobLine>(
     rt: &R,
     line: &L,
-    passes: &mut [L::Pass],
+    number: usize,
+    own: &mut Result<L::Lane, L::Pass>,
     door: &Mutex<Door<J, L>>,
     crowd: &Crowd,
 )
-where
-    L::Pass: Send,
-    L::End: Send,
-    L::Closer: Send,
-    L::Note: Send,
     requires named { L.id line.now ≡ J.line }
-    requires passes { All (L.is_pass (L.id line.now)) passes.old }
-    ensures { All (L.is_pass (L.id line.now)) passes.new }
+    requires machine { (L.id line.now).sizes.machine ≡ 2 }
+    requires own { MatchResult own.old (L.is_lane J.line) (L.is_pass J.line) }
+    ensures { MatchResult own.new (L.is_lane J.line) (L.is_pass J.line) }
 {
-    for_each_mut(
-        rt,
-        passes,
-        16,
-        &|number, pass|
-            requires named { L.id line.now ≡ J.line }
-            requires pass { L.is_pass (L.id line.now) pass.now }
-            ensures { L.is_pass (L.id line.entry.now) pass.exit.now }
-        { take_or_close(rt, line, pass, door, crowd.taken.get(number), &crowd.found) },
-    );
+    match own {
+        Ok(lane) => hand_in_own(rt, line, lane, crowd),
+        Err(pass) => take_or_close(rt, line, pass, door, crowd.taken.get(number), &crowd.found),
+    }
 }
 
-// Hands in by all lanes, while all passes but one take and that one closes the line.
-fn race<R: Threads + Wait + Sync, J: Naming + Send + Sync, L: JobLine + Sync>(
+// One of the crowd: a lane, or a pass.
+struct Member<J: Naming, L: JobLine> {
+    own: Result<L::Lane, L::Pass>,
+    of: PhantomData<J>,
+}
+
+impl<J: Naming, L: JobLine> Model for Member<J, L> {
+    ghost use Rattle.std.specs.Prelude.{MatchResult};
+
+    ghost Value = { Unit {0} };
+
+    ghost view = { λ m. tt };
+
+    ghost invariant = { λ m. MatchResult m.own (L.is_lane J.line) (L.is_pass J.line) };
+}
+
+impl<J: Naming, L: JobLine> Member<J, L> {
+    fn new(own: Result<L::Lane, L::Pass>) -> Member<J, L>
+        requires { MatchResult own (L.is_lane J.line) (L.is_pass J.line) }
+    {
+        Member {
+            own,
+            of: PhantomData,
+        }
+    }
+
+    fn act<R: Wait>(
+        &mut self,
+        rt: &R,
+        line: &L,
+        number: usize,
+        door: &Mutex<Door<J, L>>,
+        crowd: &Crowd,
+    )
+        requires named { L.id line.now ≡ J.line }
+        requires machine { (L.id line.now).sizes.machine ≡ 2 }
+    {
+        work(rt, line, number, &mut self.own, door, crowd);
+    }
+
+    fn into_own(self) -> Result<L::Lane, L::Pass>
+        ensures { MatchResult result (L.is_lane J.line) (L.is_pass J.line) }
+    {
+        let Member { own, of: _ } = self;
+        own
+    }
+}
+
+// All at once, each on a thread of its own.
+fn act_all<R: Threads + Wait + Sync, J: Naming + Send + Sync, L: JobLine + Sync>(
     rt: &R,
     line: &L,
-    lanes: &mut [L::Lane],
-    passes: &mut [L::Pass],
+    members: &mut [Member<J, L>],
     door: &Mutex<Door<J, L>>,
     crowd: &Crowd,
 )
@@ -291,23 +309,75 @@ where
     L::Closer: Send,
     L::Note: Send,
     requires named { L.id line.now ≡ J.line }
-    requires lanes { All (L.is_lane (L.id line.now)) lanes.old }
-    requires passes { All (L.is_pass (L.id line.now)) passes.old }
     requires machine { (L.id line.now).sizes.machine ≡ 2 }
-    ensures lanes { All (L.is_lane (L.id line.now)) lanes.new }
-    ensures passes { All (L.is_pass (L.id line.now)) passes.new }
 {
-    let mut feeding = ||
-        requires lanes { All (L.is_lane (L.id line.now)) lanes.now }
-        requires machine { (L.id line.now).sizes.machine ≡ 2 }
-        ensures { All (L.is_lane (L.id line.entry.now)) lanes.exit.now }
-    { hand_in_all(rt, line, lanes, crowd) };
-    let mut taking = ||
-        requires named { L.id line.now ≡ J.line }
-        requires passes { All (L.is_pass (L.id line.now)) passes.now }
-        ensures { All (L.is_pass (L.id line.entry.now)) passes.exit.now }
-    { take_all(rt, line, passes, door, crowd) };
-    join_mut(rt, &mut taking, &mut feeding);
+    let count = members.len().max(1);
+    for_each_mut(
+        rt,
+        members,
+        count,
+        &|number, member|
+            requires { (L.id line.now ≡ J.line) × ((L.id line.now).sizes.machine ≡ 2) }
+        { member.act(rt, line, number, door, crowd) },
+    );
+}
+
+// A list with one more, where there is memory for it.
+fn add<T>(rt: &impl Abort, list: &mut Vec<T>, one: T)
+    ensures { list.new.items ≡ list.old.items ++ one ∷ [] }
+{
+    match list.push(one) {
+        Ok(()) => {}
+        Err(_failed) => panic!(rt; "no memory"),
+    }
+}
+
+// Each pass is a member.
+fn man_passes<J: Naming, L: JobLine>(
+    rt: &impl Abort,
+    passes: &mut Vec<L::Pass>,
+    members: &mut Vec<Member<J, L>>,
+)
+    requires { All (L.is_pass J.line) passes.old.items }
+    ensures { passes.new.items ≡ [] }
+{
+    while let Some(pass) = passes.pop() {
+        add(rt, members, Member::new(Err(pass)));
+    }
+}
+
+// Each lane is one too.
+fn man_lanes<J: Naming, L: JobLine>(
+    rt: &impl Abort,
+    lanes: &mut Vec<L::Lane>,
+    members: &mut Vec<Member<J, L>>,
+)
+    requires { All (L.is_lane J.line) lanes.old.items }
+    ensures { lanes.new.items ≡ [] }
+{
+    while let Some(lane) = lanes.pop() {
+        add(rt, members, Member::new(Ok(lane)));
+    }
+}
+
+// The lanes and the passes of all members, in lists that were empty.
+fn part<J: Naming, L: JobLine>(
+    rt: &impl Abort,
+    mut members: Vec<Member<J, L>>,
+    lanes: &mut Vec<L::Lane>,
+    passes: &mut Vec<L::Pass>,
+)
+    requires { (lanes.old.items ≡ []) × (passes.old.items ≡ []) }
+    ensures lanes { All (L.is_lane J.line) lanes.new.items }
+    ensures passes { All (L.is_pass J.line) passes.new.items }
+{
+    while let Some(member) = members.pop() {
+        match member.into_own() {
+            Ok(lane) => add(rt, lanes, lane),
+            Err(pass) => add(rt, passes, pass),
+        }
+    }
+    members.destroy_empty();
 }
 
 // What is left of a line after a run, and its close number.
@@ -317,10 +387,35 @@ struct Raced {
     close_number: u64,
 }
 
-// Lets all lanes and all passes of a line run. There is one list fewer than there are passes.
-fn run_crowd<R: Threads + Wait + Sync, J: Naming + Send + Sync, L: JobLine + Sync>(
+// The end of a line, which is given as many lanes and passes as it has.
+fn finish<R: Wait + Abort, L: JobLine>(
     rt: &R,
+    line: L,
+    lanes: Vec<L::Lane>,
+    passes: Vec<L::Pass>,
+    note: L::Note,
+    counts: (u32, u32),
+) -> Raced
+    requires sizes { ((L.id line).sizes.lanes ≡ counts.0) × ((L.id line).sizes.passes ≡ counts.1) }
+    requires lanes { All (L.is_lane (L.id line)) lanes.items }
+    requires passes { All (L.is_pass (L.id line)) passes.items }
+    requires note { L.is_note (L.id line) note }
+{
+    let (lane_count, pass_count) = counts;
+    assert!(rt; lanes.len() == lane_count as usize && passes.len() == pass_count as usize);
+    let close_number = L::close_number(&note);
+    Raced {
+        rest: line.into_rest(rt, lanes, passes, note),
+        close_number,
+    }
+}
+
+// Lets all lanes and all passes of a line run. There is one list fewer than there are passes.
+fn run_crowd<R: Threads + Wait + Abort + Sync, J: Naming + Send + Sync, L: JobLine + Sync>(
+    rt: &R,
+    alloc: Global,
     opened: Opened<L, L::Lane, L::Pass, L::Closer>,
+    counts: (u32, u32),
     crowd: &Crowd,
 ) -> Raced
 where
@@ -330,14 +425,12 @@ where
     L::Closer: Send,
     L::Note: Send,
     requires named { L.id opened.line ≡ J.line }
-    requires lanes { All (L.is_lane (L.id opened.line)) opened.lanes.items }
-    requires passes { All (L.is_pass (L.id opened.line)) opened.passes.items }
-    requires closer { L.is_closer (L.id opened.line) opened.closer }
+    requires lanes { All (L.is_lane J.line) opened.lanes.items }
+    requires passes { All (L.is_pass J.line) opened.passes.items }
+    requires closer { L.is_closer J.line opened.closer }
     requires machine { (L.id opened.line).sizes.machine ≡ 2 }
-    requires all_lanes { map L.lane_record opened.lanes.items
-        ≡ fresh_lanes (L.id opened.line).sizes.lanes }
-    requires all_passes { map L.pass_record opened.passes.items
-        ≡ fresh_passes (L.id opened.line).sizes.passes }
+    requires sizes { ((L.id opened.line).sizes.lanes ≡ counts.0)
+        × ((L.id opened.line).sizes.passes ≡ counts.1) }
 {
     let Opened {
         line,
@@ -345,14 +438,14 @@ where
         mut passes,
         closer,
     } = opened;
+    let mut members: Vec<Member<J, L>> = Vec::new(alloc);
+    man_passes(rt, &mut passes, &mut members);
+    man_lanes(rt, &mut lanes, &mut members);
     let door: Mutex<Door<J, L>> = Mutex::new(Door::new(closer));
-    race(rt, &line, &mut lanes, &mut passes, &door, crowd);
+    act_all(rt, &line, members.as_mut_slice(), &door, crowd);
+    part(rt, members, &mut lanes, &mut passes);
     let note = door.into_inner().into_note(rt, &line);
-    let close_number = L::close_number(&note);
-    Raced {
-        rest: line.into_rest(rt, lanes, passes, note),
-        close_number,
-    }
+    finish(rt, line, lanes, passes, note, counts)
 }
 
 // The same on a new line of these sizes.
@@ -373,7 +466,7 @@ where
     requires room { (0 < sizes.capacity) × (sizes.capacity ≤ MAX_CAPACITY) }
 {
     let opened = made(rt, L::open(alloc, sizes));
-    run_crowd::<R, Brand, L>(rt, opened, crowd)
+    run_crowd::<R, Brand, L>(rt, alloc, opened, (sizes.lanes, sizes.passes), crowd)
 }
 
 // So many lanes and passes of a line with no lock, or of one under a lock, with this capacity. The last pass
