@@ -32,13 +32,29 @@ fn is_free(name: &str) -> Option<bool> {
 
 // The run that the words ask for, whatever its sizes are.
 fn asked_for(words: &[String]) -> Option<Invocation> {
+    let [shop, items, lanes, dispatchers, capacity, jobs] = words else {
+        return None;
+    };
+    let is_free = is_free(shop)?;
+    let sizes = (
+        items.parse::<usize>(),
+        capacity.parse::<usize>(),
+        jobs.parse::<usize>(),
+    );
+    let (Ok(items), Ok(capacity), Ok(jobs)) = sizes else {
+        return None;
+    };
+    let counts = (lanes.parse::<u32>(), dispatchers.parse::<u32>());
+    let (Ok(lanes), Ok(dispatchers)) = counts else {
+        return None;
+    };
     Some(Invocation {
-        is_free: is_free(words.first()?)?,
-        items: words.get(1)?.parse::<usize>().ok()?,
-        lanes: words.get(2)?.parse::<u32>().ok()?,
-        dispatchers: words.get(3)?.parse::<u32>().ok()?,
-        capacity: words.get(4)?.parse::<usize>().ok()?,
-        jobs: words.get(5)?.parse::<usize>().ok()?,
+        is_free,
+        items,
+        lanes,
+        dispatchers,
+        capacity,
+        jobs,
     })
 }
 
