@@ -1,4 +1,5 @@
 mod MemberLemmas
+mod EndLemmas
 pub mod SlotLemmas
 pub mod AnswerLemmas
 pub mod RunLemmas

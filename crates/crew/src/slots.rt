@@ -1,6 +1,7 @@
 // How members go into their slots, and come out again.
 ghost use Rattle.std.specs.Prelude.{◌≡◌, ◌≢◌, ℕ, ◌+◌, ◌<◌, ◌≤◌, ◌++◌, [], List, map, length, slice_index_or};
 ghost use Rattle.std.specs.List.{All};
+ghost use Rattle.std.specs.Option.{MatchOption};
 ghost use Rattle.std.specs.Vec.{vec_capacity};
 ghost use Rattle.job_queue.specs.Record.{accepted_jobs, fresh_lanes};
 ghost use Rattle.job_queue.specs.Line.{IsFor};
@@ -15,12 +16,52 @@ use job_queue::JobLine;
 use job_types::Job;
 use std::alloc::Global;
 use std::collections::VecDeque;
+use std::marker::{Model, PhantomData};
 use std::sync::{Mutex, Wait};
+
+// Workers that have no slot yet.
+struct Idle<J: Naming, L: JobLine, F: Floor> {
+    workers: Vec<Worker<L, F>>,
+    of: PhantomData<J>,
+}
+
+impl<J: Naming, L: JobLine, F: Floor> Model for Idle<J, L, F> {
+    ghost use Rattle.std.specs.Prelude.{ℕ, length};
+    ghost use Rattle.std.specs.List.{All};
+    ghost use Rattle.dispatcher.specs.Members.{IsWorkerOf};
+
+    // How many they are.
+    ghost Value = { ℕ };
+
+    ghost view = { λ i. length i.workers.items };
+
+    ghost invariant = { λ i. All (IsWorkerOf J.shop) i.workers.items };
+}
+
+impl<J: Naming, L: JobLine, F: Floor> Idle<J, L, F> {
+    // A slot for the last of them.
+    #[tactic(auto, using(crate::proofs::SlotLemmas::all_last))]
+    fn next(&mut self) -> Option<Post<J, L, F>>
+        ensures fewer { MatchOption result ((self.old ≡ 0) × (self.new ≡ 0))
+            (λ post. self.old ≡ self.new + 1) }
+    {
+        let worker = self.workers.pop()?;
+        Some(Post::new(worker))
+    }
+
+    // All of them have one.
+    fn end(self)
+        requires { self ≡ 0 }
+    {
+        let Idle { workers, of: _ } = self;
+        workers.destroy_empty();
+    }
+}
 
 // A slot for each worker. One for which there is no memory stands down at once.
 pub fn man_posts<J: Naming, L: JobLine, F: Floor>(
     alloc: Global,
-    mut workers: Vec<Worker<L, F>>,
+    workers: Vec<Worker<L, F>>,
     ends: &mut Vec<WorkerEnd<L, F>>,
 ) -> Vec<Mutex<Post<J, L, F>>>
     requires workers { All (IsWorkerOf J.shop) workers.items }
@@ -30,13 +71,17 @@ pub fn man_posts<J: Naming, L: JobLine, F: Floor>(
     ensures ends { All (IsEndOf J.shop) ends.new.items }
     ensures room { length workers.items ≤ vec_capacity ends.new }
 {
+    let mut idle: Idle<J, L, F> = Idle {
+        workers,
+        of: PhantomData,
+    };
     let mut posts = Vec::new(alloc);
-    while let Some(worker) = workers.pop() {
-        if let Err(failed) = posts.push(Mutex::new(Post::new(worker))) {
+    while let Some(post) = idle.next() {
+        if let Err(failed) = posts.push(Mutex::new(post)) {
             ends.push_reserved(failed.value.into_inner().into_end(alloc));
         }
     }
-    workers.destroy_empty();
+    idle.end();
     posts
 }
 

@@ -1,5 +1,5 @@
 -- What a lane's record gains in a feed.
-use Rattle.std.proofs.Common.{◌≡◌, ℕ, ◌+◌, ◌-◌, ◌^◌, ◌<◌, ◌≤◌, min, ⊎_elim, List, [], ◌∷◌, ◌++◌, None, Some, map, length, drop, is_some, cond, Option, refl, sym, ap, subst, ◌∙◌, append_assoc, arith}
+use Rattle.std.proofs.Common.{rules, ◌≡◌, ℕ, ◌+◌, ◌-◌, ◌^◌, ◌<◌, ◌≤◌, min, ⊎_elim, List, [], ◌∷◌, ◌++◌, None, Some, map, length, drop, is_some, cond, Option, refl, sym, ap, subst, ◌∙◌, append_assoc, arith}
 use Rattle.std.specs.Option.{IfSome}
 use Rattle.std.proofs.lemmas.Bool.{cases_lt}
 use Rattle.std.proofs.lemmas.List.{append-nil, drop_at, drop_all, map-append}
@@ -15,8 +15,9 @@ use Rattle.job_queue.specs.declared.job_line.Refused.TheVariants as refused
 use Rattle.job_queue.specs.Line.{GainsEntry, GainsRefusal}
 use Rattle.job_queue.proofs.AcceptedLemmas.{accepted-append, accepted-push, accepted-full}
 use Rattle.dispatcher.specs.declared.feeding.FeedStop.{FeedStop}
-use Rattle.dispatcher.specs.declared.feeding.FeedStop.TheVariants.{Closed, LaneSpent, Turns}
+use Rattle.dispatcher.specs.declared.feeding.FeedStop.TheVariants.{Done, Closed, LaneSpent, Turns}
 use Rattle.dispatcher.specs.Feed.{entries_since, full_since, seen_at, HandsIn}
+use Rattle.dispatcher.specs.Stop.{EndsWith}
 
 -- of these jobs the first ones are accepted and the others left, and the feed goes on
 pub record SoFar (jobs left : List JobData) (before now : LaneRecord) : Type 0 where
@@ -116,6 +117,28 @@ at_refusal jobs left before now after refused.Full stop so_far gains is =
     subst (λ (s : FeedStop). HandsIn jobs left s before after) (sym is) (stops_as_is jobs left Turns before after (one_full jobs left before now after gains.0 so_far gains.1) refl)
 at_refusal jobs left before now after refused.LaneSpent stop so_far gains is =
     subst (λ (s : FeedStop). HandsIn jobs left s before after) (sym is) (subst (λ (r : LaneRecord). HandsIn jobs left LaneSpent before r) (sym gains) (stops_as_is jobs left LaneSpent before now so_far refl))
+
+turns_not_closed : (count : ℕ) → Turns ≡ Closed count → ⊥
+turns_not_closed count is = search rules
+
+spent_not_closed : (count : ℕ) → LaneSpent ≡ Closed count → ⊥
+spent_not_closed count is = search rules
+
+-- what was refused is not done
+pub not_done_at : (why : Refused) (stop : FeedStop) → stop ≡ stop_at why → stop ≡ Done → ⊥
+not_done_at (refused.Closed seen) stop is done = search rules
+not_done_at refused.Full stop is done = search rules
+not_done_at refused.LaneSpent stop is done = search rules
+
+-- and what found the line closed saw a count last
+same_count : (a b : ℕ) → Closed a ≡ Closed b → a ≡ b
+same_count a b same = search rules
+
+pub closed_at : (now after : LaneRecord) (why : Refused) (stop : FeedStop) (count : ℕ) → GainsRefusal now why after → stop ≡ stop_at why → stop ≡ Closed count → EndsWith after.seen count
+closed_at now after (refused.Closed seen) stop count gains is closed =
+    (now.seen, ap (λ (r : LaneRecord). r.seen) gains ∙ ap (λ (s : ℕ). now.seen ++ s ∷ []) (same_count seen count (sym is ∙ closed)))
+closed_at now after refused.Full stop count gains is closed = absurd (turns_not_closed count (sym is ∙ closed))
+closed_at now after refused.LaneSpent stop count gains is closed = absurd (spent_not_closed count (sym is ∙ closed))
 
 -- what the lane has accepted, what came back and what is left
 pub fed_by : (jobs back left : List JobData) (stop : FeedStop) (before after : LaneRecord) → HandsIn jobs (back ++ left) stop before after → accepted_jobs after ++ back ++ left ≡ accepted_jobs before ++ jobs

@@ -1,10 +1,12 @@
 -- Lists that grow by one, and facts of a shop's line and floor.
-use Rattle.std.proofs.Common.{◌≡◌, ℕ, ◌<◌, ◌≤◌, ⊎_elim, ◌++◌, ◌∷◌, [], List, Option, Some, map, sym, ap, subst, ◌∙◌, arith}
+use Rattle.std.proofs.Common.{rules, ◌≡◌, ◌⊎◌, ℕ, ◌<◌, ◌≤◌, ⊎_elim, ◌++◌, ◌∷◌, [], List, Option, Some, map, sym, ap, subst, ◌∙◌, arith}
 use Rattle.std.proofs.lemmas.Bool.{cases_lt}
 use Rattle.std.proofs.lemmas.List.{map-append, append-nil}
 use Rattle.job_queue.specs.Line.{LineId}
 use Rattle.floors.specs.Floor.{FloorId}
 use Rattle.dispatcher.specs.Shop.{ShopId}
+use Rattle.dispatcher.specs.declared.stop.Stop.{Stop}
+use Rattle.dispatcher.specs.declared.stop.Stop.TheVariants.{Ended, OutOfMemory, NotRun, Enough}
 
 -- what a record gained by one more is what the list gained by one more
 pub gained : {A B : Type 0} (f : A → B) (before after : List B) (y : B) (x : A) (xs ys zs : List A) → before ≡ map f xs → after ≡ before ++ y ∷ [] → f x ≡ y → ys ≡ xs → zs ≡ ys ++ x ∷ [] → after ≡ map f zs
@@ -32,3 +34,23 @@ below_limit limit count within other most is = ⊎_elim
     (λ (lt : count < most). lt)
     (λ (ge : most ≤ count). absurd (other (is ∙ ap Some (omega (arith, ge, within most is)))))
     (cases_lt count most)
+
+-- a worker that found the line ended has stopped for no other reason
+pub ended_not_enough : Ended ≡ Enough → ⊥
+ended_not_enough is = search rules
+
+pub ended_not_no_memory : Ended ≡ OutOfMemory → ⊥
+ended_not_no_memory is = search rules
+
+pub ended_not_idle : Ended ≡ NotRun → ⊥
+ended_not_idle is = search rules
+
+-- nor has one that takes no further job found the end
+pub full_not_ended : (stop : Stop) → (stop ≡ Enough) ⊎ (stop ≡ OutOfMemory) → stop ≡ Ended → ⊥
+full_not_ended stop why is = ⊎_elim (λ (enough : stop ≡ Enough). ended_not_enough (sym is ∙ enough)) (λ (no_room : stop ≡ OutOfMemory). ended_not_no_memory (sym is ∙ no_room)) why
+
+pub full_not_idle : (stop : Stop) → (stop ≡ Enough) ⊎ (stop ≡ OutOfMemory) → stop ≡ NotRun → ⊥
+full_not_idle stop why is = search rules
+
+pub some_is : (stop : Stop) → Some stop ≡ Some Enough → stop ≡ Enough
+some_is stop same = search rules

@@ -1,7 +1,8 @@
-use Rattle.std.proofs.Common.{ℕ, [], map, length, slice_index_or, sym, ap, subst, ◌∙◌, arith}
+use Rattle.std.proofs.Common.{◌≡◌, ℕ, [], Some, map, length, slice_index_or, sym, ap, subst, ◌∙◌, refl, arith}
 use Rattle.std.specs.List.{All}
 use Rattle.std.proofs.lemmas.List.{length-map}
 use Rattle.job_queue.specs.Line.{IsFor}
+use Rattle.dispatcher.specs.Opening.{refusal_of}
 use Rattle.dispatcher.specs.Members.{worker_record}
 use Rattle.dispatcher.proofs.OpenLemmas.{passes_count}
 use Rattle.crew.proofs.RunLemmas.{lanes_count}
@@ -39,3 +40,11 @@ pub run_named-requires-clause-stops : goal.run_named-requires-clause-stops
 run_named-requires-clause-stops g c κs within =
     let count = sym (length-map c.in-Ok-open.opened.workers.items worker_record) ∙ (ap length c.in-Ok-open.ensures.fresh_passes ∙ passes_count c.args.dispatchers) in
     (c.in-Ok.ensures.stops.0, omega (arith, count, c.in-Ok.ensures.stops.1))
+
+pub returns-in-Some-clause-refused : goal.returns-in-Some-clause-refused
+returns-in-Some-clause-refused g c = λ other.
+    let lanes : c.len-lanes.result ≡ length c.args.jobs.items = omega (arith, c.len-lanes.ensures, c.args.jobs.ok.0) in
+    subst (λ (m : ℕ). refusal_of c.args.n m c.args.dispatchers c.args.capacity ≡ Some c.in-Some.refused) lanes (sym c.refusal.ensures ∙ c.in-Some.is)
+
+pub returns-in-Some-clause-gives_back : goal.returns-in-Some-clause-gives_back
+returns-in-Some-clause-gives_back g c = refl

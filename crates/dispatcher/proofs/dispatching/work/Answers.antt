@@ -3,7 +3,7 @@ use Rattle.std.proofs.lemmas.List.{length_push}
 use Rattle.std.proofs.lemmas.List.Elements.{All-push, All-same}
 use Rattle.job_queue.specs.declared.record.PassRecord.{PassRecord}
 use Rattle.dispatcher.specs.Reply.{answered, region_of, IsRight}
-use Rattle.dispatcher.proofs.WorkLemmas.{gained, kept, below_limit}
+use Rattle.dispatcher.proofs.WorkLemmas.{gained, kept, below_limit, ended_not_enough, ended_not_no_memory, ended_not_idle, full_not_ended, full_not_idle, some_is}
 use Rattle.dispatcher.proofs.dispatching.work.Goals as goal
 
 pub loop-preserved-in-Job : goal.loop-preserved-in-Job
@@ -37,6 +37,58 @@ loop-preserved g c =
       λ most is. omega (arith, few most is),
       λ zero. absurd (omega (arith, few 0 zero)),
     )
+
+pub invariant_of-result-in-Ended : goal.invariant_of-result-in-Ended
+invariant_of-result-in-Ended g c =
+    let inv = c.loop.invariant in
+    let reserved = c.make_room.ensures.items in
+    record {
+      answers = kept answered _ _ _ _ inv.2 c.in-Ended.ensures.taken reserved;
+      regions = inv.3 ∙ ap (map region_of) (sym reserved);
+      no_room = λ stop. absurd (ended_not_no_memory stop);
+      not_run = λ stop. absurd (ended_not_idle stop);
+    }
+
+pub returns-in-Ended-clause-has_run : goal.returns-in-Ended-clause-has_run
+returns-in-Ended-clause-has_run g c = ended_not_idle
+
+pub returns-in-Ended-clause-enough : goal.returns-in-Ended-clause-enough
+returns-in-Ended-clause-enough g c = λ stop. absurd (ended_not_enough stop)
+
+pub returns-in-Ended-clause-fewer : goal.returns-in-Ended-clause-fewer
+returns-in-Ended-clause-fewer g c = λ most is other.
+    below_limit c.args.limit (length c.make_room.new.replies.items) (λ m at. omega (arith, ap length c.make_room.ensures.items, c.loop.invariant.5 m at)) (c.make_room.ensures.fewer (search rules)) most is
+
+pub returns-in-Ended-clause-at_once : goal.returns-in-Ended-clause-at_once
+returns-in-Ended-clause-at_once g c = λ zero.
+    absurd (omega (arith, below_limit c.args.limit (length c.make_room.new.replies.items) (λ m at. omega (arith, ap length c.make_room.ensures.items, c.loop.invariant.5 m at)) (c.make_room.ensures.fewer (search rules)) 0 zero))
+
+pub returns-in-Some-make_room-clause-ended : goal.returns-in-Some-make_room-clause-ended
+returns-in-Some-make_room-clause-ended g c = λ stop. absurd (full_not_ended c.in-Some-make_room.stop c.in-Some-make_room.ensures.stop stop)
+
+pub returns-in-Some-make_room-clause-has_run : goal.returns-in-Some-make_room-clause-has_run
+returns-in-Some-make_room-clause-has_run g c = full_not_idle c.in-Some-make_room.stop c.in-Some-make_room.ensures.stop
+
+pub returns-in-Some-make_room-clause-enough : goal.returns-in-Some-make_room-clause-enough
+returns-in-Some-make_room-clause-enough g c = λ stop. c.in-Some-make_room.ensures.enough (ap Some stop)
+
+pub returns-in-Some-make_room-clause-fewer : goal.returns-in-Some-make_room-clause-fewer
+returns-in-Some-make_room-clause-fewer g c = λ most is other.
+    below_limit c.args.limit (length c.make_room.new.replies.items) (λ m at. omega (arith, ap length c.make_room.ensures.items, c.loop.invariant.5 m at)) (c.in-Some-make_room.ensures.fewer (λ same. other (some_is c.in-Some-make_room.stop same))) most is
+
+pub returns-in-Some-make_room-clause-at_once : goal.returns-in-Some-make_room-clause-at_once
+returns-in-Some-make_room-clause-at_once g c = c.loop.invariant.6
+
+pub invariant_of-result : goal.invariant_of-result
+invariant_of-result g c =
+    let inv = c.loop.invariant in
+    let reserved = c.make_room.ensures.items in
+    record {
+      answers = inv.2 ∙ ap (map answered) (sym reserved);
+      regions = inv.3 ∙ ap (map region_of) (sym reserved);
+      no_room = λ stop. c.in-Some-make_room.ensures.no_room (ap Some stop);
+      not_run = λ stop. absurd (full_not_idle c.in-Some-make_room.stop c.in-Some-make_room.ensures.stop stop);
+    }
 
 pub returns-in-Ended-clause-of_shop : goal.returns-in-Ended-clause-of_shop
 returns-in-Ended-clause-of_shop g c =

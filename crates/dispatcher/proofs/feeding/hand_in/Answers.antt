@@ -7,7 +7,7 @@ use Rattle.job_queue.specs.declared.record.LaneRecord.{LaneRecord}
 use Rattle.job_queue.specs.Line.{IsFor}
 use Rattle.job_queue.proofs.FeedLemmas.{refused_number}
 use Rattle.dispatcher.specs.Feed.{full_since}
-use Rattle.dispatcher.proofs.EntryLemmas.{SoFar, one_accepted, one_full, full_same, full_more, stop_at, at_refusal, goes_on, is_last}
+use Rattle.dispatcher.proofs.EntryLemmas.{SoFar, one_accepted, one_full, full_same, full_more, stop_at, at_refusal, not_done_at, closed_at, goes_on, is_last}
 use Rattle.dispatcher.proofs.feeding.hand_in.Goals.{in-Full+then-is_reached, in-Closed, in-LaneSpent}
 use Rattle.dispatcher.proofs.feeding.hand_in.Goals as goal
 
@@ -70,6 +70,25 @@ returns-in-loop-clause-entries g c =
     ] in
     at_refusal c.args.jobs.items (c.in-Err.job ∷ rest) before now (line.lane_record c.submit.new.lane) c.in-Err.refused c.match-refused.stop
     (subst (λ (js : List JobData). SoFar c.args.jobs.items js before now) (sym items) c.loop.invariant.2) c.in-Err.ensures.refused is
+
+pub returns-in-loop-clause-done : goal.returns-in-loop-clause-done
+returns-in-loop-clause-done g c = λ done.
+    let is : c.match-refused.stop ≡ stop_at c.in-Err.refused = elim c.match-refused.branch [
+      | in-Full+then-is_reached w ↦ w.stop-is ∙ ap stop_at (sym w.in-Full.is)
+      | in-Closed w ↦ w.stop-is ∙ ap stop_at (sym w.in-Closed.is)
+      | in-LaneSpent w ↦ w.stop-is ∙ ap stop_at (sym w.in-LaneSpent.is)
+    ] in
+    absurd (not_done_at c.in-Err.refused c.match-refused.stop is done)
+
+pub returns-in-loop-clause-closed : goal.returns-in-loop-clause-closed
+returns-in-loop-clause-closed g c = λ seen closed.
+    let line = g.L.JobLine in
+    let is : c.match-refused.stop ≡ stop_at c.in-Err.refused = elim c.match-refused.branch [
+      | in-Full+then-is_reached w ↦ w.stop-is ∙ ap stop_at (sym w.in-Full.is)
+      | in-Closed w ↦ w.stop-is ∙ ap stop_at (sym w.in-Closed.is)
+      | in-LaneSpent w ↦ w.stop-is ∙ ap stop_at (sym w.in-LaneSpent.is)
+    ] in
+    closed_at (line.lane_record c.loop.lane) (line.lane_record c.submit.new.lane) c.in-Err.refused c.match-refused.stop seen c.in-Err.ensures.refused is closed
 
 pub returns-in-loop-clause-turns : goal.returns-in-loop-clause-turns
 returns-in-loop-clause-turns g c = λ turns.
