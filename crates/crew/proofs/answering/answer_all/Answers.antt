@@ -1,5 +1,4 @@
-use Rattle.std.proofs.Common.{length, sym, ◌∙◌}
-use Rattle.std.proofs.lemmas.Bool.{true≢false}
+use Rattle.std.proofs.Common.{length, ◌∙◌}
 use Rattle.dispatcher.proofs.OpenLemmas.{map_twice}
 use Rattle.crew.proofs.DoneLemmas.{counts_all, answers_jobs}
 use Rattle.crew.proofs.answering.answer_all.Goals as goal
@@ -11,12 +10,6 @@ pub returns-in-Ok-clause-accepted : goal.returns-in-Ok-clause-accepted
 returns-in-Ok-clause-accepted g c =
     counts_all g.F.Floor.machine_words c.args.n _ c.in-Ok.end c.in-Ok.ensures.run (c.is_done.ensures.0 c.if-is_done.true).lanes
     ∙ map_twice (λ js. js.items) length c.args.jobs.items
-
-pub returns-in-Ok-clause-done : goal.returns-in-Ok-clause-done
-returns-in-Ok-clause-done g c = c.is_done.ensures.0 c.if-is_done.true
-
-pub returns-in-Ok-2-clause-not_done : goal.returns-in-Ok-2-clause-not_done
-returns-in-Ok-2-clause-not_done g c = λ done. absurd (true≢false (sym (c.is_done.ensures.1 done) ∙ c.if-is_done.false))
 
 pub returns-in-Err-clause-refused : goal.returns-in-Err-clause-refused
 returns-in-Err-clause-refused g c = (c.in-Err.ensures.refused, c.in-Err.ensures.memory_last, c.in-Err.ensures.gives_back)
