@@ -6,16 +6,18 @@ mod lists;
 mod words;
 
 use crate::outcome::{Measured, Stopped, nanos_since};
-use crew::run;
+use crew::{RunEnd, run};
 use cube_shape::MAX_LANES;
-use dispatcher::{Finished, Plain};
+use dispatcher::{Finished, Plain, ShopRefused};
 use floors::Floor;
 use job_queue::JobLine;
+use job_types::Job;
 use lists::jobs_of_all;
 use locked_floor::LockedFloor;
 use locked_line::LockedLine;
 use ruled_line::RuledLine;
 use std::alloc::Global;
+use std::collections::VecDeque;
 use std::rt::Clock;
 use std::sync::Wait;
 use std::thread::Threads;
@@ -30,6 +32,18 @@ fn reply_count<M>(finished: &Finished<M>) -> u64 {
         count = count.wrapping_add(replies.len() as u64);
     }
     count
+}
+
+// What was measured of a run that took so many nanoseconds, if there was memory for it and a clock.
+fn measured_of<M: Drop>(
+    alloc: Global,
+    ran: Result<RunEnd<M>, (ShopRefused, Vec<VecDeque<Job>>)>,
+    nanos: Option<u128>,
+) -> Option<Measured> {
+    let Ok(end) = ran else {
+        return None;
+    };
+    Some(Measured::timed(alloc, reply_count(&end.finished), nanos?))
 }
 
 // Runs a new shop over this line and this floor: how many jobs have a reply, and the nanoseconds from
@@ -60,11 +74,7 @@ where
         &Plain,
         lists,
     );
-    let nanos = nanos_since(rt, start);
-    let Ok(end) = ran else {
-        return None;
-    };
-    Some(Measured::timed(alloc, reply_count(&end.finished), nanos?))
+    measured_of(alloc, ran, nanos_since(rt, start))
 }
 
 // Runs the shop that is asked for.

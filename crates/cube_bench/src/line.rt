@@ -278,6 +278,25 @@ where
     Some((taken_of_all(&rest), nanos?))
 }
 
+// What was measured of a run that took so many jobs, with the times of its calls in order.
+fn measured_of<R: Wait>(
+    rt: &R,
+    alloc: Global,
+    ran: Option<(u64, u128)>,
+    jobs: &[Mutex<Feeding>],
+    taken: &[Mutex<Taking>],
+) -> Option<Measured> {
+    let (count, nanos) = ran?;
+    let submits = times_of_all(rt, alloc, jobs)?;
+    let takes = times_of_all(rt, alloc, taken)?;
+    Some(Measured {
+        count,
+        nanos: Some(nanos),
+        submits,
+        takes,
+    })
+}
+
 // Runs the threads on a new line: the number of jobs that were taken, the nanoseconds that it took, and
 // those of each call in order, where the calls were timed.
 fn measure_line<R: Threads + Wait + Sync + Clock, L: JobLine + Sync>(
@@ -301,15 +320,8 @@ where
     let count = share(invocation);
     let jobs = jobs_of_all(alloc, invocation)?;
     let taken = room_of_all(alloc, invocation, count)?;
-    let (count, nanos) = run_line::<R, L>(rt, alloc, invocation.sizes, &jobs, &taken, count)?;
-    let submits = times_of_all(rt, alloc, &jobs)?;
-    let takes = times_of_all(rt, alloc, &taken)?;
-    Some(Measured {
-        count,
-        nanos: Some(nanos),
-        submits,
-        takes,
-    })
+    let ran = run_line::<R, L>(rt, alloc, invocation.sizes, &jobs, &taken, count);
+    measured_of(rt, alloc, ran, &jobs, &taken)
 }
 
 /// Runs the line that the words ask for, and counts and times the jobs that were taken.

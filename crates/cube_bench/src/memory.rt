@@ -34,16 +34,18 @@ fn call_shop<R: Wait + Print>(
     }
 }
 
+// The number of jobs that the words of a shop ask for.
+fn jobs_asked(words: &[String]) -> Option<usize> {
+    words.get(2)?.parse::<usize>().ok()
+}
+
 // The calls of these words, if they ask for some: how many had memory.
 fn call_all<R: Wait + Print>(rt: &R, alloc: Global, words: &[String]) -> Option<io::Result<u64>> {
     match words.first()?.as_str() {
         "cube" => Some(cube::call_all(rt, alloc)),
         "items" => Some(items::call_all(rt, alloc)),
         "files" => Some(files::call_all(rt, alloc)),
-        "shop" => {
-            let jobs = words.get(2)?.parse::<usize>().ok()?;
-            call_shop(rt, alloc, words.get(1)?.as_str(), jobs)
-        }
+        "shop" => call_shop(rt, alloc, words.get(1)?.as_str(), jobs_asked(words)?),
         _ => None,
     }
 }

@@ -30,11 +30,22 @@ struct Numbers {
 
 // The numbers of these words.
 fn numbers_of(words: &[String]) -> Option<Numbers> {
+    let [_, lanes, passes, capacity, jobs, ..] = words else {
+        return None;
+    };
+    let counts = (lanes.parse::<u32>(), passes.parse::<u32>());
+    let (Ok(lanes), Ok(passes)) = counts else {
+        return None;
+    };
+    let sizes = (capacity.parse::<usize>(), jobs.parse::<usize>());
+    let (Ok(capacity), Ok(jobs)) = sizes else {
+        return None;
+    };
     Some(Numbers {
-        lanes: words.get(1)?.parse::<u32>().ok()?,
-        passes: words.get(2)?.parse::<u32>().ok()?,
-        capacity: words.get(3)?.parse::<usize>().ok()?,
-        jobs: words.get(4)?.parse::<usize>().ok()?,
+        lanes,
+        passes,
+        capacity,
+        jobs,
     })
 }
 

@@ -1,5 +1,9 @@
 //! A cube is opened, and becomes one machine with all its stations.
-use crate::memory::told::{tell_given, tell_refused};
+ghost use Rattle.std.specs.Prelude.{All};
+ghost use Rattle.cube_tree.specs.Ends.{HasAll};
+ghost use Rattle.cube_tree.specs.Handles.{cube_size, IsStationOf};
+
+use crate::memory::told::{counted, tell_given, tell_refused};
 use cube_tree::{Cube, CubeRefused, Solo, TreeStation};
 use std::alloc::Global;
 use std::io;
@@ -28,30 +32,36 @@ fn hold_and_close<R: Print>(rt: &R, solo: Solo) -> io::Result<()> {
     told
 }
 
-/// Opens a cube of three stations and makes one machine of it.
-pub fn call_all<R: Print>(rt: &R, alloc: Global) -> io::Result<u64> {
-    rt.println("begin")?;
-    let (cube, stations) = match Cube::open(alloc, DIM, 3) {
-        Ok(opened) => opened,
-        Err(CubeRefused::OutOfMemory) => {
-            tell_refused(rt, "Cube::open", &[])?;
-            return Ok(0);
-        }
-        Err(_) => return Ok(0),
-    };
-    let opened = tell_given(rt, "Cube::open", &numbers(&stations));
+// Makes one machine of a cube, of whose opening was told before: how many calls had memory.
+fn call_new<R: Print>(
+    rt: &R,
+    alloc: Global,
+    told: io::Result<()>,
+    cube: Cube,
+    stations: Vec<TreeStation>,
+) -> io::Result<u64>
+    requires cube { All (IsStationOf cube) stations.items }
+    requires all { HasAll (cube_size cube).stations stations.items }
+{
     match Solo::new(alloc, cube, stations) {
-        Ok(solo) => {
-            hold_and_close(rt, solo)?;
-            opened?;
-            Ok(2)
-        }
+        Ok(solo) => counted(hold_and_close(rt, solo).and(told), 2),
         Err((cube, stations, _)) => {
             let refused = tell_refused(rt, "Solo::new", &numbers(&stations));
             let _machine = cube.close_with(stations);
-            opened?;
-            refused?;
-            Ok(1)
+            counted(told.and(refused), 1)
         }
+    }
+}
+
+/// Opens a cube of three stations and makes one machine of it.
+pub fn call_all<R: Print>(rt: &R, alloc: Global) -> io::Result<u64> {
+    rt.println("begin")?;
+    match Cube::open(alloc, DIM, 3) {
+        Ok((cube, stations)) => {
+            let opened = tell_given(rt, "Cube::open", &numbers(&stations));
+            call_new(rt, alloc, opened, cube, stations)
+        }
+        Err(CubeRefused::OutOfMemory) => counted(tell_refused(rt, "Cube::open", &[]), 0),
+        Err(_) => Ok(0),
     }
 }

@@ -1,5 +1,5 @@
 //! The three files are read from memory.
-use crate::memory::told::{tell_given, tell_refused};
+use crate::memory::told::{counted, tell_given, tell_refused};
 use jobs_csv::{Counted, Fault, FaultKind, read_jobs, read_place, read_schedule};
 use std::alloc::Global;
 use std::io;
@@ -17,30 +17,35 @@ const COMMANDS: &[u8] = b"command,name,dim\n\
 const CALLS: &[u8] = b"station,call,arg\n\
     0,take,4\n0,run,-\n1,take,5\n1,step,3\n0,release,-\n0,run,-\n0,retire,-\n1,run,-\n2,retire,-\n";
 
+// Tells that a file was not read, where there was no memory for it; how many calls had memory.
+fn tell_fault<R: Print>(rt: &R, call: &str, fault: Fault) -> io::Result<u64> {
+    if fault.what == FaultKind::OutOfMemory {
+        counted(tell_refused(rt, call, &[fault.row]), 0)
+    } else {
+        Ok(0)
+    }
+}
+
 // Tells how many records a file has; how many calls had memory.
-fn tell_count<R: Print>(rt: &R, call: &str, read: Result<usize, Fault>) -> io::Result<u64> {
+fn tell_count<R: Print, T: Drop>(
+    rt: &R,
+    call: &str,
+    read: Result<Vec<T>, Fault>,
+) -> io::Result<u64> {
     match read {
-        Ok(count) => {
-            tell_given(rt, call, &[count as u64])?;
-            Ok(1)
-        }
-        Err(fault) => {
-            if fault.what == FaultKind::OutOfMemory {
-                tell_refused(rt, call, &[fault.row])?;
-            }
-            Ok(0)
-        }
+        Ok(list) => counted(tell_given(rt, call, &[list.len() as u64]), 1),
+        Err(fault) => tell_fault(rt, call, fault),
     }
 }
 
 /// Reads a file of jobs, one of commands and one of calls, of nine records each.
 pub fn call_all<R: Print>(rt: &R, alloc: Global) -> io::Result<u64> {
     rt.println("begin")?;
-    let jobs = read_jobs(alloc, MACHINE, &mut Counted::new(JOBS)).map(|jobs| jobs.len());
+    let jobs = read_jobs(alloc, MACHINE, &mut Counted::new(JOBS));
     let jobs = tell_count(rt, "read_jobs", jobs)?;
-    let commands = read_place(alloc, MACHINE, &mut Counted::new(COMMANDS)).map(|list| list.len());
+    let commands = read_place(alloc, MACHINE, &mut Counted::new(COMMANDS));
     let commands = tell_count(rt, "read_place", commands)?;
-    let calls = read_schedule(alloc, &mut Counted::new(CALLS)).map(|list| list.len());
+    let calls = read_schedule(alloc, &mut Counted::new(CALLS));
     let calls = tell_count(rt, "read_schedule", calls)?;
     Ok(jobs.wrapping_add(commands).wrapping_add(calls))
 }

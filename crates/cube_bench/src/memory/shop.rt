@@ -2,13 +2,16 @@
 ghost use Rattle.std.specs.Prelude.{◌≡◌};
 ghost use Rattle.std.specs.List.{All};
 ghost use Rattle.job_queue.specs.Line.{IsFor};
+ghost use Rattle.dispatcher.specs.Members.{IsWorkerOf, IsEndOf};
 
 use crate::jobs::jobs_of;
 use crate::memory::single::{Single, finish};
-use crate::memory::told::{tell_given, tell_refused};
+use crate::memory::told::{counted, tell_given, tell_refused};
 use cube_ledger::Ledger;
 use cube_shape::MAX_CAPACITY;
-use dispatcher::{FeedStop, Finished, Plain, ShopRefused, Stop, dispatch, feed};
+use dispatcher::{
+    FeedStop, Finished, Plain, Shop, ShopRefused, Stop, Worker, WorkerEnd, dispatch, feed,
+};
 use floors::Floor;
 use job_queue::JobLine;
 use job_types::{Job, Reply};
@@ -27,12 +30,12 @@ fn tell_feed<R: Print>(rt: &R, stop: FeedStop, left: usize) -> io::Result<()> {
     }
 }
 
-// Tells why a worker stopped, and how many replies it has.
-fn tell_dispatch<R: Print>(rt: &R, stop: Stop, replies: usize) -> io::Result<()> {
+// Tells why a worker stopped, and how many replies it has: how many calls had memory, up to this one.
+fn tell_dispatch<R: Print>(rt: &R, stop: Stop, replies: usize) -> io::Result<u64> {
     match stop {
-        Stop::Ended => tell_given(rt, "dispatch", &[replies as u64]),
-        Stop::OutOfMemory => tell_refused(rt, "dispatch", &[replies as u64]),
-        _ => tell_given(rt, "dispatch stopped", &[replies as u64]),
+        Stop::Ended => counted(tell_given(rt, "dispatch", &[replies as u64]), 3),
+        Stop::OutOfMemory => counted(tell_refused(rt, "dispatch", &[replies as u64]), 2),
+        _ => counted(tell_given(rt, "dispatch stopped", &[replies as u64]), 2),
     }
 }
 
@@ -58,25 +61,51 @@ fn tell_replies<R: Print, M>(rt: &R, finished: &Finished<M>) -> io::Result<()> {
 // The ledger of a finished shop: how many calls had memory.
 fn call_ledger<R: Print, M>(rt: &R, alloc: Global, finished: &Finished<M>) -> io::Result<u64> {
     match Ledger::of(alloc, finished) {
-        Ok(ledger) => {
-            tell_given(rt, "Ledger::of", &[ledger.total().jobs])?;
-            Ok(1)
-        }
-        Err(_) => {
-            tell_refused(rt, "Ledger::of", &[])?;
-            Ok(0)
-        }
+        Ok(ledger) => counted(tell_given(rt, "Ledger::of", &[ledger.total().jobs]), 1),
+        Err(_) => counted(tell_refused(rt, "Ledger::of", &[]), 0),
     }
 }
 
+// Feeds the jobs by the lane, and tells how many are left.
+fn call_feed<R: Wait + Print, L: JobLine, F: Floor>(
+    rt: &R,
+    shop: &Shop<L, F>,
+    lane: &mut L::Lane,
+    jobs: VecDeque<Job>,
+) -> io::Result<()>
+    requires lane { L.is_lane shop.now.line lane.old }
+    requires number { (L.lane_record lane.old).number ≡ 0 }
+    requires machine { shop.now.line.sizes.machine ≡ MACHINE }
+    requires jobs { All (IsFor MACHINE 0) jobs.items }
+    ensures { L.is_lane shop.now.line lane.new }
+{
+    let fed = feed(rt, shop, lane, jobs);
+    tell_feed(rt, fed.stop, fed.left.len())
+}
+
+// Lets the worker run to its end, and tells why it stopped: how many calls had memory, up to this one.
+fn call_dispatch<R: Wait + Print, L: JobLine, F: Floor>(
+    rt: &R,
+    alloc: Global,
+    shop: &Shop<L, F>,
+    worker: Worker<L, F>,
+) -> (io::Result<u64>, WorkerEnd<L, F>)
+    requires { IsWorkerOf shop.now worker }
+    ensures { IsEndOf shop.now result.1 }
+{
+    let end = dispatch(rt, alloc, shop, worker, &Plain);
+    let told = tell_dispatch(rt, end.stop(), end.replies().len());
+    (told, end)
+}
+
 // Feeds the jobs, closes the shop, lets the worker run to its end, and finishes the shop. Answers
-// whether the worker had memory, and whether all could be told.
+// how many calls had memory, if all could be told.
 fn run_out<R: Wait + Print, L: JobLine, F: Floor>(
     rt: &R,
     alloc: Global,
     single: Single<L, F>,
     jobs: VecDeque<Job>,
-) -> (io::Result<()>, bool, Finished<F::Machine>)
+) -> (io::Result<u64>, Finished<F::Machine>)
     requires machine { single.line.sizes.machine ≡ MACHINE }
     requires jobs { All (IsFor MACHINE 0) jobs.items }
 {
@@ -88,14 +117,33 @@ fn run_out<R: Wait + Print, L: JobLine, F: Floor>(
         ends,
         closer,
     } = single;
-    let fed = feed(rt, &shop, &mut lane, jobs);
-    let fed = tell_feed(rt, fed.stop, fed.left.len());
+    let fed = call_feed(rt, &shop, &mut lane, jobs);
     let note = shop.close(rt, closer);
-    let end = dispatch(rt, alloc, &shop, worker, &Plain);
-    let has_ended = end.stop() == Stop::Ended;
-    let told = tell_dispatch(rt, end.stop(), end.replies().len());
+    let (told, end) = call_dispatch(rt, alloc, &shop, worker);
     let finished = finish(rt, shop, (lane, lanes), (end, ends), note);
-    (fed.and(told), has_ended, finished)
+    (fed.and(told), finished)
+}
+
+// Tells that the shop was not opened: how many calls had memory.
+fn tell_unopened<R: Print>(rt: &R, why: ShopRefused) -> io::Result<u64> {
+    match why {
+        ShopRefused::OutOfMemory => counted(tell_refused(rt, "Shop::open", &[]), 1),
+        _ => Ok(1),
+    }
+}
+
+// Tells the replies and the ledger of a finished shop, if what came before could be told: how many calls had
+// memory.
+fn tell_finished<R: Print, M>(
+    rt: &R,
+    alloc: Global,
+    told: io::Result<u64>,
+    finished: &Finished<M>,
+) -> io::Result<u64> {
+    let before = told?;
+    tell_replies(rt, finished)?;
+    let ledger = call_ledger(rt, alloc, finished)?;
+    Ok(ledger.wrapping_add(before))
 }
 
 // Makes the calls on a shop that has room for all the jobs.
@@ -108,21 +156,14 @@ where
     F::Machine: Drop,
     requires jobs { All (IsFor MACHINE 0) jobs.items }
 {
-    let single = match Single::<L, F>::open(alloc, MACHINE, MAX_CAPACITY) {
-        Ok(single) => single,
-        Err(ShopRefused::OutOfMemory) => {
-            tell_refused(rt, "Shop::open", &[])?;
-            return Ok(1);
+    match Single::<L, F>::open(alloc, MACHINE, MAX_CAPACITY) {
+        Ok(single) => {
+            let opened = rt.println("Shop::open");
+            let (told, finished) = run_out(rt, alloc, single, jobs);
+            tell_finished(rt, alloc, opened.and(told), &finished)
         }
-        Err(_) => return Ok(1),
-    };
-    let opened = rt.println("Shop::open");
-    let (told, has_ended, finished) = run_out(rt, alloc, single, jobs);
-    opened?;
-    told?;
-    tell_replies(rt, &finished)?;
-    let ledger = call_ledger(rt, alloc, &finished)?;
-    Ok(ledger.wrapping_add(if has_ended { 3 } else { 2 }))
+        Err(why) => tell_unopened(rt, why),
+    }
 }
 
 /// Makes so many jobs, and a shop of this kind that answers them, one call after the other.
@@ -136,8 +177,7 @@ where
 {
     rt.println("begin")?;
     let Some(jobs) = jobs_of(alloc, MACHINE, 0, 2, count) else {
-        tell_refused(rt, "jobs", &[])?;
-        return Ok(0);
+        return counted(tell_refused(rt, "jobs", &[]), 0);
     };
     tell_given(rt, "jobs", &[jobs.len() as u64])?;
     call_open::<R, L, F>(rt, alloc, jobs)

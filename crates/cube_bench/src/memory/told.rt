@@ -13,6 +13,12 @@ pub fn tell_given<R: Print>(rt: &R, call: &str, given: &[u64]) -> io::Result<()>
     tell_numbers(rt, given)
 }
 
+/// So many calls had memory, if all could be told.
+pub fn counted(told: io::Result<()>, count: u64) -> io::Result<u64> {
+    told?;
+    Ok(count)
+}
+
 // The numbers, and the end of the line.
 fn tell_numbers<R: Print>(rt: &R, numbers: &[u64]) -> io::Result<()> {
     for number in numbers {
