@@ -35,15 +35,15 @@ fn reply_count<M>(finished: &Finished<M>) -> u64 {
 }
 
 // What was measured of a run that took so many nanoseconds, if there was memory for it and a clock.
-fn measured_of<M: Drop>(
+fn measured_of<M>(
     alloc: Global,
-    ran: Result<RunEnd<M>, (ShopRefused, Vec<VecDeque<Job>>)>,
+    ran: &Result<RunEnd<M>, (ShopRefused, Vec<VecDeque<Job>>)>,
     nanos: Option<u128>,
 ) -> Option<Measured> {
-    let Ok(end) = ran else {
+    let (Ok(end), Some(nanos)) = (ran, nanos) else {
         return None;
     };
-    Some(Measured::timed(alloc, reply_count(&end.finished), nanos?))
+    Some(Measured::timed(alloc, reply_count(&end.finished), nanos))
 }
 
 // Runs a new shop over this line and this floor: how many jobs have a reply, and the nanoseconds from
@@ -74,7 +74,8 @@ where
         &Plain,
         lists,
     );
-    measured_of(alloc, ran, nanos_since(rt, start))
+    let nanos = nanos_since(rt, start);
+    measured_of(alloc, &ran, nanos)
 }
 
 // Runs the shop that is asked for.

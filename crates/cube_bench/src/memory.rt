@@ -20,33 +20,53 @@ use std::io;
 use std::sync::Wait;
 use tree_floor::TreeFloor;
 
-// The calls on a shop of this kind, with so many jobs.
-fn call_shop<R: Wait + Print>(
-    rt: &R,
-    alloc: Global,
-    shop: &str,
-    jobs: usize,
-) -> Option<io::Result<u64>> {
-    match shop {
-        "free" => Some(shop::call_all::<R, RuledLine, TreeFloor>(rt, alloc, jobs)),
-        "locked" => Some(shop::call_all::<R, LockedLine, LockedFloor>(rt, alloc, jobs)),
+// The calls that can be made.
+#[derive(Clone, Copy)]
+enum Calls {
+    Cube,
+    Items,
+    Files,
+    // On the shop with no lock, with so many jobs.
+    Free(usize),
+    // On the shop under locks, with so many jobs.
+    Locked(usize),
+}
+
+// The calls on a shop that these words ask for, of which the first one is `shop`.
+fn calls_of_shop(words: &[String]) -> Option<Calls> {
+    let [_, shop, jobs, ..] = words else {
+        return None;
+    };
+    let Ok(jobs) = jobs.parse::<usize>() else {
+        return None;
+    };
+    match shop.as_str() {
+        "free" => Some(Calls::Free(jobs)),
+        "locked" => Some(Calls::Locked(jobs)),
         _ => None,
     }
 }
 
-// The number of jobs that the words of a shop ask for.
-fn jobs_asked(words: &[String]) -> Option<usize> {
-    words.get(2)?.parse::<usize>().ok()
+// The calls that these words ask for, if they ask for some.
+fn calls_of(words: &[String]) -> Option<Calls> {
+    match words.first()?.as_str() {
+        "cube" => Some(Calls::Cube),
+        "items" => Some(Calls::Items),
+        "files" => Some(Calls::Files),
+        "shop" => calls_of_shop(words),
+        _ => None,
+    }
 }
 
-// The calls of these words, if they ask for some: how many had memory.
-fn call_all<R: Wait + Print>(rt: &R, alloc: Global, words: &[String]) -> Option<io::Result<u64>> {
-    match words.first()?.as_str() {
-        "cube" => Some(cube::call_all(rt, alloc)),
-        "items" => Some(items::call_all(rt, alloc)),
-        "files" => Some(files::call_all(rt, alloc)),
-        "shop" => call_shop(rt, alloc, words.get(1)?.as_str(), jobs_asked(words)?),
-        _ => None,
+// Makes these calls: how many had memory.
+fn call_all<R: Wait + Print>(rt: &R, alloc: Global, calls: Calls) -> io::Result<u64> {
+    rt.println("begin")?;
+    match calls {
+        Calls::Cube => cube::call_all(rt, alloc),
+        Calls::Items => items::call_all(rt, alloc),
+        Calls::Files => files::call_all(rt, alloc),
+        Calls::Free(jobs) => shop::call_all::<R, RuledLine, TreeFloor>(rt, alloc, jobs),
+        Calls::Locked(jobs) => shop::call_all::<R, LockedLine, LockedFloor>(rt, alloc, jobs),
     }
 }
 
@@ -56,10 +76,10 @@ pub fn measure<R: Wait + Print>(
     alloc: Global,
     words: &[String],
 ) -> Result<Measured, Stopped> {
-    let Some(called) = call_all(rt, alloc, words) else {
+    let Some(calls) = calls_of(words) else {
         return Err(Stopped::BadWords);
     };
-    let Ok(count) = called else {
+    let Ok(count) = call_all(rt, alloc, calls) else {
         return Err(Stopped::Failed);
     };
     Ok(Measured::counted(alloc, count))

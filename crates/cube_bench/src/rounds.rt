@@ -95,12 +95,17 @@ struct Invocation {
 fn parse_words(words: &[String]) -> Option<Invocation>
     ensures { IfSome result (λ invocation. invocation.dim ≤ MAX_DIM) }
 {
-    if words.len() != 3 {
+    let [name, dim, times] = words else {
         return None;
-    }
-    let collective = collective_named(&words[0])?;
-    let dim = words[1].parse::<u32>().ok()?;
-    let times = words[2].parse::<u64>().ok()?;
+    };
+    let found = (
+        collective_named(name),
+        dim.parse::<u32>(),
+        times.parse::<u64>(),
+    );
+    let (Some(collective), Ok(dim), Ok(times)) = found else {
+        return None;
+    };
     if dim > MAX_DIM {
         return None;
     }

@@ -20,21 +20,22 @@ pub struct Invocation {
     pub times_calls: bool,
 }
 
-// The numbers of a run, as they stand in the words.
+// The line and the numbers of a run, as they stand in the words.
 struct Numbers {
+    is_ruled: bool,
     lanes: u32,
     passes: u32,
     capacity: usize,
     jobs: usize,
 }
 
-// The numbers of these words.
+// The line and the numbers of these words.
 fn numbers_of(words: &[String]) -> Option<Numbers> {
-    let [_, lanes, passes, capacity, jobs, ..] = words else {
+    let [line, lanes, passes, capacity, jobs, ..] = words else {
         return None;
     };
-    let counts = (lanes.parse::<u32>(), passes.parse::<u32>());
-    let (Ok(lanes), Ok(passes)) = counts else {
+    let counts = (is_ruled(line), lanes.parse::<u32>(), passes.parse::<u32>());
+    let (Some(is_ruled), Ok(lanes), Ok(passes)) = counts else {
         return None;
     };
     let sizes = (capacity.parse::<usize>(), jobs.parse::<usize>());
@@ -42,6 +43,7 @@ fn numbers_of(words: &[String]) -> Option<Numbers> {
         return None;
     };
     Some(Numbers {
+        is_ruled,
         lanes,
         passes,
         capacity,
@@ -59,7 +61,7 @@ fn is_ruled(name: &str) -> Option<bool> {
 }
 
 // The run of these numbers, if they are within the limits. The passes share the jobs evenly.
-fn run_of(is_ruled: bool, numbers: Numbers, times_calls: bool) -> Option<Invocation>
+fn run_of(numbers: Numbers, times_calls: bool) -> Option<Invocation>
     ensures lanes { IfSome result (λ it. it.sizes.lanes ≤ MAX_LANES) }
     ensures passes { IfSome result (λ it.
         (0 < it.sizes.passes) × (it.sizes.passes ≤ MAX_PASSES)) }
@@ -69,6 +71,7 @@ fn run_of(is_ruled: bool, numbers: Numbers, times_calls: bool) -> Option<Invocat
     ensures jobs { IfSome result (λ it. it.jobs ≤ MAX_JOBS) }
 {
     let Numbers {
+        is_ruled,
         lanes,
         passes,
         capacity,
@@ -107,9 +110,5 @@ pub fn parse_words(words: &[String]) -> Option<Invocation>
     if words.len() != 5 && words.len() != 6 {
         return None;
     }
-    run_of(
-        is_ruled(words.first()?)?,
-        numbers_of(words)?,
-        words.len() == 6,
-    )
+    run_of(numbers_of(words)?, words.len() == 6)
 }

@@ -175,7 +175,6 @@ pub fn call_all<R: Wait + Print, L: JobLine, F: Floor>(
 where
     F::Machine: Drop,
 {
-    rt.println("begin")?;
     let Some(jobs) = jobs_of(alloc, MACHINE, 0, 2, count) else {
         return counted(tell_refused(rt, "jobs", &[]), 0);
     };

@@ -56,20 +56,32 @@ fn on_threads(threads: &str, workload: Workload) -> Option<TreeRun>
     Some(TreeRun::Threads(threads, workload))
 }
 
+// What each station does, of these words.
+fn workload_of(sizes: &str, turns: &str, rest: &[String]) -> Option<Workload> {
+    let found = (
+        sizes_named(sizes),
+        turns.parse::<u64>(),
+        asks_for_half(rest),
+    );
+    let (Some(sizes), Ok(turns), Some(beside_half)) = found else {
+        return None;
+    };
+    Some(Workload {
+        sizes,
+        turns,
+        beside_half,
+    })
+}
+
 /// The run that the words ask for, if they are well formed.
 pub fn parse_words(words: &[String]) -> Option<TreeRun>
     ensures { IfSome result HasLanes }
 {
-    if words.len() < 3 {
+    let [sizes, threads, turns, rest @ ..] = words else {
         return None;
-    }
-    let (words, rest) = words.split_at(3);
-    let workload = Workload {
-        sizes: sizes_named(&words[0])?,
-        turns: words[2].parse::<u64>().ok()?,
-        beside_half: asks_for_half(rest)?,
     };
-    match words[1].as_str() {
+    let workload = workload_of(sizes, turns, rest)?;
+    match threads.as_str() {
         "solo" => Some(TreeRun::Solo(workload)),
         "bits" => Some(TreeRun::Bits(workload)),
         threads => on_threads(threads, workload),
