@@ -1,1 +1,2 @@
+mod PushLemmas
 mod TwoLemmas

@@ -1,15 +1,17 @@
 //! Two lanes race with the close of their gate: each makes one entry after it, and takes that back.
-ghost use Rattle.std.specs.Prelude.{◌≡◌, [], None, Some, IsSome, IsSomeAnd};
+ghost use Rattle.std.specs.Prelude.{◌≡◌, [], None, Some, IsSome, IsSomeAnd, MatchResult};
+ghost use Rattle.std.specs.List.{All};
 ghost use Rattle.line_gate.specs.Record.{IsSettled};
 
 use crate::tests::expect::expect_all;
 use crate::tests::gate::{Table, TestGate, end, go_through, opened, read};
 use cube_shape::MAX_ENTRIES;
 use line_gate::{GateCloser, GateLane, GateNote};
+use std::process::Abort;
 use std::sync::Wait;
 use std::sync::atomic::AtomicU64;
 use std::sync::atomic::Ordering::SeqCst;
-use std::thread::{Threads, join_mut, yield_now};
+use std::thread::{Threads, for_each_mut, yield_now};
 
 // What the lanes count: entries before the close, and those that came late and were taken back.
 #[derive(Drop)]
@@ -63,37 +65,6 @@ fn enter_until_late<R: Wait>(rt: &R, gate: &TestGate, lane: &mut GateLane, board
     unreachable!()
 }
 
-// Enters by both lanes at once.
-fn enter_by_both<R: Threads + Wait + Sync>(
-    rt: &R,
-    gate: &TestGate,
-    first: &mut GateLane,
-    second: &mut GateLane,
-    board: &Board,
-)
-    requires gates { (first.old.gate ≡ gate.now.table) × (second.old.gate ≡ gate.now.table) }
-    requires settled { IsSettled first.old.known × IsSettled second.old.known }
-    requires fresh { (first.old.known.entries ≡ []) × (second.old.known.entries ≡ []) }
-    ensures gates { (first.new.gate ≡ gate.now.table) × (second.new.gate ≡ gate.now.table) }
-    ensures settled { IsSettled first.new.known × IsSettled second.new.known }
-{
-    let mut one = ||
-        requires gate { first.now.gate ≡ gate.now.table }
-        requires settled { IsSettled first.now.known }
-        requires fresh { first.now.known.entries ≡ [] }
-        ensures gate { first.exit.now.gate ≡ gate.entry.now.table }
-        ensures settled { IsSettled first.exit.now.known }
-    { enter_until_late(rt, gate, first, board) };
-    let mut other = ||
-        requires gate { second.now.gate ≡ gate.now.table }
-        requires settled { IsSettled second.now.known }
-        requires fresh { second.now.known.entries ≡ [] }
-        ensures gate { second.exit.now.gate ≡ gate.entry.now.table }
-        ensures settled { IsSettled second.exit.now.known }
-    { enter_until_late(rt, gate, second, board) };
-    join_mut(rt, &mut one, &mut other);
-}
-
 // Closes the gate once fifty entries were made.
 fn close_late<R: Wait>(
     rt: &R,
@@ -117,45 +88,50 @@ fn close_late<R: Wait>(
     }
 }
 
-// Enters by both lanes, while one more thread closes the gate.
-fn race<'a, R: Threads + Wait + Sync>(
-    rt: &'a R,
-    gate: &'a TestGate,
-    first: &'a mut GateLane,
-    second: &'a mut GateLane,
-    closer: &'a mut Option<GateCloser>,
-    note: &'a mut Option<GateNote>,
-    board: &'a Board,
-)
-    requires gates { (first.old.gate ≡ gate.now.table) × (second.old.gate ≡ gate.now.table) }
-    requires settled { IsSettled first.old.known × IsSettled second.old.known }
-    requires fresh { (first.old.known.entries ≡ []) × (second.old.known.entries ≡ []) }
-    requires closer { IsSomeAnd closer.old (λ c. c.gate ≡ gate.now.table) }
-    requires none_yet { note.old ≡ None }
-    ensures gates { (first.new.gate ≡ gate.now.table) × (second.new.gate ≡ gate.now.table) }
-    ensures settled { IsSettled first.new.known × IsSettled second.new.known }
-    ensures closer { closer.new ≡ None }
-    ensures note { IsSomeAnd note.new (λ n. n.gate ≡ gate.now.table) }
+// One of those that race: a lane, or what closes the gate, with the note that comes of it.
+type Member = Result<GateLane, (Option<GateCloser>, Option<GateNote>)>;
+
+// What the thread of a member does: it enters, or it closes the gate.
+fn work<R: Wait>(rt: &R, gate: &TestGate, member: &mut Member, board: &Board)
+    requires { MatchResult member.old
+        (λ lane. (lane.gate ≡ gate.now.table) × IsSettled lane.known × (lane.known.entries ≡ []))
+        (λ shut. IsSomeAnd shut.0 (λ c. c.gate ≡ gate.now.table) × (shut.1 ≡ None)) }
+    ensures { MatchResult member.new
+        (λ lane. (lane.gate ≡ gate.now.table) × IsSettled lane.known)
+        (λ shut. (shut.0 ≡ None) × IsSomeAnd shut.1 (λ n. n.gate ≡ gate.now.table)) }
 {
-    let mut entering = ||
-        requires gates { (first.now.gate ≡ gate.now.table) × (second.now.gate ≡ gate.now.table) }
-        requires settled { IsSettled first.now.known × IsSettled second.now.known }
-        requires fresh { (first.now.known.entries ≡ []) × (second.now.known.entries ≡ []) }
-        ensures gates { (first.exit.now.gate ≡ gate.entry.now.table)
-            × (second.exit.now.gate ≡ gate.entry.now.table) }
-        ensures settled { IsSettled first.exit.now.known × IsSettled second.exit.now.known }
-    { enter_by_both(rt, gate, first, second, board) };
-    let mut closing = ||
-        requires closer { IsSomeAnd closer.now (λ c. c.gate ≡ gate.now.table) }
-        requires none_yet { note.now ≡ None }
-        ensures closer { closer.exit.now ≡ None }
-        ensures note { IsSomeAnd note.exit.now (λ n. n.gate ≡ gate.entry.now.table) }
-    { close_late(rt, gate, closer, note, board) };
-    join_mut(rt, &mut closing, &mut entering);
+    match member {
+        Ok(lane) => enter_until_late(rt, gate, lane, board),
+        Err((closer, note)) => close_late(rt, gate, closer, note, board),
+    }
+}
+
+// All at once, each on a thread of its own.
+fn run<R: Threads + Wait + Sync>(rt: &R, gate: &TestGate, members: &mut [Member], board: &Board)
+    requires { All (λ member. MatchResult member
+        (λ lane. (lane.gate ≡ gate.now.table) × IsSettled lane.known × (lane.known.entries ≡ []))
+        (λ shut. IsSomeAnd shut.0 (λ c. c.gate ≡ gate.now.table) × (shut.1 ≡ None))) members.old }
+    ensures { All (λ member. MatchResult member
+        (λ lane. (lane.gate ≡ gate.now.table) × IsSettled lane.known)
+        (λ shut. (shut.0 ≡ None) × IsSomeAnd shut.1 (λ n. n.gate ≡ gate.now.table))) members.new }
+{
+    for_each_mut(
+        rt,
+        members,
+        3,
+        &|_, member|
+            requires { MatchResult member.now
+                (λ lane. (lane.gate ≡ gate.now.table) × IsSettled lane.known × (lane.known.entries ≡ []))
+                (λ shut. IsSomeAnd shut.0 (λ c. c.gate ≡ gate.now.table) × (shut.1 ≡ None)) }
+            ensures { MatchResult member.exit.now
+                (λ lane. (lane.gate ≡ gate.entry.now.table) × IsSettled lane.known)
+                (λ shut. (shut.0 ≡ None) × IsSomeAnd shut.1 (λ n. n.gate ≡ gate.entry.now.table)) }
+        { work(rt, gate, member, board) },
+    );
 }
 
 // The note, once the closer is spent.
-fn note_of(closer: Option<GateCloser>, note: Option<GateNote>) -> GateNote
+fn spent(closer: Option<GateCloser>, note: Option<GateNote>) -> GateNote
     requires closer { closer ≡ None }
     requires note { IsSome note }
     ensures { note ≡ Some result }
@@ -168,12 +144,68 @@ fn note_of(closer: Option<GateCloser>, note: Option<GateNote>) -> GateNote
     }
 }
 
+// The lane that a member is.
+fn lane_of(rt: &impl Abort, gate: &TestGate, member: Member) -> GateLane
+    requires { MatchResult member
+        (λ lane. (lane.gate ≡ gate.now.table) × IsSettled lane.known)
+        (λ shut. (shut.0 ≡ None) × IsSomeAnd shut.1 (λ n. n.gate ≡ gate.now.table)) }
+    ensures gate { result.gate ≡ gate.now.table }
+    ensures settled { IsSettled result.known }
+{
+    let _gate = gate;
+    match member {
+        Ok(lane) => lane,
+        Err(_shut) => panic!(rt; "no lane"),
+    }
+}
+
+// The note that came of the member that closed the gate.
+fn note_of(rt: &impl Abort, gate: &TestGate, member: Member) -> GateNote
+    requires { MatchResult member
+        (λ lane. (lane.gate ≡ gate.now.table) × IsSettled lane.known)
+        (λ shut. (shut.0 ≡ None) × IsSomeAnd shut.1 (λ n. n.gate ≡ gate.now.table)) }
+    ensures { result.gate ≡ gate.now.table }
+{
+    let _gate = gate;
+    match member {
+        Ok(_lane) => panic!(rt; "no note"),
+        Err((closer, note)) => spent(closer, note),
+    }
+}
+
+// What is left of a gate once both lanes have entered, while one more thread closed it.
+fn race<R: Threads + Wait + Abort + Sync>(
+    rt: &R,
+    gate: &TestGate,
+    first: GateLane,
+    second: GateLane,
+    closer: GateCloser,
+    board: &Board,
+) -> (GateLane, GateLane, GateNote)
+    requires gates { (first.gate ≡ gate.now.table) × (second.gate ≡ gate.now.table) }
+    requires settled { IsSettled first.known × IsSettled second.known }
+    requires fresh { (first.known.entries ≡ []) × (second.known.entries ≡ []) }
+    requires closer { closer.gate ≡ gate.now.table }
+    ensures gates { (result.0.gate ≡ gate.now.table) × (result.1.gate ≡ gate.now.table) }
+    ensures settled { IsSettled result.0.known × IsSettled result.1.known }
+    ensures note { result.2.gate ≡ gate.now.table }
+{
+    let mut members = [Ok(first), Ok(second), Err((Some(closer), None))];
+    run(rt, gate, &mut members, board);
+    let [first, second, shut] = members;
+    (
+        lane_of(rt, gate, first),
+        lane_of(rt, gate, second),
+        note_of(rt, gate, shut),
+    )
+}
+
 #[test]
 fn each_lane_takes_one_late_entry_back(rt: HostRuntime) {
     let (gate, table) = opened(&rt, rt.alloc());
     let Table {
-        mut first,
-        mut second,
+        first,
+        second,
         mut pass,
         closer,
     } = table;
@@ -181,18 +213,7 @@ fn each_lane_takes_one_late_entry_back(rt: HostRuntime) {
         entered: AtomicU64::new(0),
         late: AtomicU64::new(0),
     };
-    let mut closer = Some(closer);
-    let mut note = None;
-    race(
-        &rt,
-        &gate,
-        &mut first,
-        &mut second,
-        &mut closer,
-        &mut note,
-        &board,
-    );
-    let note = note_of(closer, note);
+    let (first, second, note) = race(&rt, &gate, first, second, closer, &board);
     let entries = note.number();
     let (settled, counted) = read(&gate, &mut pass);
     end(gate, (first, second, pass), note);

@@ -1,4 +1,5 @@
-use Rattle.std.proofs.Common.{ap}
+use Rattle.std.proofs.Common.{ap, sym, length, ◌∙◌}
+use Rattle.std.proofs.lemmas.List.{length-map}
 use Rattle.test_kit.proofs.PairLemmas.{first_of_two, second_of_two}
 use Rattle.line_tests.proofs.tests.line.Hand.open.Goals as goal
 
@@ -19,3 +20,13 @@ invariant_of-hand g c =
       c.of-2.ensures.room.0,
       c.of-2.ensures.room.1,
     )
+
+pub of-requires : goal.of-requires
+of-requires g c =
+    let made = c.in_ok-line.ensures in
+    sym (length-map c.in_ok-line.field-0.lanes.items g.L.JobLine.lane_record) ∙ ap length made.fresh_lanes
+
+pub of-requires-2 : goal.of-requires-2
+of-requires-2 g c =
+    let made = c.in_ok-line.ensures in
+    sym (length-map c.in_ok-line.field-0.passes.items g.L.JobLine.pass_record) ∙ ap length made.fresh_passes
