@@ -254,11 +254,15 @@ fn expect_commands(rt: &(impl AllocGlobal + Abort), texts: &[&[u8]], wanted: &[C
     }
 }
 
+// The name that this text is.
+pub fn name_of(rt: &impl Abort, text: &[u8]) -> Name {
+    Name::new(text).expect(rt, "a name")
+}
+
 #[test]
 fn reads_commands(rt: HostRuntime) {
     expect_commands(&rt, &[b""], &[]);
-    let a = Name::new(b"a").expect(&rt, "a name");
-    let long = Name::new(b"abcdefghijklmno9").expect(&rt, "a name");
+    let (a, long) = (name_of(&rt, b"a"), name_of(&rt, b"abcdefghijklmno9"));
     expect_commands(
         &rt,
         &[

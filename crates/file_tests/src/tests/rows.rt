@@ -4,12 +4,12 @@ use crate::tests::commands::tells;
 use crate::tests::devices::{FailsAt, push, replies_text};
 use crate::tests::facts::{expect_all, expect_true};
 use crate::tests::jobs::{replies_to, reply_to};
-use crate::tests::readings::writes;
+use crate::tests::readings::{name_of, writes};
 use cube_core::{Event, Kind, Note, Refused};
 use job_types::{JobId, Op, Reply};
 use jobs_csv::{
-    Counted, Device, FaultKind, LineBuffer, Name, PlaceRow, ReplayRow, ReportRow, Row,
-    WriteStopped, write_rows,
+    Counted, Device, FaultKind, LineBuffer, PlaceRow, ReplayRow, ReportRow, Row, WriteStopped,
+    write_rows,
 };
 use std::io::Write;
 use std::process::Abort;
@@ -71,8 +71,7 @@ fn expect_text<T: Row>(rt: &(impl AllocGlobal + Abort), rows: &[T], wanted: &str
 
 #[test]
 fn writes_outcomes(rt: HostRuntime) {
-    let name = Name::new(b"a").expect(&rt, "a name");
-    let long = Name::new(b"abcdefghijklmno9").expect(&rt, "a name");
+    let (name, long) = (name_of(&rt, b"a"), name_of(&rt, b"abcdefghijklmno9"));
     expect_text(
         &rt,
         &[

@@ -152,8 +152,14 @@ fn expect_occupancy(
 
 #[test]
 fn occupancy_of_small_machines(rt: HostRuntime) {
-    let two_held = [0, 2, 6, 0, 519, 2, 0, 0, 0, 0, 7, 0, 0, 0, 0, 0];
-    expect_occupancy(&rt, 3, &two_held, &[5, 2, 1, 0], 3, Some(2));
+    expect_occupancy(
+        &rt,
+        3,
+        &[0, 2, 6, 0, 519, 2, 0, 0, 0, 0, 7, 0, 0, 0, 0, 0],
+        &[5, 2, 1, 0],
+        3,
+        Some(2),
+    );
     expect_occupancy(&rt, 0, &[0, 0], &[1], 0, Some(0));
     expect_occupancy(&rt, 1, &[0, 7, 0, 0], &[0, 0], 2, None);
     expect_occupancy(&rt, 1, &[1, 7, 7, 256], &[0, 0], 2, None);

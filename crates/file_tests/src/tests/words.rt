@@ -64,86 +64,103 @@ fn expect_lines(rt: &(impl AllocGlobal + Abort), rows: &[(&str, Invocation, &str
     }
 }
 
-// A run or a report with these options.
-fn a_shop(
-    is_report: bool,
-    n: u32,
-    dispatchers: u32,
-    capacity: usize,
-    is_quiet: bool,
-) -> Invocation {
-    let options = ShopOptions {
-        n,
-        dispatchers,
-        capacity,
-        is_quiet,
-    };
-    if is_report {
-        Invocation::Report(options)
-    } else {
-        Invocation::Run(options)
-    }
-}
-
-// Each row is a line with no file, whether it asks for a report and no run, and then its options: the
-// dimension of the machine, the dispatchers, the capacity, and whether it is quiet.
-fn expect_shops(rt: &(impl AllocGlobal + Abort), rows: &[(&str, bool, u32, u32, usize, bool)]) {
-    for (line, is_report, n, dispatchers, capacity, is_quiet) in rows {
-        let wanted = a_shop(*is_report, *n, *dispatchers, *capacity, *is_quiet);
-        expect_true(rt, asks_for(rt, line, wanted, "", ""));
-    }
-}
-
-// Rows of `expect_shops`.
-static SHOPS: [(&str, bool, u32, u32, usize, bool); 8] = [
-    ("cubejobs run --dim 0", false, 0, 2, 16, false),
-    ("cubejobs run --dim=12", false, 12, 2, 16, false),
+// Lines with no file.
+static LINES: [(&str, Invocation, &str, &str); 10] = [
+    (
+        "cubejobs run --dim 0",
+        Invocation::Run(ShopOptions {
+            n: 0,
+            dispatchers: 2,
+            capacity: 16,
+            is_quiet: false,
+        }),
+        "",
+        "",
+    ),
+    (
+        "cubejobs run --dim=12",
+        Invocation::Run(ShopOptions {
+            n: 12,
+            dispatchers: 2,
+            capacity: 16,
+            is_quiet: false,
+        }),
+        "",
+        "",
+    ),
     (
         "cubejobs run --dim 3 --dispatchers 1 --capacity=1",
-        false,
-        3,
-        1,
-        1,
-        false,
+        Invocation::Run(ShopOptions {
+            n: 3,
+            dispatchers: 1,
+            capacity: 1,
+            is_quiet: false,
+        }),
+        "",
+        "",
     ),
     (
         "cubejobs run --capacity 1024 --dispatchers 16 --dim 3",
-        false,
-        3,
-        16,
-        1024,
-        false,
+        Invocation::Run(ShopOptions {
+            n: 3,
+            dispatchers: 16,
+            capacity: 1024,
+            is_quiet: false,
+        }),
+        "",
+        "",
     ),
-    ("cubejobs report --quiet --dim 3", true, 3, 2, 16, true),
-    ("cubejobs report --dim 3", true, 3, 2, 16, false),
+    (
+        "cubejobs report --quiet --dim 3",
+        Invocation::Report(ShopOptions {
+            n: 3,
+            dispatchers: 2,
+            capacity: 16,
+            is_quiet: true,
+        }),
+        "",
+        "",
+    ),
+    (
+        "cubejobs report --dim 3",
+        Invocation::Report(ShopOptions {
+            n: 3,
+            dispatchers: 2,
+            capacity: 16,
+            is_quiet: false,
+        }),
+        "",
+        "",
+    ),
     (
         "cubejobs report --dim=12 --dispatchers=16 --capacity=1024",
-        true,
-        12,
-        16,
-        1024,
-        false,
+        Invocation::Report(ShopOptions {
+            n: 12,
+            dispatchers: 16,
+            capacity: 1024,
+            is_quiet: false,
+        }),
+        "",
+        "",
     ),
     (
         "cubejobs report --capacity 1 --dispatchers 3 --dim 0",
-        true,
-        0,
-        3,
-        1,
-        false,
+        Invocation::Report(ShopOptions {
+            n: 0,
+            dispatchers: 3,
+            capacity: 1,
+            is_quiet: false,
+        }),
+        "",
+        "",
     ),
-];
-
-// Lines of the other commands, with no file.
-static OTHERS: [(&str, Invocation, &str, &str); 2] = [
     ("cubejobs place --dim 3", PLACE, "", ""),
     ("cubejobs replay --dim 2 --stations 48", REPLAY, "", ""),
 ];
 
 #[test]
 fn reads_command_lines(rt: HostRuntime) {
-    expect_shops(&rt, &SHOPS);
-    expect_lines(&rt, &OTHERS);
+    expect_lines(&rt, &LINES);
 }
 
 // Lines with files.
