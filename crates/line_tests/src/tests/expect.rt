@@ -1,12 +1,27 @@
-//! What a test asks of all that it found, and of what it made.
+//! What a test asks of all that it found, of what it made, and of what it waits for.
 ghost use Rattle.std.specs.Prelude.{◌≡◌, Ok};
 
 use std::fmt::Debug;
 use std::process::Abort;
+use std::sync::Wait;
+use std::sync::atomic::AtomicU64;
+use std::sync::atomic::Ordering::SeqCst;
+use std::thread::yield_now;
 
 /// All of these have to hold.
 pub fn expect_all(rt: &impl Abort, facts: &[bool]) {
     assert!(rt; facts.iter().all(|it| *it));
+}
+
+/// Waits until the count is so high.
+pub fn await_count<R: Wait>(rt: &R, count: &AtomicU64, least: u64) {
+    for _ in rt.forever() {
+        if count.load(SeqCst) >= least {
+            return;
+        }
+        yield_now();
+    }
+    unreachable!()
 }
 
 /// What was made, for which there has to be memory.

@@ -3,7 +3,7 @@ ghost use Rattle.std.specs.Prelude.{◌≡◌, [], None, Some, IsSome, IsSomeAnd
 ghost use Rattle.std.specs.List.{All};
 ghost use Rattle.line_gate.specs.Record.{IsSettled};
 
-use crate::tests::expect::expect_all;
+use crate::tests::expect::{await_count, expect_all};
 use crate::tests::gate::{Table, TestGate, end, go_through, opened, read};
 use cube_shape::MAX_ENTRIES;
 use line_gate::{GateCloser, GateLane, GateNote};
@@ -11,7 +11,7 @@ use std::process::Abort;
 use std::sync::Wait;
 use std::sync::atomic::AtomicU64;
 use std::sync::atomic::Ordering::SeqCst;
-use std::thread::{Threads, for_each_mut, yield_now};
+use std::thread::{Threads, for_each_mut};
 
 // What the lanes count: entries before the close, and those that came late and were taken back.
 #[derive(Drop)]
@@ -21,17 +21,6 @@ struct Board {
 }
 
 impl Board {
-    // Waits until fifty entries were made.
-    fn await_entries<R: Wait>(&self, rt: &R) {
-        for _ in rt.forever() {
-            if self.entered.load(SeqCst) >= 50 {
-                return;
-            }
-            yield_now();
-        }
-        unreachable!()
-    }
-
     // Counts what came of an entry: whether it was late.
     fn count(&self, outcome: Result<u64, u64>) -> bool {
         match outcome {
@@ -78,7 +67,7 @@ fn close_late<R: Wait>(
     ensures closer { closer.new ≡ None }
     ensures note { IsSomeAnd note.new (λ n. n.gate ≡ gate.now.table) }
 {
-    board.await_entries(rt);
+    await_count(rt, &board.entered, 50);
     let Some(closer) = closer.take() else {
         unreachable!()
     };

@@ -365,8 +365,8 @@ where
 {
     let each = Plan::Same(JOBS as u32);
     let jobs = (
-        jobs(alloc, 2, 0, each).expect(rt, "no memory"),
-        jobs(alloc, 2, 1, each).expect(rt, "no memory"),
+        made(rt, jobs(alloc, 2, 0, each)),
+        made(rt, jobs(alloc, 2, 1, each)),
     );
     let sizes = Sizes {
         machine: 2,
@@ -374,7 +374,7 @@ where
         passes: 2,
         capacity: 3,
     };
-    let opened = L::open(alloc, sizes).expect(rt, "no memory");
+    let opened = made(rt, L::open(alloc, sizes));
     run(rt, alloc, opened, jobs)
 }
 

@@ -2,7 +2,7 @@
 ghost use Rattle.std.specs.Prelude.{◌≡◌, ◌<◌, ◌≤◌, ◌++◌, ◌∷◌, [], MatchResult};
 ghost use Rattle.std.specs.List.{All};
 
-use crate::tests::expect::{expect_all, made};
+use crate::tests::expect::{await_count, expect_all, made};
 use crate::tests::line::{self, JOBS, are_new_and_rise};
 use crate::tests::over::Over;
 use cube_shape::{MAX_CAPACITY, MAX_LANES, MAX_PASSES};
@@ -52,21 +52,10 @@ impl Found {
         }
     }
 
-    // Waits until the line is to be closed.
-    fn await_accepted<R: Wait>(&self, rt: &R) {
-        for _ in rt.forever() {
-            if self.accepted.load(SeqCst) >= self.closes_after {
-                return;
-            }
-            yield_now();
-        }
-        unreachable!()
-    }
-
     // Waits until the line is closed, where each lane keeps its last job and this is the last one.
     fn await_turn<R: Wait>(&self, rt: &R, is_last: bool) {
         if self.keeps_last && is_last {
-            self.await_close(rt);
+            await_count(rt, &self.is_closed, 1);
         }
     }
 
@@ -89,16 +78,6 @@ impl Found {
                 None
             }
         }
-    }
-
-    fn await_close<R: Wait>(&self, rt: &R) {
-        for _ in rt.forever() {
-            if self.is_closed.load(SeqCst) == 1 {
-                return;
-            }
-            yield_now();
-        }
-        unreachable!()
     }
 }
 
@@ -202,7 +181,7 @@ fn shut_late<R: Wait, J: Naming, L: JobLine>(
 )
     requires { L.id line.now ≡ J.line }
 {
-    found.await_accepted(rt);
+    await_count(rt, &found.accepted, found.closes_after);
     door.lock(rt).close(rt, line);
     found.is_closed.store(1, SeqCst);
 }
