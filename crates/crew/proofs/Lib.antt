@@ -4,3 +4,4 @@ pub mod SlotLemmas
 pub mod AnswerLemmas
 pub mod RunLemmas
 pub mod DoneLemmas
+pub mod BatchLemmas

@@ -1,7 +1,9 @@
 -- What a feeder and a worker keep.
-use Rattle.std.proofs.Common.{◌≡◌, ◌≢◌, ℕ, ◌≤◌, length, ◌++◌, ◌∷◌, [], List, Option, Some, None, rules, refl, ap, sym, subst, ◌∙◌, append_assoc}
+use Rattle.std.proofs.Common.{◌≡◌, ◌≢◌, ℕ, false, ◌≤◌, length, ◌++◌, ◌∷◌, [], List, Option, Some, None, rules, refl, ap, sym, subst, ◌∙◌, append_assoc}
 use Rattle.std.specs.Option.{MatchOption}
+use Rattle.std.proofs.lemmas.Bool.{true≢false}
 use Rattle.std.proofs.lemmas.List.{append-nil}
+use Rattle.std.proofs.lemmas.Option.{none-some, same_Some}
 use Rattle.job_types.specs.Job.{JobData}
 use Rattle.cube_shape.specs.declared.limits.TheConstants.{MAX_ENTRIES}
 use Rattle.job_queue.specs.Record.{accepted_jobs}
@@ -16,13 +18,19 @@ use Rattle.dispatcher.specs.declared.feeding.FeedStop.TheVariants.{Closed, LaneS
 use Rattle.dispatcher.specs.Stop.{given_back}
 use Rattle.crew.specs.declared.member.Progress.{Progress}
 use Rattle.crew.specs.declared.member.Progress.TheVariants.{NotRun, UnderWay, Stopped}
-use Rattle.crew.specs.InnerStop.{HasCome, StopsBy}
+use Rattle.crew.specs.InnerStop.{HasCome, StopsBy, IsTakenBack, is_under_way, stop_in}
 
 -- a feeder that has not stopped has no job back
 pub none_back : (lane : LaneRecord) (back : Option JobData) (left : List JobData) (progress : Progress) → HasCome lane back left progress → ((stop : FeedStop) → progress ≢ Stopped stop) → back ≡ None
 none_back lane back left NotRun has goes_on = has.1
 none_back lane back left UnderWay has goes_on = has
 none_back lane back left (Stopped stop) has goes_on = absurd (goes_on stop refl)
+
+-- one that is not under way stops by what it has come to
+pub stops_by : (lane : LaneRecord) (back : Option JobData) (left : List JobData) (progress : Progress) → HasCome lane back left progress → is_under_way progress ≡ false → StopsBy lane back left (stop_in progress)
+stops_by lane back left NotRun has ended = has
+stops_by lane back left UnderWay has ended = absurd (true≢false ended)
+stops_by lane back left (Stopped stop) has ended = has
 
 -- and so its jobs are those that are accepted and those that are left
 without : (js : List JobData) (back : Option JobData) (xs : List JobData) → back ≡ None → js ++ given_back back ++ xs ≡ js ++ xs
@@ -63,11 +71,22 @@ given_up old new why job before back left rest jobs gains none some items all nu
     ∙ (sym (without (accepted_jobs old) before left none)
     ∙ (all ∙ ap jobs (sym number))))))
 
--- and its feed stops for that
+-- it is the next one again
+pub is_again : (why : Refused) (job : JobData) (left again : List JobData) (back after : Option JobData) (stop : Option FeedStop) → IsTakenBack job left again back after why stop → stop ≡ None → (why ≡ refused.Full) × (again ≡ job ∷ left) × (after ≡ back)
+is_again (refused.Closed seen) job left again back after stop taken none = absurd (none-some _ (sym none ∙ taken.2))
+is_again refused.Full job left again back after stop taken none = (refl, taken.0, taken.1)
+is_again refused.LaneSpent job left again back after stop taken none = absurd (none-some _ (sym none ∙ taken.2))
+
+-- or its feed stops for that
 abbrev pub StopsAt : Refused → FeedStop → Type 0
 StopsAt (refused.Closed seen) stop = stop ≡ Closed seen
 StopsAt refused.Full stop = ⊥
 StopsAt refused.LaneSpent stop = stop ≡ LaneSpent
+
+pub is_back : (why : Refused) (job : JobData) (left again : List JobData) (back after : Option JobData) (found : Option FeedStop) (stop : FeedStop) → IsTakenBack job left again back after why found → found ≡ Some stop → StopsAt why stop × (again ≡ left) × (after ≡ Some job)
+is_back (refused.Closed seen) job left again back after found stop taken some = (same_Some stop _ (sym some ∙ taken.2), taken.0, taken.1)
+is_back refused.Full job left again back after found stop taken some = absurd (none-some stop (sym taken.2 ∙ some))
+is_back refused.LaneSpent job left again back after found stop taken some = (same_Some stop _ (sym some ∙ taken.2), taken.0, taken.1)
 
 pub stop_of : (old new : LaneRecord) (why : Refused) (job : JobData) (back : Option JobData) (rest : List JobData) (stop : FeedStop) → GainsRefusal old why new → (why ≡ refused.LaneSpent → MAX_ENTRIES ≤ length old.entries) → back ≡ Some job → StopsAt why stop
     → StopsBy new back rest (Some stop)

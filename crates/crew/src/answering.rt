@@ -1,5 +1,5 @@
 //! A whole batch of jobs, answered on threads.
-ghost use Rattle.std.specs.Prelude.{◌≡◌, ◌≢◌, ℕ, ◌^◌, ◌<◌, ◌↔◌, [], None, Some, true, not, ◌&&◌, IfOk, IfErr, IsTrue, ⊤, if◌then◌else◌, map, length, slice_index_or};
+ghost use Rattle.std.specs.Prelude.{◌≡◌, ◌≢◌, ℕ, ◌^◌, ◌<◌, ◌↔◌, [], None, Some, Ok, Err, true, not, ◌&&◌, IfOk, IfErr, IsTrue, ⊤, if◌then◌else◌, map, length, slice_index_or};
 ghost use Rattle.std.specs.List.{All, list_any};
 ghost use Rattle.job_queue.specs.Line.{IsFor};
 ghost use Rattle.dispatcher.specs.declared.feeding.FeedStop.TheVariants.{Done};
@@ -127,6 +127,25 @@ fn stop_reason<M>(end: &RunEnd<M>) -> StopReason
     }
 }
 
+// The batch that a run was: it is answered where all is done.
+fn batch_of<M>(
+    ran: Result<RunEnd<M>, (ShopRefused, Vec<VecDeque<Job>>)>,
+) -> Result<RunEnd<M>, Stopped<M>>
+    ensures done { IfOk result (λ end. (ran ≡ Ok end) × IsDone end) }
+    ensures stopped { IfErr result (λ stopped. MatchStopped stopped
+        (λ why back. ran ≡ Err (why, back))
+        (λ why end. (ran ≡ Ok end) × (why ≡ reason_of end) × (¬ IsDone end))) }
+{
+    match ran {
+        Ok(end) if is_done(&end) => Ok(end),
+        Ok(end) => Err(Stopped::Unfinished {
+            why: stop_reason(&end),
+            end,
+        }),
+        Err((why, jobs)) => Err(Stopped::Refused { why, jobs }),
+    }
+}
+
 /// Answers all jobs, the lists of the lanes from 0 on: opens a shop with a lane for each list, hands in
 /// all lists at once while all workers answer jobs on threads, and finishes the shop.
 ///
@@ -184,12 +203,6 @@ where
     ensures not_done { IfErr result (λ stopped. MatchStopped stopped (λ why back. ⊤)
         (λ why end. ¬ IsDone end)) }
 {
-    match run::<R, L, F, T>(rt, alloc, n, dispatchers, capacity, runner, jobs) {
-        Ok(end) if is_done(&end) => Ok(end),
-        Ok(end) => Err(Stopped::Unfinished {
-            why: stop_reason(&end),
-            end,
-        }),
-        Err((why, jobs)) => Err(Stopped::Refused { why, jobs }),
-    }
+    let ran = run::<R, L, F, T>(rt, alloc, n, dispatchers, capacity, runner, jobs);
+    batch_of(ran)
 }

@@ -7,6 +7,7 @@
 mod answering;
 mod gang;
 mod member;
+mod ready;
 mod running;
 mod slots;
 mod threads;

@@ -1,12 +1,13 @@
 // What a thread has: a lane with its jobs, a worker, or the right to close. The type says what is known
 // of it, so it may lie under a lock, and no thread that was not started takes it along.
-ghost use Rattle.std.specs.Prelude.{◌≡◌, ◌≢◌, ℕ, ◌++◌, [], List, None, Some, true, false, IsSome, MatchOption};
+ghost use Rattle.std.specs.Prelude.{◌≡◌, ◌≢◌, ℕ, ◌<◌, ◌↔◌, ◌++◌, [], List, None, Some, true, false, IsTrue, IsSome, MatchOption};
 ghost use Rattle.std.specs.List.{All};
+ghost use Rattle.std.specs.VecDeque.{deque_len, deque_capacity};
 ghost use Rattle.job_queue.specs.Record.{accepted_jobs};
 ghost use Rattle.job_queue.specs.Line.{IsFor};
 ghost use Rattle.dispatcher.specs.Members.{IsWorkerOf, IsEndOf, IsCloserOf, IsNoteOf, stop_of};
 ghost use Rattle.dispatcher.specs.Stop.{given_back};
-ghost use Rattle.crew.specs.InnerStop.{StopsBy};
+ghost use Rattle.crew.specs.InnerStop.{StopsBy, IsTakenBack, stop_in};
 
 use dispatcher::{
     CloseNote, Closer, FeedStop, Runner, Shop, Stop, Worker, WorkerEnd, dispatch, wait_for_room,
@@ -51,6 +52,18 @@ enum Progress {
     Stopped(FeedStop),
 }
 
+impl Progress {
+    // Why the feed has stopped, if it has.
+    fn stop(self) -> Option<FeedStop>
+        ensures { result ≡ stop_in self }
+    {
+        match self {
+            Progress::NotRun | Progress::UnderWay => None,
+            Progress::Stopped(stop) => Some(stop),
+        }
+    }
+}
+
 /// A lane, and the jobs that it has still to hand in.
 pub struct Feeder<J: Naming, L: JobLine> {
     lane: L::Lane,
@@ -92,6 +105,29 @@ pub struct Fed<L: JobLine> {
     pub stop: Option<FeedStop>,
 }
 
+// Takes a job back that was refused: it is the next one again where the line was full, and else its feed
+// stops, as is told.
+fn take_back(
+    left: &mut VecDeque<Job>,
+    back: &mut Option<Job>,
+    job: Job,
+    refused: Refused,
+) -> Option<FeedStop>
+    requires { deque_len left.old < deque_capacity left.old }
+    ensures { IsTakenBack job left.old.items left.new.items back.old back.new refused result }
+{
+    let stop = match refused {
+        Refused::Full => {
+            left.push_front_reserved(job);
+            return None;
+        }
+        Refused::Closed { seen } => FeedStop::Closed { seen },
+        Refused::LaneSpent => FeedStop::LaneSpent,
+    };
+    let _none = back.replace(job);
+    Some(stop)
+}
+
 impl<J: Naming, L: JobLine> Feeder<J, L> {
     pub fn new(lane: L::Lane, jobs: VecDeque<Job>) -> Feeder<J, L>
         requires lane { L.is_lane J.shop.line lane }
@@ -128,16 +164,10 @@ impl<J: Naming, L: JobLine> Feeder<J, L> {
             pause.reset();
             return true;
         };
-        let stop = match refused {
-            Refused::Full => {
-                self.left.push_front_reserved(job);
-                wait_for_room(rt, shop, &mut self.lane, pause);
-                return true;
-            }
-            Refused::Closed { seen } => FeedStop::Closed { seen },
-            Refused::LaneSpent => FeedStop::LaneSpent,
+        let Some(stop) = take_back(&mut self.left, &mut self.back, job, refused) else {
+            wait_for_room(rt, shop, &mut self.lane, pause);
+            return true;
         };
-        let _none = self.back.replace(job);
         self.progress = Progress::Stopped(stop);
         false
     }
@@ -159,6 +189,7 @@ impl<J: Naming, L: JobLine> Feeder<J, L> {
     }
 
     // What became of it. One that is under way hands in the rest before.
+    #[tactic(auto, using(crate::proofs::MemberLemmas::stops_by))]
     pub fn into_parts<R: Wait, F: Floor>(self, rt: &R, shop: &Shop<L, F>) -> Fed<L>
         requires { shop.now ≡ J.shop }
         ensures lane { L.is_lane J.shop.line result.lane }
@@ -176,16 +207,11 @@ impl<J: Naming, L: JobLine> Feeder<J, L> {
             progress,
             of: _,
         } = feeder;
-        let stop = match progress {
-            Progress::NotRun => None,
-            Progress::UnderWay => unreachable!(),
-            Progress::Stopped(stop) => Some(stop),
-        };
         Fed {
             lane,
             back,
             left,
-            stop,
+            stop: progress.stop(),
         }
     }
 }
@@ -212,6 +238,13 @@ impl<J: Naming, L: JobLine, F: Floor> Model for Post<J, L, F> {
     ghost invariant = { λ p. MatchOption p.worker
         (MatchOption p.end ⊥ (λ e. IsEndOf J.shop e × (stop_of e ≢ NotRun)))
         (λ w. IsWorkerOf J.shop w × (p.end ≡ None)) };
+}
+
+// Whether memory ran out in it.
+fn ran_out<L: JobLine, F: Floor>(end: &WorkerEnd<L, F>) -> bool
+    ensures { IsTrue result ↔ (stop_of end.now ≡ Stop.OutOfMemory) }
+{
+    end.stop() == Stop::OutOfMemory
 }
 
 impl<J: Naming, L: JobLine, F: Floor> Post<J, L, F> {
@@ -244,7 +277,7 @@ impl<J: Naming, L: JobLine, F: Floor> Post<J, L, F> {
             return false;
         };
         let end = dispatch(rt, alloc, shop, worker, runner);
-        let spent = end.stop() == Stop::OutOfMemory;
+        let spent = ran_out(&end);
         match self.end.replace(end) {
             None => {}
             Some(_end) => unreachable!(),

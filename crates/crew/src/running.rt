@@ -1,24 +1,30 @@
 //! A whole run of a shop on threads.
-ghost use Rattle.std.specs.Prelude.{◌≡◌, ◌≢◌, ℕ, ◌^◌, ◌<◌, ◌≤◌, [], None, Some, IfOk, IfErr, map, length, slice_index, slice_index_or};
+ghost use Rattle.std.specs.Prelude.{◌≡◌, ◌≢◌, ℕ, ◌^◌, ◌<◌, ◌≤◌, ◌++◌, [], List, None, Some, IfOk, IfErr, map, length, slice_index, slice_index_or};
 ghost use Rattle.std.specs.List.{All};
 ghost use Rattle.std.specs.Vec.{vec_capacity};
-ghost use Rattle.job_queue.specs.Record.{fresh_lanes};
+ghost use Rattle.job_types.specs.Job.{JobData};
+ghost use Rattle.job_queue.specs.Record.{accepted_jobs};
 ghost use Rattle.job_queue.specs.Line.{IsFor};
 ghost use Rattle.dispatcher.specs.Opening.{refusal_of};
-ghost use Rattle.dispatcher.specs.Members.{IsWorkerOf, IsCloserOf, stop_of};
+ghost use Rattle.dispatcher.specs.Members.{IsWorkerOf, IsEndOf, IsCloserOf, IsNoteOf, stop_of};
+ghost use Rattle.dispatcher.specs.Stop.{given_back};
+ghost use Rattle.crew.specs.InnerStop.{StopsBy};
 ghost use Rattle.crew.specs.InnerEnd.{unfed_of, counted_end};
 ghost use Rattle.crew.specs.Run.{IsRun};
 ghost use Rattle.crew.specs.Members.{RanIn};
 
 use crate::gang::Gang;
 use crate::member::{Door, Fed, Naming};
+use crate::ready::{EndRoom, MemberRoom, Ready, make_ready};
 use crate::slots::{man_feeders, man_posts, relieve_feeders, relieve_posts};
 use crate::threads::run_threads;
-use dispatcher::{FeedStop, Finished, Opened, Runner, Shop, ShopRefused, Stop, WorkerEnd, refusal};
+use dispatcher::{
+    CloseNote, FeedStop, Finished, Opened, Runner, Shop, ShopRefused, Stop, WorkerEnd,
+};
 use floors::Floor;
 use job_queue::JobLine;
 use job_types::Job;
-use std::alloc::{AllocError, Global};
+use std::alloc::Global;
 use std::collections::VecDeque;
 use std::marker::Brand;
 use std::sync::{Mutex, Wait};
@@ -56,7 +62,7 @@ pub struct RunEnd<M> {
 
 // What became of a lane, before its accepted jobs are counted.
 #[derive(Drop)]
-struct Unfed {
+pub struct Unfed {
     lane: u32,
     entries: u64,
     back: Option<Job>,
@@ -64,58 +70,12 @@ struct Unfed {
     stop: Option<FeedStop>,
 }
 
-// Room for the members of a run, when they come out of their slots.
-struct MemberRoom<L: JobLine, F: Floor> {
-    ends: Vec<WorkerEnd<L, F>>,
+// The members of a run, once they have stopped, and room for the lanes.
+struct Members<L: JobLine, F: Floor> {
     fed: Vec<Fed<L>>,
-    unfed: Vec<Unfed>,
-    lanes: Vec<LaneEnd>,
-    stops: Vec<Stop>,
-}
-
-impl<L: JobLine, F: Floor> MemberRoom<L, F> {
-    fn new(alloc: Global, workers: usize, lanes: usize) -> Result<Self, AllocError>
-        ensures ends { IfOk result (λ room.
-            (room.ends.items ≡ []) × (workers ≤ vec_capacity room.ends)) }
-        ensures stops { IfOk result (λ room.
-            (room.stops.items ≡ []) × (workers ≤ vec_capacity room.stops)) }
-        ensures fed { IfOk result (λ room.
-            (room.fed.items ≡ []) × (lanes ≤ vec_capacity room.fed)) }
-        ensures unfed { IfOk result (λ room.
-            (room.unfed.items ≡ []) × (lanes ≤ vec_capacity room.unfed)) }
-        ensures lanes { IfOk result (λ room.
-            (room.lanes.items ≡ []) × (lanes ≤ vec_capacity room.lanes)) }
-    {
-        let unfed = Vec::with_capacity(alloc, lanes)?;
-        let lane_ends = Vec::with_capacity(alloc, lanes)?;
-        let stops = Vec::with_capacity(alloc, workers)?;
-        let ends = Vec::with_capacity(alloc, workers)?;
-        let Ok(fed) = Vec::with_capacity(alloc, lanes) else {
-            ends.destroy_empty();
-            return Err(AllocError);
-        };
-        Ok(MemberRoom {
-            ends,
-            fed,
-            unfed,
-            lanes: lane_ends,
-            stops,
-        })
-    }
-
-    fn let_go(self)
-        requires { (self.ends.items ≡ []) × (self.fed.items ≡ []) }
-    {
-        let MemberRoom {
-            ends,
-            fed,
-            unfed: _,
-            lanes: _,
-            stops: _,
-        } = self;
-        ends.destroy_empty();
-        fed.destroy_empty();
-    }
+    ends: Vec<WorkerEnd<L, F>>,
+    note: CloseNote<L, F>,
+    lanes: Vec<L::Lane>,
 }
 
 // Why each worker has stopped.
@@ -210,6 +170,67 @@ fn processors<R: Threads>(rt: &R) -> usize {
     }
 }
 
+// Finishes a shop whose members have stopped, and tells what became of each.
+fn told<J: Naming, R: Wait, L: JobLine, F: Floor, T: Runner>(
+    rt: &R,
+    runner: &T,
+    shop: Shop<L, F>,
+    members: Members<L, F>,
+    room: EndRoom,
+) -> RunEnd<F::Machine>
+    requires shop { shop ≡ J.shop }
+    requires machine { J.shop.line.sizes.machine ≡ J.shop.floor.dim }
+    requires lanes { All (λ f. L.is_lane J.shop.line f.lane) members.fed.items }
+    requires all_lanes { length members.fed.items ≡ J.shop.line.sizes.lanes }
+    requires jobs { All (λ f.
+        accepted_jobs (L.lane_record f.lane) ++ given_back f.back ++ f.left.items
+        ≡ J.jobs (L.lane_record f.lane).number) members.fed.items }
+    requires stopped { All (λ f.
+        StopsBy (L.lane_record f.lane) f.back f.left.items f.stop) members.fed.items }
+    requires workers { All (IsEndOf J.shop) members.ends.items }
+    requires all_workers { length members.ends.items ≡ J.shop.line.sizes.passes }
+    requires note { IsNoteOf L.JobLine J.shop members.note }
+    requires lane_room { (members.lanes.items ≡ [])
+        × (J.shop.line.sizes.lanes ≤ vec_capacity members.lanes) }
+    requires unfed { (room.unfed.items ≡ [])
+        × (J.shop.line.sizes.lanes ≤ vec_capacity room.unfed) }
+    requires lane_ends { (room.lanes.items ≡ [])
+        × (J.shop.line.sizes.lanes ≤ vec_capacity room.lanes) }
+    requires stops { (room.stops.items ≡ [])
+        × (J.shop.line.sizes.passes ≤ vec_capacity room.stops) }
+    ensures run { (jobs : List (List JobData)) → length jobs ≡ J.shop.line.sizes.lanes →
+        ((k : ℕ) → slice_index_or jobs k [] ≡ J.jobs k) →
+        IsRun F.machine_words J.shop.floor.dim jobs result }
+    ensures ran_in { RanIn L.JobLine F.Floor J.shop.floor.dim J.shop.line.sizes.lanes
+        J.shop.line.sizes.passes J.shop.line.sizes.capacity result }
+    ensures workers { length result.finished.by_worker.items ≡ J.shop.line.sizes.passes }
+    ensures dim { F.machine_dim result.finished.machine ≡ J.shop.floor.dim }
+    ensures closed { F.is_closed J.shop.line.sizes.passes result.finished.machine }
+{
+    let Members {
+        fed,
+        ends,
+        note,
+        lanes,
+    } = members;
+    let EndRoom {
+        unfed,
+        lanes: lane_ends,
+        stops,
+    } = room;
+    let close_number = note.number();
+    let stops = stops_of(&ends, stops);
+    let (lanes, unfed) = part(fed, lanes, unfed);
+    let finished = shop.finish(rt, runner, lanes, ends, note);
+    let lanes = count_accepted(unfed, &finished.accepted, lane_ends);
+    RunEnd {
+        finished,
+        lanes,
+        close_number,
+        stops,
+    }
+}
+
 // The same as `run`, once the shop is open and the run has a name.
 fn run_named<
     J: Naming + Send + Sync,
@@ -217,14 +238,7 @@ fn run_named<
     L: JobLine + Sync,
     F: Floor + Sync,
     T: Runner + Sync,
->(
-    rt: &R,
-    alloc: Global,
-    runner: &T,
-    opened: Opened<L, F>,
-    jobs: Vec<VecDeque<Job>>,
-    room: MemberRoom<L, F>,
-) -> RunEnd<F::Machine>
+>(rt: &R, alloc: Global, runner: &T, ready: Ready<L, F>) -> RunEnd<F::Machine>
 where
     L::Lane: Send,
     L::Pass: Send,
@@ -232,34 +246,21 @@ where
     L::Closer: Send,
     L::Note: Send,
     F::Station: Send,
-    requires shop { opened.shop ≡ J.shop }
-    requires machine { J.shop.line.sizes.machine ≡ J.shop.floor.dim }
+    requires shop { ready.opened.shop ≡ J.shop }
     requires jobs { (k : ℕ) →
-        slice_index_or (map (λ js. js.items) jobs.items) k [] ≡ J.jobs k }
-    requires made_for { (k : ℕ) → k < length jobs.items →
-        All (IsFor J.shop.line.sizes.machine k) (J.jobs k) }
-    requires lanes { All (L.is_lane opened.shop.line) opened.lanes.items }
-    requires fresh_lanes { map L.lane_record opened.lanes.items ≡ fresh_lanes (length jobs.items) }
-    requires all_lanes { opened.shop.line.sizes.lanes ≡ length jobs.items }
-    requires workers { All (IsWorkerOf opened.shop) opened.workers.items }
-    requires all_workers { length opened.workers.items ≡ opened.shop.line.sizes.passes }
-    requires closer { IsCloserOf L.JobLine opened.shop opened.closer }
-    requires ends { (room.ends.items ≡ [])
-        × (length opened.workers.items ≤ vec_capacity room.ends) }
-    requires fed { (room.fed.items ≡ []) × (length opened.lanes.items ≤ vec_capacity room.fed) }
-    requires unfed { (room.unfed.items ≡ [])
-        × (length opened.lanes.items ≤ vec_capacity room.unfed) }
-    requires lane_ends { (room.lanes.items ≡ [])
-        × (length opened.lanes.items ≤ vec_capacity room.lanes) }
-    requires stops { (room.stops.items ≡ [])
-        × (length opened.workers.items ≤ vec_capacity room.stops) }
-    ensures run { IsRun F.machine_words J.shop.floor.dim (map (λ js. js.items) jobs.items) result }
+        slice_index_or (map (λ js. js.items) ready.jobs.items) k [] ≡ J.jobs k }
+    requires lanes { All (L.is_lane ready.opened.shop.line) ready.opened.lanes.items }
+    requires workers { All (IsWorkerOf ready.opened.shop) ready.opened.workers.items }
+    requires closer { IsCloserOf L.JobLine ready.opened.shop ready.opened.closer }
+    ensures run { IsRun F.machine_words J.shop.floor.dim
+        (map (λ js. js.items) ready.jobs.items) result }
     ensures ran_in { RanIn L.JobLine F.Floor J.shop.floor.dim J.shop.line.sizes.lanes
         J.shop.line.sizes.passes J.shop.line.sizes.capacity result }
     ensures workers { length result.finished.by_worker.items ≡ J.shop.line.sizes.passes }
     ensures dim { F.machine_dim result.finished.machine ≡ J.shop.floor.dim }
     ensures closed { F.is_closed J.shop.line.sizes.passes result.finished.machine }
 {
+    let Ready { opened, jobs, room } = ready;
     let Opened {
         shop,
         lanes,
@@ -269,9 +270,7 @@ where
     let MemberRoom {
         mut ends,
         mut fed,
-        unfed,
-        lanes: lane_ends,
-        stops,
+        told: room,
     } = room;
     let posts = man_posts(alloc, workers, &mut ends);
     let (feeders, lanes) = man_feeders(rt, alloc, &shop, lanes, jobs, &mut fed);
@@ -300,17 +299,13 @@ where
     relieve_posts(alloc, posts, &mut ends);
     let note = door.into_inner().into_note(rt, &shop);
     relieve_feeders(rt, &shop, feeders, &mut fed);
-    let close_number = note.number();
-    let stops = stops_of(&ends, stops);
-    let (lanes, unfed) = part(fed, lanes, unfed);
-    let finished = shop.finish(rt, runner, lanes, ends, note);
-    let lanes = count_accepted(unfed, &finished.accepted, lane_ends);
-    RunEnd {
-        finished,
+    let members = Members {
+        fed,
+        ends,
+        note,
         lanes,
-        close_number,
-        stops,
-    }
+    };
+    told::<J, R, L, F, T>(rt, runner, shop, members, room)
 }
 
 /// Opens a shop with a lane for each list of jobs, and hands in all lists at once while all workers
@@ -358,18 +353,6 @@ where
         refusal_of n (length jobs.items) dispatchers capacity ≡ None) }
     ensures gives_back { IfErr result (λ r. r.1.items ≡ jobs.items) }
 {
-    let lanes = jobs.len() as u32;
-    if let Some(refused) = refusal(n, lanes, dispatchers, capacity) {
-        return Err((refused, jobs));
-    }
-    let Ok(room) = MemberRoom::new(alloc, dispatchers as usize, jobs.len()) else {
-        return Err((ShopRefused::OutOfMemory, jobs));
-    };
-    match Shop::open(alloc, n, lanes, dispatchers, capacity) {
-        Ok(opened) => Ok(run_named::<Brand, R, L, F, T>(rt, alloc, runner, opened, jobs, room)),
-        Err(refused) => {
-            room.let_go();
-            Err((refused, jobs))
-        }
-    }
+    let ready = make_ready::<L, F>(alloc, n, dispatchers, capacity, jobs)?;
+    Ok(run_named::<Brand, R, L, F, T>(rt, alloc, runner, ready))
 }

@@ -102,17 +102,89 @@ pub fn relieve_posts<J: Naming, L: JobLine, F: Floor>(
     posts.destroy_empty();
 }
 
+// Lanes with their jobs that have no slot yet.
+struct Unmanned<J: Naming, L: JobLine> {
+    lanes: Vec<L::Lane>,
+    jobs: Vec<VecDeque<Job>>,
+    of: PhantomData<J>,
+}
+
+impl<J: Naming, L: JobLine> Model for Unmanned<J, L> {
+    ghost use Rattle.std.specs.Prelude.{◌≡◌, ℕ, ◌<◌, ◌≤◌, [], map, length, slice_index_or};
+    ghost use Rattle.std.specs.List.{All};
+    ghost use Rattle.std.specs.Vec.{vec_capacity};
+    ghost use Rattle.job_queue.specs.Record.{fresh_lanes};
+    ghost use Rattle.job_queue.specs.Line.{IsFor};
+
+    // How many they are.
+    ghost Value = { ℕ };
+
+    ghost view = { λ u. length u.lanes.items };
+
+    ghost invariant = { λ u. All (L.is_lane J.shop.line) u.lanes.items
+        × (map L.lane_record u.lanes.items ≡ fresh_lanes (length u.jobs.items))
+        × ((k : ℕ) → k < length u.jobs.items →
+        slice_index_or (map (λ js. js.items) u.jobs.items) k [] ≡ J.jobs k)
+        × ((k : ℕ) → k < length u.jobs.items → All (IsFor J.shop.line.sizes.machine k) (J.jobs k))
+        × (J.shop.line.sizes.lanes ≤ vec_capacity u.lanes) };
+}
+
+impl<J: Naming, L: JobLine> Unmanned<J, L> {
+    fn new(lanes: Vec<L::Lane>, jobs: Vec<VecDeque<Job>>) -> Unmanned<J, L>
+        requires lanes { All (L.is_lane J.shop.line) lanes.items }
+        requires fresh { map L.lane_record lanes.items ≡ fresh_lanes (length jobs.items) }
+        requires jobs { (k : ℕ) → k < length jobs.items →
+            slice_index_or (map (λ js. js.items) jobs.items) k [] ≡ J.jobs k }
+        requires made_for { (k : ℕ) → k < length jobs.items →
+            All (IsFor J.shop.line.sizes.machine k) (J.jobs k) }
+        requires room { J.shop.line.sizes.lanes ≤ vec_capacity lanes }
+        ensures { result ≡ length lanes.items }
+    {
+        Unmanned {
+            lanes,
+            jobs,
+            of: PhantomData,
+        }
+    }
+
+    // The last of them, with the last list.
+    fn next(&mut self) -> Option<Feeder<J, L>>
+        ensures fewer { MatchOption result ((self.old ≡ 0) × (self.new ≡ 0))
+            (λ feeder. self.old ≡ self.new + 1) }
+    {
+        let lane = self.lanes.pop()?;
+        let Some(list) = self.jobs.pop() else {
+            unreachable!()
+        };
+        Some(Feeder::new(lane, list))
+    }
+
+    // Room for as many, once all of them have a slot.
+    fn into_room(self) -> Vec<L::Lane>
+        requires { self ≡ 0 }
+        ensures { (result.items ≡ []) × (J.shop.line.sizes.lanes ≤ vec_capacity result) }
+    {
+        let Self {
+            lanes,
+            jobs: _,
+            of: _,
+        } = self;
+        lanes
+    }
+}
+
 // A slot for each lane with its jobs. One for which there is no memory hands in nothing.
 pub fn man_feeders<J: Naming, R: Wait, L: JobLine, F: Floor>(
     rt: &R,
     alloc: Global,
     shop: &Shop<L, F>,
-    mut lanes: Vec<L::Lane>,
-    mut jobs: Vec<VecDeque<Job>>,
+    lanes: Vec<L::Lane>,
+    jobs: Vec<VecDeque<Job>>,
     fed: &mut Vec<Fed<L>>,
 ) -> (Vec<Mutex<Feeder<J, L>>>, Vec<L::Lane>)
     requires shop { shop.now ≡ J.shop }
     requires lanes { All (L.is_lane J.shop.line) lanes.items }
+    requires all_lanes { J.shop.line.sizes.lanes ≡ length lanes.items }
     requires fresh { map L.lane_record lanes.items ≡ fresh_lanes (length jobs.items) }
     requires jobs { (k : ℕ) → k < length jobs.items →
         slice_index_or (map (λ js. js.items) jobs.items) k [] ≡ J.jobs k }
@@ -130,16 +202,14 @@ pub fn man_feeders<J: Naming, R: Wait, L: JobLine, F: Floor>(
     ensures room { length lanes.items ≤ vec_capacity fed.new }
     ensures lane_room { (result.1.items ≡ []) × (length lanes.items ≤ vec_capacity result.1) }
 {
+    let mut unmanned: Unmanned<J, L> = Unmanned::new(lanes, jobs);
     let mut feeders = Vec::new(alloc);
-    while let Some(lane) = lanes.pop() {
-        let Some(list) = jobs.pop() else {
-            unreachable!()
-        };
-        if let Err(failed) = feeders.push(Mutex::new(Feeder::new(lane, list))) {
+    while let Some(feeder) = unmanned.next() {
+        if let Err(failed) = feeders.push(Mutex::new(feeder)) {
             fed.push_reserved(failed.value.into_inner().into_parts(rt, shop));
         }
     }
-    (feeders, lanes)
+    (feeders, unmanned.into_room())
 }
 
 // The feeders, out of their slots.

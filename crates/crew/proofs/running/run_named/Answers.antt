@@ -1,114 +1,58 @@
-use Rattle.std.proofs.Common.{◌≡◌, ◌++◌, [], List, map, length, get_or, refl, sym, ap, subst, ◌∙◌, arith}
-use Rattle.std.specs.List.{All, AllZip}
+use Rattle.std.proofs.Common.{◌≡◌, ℕ, [], List, map, length, sym, ap, subst, ◌∙◌, arith}
+use Rattle.std.specs.List.{All}
 use Rattle.std.proofs.lemmas.List.{length-map}
-use Rattle.std.proofs.lemmas.List.Elements.{All-map, All-same, All-weaker}
-use Rattle.histories.specs.Sums.{times}
-use Rattle.job_types.specs.Reply.{ReplyData}
-use Rattle.job_queue.specs.declared.record.LaneRecord.{LaneRecord}
-use Rattle.job_queue.specs.Record.{accepted_jobs}
-use Rattle.dispatcher.specs.declared.stop.Stop.{Stop}
-use Rattle.dispatcher.specs.declared.stop.Stop.TheVariants.{NotRun}
+use Rattle.job_types.specs.Job.{JobData}
+use Rattle.job_queue.specs.Line.{IsFor}
 use Rattle.dispatcher.specs.Shop.{ShopId}
-use Rattle.dispatcher.specs.Members.{IsWorkerOf, IsEndOf, replies_of, stop_of}
-use Rattle.dispatcher.specs.Stop.{given_back}
-use Rattle.dispatcher.specs.Finished.{FinishedRun, outcome}
-use Rattle.dispatcher.proofs.WorkLemmas.{at_line, at_floor}
-use Rattle.dispatcher.proofs.OpenLemmas.{map_twice}
-use Rattle.crew.specs.declared.running.LaneEnd.{LaneEnd}
-use Rattle.crew.specs.InnerEnd.{unfed_of, counted_end}
-use Rattle.crew.proofs.RunLemmas.{lanes_count, all_stopped, parts_told, run_of}
+use Rattle.dispatcher.specs.Members.{IsWorkerOf}
+use Rattle.dispatcher.proofs.WorkLemmas.{at_line}
+use Rattle.crew.proofs.RunLemmas.{lanes_count}
 use Rattle.crew.proofs.running.run_named.Goals as goal
 
 pub man_posts-posts-requires-clause-workers : goal.man_posts-posts-requires-clause-workers
-man_posts-posts-requires-clause-workers g c = subst (λ (s : ShopId). All (IsWorkerOf s) c.args.opened.workers.items) c.requires.shop c.requires.workers
+man_posts-posts-requires-clause-workers g c = subst (λ (s : ShopId). All (IsWorkerOf s) c.args.ready.opened.workers.items) c.requires.shop c.requires.workers
 
 pub man_feeders-feeders-requires-clause-lanes : goal.man_feeders-feeders-requires-clause-lanes
-man_feeders-feeders-requires-clause-lanes g c = at_line (λ i. All (g.L.JobLine.is_lane i) c.args.opened.lanes.items) _ _ c.requires.shop c.requires.lanes
+man_feeders-feeders-requires-clause-lanes g c = at_line (λ i. All (g.L.JobLine.is_lane i) c.args.ready.opened.lanes.items) _ _ c.requires.shop c.requires.lanes
+
+pub man_feeders-feeders-requires-clause-all_lanes : goal.man_feeders-feeders-requires-clause-all_lanes
+man_feeders-feeders-requires-clause-all_lanes g c =
+    let ready = c.args.ready in
+    let given = sym (length-map ready.opened.lanes.items g.L.JobLine.lane_record) ∙ (ap length ready.fresh_lanes ∙ lanes_count (length ready.jobs.items)) in
+    at_line (λ i. i.sizes.lanes ≡ length ready.opened.lanes.items) _ _ c.requires.shop (ready.all_lanes ∙ sym given)
 
 pub man_feeders-feeders-requires-clause-jobs : goal.man_feeders-feeders-requires-clause-jobs
 man_feeders-feeders-requires-clause-jobs g c = λ k below. c.requires.jobs k
 
-pub finish-finished-requires-clause-lanes : goal.finish-finished-requires-clause-lanes
-finish-finished-requires-clause-lanes g c =
-    let P = g.L.JobLine.is_lane g.J.Naming.shop.line in
-    let lanes = c.part-lanes.result.0.items in
-    at_line (λ i. All (g.L.JobLine.is_lane i) lanes) _ _ (sym c.requires.shop)
-    (All-same P lanes _ c.part-lanes.ensures.lanes (All-map P (λ f. f.lane) c.relieve_feeders.new.fed.items c.relieve_feeders.ensures.lanes))
+pub man_feeders-feeders-requires-clause-made_for : goal.man_feeders-feeders-requires-clause-made_for
+man_feeders-feeders-requires-clause-made_for g c = λ k below.
+    at_line (λ i. All (IsFor i.sizes.machine k) (g.J.Naming.jobs k)) _ _ c.requires.shop
+    (subst (λ (js : List JobData). All (IsFor c.args.ready.opened.shop.line.sizes.machine k) js) (c.requires.jobs k) (c.args.ready.made_for k below))
 
-pub finish-finished-requires-clause-all_lanes : goal.finish-finished-requires-clause-all_lanes
-finish-finished-requires-clause-all_lanes g c =
-    let opened = c.args.opened.lanes.items in
-    let given = sym (length-map opened g.L.JobLine.lane_record) ∙ (ap length c.requires.fresh_lanes ∙ lanes_count (length c.args.jobs.items)) in
-    ap length c.part-lanes.ensures.lanes ∙ (length-map c.relieve_feeders.new.fed.items (λ f. f.lane) ∙ (c.relieve_feeders.ensures.count ∙ (c.man_feeders-feeders.ensures.count ∙ (given ∙ sym c.requires.all_lanes))))
+pub man_feeders-feeders-requires-clause-room : goal.man_feeders-feeders-requires-clause-room
+man_feeders-feeders-requires-clause-room g c =
+    let ready = c.args.ready in
+    let given = sym (length-map ready.opened.lanes.items g.L.JobLine.lane_record) ∙ (ap length ready.fresh_lanes ∙ lanes_count (length ready.jobs.items)) in
+    omega (arith, given, ready.all_lanes, ready.fed.1)
 
-pub finish-finished-requires-clause-workers : goal.finish-finished-requires-clause-workers
-finish-finished-requires-clause-workers g c = subst (λ (s : ShopId). All (IsEndOf s) c.relieve_posts.new.ends.items) (sym c.requires.shop) c.relieve_posts.ensures.ends
+pub told-requires-clause-all_lanes : goal.told-requires-clause-all_lanes
+told-requires-clause-all_lanes g c =
+    let ready = c.args.ready in
+    let given = sym (length-map ready.opened.lanes.items g.L.JobLine.lane_record) ∙ (ap length ready.fresh_lanes ∙ lanes_count (length ready.jobs.items)) in
+    at_line (λ i. length c.relieve_feeders.new.fed.items ≡ i.sizes.lanes) _ _ c.requires.shop
+    (c.relieve_feeders.ensures.count ∙ (c.man_feeders-feeders.ensures.count ∙ (given ∙ sym ready.all_lanes)))
 
-pub count_accepted-lanes-requires-clause-room : goal.count_accepted-lanes-requires-clause-room
-count_accepted-lanes-requires-clause-room g c =
-    let fed = c.relieve_feeders.new.fed.items in
-    omega (arith, ap length c.part-lanes.ensures.unfed, length-map fed (λ f. unfed_of (g.L.JobLine.lane_record f.lane) f.back f.left f.stop), c.relieve_feeders.ensures.count, c.man_feeders-feeders.ensures.count, c.requires.lane_ends.1)
+pub told-requires-clause-lane_room : goal.told-requires-clause-lane_room
+told-requires-clause-lane_room g c =
+    let ready = c.args.ready in
+    let given = sym (length-map ready.opened.lanes.items g.L.JobLine.lane_record) ∙ (ap length ready.fresh_lanes ∙ lanes_count (length ready.jobs.items)) in
+    let room = c.man_feeders-feeders.ensures.lane_room in
+    let own = ap (λ (s : ShopId). s.line.sizes.lanes) c.requires.shop in
+    (room.0, omega (arith, given, ready.all_lanes, own, room.1))
 
 pub returns-clause-run : goal.returns-clause-run
 returns-clause-run g c =
-    let line = g.L.JobLine in
-    let fed = c.relieve_feeders.new.fed.items in
-    let ends = c.relieve_posts.new.ends.items in
-    let jobs = map (λ js. js.items) c.args.jobs.items in
-    let lanes = c.part-lanes.result.0.items in
-    let unfed = c.part-lanes.result.1.items in
-    let counts = c.finish-finished.result.accepted.items in
-    let grants = map g.F.Floor.grants c.finish-finished.ensures.finished.0 in
-    let note = line.note_number c.into_note-note.result.line in
-    let o = outcome g.F.Floor.machine_words c.finish-finished.result in
-    let records : map line.lane_record lanes ≡ map (λ f. line.lane_record f.lane) fed = ap (map line.lane_record) c.part-lanes.ensures.lanes ∙ map_twice (λ f. f.lane) line.lane_record fed in
-    let finished = subst (λ (rs : List LaneRecord). FinishedRun g.J.Naming.shop.floor.dim rs grants note o) records
-    (at_floor (λ i. FinishedRun i.dim (map line.lane_record lanes) grants note o) _ _ c.requires.shop c.finish-finished.ensures.finished.3) in
-    let lane_ends = (rw c.deref-2.ensures.value at c.count_accepted-lanes.ensures) ∙ (ap (map (counted_end counts)) c.part-lanes.ensures.unfed ∙ map_twice (λ f. unfed_of (line.lane_record f.lane) f.back f.left f.stop) (counted_end counts) fed) in
-    let opened = c.args.opened.lanes.items in
-    let given = sym (length-map opened line.lane_record) ∙ (ap length c.requires.fresh_lanes ∙ lanes_count (length c.args.jobs.items)) in
-    let size : length jobs ≡ length c.args.jobs.items = length-map c.args.jobs.items (λ js. js.items) in
-    run_of (λ f. line.lane_record f.lane) (λ f. f.back) (λ f. f.left) (λ f. f.stop) g.F.Floor.machine_words g.J.Naming.shop.floor.dim jobs fed grants note _ finished lane_ends c.number-close_number.ensures
-    (All-weaker (λ f. accepted_jobs (line.lane_record f.lane) ++ given_back f.back ++ f.left.items ≡ g.J.Naming.jobs (line.lane_record f.lane).number) (λ f. accepted_jobs (line.lane_record f.lane) ++ given_back f.back ++ f.left.items ≡ get_or jobs (line.lane_record f.lane).number [])
-    (λ f own. own ∙ sym (c.requires.jobs (line.lane_record f.lane).number)) fed c.relieve_feeders.ensures.jobs)
-    c.relieve_feeders.ensures.stops
-    (λ k below. ap (times k) (ap (map (λ (l : LaneRecord). l.number)) (sym records) ∙ map_twice line.lane_record (λ (l : LaneRecord). l.number) lanes) ∙ c.finish-finished.ensures.lane_numbers k (omega (arith, below, size, c.requires.all_lanes)))
-    (c.relieve_feeders.ensures.count ∙ (c.man_feeders-feeders.ensures.count ∙ (given ∙ sym size)))
-    (c.finish-finished.ensures.lane_count ∙ (c.requires.all_lanes ∙ sym size))
-    (subst (λ (rs : List (List ReplyData)). AllZip (λ s r. s ≡ NotRun → r ≡ []) c.stops_of-stops.result.items rs) (sym c.finish-finished.ensures.by_worker)
-    (subst (λ (ss : List Stop). AllZip (λ s r. s ≡ NotRun → r ≡ []) ss (map replies_of ends)) (sym (rw c.deref.ensures.value at c.stops_of-stops.ensures)) (all_stopped stop_of replies_of (λ e. e.not_run) ends)))
-
-pub returns-clause-ran_in : goal.returns-clause-ran_in
-returns-clause-ran_in g c =
-    let line = g.L.JobLine in
-    let shop = g.J.Naming.shop in
-    let fed = c.relieve_feeders.new.fed.items in
-    let lanes = c.part-lanes.result.0.items in
-    let counts = c.finish-finished.result.accepted.items in
-    let stations = c.finish-finished.ensures.finished.0 in
-    let P = line.is_lane shop.line in
-    let lane_ends = (rw c.deref-2.ensures.value at c.count_accepted-lanes.ensures) ∙ (ap (map (counted_end counts)) c.part-lanes.ensures.unfed ∙ map_twice (λ f. unfed_of (line.lane_record f.lane) f.back f.left f.stop) (counted_end counts) fed) in
-    record {
-      shop = shop;
-      sizes = record { dim = refl; machine = c.requires.machine; lanes_are = refl; workers = refl; holds = refl };
-      lanes = lanes;
-      own_lanes = All-same P lanes _ c.part-lanes.ensures.lanes (All-map P (λ f. f.lane) fed c.relieve_feeders.ensures.lanes);
-      numbers = parts_told (λ f. f.lane) (λ l. (line.lane_record l).number) (λ (l : LaneEnd). l.lane) (λ f. counted_end counts (unfed_of (line.lane_record f.lane) f.back f.left f.stop)) fed lanes _ c.part-lanes.ensures.lanes lane_ends (λ f. refl);
-      entries = parts_told (λ f. f.lane) (λ l. length (line.lane_record l).entries) (λ (l : LaneEnd). l.entries) (λ f. counted_end counts (unfed_of (line.lane_record f.lane) f.back f.left f.stop)) fed lanes _ c.part-lanes.ensures.lanes lane_ends (λ f. refl);
-      workers = c.relieve_posts.new.ends.items;
-      own_workers = c.relieve_posts.ensures.ends;
-      replies = c.finish-finished.ensures.by_worker;
-      stops = (rw c.deref.ensures.value at c.stops_of-stops.ensures);
-      note = c.into_note-note.result.line;
-      own_note = c.into_note-note.ensures.shows;
-      close_number = c.number-close_number.ensures;
-      stations = stations;
-      own_stations = at_floor (λ i. All (g.F.Floor.is_station i) stations) _ _ c.requires.shop c.finish-finished.ensures.finished.1;
-      finished = at_floor (λ i. FinishedRun i.dim (map line.lane_record lanes) (map g.F.Floor.grants stations) (line.note_number c.into_note-note.result.line) (outcome g.F.Floor.machine_words c.finish-finished.result)) _ _ c.requires.shop c.finish-finished.ensures.finished.3;
-    }
-
-pub returns-clause-workers : goal.returns-clause-workers
-returns-clause-workers g c =
-    let ends = c.relieve_posts.new.ends.items in
-    let passes = ap (λ (shop : ShopId). shop.line.sizes.passes) c.requires.shop in
-    omega (arith, sym (length-map c.finish-finished.result.by_worker.items (λ v. v.items)), ap length c.finish-finished.ensures.by_worker, length-map ends replies_of, c.relieve_posts.ensures.count, c.man_posts-posts.ensures.count, c.requires.all_workers, passes)
+    let jobs = c.args.ready.jobs.items in
+    c.told.ensures.run (map (λ js. js.items) jobs)
+    (at_line (λ i. length (map (λ js. js.items) jobs) ≡ i.sizes.lanes) _ _ c.requires.shop (length-map jobs (λ js. js.items) ∙ sym c.args.ready.all_lanes))
+    c.requires.jobs
