@@ -1,7 +1,9 @@
 // The commands `run` and `report`: the jobs of a file, answered, and what is written of them.
-ghost use Rattle.std.specs.Prelude.{◌≡◌, ◌⊎◌, ◌≤◌, ℕ, true, false, Some, IfErr, IfOk, IfSome, List, length};
+ghost use Rattle.std.specs.Prelude.{◌≡◌, ◌⊎◌, ◌≤◌, ℕ, true, false, Some, IfErr, IfOk, IfSome, OnOk, List, length};
+ghost use Rattle.std.specs.Io.KnownBytes.{Appends};
 ghost use Rattle.cube_shape.specs.declared.limits.TheConstants.{MAX_LANES};
 ghost use Rattle.floors.specs.Floor.{IsWhollyFree};
+ghost use Rattle.job_types.specs.Job.{JobData};
 ghost use Rattle.cli_words.specs.CommandLine.{AreShopSizes};
 ghost use Rattle.cli_words.specs.declared.invocation.Invocation.TheVariants.{Run, Report as TheReport};
 ghost use Rattle.jobs_csv.specs.Fault.{attribute};
@@ -11,13 +13,14 @@ ghost use Rattle.cli_commands.specs.Answer.{IsAnswer, IsMetBeforeWriting, IsRunF
 ghost use Rattle.cli_commands.specs.FileRun.{ReturnsRun};
 ghost use Rattle.cli_commands.specs.Inner.Shop.{fault_in};
 ghost use Rattle.cli_commands.specs.Program.{IsAnswerTo};
+ghost use Rattle.cli_commands.specs.Replies.{AnswersJobs};
 
 use crate::output::{Output, Replies, Report};
 use crate::shop::{Unanswered, answer_file, answer_file_shown};
 use cli_words::ShopOptions;
 use crew::RunEnd;
 use cube_shape::MAX_DIM;
-use dispatcher::Runner;
+use dispatcher::{Finished, Runner};
 use floors::Floor;
 use jobs_csv::{Device, Fault, FaultKind};
 use ruled_line::RuledLine;
@@ -30,6 +33,33 @@ use tree_floor::TreeFloor;
 // So many threads make the lines of the rows. More of them, which start anew for each round of parts, took
 // more processor time and gained nothing on the clock.
 const LINE_MAKERS: usize = 1;
+
+// Writes the rows that are made of a finished run.
+fn write_finished<O: Output, F: Floor, H: Threads + Sync, W: Write + Device>(
+    rt: &H,
+    alloc: Global,
+    n: u32,
+    finished: Finished<F::Machine>,
+    writer: &mut W,
+) -> Result<(), Fault>
+where
+    F::Machine: Drop,
+    requires limit { n ≤ MAX_DIM }
+    requires lanes { length finished.accepted.items ≤ MAX_LANES }
+    requires free { IsWhollyFree n (F.machine_words finished.machine) }
+    ensures written { (jobs : List JobData) → AnswersJobs n jobs finished → OnOk result
+        ((rows : List O.Row) × O.are_rows n jobs rows
+        × Appends (W.contents writer.old) (W.contents writer.new)
+        (file_text O.Row.columns O.Row.fields rows)) }
+    ensures failed { IfErr result (λ fault.
+        (fault ≡ attribute FaultKind.Write (W.failures writer.old) (W.failures writer.new))
+        ⊎ (fault ≡ record { row = 0; what = FaultKind.OutOfMemory })) }
+{
+    let Ok(rows) = O::rows::<F>(alloc, n, finished) else {
+        return Err(Fault::no_memory());
+    };
+    jobs_csv::write_rows(rt, alloc, LINE_MAKERS, rows, writer)
+}
 
 // Writes what is made of the run of a file's jobs, or passes the fault on for which there is none.
 fn write_output<O: Output, F: Floor, H: Threads + Sync, W: Write + Device>(
@@ -59,10 +89,7 @@ where
         Ok(end) => end,
         Err(unanswered) => return Err(unanswered.fault),
     };
-    let Ok(rows) = O::rows::<F>(alloc, n, finished) else {
-        return Err(Fault::no_memory());
-    };
-    jobs_csv::write_rows(rt, alloc, LINE_MAKERS, rows, writer)
+    write_finished::<O, F, H, W>(rt, alloc, n, finished, writer)
 }
 
 /// Reads a file of jobs for a machine of dimension `n`, answers them on threads, and writes the rows

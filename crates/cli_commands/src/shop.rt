@@ -1,11 +1,14 @@
 //! A run of the jobs of a file.
-ghost use Rattle.std.specs.Prelude.{◌≡◌, ◌⊎◌, ◌≤◌, false, None, IfErr, IfOk, IfSome, IsSome, length};
+ghost use Rattle.std.specs.Prelude.{◌≡◌, ◌⊎◌, ◌≤◌, false, None, Ok, All, IfErr, IfOk, IfSome, IsSome, List, Result, length};
 ghost use Rattle.cli_words.specs.CommandLine.{AreShopSizes};
 ghost use Rattle.crew.specs.Done.{IsDone};
 ghost use Rattle.cube_shape.specs.declared.limits.TheConstants.{MAX_LANES};
 ghost use Rattle.floors.specs.Floor.{IsWhollyFree};
 ghost use Rattle.jobs_csv.specs.Fault.{IsInputFault};
+ghost use Rattle.job_types.specs.Job.{JobData};
 ghost use Rattle.jobs_csv.specs.Jobs.{parse_jobs};
+ghost use Rattle.jobs_csv.specs.Lanes.{AreLanes, ReturnsLanes};
+ghost use Rattle.jobs_csv.specs.declared.fault.Fault.{Fault as TheFault};
 ghost use Rattle.cli_commands.specs.Answer.{IsShopFault};
 ghost use Rattle.cli_commands.specs.FileRun.{HasSpentLane, ReturnsRun};
 ghost use Rattle.cli_commands.specs.Inner.Shop.{unanswered_of};
@@ -18,6 +21,7 @@ use cube_shape::MAX_DIM;
 use dispatcher::Runner;
 use floors::Floor;
 use job_queue::JobLine;
+use job_types::Job;
 use jobs_csv::{Device, Fault, FaultKind, Observer, RecordCount};
 use std::alloc::Global;
 use std::io::{Read, Write};
@@ -53,6 +57,55 @@ fn to_unanswered<M: Drop>(stopped: Stopped<M>) -> Unanswered<M>
     Unanswered {
         fault: Fault { row: 0, what },
         end: Some(end),
+    }
+}
+
+// Answers the jobs of all lanes: those of the open ones, each by a line.
+fn answer_lanes<H, L, F, T>(
+    rt: &H,
+    alloc: Global,
+    n: u32,
+    dispatchers: u32,
+    capacity: usize,
+    runner: &T,
+    lanes: Vec<Vec<Job>>,
+) -> Result<RunEnd<F::Machine>, Unanswered<F::Machine>>
+where
+    H: Threads + Wait + Sync,
+    L: JobLine + Sync,
+    L::Lane: Send,
+    L::Pass: Send,
+    L::End: Send,
+    L::Closer: Send,
+    L::Note: Send,
+    F: Floor + Sync,
+    F::Station: Send,
+    F::Machine: Drop,
+    T: Runner + Sync,
+    requires lanes { (jobs : List JobData) × AreLanes lanes.items jobs
+        × All (λ job. job.machine ≡ n) jobs }
+    ensures answered { (parse : Result (List JobData) TheFault) → ReturnsLanes parse (Ok lanes) →
+        ReturnsRun F.machine_words n parse result }
+    ensures done { IfOk result (λ end. IsDone end) }
+    ensures lanes { IfOk result (λ end. length end.finished.accepted.items ≤ MAX_LANES) }
+    ensures workers { IfOk result (λ end. length end.finished.by_worker.items ≡ dispatchers) }
+    ensures dim { IfOk result (λ end. F.machine_dim end.finished.machine ≡ n) }
+    ensures closed { IfOk result (λ end. F.is_closed dispatchers end.finished.machine) }
+    ensures free { IfOk result (λ end.
+        IsWhollyFree n (F.machine_words end.finished.machine)) }
+    ensures failed { IfErr result (λ unanswered. IsShopFault unanswered.fault) }
+    ensures spent { IfErr result (λ unanswered.
+        unanswered.fault.what ≡ FaultKind.Spent → HasSpentLane unanswered.end) }
+{
+    let Ok(lists) = open_lanes(alloc, lanes) else {
+        return Err(Unanswered {
+            fault: Fault::no_memory(),
+            end: None,
+        });
+    };
+    match answer_all::<H, L, F, T>(rt, alloc, n, dispatchers, capacity, runner, lists) {
+        Ok(end) => Ok(end),
+        Err(stopped) => Err(to_unanswered(stopped)),
     }
 }
 
@@ -103,16 +156,7 @@ where
         Ok((lanes, _observer)) => lanes,
         Err(fault) => return Err(Unanswered { fault, end: None }),
     };
-    let Ok(lists) = open_lanes(alloc, lanes) else {
-        return Err(Unanswered {
-            fault: Fault::no_memory(),
-            end: None,
-        });
-    };
-    match answer_all::<H, L, F, T>(rt, alloc, n, dispatchers, capacity, runner, lists) {
-        Ok(end) => Ok(end),
-        Err(stopped) => Err(to_unanswered(stopped)),
-    }
+    answer_lanes::<H, L, F, T>(rt, alloc, n, dispatchers, capacity, runner, lanes)
 }
 
 /// Reads a file of jobs for a machine of dimension `n`, and answers all of them on threads: a feeder for each
