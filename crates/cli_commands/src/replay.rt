@@ -8,7 +8,7 @@ ghost use Rattle.jobs_csv.specs.declared.replay_rows.ReplayRow.{ReplayRow as Row
 ghost use Rattle.cli_words.specs.declared.invocation.Invocation.TheVariants.{Replay};
 ghost use Rattle.cli_commands.specs.Answer.{IsCommandFault, IsMetBeforeWriting};
 ghost use Rattle.cli_commands.specs.Program.{IsAnswerTo};
-ghost use Rattle.cli_commands.specs.Replay.{AreReplayed};
+ghost use Rattle.cli_commands.specs.Replay.{AreReplayed, final_rows};
 
 use crate::play;
 use cube_core::World;
@@ -27,6 +27,23 @@ fn push_rows(lines: LineBuffer, rows: Vec<ReplayRow>) -> Result<LineBuffer, Allo
         lines = lines.push(&row)?;
     }
     Ok(lines)
+}
+
+// Buffers the lines of the rows of the end, and writes out all that is buffered.
+fn write_end<W: Write>(
+    alloc: Global,
+    n: u32,
+    world: &World,
+    lines: LineBuffer,
+    writer: &mut W,
+) -> Result<(), WriteStopped>
+    requires limit { n ≤ MAX_DIM }
+    requires dim { world.now.dim ≡ n }
+    ensures { OnOk result (Appends (W.contents writer.old) (W.contents writer.new)
+        (lines ++ flat_map (λ row. line_of (replay_fields row)) (final_rows world.now))) }
+{
+    let rows = play::final_rows(alloc, n, world)?;
+    push_rows(lines, rows)?.finish(writer)
 }
 
 // Plays the lines of a schedule one after the other, and writes the rows of each under the header
@@ -50,8 +67,7 @@ fn play_all<W: Write>(
         let rows = play::play(alloc, stations, &mut world, line)?;
         lines = push_rows(lines, rows)?.flush_if_full(writer)?;
     }
-    let rows = play::final_rows(alloc, n, &world)?;
-    push_rows(lines, rows)?.finish(writer)
+    write_end(alloc, n, &world, lines, writer)
 }
 
 /// Reads a schedule for a machine of dimension `n` with this many stations, plays it, and writes

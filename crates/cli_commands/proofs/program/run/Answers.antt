@@ -1,4 +1,4 @@
-use Rattle.std.proofs.Common.{map, refl, string_bytes}
+use Rattle.std.proofs.Common.{inl, map, refl, string_bytes}
 use Rattle.clap.specs.Words.{kind_of}
 use Rattle.cli_commands.specs.Program.{IsFaultIn}
 use Rattle.cli_commands.proofs.ProgramLemmas.{carried_out, explained, may_write, shows}
@@ -26,3 +26,6 @@ returns-clause-ends g c = explained (map string_bytes c.args.words.now) (kind_of
     (held_by (g.S.FileStore.bytes c.args.store.now) (g.W.Write.contents c.explain.new.writer))
     (λ input output. IsFaultIn input output (g.R.Device.failures c.args.reader.now) (g.R.Device.failures c.args.reader.now) (g.W.Device.failures c.args.writer.now) (g.W.Device.failures c.explain.new.writer))
     c.explain.result c.in-Err.ensures.fails c.explain.ensures.ends
+
+pub returns-clause-prompted : goal.returns-clause-prompted
+returns-clause-prompted g c = inl refl

@@ -47,17 +47,15 @@ pub returns : goal.returns
 returns g c =
     let old = g.W.Write.contents c.args.writer.now in
     let now = g.W.Write.contents c.loop-line.writer in
-    let next = g.W.Write.contents c.finish.new.writer in
+    let next = g.W.Write.contents c.write_end.new.writer in
     let text : ReplayRow → List ℕ = λ (r : ReplayRow). line_of (replay_fields r) in
     let last = YieldsList-end (YieldsList-from_vec {s = c.into_iter-line-iterator.result} c.args.schedule.items (search rules) (search rules)) c.loop-line.yielded c.loop-line.line-iterator c.loop-line.yielded_by c.next.result c.next.new.self c.in-None.is c.next.ensures.steps in
     let all : c.loop-line.yielded ≡ c.args.schedule.items = sym (map-id c.loop-line.yielded) ∙ last.0 in
     let (rows, turns, sent) = c.loop-line.invariant.sent in
-    let ended : List ReplayRow = c.in_ok-rows-2.rows.items in
-    let buffered = more_buffered old now c.loop-line.lines c.in_ok-push_rows-2.field-0 (flat_map text ended) (file_text replay_columns replay_fields rows) sent c.in_ok-push_rows-2.ensures in
-    let written : file_text replay_columns replay_fields rows ++ flat_map text ended ≡ file_text replay_columns replay_fields (rows ++ final_rows c.loop-line.world) =
-    more_lines (line_of replay_columns) text rows ended ∙ ap (λ (e : List ReplayRow). file_text replay_columns replay_fields (rows ++ e)) c.in_ok-rows-2.ensures in
-    on_ok_weaker c.finish.result (λ sends. (
-      rows ++ final_rows c.loop-line.world,
+    let ended : List ReplayRow = final_rows c.loop-line.world in
+    let buffered = more_buffered old now c.loop-line.lines _ (flat_map text ended) (file_text replay_columns replay_fields rows) sent refl in
+    on_ok_weaker c.write_end.result (λ sends. (
+      rows ++ ended,
       (c.loop-line.world, rows, subst (λ lines. IsTrace IsPlayed lines (initial c.args.n c.args.stations) c.loop-line.world rows) all turns, refl),
-      subst (Appends old next) written (all_sent old now next c.in_ok-push_rows-2.field-0 _ buffered sends),
-    )) c.finish.ensures
+      subst (Appends old next) (more_lines (line_of replay_columns) text rows ended) (all_sent old now next _ _ buffered sends),
+    )) c.write_end.ensures
