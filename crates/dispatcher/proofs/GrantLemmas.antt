@@ -8,35 +8,28 @@ with_last_end [] last more = refl
 with_last_end (xs ∷ []) last more = refl
 with_last_end {A} (xs ∷ ys ∷ lists) last more = ap (λ (ls : List (List A)). xs ∷ ls) (with_last_end (ys ∷ lists) last more)
 
-pub with_last_none : {A : Type 0} (lists : List (List A)) → lists ≡ with_last lists []
-with_last_none [] = refl
-with_last_none {A} (xs ∷ []) = ap (λ (ys : List A). ys ∷ []) (sym (append-nil xs))
-with_last_none {A} (xs ∷ ys ∷ lists) = ap (λ (ls : List (List A)). xs ∷ ls) (with_last_none (ys ∷ lists))
-
-pub with_last_twice : {A : Type 0} (lists : List (List A)) (more most : List A) → with_last (with_last lists more) most ≡ with_last lists (more ++ most)
-with_last_twice [] more most = refl
-with_last_twice {A} (xs ∷ []) more most = ap (λ (ys : List A). ys ∷ []) (append_assoc xs more most)
-with_last_twice {A} (xs ∷ ys ∷ []) more most = ap (λ (zs : List A). xs ∷ zs ∷ []) (append_assoc ys more most)
-with_last_twice {A} (xs ∷ ys ∷ zs ∷ lists) more most = ap (λ (ls : List (List A)). xs ∷ ls) (with_last_twice (ys ∷ zs ∷ lists) more most)
-
--- the last station is granted one more
-pub granted_one : {S R A : Type 0} (grants : S → List A) (region : R → A) (before : List S) (station back : S) (all : List (List A)) (had has : List R) (reply : R)
-    → map grants before ++ grants station ∷ [] ≡ with_last all (map region had) → grants back ≡ grants station ++ region reply ∷ [] → has ≡ had ++ reply ∷ []
-    → map grants before ++ grants back ∷ [] ≡ with_last all (map region has)
-granted_one {S} {R} {A} grants region before station back all had has reply start gains pushed =
-    ap (λ (own : List A). map grants before ++ own ∷ []) gains
-    ∙ (sym (with_last_end (map grants before) (grants station) (region reply ∷ []))
-    ∙ (ap (λ (ls : List (List A)). with_last ls (region reply ∷ [])) start
-    ∙ (with_last_twice all (map region had) (region reply ∷ [])
-    ∙ ap (with_last all) (sym (ap (map region) pushed ∙ map-append region had (reply ∷ []))))))
+-- a station is granted one more
+pub granted_one : {R A : Type 0} (region : R → A) (start now back : List A) (had has : List R) (reply : R)
+    → now ≡ start ++ map region had → back ≡ now ++ region reply ∷ [] → has ≡ had ++ reply ∷ [] → back ≡ start ++ map region has
+granted_one {R} {A} region start now back had has reply so_far gains pushed =
+    gains
+    ∙ (ap (λ (own : List A). own ++ region reply ∷ []) so_far
+    ∙ (append_assoc start (map region had) (region reply ∷ []) ∙ ap (λ (own : List A). start ++ own) (sym (ap (map region) pushed ∙ map-append region had (reply ∷ [])))))
 
 -- and nothing yet
-pub granted_none : {S R A : Type 0} (grants : S → List A) (region : R → A) (before stations : List S) (station : S) (has : List R) → stations ≡ before ++ station ∷ [] → has ≡ []
-    → map grants before ++ grants station ∷ [] ≡ with_last (map grants stations) (map region has)
-granted_none grants region before stations station has popped none =
-    sym (map-append grants before (station ∷ []))
-    ∙ (ap (map grants) (sym popped)
-    ∙ (with_last_none (map grants stations) ∙ ap (with_last (map grants stations)) (sym (ap (map region) none))))
+pub granted_none : {R A : Type 0} (region : R → A) (start : List A) (has : List R) → has ≡ [] → start ≡ start ++ map region has
+granted_none {R} {A} region start has none = sym (ap (λ (rs : List R). start ++ map region rs) none ∙ append-nil start)
+
+-- what the last station was granted besides
+pub granted_last : {S A : Type 0} (grants : S → List A) (before stations after : List S) (station back : S) (more : List A)
+    → stations ≡ before ++ station ∷ [] → after ≡ before ++ back ∷ [] → grants back ≡ grants station ++ more
+    → map grants after ≡ with_last (map grants stations) more
+granted_last {S} {A} grants before stations after station back more popped pushed gains =
+    ap (map grants) pushed
+    ∙ (map-append grants before (back ∷ [])
+    ∙ (ap (λ (own : List A). map grants before ++ own ∷ []) gains
+    ∙ (sym (with_last_end (map grants before) (grants station) more)
+    ∙ ap (λ (ls : List (List A)). with_last ls more) (sym (ap (map grants) popped ∙ map-append grants before (station ∷ []))))))
 
 -- what all stations were granted, from what each was
 pub all_granted : {E S V R A : Type 0} (grants : S → List A) (region : R → A) (station_of : E → S) (replies_of : E → V) (items_of : V → List R) → ((e : E) → grants (station_of e) ≡ map region (items_of (replies_of e))) → (es : List E)

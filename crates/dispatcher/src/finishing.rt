@@ -1,5 +1,5 @@
 //! The end of a shop.
-ghost use Rattle.std.specs.Prelude.{◌≡◌, ℕ, ◌<◌, ◌≤◌, List, [], map, length};
+ghost use Rattle.std.specs.Prelude.{◌≡◌, ℕ, ◌<◌, ◌≤◌, ◌++◌, List, [], map, length};
 ghost use Rattle.std.specs.List.{All};
 ghost use Rattle.std.specs.Vec.{vec_capacity};
 ghost use Rattle.histories.specs.Sums.{times};
@@ -33,14 +33,41 @@ pub struct Finished<M> {
     pub machine: M,
 }
 
-// Answers the jobs on the last station, front first.
+// Answers the jobs on the station, front first, and keeps the replies.
+fn answer_jobs<R: Wait, F: Floor, T: Runner>(
+    rt: &R,
+    floor: &F,
+    runner: &T,
+    mut station: F::Station,
+    mut jobs: VecDeque<QueuedJob>,
+    mut rest: Vec<Reply>,
+) -> (F::Station, Vec<Reply>)
+    requires station { F.is_station (F.id floor.now) station }
+    requires made_for { All (IsMadeFor (F.id floor.now).dim) jobs.items }
+    requires empty { rest.items ≡ [] }
+    requires room { length jobs.items ≤ vec_capacity rest }
+    ensures station { F.is_station (F.id floor.now) result.0 }
+    ensures answers { map answered result.1.items ≡ jobs.items }
+    ensures granted { F.grants result.0 ≡ F.grants station ++ map region_of result.1.items }
+    ensures right { All (IsRight (F.id floor.now).dim) result.1.items }
+{
+    while let Some(queued) = jobs.pop_front() {
+        let QueuedJob { id, job } = queued;
+        let (back, reply) = serve(rt, floor, runner, station, id, job);
+        station = back;
+        rest.push_reserved(reply);
+    }
+    (station, rest)
+}
+
+// Answers the jobs on the last station.
 fn answer_rest<R: Wait, F: Floor, T: Runner>(
     rt: &R,
     floor: &F,
     runner: &T,
     mut stations: Vec<F::Station>,
-    mut jobs: VecDeque<QueuedJob>,
-    mut rest: Vec<Reply>,
+    jobs: VecDeque<QueuedJob>,
+    rest: Vec<Reply>,
 ) -> (Vec<F::Station>, Vec<Reply>)
     requires some { 0 < length stations.items }
     requires stations { All (F.is_station (F.id floor.now)) stations.items }
@@ -54,16 +81,11 @@ fn answer_rest<R: Wait, F: Floor, T: Runner>(
         ≡ with_last (map F.grants stations.items) (map region_of result.1.items) }
     ensures right { All (IsRight (F.id floor.now).dim) result.1.items }
 {
-    let Some(mut station) = stations.pop() else {
+    let Some(station) = stations.pop() else {
         unreachable!()
     };
-    while let Some(queued) = jobs.pop_front() {
-        let QueuedJob { id, job } = queued;
-        let (back, reply) = serve(rt, floor, runner, station, id, job);
-        station = back;
-        rest.push_reserved(reply);
-    }
-    stations.push_reserved(station);
+    let (back, rest) = answer_jobs(rt, floor, runner, station, jobs, rest);
+    stations.push_reserved(back);
     (stations, rest)
 }
 

@@ -1,4 +1,4 @@
-use Rattle.std.proofs.Common.{◌≡◌, ◌<◌, ℕ, map, length, get_or, sym, ap, subst, ◌∙◌}
+use Rattle.std.proofs.Common.{◌≡◌, ◌<◌, ℕ, map, length, get_or, sym, ap, subst, ◌∙◌, arith}
 use Rattle.std.specs.List.{All, AllByRecursion}
 use Rattle.std.proofs.lemmas.List.Elements.{All-map, All-same, All-weaker}
 use Rattle.std.proofs.lemmas.List.{length-map}
@@ -9,12 +9,64 @@ use Rattle.job_queue.specs.Record.{accepted}
 use Rattle.job_queue.specs.Line.{IsMadeFor}
 use Rattle.dispatcher.specs.Reply.{answered, region_of, IsRight}
 use Rattle.dispatcher.specs.Members.{IsEndOf}
+use Rattle.dispatcher.specs.Shop.{ShopId, RoomSize}
 use Rattle.dispatcher.specs.Finished.{with_last}
 use Rattle.dispatcher.proofs.WorkLemmas.{at_line, at_floor}
 use Rattle.dispatcher.proofs.OpenLemmas.{map_twice}
 use Rattle.dispatcher.proofs.FinishLemmas.{each_of, taken_answered, replies_right, finished}
 use Rattle.dispatcher.proofs.GrantLemmas.{all_granted}
 use Rattle.dispatcher.proofs.shop.Shop.finish.Goals as goal
+
+pub into_rest-jobs-requires-clause-all_lanes : goal.into_rest-jobs-requires-clause-all_lanes
+into_rest-jobs-requires-clause-all_lanes g c = at_line (λ i. length c.args.lanes.items ≡ i.sizes.lanes) _ _ (sym c.self.view_is) c.requires.all_lanes
+
+pub into_rest-jobs-requires-clause-all_passes : goal.into_rest-jobs-requires-clause-all_passes
+into_rest-jobs-requires-clause-all_passes g c =
+    ap length c.gather-passes.ensures.passes
+    ∙ (length-map c.args.ends.items (λ e. e.pass)
+    ∙ at_line (λ i. length c.args.ends.items ≡ i.sizes.passes) _ _ (sym c.self.view_is) c.requires.all_workers)
+
+pub into_rest-jobs-requires-clause-note : goal.into_rest-jobs-requires-clause-note
+into_rest-jobs-requires-clause-note g c = at_line (λ i. g.L.JobLine.is_note i c.args.note.line) _ _ (sym c.self.view_is) c.requires.note.shows
+
+pub answer_rest-stations-requires-clause-some : goal.answer_rest-stations-requires-clause-some
+answer_rest-stations-requires-clause-some g c =
+    let count = ap length c.gather-passes.ensures.stations ∙ length-map c.args.ends.items (λ e. e.station) in
+    omega (arith, count, c.requires.all_workers, ap (λ (s : ShopId). s.line.sizes.passes) c.self.view_is, c.self.invariant.stations, c.self.invariant.some)
+
+pub answer_rest-stations-requires-clause-empty : goal.answer_rest-stations-requires-clause-empty
+answer_rest-stations-requires-clause-empty g c = c.gather-passes.ensures.rest.0
+
+pub answer_rest-stations-requires-clause-room : goal.answer_rest-stations-requires-clause-room
+answer_rest-stations-requires-clause-room g c =
+    omega (
+      arith,
+      c.into_rest-jobs.ensures.fits,
+      c.gather-passes.ensures.rest.1,
+      ap (λ (r : RoomSize). r.jobs) c.requires.note.space,
+      ap (λ (s : ShopId). s.line.sizes.capacity) c.self.view_is,
+    )
+
+pub close-requires-clause-of_floor : goal.close-requires-clause-of_floor
+close-requires-clause-of_floor g c = c.answer_rest-stations.ensures.stations
+
+pub close-requires-clause-all : goal.close-requires-clause-all
+close-requires-clause-all g c =
+    c.answer_rest-stations.ensures.count
+    ∙ (ap length c.gather-passes.ensures.stations
+    ∙ (length-map c.args.ends.items (λ e. e.station)
+    ∙ (c.requires.all_workers ∙ (sym (ap (λ (s : ShopId). s.line.sizes.passes) c.self.view_is) ∙ c.self.invariant.stations))))
+
+pub returns-clause-lane_count : goal.returns-clause-lane_count
+returns-clause-lane_count g c = at_line (λ i. length c.into_rest-jobs.result.accepted.items ≡ i.sizes.lanes) _ _ c.self.view_is c.into_rest-jobs.ensures.lane_count
+
+pub returns-clause-dim : goal.returns-clause-dim
+returns-clause-dim g c = at_floor (λ i. g.F.Floor.machine_dim c.close.result ≡ i.dim) _ _ c.self.view_is c.close.ensures.dim
+
+pub returns-clause-closed : goal.returns-clause-closed
+returns-clause-closed g c =
+    at_line (λ i. g.F.Floor.is_closed i.sizes.passes c.close.result) _ _ c.self.view_is
+    (subst (λ (count : ℕ). g.F.Floor.is_closed count c.close.result) (sym c.self.invariant.stations) c.close.ensures.closed)
 
 pub into_rest-jobs-requires-clause-lanes : goal.into_rest-jobs-requires-clause-lanes
 into_rest-jobs-requires-clause-lanes g c =
