@@ -42,3 +42,7 @@ moved {A} {B} f all left rest old new x start popped pushed =
     ap (λ (xs : List A). map f xs ++ rest) pushed
     ∙ (ap (λ (ys : List B). ys ++ rest) (map-append f old (x ∷ []))
     ∙ (append_assoc (map f old) (f x ∷ []) rest ∙ (ap (λ (ys : List B). map f old ++ ys) (sym popped) ∙ start)))
+
+-- what all had, the first one has
+pub first_has : {A : Type 0} (P : A → Type 0) (x : A) (xs ys : List A) → ys ≡ x ∷ xs → All P ys → P x
+first_has P x xs ys popped all = All-head P x xs (All-same P (x ∷ xs) ys (sym popped) all)

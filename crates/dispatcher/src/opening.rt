@@ -6,6 +6,7 @@ ghost use Rattle.job_queue.specs.Record.{fresh_lanes, fresh_passes};
 ghost use Rattle.dispatcher.specs.Opening.{refusal_of};
 ghost use Rattle.dispatcher.specs.Shop.{HasSizes};
 ghost use Rattle.dispatcher.specs.Members.{IsWorkerOf, IsCloserOf, worker_record};
+ghost use Rattle.dispatcher.specs.InnerShop.{IsOneMachine, shop_of};
 
 use crate::closing::Closer;
 use crate::room::Room;
@@ -14,7 +15,7 @@ use crate::worker::Worker;
 use cube_shape::{MAX_CAPACITY, MAX_DIM, MAX_DISPATCHERS, MAX_LANES};
 use floors::Floor;
 use job_queue::{JobLine, Sizes};
-use std::alloc::Global;
+use std::alloc::{AllocError, Global};
 use std::collections::VecDeque;
 use thiserror::Error;
 
@@ -69,6 +70,7 @@ pub fn refusal(n: u32, lanes: u32, dispatchers: u32, capacity: usize) -> Option<
 }
 
 // A worker of each pass and the station beside it.
+#[tactic(auto, using(crate::proofs::OpenLemmas::first_has))]
 fn pair_up<L: JobLine, F: Floor>(
     passes: Vec<L::Pass>,
     stations: Vec<F::Station>,
@@ -93,6 +95,97 @@ fn pair_up<L: JobLine, F: Floor>(
     passes.destroy_empty();
     stations.destroy_empty();
     workers
+}
+
+// The floor and the line of these sizes. Where there is no memory for the line, the floor is ended again.
+fn open_both<L: JobLine, F: Floor>(
+    alloc: Global,
+    n: u32,
+    lanes: u32,
+    dispatchers: u32,
+    capacity: usize,
+) -> Result<
+    (
+        F,
+        Vec<F::Station>,
+        job_queue::Opened<L, L::Lane, L::Pass, L::Closer>,
+    ),
+    AllocError,
+>
+where
+    F::Machine: Drop,
+    requires { refusal_of n lanes dispatchers capacity ≡ None }
+    ensures one_machine { IfOk result (λ made. IsOneMachine (L.id made.2.line) (F.id made.0)) }
+    ensures sizes { IfOk result (λ made.
+        HasSizes n lanes dispatchers capacity (shop_of (L.id made.2.line) (F.id made.0))) }
+    ensures stations { IfOk result (λ made. All (F.is_station (F.id made.0)) made.1.items) }
+    ensures count { IfOk result (λ made. length made.1.items ≡ dispatchers) }
+    ensures none_granted { IfOk result (λ made. All (λ s. F.grants s ≡ []) made.1.items) }
+    ensures lanes { IfOk result (λ made. All (L.is_lane (L.id made.2.line)) made.2.lanes.items) }
+    ensures passes { IfOk result (λ made. All (L.is_pass (L.id made.2.line)) made.2.passes.items) }
+    ensures closer { IfOk result (λ made. L.is_closer (L.id made.2.line) made.2.closer) }
+    ensures fresh_lanes { IfOk result (λ made.
+        map L.lane_record made.2.lanes.items ≡ fresh_lanes lanes) }
+    ensures fresh_passes { IfOk result (λ made.
+        map L.pass_record made.2.passes.items ≡ fresh_passes dispatchers) }
+{
+    let (floor, stations) = F::open(alloc, n, dispatchers)?;
+    let sizes = Sizes {
+        machine: n,
+        lanes,
+        passes: dispatchers,
+        capacity,
+    };
+    let Ok(opened) = L::open(alloc, sizes) else {
+        let _machine = floor.close(stations);
+        return Err(AllocError);
+    };
+    Ok((floor, stations, opened))
+}
+
+// A shop of these sizes, with this room for its end.
+fn open_all<L: JobLine, F: Floor>(
+    alloc: Global,
+    n: u32,
+    lanes: u32,
+    dispatchers: u32,
+    capacity: usize,
+    room: Room<L, F>,
+) -> Result<Opened<L, F>, AllocError>
+where
+    F::Machine: Drop,
+    requires { refusal_of n lanes dispatchers capacity ≡ None }
+    ensures sizes { IfOk result (λ made. HasSizes n lanes dispatchers capacity made.shop) }
+    ensures lanes { IfOk result (λ made. All (L.is_lane made.shop.line) made.lanes.items) }
+    ensures fresh_lanes { IfOk result (λ made.
+        map L.lane_record made.lanes.items ≡ fresh_lanes lanes) }
+    ensures workers { IfOk result (λ made. All (IsWorkerOf made.shop) made.workers.items) }
+    ensures fresh_passes { IfOk result (λ made.
+        map worker_record made.workers.items ≡ fresh_passes dispatchers) }
+    ensures closes { IfOk result (λ made. L.is_closer made.shop.line made.closer.line) }
+    ensures room { IfOk result (λ made. made.closer.room ≡ room) }
+{
+    let Ok(workers) = Vec::with_capacity(alloc, dispatchers as usize) else {
+        room.let_go();
+        return Err(AllocError);
+    };
+    let Ok((floor, stations, opened)) = open_both(alloc, n, lanes, dispatchers, capacity) else {
+        room.let_go();
+        workers.destroy_empty();
+        return Err(AllocError);
+    };
+    let job_queue::Opened {
+        line,
+        lanes,
+        passes,
+        closer,
+    } = opened;
+    Ok(Opened {
+        shop: Shop { line, floor },
+        lanes,
+        workers: pair_up(passes, stations, workers),
+        closer: Closer { line: closer, room },
+    })
 }
 
 impl<L: JobLine, F: Floor> Shop<L, F> {
@@ -131,38 +224,9 @@ impl<L: JobLine, F: Floor> Shop<L, F> {
         let Ok(room) = Room::new(alloc, dispatchers, capacity) else {
             return Err(ShopRefused::OutOfMemory);
         };
-        let Ok(workers) = Vec::with_capacity(alloc, dispatchers as usize) else {
-            room.let_go();
+        let Ok(opened) = open_all(alloc, n, lanes, dispatchers, capacity, room) else {
             return Err(ShopRefused::OutOfMemory);
         };
-        let Ok((floor, stations)) = F::open(alloc, n, dispatchers) else {
-            room.let_go();
-            workers.destroy_empty();
-            return Err(ShopRefused::OutOfMemory);
-        };
-        let sizes = Sizes {
-            machine: n,
-            lanes,
-            passes: dispatchers,
-            capacity,
-        };
-        let Ok(opened) = L::open(alloc, sizes) else {
-            room.let_go();
-            workers.destroy_empty();
-            let _machine = floor.close(stations);
-            return Err(ShopRefused::OutOfMemory);
-        };
-        let job_queue::Opened {
-            line,
-            lanes,
-            passes,
-            closer,
-        } = opened;
-        Ok(Opened {
-            shop: Shop { line, floor },
-            lanes,
-            workers: pair_up(passes, stations, workers),
-            closer: Closer { line: closer, room },
-        })
+        Ok(opened)
     }
 }
