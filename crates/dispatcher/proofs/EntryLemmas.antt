@@ -5,6 +5,7 @@ use Rattle.std.proofs.lemmas.Bool.{cases_lt}
 use Rattle.std.proofs.lemmas.List.{append-nil, drop_at, drop_all, map-append}
 use Rattle.histories.specs.Sums.{total}
 use Rattle.histories.proofs.SumLemmas.{total-append}
+use Rattle.cube_shape.specs.declared.limits.TheConstants.{MAX_ENTRIES}
 use Rattle.job_types.specs.Job.{JobData}
 use Rattle.job_queue.specs.declared.record.QueuedJob.{QueuedJob}
 use Rattle.job_queue.specs.declared.record.Entry.{Entry}
@@ -17,6 +18,7 @@ use Rattle.job_queue.proofs.AcceptedLemmas.{accepted-append, accepted-push, acce
 use Rattle.dispatcher.specs.declared.feeding.FeedStop.{FeedStop}
 use Rattle.dispatcher.specs.declared.feeding.FeedStop.TheVariants.{Done, Closed, LaneSpent, Turns}
 use Rattle.dispatcher.specs.Feed.{entries_since, full_since, seen_at, HandsIn}
+use Rattle.dispatcher.specs.InnerFeed.{stop_at}
 use Rattle.dispatcher.specs.Stop.{EndsWith}
 
 -- of these jobs the first ones are accepted and the others left, and the feed goes on
@@ -103,12 +105,6 @@ pub stops_as_is : (jobs left : List JobData) (stop : FeedStop) (before now : Lan
 stops_as_is jobs left stop before now so_far nothing =
     stops jobs left stop before now now so_far (ap (λ (seen : List ℕ). record now { seen = seen }) (sym (ap (λ (more : List ℕ). now.seen ++ more) nothing ∙ append-nil now.seen)))
 
--- why a feed stops at a refusal
-abbrev pub stop_at : Refused → FeedStop
-stop_at (refused.Closed seen) = Closed seen
-stop_at refused.Full = Turns
-stop_at refused.LaneSpent = LaneSpent
-
 -- the job of the refusal is the first one that is left
 pub at_refusal : (jobs left : List JobData) (before now after : LaneRecord) (why : Refused) (stop : FeedStop) → SoFar jobs left before now → GainsRefusal now why after → stop ≡ stop_at why → HandsIn jobs left stop before after
 at_refusal jobs left before now after (refused.Closed seen) stop so_far gains is =
@@ -117,6 +113,9 @@ at_refusal jobs left before now after refused.Full stop so_far gains is =
     subst (λ (s : FeedStop). HandsIn jobs left s before after) (sym is) (stops_as_is jobs left Turns before after (one_full jobs left before now after gains.0 so_far gains.1) refl)
 at_refusal jobs left before now after refused.LaneSpent stop so_far gains is =
     subst (λ (s : FeedStop). HandsIn jobs left s before after) (sym is) (subst (λ (r : LaneRecord). HandsIn jobs left LaneSpent before r) (sym gains) (stops_as_is jobs left LaneSpent before now so_far refl))
+
+turns_not_spent : Turns ≡ LaneSpent → ⊥
+turns_not_spent is = search rules
 
 turns_not_closed : (count : ℕ) → Turns ≡ Closed count → ⊥
 turns_not_closed count is = search rules
@@ -139,6 +138,19 @@ closed_at now after (refused.Closed seen) stop count gains is closed =
     (now.seen, ap (λ (r : LaneRecord). r.seen) gains ∙ ap (λ (s : ℕ). now.seen ++ s ∷ []) (same_count seen count (sym is ∙ closed)))
 closed_at now after refused.Full stop count gains is closed = absurd (turns_not_closed count (sym is ∙ closed))
 closed_at now after refused.LaneSpent stop count gains is closed = absurd (spent_not_closed count (sym is ∙ closed))
+
+-- what stops for the turns was full
+pub turns_at : (why : Refused) (stop : FeedStop) → stop ≡ stop_at why → stop ≡ Turns → why ≡ refused.Full
+turns_at (refused.Closed seen) stop is turns = absurd (turns_not_closed seen (sym turns ∙ is))
+turns_at refused.Full stop is turns = refl
+turns_at refused.LaneSpent stop is turns = absurd (turns_not_spent (sym turns ∙ is))
+
+-- a lane that is spent was so before the refusal
+pub spent_at : (now after : LaneRecord) (why : Refused) (stop : FeedStop) → GainsRefusal now why after
+    → (why ≡ refused.LaneSpent → MAX_ENTRIES ≤ length now.entries) → stop ≡ stop_at why → stop ≡ LaneSpent → MAX_ENTRIES ≤ length after.entries
+spent_at now after (refused.Closed seen) stop gains only is spent = absurd (spent_not_closed seen (sym spent ∙ is))
+spent_at now after refused.Full stop gains only is spent = absurd (turns_not_spent (sym is ∙ spent))
+spent_at now after refused.LaneSpent stop gains only is spent = subst (λ (r : LaneRecord). MAX_ENTRIES ≤ length r.entries) (sym gains) (only refl)
 
 -- what the lane has accepted, what came back and what is left
 pub fed_by : (jobs back left : List JobData) (stop : FeedStop) (before after : LaneRecord) → HandsIn jobs (back ++ left) stop before after → accepted_jobs after ++ back ++ left ≡ accepted_jobs before ++ jobs
@@ -167,3 +179,18 @@ goes_on limit full next since now turns word grows more other is so_far =
 -- or it is
 pub is_last : (limit : Option ℕ) (full next since now : ℕ) → next ≡ min (full + 1) (2 ^ 64 - 1) → now ≡ since + 1 → limit ≡ Some next → (full ≡ since) × (full < next) → limit ≡ Some now
 is_last limit full next since now grows more is so_far = is ∙ ap Some (omega (arith, grows, more, so_far.0, so_far.1))
+
+-- or the feed stops for another reason
+pub fewer_at : (before now after : LaneRecord) (why : Refused) (stop : FeedStop) (full turns : ℕ)
+    → GainsRefusal now why after → stop ≡ stop_at why → (stop ≡ Turns → ⊥) → (full ≡ full_since before now) × (full < turns) → full_since before after < turns
+fewer_at before now after (refused.Closed seen) stop full turns gains is other so_far =
+    let same : full_since before after ≡ full_since before now = ap (λ (r : LaneRecord). full_since before r) gains in
+    omega (arith, same, so_far.0, so_far.1)
+fewer_at before now after refused.Full stop full turns gains is other so_far = absurd (other is)
+fewer_at before now after refused.LaneSpent stop full turns gains is other so_far =
+    let same : full_since before after ≡ full_since before now = ap (λ (r : LaneRecord). full_since before r) gains in
+    omega (arith, same, so_far.0, so_far.1)
+
+-- the count at a limit is the limit
+pub limit_is : (most count : ℕ) → Some most ≡ Some count → count ≡ most
+limit_is most count same = search rules

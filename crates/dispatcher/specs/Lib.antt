@@ -7,6 +7,7 @@ pub mod Finished
 pub mod Answers
 pub mod Order
 pub mod InnerShop
+pub mod InnerFeed
 pub mod Members
 pub use Rattle.cube_shape.specs.Region.{IsAligned}
 pub use Rattle.histories.specs.Sums.{times}

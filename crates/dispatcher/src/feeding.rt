@@ -1,11 +1,12 @@
 //! What a feeder does.
-ghost use Rattle.std.specs.Prelude.{◌≡◌, ◌≢◌, ℕ, ◌<◌, ◌≤◌, ◌++◌, [], ◌∷◌, List, None, Some, length};
+ghost use Rattle.std.specs.Prelude.{◌≡◌, ◌≢◌, ℕ, ◌+◌, ◌-◌, ◌^◌, ◌<◌, ◌≤◌, min, ◌++◌, [], ◌∷◌, List, None, Some, IfSome, length};
 ghost use Rattle.std.specs.Option.{IsSome};
 ghost use Rattle.std.specs.List.{All};
 ghost use Rattle.job_queue.specs.Record.{accepted_jobs};
 ghost use Rattle.job_queue.specs.Line.{IsFor};
 ghost use Rattle.dispatcher.specs.Stop.{given_back, EndsWith};
 ghost use Rattle.dispatcher.specs.Feed.{HandsIn, full_since};
+ghost use Rattle.dispatcher.specs.InnerFeed.{stop_at};
 
 use crate::limit::is_reached;
 use crate::shop::Shop;
@@ -74,6 +75,28 @@ pub fn wait_for_room<R: Wait, L: JobLine, F: Floor>(
     wait_at_line(rt, &shop.line, lane, pause);
 }
 
+// Why a feed stops at this refusal, if it does. It counts the tries that found the line full.
+fn stop_for(refused: Refused, limit: Option<u32>, full: &mut usize) -> Option<FeedStop>
+    ensures stop { IfSome result (λ stop. stop ≡ stop_at refused) }
+    ensures last { result ≡ Some FeedStop.Turns → limit ≡ Some full.new }
+    ensures goes_on { result ≡ None → (refused ≡ Refused.Full) × (limit ≢ Some full.new) }
+    ensures count { refused ≡ Refused.Full → full.new ≡ min (full.old + 1) (2 ^ 64 - 1) }
+    ensures word { IfSome limit (λ most. most < 2 ^ 32) }
+{
+    match refused {
+        Refused::Full => {
+            *full = full.saturating_add(1);
+            if is_reached(limit, *full) {
+                Some(FeedStop::Turns)
+            } else {
+                None
+            }
+        }
+        Refused::Closed { seen } => Some(FeedStop::Closed { seen }),
+        Refused::LaneSpent => Some(FeedStop::LaneSpent),
+    }
+}
+
 // Hands in the jobs, until one is refused for good or the line was full as often as the limit says.
 fn hand_in<R: Wait, L: JobLine>(
     rt: &R,
@@ -118,25 +141,15 @@ fn hand_in<R: Wait, L: JobLine>(
             pause.reset();
             continue;
         };
-        let stop = match refused {
-            Refused::Full => {
-                full = full.saturating_add(1);
-                if is_reached(limit, full) {
-                    FeedStop::Turns
-                } else {
-                    left.push_front_reserved(job);
-                    wait_at_line(rt, line, lane, &mut pause);
-                    continue;
-                }
-            }
-            Refused::Closed { seen } => FeedStop::Closed { seen },
-            Refused::LaneSpent => FeedStop::LaneSpent,
-        };
-        return FeedEnd {
-            back: Some(job),
-            left,
-            stop,
-        };
+        if let Some(stop) = stop_for(refused, limit, &mut full) {
+            return FeedEnd {
+                back: Some(job),
+                left,
+                stop,
+            };
+        }
+        left.push_front_reserved(job);
+        wait_at_line(rt, line, lane, &mut pause);
     }
     unreachable!()
 }
