@@ -1,25 +1,46 @@
--- Lists that grow by one, and facts of a shop's line and floor.
-use Rattle.std.proofs.Common.{rules, ◌≡◌, ◌⊎◌, ℕ, ◌<◌, ◌≤◌, ⊎_elim, ◌++◌, ◌∷◌, [], List, Option, Some, map, sym, ap, subst, ◌∙◌, arith}
+-- What a worker has served, and facts of a shop's line and floor.
+use Rattle.std.proofs.Common.{rules, ◌≡◌, ◌⊎◌, ℕ, ◌<◌, ◌≤◌, ⊎_elim, ◌++◌, ◌∷◌, [], List, Option, None, Some, map, refl, sym, ap, subst, ◌∙◌, arith}
 use Rattle.std.proofs.lemmas.Bool.{cases_lt}
 use Rattle.std.proofs.lemmas.List.{map-append, append-nil}
+use Rattle.std.proofs.lemmas.List.Elements.{All-push, All-same}
+use Rattle.cube_shape.specs.declared.region.Region.{Region}
+use Rattle.job_types.specs.Reply.{ReplyData}
+use Rattle.job_queue.specs.declared.record.QueuedJob.{QueuedJob}
 use Rattle.job_queue.specs.Line.{LineId}
 use Rattle.floors.specs.Floor.{FloorId}
 use Rattle.dispatcher.specs.Shop.{ShopId}
+use Rattle.dispatcher.specs.InnerShop.{HasServed}
+use Rattle.dispatcher.specs.Reply.{answered, region_of, IsRight}
 use Rattle.dispatcher.specs.declared.stop.Stop.{Stop}
 use Rattle.dispatcher.specs.declared.stop.Stop.TheVariants.{Ended, OutOfMemory, NotRun, Enough}
 
 -- what a record gained by one more is what the list gained by one more
-pub gained : {A B : Type 0} (f : A → B) (before after : List B) (y : B) (x : A) (xs ys zs : List A) → before ≡ map f xs → after ≡ before ++ y ∷ [] → f x ≡ y → ys ≡ xs → zs ≡ ys ++ x ∷ [] → after ≡ map f zs
-gained {A} {B} f before after y x xs ys zs start gains same reserved pushed =
+gained : {A B : Type 0} (f : A → B) (before after : List B) (y : B) (x : A) (xs zs : List A)
+    → before ≡ map f xs → after ≡ before ++ y ∷ [] → f x ≡ y → zs ≡ xs ++ x ∷ [] → after ≡ map f zs
+gained {A} {B} f before after y x xs zs start gains same pushed =
     gains
     ∙ (ap (λ (bs : List B). bs ++ y ∷ []) start
-    ∙ (ap (λ (z : B). map f xs ++ z ∷ []) (sym same)
-    ∙ (sym (map-append f xs (x ∷ []))
-    ∙ (ap (λ (ws : List A). map f (ws ++ x ∷ [])) (sym reserved) ∙ ap (map f) (sym pushed)))))
+    ∙ (ap (λ (z : B). map f xs ++ z ∷ []) (sym same) ∙ (sym (map-append f xs (x ∷ [])) ∙ ap (map f) (sym pushed))))
 
--- and where a record gained nothing
-pub kept : {A B : Type 0} (f : A → B) (before after : List B) (xs ys : List A) → before ≡ map f xs → after ≡ before ++ [] → ys ≡ xs → after ≡ map f ys
-kept {A} {B} f before after xs ys start gains reserved = gains ∙ (append-nil before ∙ (start ∙ ap (map f) (sym reserved)))
+-- a worker has served one job more
+pub served_more : (n : ℕ) (taken after : List QueuedJob) (grants now : List Region) (replies more : List ReplyData)
+    → (q : QueuedJob) (reply : ReplyData) → after ≡ taken ++ q ∷ [] → answered reply ≡ q → now ≡ grants ++ region_of reply ∷ [] → IsRight n reply
+    → more ≡ replies ++ reply ∷ [] → HasServed n taken grants replies → HasServed n after now more
+served_more n taken after grants now replies more q reply takes answers granted right pushed was = record {
+  answers = gained answered taken after q reply replies more was.answers takes answers pushed;
+  regions = gained region_of grants now (region_of reply) reply replies more was.regions granted refl pushed;
+  right = All-same (IsRight n) more (replies ++ reply ∷ []) pushed (All-push (IsRight n) replies reply was.right right);
+}
+
+-- or none
+pub served_none : (n : ℕ) (taken after : List QueuedJob) (grants : List Region) (replies : List ReplyData)
+    → after ≡ taken ++ [] → HasServed n taken grants replies → HasServed n after grants replies
+served_none n taken after grants replies takes was = record { answers = takes ∙ (append-nil taken ∙ was.answers); regions = was.regions; right = was.right }
+
+-- and where its replies, or its record, are the same ones
+pub served_same : (n : ℕ) (taken : List QueuedJob) (grants : List Region) (replies same : List ReplyData)
+    → same ≡ replies → HasServed n taken grants replies → HasServed n taken grants same
+served_same n taken grants replies same is was = subst (λ (rs : List ReplyData). HasServed n taken grants rs) (sym is) was
 
 -- a fact of the line, or of the floor, that a shop has within is one of the shop that contracts see
 pub at_line : (P : LineId → Type 0) (within seen : ShopId) → within ≡ seen → P within.line → P seen.line
@@ -54,3 +75,7 @@ full_not_idle stop why is = search rules
 
 pub some_is : (stop : Stop) → Some stop ≡ Some Enough → stop ≡ Enough
 some_is stop same = search rules
+
+-- where there is no limit no count is the limit
+pub no_limit : (count : ℕ) → None ≡ Some count → ⊥
+no_limit count is = search rules

@@ -1,9 +1,9 @@
 //! What a worker does.
-ghost use Rattle.std.specs.Prelude.{◌≡◌, ◌≢◌, ℕ, ◌<◌, ◌≤◌, ◌⊎◌, Some, None, IfSome, length};
+ghost use Rattle.std.specs.Prelude.{◌≡◌, ◌≢◌, ℕ, ◌+◌, ◌<◌, ◌≤◌, ◌⊎◌, Some, None, IfSome, IsSome, length};
 ghost use Rattle.std.specs.Vec.{vec_capacity};
 ghost use Rattle.dispatcher.specs.Members.{IsWorkerOf, IsEndOf, worker_record, stop_of, replies_of, end_record};
 ghost use Rattle.dispatcher.specs.Stop.{FindsTheEnd};
-ghost use Rattle.dispatcher.specs.InnerShop.{IsOneMachine, shop_of};
+ghost use Rattle.dispatcher.specs.InnerShop.{IsOneMachine, HasServed, shop_of};
 
 use crate::limit::is_reached;
 use crate::runner::Runner;
@@ -53,6 +53,46 @@ fn wait_for_job<R: Wait, L: JobLine>(rt: &R, line: &L, pass: &mut L::Pass, pause
     }
 }
 
+// Takes a job and answers it, and gives the station back. Where the line is empty it waits for the length of
+// a pause, and where it has ended it says so.
+fn serve_next<R: Wait, L: JobLine, F: Floor, T: Runner>(
+    rt: &R,
+    line: &L,
+    floor: &F,
+    runner: &T,
+    pass: &mut L::Pass,
+    station: F::Station,
+    replies: &mut Vec<Reply>,
+    pause: &mut Pause,
+) -> (F::Station, Option<Stop>)
+    requires one_machine { IsOneMachine (L.id line.now) (F.id floor.now) }
+    requires pass { L.is_pass (L.id line.now) pass.old }
+    requires station { F.is_station (F.id floor.now) station }
+    requires room { length replies.old.items < vec_capacity replies.old }
+    ensures pass { L.is_pass (L.id line.now) pass.new }
+    ensures station { F.is_station (F.id floor.now) result.0 }
+    ensures served { HasServed (F.id floor.now).dim (L.pass_record pass.old).taken (F.grants station)
+        replies.old.items → HasServed (F.id floor.now).dim (L.pass_record pass.new).taken
+        (F.grants result.0) replies.new.items }
+    ensures one_more { length replies.new.items ≤ length replies.old.items + 1 }
+    ensures stop { IfSome result.1 (λ stop. stop ≡ Stop.Ended) }
+    ensures ended { IsSome result.1 →
+        FindsTheEnd (L.pass_record pass.old) (L.pass_record pass.new) }
+    ensures stays { IsSome result.1 → replies.new.items ≡ replies.old.items }
+{
+    match line.take(rt, pass) {
+        Taken::Job(id, job) => {
+            let (back, reply) = serve(rt, floor, runner, station, id, job);
+            replies.push_reserved(reply);
+            pause.reset();
+            return (back, None);
+        }
+        Taken::EmptyNow => wait_for_job(rt, line, pass, pause),
+        Taken::Ended(_) => return (station, Some(Stop::Ended)),
+    }
+    (station, None)
+}
+
 // Takes jobs and answers each, until the line has ended or there are as many replies as the limit says.
 fn work<R: Wait, L: JobLine, F: Floor, T: Runner>(
     rt: &R,
@@ -89,22 +129,24 @@ fn work<R: Wait, L: JobLine, F: Floor, T: Runner>(
                 stop,
             };
         }
-        match line.take(rt, &mut pass) {
-            Taken::Job(id, job) => {
-                let (back, reply) = serve(rt, floor, runner, station, id, job);
-                station = back;
-                replies.push_reserved(reply);
-                pause.reset();
-            }
-            Taken::EmptyNow => wait_for_job(rt, line, &mut pass, &mut pause),
-            Taken::Ended(_) => {
-                return WorkerEnd {
-                    pass,
-                    station,
-                    replies,
-                    stop: Stop::Ended,
-                };
-            }
+        let (back, stop) = serve_next(
+            rt,
+            line,
+            floor,
+            runner,
+            &mut pass,
+            station,
+            &mut replies,
+            &mut pause,
+        );
+        station = back;
+        if let Some(stop) = stop {
+            return WorkerEnd {
+                pass,
+                station,
+                replies,
+                stop,
+            };
         }
     }
     unreachable!()
