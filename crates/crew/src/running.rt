@@ -91,6 +91,28 @@ fn stops_of<L: JobLine, F: Floor>(ends: &[WorkerEnd<L, F>], stops: Vec<Stop>) ->
     stops
 }
 
+// A lane, and what became of it.
+#[tactic(auto, using(crate::proofs::EndLemmas::unfed_is))]
+fn lane_of<L: JobLine>(fed: Fed<L>) -> (L::Lane, Unfed)
+    ensures lane { result.0 ≡ fed.lane }
+    ensures unfed { result.1 ≡ unfed_of (L.lane_record fed.lane) fed.back fed.left fed.stop }
+{
+    let Fed {
+        lane,
+        back,
+        left,
+        stop,
+    } = fed;
+    let unfed = Unfed {
+        lane: L::lane_number(&lane),
+        entries: L::entry_count(&lane),
+        back,
+        left,
+        stop,
+    };
+    (lane, unfed)
+}
+
 // The lanes, and what became of each.
 fn part<L: JobLine>(
     fed: Vec<Fed<L>>,
@@ -106,19 +128,8 @@ fn part<L: JobLine>(
 {
     let mut fed = VecDeque::from_vec(fed);
     while let Some(one) = fed.pop_front() {
-        let Fed {
-            lane,
-            back,
-            left,
-            stop,
-        } = one;
-        unfed.push_reserved(Unfed {
-            lane: L::lane_number(&lane),
-            entries: L::entry_count(&lane),
-            back,
-            left,
-            stop,
-        });
+        let (lane, one) = lane_of(one);
+        unfed.push_reserved(one);
         lanes.push_reserved(lane);
     }
     fed.destroy_empty();

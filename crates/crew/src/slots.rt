@@ -40,7 +40,7 @@ impl<J: Naming, L: JobLine, F: Floor> Model for Idle<J, L, F> {
 
 impl<J: Naming, L: JobLine, F: Floor> Idle<J, L, F> {
     // A slot for the last of them.
-    #[tactic(auto, using(crate::proofs::SlotLemmas::all_last))]
+    #[tactic(auto, using(crate::proofs::SlotLemmas::all_last, crate::proofs::SlotLemmas::all_front))]
     fn next(&mut self) -> Option<Post<J, L, F>>
         ensures fewer { MatchOption result ((self.old ≡ 0) × (self.new ≡ 0))
             (λ post. self.old ≡ self.new + 1) }

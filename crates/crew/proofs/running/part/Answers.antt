@@ -1,7 +1,6 @@
 use Rattle.std.proofs.Common.{map, length, refl, ap, arith}
 use Rattle.crew.specs.InnerEnd.{unfed_of}
 use Rattle.dispatcher.proofs.GoesOverLemmas.{none_gone, goes_over, none_left}
-use Rattle.crew.proofs.EndLemmas.{unfed_is}
 use Rattle.crew.proofs.running.part.Goals as goal
 
 pub loop-one-init : goal.loop-one-init
@@ -23,12 +22,14 @@ push_reserved-requires-in-Some g c = omega (arith, c.loop-one.invariant.2, ap le
 pub loop-one-preserved : goal.loop-one-preserved
 loop-one-preserved g c =
     let record_of = g.L.JobLine.lane_record in
-    let items = c.in-Some.ensures.items in (
-      goes_over (λ f. f.lane) c.loop-one.lanes.items c.push_reserved-in-Some.new.self.items (map (λ f. f.lane) c.args.fed.items) c.in-Some.one.lane c.in-Some.one c.loop-one.fed.items c.pop_front.new.self.items
-          c.loop-one.invariant.0 items c.push_reserved-in-Some.ensures.items refl,
-      goes_over (λ f. unfed_of (record_of f.lane) f.back f.left f.stop) c.loop-one.unfed.items c.push_reserved.new.self.items (map (λ f. unfed_of (record_of f.lane) f.back f.left f.stop) c.args.fed.items) _ c.in-Some.one c.loop-one.fed.items c.pop_front.new.self.items
-          c.loop-one.invariant.1 items c.push_reserved.ensures.items
-          (unfed_is (record_of c.in-Some.one.lane) c.in-Some.one.back c.in-Some.one.left c.in-Some.one.stop c.lane_number.result c.entry_count.result c.lane_number.ensures c.entry_count.ensures),
+    let items = c.in-Some.ensures.items in
+    let one = c.in-Some.one in
+    let lane = c.lane_of-lane.result.0 in
+    let unfed = c.lane_of-lane.result.1 in (
+      goes_over (λ f. f.lane) c.loop-one.lanes.items c.push_reserved-in-Some.new.self.items (map (λ f. f.lane) c.args.fed.items) lane one c.loop-one.fed.items c.pop_front.new.self.items
+          c.loop-one.invariant.0 items c.push_reserved-in-Some.ensures.items c.lane_of-lane.ensures.lane,
+      goes_over (λ f. unfed_of (record_of f.lane) f.back f.left f.stop) c.loop-one.unfed.items c.push_reserved.new.self.items (map (λ f. unfed_of (record_of f.lane) f.back f.left f.stop) c.args.fed.items) unfed one c.loop-one.fed.items c.pop_front.new.self.items
+          c.loop-one.invariant.1 items c.push_reserved.ensures.items c.lane_of-lane.ensures.unfed,
       omega (arith, c.loop-one.invariant.2, ap length items, c.push_reserved-in-Some.ensures.len, c.push_reserved-in-Some.ensures.capacity),
       omega (arith, c.loop-one.invariant.3, ap length items, c.push_reserved.ensures.len, c.push_reserved.ensures.capacity),
     )
