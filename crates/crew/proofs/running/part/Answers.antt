@@ -1,4 +1,4 @@
-use Rattle.std.proofs.Common.{map, length, refl, ap, arith}
+use Rattle.std.proofs.Common.{map, length, ap, arith}
 use Rattle.crew.specs.InnerEnd.{unfed_of}
 use Rattle.dispatcher.proofs.GoesOverLemmas.{none_gone, goes_over, none_left}
 use Rattle.crew.proofs.running.part.Goals as goal
