@@ -50,12 +50,18 @@ where_known (Some bytes) P Q gives is = gives bytes is
 -- ---- what is returned for a file
 
 -- a fault of the file in place of a run
-pub fault_unanswered : {M : Type 0} (words_of : M → List ℕ) (n : ℕ) (read : Option (List ℕ)) (fault : Fault) → IfSome read (λ bytes. ReturnsLanes (parse_jobs n bytes) (Err fault)) → IfSome read (λ bytes. ReturnsRun words_of n (parse_jobs n bytes) (Err (record { fault = fault; end = None })))
+pub fault_unanswered : {M : Type 0} (words_of : M → List ℕ) (n : ℕ) (read : Option (List ℕ)) (fault : Fault)
+    → IfSome read (λ bytes. ReturnsLanes (parse_jobs n bytes) (Err fault))
+    → IfSome read (λ bytes. ReturnsRun words_of n (parse_jobs n bytes) (Err (record { fault = fault; end = None })))
 fault_unanswered words_of n None fault parsed = tt
 fault_unanswered words_of n (Some bytes) fault parsed = (parsed, tt)
 
 -- where the open lanes of a good file were run and answered, so was the file
-pub file_answered : {M : Type 0} (words_of : M → List ℕ) (n : ℕ) (parse : Result (List JobData) Fault) (lanes : Vec (Vec JobData Global) Global) (lists : List (List JobData)) (end : RunEnd M) → ReturnsLanes parse (Ok lanes) → ((jobs : List JobData) → AreLanes lanes.items jobs → AreOpenLanes lists jobs) → IsRun words_of n lists end → AnswersAll n lists (by_worker_of end) end.finished.rest.items → length end.finished.accepted.items ≡ length lists → ReturnsRun words_of n parse (Ok end)
+pub file_answered : {M : Type 0} (words_of : M → List ℕ) (n : ℕ) (parse : Result (List JobData) Fault)
+    (lanes : Vec (Vec JobData Global) Global) (lists : List (List JobData)) (end : RunEnd M) → ReturnsLanes parse (Ok lanes)
+    → ((jobs : List JobData) → AreLanes lanes.items jobs → AreOpenLanes lists jobs) → IsRun words_of n lists end
+    → AnswersAll n lists (by_worker_of end) end.finished.rest.items → length end.finished.accepted.items ≡ length lists
+    → ReturnsRun words_of n parse (Ok end)
 file_answered words_of n parse lanes lists end (jobs, good, are) opens run all count = (
   jobs,
   good,
@@ -72,7 +78,10 @@ reason_refuses_nothing why.OutOfMemory refused = true≢false (sym refused)
 reason_refuses_nothing why.Spent refused = true≢false (sym refused)
 
 -- where the run of a good file was not whole
-pub file_unanswered : {M : Type 0} (words_of : M → List ℕ) (n : ℕ) (parse : Result (List JobData) Fault) (lanes : Vec (Vec JobData Global) Global) (lists : List (List JobData)) (s : Stopped M) → ReturnsLanes parse (Ok lanes) → ((jobs : List JobData) → AreLanes lanes.items jobs → AreOpenLanes lists jobs) → MatchStopped s (λ why back. ⊤) (λ why end. IsRun words_of n lists end) → ReturnsRun words_of n parse (Err (unanswered_of s))
+pub file_unanswered : {M : Type 0} (words_of : M → List ℕ) (n : ℕ) (parse : Result (List JobData) Fault)
+    (lanes : Vec (Vec JobData Global) Global) (lists : List (List JobData)) (s : Stopped M) → ReturnsLanes parse (Ok lanes)
+    → ((jobs : List JobData) → AreLanes lanes.items jobs → AreOpenLanes lists jobs)
+    → MatchStopped s (λ why back. ⊤) (λ why end. IsRun words_of n lists end) → ReturnsRun words_of n parse (Err (unanswered_of s))
 file_unanswered words_of n parse lanes lists (stopped.Refused why back) parsed opens run = (λ refused. absurd (true≢false (sym refused)), tt)
 file_unanswered words_of n parse lanes lists (stopped.Unfinished why end) (jobs, good, are) opens run = (
   λ refused. absurd (reason_refuses_nothing why refused),
@@ -124,26 +133,41 @@ are_replies n jobs finished replies answers same sorted = record {
 }
 
 -- a fault of writing, or of making what is written
-pub write_failed : (before after : ℕ) (result : Result (Unit {0}) Fault) → IfErr result (λ fault. fault ≡ attribute what.Write before after) → IfErr result (λ fault. (fault ≡ attribute what.Write before after) ⊎ (fault ≡ record { row = 0; what = what.OutOfMemory }))
+pub write_failed : (before after : ℕ) (result : Result (Unit {0}) Fault)
+    → IfErr result (λ fault. fault ≡ attribute what.Write before after)
+    → IfErr result (λ fault. (fault ≡ attribute what.Write before after) ⊎ (fault ≡ record { row = 0; what = what.OutOfMemory }))
 write_failed before after (Ok done) failed = tt
 write_failed before after (Err fault) failed = inl failed
 
 -- or the one that came in place of a run
-pub output_failed : (told : Option Fault) (before after : ℕ) (result : Result (Unit {0}) Fault) → IfErr result (λ fault. (fault ≡ attribute what.Write before after) ⊎ (fault ≡ record { row = 0; what = what.OutOfMemory })) → IfErr result (λ fault. (told ≡ Some fault) ⊎ (fault ≡ attribute what.Write before after) ⊎ (fault ≡ record { row = 0; what = what.OutOfMemory }))
+pub output_failed : (told : Option Fault) (before after : ℕ) (result : Result (Unit {0}) Fault)
+    → IfErr result (λ fault. (fault ≡ attribute what.Write before after) ⊎ (fault ≡ record { row = 0; what = what.OutOfMemory }))
+    → IfErr result (λ fault. (told ≡ Some fault) ⊎ (fault ≡ attribute what.Write before after) ⊎ (fault ≡ record { row = 0; what = what.OutOfMemory }))
 output_failed told before after (Ok done) failed = tt
 output_failed told before after (Err fault) failed = inr failed
 
-not_refused : (fault : Fault) (before after : ℕ) → (fault ≡ attribute what.Write before after) ⊎ (fault ≡ record { row = 0; what = what.OutOfMemory }) → is_refusal fault.what ≡ true → ⊥
+not_refused : (fault : Fault) (before after : ℕ)
+    → (fault ≡ attribute what.Write before after) ⊎ (fault ≡ record { row = 0; what = what.OutOfMemory }) → is_refusal fault.what ≡ true
+    → ⊥
 not_refused fault before after (inl is) refused = write_refuses_nothing fault before after is refused
 not_refused fault before after (inr is) refused = absurd (true≢false (sym (ap (λ (f : Fault). is_refusal f.what) (sym is) ∙ refused)))
 
 -- a fault in place of a run is passed on
-pub fault_passed : {M Row : Type 0} (words_of : M → List ℕ) (n : ℕ) (parse : Result (List JobData) Fault) (answers : List JobData → List Row → Type 0) (text : List Row → List ℕ) (old new : Option (List ℕ)) (answer : Result (RunEnd M) (Unanswered M)) (fault : Fault) → fault_in answer ≡ Some fault → ReturnsRun words_of n parse answer → IsAnswer parse answers text old new (Err fault)
+pub fault_passed : {M Row : Type 0} (words_of : M → List ℕ) (n : ℕ) (parse : Result (List JobData) Fault)
+    (answers : List JobData → List Row → Type 0) (text : List Row → List ℕ) (old new : Option (List ℕ))
+    (answer : Result (RunEnd M) (Unanswered M)) (fault : Fault) → fault_in answer ≡ Some fault → ReturnsRun words_of n parse answer
+    → IsAnswer parse answers text old new (Err fault)
 fault_passed words_of n parse answers text old new (Ok end) fault none is = cc
 fault_passed words_of n parse answers text old new (Err unanswered) fault same is = subst (λ (f : Fault). is_refusal f.what ≡ true → parse ≡ Err f) (cc) is.0
 
 -- what is made of the run of a file, written or not
-pub output_answered : {M Row : Type 0} (words_of : M → List ℕ) (n : ℕ) (parse : Result (List JobData) Fault) (answers : List JobData → List Row → Type 0) (text : List Row → List ℕ) (old new : Option (List ℕ)) (before after : ℕ) (answer : Result (RunEnd M) (Unanswered M)) (end : RunEnd M) (result : Result (Unit {0}) Fault) → answer ≡ Ok end → ReturnsRun words_of n parse answer → ((jobs : List JobData) → AnswersJobs n jobs end.finished → OnOk result ((rows : List Row) × answers jobs rows × Appends old new (text rows))) → IfErr result (λ fault. (fault ≡ attribute what.Write before after) ⊎ (fault ≡ record { row = 0; what = what.OutOfMemory })) → IsAnswer parse answers text old new result
+pub output_answered : {M Row : Type 0} (words_of : M → List ℕ) (n : ℕ) (parse : Result (List JobData) Fault)
+    (answers : List JobData → List Row → Type 0) (text : List Row → List ℕ) (old new : Option (List ℕ)) (before after : ℕ)
+    (answer : Result (RunEnd M) (Unanswered M)) (end : RunEnd M) (result : Result (Unit {0}) Fault) → answer ≡ Ok end
+    → ReturnsRun words_of n parse answer
+    → ((jobs : List JobData) → AnswersJobs n jobs end.finished → OnOk result ((rows : List Row) × answers jobs rows × Appends old new (text rows)))
+    → IfErr result (λ fault. (fault ≡ attribute what.Write before after) ⊎ (fault ≡ record { row = 0; what = what.OutOfMemory }))
+    → IsAnswer parse answers text old new result
 output_answered words_of n parse answers text old new before after answer end (Ok done) ran is written failed =
     let (jobs, good, run, all) = subst (ReturnsRun words_of n parse) ran is in
     let (rows, are, out) = written jobs all in

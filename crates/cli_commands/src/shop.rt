@@ -60,7 +60,7 @@ fn to_unanswered<M: Drop>(stopped: Stopped<M>) -> Unanswered<M>
     }
 }
 
-// Answers the jobs of all lanes: those of the open ones, each by a line.
+// Answers the jobs of these lanes, of which each open one is handed in by a line.
 fn answer_lanes<H, L, F, T>(
     rt: &H,
     alloc: Global,
