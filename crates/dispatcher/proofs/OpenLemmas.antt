@@ -1,10 +1,13 @@
 -- Facts of the parts of members, as facts of the members.
-use Rattle.std.proofs.Common.{◌≡◌, ◌++◌, ◌∷◌, [], List, map, length, ℕ, zero, suc, length-append, append_assoc, refl, sym, ap, ◌∙◌, arith}
+use Rattle.std.proofs.Common.{◌≡◌, ◌<◌, ◌++◌, ◌∷◌, [], Bool, true, false, List, Some, None, map, length, not, if◌then◌else◌, nat_lt, ℕ, zero, suc, length-append, append_assoc, refl, sym, ap, ◌∙◌, arith}
 use Rattle.std.proofs.lemmas.List.{map-append}
 use Rattle.std.specs.List.{All}
 use Rattle.std.proofs.lemmas.List.Elements.{All-nil, All-cons, All-head, All-tail, All-same, All-push}
 use Rattle.job_queue.specs.declared.record.PassRecord.{PassRecord}
 use Rattle.job_queue.specs.Record.{fresh_pass, fresh_passes}
+use Rattle.cube_shape.specs.declared.limits.TheConstants.{MAX_DIM, MAX_LANES}
+use Rattle.dispatcher.specs.Opening.{is_within, refusal_of}
+use Rattle.dispatcher.specs.declared.opening.ShopRefused.TheVariants.{BadDimension, BadLanes, BadDispatchers}
 
 -- what holds of each part holds of the part of each
 pub of_parts : {A B : Type 0} (P : B → Type 0) (f : A → B) (xs : List A) → All P (map f xs) → All (λ x. P (f x)) xs
@@ -46,3 +49,14 @@ moved {A} {B} f all left rest old new x start popped pushed =
 -- what all had, the first one has
 pub first_has : {A : Type 0} (P : A → Type 0) (x : A) (xs ys : List A) → ys ≡ x ∷ xs → All P ys → P x
 first_has P x xs ys popped all = All-head P x xs (All-same P (x ∷ xs) ys (sym popped) all)
+
+-- sizes with no dispatcher are refused, whatever the two tests before say
+refused : (is_large is_within_lanes : Bool) → (if is_large then Some BadDimension else if not is_within_lanes then Some BadLanes else Some BadDispatchers) ≡ None → ⊥
+refused true is_within_lanes is = cc
+refused false true is = cc
+refused false false is = cc
+
+-- a shop whose sizes are not refused has a dispatcher
+pub has_dispatchers : (n lanes dispatchers capacity : ℕ) → refusal_of n lanes dispatchers capacity ≡ None → 0 < dispatchers
+has_dispatchers n lanes zero capacity is = absurd (refused (nat_lt MAX_DIM n) (is_within MAX_LANES lanes) is)
+has_dispatchers n lanes (suc d) capacity is = omega (arith)

@@ -1,4 +1,4 @@
-use Rattle.std.proofs.Common.{rules, ◌≡◌, ◌∷◌, ◌++◌, Ok, sym, subst}
+use Rattle.std.proofs.Common.{◌≡◌, ◌∷◌, ◌++◌, ℕ, List, Vec, Global, Result, Ok, sym, ap, subst, ◌∙◌}
 use Rattle.jobs_csv.proofs.PartLemmas.{IsMadeSoFar, rows_of, text_added}
 use Rattle.jobs_csv.proofs.writing.add_parts.Goals as goal
 
@@ -9,8 +9,12 @@ loop-part-preserved g c =
     let rows = rows_of c.args.parts.items in
     let before = c.args.text.now.items in
     let now = c.loop-part.text.items in
-    let left = c.pop_front.new.self.items in
-    let next : c.loop-part.left.items ≡ Ok c.in_ok-part.part ∷ left = search rules in
-    let more : c.extend_from_slice.new.self.items ≡ now ++ c.in_ok-part.part.items = search rules in
+    let first : c.loop-part.left.items ≡ c.in-Some.part ∷ c.pop_front.new.self.items = c.in-Some.ensures.items in
+    let next : c.loop-part.left.items ≡ Ok c.in_ok-part.part ∷ c.pop_front.new.self.items =
+    first ∙ ap (λ (part : Result (Vec ℕ Global) _). part ∷ c.pop_front.new.self.items) c.in_ok-part.was in
+    let longer : c.extend_from_slice.new.self.items ≡ c.loop-part.text.items ++ c.deref.result.now = c.in_ok-extend_from_slice.ensures.items in
+    let more : c.extend_from_slice.new.self.items ≡ c.loop-part.text.items ++ c.in_ok-part.part.items =
+    longer ∙ ap (λ (text : List ℕ). c.loop-part.text.items ++ text) c.deref.ensures.value in
     let had = subst (IsMadeSoFar fields rows before now) next c.loop-part.invariant in
-    subst (λ text. IsMadeSoFar fields rows before text left) (sym more) (text_added fields rows before now c.in_ok-part.part left had)
+    subst (λ text. IsMadeSoFar fields rows before text c.pop_front.new.self.items) (sym more)
+    (text_added fields rows before now c.in_ok-part.part c.pop_front.new.self.items had)
