@@ -71,9 +71,10 @@ fn serve_next<R: Wait, L: JobLine, F: Floor, T: Runner>(
     requires room { length replies.old.items < vec_capacity replies.old }
     ensures pass { L.is_pass (L.id line.now) pass.new }
     ensures station { F.is_station (F.id floor.now) result.0 }
-    ensures served { HasServed (F.id floor.now).dim (L.pass_record pass.old).taken (F.grants station)
-        replies.old.items → HasServed (F.id floor.now).dim (L.pass_record pass.new).taken
-        (F.grants result.0) replies.new.items }
+    ensures served { HasServed (F.id floor.now).dim (L.pass_record pass.old).taken
+        (F.grants station) replies.old.items
+        → HasServed (F.id floor.now).dim (L.pass_record pass.new).taken (F.grants result.0)
+        replies.new.items }
     ensures one_more { length replies.new.items ≤ length replies.old.items + 1 }
     ensures stop { IfSome result.1 (λ stop. stop ≡ Stop.Ended) }
     ensures ended { IsSome result.1 →
