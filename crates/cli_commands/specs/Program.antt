@@ -1,5 +1,6 @@
 -- What a call of the program does, by its words: which command, its answer, and how it ends.
-use Rattle.std.specs.Prelude.{◌≡◌, ◌⊎◌, ℕ, Bool, true, false, List, Option, None, Some, Result, Ok, Err, IfSome, is_some, option_map, string_bytes, ⊤}
+use Rattle.std.specs.Prelude.{◌≡◌, ◌⊎◌, ◌++◌, ◌∷◌, [], ℕ, Bool, true, false, List, codes, Option, None, Some, Result, Ok, Err, IfSome, is_some, option_map, string_bytes, ⊤}
+use Rattle.std.specs.Io.KnownBytes.{Appends}
 use Rattle.clap.specs.Words.{Text}
 use Rattle.jobs_csv.specs.declared.fault.Fault.{Fault}
 use Rattle.jobs_csv.specs.declared.fault.FaultKind.TheVariants as what
@@ -23,6 +24,8 @@ use Rattle.cli_commands.specs.Place.{ArePlaced}
 use Rattle.cli_commands.specs.Replay.{AreReplayed}
 use Rattle.cli_commands.specs.Replies.{AreReplies}
 use Rattle.cli_commands.specs.Report.{AreReportRows}
+use Rattle.whole_file.specs.FileFault.{file_fault_text}
+use Rattle.whole_file.specs.declared.file_fault.FileFault.{FileFault}
 use Rattle.whole_file.specs.declared.file_fault.FileSide.{FileSide}
 use Rattle.whole_file.specs.declared.file_fault.FileSide.TheVariants.{Input, Output}
 
@@ -51,6 +54,16 @@ abbrev pub names : Option Text → Option Text → FileSide → Bool
 names input output Input = is_some input
 names input output Output = is_some output
 
+-- the name of the file of this side, where there is one
+abbrev pub name_of : Option Text → Option Text → FileSide → Option Text
+name_of input output Input = input
+name_of input output Output = output
+
+-- the line that reports why a file could not be had: the fault, and the file's name
+abbrev pub file_line : Option Text → FileFault → List ℕ
+file_line None fault = file_fault_text fault ++ 10 ∷ []
+file_line (Some name) fault = file_fault_text fault ++ codes ": " ++ name ++ 10 ∷ []
+
 -- the fault is one that a request may have, by the counts of failed calls of the reader and of the writer, before
 -- and after; where a file is read or written in place of these, by the counts of that file
 pub record IsFaultIn (input output : Option Text) (read_before read_after write_before write_after : ℕ) (invocation : Invocation) (fault : Fault) : Type 0 where
@@ -75,6 +88,10 @@ IsFailureOf words read old new may_fail fault =
 -- the words ask for a request with a file of this side
 abbrev pub AsksForFile : List Text → FileSide → Type 0
 AsksForFile words side = (request : Request) × AsksFor words request × (names (input_of request) (output_of request) side ≡ true)
+
+-- the words ask for a request, and the line that reports the fault of its file is added to what was written before
+abbrev pub ReportsFile : List Text → FileFault → Option (List ℕ) → Option (List ℕ) → Type 0
+ReportsFile words fault old new = (request : Request) × AsksFor words request × Appends old new (file_line (name_of (input_of request) (output_of request) fault.side) fault)
 
 -- the words ask for a request that writes the file of this name, where there is a name
 abbrev pub MayWrite : List Text → Option Text → Type 0

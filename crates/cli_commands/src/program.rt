@@ -1,5 +1,5 @@
 //! From the words of a command line to the end of the program.
-ghost use Rattle.std.specs.Prelude.{◌≡◌, ◌⊎◌, ◌++◌, ◌∷◌, [], ℕ, Bool, true, List, None, Option, map, string_bytes};
+ghost use Rattle.std.specs.Prelude.{◌≡◌, ◌⊎◌, ◌++◌, ◌∷◌, [], ℕ, Bool, true, List, None, Option, map, option_map, string_bytes};
 ghost use Rattle.std.specs.Io.KnownBytes.{Appends};
 ghost use Rattle.std.specs.Process.{exit_status as status_of_process};
 ghost use Rattle.clap.specs.Words.{FailsBy, fault_of, kind_of};
@@ -8,8 +8,7 @@ ghost use Rattle.jobs_csv.specs.Fault.{attribute, fault_text};
 ghost use Rattle.jobs_csv.specs.declared.fault.Fault.{Fault as TheFault};
 ghost use Rattle.cli_words.specs.CommandLine.{IsWithinLimits, program_app};
 ghost use Rattle.cli_commands.specs.Inner.Ending.{EndsAfter, EndsOn};
-ghost use Rattle.cli_commands.specs.Program.{AsksForInput, AsksForProgress, EndsBy, IsFaultIn, MayWrite, ShowsProgress, exit_status, input_of, names, output_of};
-ghost use Rattle.whole_file.specs.FileFault.{file_fault_text};
+ghost use Rattle.cli_commands.specs.Program.{AsksForInput, AsksForProgress, EndsBy, IsFaultIn, MayWrite, ReportsFile, ShowsProgress, exit_status, file_line, input_of, name_of, names, output_of};
 ghost use Rattle.whole_file.specs.Store.{KeepsFiles, KeepsOthers, begun_by, held_by};
 ghost use Rattle.whole_file.specs.declared.file_fault.FileFault.{FileFault as TheFileFault};
 
@@ -22,7 +21,7 @@ use std::io::{Read, Write};
 use std::process::ExitCode;
 use std::sync::Wait;
 use std::thread::Threads;
-use whole_file::{FileFault, FileStore};
+use whole_file::{FileFault, FileSide, FileStore};
 
 /// How a call of the program ends.
 #[derive(Clone, Copy, Debug, PartialEq, Eq)]
@@ -68,13 +67,17 @@ fn report_fault<E: Write>(fault: Fault, errors: &mut E) -> Ending
     Ending::Failed { fault, is_reported }
 }
 
-// Reports in one line that a file could not be had.
-fn report_file<E: Write>(file: FileFault, errors: &mut E) -> Ending
+// Reports in one line that the file of this name could not be had.
+fn report_file<E: Write>(file: FileFault, name: &Option<String>, errors: &mut E) -> Ending
     ensures failed { (is_reported : Bool) × (result ≡ Ending.FileFailed file is_reported) }
     ensures line { result ≡ Ending.FileFailed file true → Appends
-        (E.contents errors.old) (E.contents errors.new) (file_fault_text file ++ 10 ∷ []) }
+        (E.contents errors.old) (E.contents errors.new)
+        (file_line (option_map string_bytes name.now) file) }
 {
-    let is_reported = errors.writeln(file).is_ok();
+    let is_reported = match name {
+        Some(name) => write!(errors, "{file}: {name}\n").is_ok(),
+        None => errors.writeln(file).is_ok(),
+    };
     Ending::FileFailed {
         fault: file,
         is_reported,
@@ -111,8 +114,9 @@ where
         (names (input_of request.now) (output_of request.now)) result }
     ensures line { (fault : TheFault) → result ≡ Ending.Failed fault true
         → Appends (E.contents errors.old) (E.contents errors.new) (fault_text fault ++ 10 ∷ []) }
-    ensures file_line { (fault : TheFileFault) → result ≡ Ending.FileFailed fault true → Appends
-        (E.contents errors.old) (E.contents errors.new) (file_fault_text fault ++ 10 ∷ []) }
+    ensures file_line { (fault : TheFileFault) → result ≡ Ending.FileFailed fault true
+        → Appends (E.contents errors.old) (E.contents errors.new)
+        (file_line (name_of (input_of request.now) (output_of request.now) fault.side) fault) }
     ensures quiet { result ≡ Ending.Done → errors.new ≡ errors.old }
     ensures others { KeepsOthers (output_of request.now) (S.bytes store.old) (S.bytes store.new) }
     ensures kept { (result ≡ Ending.Done) ⊎ KeepsFiles (S.bytes store.old) (S.bytes store.new) }
@@ -124,7 +128,14 @@ where
     };
     match stop {
         Stop::Fault(fault) => return report_fault(fault, errors),
-        Stop::File(fault) => return report_file(fault, errors),
+        Stop::File(fault) => {
+            let files = &request.files;
+            let name = match fault.side {
+                FileSide::Input => &files.input,
+                FileSide::Output => &files.output,
+            };
+            return report_file(fault, name, errors);
+        }
     }
 }
 
@@ -232,8 +243,9 @@ where
         (W.failures writer.old) (W.failures writer.new)) result }
     ensures line { (fault : TheFault) → result ≡ Ending.Failed fault true
         → Appends (E.contents errors.old) (E.contents errors.new) (fault_text fault ++ 10 ∷ []) }
-    ensures file_line { (fault : TheFileFault) → result ≡ Ending.FileFailed fault true → Appends
-        (E.contents errors.old) (E.contents errors.new) (file_fault_text fault ++ 10 ∷ []) }
+    ensures file_line { (fault : TheFileFault) → result ≡ Ending.FileFailed fault true
+        → ReportsFile (map string_bytes words.now) fault
+        (E.contents errors.old) (E.contents errors.new) }
     ensures quiet { result ≡ Ending.Done → errors.new ≡ errors.old }
     ensures rejected { result ≡ Ending.Rejected
         → (reader.new ≡ reader.old) × (writer.new ≡ writer.old) }

@@ -16,6 +16,7 @@ use cli_commands::program::Ending;
 use jobs_csv::{Counted, Fault};
 use std::io;
 use std::io::IsTerminal;
+use std::process;
 use std::process::ExitCode;
 use std::rt::Env;
 use whole_file::SystemFiles;
@@ -54,7 +55,10 @@ fn main(rt: HostRuntime) -> ExitCode {
     } else {
         None
     };
-    let mut store = SystemFiles { rt: &rt };
+    let mut store = SystemFiles {
+        rt: &rt,
+        process_id: process::id(rt.process()),
+    };
     let mut reader = Counted::new(input);
     let mut writer = Counted::new(rt.stdout());
     let mut errors = rt.stderr();
@@ -75,6 +79,9 @@ fn main(rt: HostRuntime) -> ExitCode {
         &mut prompt,
     );
     // The store holds nothing that has to end.
-    let SystemFiles { rt: _ } = store;
+    let SystemFiles {
+        rt: _,
+        process_id: _,
+    } = store;
     program::exit_code(ending)
 }

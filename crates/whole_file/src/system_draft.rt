@@ -1,8 +1,12 @@
 // The files of the system, open to be read or written as a draft. They claim nothing of their bytes.
+use crate::file_fault::FileReason;
+use crate::target::{Target, followed};
+use crate::temporary_file::TemporaryFile;
 use jobs_csv::{Counted, Device};
-use std::fs::OpenFile;
+use std::fs::{Files, OpenFile};
 use std::io;
-use std::io::{Read, Write};
+use std::io::{ErrorKind, Read, Write};
+use std::os::fd::AsFd;
 use std::path::PathBuf;
 
 /// A file of the system that is open to be read.
@@ -36,47 +40,99 @@ impl<F> Device for SystemReader<F> {
     }
 }
 
-// A file that is on its disk once it is flushed.
+// A temporary file beside the target, which the first write creates and a flush brings to its disk.
 #[derive(Drop)]
-struct Settling<F> {
-    file: F,
+struct LateFile<'a, H: Files> {
+    rt: &'a H,
+    target: Target,
+    process_id: u32,
+    // The name to be tried first, until it is.
+    first_name: Option<PathBuf>,
+    created: Option<TemporaryFile<H::File>>,
 }
 
-impl<F: Write + OpenFile> Write for Settling<F> {
-    fn write(&mut self, buf: &[u8]) -> io::Result<usize> {
-        self.file.write(buf)
-    }
-
-    fn flush(&mut self) -> io::Result<()> {
-        self.file.sync_all()
-    }
-}
-
-/// A file of the system under a name that nobody asked for, which a flush brings to its disk.
-pub struct SystemDraft<F> {
-    file: Counted<Settling<F>>,
-    beside: PathBuf,
-}
-
-impl<F> SystemDraft<F> {
-    // Writes to the file, which has this name and of which no call has failed yet.
-    pub(crate) fn new(file: F, beside: PathBuf) -> Self {
-        SystemDraft {
-            file: Counted::new(Settling { file }),
-            beside,
+impl<'a, H: Files<File: AsFd> + AllocGlobal> LateFile<'a, H> {
+    // The file, which is created where it is not there yet.
+    fn file(&mut self) -> io::Result<&mut H::File> {
+        if self.created.is_none() {
+            let first = self.first_name.take();
+            match TemporaryFile::create(self.rt, &self.target, self.process_id, first) {
+                Ok(created) => self.created = Some(created),
+                Err(_) => return Err(io::Error::from(ErrorKind::Other)),
+            }
+        }
+        match &mut self.created {
+            Some(created) => Ok(&mut created.file),
+            None => Err(io::Error::from(ErrorKind::Other)),
         }
     }
 }
 
-impl<F: Drop> SystemDraft<F> {
-    // Closes the file, and gives back its name.
-    pub(crate) fn into_name(self) -> PathBuf {
-        let SystemDraft { file: _, beside } = self;
-        beside
+impl<'a, H: Files<File: AsFd> + AllocGlobal> Write for LateFile<'a, H> {
+    fn write(&mut self, buf: &[u8]) -> io::Result<usize> {
+        self.file()?.write(buf)
+    }
+
+    fn flush(&mut self) -> io::Result<()> {
+        self.file()?.sync_all()
     }
 }
 
-impl<F: Write + OpenFile> Write for SystemDraft<F> {
+/// A file of the system under a temporary name, which its first write creates and a flush brings to its
+/// disk.
+pub struct SystemDraft<'a, H: Files> {
+    file: Counted<LateFile<'a, H>>,
+}
+
+impl<'a, H: Files> SystemDraft<'a, H> {
+    // Writes to a file beside the target, under this name where it is new. No call of it has failed yet.
+    pub(crate) fn new(rt: &'a H, target: Target, process_id: u32, name: PathBuf) -> Self {
+        let first_name = Some(name);
+        let created = None;
+        SystemDraft {
+            file: Counted::new(LateFile {
+                rt,
+                target,
+                process_id,
+                first_name,
+                created,
+            }),
+        }
+    }
+}
+
+impl<'a, H: Files<File: AsFd> + AllocGlobal> SystemDraft<'a, H> {
+    // Puts the file in the place of the one of this name, which has to lead where it led before, or removes it.
+    pub(crate) fn put(self, name: &str) -> Result<(), FileReason> {
+        let SystemDraft { file } = self;
+        let late = file.get_ref();
+        let Some(created) = &late.created else {
+            return Err(FileReason::Other);
+        };
+        match followed(late.rt, name) {
+            Ok(path) if path.as_str() == late.target.path.as_str() => created.put(late.rt, &path),
+            Ok(_) => {
+                created.remove(late.rt);
+                Err(FileReason::Other)
+            }
+            Err(reason) => {
+                created.remove(late.rt);
+                Err(reason)
+            }
+        }
+    }
+
+    // Removes the file, where it was created.
+    pub(crate) fn remove(self) {
+        let SystemDraft { file } = self;
+        let late = file.get_ref();
+        if let Some(created) = &late.created {
+            created.remove(late.rt);
+        }
+    }
+}
+
+impl<'a, H: Files<File: AsFd> + AllocGlobal> Write for SystemDraft<'a, H> {
     fn write(&mut self, buf: &[u8]) -> io::Result<usize> {
         self.file.write(buf)
     }
@@ -86,7 +142,7 @@ impl<F: Write + OpenFile> Write for SystemDraft<F> {
     }
 }
 
-impl<F> Device for SystemDraft<F> {
+impl<'a, H: Files> Device for SystemDraft<'a, H> {
     ghost use Rattle.jobs_csv.specs.Device.{failures_of};
 
     ghost failures = { λ draft. failures_of draft.file };
