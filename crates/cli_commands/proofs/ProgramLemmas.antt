@@ -10,7 +10,7 @@ use Rattle.cli_words.specs.CommandLine.{AsksFor, AsksForHelp, program_app}
 use Rattle.cli_commands.specs.declared.program.Ending.{Ending}
 use Rattle.cli_commands.specs.declared.program.Ending.TheVariants.{Done, Rejected, Failed, FileFailed}
 use Rattle.cli_commands.specs.Inner.Ending.{EndsAfter, EndsOn, IsShown}
-use Rattle.cli_commands.specs.Program.{AsksForProgress, EndsBy, MayWrite, ShowsProgress, input_of, names, output_of}
+use Rattle.cli_commands.specs.Program.{AsksForInput, AsksForOutput, AsksForProgress, EndsBy, MayWrite, ShowsProgress, input_of, names, output_of}
 
 -- a request that the words ask for, carried out
 pub carried_out : (words : List Text) (request : Request) (read old new : Option Text → Option (List ℕ)) (may_fail : Option Text → Option Text → Invocation → Fault → Type 0) (ending : Ending) → AsksFor words request → EndsAfter request.invocation (read (input_of request)) (old (output_of request)) (new (output_of request)) (may_fail (input_of request) (output_of request) request.invocation) (names (input_of request) (output_of request)) ending → EndsBy words read old new may_fail ending
@@ -50,3 +50,18 @@ explained words kind read old new may_fail Rejected (inr among) is = (kind, amon
 explained words kind read old new may_fail (Failed fault is_reported) has (is, inl memory) = inr (is, inl memory)
 explained words kind read old new may_fail (Failed fault is_reported) has (is, inr shows) = inr (is, inr (shown words kind has shows))
 explained words kind read old new may_fail (FileFailed fault is_reported) has is = absurd is
+
+-- a request writes standard output only where it names no file
+pub writes_output : {A : Type 0} (words : List Text) (request : Request) → AsksFor words request → A ⊎ (request.files.output ≡ None) → A ⊎ AsksForOutput words
+writes_output words request asks (inl same) = inl same
+writes_output words request asks (inr is) = inr (inr (request, asks, is))
+
+-- and reads standard input only where it names none
+pub reads_input : {A : Type 0} (words : List Text) (request : Request) → AsksFor words request → A ⊎ (request.files.input ≡ None) → A ⊎ AsksForInput words
+reads_input words request asks (inl same) = inl same
+reads_input words request asks (inr is) = inr (request, asks, is)
+
+-- an error is shown on standard output only where the words ask for that
+pub shows_help : {A : Type 0} (words : List Text) (kind : ErrorKind) → (kind ≡ OutOfMemory) ⊎ IsAmong kind (fault_of program_app words) → A ⊎ IsShown kind → A ⊎ AsksForOutput words
+shows_help words kind has (inl same) = inl same
+shows_help words kind has (inr is) = inr (inl (shown words kind has is))

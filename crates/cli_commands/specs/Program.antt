@@ -123,6 +123,10 @@ AsksForProgress words = (request : Request) × AsksFor words request × ShowsPro
 abbrev pub AsksForInput : List Text → Type 0
 AsksForInput words = (request : Request) × AsksFor words request × (request.files.input ≡ None)
 
+-- the words ask for help, or for a request that writes standard output
+abbrev pub AsksForOutput : List Text → Type 0
+AsksForOutput words = AsksForHelp words ⊎ ((request : Request) × AsksFor words request × (request.files.output ≡ None))
+
 -- the exit status
 abbrev pub exit_status : Ending → ℕ
 exit_status Done = 0

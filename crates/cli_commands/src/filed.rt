@@ -3,7 +3,7 @@
 ghost use Rattle.std.specs.Prelude.{◌≡◌, ◌⊎◌, ℕ, List, None, Option, Some, IfErr, IfSome, option_map, string_bytes};
 ghost use Rattle.cli_words.specs.CommandLine.{IsWithinLimits};
 ghost use Rattle.cli_commands.specs.Answer.{IsMetBeforeWriting};
-ghost use Rattle.cli_commands.specs.Inner.Filed.{IsOutcome};
+ghost use Rattle.cli_commands.specs.Inner.Filed.{IsOutcome, StopsBeforeWriting};
 ghost use Rattle.cli_commands.specs.Program.{IsAnswerTo, IsFaultOf, ShowsProgress, input_of, output_of};
 ghost use Rattle.whole_file.specs.Store.{held_by};
 
@@ -134,6 +134,8 @@ where
         (R.failures reader.old) (R.failures reader.new)
         (W.failures writer.old) (W.failures writer.new)
         None (option_map string_bytes output.now) invocation result }
+    ensures untouched { IfErr result (λ stop. StopsBeforeWriting stop → writer.new ≡ writer.old) }
+    ensures aside { (writer.new ≡ writer.old) ⊎ (output.now ≡ None) }
     ensures shown { (terminal.new ≡ terminal.old) ⊎ ShowsProgress invocation }
 {
     if let Some(name) = output {
@@ -172,6 +174,9 @@ where
         (R.failures reader.old) (R.failures reader.new)
         (W.failures writer.old) (W.failures writer.new)
         (input_of request.now) (output_of request.now) request.now.invocation result }
+    ensures untouched { IfErr result (λ stop. StopsBeforeWriting stop → writer.new ≡ writer.old) }
+    ensures aside { (writer.new ≡ writer.old) ⊎ (request.now.files.output ≡ None) }
+    ensures unread { (reader.new ≡ reader.old) ⊎ (request.now.files.input ≡ None) }
     ensures shown { (terminal.new ≡ terminal.old) ⊎ ShowsProgress request.now.invocation }
 {
     let invocation = request.invocation;

@@ -7,8 +7,9 @@ ghost use Rattle.clap.specs.declared.error.kind.ErrorKind.TheVariants.{DisplayHe
 ghost use Rattle.jobs_csv.specs.Fault.{attribute, fault_text};
 ghost use Rattle.jobs_csv.specs.declared.fault.Fault.{Fault as TheFault};
 ghost use Rattle.cli_words.specs.CommandLine.{IsWithinLimits, program_app};
-ghost use Rattle.cli_commands.specs.Inner.Ending.{EndsAfter, EndsOn};
-ghost use Rattle.cli_commands.specs.Program.{AsksForInput, AsksForProgress, EndsBy, IsFaultIn, MayWrite, ReportsFile, ShowsProgress, exit_status, file_line, input_of, name_of, names, output_of};
+ghost use Rattle.cli_commands.specs.Answer.{IsMetBeforeWriting};
+ghost use Rattle.cli_commands.specs.Inner.Ending.{EndsAfter, EndsOn, IsShown};
+ghost use Rattle.cli_commands.specs.Program.{AsksForInput, AsksForOutput, AsksForProgress, EndsBy, IsFaultIn, MayWrite, ReportsFile, ShowsProgress, exit_status, file_line, input_of, name_of, names, output_of};
 ghost use Rattle.whole_file.specs.Store.{KeepsFiles, KeepsOthers, begun_by, held_by};
 ghost use Rattle.whole_file.specs.declared.file_fault.FileFault.{FileFault as TheFileFault};
 
@@ -121,6 +122,12 @@ where
     ensures others { KeepsOthers (output_of request.now) (S.bytes store.old) (S.bytes store.new) }
     ensures kept { (result ≡ Ending.Done) ⊎ KeepsFiles (S.bytes store.old) (S.bytes store.new) }
     ensures shown { (terminal.new ≡ terminal.old) ⊎ ShowsProgress request.now.invocation }
+    ensures untouched { (fault : TheFault) (is_reported : Bool)
+        → result ≡ Ending.Failed fault is_reported → IsMetBeforeWriting fault → writer.new ≡ writer.old }
+    ensures no_file { (fault : TheFileFault) (is_reported : Bool)
+        → result ≡ Ending.FileFailed fault is_reported → writer.new ≡ writer.old }
+    ensures aside { (writer.new ≡ writer.old) ⊎ (request.now.files.output ≡ None) }
+    ensures unread { (reader.new ≡ reader.old) ⊎ (request.now.files.input ≡ None) }
 {
     let stop = match answer_from(rt, alloc, request, store, reader, writer, terminal) {
         Ok(()) => return Ending::Done,
@@ -192,6 +199,9 @@ fn explain<W: Write + Device, E: Write>(
     errors: &mut E,
 ) -> Ending
     ensures ends { EndsOn (kind_of error.now) result }
+    ensures untouched { (fault : TheFault) (is_reported : Bool)
+        → result ≡ Ending.Failed fault is_reported → IsMetBeforeWriting fault → writer.new ≡ writer.old }
+    ensures aside { (writer.new ≡ writer.old) ⊎ IsShown (kind_of error.now) }
     ensures line { (fault : TheFault) → result ≡ Ending.Failed fault true
         → Appends (E.contents errors.old) (E.contents errors.new) (fault_text fault ++ 10 ∷ []) }
     ensures quiet { result ≡ Ending.Done → errors.new ≡ errors.old }
@@ -254,6 +264,12 @@ where
     ensures kept { (result ≡ Ending.Done) ⊎ KeepsFiles (S.bytes store.old) (S.bytes store.new) }
     ensures shown { (terminal.new ≡ terminal.old) ⊎ AsksForProgress (map string_bytes words.now) }
     ensures prompted { (prompt.new ≡ prompt.old) ⊎ AsksForInput (map string_bytes words.now) }
+    ensures untouched { (fault : TheFault) (is_reported : Bool)
+        → result ≡ Ending.Failed fault is_reported → IsMetBeforeWriting fault → writer.new ≡ writer.old }
+    ensures no_file { (fault : TheFileFault) (is_reported : Bool)
+        → result ≡ Ending.FileFailed fault is_reported → writer.new ≡ writer.old }
+    ensures aside { (writer.new ≡ writer.old) ⊎ AsksForOutput (map string_bytes words.now) }
+    ensures unread { (reader.new ≡ reader.old) ⊎ AsksForInput (map string_bytes words.now) }
 {
     let error = match parse_args(alloc, words) {
         Ok(request) => {

@@ -2,6 +2,7 @@
 ghost use Rattle.std.specs.Prelude.{◌≡◌, ◌⊎◌, ◌≤◌, false, None, Ok, All, IfErr, IfOk, IfSome, IsSome, List, Result, length};
 ghost use Rattle.cli_words.specs.CommandLine.{AreShopSizes};
 ghost use Rattle.crew.specs.Done.{IsDone};
+ghost use Rattle.crew.specs.Members.{RanIn};
 ghost use Rattle.cube_shape.specs.declared.limits.TheConstants.{MAX_LANES};
 ghost use Rattle.floors.specs.Floor.{IsWhollyFree};
 ghost use Rattle.jobs_csv.specs.Fault.{IsInputFault};
@@ -88,6 +89,8 @@ where
         ReturnsRun F.machine_words n parse result }
     ensures done { IfOk result (λ end. IsDone end) }
     ensures lanes { IfOk result (λ end. length end.finished.accepted.items ≤ MAX_LANES) }
+    ensures ran_in { IfOk result (λ end. RanIn L.JobLine F.Floor n
+        (length end.finished.accepted.items) dispatchers capacity end) }
     ensures workers { IfOk result (λ end. length end.finished.by_worker.items ≡ dispatchers) }
     ensures dim { IfOk result (λ end. F.machine_dim end.finished.machine ≡ n) }
     ensures closed { IfOk result (λ end. F.is_closed dispatchers end.finished.machine) }
@@ -140,6 +143,8 @@ where
         ReturnsRun F.machine_words n (parse_jobs n bytes) result) }
     ensures done { IfOk result (λ end. IsDone end) }
     ensures lanes { IfOk result (λ end. length end.finished.accepted.items ≤ MAX_LANES) }
+    ensures ran_in { IfOk result (λ end. RanIn L.JobLine F.Floor n
+        (length end.finished.accepted.items) dispatchers capacity end) }
     ensures workers { IfOk result (λ end. length end.finished.by_worker.items ≡ dispatchers) }
     ensures dim { IfOk result (λ end. F.machine_dim end.finished.machine ≡ n) }
     ensures closed { IfOk result (λ end. F.is_closed dispatchers end.finished.machine) }
@@ -201,6 +206,8 @@ where
         ReturnsRun F.machine_words n (parse_jobs n bytes) result) }
     ensures done { IfOk result (λ end. IsDone end) }
     ensures lanes { IfOk result (λ end. length end.finished.accepted.items ≤ MAX_LANES) }
+    ensures ran_in { IfOk result (λ end. RanIn L.JobLine F.Floor n
+        (length end.finished.accepted.items) dispatchers capacity end) }
     ensures workers { IfOk result (λ end. length end.finished.by_worker.items ≡ dispatchers) }
     ensures dim { IfOk result (λ end. F.machine_dim end.finished.machine ≡ n) }
     ensures closed { IfOk result (λ end. F.is_closed dispatchers end.finished.machine) }
@@ -272,6 +279,8 @@ where
     requires sizes { AreShopSizes options.dispatchers options.capacity }
     ensures answered { IfSome (R.remaining reader.old) (λ bytes.
         ReturnsRun F.machine_words options.n (parse_jobs options.n bytes) result) }
+    ensures ran_in { IfOk result (λ end. RanIn L.JobLine F.Floor options.n
+        (length end.finished.accepted.items) options.dispatchers options.capacity end) }
     ensures lanes { IfOk result (λ end. length end.finished.accepted.items ≤ MAX_LANES) }
     ensures free { IfOk result (λ end.
         IsWhollyFree options.n (F.machine_words end.finished.machine)) }

@@ -5,6 +5,7 @@ use Rattle.jobs_csv.specs.declared.fault.Fault.{Fault}
 use Rattle.cli_words.specs.declared.invocation.Invocation.{Invocation}
 use Rattle.cli_commands.specs.declared.filed.Stop.{Stop}
 use Rattle.cli_commands.specs.declared.filed.Stop.TheVariants as stop
+use Rattle.cli_commands.specs.Answer.{IsMetBeforeWriting}
 use Rattle.cli_commands.specs.Program.{IsAnswerTo, IsFaultIn, names}
 use Rattle.whole_file.specs.Store.{KeepsFiles, KeepsOthers, begun_by, held_by}
 use Rattle.whole_file.specs.declared.file_fault.FileFault.{FileFault}
@@ -13,6 +14,11 @@ use Rattle.whole_file.specs.declared.file_fault.FileFault.{FileFault}
 abbrev pub IfFault : Stop → (Fault → Type 0) → Type 0
 IfFault (stop.Fault fault) P = P fault
 IfFault (stop.File fault) P = ⊤
+
+-- it stopped before the first row was written: for such a fault, or for a file
+abbrev pub StopsBeforeWriting : Stop → Type 0
+StopsBeforeWriting (stop.Fault fault) = IsMetBeforeWriting fault
+StopsBeforeWriting (stop.File fault) = ⊤
 
 -- where it stopped for a file, this is so of the file's fault
 abbrev pub IfFile : Stop → (FileFault → Type 0) → Type 0

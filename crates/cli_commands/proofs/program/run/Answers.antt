@@ -1,7 +1,7 @@
 use Rattle.std.proofs.Common.{inl, map, refl, string_bytes}
 use Rattle.clap.specs.Words.{kind_of}
 use Rattle.cli_commands.specs.Program.{IsFaultIn}
-use Rattle.cli_commands.proofs.ProgramLemmas.{carried_out, explained, may_write, shows}
+use Rattle.cli_commands.proofs.ProgramLemmas.{carried_out, explained, may_write, reads_input, shows, shows_help, writes_output}
 use Rattle.cli_commands.proofs.program.run.Goals as goal
 use Rattle.whole_file.specs.Store.{begun_by, held_by}
 
@@ -29,3 +29,15 @@ returns-clause-ends g c = explained (map string_bytes c.args.words.now) (kind_of
 
 pub returns-clause-prompted : goal.returns-clause-prompted
 returns-clause-prompted g c = inl refl
+
+pub returns-in-Ok-clause-aside : goal.returns-in-Ok-clause-aside
+returns-in-Ok-clause-aside g c = writes_output (map string_bytes c.args.words.now) c.in-Ok.request c.in-Ok.ensures.asked c.carry_out.ensures.aside
+
+pub returns-in-Ok-clause-unread : goal.returns-in-Ok-clause-unread
+returns-in-Ok-clause-unread g c = reads_input (map string_bytes c.args.words.now) c.in-Ok.request c.in-Ok.ensures.asked c.carry_out.ensures.unread
+
+pub returns-clause-aside : goal.returns-clause-aside
+returns-clause-aside g c = shows_help (map string_bytes c.args.words.now) (kind_of c.in-Err.error) c.in-Err.ensures.fails c.explain.ensures.aside
+
+pub returns-clause-unread : goal.returns-clause-unread
+returns-clause-unread g c = inl refl

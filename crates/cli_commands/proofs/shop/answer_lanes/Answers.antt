@@ -1,7 +1,8 @@
-use Rattle.std.proofs.Common.{◌≡◌, ◌≤◌, Err, length, map, sym, subst, arith}
+use Rattle.std.proofs.Common.{◌≡◌, ◌≤◌, ◌∙◌, ℕ, Err, length, map, sym, subst, arith}
 use Rattle.std.proofs.lemmas.List.{length-map}
 use Rattle.cube_shape.specs.declared.limits.TheConstants.{MAX_LANES}
 use Rattle.jobs_csv.specs.declared.fault.FaultKind.TheVariants.{Spent}
+use Rattle.crew.specs.Members.{RanIn}
 use Rattle.cli_commands.specs.FileRun.{HasSpentLane, ReturnsRun}
 use Rattle.cli_commands.specs.declared.shop.Unanswered.{Unanswered}
 use Rattle.cli_commands.proofs.LaneLemmas.{few_lanes, made_for}
@@ -44,3 +45,9 @@ returns-in-Err-clause-spent g c =
     subst (λ (u : Unanswered _). u.fault.what ≡ Spent → HasSpentLane u.end) (sym c.to_unanswered.ensures)
     (spent_lane g.F.Floor.machine_words c.args.n (map (λ list. list.items) c.in-Ok.lists.items)
     c.in-Err.stopped c.in-Err.ensures.unfinished c.in-Err.ensures.reason)
+
+pub returns-in-Ok-answer_all-clause-ran_in : goal.returns-in-Ok-answer_all-clause-ran_in
+returns-in-Ok-answer_all-clause-ran_in g c =
+    subst (λ (lanes : ℕ). RanIn g.L.JobLine g.F.Floor c.args.n lanes c.args.dispatchers c.args.capacity c.in-Ok-answer_all.end)
+    (sym (c.in-Ok-answer_all.ensures.run.counts ∙ length-map c.in-Ok.lists.items (λ list. list.items)))
+    c.in-Ok-answer_all.ensures.ran_in
