@@ -70,7 +70,7 @@ static int run(long allowed) {
     return refused ? 1 : 0;
 }
 
-/* Whether so many bytes were asked for since the last look, and so many blocks are there. */
+/* Answers whether `wanted` bytes were asked for since the last look, and `blocks` blocks are there. */
 static int took(unsigned long wanted, long blocks) {
     int is_so = bytes == wanted && live == blocks;
     if (!is_so) printf("%lu bytes, and not %lu; %ld blocks, and not %ld\n", bytes, wanted, live, blocks);
