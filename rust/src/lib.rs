@@ -22,11 +22,16 @@
 //! What the library's proof asks of its callers is kept by these types: a [`Machine`] is opened before it
 //! can be used, its memory is private, and `&mut` lets one call in at a time.
 //!
-//! The module [`tree`] has subcubes for many threads at once, with no lock.
+//! The module `tree`, which the feature of that name has, gives regions to many threads at once, with no lock.
 #![no_std]
 #![warn(missing_docs)]
 
+#[cfg(feature = "tree")]
+extern crate alloc;
+
 mod ffi;
+#[cfg(feature = "tree")]
+mod share;
 #[cfg(feature = "tree")]
 pub mod tree;
 #[cfg(feature = "tree")]
