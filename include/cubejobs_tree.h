@@ -21,9 +21,9 @@
  * take that was refused itself. For such a take may have claimed a node for a moment, in which case its `under` is not 0.
  * A thread that waits for releases alone can sleep for ever beside a free machine, as examples/schedules/lost-wakeup.csv
  * shows. So wake those who wait after each cubejobs_tree_release, and after each cubejobs_tree_take or
- * cubejobs_tree_try_node whose answer has an `under` that is not 0. Count these events: read the count before the take,
- * and sleep only while no other thread has added to it. (A take that is granted may have given something back before,
- * too; those who wait hear of that by the release that follows it.)
+ * cubejobs_tree_try_node whose answer has an `under` that is not 0. A take that is granted may have given claims back
+ * too, and its counts are 0: wake them after it as well, or they may sleep until its release. Count these events: read
+ * the count before the take, and sleep only while no other thread has added to it.
  *
  * Link libcubejobs_tree.a of release/linux-x86_64; it needs nothing but the C library, and runs on any x86-64. Its
  * functions have no unwind tables and no debug information, so a backtrace of a debugger or a profiler stops at the first
