@@ -296,6 +296,7 @@ static void expect_guards(void) {
 
 int main(void) {
     expect(sizeof(struct cubejobs_machine) == 4872, "the struct's size is not the library's");
+    expect(sizeof(struct cubejobs_answer) == 16 && sizeof(struct cubejobs_station_answer) == 24 && sizeof(struct cubejobs_holder_answer) == 8, "the sizes of answers");
     expect_stale_and_zeros();
     expect_least_free_regions();
     expect_asked_region();

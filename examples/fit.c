@@ -10,7 +10,7 @@ static unsigned char range[PAGES][PAGE_BYTES];
 static unsigned char held[PAGES]; // one byte for each page; it may as well lie in shared memory
 static struct cubejobs_fit fit;
 
-// The dimension of the least block that has so many bytes.
+// The dimension of the smallest block of at least this many bytes.
 static uint32_t dimension_of(size_t bytes) {
     uint32_t k = 0;
     while (k <= DIM && ((size_t)PAGE_BYTES << k) < bytes) k++;

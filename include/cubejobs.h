@@ -19,7 +19,7 @@
  * All else is tested by the call and answered by a code: dimensions, stations, processors, and who holds
  * what. A call that is refused changes nothing.
  *
- * A machine has 48 stations at most, so 48 regions at most are held at once. cubejobs_fit_open and the calls below it
+ * A machine has 48 stations, so 48 regions at most are held at once. cubejobs_fit_open and the calls below it
  * are the same first fit with no stations: any number of regions, in memory that the caller gives.
  */
 #ifndef CUBEJOBS_H
@@ -159,6 +159,9 @@ cubejobs_bool cubejobs_is_wholly_free(const struct cubejobs_machine *machine);
  * its processors is free, so a second release of it is found as long as nobody has taken a processor of it since. Not found is
  * the release of a part of a larger region, of two held neighbours as one, or of a region that another holds now: these
  * are done as asked.
+ *
+ * A take looks at the regions of its dimension in their order. At worst it reads one byte of each, and those that are in
+ * use in part up to their first held processor.
  */
 
 /* The largest dimension of a machine of any number of regions. */

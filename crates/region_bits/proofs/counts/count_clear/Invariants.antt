@@ -1,4 +1,4 @@
--- So many of the regions so far are clear.
+-- The count is that of the clear regions so far.
 use Rattle.std.proofs.Common.{◌≤◌}
 use Rattle.cube_shape.specs.Region.{block}
 use Rattle.region_bits.specs.Bits.{IsClear}
