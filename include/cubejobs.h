@@ -143,25 +143,25 @@ cubejobs_bool cubejobs_is_wholly_free(const struct cubejobs_machine *machine);
 /* ---- any number of regions ----
  *
  * The caller gives one byte for each processor, cubejobs_fit_bytes(dim) in all. The byte is 1 where the processor is held, and
- * 0 where it is free, and nothing else is kept: no stations, no list, no pointer. So the bytes may lie anywhere, also in a
- * mapping that processes share, each at an address of its own, or in a file. A struct cubejobs_fit is a process's own view of
- * them; it may be copied.
+ * 0 where it is free. Nothing else is kept: no stations, no list, no pointer. So the bytes may lie in a mapping that
+ * processes share, at another address in each, or in a file. A struct cubejobs_fit is one process's view of them; it may be
+ * copied.
  *
  * What the caller owes, as nothing checks it:
  *
  *   - Each pointer to a struct cubejobs_fit is not null, and the struct was set by cubejobs_fit_open or cubejobs_fit_attach, or
- *     is of zeros (each call answers CUBEJOBS_BAD_SIZE then, and each question 0).
- *   - From then on the library alone writes to the bytes, and they stay where they are as long as calls are made.
- *   - The calls on the same bytes come one at a time, from whichever thread or process: the caller has a lock for it. A process
- *     that stops in a call may leave a region held in part.
+ *     is of zeros. (A call on one of zeros answers CUBEJOBS_BAD_SIZE, and a question 0.)
+ *   - From then on the library alone writes to the bytes, and they stay mapped while calls are made.
+ *   - The calls on the same bytes come one at a time, from any thread or process: the caller has a lock for it.
  *
- * The bytes do not say who holds what. A region is given back by its base and dimension, and is refused where one of
- * its processors is free, so a second release of it is found as long as nobody has taken a processor of it since. Not found is
- * the release of a part of a larger region, of two held neighbours as one, or of a region that another holds now: these
- * are done as asked.
+ * The bytes do not say who holds what. A region is given back by its base and dimension. The call is refused where one of the
+ * region's processors is free: so a second release is found, unless all of the region has been taken again since. Three
+ * mistakes are not found, and the call is done as asked: the release of a part of a larger region, of two held neighbours
+ * as one, and of a region that another caller holds. A process that ends leaves its regions held, and one that is stopped in a
+ * call may leave a region held in part.
  *
- * A take looks at the regions of its dimension in their order. At worst it reads one byte of each, and those that are in
- * use in part up to their first held processor.
+ * A take looks at the regions of its dimension in order. At worst it reads one byte of each, and those that are in use in
+ * part up to their first held processor.
  */
 
 /* The largest dimension of a machine of any number of regions. */
@@ -176,9 +176,9 @@ struct cubejobs_fit {
 /* How many bytes a machine of this dimension takes: 2^dim, or 0 where `dim` is past CUBEJOBS_FIT_MAX_DIM. */
 uint64_t cubejobs_fit_bytes(uint32_t dim);
 
-/* The calls after these pass the bits to these functions, with their count and the machine's dimension. Each answers as that
- * call does; CUBEJOBS_BAD_DIMENSION where `dim` is past CUBEJOBS_FIT_MAX_DIM, and CUBEJOBS_BAD_SIZE where `count` is below 2^dim.
- * The pointer is not null, even where `count` is 0. */
+/* The inline calls below pass the bits to these functions, with their count and the machine's dimension. These functions are
+ * proved, and the inline calls are tested. Each answers as its call does: CUBEJOBS_BAD_DIMENSION where `dim` is past
+ * CUBEJOBS_FIT_MAX_DIM, and CUBEJOBS_BAD_SIZE where `count` is below 2^dim. The pointer is not null, even where `count` is 0. */
 uint32_t cubejobs_bits_open(uint8_t *bytes, size_t count, uint32_t dim);
 uint32_t cubejobs_bits_check(const uint8_t *bytes, size_t count, uint32_t dim);
 struct cubejobs_answer cubejobs_bits_take(cubejobs_bool *bits, size_t count, uint32_t dim, uint32_t k);
