@@ -1,6 +1,7 @@
 // The pause between two tries.
 ghost use Rattle.std.specs.Prelude.{◌≤◌};
 
+use crossbeam_utils::Backoff;
 use std::sync::Wait;
 use std::thread::{Parker, yield_now};
 use std::time::Duration;
@@ -17,9 +18,12 @@ const FIRST_SLEEP: u64 = 50;
 
 const LONGEST_SLEEP: u64 = 800;
 
-/// Pauses that grow until a try has success. Nothing wakes a caller that sleeps, and none sleeps for long.
+/// Pauses that grow until a try has success: a few snoozes of a `Backoff`, then bursts of yields, and then sleeps. Nothing
+/// wakes a caller that sleeps, and none sleeps for long.
 #[derive(Drop)]
 pub struct Pause {
+    // The first pauses: it spins for some nanoseconds, and then yields once.
+    snoozes: Backoff,
     // How often the caller yields in the next burst. There is none after the longest.
     burst: u32,
     // The next sleep, in microseconds.
@@ -32,6 +36,7 @@ impl Pause {
     /// The pauses of a caller that has not tried yet.
     pub fn new() -> Self {
         Pause {
+            snoozes: Backoff::new(),
             burst: FIRST_BURST,
             sleep: FIRST_SLEEP,
             sleeper: Parker::new(),
@@ -40,15 +45,21 @@ impl Pause {
 
     /// Begins anew, since a try had success.
     pub fn reset(&mut self) {
+        self.snoozes.reset();
         self.burst = FIRST_BURST;
         self.sleep = FIRST_SLEEP;
     }
 
-    /// How often the caller is to yield before its next try. Once there is no further burst it
-    /// sleeps here, and the answer is 0. A caller may stop yielding as soon as it sees that a try may have success.
+    /// Returns how often the caller has to yield before its next try. It returns 0 where the pause is over: the first
+    /// pauses are snoozes, and the last are sleeps, which are taken here. A caller may stop yielding as soon as it sees
+    /// that a try may have success.
     pub fn next_burst<R: Wait>(&mut self, rt: &R) -> u32
         ensures { result ≤ LONGEST_BURST }
     {
+        if !self.snoozes.is_completed() {
+            self.snoozes.snooze();
+            return 0;
+        }
         let burst = self.burst;
         if burst <= LONGEST_BURST {
             self.burst = burst.saturating_mul(2);
