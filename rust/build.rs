@@ -1,5 +1,5 @@
 //! Links the proved libraries: `libcubejobs_c.a`, and with the feature `tree` also `libcubejobs_tree.a`. They stand in the folder that
-//! `CUBEJOBS_LIB` names, or else in `lib/`. In the repository these are links to the files of release/; a package has the files.
+//! `CUBEJOBS_LIB` names, or else in `lib/`. They are copies of the files of release/.
 
 use std::env;
 use std::path::PathBuf;
