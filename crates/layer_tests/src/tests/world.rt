@@ -10,10 +10,10 @@ mod interleavings;
 mod outcomes;
 mod schedules;
 
-use super::text::expect_texts;
 use cube_core::{Act, Event, Kind, MAX_DIM, MAX_STATIONS, Note, Phase, Refused, World};
 use std::alloc::Global;
 use std::process::Abort;
+use test_kit::expect_texts;
 
 // A line of a schedule: a call that begins something, an event (its station, kind, node, word and
 // note), a step of a station at rest, an act that is refused, and a retirement with the roll that it
