@@ -77,7 +77,7 @@ where
     }
 }
 
-// Whether the program with these words, over this file `jobs.csv` and an older `new.csv`, ends so, asks for so many drafts,
+// Whether the program with these words, over this file `jobs.csv` and an older `new.csv`, ends so, asks for this number of drafts,
 // leaves these bytes in `new.csv` and says this on standard error. It touches neither standard input nor output.
 fn ends<H>(
     rt: &H,
