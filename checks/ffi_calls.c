@@ -88,6 +88,18 @@ static struct cubejobs_answer model_take_region(unsigned station, unsigned base,
     return plain.held[station];
 }
 
+// A take by the first station that holds nothing, and the same of the model.
+static struct cubejobs_answer take_any(unsigned k) {
+    struct cubejobs_station_answer got = cubejobs_take_any(&memory.machine, k);
+    struct cubejobs_answer wanted = answer(CUBEJOBS_BAD_DIMENSION, 0, 0);
+    unsigned station = 0;
+    while (station < CUBEJOBS_MAX_STATIONS && plain.holds[station]) station++;
+    if (k <= plain.dim) wanted = station < CUBEJOBS_MAX_STATIONS ? model_take(station, k) : answer(CUBEJOBS_NO_STATION, 0, 0);
+    expect(same(answer(got.code, got.dim, got.base), wanted), "take by any station");
+    expect(got.station == (got.code == CUBEJOBS_DONE ? station : 0), "the station of a take by any");
+    return wanted;
+}
+
 static struct cubejobs_answer model_region(unsigned station) {
     if (station >= CUBEJOBS_MAX_STATIONS) return answer(CUBEJOBS_BAD_STATION, 0, 0);
     return plain.holds[station] ? plain.held[station] : answer(CUBEJOBS_NOTHING_HELD, 0, 0);
@@ -111,7 +123,7 @@ static struct cubejobs_answer model_release(unsigned station) {
 static bool model_is_wholly_free(void) { return is_free(0, 1u << plain.dim); }
 
 static void expect_holder(uint64_t processor) {
-    struct cubejobs_holder found = cubejobs_holder(&memory.machine, processor);
+    struct cubejobs_holder_answer found = cubejobs_holder(&memory.machine, processor);
     int wanted = processor < 1u << plain.dim ? plain.holder[processor] : NOBODY;
     expect(found.found == (wanted != NOBODY), "holder: found");
     expect(found.station == (wanted == NOBODY ? 0 : (uint32_t)wanted), "holder: station");
@@ -124,7 +136,7 @@ static void call_once(void) {
     unsigned k = random_below(3) == 0 ? random_below(plain.dim + 2) : random_below(plain.dim / 2 + 1);
     struct cubejobs_answer got;
     before = memory.machine;
-    switch (random_below(10)) {
+    switch (random_below(11)) {
     case 0:
         expect_holder(random_below((1u << plain.dim) + 2));
         expect(same(cubejobs_region(&memory.machine, station), model_region(station)), "region");
@@ -140,6 +152,9 @@ static void call_once(void) {
         expect(same(got, model_take_region(station, base, k)), "take of a region");
         break;
     }
+    case 10:
+        got = take_any(k);
+        break;
     case 2:
     case 3:
     case 4:
@@ -165,6 +180,7 @@ static void expect_bad_arguments(void) {
     expect(cubejobs_release(machine, worst).code == CUBEJOBS_BAD_STATION, "worst release");
     expect(cubejobs_region(machine, worst).code == CUBEJOBS_BAD_STATION, "worst region");
     expect(cubejobs_take_region(machine, 0, UINT64_MAX, 0).code == CUBEJOBS_BAD_BASE, "worst base");
+    expect(cubejobs_take_any(machine, worst).code == CUBEJOBS_BAD_DIMENSION, "worst take by any station");
     expect(cubejobs_free_regions(machine, worst) == 0, "free regions of the worst dimension");
     expect(!cubejobs_holder(machine, UINT64_MAX).found, "worst processor");
     expect(!cubejobs_holder(machine, (uint64_t)1 << plain.dim).found, "processor");
@@ -243,6 +259,28 @@ static void expect_every_station(void) {
     expect(cubejobs_take(machine, 47, 12).code == CUBEJOBS_DONE, "the whole machine");
 }
 
+// Takes by any station: the first that holds nothing gets the region, and where none does that is the code.
+static void expect_any_station(void) {
+    struct cubejobs_machine *machine = &memory.machine;
+    struct cubejobs_station_answer got;
+    expect(cubejobs_open(machine, 7) == CUBEJOBS_DONE, "open 7");
+    expect(same(cubejobs_take(machine, 1, 2), answer(CUBEJOBS_DONE, 2, 0)), "four processors of station 1");
+    got = cubejobs_take_any(machine, 4);
+    expect(got.code == CUBEJOBS_DONE && got.station == 0 && got.dim == 4 && got.base == 16, "station 0 gets the 16 at 16");
+    got = cubejobs_take_any(machine, 7);
+    expect(got.code == CUBEJOBS_NO_SUBCUBE && got.station == 0 && got.dim == 0 && got.base == 0, "the machine is not free");
+    for (unsigned station = 2; station < 48; station++) {
+        got = cubejobs_take_any(machine, 0);
+        expect(got.code == CUBEJOBS_DONE && got.station == station, "each station in its turn");
+    }
+    got = cubejobs_take_any(machine, 0);
+    expect(got.code == CUBEJOBS_NO_STATION && got.station == 0 && got.dim == 0 && got.base == 0, "no station is left");
+    expect(cubejobs_take_any(machine, 7).code == CUBEJOBS_NO_STATION, "no station and no region");
+    expect(cubejobs_take_any(machine, 8).code == CUBEJOBS_BAD_DIMENSION, "no station and dimension 8");
+    expect(same(cubejobs_release(machine, 47), answer(CUBEJOBS_DONE, 0, 65)), "station 47 held processor 65");
+    expect(cubejobs_take_any(machine, 0).station == 47, "the station that is idle again");
+}
+
 static void open_both(unsigned dim) {
     plain.dim = dim;
     set_holder(0, 1u << CUBEJOBS_MAX_DIM, NOBODY);
@@ -258,11 +296,13 @@ static void expect_guards(void) {
 
 int main(void) {
     expect(sizeof(struct cubejobs_machine) == 4872, "the struct's size is not the library's");
+    expect(sizeof(struct cubejobs_answer) == 16 && sizeof(struct cubejobs_station_answer) == 24 && sizeof(struct cubejobs_holder_answer) == 8, "the sizes of answers");
     expect_stale_and_zeros();
     expect_least_free_regions();
     expect_asked_region();
     expect_codes();
     expect_every_station();
+    expect_any_station();
     for (unsigned dim = 0; dim <= CUBEJOBS_MAX_DIM; dim++) {
         open_both(dim);
         for (int call = 0; call < CALLS; call++) call_once();

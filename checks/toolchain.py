@@ -8,6 +8,9 @@ import shutil
 import sys
 
 sys.dont_write_bytecode = True
+# The processor that the libraries for C are built for: any of this kind. A program can look for the processor that it needs, as
+# `cubejobs` does; a library cannot.
+FOR_ANY = ["--cpu", "x86-64"]
 ROOT = os.path.dirname(os.path.dirname(os.path.realpath(__file__)))
 
 

@@ -105,7 +105,7 @@ static void regions(void) {
     static struct cubejobs_cube made;
     static struct cubejobs_station s[4];
     struct cubejobs_tree_answer a;
-    struct cubejobs_tree_occupancy o;
+    struct cubejobs_tree_occupancy_answer o;
     uint64_t missing = 77;
     unsigned i;
     WANT(cubejobs_tree_open(&made, 3, 3), CUBEJOBS_TREE_DONE);

@@ -28,7 +28,8 @@ struct user {
 
 static int arena_open(struct arena *arena) {
     memset(arena, 0, sizeof *arena);
-    arena->pages = aligned_alloc(PAGE, (size_t)PAGES * PAGE);
+    // Aligned to its whole size, so that each block is aligned to its own.
+    arena->pages = aligned_alloc((size_t)PAGES * PAGE, (size_t)PAGES * PAGE);
     return arena->pages && !cubejobs_tree_open(&arena->cube, DIM, THREADS * BLOCKS);
 }
 
@@ -42,9 +43,10 @@ static int arena_join(struct arena *arena, struct user *user, int own) {
 }
 
 // A block of at least `size` bytes, aligned to its own size rounded up to pages and a power of two; or null where none
-// was found, or the user holds BLOCKS blocks already.
+// was found, the arena is smaller, or the user holds BLOCKS blocks already.
 static void *arena_alloc(struct user *user, size_t size) {
     uint32_t k = 0;
+    if (size > (size_t)PAGES * PAGE) return NULL;
     while (((size_t)PAGE << k) < size) k++;
     for (int i = 0; i < BLOCKS; i++) {
         struct cubejobs_tree_answer taken = cubejobs_tree_take(&user->stations[i], k);

@@ -10,8 +10,26 @@
  * thread may wait for one that holds a lock and sleeps: a thread that is stopped in a call here stops no other.
  *
  * A handle is 16 bytes in the caller's memory. cubejobs_tree_open makes that of a machine, and
- * cubejobs_tree_seat that of one of its stations. Memory is taken by malloc in these two calls, and in no other.
- * Link libcubejobs_tree.a of release/linux-x86_64; it needs nothing but the C library.
+ * cubejobs_tree_seat that of one of its stations. Memory is taken by malloc in these two calls, and in no other:
+ * 48 * 2^dim + 16 * stations + 345 bytes in 8 blocks for a machine, until it is freed, and 64 bytes in one block for a
+ * station, until it retires. What malloc adds to a block is not counted.
+ *
+ * A station holds one region at most, so a machine has at most 48 regions held at once. A station that has retired is
+ * used up: no other gets its place, so a thread that comes back keeps its station meanwhile.
+ *
+ * When to try again. A take that is refused may be granted once another call has given something back: a release, or a
+ * take that was refused itself. For such a take may have claimed a node for a moment, in which case its `under` is not 0.
+ * A thread that waits for releases alone can sleep for ever beside a free machine, as examples/schedules/lost-wakeup.csv
+ * shows. So wake those who wait after each cubejobs_tree_release, and after each cubejobs_tree_take or
+ * cubejobs_tree_try_node whose answer has an `under` that is not 0. A take that is granted may have given claims back
+ * too, and its counts are 0: wake them after it as well, or they may sleep until its release. Count these events: read
+ * the count before the take, and sleep only while no other thread has added to it.
+ *
+ * Link libcubejobs_tree.a of release/linux-x86_64; it needs nothing but the C library, and runs on any x86-64. Its
+ * functions have no unwind tables and no debug information, so a backtrace of a debugger or a profiler stops at the first
+ * of them, and does not show who called it.
+ * AddressSanitizer, ThreadSanitizer, MemorySanitizer and memcheck are right about programs that use it. Helgrind and DRD do
+ * not see its atomics: they report races on memory that a region guards where there is none.
  *
  * It is proved that the functions do what is said here. Nothing checks what the caller owes them:
  *
@@ -34,8 +52,20 @@
 #ifndef CUBEJOBS_TREE_H
 #define CUBEJOBS_TREE_H
 
-#include <stdbool.h>
 #include <stdint.h>
+
+/* A byte that is 0 or 1: the language's own type. C89 has no name for it, and no inline function. */
+#if defined(__cplusplus)
+typedef bool cubejobs_tree_bool;
+#define CUBEJOBS_TREE_INLINE static inline
+#elif defined(__STDC_VERSION__) && __STDC_VERSION__ >= 199901L
+#include <stdbool.h>
+typedef bool cubejobs_tree_bool;
+#define CUBEJOBS_TREE_INLINE static inline
+#else
+__extension__ typedef _Bool cubejobs_tree_bool;
+#define CUBEJOBS_TREE_INLINE static __inline__
+#endif
 
 #ifdef __cplusplus
 extern "C" {
@@ -101,7 +131,7 @@ struct cubejobs_tree_seated {
 
 /* The machine's dimension, its stations and how many of them have got a handle, where the code is
  * CUBEJOBS_TREE_DONE, and otherwise 0. */
-struct cubejobs_tree_size {
+struct cubejobs_tree_size_answer {
     uint32_t code;
     uint32_t dim;
     uint32_t stations;
@@ -109,7 +139,7 @@ struct cubejobs_tree_size {
 };
 
 /* A word where the code is CUBEJOBS_TREE_DONE, and otherwise 0. */
-struct cubejobs_tree_word {
+struct cubejobs_tree_word_answer {
     uint32_t code;
     uint64_t word;
 };
@@ -117,10 +147,10 @@ struct cubejobs_tree_word {
 /* How much of a machine is free, where the code is CUBEJOBS_TREE_DONE, and otherwise all is 0: the number of free
  * regions of each dimension, at the dimension; how many processors are in a region that is held; and the largest
  * dimension of a free region, if there is one. */
-struct cubejobs_tree_occupancy {
+struct cubejobs_tree_occupancy_answer {
     uint32_t code;
     uint32_t largest;
-    bool has_free;
+    cubejobs_tree_bool has_free;
     uint64_t held;
     uint64_t free[13];
 };
@@ -130,7 +160,7 @@ uint32_t cubejobs_tree_open_version(struct cubejobs_cube *cube, uint32_t version
 
 /* Opens a machine of dimension `dim` with so many stations: BAD_VERSION, ALREADY_OPEN, BAD_DIMENSION, BAD_STATIONS,
  * OUT_OF_MEMORY, DONE. */
-static inline uint32_t cubejobs_tree_open(struct cubejobs_cube *cube, uint32_t dim, uint32_t stations) {
+CUBEJOBS_TREE_INLINE uint32_t cubejobs_tree_open(struct cubejobs_cube *cube, uint32_t dim, uint32_t stations) {
     return cubejobs_tree_open_version(cube, CUBEJOBS_TREE_VERSION, dim, stations);
 }
 
@@ -149,7 +179,7 @@ struct cubejobs_tree_answer cubejobs_tree_try_node(struct cubejobs_station *stat
 /* Gives the station's region back, and answers which it was: NOT_OPEN, OTHER_KIND, NOTHING_HELD, DONE. */
 struct cubejobs_tree_answer cubejobs_tree_release(struct cubejobs_station *station);
 
-/* The station, which holds nothing, retires. Its handle is shut, and its memory is freed: NOT_OPEN, OTHER_KIND,
+/* The station, which holds nothing, retires for good. Its handle is shut, and its memory is freed: NOT_OPEN, OTHER_KIND,
  * STATION_HOLDS, DONE. */
 uint32_t cubejobs_tree_retire(struct cubejobs_station *station);
 
@@ -165,48 +195,52 @@ uint32_t cubejobs_tree_free(struct cubejobs_cube *cube);
 struct cubejobs_tree_answer cubejobs_tree_region(struct cubejobs_station *station);
 
 /* How large the machine is: NOT_OPEN, OTHER_KIND, DONE. */
-struct cubejobs_tree_size cubejobs_tree_size(struct cubejobs_cube *cube);
+struct cubejobs_tree_size_answer cubejobs_tree_size(struct cubejobs_cube *cube);
 
 /* The word of a node at some moment of the call; word 0 has bit s set once station s has retired. NOT_OPEN,
  * OTHER_KIND, BAD_NODE, DONE. */
-struct cubejobs_tree_word cubejobs_tree_word(struct cubejobs_cube *cube, uint64_t node);
+struct cubejobs_tree_word_answer cubejobs_tree_word(struct cubejobs_cube *cube, uint64_t node);
 
 /* Counts what is free and what is held, by the words as each is at some moment of the call: exact where no other call
  * is made meanwhile. NOT_OPEN, OTHER_KIND, DONE. */
-struct cubejobs_tree_occupancy cubejobs_tree_occupancy(struct cubejobs_cube *cube);
+struct cubejobs_tree_occupancy_answer cubejobs_tree_occupancy(struct cubejobs_cube *cube);
 
-/* ThreadSanitizer does not see the library's atomics. Under it, each take is told to be an acquire of the region's
- * processors, each release a release of them, and a close an acquire of all; without it this is nothing. */
+/* The library is not compiled for a sanitizer. ThreadSanitizer does not see its atomics: a take acquires the region's
+ * processors, a release releases them, and a close acquires all. MemorySanitizer does not see it write: each answer is
+ * initialised. Without these two this is nothing. */
 #if defined(__SANITIZE_THREAD__)
-#define CUBEJOBS_TREE_SEEN 1
+#define CUBEJOBS_TREE_RACES 1
 #elif defined(__has_feature)
 #if __has_feature(thread_sanitizer)
-#define CUBEJOBS_TREE_SEEN 1
+#define CUBEJOBS_TREE_RACES 1
+#endif
+#if __has_feature(memory_sanitizer)
+#define CUBEJOBS_TREE_WRITES 1
 #endif
 #endif
-#ifdef CUBEJOBS_TREE_SEEN
+#ifdef CUBEJOBS_TREE_RACES
 void __tsan_acquire(void *address);
 void __tsan_release(void *address);
 
 /* One byte for each processor, the same in all files of a program. */
 __attribute__((weak)) char cubejobs_tree_order[1 << CUBEJOBS_TREE_MAX_DIM];
 
-static inline struct cubejobs_tree_answer cubejobs_tree_acquired(struct cubejobs_tree_answer answer) {
+CUBEJOBS_TREE_INLINE struct cubejobs_tree_answer cubejobs_tree_acquired(struct cubejobs_tree_answer answer) {
     uint64_t p;
     for (p = answer.base; answer.code == CUBEJOBS_TREE_DONE && p < answer.base + (UINT64_C(1) << answer.dim); p++)
         __tsan_acquire(&cubejobs_tree_order[p]);
     return answer;
 }
 
-static inline struct cubejobs_tree_answer cubejobs_tree_take_seen(struct cubejobs_station *station, uint32_t k) {
+CUBEJOBS_TREE_INLINE struct cubejobs_tree_answer cubejobs_tree_take_seen(struct cubejobs_station *station, uint32_t k) {
     return cubejobs_tree_acquired(cubejobs_tree_take(station, k));
 }
 
-static inline struct cubejobs_tree_answer cubejobs_tree_try_node_seen(struct cubejobs_station *station, uint64_t node) {
+CUBEJOBS_TREE_INLINE struct cubejobs_tree_answer cubejobs_tree_try_node_seen(struct cubejobs_station *station, uint64_t node) {
     return cubejobs_tree_acquired(cubejobs_tree_try_node(station, node));
 }
 
-static inline struct cubejobs_tree_answer cubejobs_tree_release_seen(struct cubejobs_station *station) {
+CUBEJOBS_TREE_INLINE struct cubejobs_tree_answer cubejobs_tree_release_seen(struct cubejobs_station *station) {
     struct cubejobs_tree_answer held = cubejobs_tree_region(station);
     uint64_t p;
     for (p = held.base; held.code == CUBEJOBS_TREE_DONE && p < held.base + (UINT64_C(1) << held.dim); p++)
@@ -214,7 +248,7 @@ static inline struct cubejobs_tree_answer cubejobs_tree_release_seen(struct cube
     return cubejobs_tree_release(station);
 }
 
-static inline uint32_t cubejobs_tree_close_seen(struct cubejobs_cube *cube, uint64_t *missing) {
+CUBEJOBS_TREE_INLINE uint32_t cubejobs_tree_close_seen(struct cubejobs_cube *cube, uint64_t *missing) {
     uint32_t code = cubejobs_tree_close(cube, missing);
     uint64_t p;
     for (p = 0; code == CUBEJOBS_TREE_DONE && p < UINT64_C(1) << CUBEJOBS_TREE_MAX_DIM; p++)
@@ -225,6 +259,44 @@ static inline uint32_t cubejobs_tree_close_seen(struct cubejobs_cube *cube, uint
 #define cubejobs_tree_take cubejobs_tree_take_seen
 #define cubejobs_tree_try_node cubejobs_tree_try_node_seen
 #define cubejobs_tree_release cubejobs_tree_release_seen
+#define cubejobs_tree_close cubejobs_tree_close_seen
+#endif
+#ifdef CUBEJOBS_TREE_WRITES
+void __msan_unpoison(const volatile void *address, __SIZE_TYPE__ size);
+
+#define CUBEJOBS_TREE_WRITTEN(type, call, arguments, passed) \
+    CUBEJOBS_TREE_INLINE type call##_seen arguments {        \
+        type answer = call passed;                           \
+        __msan_unpoison(&answer, sizeof answer);             \
+        return answer;                                       \
+    }
+CUBEJOBS_TREE_WRITTEN(struct cubejobs_tree_seated, cubejobs_tree_seat,
+                      (struct cubejobs_cube *cube, struct cubejobs_station *station), (cube, station))
+CUBEJOBS_TREE_WRITTEN(struct cubejobs_tree_answer, cubejobs_tree_take,
+                      (struct cubejobs_station *station, uint32_t k), (station, k))
+CUBEJOBS_TREE_WRITTEN(struct cubejobs_tree_answer, cubejobs_tree_try_node,
+                      (struct cubejobs_station *station, uint64_t node), (station, node))
+CUBEJOBS_TREE_WRITTEN(struct cubejobs_tree_answer, cubejobs_tree_release, (struct cubejobs_station *station), (station))
+CUBEJOBS_TREE_WRITTEN(struct cubejobs_tree_answer, cubejobs_tree_region, (struct cubejobs_station *station), (station))
+CUBEJOBS_TREE_WRITTEN(struct cubejobs_tree_size_answer, cubejobs_tree_size, (struct cubejobs_cube *cube), (cube))
+CUBEJOBS_TREE_WRITTEN(struct cubejobs_tree_word_answer, cubejobs_tree_word,
+                      (struct cubejobs_cube *cube, uint64_t node), (cube, node))
+CUBEJOBS_TREE_WRITTEN(struct cubejobs_tree_occupancy_answer, cubejobs_tree_occupancy, (struct cubejobs_cube *cube), (cube))
+
+CUBEJOBS_TREE_INLINE uint32_t cubejobs_tree_close_seen(struct cubejobs_cube *cube, uint64_t *missing) {
+    uint32_t code = cubejobs_tree_close(cube, missing);
+    if (code == CUBEJOBS_TREE_STILL_OUT) __msan_unpoison(missing, sizeof *missing);
+    return code;
+}
+
+#define cubejobs_tree_seat cubejobs_tree_seat_seen
+#define cubejobs_tree_take cubejobs_tree_take_seen
+#define cubejobs_tree_try_node cubejobs_tree_try_node_seen
+#define cubejobs_tree_release cubejobs_tree_release_seen
+#define cubejobs_tree_region cubejobs_tree_region_seen
+#define cubejobs_tree_size cubejobs_tree_size_seen
+#define cubejobs_tree_word cubejobs_tree_word_seen
+#define cubejobs_tree_occupancy cubejobs_tree_occupancy_seen
 #define cubejobs_tree_close cubejobs_tree_close_seen
 #endif
 

@@ -1,30 +1,43 @@
-//! Links the proved libraries from the folder that CUBEJOBS_LIB names, or from release/ in this repository: libcubejobs_c.a, and
-//! with the feature `tree` libcubejobs_tree.a.
+//! Links the proved libraries: `libcubejobs_c.a`, and with the feature `tree` also `libcubejobs_tree.a`. They stand in the folder that
+//! `CUBEJOBS_LIB` names, or else in `lib/`. They are copies of the files of release/.
 
 use std::env;
 use std::path::PathBuf;
 use std::process::ExitCode;
 
-const RELEASE: &str = "../release/linux-x86_64";
-
 fn main() -> ExitCode {
-    let folder = match env::var_os("CUBEJOBS_LIB") {
-        Some(folder) => PathBuf::from(folder),
-        None => PathBuf::from(env!("CARGO_MANIFEST_DIR")).join(RELEASE),
-    };
+    match link() {
+        Ok(()) => ExitCode::SUCCESS,
+        Err(reason) => {
+            eprintln!("{reason}");
+            ExitCode::FAILURE
+        }
+    }
+}
+
+fn link() -> Result<(), String> {
+    let of_target = |name| env::var(name).unwrap_or_default();
+    let (arch, os) = (of_target("CARGO_CFG_TARGET_ARCH"), of_target("CARGO_CFG_TARGET_OS"));
+    if (arch.as_str(), os.as_str()) != ("x86_64", "linux") {
+        return Err(format!(
+            "the libraries of cubejobs are for Linux on x86-64 only, not for {os} on {arch}"
+        ));
+    }
+    // Read as the script runs: cargo may have compiled it in another copy of the package.
+    let package = env::var_os("CARGO_MANIFEST_DIR").ok_or("cargo has not set CARGO_MANIFEST_DIR")?;
+    let folder = env::var_os("CUBEJOBS_LIB").map_or(PathBuf::from(package).join("lib"), PathBuf::from);
     println!("cargo::rerun-if-env-changed=CUBEJOBS_LIB");
     let tree = env::var_os("CARGO_FEATURE_TREE").map(|_| "libcubejobs_tree.a");
     for name in ["libcubejobs_c.a"].into_iter().chain(tree) {
         let library = folder.join(name);
         println!("cargo::rerun-if-changed={}", library.display());
         if !library.exists() {
-            eprintln!(
-                "there is no {}: name the folder of {name} in CUBEJOBS_LIB, or take a clone whose release/ has it",
+            return Err(format!(
+                "there is no {}: set CUBEJOBS_LIB to the folder of {name}, or take a clone whose release/ has it",
                 library.display()
-            );
-            return ExitCode::FAILURE;
+            ));
         }
     }
     println!("cargo::rustc-link-search=native={}", folder.display());
-    ExitCode::SUCCESS
+    Ok(())
 }

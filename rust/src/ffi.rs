@@ -1,4 +1,4 @@
-//! The functions of the library, as `include/cubejobs.h` declares them. This is the only unsafe code.
+//! The functions of the library for a machine with stations, as `include/cubejobs.h` declares them.
 //!
 //! A [`Machine`] is made by [`open`] alone, its fields are private to this module, and here only the library
 //! writes to them: so each call gets what the library's proof asks of the memory.
@@ -15,6 +15,7 @@ pub const BAD_STATION: u32 = 3;
 pub const STATION_HOLDS: u32 = 4;
 pub const NOTHING_HELD: u32 = 5;
 pub const BAD_BASE: u32 = 6;
+pub const NO_STATION: u32 = 8;
 
 #[repr(C)]
 #[derive(Clone, Copy)]
@@ -42,18 +43,29 @@ pub struct Answer {
 
 #[repr(C)]
 #[derive(Clone, Copy)]
+pub struct StationAnswer {
+    pub code: u32,
+    pub station: u32,
+    pub dim: u32,
+    pub base: u64,
+}
+
+#[repr(C)]
+#[derive(Clone, Copy)]
 pub struct Holder {
     pub station: u32,
     pub found: bool,
 }
 
-// The size that the library has compiled in.
+// The sizes that the library has compiled in.
 const _: () = assert!(size_of::<Machine>() == 4872 && align_of::<Machine>() == 8);
+const _: () = assert!(size_of::<Answer>() == 16 && size_of::<StationAnswer>() == 24);
 
 #[link(name = "cubejobs_c", kind = "static")]
 unsafe extern "C" {
     fn cubejobs_open_sized(machine: &mut Machine, size: u64, dim: u32) -> u32;
     fn cubejobs_take(machine: &mut Machine, station: u32, k: u32) -> Answer;
+    fn cubejobs_take_any(machine: &mut Machine, k: u32) -> StationAnswer;
     fn cubejobs_take_region(machine: &mut Machine, station: u32, base: u64, k: u32) -> Answer;
     fn cubejobs_region(machine: &Machine, station: u32) -> Answer;
     fn cubejobs_free_regions(machine: &Machine, k: u32) -> u64;
@@ -82,6 +94,11 @@ impl Machine {
     pub fn take(&mut self, station: u32, k: u32) -> Answer {
         // SAFETY: the machine was opened, and only the library has written to it since.
         unsafe { cubejobs_take(self, station, k) }
+    }
+
+    pub fn take_any(&mut self, k: u32) -> StationAnswer {
+        // SAFETY: as for a take.
+        unsafe { cubejobs_take_any(self, k) }
     }
 
     pub fn take_region(&mut self, station: u32, base: u64, k: u32) -> Answer {

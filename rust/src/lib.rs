@@ -5,6 +5,12 @@
 //! `k`: the `2^k` processors from `m * 2^k` on, for the least `m` such that the region is apart from every
 //! region that is held. Each station holds one region at most, and it alone gives it back.
 //!
+//! | who | takes |
+//! |---|---|
+//! | one thread, or threads under a lock of their own; up to [`MAX_STATIONS`] regions | [`Machine`] |
+//! | the same, with any number of regions, and a dimension of up to [`fit::MAX_DIM`] | [`fit::FirstFit`] |
+//! | many threads at once, with no lock | `tree::Cube`, in the feature `tree`, which is on by default |
+//!
 //! ```
 //! use cubejobs::{Machine, Region, TakeError};
 //!
@@ -21,12 +27,17 @@
 //!
 //! What the library's proof asks of its callers is kept by these types: a [`Machine`] is opened before it
 //! can be used, its memory is private, and `&mut` lets one call in at a time.
-//!
-//! The module [`tree`] has subcubes for many threads at once, with no lock.
 #![no_std]
 #![warn(missing_docs)]
 
+#[cfg(feature = "tree")]
+extern crate alloc;
+
 mod ffi;
+pub mod fit;
+mod fit_ffi;
+#[cfg(feature = "tree")]
+mod share;
 #[cfg(feature = "tree")]
 pub mod tree;
 #[cfg(feature = "tree")]
@@ -50,7 +61,7 @@ pub struct Region {
     pub dim: u32,
 }
 
-/// A machine with first fit. It is some 5 KB, and a clone of it is another machine.
+/// A machine with first fit, and its stations. It is about 5 KB, and a clone of it is another machine.
 #[derive(Clone)]
 pub struct Machine {
     inner: ffi::Machine,
@@ -69,10 +80,12 @@ pub enum TakeError {
     BadDimension,
     /// The station holds a region, and a station holds one at most.
     StationHolds,
-    /// No aligned region of this dimension is apart from every held region, or the one that was asked is not.
+    /// No aligned region of this dimension is apart from every held region, or the one that was asked for is not.
     NoSubcube,
     /// No aligned region of this dimension begins at this processor.
     BadBase,
+    /// Each station holds a region. Only [`Machine::take_any`] says so.
+    NoStation,
 }
 
 /// Why a release was refused. A refusal changes nothing.
@@ -85,7 +98,7 @@ pub enum ReleaseError {
 }
 
 impl Machine {
-    /// A machine of dimension `dim` whose stations hold nothing.
+    /// Makes a machine of dimension `dim` whose stations hold nothing.
     pub fn new(dim: u32) -> Result<Self, BadDimension> {
         match ffi::open(dim) {
             Some(inner) => Ok(Machine { inner }),
@@ -93,7 +106,7 @@ impl Machine {
         }
     }
 
-    /// The dimension of the machine.
+    /// Returns the dimension of the machine.
     pub fn dim(&self) -> u32 {
         self.inner.dim()
     }
@@ -107,6 +120,16 @@ impl Machine {
         self.inner.take(station, k).taken()
     }
 
+    /// Gives the first fit of dimension `k` to the station of the least number that holds nothing. Returns the station and
+    /// the region.
+    ///
+    /// The error is the first of these that is so: `BadDimension`, `NoStation`, `NoSubcube`.
+    pub fn take_any(&mut self, k: u32) -> Result<(u32, Region), TakeError> {
+        let ffi::StationAnswer { code, station, dim, base } = self.inner.take_any(k);
+        let region = ffi::Answer { code, dim, base }.taken()?;
+        Ok((station, region))
+    }
+
     /// Gives a station that holds nothing the region of dimension `k` that begins at the processor `base`.
     ///
     /// The error is the first of these that is so: `BadStation`, `BadDimension`, `BadBase`, `StationHolds`,
@@ -115,18 +138,19 @@ impl Machine {
         self.inner.take_region(station, base, k).taken()
     }
 
-    /// The region that a station holds, if there is such a station and it holds one.
+    /// Returns the region that a station holds, if there is such a station and it holds one.
     pub fn region(&self, station: u32) -> Option<Region> {
         let answer = self.inner.region(station);
         (answer.code == ffi::DONE).then(|| answer.region())
     }
 
-    /// How many regions of dimension `k` are apart from every held region: none where `k` is past the machine's dimension.
+    /// Counts the regions of dimension `k` that are apart from every held region. The count is 0 if `k` is past the machine's
+    /// dimension.
     pub fn free_regions(&self, k: u32) -> u64 {
         self.inner.free_regions(k)
     }
 
-    /// Takes the region of a station away from it.
+    /// Gives the region of a station back, and returns it.
     pub fn release(&mut self, station: u32) -> Result<Region, ReleaseError> {
         let answer = self.inner.release(station);
         match answer.code {
@@ -137,14 +161,14 @@ impl Machine {
         }
     }
 
-    /// The station whose region has a processor, if there is one. A number past the processors of the
+    /// Returns the station whose region has a processor, if there is one. A number past the processors of the
     /// machine is in no region.
     pub fn holder(&self, processor: u64) -> Option<u32> {
         let holder = self.inner.holder(processor);
         holder.found.then_some(holder.station)
     }
 
-    /// Whether no station holds a region.
+    /// Returns whether no station holds a region.
     pub fn is_wholly_free(&self) -> bool {
         self.inner.is_wholly_free()
     }
@@ -164,6 +188,7 @@ impl ffi::Answer {
             ffi::BAD_STATION => Err(TakeError::BadStation),
             ffi::STATION_HOLDS => Err(TakeError::StationHolds),
             ffi::BAD_BASE => Err(TakeError::BadBase),
+            ffi::NO_STATION => Err(TakeError::NoStation),
             code => unreachable!("a take has no code {code}"),
         }
     }
@@ -189,6 +214,7 @@ impl fmt::Display for TakeError {
             TakeError::StationHolds => "the station holds a region",
             TakeError::NoSubcube => "no free subcube of this dimension",
             TakeError::BadBase => "no subcube of this dimension begins there",
+            TakeError::NoStation => "each station holds a region",
         })
     }
 }

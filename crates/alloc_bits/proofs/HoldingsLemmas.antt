@@ -4,7 +4,8 @@ use Rattle.std.specs.FinMap.{get}
 use Rattle.std.proofs.lemmas.Bool.{cases_lt}
 use Rattle.std.proofs.Math.Seq.{take-append_seam}
 use Rattle.std.proofs.lemmas.List.{get_or-replicate, get_or_past, length-replicate}
-use Rattle.cube_shape.specs.declared.limits.TheConstants.{MAX_DIM, MAX_STATIONS}
+use Rattle.cube_shape.specs.declared.limits.TheConstants.{MAX_STATIONS}
+use Rattle.region_bits.specs.declared.limits.TheConstants.{MAX_BITS_DIM}
 use Rattle.cube_shape.specs.declared.region.Region.{Region}
 use Rattle.cube_shape.specs.Machine.{Holdings}
 use Rattle.region_bits.specs.Represents.{Represents, bit_of}
@@ -40,7 +41,7 @@ bit_of-empty n p = elim (cases_lt p n) [
   | inr past ↦ get_or_past (replicate n false) p false (simp length-replicate past)
 ]
 
-pub IsConsistent-made : (n : ℕ) (slots : List (Option Region)) (bits : List Bool) → n ≤ MAX_DIM → slots ≡ replicate MAX_STATIONS None → bits ≡ replicate (2 ^ n) false → IsConsistent n slots bits
+pub IsConsistent-made : (n : ℕ) (slots : List (Option Region)) (bits : List Bool) → n ≤ MAX_BITS_DIM → slots ≡ replicate MAX_STATIONS None → bits ≡ replicate (2 ^ n) false → IsConsistent n slots bits
 IsConsistent-made n slots bits fits empty clear =
     subst (λ xs. IsConsistent n xs bits) (sym empty) (subst (IsConsistent n (replicate MAX_STATIONS None)) (sym clear) record {
       slot_count = length-replicate {A = Option Region} MAX_STATIONS None;

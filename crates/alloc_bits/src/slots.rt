@@ -5,7 +5,8 @@ ghost use Rattle.cube_shape.specs.declared.region.Region.{Region as HeldRegion};
 ghost use Rattle.cube_shape.specs.Region.{Covers};
 ghost use Rattle.alloc_bits.specs.Inner.{slot_of};
 
-use cube_shape::{MAX_DIM, Region};
+use cube_shape::Region;
+use region_bits::MAX_BITS_DIM;
 
 /// The region of a station, if it holds one.
 pub fn region_of(slots: &[Option<Region>], station: u32) -> Option<Region>
@@ -25,7 +26,7 @@ pub fn all_empty(slots: &[Option<Region>]) -> bool
 /// The station whose region has a processor, the first if there are several.
 pub fn holder_of(slots: &[Option<Region>], processor: u64) -> Option<u32>
     requires count { length slots.now < 2 ^ 32 }
-    requires limits { (s : ℕ) (a : HeldRegion) → slot_of slots.now s ≡ Some a → a.dim ≤ MAX_DIM }
+    requires limits { (s : ℕ) (a : HeldRegion) → slot_of slots.now s ≡ Some a → a.dim ≤ MAX_BITS_DIM }
     ensures held { IfSome result (λ s. (a : HeldRegion) × (slot_of slots.now s ≡ Some a)
         × Covers a processor) }
     ensures free { IfNone result ((s : ℕ) (a : HeldRegion) → slot_of slots.now s ≡ Some a
@@ -43,7 +44,7 @@ pub fn holder_of(slots: &[Option<Region>], processor: u64) -> Option<u32>
 
 // Whether a region has a processor.
 fn covers(region: Region, processor: u64) -> bool
-    requires { region.dim ≤ MAX_DIM }
+    requires { region.dim ≤ MAX_BITS_DIM }
     ensures { IsTrue result ↔ Covers region processor }
 {
     region.base <= processor && processor - region.base < 1 << region.dim

@@ -12,9 +12,9 @@ pub mod Inner
 pub use Rattle.floors.specs.Floor.{IsWhollyFree}
 pub use Rattle.job_types.specs.Job.{JobData}
 pub use Rattle.crew.specs.Done.{IsDone}
+pub use Rattle.crew.specs.Members.{RanIn}
 pub use Rattle.jobs_csv.specs.Fault.{IsInputFault, fault_text}
 pub use Rattle.jobs_csv.specs.Jobs.{parse_jobs}
 pub use Rattle.jobs_csv.specs.Text.{file_text}
 pub use Rattle.cli_words.specs.CommandLine.{AreShopSizes}
-pub use Rattle.whole_file.specs.FileFault.{file_fault_text}
 pub use Rattle.whole_file.specs.Store.{KeepsFiles, KeepsOthers, begun_by, held_by}

@@ -1,1 +1,2 @@
 mod AlignedLemmas
+mod FreeLemmas

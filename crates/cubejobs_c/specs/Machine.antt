@@ -1,11 +1,13 @@
 -- What a contract sees of a machine that its caller keeps: which region each station holds.
-use Rattle.std.specs.Prelude.{ℕ, false, if◌then◌else◌, List, slice_index_or, Option, Some, None}
+use Rattle.std.specs.Prelude.{◌≡◌, ℕ, ◌<◌, false, if◌then◌else◌, List, slice_index_or, Option, Some, None, IsSome}
 use Rattle.cube_shape.specs.declared.region.Region.{Region}
+use Rattle.cube_shape.specs.declared.limits.TheConstants.{MAX_STATIONS}
 use Rattle.cube_shape.specs.Machine.{Holdings}
 use Rattle.region_bits.specs.Represents.{Represents}
 use Rattle.cubejobs_c.specs.declared.machine.Answer.{Answer}
 use Rattle.cubejobs_c.specs.declared.machine.Machine.{Machine}
 use Rattle.cubejobs_c.specs.declared.machine.Slot.{Slot}
+use Rattle.cubejobs_c.specs.declared.machine.StationAnswer.{StationAnswer}
 
 -- the region of a slot, if it has one
 abbrev pub region_in : Slot → Option Region
@@ -31,3 +33,12 @@ region_from base k = record { base = base; dim = k }
 -- the region that an answer names
 abbrev pub region_of : Answer → Region
 region_of answer = record { base = answer.base; dim = answer.dim }
+
+-- and the one that an answer names beside a station
+abbrev pub region_given : StationAnswer → Region
+region_given answer = record { base = answer.base; dim = answer.dim }
+
+-- the station holds nothing, and each before it holds a region
+abbrev pub IsFirstIdle : Holdings → ℕ → Type 0
+IsFirstIdle held station =
+    (station < MAX_STATIONS) × (held station ≡ None) × ((s : ℕ) → s < station → IsSome (held s))

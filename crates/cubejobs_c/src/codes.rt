@@ -15,7 +15,7 @@ pub const BAD_STATION: u32 = 3;
 /// The station holds a region, and a station holds one at most.
 pub const STATION_HOLDS: u32 = 4;
 
-/// The station holds no region.
+/// The station holds no region, or a processor of the region is held by nobody.
 pub const NOTHING_HELD: u32 = 5;
 
 /// No aligned region of the dimension begins at this processor.
@@ -23,3 +23,9 @@ pub const BAD_BASE: u32 = 6;
 
 /// The caller's header has a machine of another size than this library.
 pub const BAD_SIZE: u32 = 7;
+
+/// Every station holds a region.
+pub const NO_STATION: u32 = 8;
+
+/// A byte that should say whether a processor is held is neither 0 nor 1.
+pub const BAD_BITS: u32 = 9;

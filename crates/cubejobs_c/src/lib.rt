@@ -6,18 +6,29 @@
 //! the package `rust/` wraps them for Rust.
 #![tactic(auto)]
 
+mod any_station;
 mod codes;
 mod exports;
+mod fit;
+mod fit_looks;
+mod fit_open;
+mod fit_regions;
 mod machine;
 mod regions;
 mod slots;
 
+pub use any_station::cubejobs_take_any;
 pub use codes::{
-    BAD_BASE, BAD_DIMENSION, BAD_SIZE, BAD_STATION, DONE, NO_SUBCUBE, NOTHING_HELD, STATION_HOLDS,
+    BAD_BASE, BAD_BITS, BAD_DIMENSION, BAD_SIZE, BAD_STATION, DONE, NO_STATION, NO_SUBCUBE,
+    NOTHING_HELD, STATION_HOLDS,
 };
 pub use exports::{
     cubejobs_holder, cubejobs_is_wholly_free, cubejobs_open_sized, cubejobs_release, cubejobs_take,
     zeros_are_sound,
 };
-pub use machine::{Answer, Holder, MACHINE_BYTES, Machine, Slot};
+pub use fit::cubejobs_bits_take;
+pub use fit_looks::{cubejobs_bits_free_regions, cubejobs_bits_is_free, cubejobs_bits_largest};
+pub use fit_open::{cubejobs_bits_check, cubejobs_bits_open, cubejobs_fit_bytes};
+pub use fit_regions::{cubejobs_bits_release, cubejobs_bits_take_region};
+pub use machine::{Answer, Holder, MACHINE_BYTES, Machine, Slot, StationAnswer};
 pub use regions::{cubejobs_free_regions, cubejobs_region, cubejobs_take_region};

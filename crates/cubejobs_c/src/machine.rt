@@ -48,3 +48,17 @@ pub struct Holder {
     /// Whether a station holds the processor.
     pub found: bool,
 }
+
+/// The answer of a take by any station.
+#[repr(C)]
+#[derive(Clone, Copy, Debug)]
+pub struct StationAnswer {
+    /// `DONE`, or why the call was refused.
+    pub code: u32,
+    /// The station that was given the region where the call was done, and otherwise 0.
+    pub station: u32,
+    /// The region's dimension where the call was done, and otherwise 0.
+    pub dim: u32,
+    /// The region's least processor where the call was done, and otherwise 0.
+    pub base: u64,
+}

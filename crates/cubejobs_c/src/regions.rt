@@ -12,12 +12,12 @@ use crate::codes::{
 use crate::exports::{done, refused};
 use crate::machine::{Answer, Machine};
 use crate::slots;
-use cube_shape::{MAX_DIM, MAX_STATIONS, Region};
-use region_bits::{count_free, is_free, set_region};
+use cube_shape::{MAX_STATIONS, Region};
+use region_bits::{MAX_BITS_DIM, count_free, is_free, set_region};
 
 // Whether a region of a dimension within the machine's is aligned: it begins at a multiple of its size, in the machine.
-fn begins_at(n: u32, region: Region) -> bool
-    requires machine { n ≤ MAX_DIM }
+pub(crate) fn begins_at(n: u32, region: Region) -> bool
+    requires machine { n ≤ MAX_BITS_DIM }
     requires dim { region.dim ≤ n }
     ensures { IsTrue result ↔ IsAligned n region }
 {

@@ -1,12 +1,13 @@
 //! The regions of the stations: a slot for each station, by its number.
 
-ghost use Rattle.std.specs.Prelude.{◌≡◌, ◌≢◌, ℕ, ◌^◌, ◌<◌, ◌≤◌, ◌↔◌, None, Some, length, IsTrue, IfNone, IfSome};
+ghost use Rattle.std.specs.Prelude.{◌≡◌, ◌≢◌, ℕ, ◌^◌, ◌<◌, ◌≤◌, ◌↔◌, None, Some, length, IsTrue, IsSome, IfNone, IfSome};
 ghost use Rattle.cube_shape.specs.declared.region.Region.{Region as HeldRegion};
 ghost use Rattle.cube_shape.specs.Region.{Covers};
 ghost use Rattle.cubejobs_c.specs.Machine.{holdings, region_in};
 
 use crate::machine::Slot;
-use cube_shape::{MAX_DIM, Region};
+use cube_shape::Region;
+use region_bits::MAX_BITS_DIM;
 
 impl Slot {
     // The slot of a station that holds this region, or nothing.
@@ -77,10 +78,25 @@ pub fn all_empty(slots: &[Slot]) -> bool
     slots.iter().all(|slot| !slot.held)
 }
 
+/// Returns the first station that holds no region, if there is one.
+pub fn first_idle(slots: &[Slot]) -> Option<u32>
+    requires { length slots.now < 2 ^ 32 }
+    ensures idle { IfSome result (λ s. (s < length slots.now) × (holdings slots.now s ≡ None)) }
+    ensures least { IfSome result (λ s. (t : ℕ) → t < s → IsSome (holdings slots.now t)) }
+    ensures none { IfNone result ((t : ℕ) → t < length slots.now → IsSome (holdings slots.now t)) }
+{
+    for number in 0..slots.len() {
+        if slots[number].region().is_none() {
+            return Some(number as u32);
+        }
+    }
+    None
+}
+
 /// The station whose region has a processor, the first if there are several.
 pub fn holder_of(slots: &[Slot], processor: u64) -> Option<u32>
     requires count { length slots.now < 2 ^ 32 }
-    requires limits { (s : ℕ) (a : HeldRegion) → holdings slots.now s ≡ Some a → a.dim ≤ MAX_DIM }
+    requires limits { (s : ℕ) (a : HeldRegion) → holdings slots.now s ≡ Some a → a.dim ≤ MAX_BITS_DIM }
     ensures held { IfSome result (λ s. (a : HeldRegion) × (holdings slots.now s ≡ Some a)
         × Covers a processor) }
     ensures free { IfNone result ((s : ℕ) (a : HeldRegion) → holdings slots.now s ≡ Some a
@@ -98,7 +114,7 @@ pub fn holder_of(slots: &[Slot], processor: u64) -> Option<u32>
 
 // Whether a region has a processor.
 fn covers(region: Region, processor: u64) -> bool
-    requires { region.dim ≤ MAX_DIM }
+    requires { region.dim ≤ MAX_BITS_DIM }
     ensures { IsTrue result ↔ Covers region processor }
 {
     region.base <= processor && processor - region.base < 1 << region.dim

@@ -14,11 +14,10 @@
 use cli_commands::program;
 use cli_commands::program::Ending;
 use jobs_csv::{Counted, Fault};
-use std::io;
 use std::io::IsTerminal;
-use std::process;
 use std::process::ExitCode;
 use std::rt::Env;
+use std::{io, process};
 use whole_file::SystemFiles;
 
 // The words of the command line, from the program's name on.

@@ -1,20 +1,20 @@
 -- Bits represent holdings, and a take or a release keeps that.
 use Rattle.std.proofs.Common.{◌≡◌, ◌≢◌, ℕ, ◌+◌, ◌-◌, ◌^◌, ◌<◌, ◌≤◌, ◌⊎◌, inl, inr, Bool, true, false, List, length, Option, Some, None, sym, ◌∙◌, ap, subst, arith}
 use Rattle.std.proofs.lemmas.Bool.{cases_lt, cases_eq, true≢false}
-use Rattle.cube_shape.specs.declared.limits.TheConstants.{MAX_DIM}
+use Rattle.region_bits.specs.declared.limits.TheConstants.{MAX_BITS_DIM}
 use Rattle.cube_shape.specs.declared.region.Region.{Region}
 use Rattle.cube_shape.specs.Region.{Covers, IsAligned, block}
 use Rattle.cube_shape.specs.Machine.{Holdings, IsFree, Gives, TakesBack, IsFirstFit, HasNoFit}
 use Rattle.cube_shape.proofs.RegionLemmas.{IsAligned-block}
 use Rattle.cube_shape.proofs.MachineLemmas.{IsLawful-none, IsLawful-gives, IsLawful-takes_back}
 use Rattle.region_bits.specs.Represents.{bit_of, Represents}
-use Rattle.region_bits.specs.Inner.{IsClear, IsFirstClear}
+use Rattle.region_bits.specs.Bits.{IsClear, IsFirstClear}
 
 none_is_some : {a : Region} → ◌≡◌ {A = Option Region} None (Some a) → ⊥
 none_is_some e = cc
 
 -- bits of which none is set represent a machine whose stations hold nothing
-pub Represents-new : (n : ℕ) (held : Holdings) (bits : List Bool) → n ≤ MAX_DIM → 2 ^ n ≤ length bits → ((p : ℕ) → bit_of bits p ≡ false) → ((s : ℕ) → held s ≡ None) → Represents n held bits
+pub Represents-new : (n : ℕ) (held : Holdings) (bits : List Bool) → n ≤ MAX_BITS_DIM → 2 ^ n ≤ length bits → ((p : ℕ) → bit_of bits p ≡ false) → ((s : ℕ) → held s ≡ None) → Represents n held bits
 Represents-new n held bits fits enough clear idle = record {
   dim_in_limits = fits;
   bit_count = enough;

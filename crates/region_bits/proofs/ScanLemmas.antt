@@ -5,7 +5,7 @@ use Rattle.std.proofs.lemmas.Nat.{div-add-mod', pow_pos, pow-add}
 use Rattle.std.proofs.Math.Nat.{div-lt_iff_lt-mul, lt_of_mul-lt-mul_right, mul-lt-mul_of_pos_right}
 use Rattle.cube_shape.specs.declared.region.Region.{Region}
 use Rattle.cube_shape.specs.Region.{IsAligned, block}
-use Rattle.region_bits.specs.Inner.{IsClear, IsFirstClear}
+use Rattle.region_bits.specs.Bits.{IsClear, IsFirstClear}
 
 -- as many regions of dimension k as there are fill the machine
 all_regions : (n k : ℕ) → k ≤ n → 2 ^ (n - k) * 2 ^ k ≡ 2 ^ n

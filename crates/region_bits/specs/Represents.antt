@@ -1,6 +1,6 @@
 -- How allocation bits represent what the stations of a machine hold.
 use Rattle.std.specs.Prelude.{◌≡◌, ℕ, ◌^◌, ◌≤◌, Bool, true, false, List, length, slice_index_or, Some}
-use Rattle.cube_shape.specs.declared.limits.TheConstants.{MAX_DIM}
+use Rattle.region_bits.specs.declared.limits.TheConstants.{MAX_BITS_DIM}
 use Rattle.cube_shape.specs.declared.region.Region.{Region}
 use Rattle.cube_shape.specs.Region.{Covers}
 use Rattle.cube_shape.specs.Machine.{Holdings, IsLawful}
@@ -11,7 +11,7 @@ bit_of bits p = slice_index_or bits p false
 
 -- there is a bit for each processor; those of the held regions are set, and no others
 pub record Represents (n : ℕ) (held : Holdings) (bits : List Bool) : Type 0 where
-  pub dim_in_limits : n ≤ MAX_DIM
+  pub dim_in_limits : n ≤ MAX_BITS_DIM
   pub bit_count : 2 ^ n ≤ length bits
   pub lawful : IsLawful n held
   pub set : (s p : ℕ) (a : Region) → held s ≡ Some a → Covers a p → bit_of bits p ≡ true

@@ -1,19 +1,22 @@
 //! Searching and writing the bits of regions.
 
-ghost use Rattle.std.specs.Prelude.{◌≡◌, ℕ, ◌+◌, ◌-◌, ◌^◌, ◌<◌, ◌≤◌, ◌↔◌, length, false, IsTrue, IfSome, IfNone};
+ghost use Rattle.std.specs.Prelude.{◌≡◌, ℕ, ◌+◌, ◌-◌, ◌^◌, ◌<◌, ◌≤◌, ◌↔◌, length, true, false, IsTrue, IfSome, IfNone};
 ghost use Rattle.cube_shape.specs.Region.{Covers, IsAligned, block};
 ghost use Rattle.region_bits.specs.Represents.{bit_of};
-ghost use Rattle.region_bits.specs.Inner.{IsClear, IsFirstClear};
+ghost use Rattle.region_bits.specs.Bits.{HasNoClear, IsClear, IsFirstClear, IsSet, Writes};
 
-use cube_shape::{MAX_DIM, Region};
+use crate::limits::MAX_BITS_DIM;
+use cube_shape::Region;
 
-/// The least aligned region of dimension `k` whose bits are all clear.
+/// Returns the first region of dimension `k` that is clear: `(m, k)` for the least `m` such that none of its bits is set.
+///
+/// `None` comes only where there is no such `m`.
 pub fn first_clear(bits: &[bool], n: u32, k: u32) -> Option<Region>
-    requires machine { n ≤ MAX_DIM }
+    requires machine { n ≤ MAX_BITS_DIM }
     requires dim { k ≤ n }
     requires bits { 2 ^ n ≤ length bits.now }
     ensures found { IfSome result (λ r. (m : ℕ) × (r ≡ block k m) × IsFirstClear n k bits.now m) }
-    ensures none { IfNone result ((m : ℕ) → m < 2 ^ (n - k) → IsClear bits.now (block k m) → ⊥) }
+    ensures none { IfNone result (HasNoClear n k bits.now) }
 {
     for base in (0..1u64 << n).step_by(1 << k) {
         let region = Region { base, dim: k };
@@ -24,9 +27,9 @@ pub fn first_clear(bits: &[bool], n: u32, k: u32) -> Option<Region>
     None
 }
 
-/// Whether no bit of a region is set.
+/// Returns whether no bit of a region is set.
 pub fn is_clear(bits: &[bool], n: u32, region: Region) -> bool
-    requires machine { n ≤ MAX_DIM }
+    requires machine { n ≤ MAX_BITS_DIM }
     requires bits { 2 ^ n ≤ length bits.now }
     requires region { IsAligned n region }
     ensures { IsTrue result ↔ IsClear bits.now region }
@@ -42,6 +45,24 @@ fn none_set(bits: &[bool]) -> bool
     bits.iter().all(|taken| !*taken)
 }
 
+/// Returns whether all bits of a region are set.
+pub fn is_set(bits: &[bool], n: u32, region: Region) -> bool
+    requires machine { n ≤ MAX_BITS_DIM }
+    requires bits { 2 ^ n ≤ length bits.now }
+    requires region { IsAligned n region }
+    ensures { IsTrue result ↔ IsSet bits.now region }
+{
+    let (start, end) = bit_range(n, region);
+    all_set(&bits[start..end])
+}
+
+// Whether each of these bits is set.
+fn all_set(bits: &[bool]) -> bool
+    ensures { IsTrue result ↔ ((i : ℕ) → i < length bits.now → bit_of bits.now i ≡ true) }
+{
+    bits.iter().all(|taken| *taken)
+}
+
 /// Clears all bits.
 #[tactic(auto, using(std::proofs::lemmas::List::get_or_past))]
 pub fn clear_all(bits: &mut [bool])
@@ -51,14 +72,12 @@ pub fn clear_all(bits: &mut [bool])
     bits.fill(false);
 }
 
-/// Sets or clears all bits of a region.
+/// Sets the bits of a region, or clears them, as `taken` says. No other bit changes.
 pub fn write(bits: &mut [bool], n: u32, region: Region, taken: bool)
-    requires machine { n ≤ MAX_DIM }
+    requires machine { n ≤ MAX_BITS_DIM }
     requires bits { 2 ^ n ≤ length bits.old }
     requires region { IsAligned n region }
-    ensures len { length bits.new ≡ length bits.old }
-    ensures inside { (p : ℕ) → Covers region p → bit_of bits.new p ≡ taken }
-    ensures outside { (p : ℕ) → (Covers region p → ⊥) → bit_of bits.new p ≡ bit_of bits.old p }
+    ensures { Writes region taken bits.old bits.new }
 {
     let (start, end) = bit_range(n, region);
     bits[start..end].fill(taken);
@@ -66,7 +85,7 @@ pub fn write(bits: &mut [bool], n: u32, region: Region, taken: bool)
 
 // The first processor of a region, and the one after its last.
 fn bit_range(n: u32, region: Region) -> (usize, usize)
-    requires machine { n ≤ MAX_DIM }
+    requires machine { n ≤ MAX_BITS_DIM }
     requires region { IsAligned n region }
     ensures start { result.0 ≡ region.base }
     ensures end { result.1 ≡ region.base + 2 ^ region.dim }

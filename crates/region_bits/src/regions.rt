@@ -5,14 +5,16 @@ ghost use Rattle.region_bits.specs.Count.{IsCount};
 ghost use Rattle.region_bits.specs.Represents.{Represents};
 
 use crate::bits;
-use cube_shape::{MAX_DIM, Region};
+use crate::counts::count_clear;
+use crate::limits::MAX_BITS_DIM;
+use cube_shape::Region;
 
 /// The first fit of dimension `k` in a machine of dimension `n`: the region `(m, k)` for the least
 /// `m` such that it is apart from every region that is held, as the bits represent it.
 ///
 /// `None` comes only where there is no such `m`.
 pub fn first_fit(bits: &[bool], n: u32, k: u32) -> Option<Region>
-    requires machine { n ≤ MAX_DIM }
+    requires machine { n ≤ MAX_BITS_DIM }
     requires dim { k ≤ n }
     requires bits { 2 ^ n ≤ length bits.now }
     ensures first { IfSome result (λ r. (m : ℕ) × (r ≡ block k m)
@@ -26,7 +28,7 @@ pub fn first_fit(bits: &[bool], n: u32, k: u32) -> Option<Region>
 
 /// Whether a region is apart from every region that is held, as the bits represent it.
 pub fn is_free(bits: &[bool], n: u32, region: Region) -> bool
-    requires machine { n ≤ MAX_DIM }
+    requires machine { n ≤ MAX_BITS_DIM }
     requires bits { 2 ^ n ≤ length bits.now }
     requires region { IsAligned n region }
     ensures { (held : Holdings) → Represents n held bits.now
@@ -35,41 +37,21 @@ pub fn is_free(bits: &[bool], n: u32, region: Region) -> bool
     bits::is_clear(bits, n, region)
 }
 
-// The region `(m, k)`.
-fn nth_region(n: u32, k: u32, m: u64) -> Region
-    requires machine { n ≤ MAX_DIM }
-    requires dim { k ≤ n }
-    requires number { m < 2 ^ (n - k) }
-    ensures region { result ≡ block k m }
-    ensures aligned { IsAligned n result }
-{
-    Region {
-        base: m * (1 << k),
-        dim: k,
-    }
-}
-
 /// How many regions of dimension `k` are apart from every region that is held, as the bits represent it.
 pub fn count_free(bits: &[bool], n: u32, k: u32) -> u64
-    requires machine { n ≤ MAX_DIM }
+    requires machine { n ≤ MAX_BITS_DIM }
     requires dim { k ≤ n }
     requires bits { 2 ^ n ≤ length bits.now }
     ensures { (held : Holdings) → Represents n held bits.now
         → IsCount (λ m. IsFree held (block k m)) (2 ^ (n - k)) result }
 {
-    let mut count = 0;
-    for m in 0..1u64 << (n - k) {
-        if is_free(bits, n, nth_region(n, k, m)) {
-            count += 1;
-        }
-    }
-    count
+    count_clear(bits, n, k)
 }
 
 /// Clears the bits of a machine whose stations hold nothing.
 pub fn clear_all(bits: &mut [bool])
     ensures len { length bits.new ≡ length bits.old }
-    ensures free { (n : ℕ) (held : Holdings) → n ≤ MAX_DIM → 2 ^ n ≤ length bits.old
+    ensures free { (n : ℕ) (held : Holdings) → n ≤ MAX_BITS_DIM → 2 ^ n ≤ length bits.old
         → ((s : ℕ) → held s ≡ None) → Represents n held bits.new }
 {
     bits::clear_all(bits);
@@ -77,7 +59,7 @@ pub fn clear_all(bits: &mut [bool])
 
 /// Sets the bits of a region that a station is given.
 pub fn set_region(bits: &mut [bool], n: u32, region: Region)
-    requires machine { n ≤ MAX_DIM }
+    requires machine { n ≤ MAX_BITS_DIM }
     requires bits { 2 ^ n ≤ length bits.old }
     requires region { IsAligned n region }
     ensures len { length bits.new ≡ length bits.old }
@@ -89,7 +71,7 @@ pub fn set_region(bits: &mut [bool], n: u32, region: Region)
 
 /// Clears the bits of a region that is taken back from its station.
 pub fn clear_region(bits: &mut [bool], n: u32, region: Region)
-    requires machine { n ≤ MAX_DIM }
+    requires machine { n ≤ MAX_BITS_DIM }
     requires bits { 2 ^ n ≤ length bits.old }
     requires region { IsAligned n region }
     ensures len { length bits.new ≡ length bits.old }

@@ -1,7 +1,7 @@
 -- The base is that of a region, and no region before it is clear.
 use Rattle.std.proofs.Common.{◌≡◌, ℕ, ◌*◌, ◌%◌, ◌^◌, ◌<◌}
 use Rattle.cube_shape.specs.Region.{block}
-use Rattle.region_bits.specs.Inner.{IsClear}
+use Rattle.region_bits.specs.Bits.{IsClear}
 use Rattle.region_bits.proofs.bits.first_clear.Given as goal
 
 abbrev pub invariant-loop-base : goal.invariant-loop-base

@@ -4,7 +4,7 @@ use Rattle.cube_shape.specs.declared.region.Region.{Region}
 use Rattle.cube_shape.specs.Region.{block}
 use Rattle.cube_shape.specs.Machine.{Holdings, HasNoFit, IsFirstFit}
 use Rattle.region_bits.specs.Represents.{Represents}
-use Rattle.region_bits.specs.Inner.{IsClear, IsFirstClear}
+use Rattle.region_bits.specs.Bits.{IsClear, IsFirstClear}
 use Rattle.region_bits.proofs.RepresentsLemmas as lemmas
 use Rattle.region_bits.proofs.regions.first_fit.Goals as goal
 

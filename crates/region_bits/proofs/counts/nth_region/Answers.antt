@@ -1,10 +1,9 @@
 -- A block of the machine is aligned.
 use Rattle.std.proofs.Common.{◌*◌, ◌^◌, ◌≡◌, ◌%◌, sym, ap, subst, arith}
 use Rattle.std.proofs.lemmas.Nat.{one_shl}
-use Rattle.cube_shape.specs.declared.region.Region.{Region}
 use Rattle.cube_shape.specs.Region.{IsAligned}
 use Rattle.cube_shape.proofs.RegionLemmas.{IsAligned-block}
-use Rattle.region_bits.proofs.regions.nth_region.Goals as goal
+use Rattle.region_bits.proofs.counts.nth_region.Goals as goal
 
 pub returns-clause-aligned : goal.returns-clause-aligned
 returns-clause-aligned c =

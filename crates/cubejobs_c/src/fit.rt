@@ -1,0 +1,60 @@
+//! First fit over the caller's own bits, one `bool` for each processor: any number of regions, and no stations.
+
+ghost use Rattle.std.specs.Prelude.{◌≡◌, ◌≢◌, ℕ, ◌-◌, ◌^◌, ◌<◌, ◌≤◌, length, true};
+ghost use Rattle.cube_shape.specs.Region.{block};
+ghost use Rattle.region_bits.specs.Bits.{HasBits, HasNoClear, IsFirstClear, Writes};
+ghost use Rattle.cubejobs_c.specs.Machine.{region_of};
+
+use crate::codes::{BAD_DIMENSION, BAD_SIZE, DONE, NO_SUBCUBE};
+use crate::exports::{done, refused};
+use crate::machine::Answer;
+use region_bits::{MAX_BITS_DIM, first_clear, write};
+
+// `DONE` where `count` bits are enough for a machine of dimension `n`, and it has regions of dimension `k`; otherwise
+// what is wrong: `BAD_DIMENSION` before `BAD_SIZE`.
+pub(crate) fn fault_of(count: usize, n: u32, k: u32) -> u32
+    ensures machine { MAX_BITS_DIM < n → result ≡ BAD_DIMENSION }
+    ensures dimension { n < k → result ≡ BAD_DIMENSION }
+    ensures size { n ≤ MAX_BITS_DIM → k ≤ n → count < 2 ^ n → result ≡ BAD_SIZE }
+    ensures done { n ≤ MAX_BITS_DIM → k ≤ n → 2 ^ n ≤ count → result ≡ DONE }
+    ensures fine { result ≡ DONE → (n ≤ MAX_BITS_DIM) × (k ≤ n) × (2 ^ n ≤ count) }
+{
+    if n > MAX_BITS_DIM || k > n {
+        return BAD_DIMENSION;
+    }
+    if count < 1 << n {
+        return BAD_SIZE;
+    }
+    DONE
+}
+
+/// Takes the first fit: the region `(m, k)` for the least `m` such that no bit of it is set. Sets its bits.
+///
+/// The code is `DONE`, with the region, or the first of these that is so: `BAD_DIMENSION` where `n` is past
+/// `MAX_BITS_DIM` or `k` is past `n`, `BAD_SIZE` where there are less than `2^n` bits, `NO_SUBCUBE`.
+#[unsafe(no_mangle)]
+pub extern "C" fn cubejobs_bits_take(bits: &mut [bool], n: u32, k: u32) -> Answer
+    ensures bad_machine { MAX_BITS_DIM < n → result.code ≡ BAD_DIMENSION }
+    ensures bad_dimension { n < k → result.code ≡ BAD_DIMENSION }
+    ensures bad_size { n ≤ MAX_BITS_DIM → k ≤ n → length bits.old < 2 ^ n
+        → result.code ≡ BAD_SIZE }
+    ensures no_subcube { HasBits n bits.old → k ≤ n → HasNoClear n k bits.old
+        → result.code ≡ NO_SUBCUBE }
+    ensures done { HasBits n bits.old → k ≤ n → (m : ℕ) → IsFirstClear n k bits.old m
+        → result.code ≡ DONE }
+    ensures first { result.code ≡ DONE → (m : ℕ) × (region_of result ≡ block k m)
+        × IsFirstClear n k bits.old m }
+    ensures taken { result.code ≡ DONE → Writes (region_of result) true bits.old bits.new }
+    ensures no_region { result.code ≢ DONE → (result.base ≡ 0) × (result.dim ≡ 0) }
+    ensures unchanged { result.code ≢ DONE → bits.new ≡ bits.old }
+{
+    let fault = fault_of(bits.len(), n, k);
+    if fault != DONE {
+        return refused(fault);
+    }
+    let Some(region) = first_clear(bits, n, k) else {
+        return refused(NO_SUBCUBE);
+    };
+    write(bits, n, region, true);
+    done(region)
+}

@@ -1,0 +1,75 @@
+//! Questions on the caller's own bits: they change nothing.
+
+ghost use Rattle.std.specs.Prelude.{◌≡◌, ◌≢◌, ℕ, ◌-◌, ◌^◌, ◌<◌, ◌≤◌, ◌↔◌, length, true, false, IsTrue};
+ghost use Rattle.cube_shape.specs.Region.{IsAligned, block};
+ghost use Rattle.region_bits.specs.Bits.{HasBits, HasNoClear, IsClear, IsFirstClear};
+ghost use Rattle.region_bits.specs.Count.{IsCount};
+ghost use Rattle.region_bits.specs.Represents.{bit_of};
+ghost use Rattle.cubejobs_c.specs.Machine.{region_from, region_of};
+
+use crate::codes::{BAD_DIMENSION, BAD_SIZE, DONE, NO_SUBCUBE};
+use crate::exports::{done, refused};
+use crate::fit::fault_of;
+use crate::machine::Answer;
+use crate::regions::begins_at;
+use cube_shape::Region;
+use region_bits::{MAX_BITS_DIM, count_clear, is_clear, largest_clear};
+
+/// Returns whether a region of dimension `k` begins at this processor and no bit of it is set.
+///
+/// There is none where `n` is past `MAX_BITS_DIM` or there are less than `2^n` bits.
+#[unsafe(no_mangle)]
+pub extern "C" fn cubejobs_bits_is_free(bits: &[bool], n: u32, base: u64, k: u32) -> bool
+    ensures { IsTrue result ↔ (HasBits n bits.now × IsAligned n (region_from base k)
+        × IsClear bits.now (region_from base k)) }
+{
+    if fault_of(bits.len(), n, k) != DONE {
+        return false;
+    }
+    let region = Region { base, dim: k };
+    begins_at(n, region) && is_clear(bits, n, region)
+}
+
+/// Returns how many regions of dimension `k` are free: no bit of them is set.
+///
+/// There is none where `n` is past `MAX_BITS_DIM`, `k` is past `n` or there are less than `2^n` bits.
+#[unsafe(no_mangle)]
+pub extern "C" fn cubejobs_bits_free_regions(bits: &[bool], n: u32, k: u32) -> u64
+    ensures counted { HasBits n bits.now → k ≤ n
+        → IsCount (λ m. IsClear bits.now (block k m)) (2 ^ (n - k)) result }
+    ensures none { (HasBits n bits.now → k ≤ n → ⊥) → result ≡ 0 }
+{
+    if fault_of(bits.len(), n, k) != DONE {
+        return 0;
+    }
+    count_clear(bits, n, k)
+}
+
+/// Returns the first region of the largest dimension of which a region is free.
+///
+/// The code is `DONE`, with the region, or the first of these that is so: `BAD_DIMENSION` where `n` is past
+/// `MAX_BITS_DIM`, `BAD_SIZE` where there are less than `2^n` bits, `NO_SUBCUBE` where each processor is held.
+#[unsafe(no_mangle)]
+pub extern "C" fn cubejobs_bits_largest(bits: &[bool], n: u32) -> Answer
+    ensures bad_machine { MAX_BITS_DIM < n → result.code ≡ BAD_DIMENSION }
+    ensures bad_size { n ≤ MAX_BITS_DIM → length bits.now < 2 ^ n → result.code ≡ BAD_SIZE }
+    ensures no_subcube { HasBits n bits.now → ((p : ℕ) → p < 2 ^ n → bit_of bits.now p ≡ true)
+        → result.code ≡ NO_SUBCUBE }
+    ensures done { HasBits n bits.now → (p : ℕ) → p < 2 ^ n → bit_of bits.now p ≡ false
+        → result.code ≡ DONE }
+    ensures dim { result.code ≡ DONE → result.dim ≤ n }
+    ensures first { result.code ≡ DONE → (m : ℕ) × (region_of result ≡ block result.dim m)
+        × IsFirstClear n result.dim bits.now m }
+    ensures largest { result.code ≡ DONE → (k : ℕ) → result.dim < k → k ≤ n
+        → HasNoClear n k bits.now }
+    ensures no_region { result.code ≢ DONE → (result.base ≡ 0) × (result.dim ≡ 0) }
+{
+    let fault = fault_of(bits.len(), n, n);
+    if fault != DONE {
+        return refused(fault);
+    }
+    match largest_clear(bits, n) {
+        Some(region) => done(region),
+        None => refused(NO_SUBCUBE),
+    }
+}
