@@ -6,7 +6,10 @@ use std::sync::Wait;
 use std::thread::{Parker, yield_now};
 use std::time::Duration;
 
-// How often a caller yields before its second try. Each burst of yields is twice as long as the one before.
+// How many of the first pauses are snoozes. A try follows each of them, and a try at a full queue slows others.
+const SNOOZES: u32 = 3;
+
+// How often a caller yields before its next try. Each burst of yields is twice as long as the one before.
 const FIRST_BURST: u32 = 2;
 
 /// How often a caller yields in the last burst before it sleeps. All bursts together are meant to take
@@ -22,8 +25,10 @@ const LONGEST_SLEEP: u64 = 800;
 /// wakes a caller that sleeps, and none sleeps for long.
 #[derive(Drop)]
 pub struct Pause {
-    // The first pauses: it spins for some nanoseconds, and then yields once.
-    snoozes: Backoff,
+    // It spins for some nanoseconds in each of the first pauses.
+    backoff: Backoff,
+    // How many of these are left.
+    snoozes: u32,
     // How often the caller yields in the next burst. There is none after the longest.
     burst: u32,
     // The next sleep, in microseconds.
@@ -36,7 +41,8 @@ impl Pause {
     /// The pauses of a caller that has not tried yet.
     pub fn new() -> Self {
         Pause {
-            snoozes: Backoff::new(),
+            backoff: Backoff::new(),
+            snoozes: SNOOZES,
             burst: FIRST_BURST,
             sleep: FIRST_SLEEP,
             sleeper: Parker::new(),
@@ -45,7 +51,8 @@ impl Pause {
 
     /// Begins anew, since a try had success.
     pub fn reset(&mut self) {
-        self.snoozes.reset();
+        self.backoff.reset();
+        self.snoozes = SNOOZES;
         self.burst = FIRST_BURST;
         self.sleep = FIRST_SLEEP;
     }
@@ -56,8 +63,9 @@ impl Pause {
     pub fn next_burst<R: Wait>(&mut self, rt: &R) -> u32
         ensures { result ≤ LONGEST_BURST }
     {
-        if !self.snoozes.is_completed() {
-            self.snoozes.snooze();
+        if self.snoozes > 0 {
+            self.snoozes -= 1;
+            self.backoff.snooze();
             return 0;
         }
         let burst = self.burst;
