@@ -1,5 +1,5 @@
 //! What tests share: lists of jobs, lists of one member or two, a table of the processors that are in use,
-//! the members of a small shop, runners that see what is inside them at one moment, and what values show as text. Tests
+//! the members of a small shop, and runners that see what is inside them at one moment. Tests
 //! stand on this crate, and the measurements.
 #![tactic(auto)]
 
@@ -8,7 +8,6 @@ mod meeting;
 mod members;
 mod shop_members;
 mod table;
-mod text;
 mod waiting;
 
 pub use job_lists::{Plan, Row, SUM, job, jobs, listed, lists};
@@ -16,5 +15,4 @@ pub use meeting::{Keeper, Meeting};
 pub use members::{Pair, both, only, sole};
 pub use shop_members::{only_lane, only_worker};
 pub use table::{Table, Tabled};
-pub use text::expect_texts;
 pub use waiting::wait_for;

@@ -2,13 +2,12 @@
 
 ghost use Rattle.std.specs.Prelude.{◌≡◌, ◌≤◌, length};
 
-use super::expect::expect_all;
+use super::expect::{expect_all, expect_texts};
 use alloc_bits::{AllocBits, NoSubcube, NothingHeld};
 use cube_shape::{MAX_DIM, MAX_STATIONS, Region};
 use region_bits::{clear_all, clear_region, first_fit, set_region};
 use std::alloc::Global;
 use std::process::Abort;
-use test_kit::expect_texts;
 
 // Whether this is the first fit in a machine of dimension 3.
 fn fits(bits: &[bool], k: u32, region: Option<Region>) -> bool

@@ -8,7 +8,7 @@ ghost use Rattle.cube_tree.specs.Handles.{cube_dim, cube_size, size_with, IsSame
 mod alone;
 mod crowd;
 
-use super::expect::expect_all;
+use super::expect::{expect_all, expect_texts};
 pub(super) use alone::{ends_free, made};
 use cube_shape::{Node, Region};
 use cube_tree::{
@@ -17,7 +17,6 @@ use cube_tree::{
 };
 use std::alloc::Global;
 use std::process::Abort;
-use test_kit::expect_texts;
 
 // A cube and its stations, or why there is none.
 fn open(alloc: Global, n: u32, stations: u32) -> Result<(Cube, Vec<TreeStation>), CubeRefused>

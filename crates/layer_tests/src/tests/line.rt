@@ -2,7 +2,7 @@
 ghost use Rattle.std.specs.Prelude.{◌≡◌, ◌<◌, ◌≤◌, [], IfOk};
 ghost use Rattle.std.specs.Vec.{vec_capacity};
 
-use crate::tests::expect::{expect_all, made};
+use crate::tests::expect::{expect_all, expect_texts, made};
 use cube_shape::{MAX_CAPACITY, MAX_LANES};
 use job_queue::{JobLine, Opened, QueuedJob, Receipt, Refused, Rest, Sizes, Taken};
 use job_types::{Job, JobId};
@@ -15,7 +15,7 @@ use std::marker::Model;
 use std::process::Abort;
 use std::sync::Wait;
 use std::thread::Threads;
-use test_kit::{Pair, Plan, SUM, both, expect_texts, job, jobs};
+use test_kit::{Pair, Plan, SUM, both, job, jobs};
 
 pub const JOBS: usize = 100;
 

@@ -1,5 +1,6 @@
 //! Each refusal, each act, and a machine of one node; whole schedules stand in `schedules`, short
-//! ones that show a wrong step in `interleavings`, outcomes that no clause pins in `outcomes`, and who
+//! ones that show a wrong step in `interleavings`, outcomes that no clause super::expect::expect_texts;
+use pins in `outcomes`, and who
 //! is in the way where a try is refused in `causes`.
 
 ghost use Rattle.std.specs.Prelude.{◌≡◌, ◌+◌, ◌^◌, ◌≤◌, length};
@@ -13,7 +14,6 @@ mod schedules;
 use cube_core::{Act, Event, Kind, MAX_DIM, MAX_STATIONS, Note, Phase, Refused, World};
 use std::alloc::Global;
 use std::process::Abort;
-use test_kit::expect_texts;
 
 // A line of a schedule: a call that begins something, an event (its station, kind, node, word and
 // note), a step of a station at rest, an act that is refused, and a retirement with the roll that it

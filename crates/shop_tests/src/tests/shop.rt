@@ -1,6 +1,6 @@
 //! A shop of one lane and one worker: over the line and the floor with no lock, and over the two locks.
 use crate::tests::at_rest::AtRest;
-use crate::tests::expect::expect_all;
+use crate::tests::expect::{expect_all, expect_texts};
 use crate::tests::stage::{Back, Stage};
 use crew::StopReason;
 use dispatcher::{FeedEnd, FeedStop, Finished, Plain, Shop, ShopRefused, Stop, refusal};
@@ -13,7 +13,7 @@ use ruled_line::RuledLine;
 use std::alloc::Global;
 use std::process::Abort;
 use std::sync::Wait;
-use test_kit::{Row, SUM, expect_texts};
+use test_kit::{Row, SUM};
 use tree_floor::TreeFloor;
 use uses::{Counting, Tallied};
 
