@@ -1,6 +1,5 @@
 //! Each refusal, each act, and a machine of one node; whole schedules stand in `schedules`, short
-//! ones that show a wrong step in `interleavings`, outcomes that no clause super::expect::expect_texts;
-use pins in `outcomes`, and who
+//! ones that show a wrong step in `interleavings`, outcomes that no clause pins in `outcomes`, and who
 //! is in the way where a try is refused in `causes`.
 
 ghost use Rattle.std.specs.Prelude.{◌≡◌, ◌+◌, ◌^◌, ◌≤◌, length};
@@ -11,6 +10,7 @@ mod interleavings;
 mod outcomes;
 mod schedules;
 
+use super::expect::expect_texts;
 use cube_core::{Act, Event, Kind, MAX_DIM, MAX_STATIONS, Note, Phase, Refused, World};
 use std::alloc::Global;
 use std::process::Abort;
