@@ -1,7 +1,7 @@
 /* Refuses requests for memory of a program: as many as REFUSE_COUNT says (1 if it is not there, and all if it is 0),
  * from the one whose number is in REFUSE on, counted from 1; and starts of threads: the one whose number is in
- * REFUSE_THREAD, and all after it. The numbers of requests and of starts are written to the file that COUNT_FILE
- * names, when the program ends.
+ * REFUSE_THREAD, and all after it. The numbers of requests and of starts, and how many bytes were asked for in all, are
+ * written to the file that COUNT_FILE names, when the program ends.
  *
  * Where TELL is set, a line follows each line that the program writes to standard output: '#', and how many
  * requests there were so far, how many of them were refused, and how many blocks of memory it holds.
@@ -22,6 +22,7 @@ static unsigned long held;
 static unsigned long first_refused;
 static unsigned long most_refused;
 static unsigned long starts;
+static unsigned long bytes_asked;
 static unsigned long first_refused_start;
 static int tells;
 
@@ -35,7 +36,7 @@ __attribute__((constructor)) static void begin(void) {
     most_refused = number_in("REFUSE_COUNT", 1);
     first_refused_start = number_in("REFUSE_THREAD", 0);
     tells = getenv("TELL") != NULL;
-    requests = refusals = held = starts = 0;
+    requests = refusals = held = starts = bytes_asked = 0;
 }
 
 __attribute__((destructor)) static void end(void) {
@@ -44,7 +45,7 @@ __attribute__((destructor)) static void end(void) {
     const char *name = getenv("COUNT_FILE");
     FILE *file = name ? fopen(name, "w") : NULL;
     if (file) {
-        fprintf(file, "%lu %lu\n", total, begun);
+        fprintf(file, "%lu %lu %lu\n", total, begun, __atomic_load_n(&bytes_asked, __ATOMIC_SEQ_CST));
         fclose(file);
     }
 }
@@ -57,8 +58,9 @@ void _exit(int status) {
     }
 }
 
-/* Whether this request is one to refuse. */
-static int refuses(void) {
+/* Whether this request, for so many bytes, is one to refuse. */
+static int refuses(size_t size) {
+    __atomic_add_fetch(&bytes_asked, size, __ATOMIC_SEQ_CST);
     unsigned long number = __atomic_add_fetch(&requests, 1, __ATOMIC_SEQ_CST);
     int is_refused = first_refused && number >= first_refused && (!most_refused || number - first_refused < most_refused);
     if (is_refused) {
@@ -84,7 +86,7 @@ void *malloc(size_t size) {
     if (!real) {
         real = (void *(*)(size_t))dlsym(RTLD_NEXT, "malloc");
     }
-    void *block = refuses() ? NULL : real(size);
+    void *block = refuses(size) ? NULL : real(size);
     if (block) {
         __atomic_add_fetch(&held, 1, __ATOMIC_SEQ_CST);
     }
@@ -96,7 +98,7 @@ void *realloc(void *block, size_t size) {
     if (!real) {
         real = (void *(*)(void *, size_t))dlsym(RTLD_NEXT, "realloc");
     }
-    void *grown = refuses() ? NULL : real(block, size);
+    void *grown = refuses(size) ? NULL : real(block, size);
     if (grown && !block) {
         __atomic_add_fetch(&held, 1, __ATOMIC_SEQ_CST);
     }

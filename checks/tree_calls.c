@@ -47,12 +47,17 @@ static void no_station(struct cubejobs_station *handle, uint32_t code) {
 static void no_cube(struct cubejobs_cube *handle, uint32_t code) {
     struct cubejobs_cube before = *handle;
     struct cubejobs_station none = {0, 0};
+    struct cubejobs_tree_occupancy o;
     uint64_t missing = 77;
+    unsigned i;
     WANT(cubejobs_tree_seat(handle, &none).code, code);
     WANT(cubejobs_tree_close(handle, &missing), code);
     WANT(cubejobs_tree_size(handle).code, code);
     WANT(cubejobs_tree_word(handle, 1).code, code);
-    WANT(cubejobs_tree_occupancy(handle).code, code);
+    o = cubejobs_tree_occupancy(handle);
+    WANT(o.code, code);
+    WANT(o.largest | o.has_free | o.held, 0);
+    for (i = 0; i <= CUBEJOBS_TREE_MAX_DIM; i++) WANT(o.free[i], 0);
     WANT(missing, 77);
     WANT(none.tag, 0);
     WANT(memcmp(&before, handle, sizeof before), 0);

@@ -31,7 +31,9 @@
  * AddressSanitizer, ThreadSanitizer, MemorySanitizer and memcheck are right about programs that use it. Helgrind and DRD do
  * not see its atomics: they report races on memory that a region guards where there is none.
  *
- * It is proved that the functions do what is said here. Nothing checks what the caller owes them:
+ * It is proved that the functions do what is said here, except what docs/STATUS.md calls tested only: when memory is taken and
+ * freed, that OUT_OF_MEMORY means so, that a retirement is of the handle's station, and what cubejobs_tree_word and
+ * cubejobs_tree_occupancy read. Nothing checks what the caller owes the functions:
  *
  *   1. Each pointer is to a whole handle, or a whole number, and not null; two handles of one call are two.
  *   2. A handle's first eight bytes are not CUBEJOBS_TREE_OPEN before it is first passed (it is static, or is set

@@ -1,6 +1,6 @@
 //! Fewer items than places.
 
-ghost use Rattle.std.specs.Prelude.{◌≡◌, ℕ, ◌^◌, ◌<◌, ◌≤◌, All, OnOk, length, take};
+ghost use Rattle.std.specs.Prelude.{◌≡◌, ℕ, ◌^◌, ◌<◌, ◌≤◌, All, OnErr, OnOk, length, vec_capacity};
 ghost use Rattle.collectives.specs.Places.{padded, prefix_total, total};
 
 use crate::monoid::Monoid;
@@ -10,12 +10,12 @@ use std::alloc::AllocError;
 /// Puts the unit at each of the `2^k` places that is past the last item, so that the collectives can
 /// run on any number of items from 0 to `2^k`.
 ///
-/// All items, joined, come to what they came to before, and so do the items up to each of them. It
-/// asks for memory only where the list has no room for `2^k` items.
+/// All items, joined, come to what they came to before, and so do the items up to each of them.
+/// A list with a capacity of `2^k` items or more needs no memory.
 ///
 /// # Errors
 ///
-/// Where there is no memory. The items are there as they were, and units may stand after them.
+/// Where the capacity is below `2^k`, and there is no memory for more. The list is as it was.
 pub fn pad<M: Monoid>(items: &mut Vec<M>, k: u32) -> Result<(), AllocError>
     requires dim { k < DIM_LIMIT }
     requires fits { length items.old.items ≤ 2 ^ k }
@@ -27,10 +27,12 @@ pub fn pad<M: Monoid>(items: &mut Vec<M>, k: u32) -> Result<(), AllocError>
         prefix_total M.join M.unit items.new.items count
         ≡ prefix_total M.join M.unit items.old.items count) }
     ensures values { All M.is_value items.new.items }
-    ensures kept { take (length items.old.items) items.new.items ≡ items.old.items }
+    ensures memory { OnErr result (vec_capacity items.old < 2 ^ k) }
+    ensures unchanged { OnErr result (items.new.items ≡ items.old.items) }
 {
+    items.reserve_exact((1 << k) - items.len())?;
     for _ in items.len()..1 << k {
-        items.push(M::unit())?;
+        items.push_reserved(M::unit());
     }
     Ok(())
 }

@@ -1,6 +1,6 @@
 -- Which nodes a search tries, and for which a refusal stands.
 use Rattle.std.proofs.Common.{◌≡◌, ℕ, zero, suc, ◌+◌, ◌-◌, ◌*◌, ◌/◌, ◌%◌, ◌^◌, ◌<◌, ◌≤◌, ◌⊎◌, inl, inr, List, [], ◌∷◌, length, refl, sym, ◌∙◌, ap, subst, arith, suc-mul}
-use Rattle.std.specs.Prelude.{All, Any}
+use Rattle.std.specs.Prelude.{All, Any, nat_eq}
 use Rattle.std.proofs.lemmas.Bool.{cases_eq, cases_lt}
 use Rattle.std.proofs.lemmas.Nat.{pow-add, pow_pos, shr_split, mod_below, mul-le, div-mul-add}
 use Rattle.std.proofs.lemmas.List.Elements.{All-nil, All-cons, All-head, All-tail, All-weaker}
@@ -20,9 +20,12 @@ use Rattle.tree_steps.specs.Steps.{with_glances}
 use Rattle.cube_tree.specs.declared.refusal.Refusal.{Refusal}
 use Rattle.cube_tree.specs.declared.handles.Cube.{Cube}
 use Rattle.cube_tree.specs.declared.handles.Subcube.{Subcube}
-use Rattle.cube_tree.specs.Handles.{cube_dim, subcube_entry, held_node, IsRefusedTry, TakesNode}
+use Rattle.cube_tree.specs.declared.handles.TreeStation.{TreeStation}
+use Rattle.cube_tree.specs.Handles.{cube_dim, station_entry, subcube_entry, held_node, IsRefusedTry, TakesNode}
 use Rattle.cube_tree.specs.Tries.{counted, no_refusal, refusal_sum, refusals_in, added}
 use Rattle.cube_tree.specs.Search.{RefusedTry, StandsFor, IsPassedFor, IsGlancedOver, AreRefused, Searches, TakesNext, IsRefusedEach}
+use Rattle.tree_steps.specs.Answer.{ancestor_of}
+use Rattle.cube_tree.specs.Remembered.{remembered, remembered_with, remembered_by, remembered_after, IsAbove, GlancesBack, Remembers, RemembersRefused, RemembersTaken}
 use Rattle.cube_tree.specs.InnerSearch.{NamesAncestor, IsUnder, IsNodeAfter, Begins, counts_of}
 use Rattle.cube_tree.proofs.TryLemmas.{on_level, sum_counted}
 use Rattle.cube_tree.proofs.RefusalLemmas.{no_events, more_events}
@@ -152,8 +155,8 @@ module _ (j first : ℕ) (is : first ≡ 2 ^ j) where
       let level = (on_level n j first le first_low first_high).0 in (above.0.0, omega (arith, level.1, above.1))
 
   -- a search begins there where nothing is remembered
-  pub begins_first : (e : Entry) → Begins j first e e
-  begins_first e = record {
+  pub begins_first : (had : ℕ) (e : Entry) → (IsAbove had first → ⊥) → Begins j first had had e e
+  begins_first had e not_above = record {
     glances = [];
     few = omega arith;
     entry = refl;
@@ -161,16 +164,20 @@ module _ (j first : ℕ) (is : first ≡ 2 ^ j) where
     high = omega (arith, first_high);
     each = λ v low before. absurd (omega (arith, low, before, is));
     beyond = λ v from high over. any_none (λ (g : Glance). OnPath g.node v × IsOccupied g.word) over;
+    glanced = (λ above. not_above (subst (IsAbove had) (sym is) above), refl);
   }
 
   -- after one glance
-  module _ (a word : ℕ) (old new : Entry) (noted : new ≡ with_glances (record { node = a; word = word } ∷ []) old) where
+  module _ (a word had : ℕ) (old new : Entry) (noted : new ≡ with_glances (record { node = a; word = word } ∷ []) old) (here : a ≡ had) (above : IsAbove a first) where
     found : (v : ℕ) → IsGlancedOver v (record { node = a; word = word } ∷ []) → OnPath a v × IsOccupied word
     found v over = any_single (λ (g : Glance). OnPath g.node v × IsOccupied g.word) (record { node = a; word = word }) over
 
+    had_above : IsAbove had (2 ^ j)
+    had_above = subst (λ x. IsAbove x (2 ^ j)) here (subst (IsAbove a) is above)
+
     -- that did not find its node occupied, it begins there too
-    pub begins_free : (IsOccupied word → ⊥) → Begins j first old new
-    begins_free free = record {
+    pub begins_free : (kept : ℕ) → (IsOccupied word → ⊥) → kept ≡ 0 → Begins j first had kept old new
+    begins_free kept free forgotten = record {
       glances = record { node = a; word = word } ∷ [];
       few = omega arith;
       entry = noted;
@@ -178,11 +185,12 @@ module _ (j first : ℕ) (is : first ≡ 2 ^ j) where
       high = omega (arith, first_high);
       each = λ v low before. absurd (omega (arith, low, before, is));
       beyond = λ v from high over. free (found v over).1;
+      glanced = (had_above, here, λ occupied. absurd (free occupied), λ _. forgotten);
     }
 
     -- and after one that found an ancestor occupied, behind the nodes under this
-    pub begins_behind : (at : Node) (next : ℕ) → at.0 ≡ a → IsOccupied word → NamesAncestor (Under at) first → IsNodeAfter (Under at) first next → Begins j next old new
-    begins_behind at next same occupied names after = record {
+    pub begins_behind : (at : Node) (next kept : ℕ) → at.0 ≡ a → IsOccupied word → kept ≡ a → NamesAncestor (Under at) first → IsNodeAfter (Under at) first next → Begins j next had kept old new
+    begins_behind at next kept same occupied still names after = record {
       glances = record { node = a; word = word } ∷ [];
       few = omega arith;
       entry = noted;
@@ -190,6 +198,7 @@ module _ (j first : ℕ) (is : first ≡ 2 ^ j) where
       high = is_within (Under at) first next j first_low first_high after names;
       each = λ v low before. any_first (λ (g : Glance). OnPath g.node v × IsOccupied g.word) (record { node = a; word = word }) [] (subst (λ x. OnPath x v) same (over v low before), occupied);
       beyond = λ v from high over_it. is_beyond (Under at) first v next j first_low first_high after names from high (subst (λ x. OnPath x v) (sym same) (found v over_it).0);
+      glanced = (had_above, here, λ _. still ∙ here, λ free. absurd (free occupied));
     }
       where
         over : (v : ℕ) → 2 ^ j ≤ v → v < next → OnPath at.0 v
@@ -209,18 +218,21 @@ abbrev IsBefore : ℕ → ℕ → RefusedTry → Type 0
 IsBefore j end t = (2 ^ j ≤ t.node) × (t.node < end)
 
 -- a search that has come to the node `end`
-pub record IsSearch (n j end : ℕ) (refusal : Refusal) (old new : Entry) : Type 0 where
+pub record IsSearch (n j end : ℕ) (refusal : Refusal) (had now : ℕ) (old new : Entry) : Type 0 where
   pub glances : List Glance
   pub tries : List RefusedTry
   pub searches : Searches n j end glances tries old new
   pub leaves : All (LeavesFrom j end) tries
   pub beyond : (v : ℕ) → end ≤ v → v < 2 * 2 ^ j → IsGlancedOver v glances → ⊥
   pub counts : refusal ≡ counts_of tries
+  pub kept : ℕ
+  pub glanced : GlancesBack (2 ^ j) had glances kept
+  pub after : now ≡ remembered_after (2 ^ j) kept tries
   pub low : 2 ^ j ≤ end
   pub high : end ≤ 2 * 2 ^ j
 
-pub search_begun : (n j start : ℕ) (old new : Entry) → Begins j start old new → IsSearch n j start no_refusal old new
-search_begun n j start old new begins = record {
+pub search_begun : (n j start had now : ℕ) (old new : Entry) → Begins j start had now old new → IsSearch n j start no_refusal had now old new
+search_begun n j start had now old new begins = record {
   glances = begins.glances;
   tries = [];
   searches = record {
@@ -233,18 +245,22 @@ search_begun n j start old new begins = record {
   leaves = All-nil (LeavesFrom j start);
   beyond = begins.beyond;
   counts = refl;
+  kept = now;
+  glanced = begins.glanced;
+  after = refl;
   low = begins.low;
   high = begins.high;
 }
 
 -- no refusal stands for the node that is next
-passed_for : {n j v : ℕ} {r : Refusal} {old new : Entry} → (had : IsSearch n j v r old new) → v < 2 * 2 ^ j → All (IsPassedFor v) had.tries
+passed_for : {n j v : ℕ} {r : Refusal} {was now : ℕ} {old new : Entry} → (had : IsSearch n j v r was now old new) → v < 2 * 2 ^ j → All (IsPassedFor v) had.tries
 passed_for {j = j} {v = v} had below =
     both_all (IsBefore j v) (LeavesFrom j v) (IsPassedFor v) had.tries (λ t before leaves. (before.1, leaves v (omega arith) below)) had.searches.level had.leaves
 
 -- one try more
-pub search_more : {n j v next : ℕ} {r s : Refusal} {old between new : Entry} {why : Why} → IsSearch n j v r old between → v < 2 * 2 ^ j → IsRefusedTry n v between new why → s ≡ counted why r → IsNodeAfter why v next → IsSearch n j next s old new
-search_more {j = j} {v = v} {next = next} {between = between} {why = why} had below refused counts after = record {
+pub search_more : {n j v next : ℕ} {r s : Refusal} {was then now : ℕ} {old between new : Entry} {why : Why} → IsSearch n j v r was then old between → v < 2 * 2 ^ j → IsRefusedTry n v between new why → s ≡ counted why r → IsNodeAfter why v next
+    → now ≡ remembered_by (nat_eq v (2 ^ j)) (ancestor_of why) then → IsSearch n j next s was now old new
+search_more {j = j} {v = v} {next = next} {between = between} {why = why} had below refused counts after remembers = record {
   glances = had.glances;
   tries = own ∷ had.tries;
   searches = record {
@@ -259,6 +275,9 @@ search_more {j = j} {v = v} {next = next} {between = between} {why = why} had be
   leaves = All-cons (LeavesFrom j next) own had.tries own_leaves
       (All-weaker (LeavesFrom j v) (LeavesFrom j next) (λ t leaves w from. leaves w (omega (arith, from, onward))) had.tries had.leaves);
   counts = counts ∙ ap (counted why) had.counts;
+  kept = had.kept;
+  glanced = had.glanced;
+  after = remembers ∙ ap (remembered_by (nat_eq v (2 ^ j)) (ancestor_of why)) had.after;
   low = let low = had.low in omega (arith, low, onward);
   high = is_within why v next j had.low below after refused.names;
 }
@@ -326,8 +345,8 @@ bound_of n j (t ∷ tries) old new le level (between, earlier, refused, passed) 
 
 -- ---- the end of a search
 
-pub refused_each : (n j end : ℕ) (r : Refusal) (old new : Entry) → j ≤ n → end ≡ 2 * 2 ^ j → IsSearch n j end r old new → IsRefusedEach n j old new r
-refused_each n j end r old new le is had = record {
+pub refused_each : (n j end : ℕ) (r : Refusal) (was now : ℕ) (old new : Entry) → j ≤ n → end ≡ 2 * 2 ^ j → IsSearch n j end r was now old new → IsRefusedEach n j old new r
+refused_each n j end r was now old new le is had = record {
   glances = whole.glances;
   tries = whole.tries;
   searches = whole.searches;
@@ -337,14 +356,14 @@ refused_each n j end r old new le is had = record {
   bound = bound_of n j whole.tries first new le whole.searches.level whole.searches.refused;
 }
   where
-    whole : IsSearch n j (2 * 2 ^ j) r old new
-    whole = subst (λ e. IsSearch n j e r old new) is had
+    whole : IsSearch n j (2 * 2 ^ j) r was now old new
+    whole = subst (λ e. IsSearch n j e r was now old new) is had
 
     first : Entry
     first = with_glances whole.glances old
 
-pub takes_next : (cube : Cube) (j node : ℕ) (r : Refusal) (old between : Entry) (subcube : Subcube) → j ≤ cube_dim cube → node < 2 * 2 ^ j → IsSearch (cube_dim cube) j node r old between → TakesNode cube node between subcube → TakesNext cube j old subcube
-takes_next cube j node r old between subcube le below had_node taken_node = record {
+pub takes_next : (cube : Cube) (j node : ℕ) (r : Refusal) (was now : ℕ) (old between : Entry) (subcube : Subcube) → j ≤ cube_dim cube → node < 2 * 2 ^ j → IsSearch (cube_dim cube) j node r was now old between → TakesNode cube node between subcube → TakesNext cube j old subcube
+takes_next cube j node r was now old between subcube le below had_node taken_node = record {
   glances = had.glances;
   tries = had.tries;
   between = between;
@@ -367,8 +386,8 @@ takes_next cube j node r old between subcube le below had_node taken_node = reco
     v : ℕ
     v = held_node subcube
 
-    had : IsSearch (cube_dim cube) j v r old between
-    had = subst (λ x. IsSearch (cube_dim cube) j x r old between) (sym taken_node.node_is) had_node
+    had : IsSearch (cube_dim cube) j v r was now old between
+    had = subst (λ x. IsSearch (cube_dim cube) j x r was now old between) (sym taken_node.node_is) had_node
 
     taken : TakesNode cube v between subcube
     taken = subst (λ x. TakesNode cube x between subcube) (sym taken_node.node_is) taken_node
@@ -379,8 +398,34 @@ takes_next cube j node r old between subcube le below had_node taken_node = reco
     later : (t : RefusedTry) → t.node < v → t.node < 2 * 2 ^ j
     later t before = omega (arith, before, high)
 
+-- what is remembered after it
+pub remembers : {n j end : ℕ} {r : Refusal} {was now : ℕ} {old new : Entry} → IsSearch n j end r was now old new → Remembers n j end was now old new
+remembers had = record {
+  glances = had.glances;
+  tries = had.tries;
+  searches = had.searches;
+  kept = had.kept;
+  glanced = had.glanced;
+  after = had.after;
+}
+
+pub remembers_refused : (n j end : ℕ) (r : Refusal) (old new : TreeStation) → end ≡ 2 * 2 ^ j
+    → IsSearch n j end r (remembered old) (remembered new) (station_entry old) (station_entry new) → RemembersRefused n j old new
+remembers_refused n j end r old new is had =
+    subst (λ e. Remembers n j e (remembered old) (remembered new) (station_entry old) (station_entry new)) is (remembers had)
+
+pub remembers_taken : (cube : Cube) (j node : ℕ) (r : Refusal) (old between : TreeStation) (subcube : Subcube)
+    → IsSearch (cube_dim cube) j node r (remembered old) (remembered between) (station_entry old) (station_entry between)
+    → TakesNode cube node (station_entry between) subcube → remembered_with subcube ≡ remembered between → RemembersTaken cube j old subcube
+remembers_taken cube j node r old between subcube had taken same = record {
+  between = station_entry between;
+  search = subst (λ v. Remembers (cube_dim cube) j v (remembered old) (remembered_with subcube) (station_entry old) (station_entry between)) (sym taken.node_is)
+      (subst (λ now. Remembers (cube_dim cube) j node (remembered old) now (station_entry old) (station_entry between)) (sym same) (remembers had));
+  taken = subst (λ v. TakesNode cube v (station_entry between) subcube) (sym taken.node_is) taken;
+}
+
 -- as many refusals as tries, and so no more than the level has nodes
-pub search_sum : {n j end : ℕ} {r : Refusal} {old new : Entry} → IsSearch n j end r old new → refusal_sum r + 2 ^ j ≤ end
+pub search_sum : {n j end : ℕ} {r : Refusal} {was now : ℕ} {old new : Entry} → IsSearch n j end r was now old new → refusal_sum r + 2 ^ j ≤ end
 search_sum {n = n} {j = j} {end = end} {old = old} {new = new} had =
     let count = few_tries n j end had.tries (with_glances had.glances old) new had.low had.searches.level had.searches.refused in
     let same = ap refusal_sum had.counts ∙ sum_of had.tries in

@@ -11,6 +11,7 @@ use Rattle.tree_steps.specs.Steps.{with_glances}
 use Rattle.cube_tree.specs.declared.refusal.Refusal.{Refusal}
 use Rattle.cube_tree.specs.Tries.{counted, no_refusal}
 use Rattle.cube_tree.specs.Search.{RefusedTry, IsGlancedOver}
+use Rattle.cube_tree.specs.Remembered.{GlancesBack}
 
 -- the ancestor that a refusal names is one of node v
 abbrev pub NamesAncestor : Why → ℕ → Type 0
@@ -33,8 +34,8 @@ pub record Finds (node : ℕ) (is_occupied : Bool) (old new : Entry) : Type 0 wh
   pub answer : IsTrue is_occupied ↔ IsOccupied word
 
 -- a search of the level that is j levels below the root begins at the node `start`, after one glance at most:
--- each node of the level before that one is glanced over, and none from there on
-pub record Begins (j start : ℕ) (old new : Entry) : Type 0 where
+-- each node of the level before that one is glanced over, and none from there on; its station remembered `had`, and now `kept`
+pub record Begins (j start had kept : ℕ) (old new : Entry) : Type 0 where
   pub glances : List Glance
   pub few : length glances ≤ 1
   pub entry : new ≡ with_glances glances old
@@ -42,6 +43,7 @@ pub record Begins (j start : ℕ) (old new : Entry) : Type 0 where
   pub high : start ≤ 2 * 2 ^ j
   pub each : (v : ℕ) → 2 ^ j ≤ v → v < start → IsGlancedOver v glances
   pub beyond : (v : ℕ) → start ≤ v → v < 2 * 2 ^ j → IsGlancedOver v glances → ⊥
+  pub glanced : GlancesBack (2 ^ j) had glances kept
 
 -- the counts of these refusals
 abbrev pub counts_of : List RefusedTry → Refusal

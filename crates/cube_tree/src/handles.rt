@@ -23,7 +23,7 @@ pub struct Cube {
 /// be dropped.
 pub struct TreeStation {
     pub(crate) number: u32,
-    // The ancestor at which the first node of a search was refused, or 0. A search glances at it before it
+    // The ancestor for which the first node of a level was refused, or 0. A search glances at it before it
     // tries what lies under it.
     pub(crate) remembered: u64,
     pub(crate) seat: Seat,

@@ -1,9 +1,11 @@
 //! Takes of any region of a dimension that pass over what lies under an occupied ancestor.
-ghost use Rattle.std.specs.Prelude.{◌≡◌, ◌+◌, ◌-◌, ◌^◌, ◌<◌, ◌≤◌, IfOk, IfErr, IfSome};
-ghost use Rattle.cube_shape.specs.Node.{IsInCube, OnPath};
+ghost use Rattle.std.specs.Prelude.{◌≡◌, ◌+◌, ◌-◌, ◌^◌, ◌<◌, ◌≤◌, if◌then◌else◌, IfOk, IfErr, IfSome, IsNone};
+ghost use Rattle.tree_steps.specs.Answer.{ancestor_of};
+ghost use Rattle.cube_shape.specs.Node.{IsInCube};
 ghost use Rattle.cube_shape.specs.Region.{IsAligned};
 ghost use Rattle.cube_tree.specs.Handles.{cube_dim, held_region, station_entry, IsStationOf};
 ghost use Rattle.cube_tree.specs.Search.{TakesNext, IsRefusedEach};
+ghost use Rattle.cube_tree.specs.Remembered.{remembered, remembered_by, IsAbove, RemembersRefused, RemembersTaken};
 ghost use Rattle.cube_tree.specs.InnerSearch.{NamesAncestor, IsNodeAfter, Finds, Begins};
 
 use crate::handles::{Cube, Subcube, TreeStation};
@@ -28,15 +30,17 @@ pub(crate) fn node_after(node: u64, why: Why) -> u64
     (at.0 + 1) << levels
 }
 
-// What is remembered, where it is an ancestor of the node.
-fn ancestor_remembered(remembered: u64, node: u64) -> Option<Node>
+// The node of the number `a`, where it is an ancestor of the other one.
+fn ancestor_of_node(a: u64, node: u64) -> Option<Node>
     requires { 0 < node }
-    ensures { IfSome result (λ at. OnPath at.0 node × (at.0 < node)) }
+    ensures same { IfSome result (λ at. at.0 ≡ a) }
+    ensures above { IfSome result (λ at. IsAbove at.0 node) }
+    ensures none { IsNone result → IsAbove a node → ⊥ }
 {
-    if remembered == 0 || remembered >= node {
+    if a == 0 || a >= node {
         return None;
     }
-    let at = Node(remembered);
+    let at = Node(a);
     if on_path(at, Node(node)) {
         Some(at)
     } else {
@@ -51,6 +55,7 @@ impl TreeStation {
         requires node { IsInCube (cube_dim cube.now) at.0 }
         ensures cube { IsStationOf cube.now result.0 }
         ensures finds { Finds at.0 result.1 (station_entry self) (station_entry result.0) }
+        ensures remembers { remembered result.0 ≡ (if result.1 then at.0 else 0) }
     {
         let TreeStation {
             number,
@@ -76,11 +81,11 @@ impl TreeStation {
         requires cube { IsStationOf cube.now self }
         requires dim { k ≤ cube_dim cube.now }
         ensures cube { IsStationOf cube.now result.0 }
-        ensures begins { Begins (cube_dim cube.now - k) result.1 (station_entry self)
-            (station_entry result.0) }
+        ensures begins { Begins (cube_dim cube.now - k) result.1 (remembered self)
+            (remembered result.0) (station_entry self) (station_entry result.0) }
     {
         let first = region_count(&cube.tree, k);
-        let Some(at) = ancestor_remembered(self.remembered, first) else {
+        let Some(at) = ancestor_of_node(self.remembered, first) else {
             return (self, first);
         };
         let (station, is_occupied) = self.glance(cube, at);
@@ -91,10 +96,12 @@ impl TreeStation {
         }
     }
 
-    // Where the first node of a search is refused for an ancestor, the station remembers this.
+    // Where the first node of a level is refused for an ancestor, the station remembers this.
     fn remember(self, is_first: bool, why: Why) -> TreeStation
         ensures table { result.seat.table_id ≡ self.seat.table_id }
         ensures entry { station_entry result ≡ station_entry self }
+        ensures remembers { remembered result
+            ≡ remembered_by is_first (ancestor_of why) (remembered self) }
     {
         let Why::Under(at) = why else {
             return self;
@@ -116,8 +123,9 @@ impl TreeStation {
 
     /// Tries the regions of dimension `k` one after another, from the first one on, until one is
     /// taken, but for those under an ancestor that this call found occupied, by a try or by a glance:
-    /// these are passed over. The glance is at the ancestor that the first try of an earlier search found
-    /// occupied, as long as it still is. For `j = n - k` the call makes at most `2^j * (3 + 7 * j)`
+    /// these are passed over. The call glances at the node that the station remembers, if this is an ancestor of
+    /// the first region's node, and forgets it where it is not occupied. Then the station remembers the
+    /// ancestor that the try of the first region found occupied, if one was. For `j = n - k` the call makes at most `2^j * (3 + 7 * j)`
     /// events; the three counts are those of its tries.
     pub fn try_take_skipping(self, cube: &Cube, k: u32) -> Result<Subcube, (TreeStation, Refusal)>
         requires cube { IsStationOf cube.now self }
@@ -127,10 +135,13 @@ impl TreeStation {
         ensures aligned { IfOk result (λ subcube.
             IsAligned (cube_dim cube.now) (held_region subcube)) }
         ensures dimension { IfOk result (λ subcube. (held_region subcube).dim ≡ k) }
+        ensures remembers { IfOk result (RemembersTaken cube.now (cube_dim cube.now - k) self) }
         ensures back { IfErr result (λ refused. IsStationOf cube.now refused.0) }
         ensures refused { IfErr result (λ refused.
             IsRefusedEach (cube_dim cube.now) (cube_dim cube.now - k)
             (station_entry self) (station_entry refused.0) refused.1) }
+        ensures still_remembers { IfErr result (λ refused.
+            RemembersRefused (cube_dim cube.now) (cube_dim cube.now - k) self refused.0) }
     {
         let first = region_count(&cube.tree, k);
         let (mut station, mut node) = self.begin_search(cube, k);

@@ -2,6 +2,7 @@
 ghost use Rattle.std.specs.Prelude.{◌≡◌, ◌<◌, ◌≤◌, ◌+◌, ◌^◌, IfOk, IfErr};
 ghost use Rattle.cube_shape.specs.Node.{IsInCube};
 ghost use Rattle.cube_core.specs.Held.{region_at};
+ghost use Rattle.cube_tree.specs.Remembered.{remembered, remembered_with};
 ghost use Rattle.cube_tree.specs.Handles.{cube_dim, station_entry, subcube_entry, held_node, held_region, IsStationOf, IsSubcubeOf, TakesNode, IsRefusedTry, GivesBack};
 
 use crate::handles::{Cube, Subcube, TreeStation};
@@ -33,6 +34,8 @@ impl TreeStation {
         ensures back { IfErr result (λ refused. IsStationOf cube.now refused.0) }
         ensures refused { IfErr result (λ refused.
             IsRefusedTry (cube_dim cube.now) node.0 (station_entry self) (station_entry refused.0) refused.1) }
+        ensures remembers { IfOk result (λ subcube. remembered_with subcube ≡ remembered self) }
+        ensures still_remembers { IfErr result (λ refused. remembered refused.0 ≡ remembered self) }
     {
         let TreeStation {
             number,
@@ -74,7 +77,8 @@ impl Subcube {
     /// Gives the region back.
     pub fn release(self, cube: &Cube) -> TreeStation
         requires { IsSubcubeOf cube.now self }
-        ensures { GivesBack cube.now (held_node self) (subcube_entry self) result }
+        ensures back { GivesBack cube.now (held_node self) (subcube_entry self) result }
+        ensures remembers { remembered result ≡ remembered_with self }
     {
         let Subcube {
             number,

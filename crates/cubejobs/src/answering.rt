@@ -64,6 +64,8 @@ pub fn answer_all<R: Threads + Wait + Sync, T: Runner + Sync>(
         (λ why end. refusal_of n (length jobs.items) dispatchers capacity ≡ None)) }
     ensures unfinished { IfErr result (λ stopped. MatchStopped stopped (λ why back. ⊤)
         (λ why end. IsRun machine_words n (map (λ js. js.items) jobs.items) end)) }
+    ensures unfinished_workers { IfErr result (λ stopped. MatchStopped stopped (λ why back. ⊤)
+        (λ why end. length end.finished.by_worker.items ≡ dispatchers)) }
     ensures reason { IfErr result (λ stopped. MatchStopped stopped (λ why back. ⊤)
         (λ why end. why ≡ reason_of end)) }
     ensures not_done { IfErr result (λ stopped. MatchStopped stopped (λ why back. ⊤)

@@ -1,5 +1,5 @@
 -- What an answer counts of a machine.
-use Rattle.std.specs.Prelude.{◌≡◌, ℕ, ◌-◌, ◌<◌, ◌≤◌, if◌then◌else◌, List, Option, Some, None, slice_index}
+use Rattle.std.specs.Prelude.{◌≡◌, ℕ, ◌-◌, ◌<◌, ◌≤◌, if◌then◌else◌, false, List, Option, Some, None, slice_index}
 use Rattle.cube_occupancy.specs.Occupancy.{IsLargestFree, free_regions, held_processors}
 use Rattle.cubejobs_tree.specs.declared.answer.OccupancyAnswer.{OccupancyAnswer}
 use Rattle.cubejobs_tree.specs.declared.content.Content.{Content}
@@ -20,6 +20,14 @@ pub record Counts (n : ℕ) (words : List ℕ) (answer : OccupancyAnswer) : Type
   pub none_above : (k : ℕ) → n < k → slice_index answer.free k ≡ 0
   pub held : answer.held ≡ held_processors n words
   pub largest : IsLargestFree answer.free (largest_of answer)
+  pub no_largest : answer.has_free ≡ false → answer.largest ≡ 0
+
+-- the answer counts nothing: each of its fields but the code is 0
+pub record CountsNone (answer : OccupancyAnswer) : Type 0 where
+  pub largest : answer.largest ≡ 0
+  pub has_free : answer.has_free ≡ false
+  pub held : answer.held ≡ 0
+  pub free : (k : ℕ) → slice_index answer.free k ≡ 0
 
 -- the words of the machine were read, and counted; else it is as before
 pub record IsCounted (old new : Option Content) (answer : OccupancyAnswer) : Type 0 where

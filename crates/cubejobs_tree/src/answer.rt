@@ -2,6 +2,7 @@
 ghost use Rattle.std.specs.Prelude.{◌≡◌};
 ghost use Rattle.cube_tree.specs.Tries.{counted, no_refusal};
 ghost use Rattle.cubejobs_tree.specs.Answers.{counts_of, region_of, NamesNone};
+ghost use Rattle.cubejobs_tree.specs.Occupancy.{CountsNone};
 
 use crate::codes::{DONE, NO_SUBCUBE};
 use cube_occupancy::FREE_PLACES;
@@ -178,7 +179,8 @@ impl SizeAnswer {
 impl OccupancyAnswer {
     // A call that was refused.
     pub(crate) fn refused(code: u32) -> OccupancyAnswer
-        ensures { result.code ≡ code }
+        ensures code { result.code ≡ code }
+        ensures nothing { CountsNone result }
     {
         OccupancyAnswer {
             code,

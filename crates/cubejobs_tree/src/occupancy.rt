@@ -2,7 +2,7 @@
 ghost use Rattle.std.specs.Prelude.{◌≡◌, ◌≢◌, ℕ, ◌+◌, ◌^◌, ◌≤◌, length};
 ghost use Rattle.cubejobs_tree.specs.Handle.{content_of};
 ghost use Rattle.cubejobs_tree.specs.Ends.{bar_to_machine, machine_cube};
-ghost use Rattle.cubejobs_tree.specs.Occupancy.{Counts, IsCounted};
+ghost use Rattle.cubejobs_tree.specs.Occupancy.{Counts, CountsNone, IsCounted};
 
 use crate::answer::OccupancyAnswer;
 use crate::boxed::Boxed;
@@ -61,6 +61,7 @@ pub extern "C" fn cubejobs_tree_occupancy(alloc: Global, cube: &mut Handle) -> O
     ensures done { bar_to_machine (content_of cube.old) ≡ DONE → result.code ≡ DONE }
     ensures counted { result.code ≡ DONE
         → IsCounted (content_of cube.old) (content_of cube.new) result }
+    ensures nothing { result.code ≢ DONE → CountsNone result }
     ensures unchanged { result.code ≢ DONE → content_of cube.new ≡ content_of cube.old }
 {
     let Some((content, place)) = take_out(cube, alloc) else {

@@ -2,11 +2,11 @@
 ghost use Rattle.std.specs.Prelude.{◌≡◌, ◌-◌, ◌≤◌, IfOk, IfErr};
 ghost use Rattle.std.specs.Arc.{arc_value};
 ghost use Rattle.cube_shape.specs.Node.{IsInCube};
-ghost use Rattle.cube_tree.specs.Handles.{cube_dim, held_node, station_entry, subcube_entry, GivesBack, IsRefusedTry, IsStationOf, IsSubcubeOf, TakesNode};
+ghost use Rattle.cube_tree.specs.Handles.{cube_dim, held_node, station_entry, subcube_entry, GivesBack, IsRefusedTry, IsStationOf, IsSubcubeOf, Retires, TakesNode};
 ghost use Rattle.cube_tree.specs.Search.{IsRefusedEach, TakesNext};
 
 use cube_shape::Node;
-use cube_tree::{Cube, Refusal, Subcube, TreeStation, Why};
+use cube_tree::{Cube, Refusal, RetiredStation, Subcube, TreeStation, Why};
 use std::sync::Arc;
 
 /// A station that holds nothing.
@@ -70,11 +70,14 @@ impl Idle {
         }
     }
 
-    /// The station retires.
-    pub fn retire(self) {
+    /// Retires the station, by one event.
+    pub fn retire(self) -> RetiredStation
+        ensures { Retires (arc_value self.cube) (station_entry self.station) result }
+    {
         let Idle { cube, station } = self;
-        station.retire(&cube);
+        let retired = station.retire(&cube);
         let_go(cube);
+        retired
     }
 }
 

@@ -24,6 +24,7 @@ pub use closing::{CloseNote, Closer};
 pub use dispatching::{dispatch, dispatch_some};
 pub use feeding::{FeedEnd, FeedStop, feed, feed_for, wait_for_room};
 pub use finishing::Finished;
+pub use floors::Floor;
 pub use opening::{Opened, ShopRefused, refusal};
 pub use runner::{Plain, Runner};
 pub use shop::Shop;

@@ -13,4 +13,5 @@ mod refusals;
 mod rounds;
 mod rows;
 mod totals;
+mod two_files;
 mod words;

@@ -12,6 +12,7 @@ use job_types::{Job, JobId};
 use std::alloc::{AllocError, Global};
 use std::collections::VecDeque;
 use std::sync::Wait;
+use thiserror::Error;
 
 /// The sizes of a line.
 #[derive(Clone, Copy, Debug, PartialEq, Eq)]
@@ -48,16 +49,19 @@ pub struct Receipt {
 }
 
 /// Why the line did not accept a job.
-#[derive(Clone, Copy, Debug, PartialEq, Eq)]
+#[derive(Clone, Copy, Debug, PartialEq, Eq, Error)]
 pub enum Refused {
     /// The line is closed.
+    #[error("the line is closed")]
     Closed {
         /// The count of entries that was found beside the closed mark.
         seen: u64,
     },
     /// The line was full when the job came. It cost an entry.
+    #[error("the line is full")]
     Full,
     /// The lane has made `MAX_ENTRIES` entries.
+    #[error("the lane has made as many entries as it may")]
     LaneSpent,
 }
 

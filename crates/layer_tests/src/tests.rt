@@ -16,6 +16,5 @@ mod over;
 mod ring;
 mod ring_crowd;
 mod shape;
-mod text;
 mod words;
 mod world;

@@ -1,4 +1,4 @@
-//! What a thread does between two tries of a thing that others may let it do: it yields, in bursts that
+//! What a thread does between two tries of a thing that others may let it do: it snoozes, then yields in bursts that
 //! grow, and at last it sleeps. Feeders, workers, floors and locks all wait by it.
 #![tactic(auto)]
 

@@ -1,11 +1,15 @@
 // The pause between two tries.
 ghost use Rattle.std.specs.Prelude.{◌≤◌};
 
+use crossbeam_utils::Backoff;
 use std::sync::Wait;
 use std::thread::{Parker, yield_now};
 use std::time::Duration;
 
-// How often a caller yields before its second try. Each burst of yields is twice as long as the one before.
+// How many of the first pauses are snoozes. A try follows each of them, and a try at a full queue slows others.
+const SNOOZES: u32 = 3;
+
+// How often a caller yields before its next try. Each burst of yields is twice as long as the one before.
 const FIRST_BURST: u32 = 2;
 
 /// How often a caller yields in the last burst before it sleeps. All bursts together are meant to take
@@ -17,9 +21,14 @@ const FIRST_SLEEP: u64 = 50;
 
 const LONGEST_SLEEP: u64 = 800;
 
-/// Pauses that grow until a try has success. Nothing wakes a caller that sleeps, and none sleeps for long.
+/// Pauses that grow until a try has success: a few snoozes of a `Backoff`, then bursts of yields, and then sleeps. Nothing
+/// wakes a caller that sleeps, and none sleeps for long.
 #[derive(Drop)]
 pub struct Pause {
+    // It spins for some nanoseconds in each of the first pauses.
+    backoff: Backoff,
+    // How many of these are left.
+    snoozes: u32,
     // How often the caller yields in the next burst. There is none after the longest.
     burst: u32,
     // The next sleep, in microseconds.
@@ -32,6 +41,8 @@ impl Pause {
     /// The pauses of a caller that has not tried yet.
     pub fn new() -> Self {
         Pause {
+            backoff: Backoff::new(),
+            snoozes: SNOOZES,
             burst: FIRST_BURST,
             sleep: FIRST_SLEEP,
             sleeper: Parker::new(),
@@ -40,15 +51,23 @@ impl Pause {
 
     /// Begins anew, since a try had success.
     pub fn reset(&mut self) {
+        self.backoff.reset();
+        self.snoozes = SNOOZES;
         self.burst = FIRST_BURST;
         self.sleep = FIRST_SLEEP;
     }
 
-    /// How often the caller is to yield before its next try. Once there is no further burst it
-    /// sleeps here, and the answer is 0. A caller may stop yielding as soon as it sees that a try may have success.
+    /// Returns how often the caller has to yield before its next try. It returns 0 where the pause is over: the first
+    /// pauses are snoozes, and the last are sleeps, which are taken here. A caller may stop yielding as soon as it sees
+    /// that a try may have success.
     pub fn next_burst<R: Wait>(&mut self, rt: &R) -> u32
         ensures { result ≤ LONGEST_BURST }
     {
+        if self.snoozes > 0 {
+            self.snoozes -= 1;
+            self.backoff.snooze();
+            return 0;
+        }
         let burst = self.burst;
         if burst <= LONGEST_BURST {
             self.burst = burst.saturating_mul(2);

@@ -7,6 +7,7 @@ mod crowd;
 mod expect;
 mod floor_calls;
 mod job_crowd;
+mod late;
 mod over;
 mod runs;
 mod shop;

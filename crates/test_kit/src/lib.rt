@@ -1,6 +1,6 @@
 //! What tests share: lists of jobs, lists of one member or two, a table of the processors that are in use,
-//! the members of a small shop, and runners that see what is inside them at one moment. Tests stand on this crate,
-//! and the measurements.
+//! the members of a small shop, and runners that see what is inside them at one moment. Tests
+//! stand on this crate, and the measurements.
 #![tactic(auto)]
 
 mod job_lists;

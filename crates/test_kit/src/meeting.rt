@@ -32,6 +32,11 @@ impl Meeting {
         self.came.load(SeqCst) >= self.wanted && self.alone.load(SeqCst) == 0
     }
 
+    /// Waits until a job has come in, or until it has looked 1,000,000 times: whether one has.
+    pub fn wait_for_one(&self) -> bool {
+        wait_for(&self.came, 1, TURNS)
+    }
+
     /// How many jobs came in.
     pub fn came(&self) -> u64 {
         self.came.load(SeqCst)

@@ -1,3 +1,4 @@
 pub mod Extent
 pub mod InnerLaws
 pub mod Processors
+pub mod TwoFiles

@@ -13,6 +13,7 @@ mod room;
 mod schedule;
 mod subcubes;
 mod tallied;
+mod two_files;
 mod two_regions;
 mod whole;
 
@@ -26,5 +27,6 @@ pub use room::has_room;
 pub use schedule::play;
 pub use subcubes::{hold_two, hold_two_and_close};
 pub use tallied::{Tallied, Tally};
+pub use two_files::TwoFiles;
 pub use two_regions::take_two;
 pub use whole::answer_in_order;

@@ -31,10 +31,10 @@ abbrev pub shown_at : Kept → ℕ → Option ℕ
 shown_at (One number) place = Some number
 shown_at (Each numbers) place = slice_get (boxed_slice_items numbers) place
 
--- there is room for the result of the collective on so many items
+-- there is room for the result of the collective on so many items: a number for each where it is a scan, else one
 abbrev pub HasRoomFor : Kind → ℕ → Kept → Type 0
 HasRoomFor kind count (One number) = is_scan kind ≡ false
-HasRoomFor kind count (Each numbers) = length (boxed_slice_items numbers) ≡ count
+HasRoomFor kind count (Each numbers) = (is_scan kind ≡ true) × (length (boxed_slice_items numbers) ≡ count)
 
 -- what a reply shows of the kept numbers, at the place of each item, is the collective's result on these items
 abbrev pub IsShown : Kind → List ℕ → Kept → Type 0

@@ -2,8 +2,7 @@
 
 ghost use Rattle.std.specs.Prelude.{◌≡◌, ◌≤◌, length};
 
-use super::expect::expect_all;
-use super::text::expect_texts;
+use super::expect::{expect_all, expect_texts};
 use alloc_bits::{AllocBits, NoSubcube, NothingHeld};
 use cube_shape::{MAX_DIM, MAX_STATIONS, Region};
 use region_bits::{clear_all, clear_region, first_fit, set_region};

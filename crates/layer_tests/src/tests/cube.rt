@@ -8,11 +8,12 @@ ghost use Rattle.cube_tree.specs.Handles.{cube_dim, cube_size, size_with, IsSame
 mod alone;
 mod crowd;
 
-use super::expect::expect_all;
+use super::expect::{expect_all, expect_texts};
 pub(super) use alone::{ends_free, made};
 use cube_shape::{Node, Region};
 use cube_tree::{
-    Cube, CubeRefused, FreeMachine, Refusal, StillOut, Subcube, TreeStation, Why, apart,
+    Cube, CubeRefused, FreeMachine, Refusal, SoloRefused, StillOut, Subcube, TreeStation, Why,
+    apart,
 };
 use std::alloc::Global;
 use std::process::Abort;
@@ -368,6 +369,43 @@ fn cubes_at_the_limits(rt: HostRuntime) {
             is_refused(&rt, alloc, 13, 49, CubeRefused::BadDimension),
             small_is_free,
             is_free(&closed(&rt, cube)),
+        ],
+    );
+}
+
+#[test]
+fn refusals_as_text(rt: HostRuntime) {
+    let alloc = rt.alloc();
+    expect_texts(
+        &rt,
+        alloc,
+        &[
+            (
+                CubeRefused::BadDimension,
+                "the dimension is above the largest one",
+            ),
+            (
+                CubeRefused::BadStations,
+                "the number of stations is not within its limits",
+            ),
+            (CubeRefused::OutOfMemory, "out of memory"),
+        ],
+    );
+    expect_texts(
+        &rt,
+        alloc,
+        &[
+            (SoloRefused::NoSubcube, "no free subcube of this dimension"),
+            (SoloRefused::NoStation, "each station holds a region"),
+        ],
+    );
+    expect_texts(
+        &rt,
+        alloc,
+        &[
+            (Why::InUse, "the node is in use"),
+            (Why::Lost, "another station changed the node first"),
+            (Why::Under(Node(1)), "an ancestor is occupied"),
         ],
     );
 }

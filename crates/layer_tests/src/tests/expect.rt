@@ -1,7 +1,8 @@
 //! What a test asks of all that it found, of what it made, and of what it waits for.
 ghost use Rattle.std.specs.Prelude.{◌≡◌, Ok};
 
-use std::fmt::Debug;
+use std::alloc::Global;
+use std::fmt::{Debug, Display};
 use std::process::Abort;
 use std::sync::Wait;
 use std::sync::atomic::AtomicU64;
@@ -11,6 +12,14 @@ use std::thread::yield_now;
 /// All of these have to hold.
 pub fn expect_all(rt: &impl Abort, facts: &[bool]) {
     assert!(rt; facts.iter().all(|it| *it));
+}
+
+/// Each value has to show as its text.
+pub fn expect_texts<T: Display>(rt: &impl Abort, alloc: Global, rows: &[(T, &str)]) {
+    for (value, text) in rows {
+        let shown = format!(in alloc; "{value}").expect(rt, "no memory");
+        assert!(rt; shown.as_str() == *text);
+    }
 }
 
 /// Waits until the count is so high.

@@ -2,7 +2,7 @@
 ghost use Rattle.std.specs.Prelude.{◌≡◌, ◌<◌, ◌≤◌, [], IfOk};
 ghost use Rattle.std.specs.Vec.{vec_capacity};
 
-use crate::tests::expect::{expect_all, made};
+use crate::tests::expect::{expect_all, expect_texts, made};
 use cube_shape::{MAX_CAPACITY, MAX_LANES};
 use job_queue::{JobLine, Opened, QueuedJob, Receipt, Refused, Rest, Sizes, Taken};
 use job_types::{Job, JobId};
@@ -166,6 +166,14 @@ impl<L: JobLine> Hand<L> {
         }
     }
 
+    // What the hints of the line are: whether a job looks waiting, and whether half of the places look free.
+    fn hints<R: Wait>(&mut self, rt: &R) -> (bool, bool)
+        ensures { self.new ≡ self.old }
+    {
+        let has_job = self.line.job_hint(rt, &mut self.passes.first);
+        (has_job, self.line.room_hint(rt, &mut self.lanes.first))
+    }
+
     // Does what the rows say: whether that comes of each.
     fn plays_all<R: Wait + Abort>(&mut self, rt: &R, alloc: Global, rows: &[Row]) -> bool
         ensures { self.new ≡ self.old }
@@ -267,6 +275,22 @@ fn close_against_submit(rt: HostRuntime) {
     );
 }
 
+#[test]
+fn refusals_as_text(rt: HostRuntime) {
+    expect_texts(
+        &rt,
+        rt.alloc(),
+        &[
+            (Refused::Closed { seen: 2 }, "the line is closed"),
+            (Refused::Full, "the line is full"),
+            (
+                Refused::LaneSpent,
+                "the lane has made as many entries as it may",
+            ),
+        ],
+    );
+}
+
 // A line holds nothing, then three jobs that were handed in, and then the two that were not taken.
 #[test]
 fn jobs_wait_in_order(rt: HostRuntime) {
@@ -297,6 +321,45 @@ fn jobs_wait_in_order(rt: HostRuntime) {
         &[],
         (3, [3, 0]),
         &[at(0, 1), at(0, 2)],
+    );
+}
+
+// The hints of the line with no lock count the jobs in its ring: none, then three, then two, with room for four. So the
+// jobs wait in the ring, and not in a list beside it. Its inherent `close` takes no runtime.
+#[test]
+fn the_ring_holds_the_jobs(rt: HostRuntime) {
+    let alloc = rt.alloc();
+    let (mut hand, closer) = made(&rt, Hand::<RuledLine>::open(alloc, 4));
+    let none = hand.hints(&rt);
+    let are_accepted = hand.plays_all(
+        &rt,
+        alloc,
+        &[
+            Row::First(accepted(0, 0, 0)),
+            Row::First(accepted(0, 1, 1)),
+            Row::First(accepted(0, 2, 2)),
+        ],
+    );
+    let three = hand.hints(&rt);
+    let is_taken = hand.plays(&rt, alloc, Row::TakeFirst(at(0, 0)));
+    let two = hand.hints(&rt);
+    let note = RuledLine::close(&hand.line, closer);
+    let Hand {
+        line,
+        lanes,
+        passes,
+    } = hand;
+    let rest = end(&rt, line, lanes, passes, note);
+    expect_all(
+        &rt,
+        &[
+            none == (false, true),
+            are_accepted,
+            three == (true, false),
+            is_taken,
+            two == (true, true),
+            is_left(&rest, [3, 0], &[at(0, 1), at(0, 2)]),
+        ],
     );
 }
 

@@ -10,7 +10,7 @@ mod interleavings;
 mod outcomes;
 mod schedules;
 
-use super::text::expect_texts;
+use super::expect::expect_texts;
 use cube_core::{Act, Event, Kind, MAX_DIM, MAX_STATIONS, Note, Phase, Refused, World};
 use std::alloc::Global;
 use std::process::Abort;

@@ -7,7 +7,7 @@ use std::alloc::Global;
 use std::sync::Wait;
 use std::test::Fail;
 use std::thread::Threads;
-use test_kit::{Plan, lists};
+use test_kit::{Meeting, Plan, lists};
 use tree_floor::FreeMachine;
 use uses::{Counting, answer_and_count};
 
@@ -67,5 +67,48 @@ fn each_job_is_answered_once(rt: HostRuntime) -> Result<(), Fail> {
             finished.machine.is_at_rest(3),
         ],
     );
+    Ok(())
+}
+
+// The same jobs and one of a third lane by one name, by three workers. The runner that is lent answers them.
+#[test]
+fn the_whole_by_one_name_answers_each_job_once(rt: HostRuntime) -> Result<(), Fail> {
+    let runner = Counting::new(Plain);
+    let jobs = lists(rt.alloc(), 3, 3, Plan::Kinds)?;
+    let Ok(end) = cubejobs::answer_all(&rt, rt.alloc(), 3, 3, 2, &runner, jobs) else {
+        panic!(rt; "no memory, or no thread");
+    };
+    expect_all(
+        &rt,
+        &[
+            runner.answered() == 4,
+            end.finished.by_worker.len() == 3,
+            end.finished.accepted.as_slice() == [1, 2, 1].as_slice(),
+            is_once(&end.finished, 0, 0, Some(2), Some(9)),
+            is_once(&end.finished, 1, 0, Some(3), Some(3)),
+            is_once(&end.finished, 1, 1, None, Some(9)),
+            is_once(&end.finished, 2, 0, Some(3), Some(3)),
+            end.finished.machine.is_at_rest(3),
+        ],
+    );
+    Ok(())
+}
+
+// The line has the room that was asked. The only worker keeps its first job for long, so that the three others lie in the
+// line: with room for four each is accepted at its first entry, and with room for one some lane finds the line full.
+#[test]
+fn the_whole_by_one_name_has_room_for_four(rt: HostRuntime) -> Result<(), Fail> {
+    let runner = Meeting::of(2);
+    let jobs = lists(rt.alloc(), 3, 3, Plan::Kinds)?;
+    let Ok(end) = cubejobs::answer_all(&rt, rt.alloc(), 3, 1, 4, &runner, jobs) else {
+        panic!(rt; "no memory, or no thread");
+    };
+    expect_all(&rt, &[runner.came() == 4, end.close_number == 4]);
+    let runner = Meeting::of(2);
+    let jobs = lists(rt.alloc(), 3, 3, Plan::Kinds)?;
+    let Ok(end) = cubejobs::answer_all(&rt, rt.alloc(), 3, 1, 1, &runner, jobs) else {
+        panic!(rt; "no memory, or no thread");
+    };
+    expect_all(&rt, &[runner.came() == 4, end.close_number > 4]);
     Ok(())
 }

@@ -37,7 +37,7 @@ const WORKERS: u32 = 4;
 const EACH: u32 = 20;
 
 // Names the shop of a crowd.
-trait Naming {
+pub trait Naming {
     ghost use Rattle.dispatcher.specs.Shop.{ShopId};
 
     ghost shop: { ShopId };
@@ -131,7 +131,7 @@ struct Left<L: JobLine, F: Floor> {
 }
 
 // The end of a worker, which stands down if it has not run.
-fn end_left<J: Naming, L: JobLine, F: Floor>(
+pub fn end_left<J: Naming, L: JobLine, F: Floor>(
     alloc: Global,
     worker: Option<Worker<L, F>>,
     end: Option<WorkerEnd<L, F>>,
@@ -376,7 +376,7 @@ fn keep_lane<L: JobLine, F: Floor>(
 }
 
 // The end of a worker is one of the ends.
-fn keep_end<L: JobLine, F: Floor>(
+pub fn keep_end<L: JobLine, F: Floor>(
     rt: &impl Abort,
     shop: &Shop<L, F>,
     ends: &mut Vec<WorkerEnd<L, F>>,

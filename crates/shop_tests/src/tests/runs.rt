@@ -3,6 +3,7 @@ ghost use Rattle.std.specs.Prelude.{◌≤◌};
 
 use crate::tests::at_rest::AtRest;
 use crate::tests::expect::expect_all;
+use crate::tests::late::late;
 use crate::tests::over::{BOTH, Over};
 use crew::{LaneEnd, RunEnd, run};
 use cube_shape::{MAX_DIM, MAX_LANES};
@@ -177,9 +178,43 @@ fn run_through<R: Threads + Wait + Abort + Sync, T: Runner + Sync>(
     }
 }
 
-// Two workers have a job each inside at once, on processors of its own.
+// Whether the second of two workers began while the first one had a job inside, and met it there with another job, on
+// other processors.
+fn meets_late<R: Threads + Wait + Abort + Sync, L: JobLine + Sync, F: Floor + Sync>(
+    rt: &R,
+    alloc: Global,
+) -> bool
+where
+    L::Pass: Send,
+    L::End: Send,
+    F::Station: Send,
+    F::Machine: Drop + AtRest,
+{
+    let runner = Tabled::new(alloc, 4, Meeting::of(2)).expect(rt, "no memory");
+    let finished = late::<R, L, F>(rt, alloc, &runner);
+    are_of_two_workers(&finished.by_worker)
+        && finished.rest.is_empty()
+        && finished.machine.is_at_rest(2)
+        && runner.runner().has_met()
+        && runner.clashes() == 0
+}
+
+// Two workers have a job each inside at once, on processors of its own. The second one begins when the first one has
+// its job inside.
 #[test]
 fn two_jobs_are_inside_at_once(rt: HostRuntime) {
+    expect_all(
+        &rt,
+        &[
+            meets_late::<_, RuledLine, TreeFloor>(&rt, rt.alloc()),
+            meets_late::<_, LockedLine, LockedFloor>(&rt, rt.alloc()),
+        ],
+    );
+}
+
+// The same of a run, whose workers begin as they come.
+#[test]
+fn two_workers_of_a_run_meet(rt: HostRuntime) {
     for over in BOTH {
         let runner = Tabled::new(rt.alloc(), 4, Meeting::of(2)).expect(&rt, "no memory");
         let ran = run_through(&rt, rt.alloc(), over, (2, 2, 2), 1, Plan::Same(2), &runner);

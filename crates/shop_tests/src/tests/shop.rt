@@ -1,7 +1,8 @@
 //! A shop of one lane and one worker: over the line and the floor with no lock, and over the two locks.
 use crate::tests::at_rest::AtRest;
-use crate::tests::expect::expect_all;
+use crate::tests::expect::{expect_all, expect_texts};
 use crate::tests::stage::{Back, Stage};
+use crew::StopReason;
 use dispatcher::{FeedEnd, FeedStop, Finished, Plain, Shop, ShopRefused, Stop, refusal};
 use floors::Floor;
 use job_queue::{JobLine, Receipt, Refused};
@@ -65,6 +66,45 @@ fn first_bad_size_is_the_refusal(rt: HostRuntime) {
         &[
             first_bad_size_is_the_refusal_over::<RuledLine, TreeFloor>(rt.alloc()),
             first_bad_size_is_the_refusal_over::<LockedLine, LockedFloor>(rt.alloc()),
+        ],
+    );
+}
+
+#[test]
+fn refusals_as_text(rt: HostRuntime) {
+    let alloc = rt.alloc();
+    expect_texts(
+        &rt,
+        alloc,
+        &[
+            (
+                ShopRefused::BadDimension,
+                "the dimension is above the largest one",
+            ),
+            (
+                ShopRefused::BadLanes,
+                "the number of lanes is not within its limits",
+            ),
+            (
+                ShopRefused::BadDispatchers,
+                "the number of workers is not within its limits",
+            ),
+            (
+                ShopRefused::BadCapacity,
+                "the capacity is not within its limits",
+            ),
+            (ShopRefused::OutOfMemory, "out of memory"),
+        ],
+    );
+    expect_texts(
+        &rt,
+        alloc,
+        &[
+            (StopReason::OutOfMemory, "out of memory"),
+            (
+                StopReason::Spent,
+                "a lane has made as many entries as it may",
+            ),
         ],
     );
 }

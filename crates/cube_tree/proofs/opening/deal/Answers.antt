@@ -1,9 +1,10 @@
-use Rattle.std.proofs.Common.{rules, ◌≡◌, ◌-◌, ◌∙◌, ap, map, subst, sym, arith}
+use Rattle.std.proofs.Common.{rules, refl, ◌≡◌, ◌-◌, ◌∙◌, ap, map, subst, sym, arith}
 use Rattle.std.proofs.lemmas.List.Elements.{All-push}
 use Rattle.std.specs.Prelude.{All}
 use Rattle.tree_steps.specs.Tree.{id_of}
 use Rattle.tree_steps.specs.Rule.{idle_entries}
 use Rattle.cube_tree.specs.Handles.{station_entry, HasTable}
+use Rattle.cube_tree.specs.Remembered.{RemembersNothing}
 use Rattle.cube_tree.proofs.OpeningLemmas.{idle_seat, cut_rest, cut_seat, bare_seat, dealt_more, dealt_all}
 use Rattle.cube_tree.proofs.opening.deal.Goals as goal
 
@@ -24,6 +25,8 @@ loop-number-preserved c = record {
       (cut_seat c.loop-number.number c.args.stations _ _ c.loop-number-test.true c.loop-number.invariant.seat c.cut_first-own.ensures.cut).1;
   of_tree = subst (All (HasTable (id_of c.args.tree.now))) (sym c.push_reserved.ensures.items)
       (All-push (HasTable (id_of c.args.tree.now)) c.loop-number.list.items _ c.loop-number.invariant.of_tree (c.cut_first-own.ensures.other ∙ c.loop-number.invariant.same ∙ c.requires.seat));
+  nothing = subst (All RemembersNothing) (sym c.push_reserved.ensures.items)
+      (All-push RemembersNothing c.loop-number.list.items _ c.loop-number.invariant.nothing refl);
 }
 
 pub returns : goal.returns
@@ -37,4 +40,5 @@ returns c =
       idle = c.loop-number.invariant.idle ∙ ap (idle_entries 0) all;
       all = dealt_all c.args.stations c.loop-number.list.items (c.loop-number.invariant.idle ∙ ap (idle_entries 0) all);
       of_tree = c.loop-number.invariant.of_tree;
+      nothing = c.loop-number.invariant.nothing;
     }

@@ -12,8 +12,8 @@ invariant_of-result c = record {
   limit = c.args.self.limit;
 }
 
-pub returns : goal.returns
-returns c =
+pub returns-clause-back : goal.returns-clause-back
+returns-clause-back c =
     let makes = makes_after c.args.self.holds (Leaving c.args.self.node) c.give_back.ensures.walks in record {
       of_cube = search rules;
       number = station_of_begun (Leaving c.args.self.node) c.args.self.seat.me c.give_back.ensures.walks;

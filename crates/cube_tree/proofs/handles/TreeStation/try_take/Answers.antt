@@ -36,6 +36,7 @@ loop-m-preserved c =
       of_cube = c.in-Err.ensures.back;
       tries = one_more _ _ c.loop-m.m c.loop-m.refusal _ _ (station_entry c.loop-m.station) (station_entry c.in-Err.back) c.in-Err.why c.loop-m.invariant.tries
           (subst (λ x. IsRefusedTry (cube_dim c.args.cube.now) (x + c.loop-m.m) (station_entry c.loop-m.station) (station_entry c.in-Err.back) c.in-Err.why) count c.in-Err.ensures.refused) c.count-refusal.ensures;
+      memory = c.in-Err.ensures.still_remembers ∙ c.loop-m.invariant.memory;
     }
 
 pub returns-clause-refused : goal.returns-clause-refused
