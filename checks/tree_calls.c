@@ -47,7 +47,7 @@ static void no_station(struct cubejobs_station *handle, uint32_t code) {
 static void no_cube(struct cubejobs_cube *handle, uint32_t code) {
     struct cubejobs_cube before = *handle;
     struct cubejobs_station none = {0, 0};
-    struct cubejobs_tree_occupancy o;
+    struct cubejobs_tree_occupancy_answer o;
     uint64_t missing = 77;
     unsigned i;
     WANT(cubejobs_tree_seat(handle, &none).code, code);
