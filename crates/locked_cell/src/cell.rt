@@ -14,6 +14,9 @@ use std::sync::{Mutex, Wait};
 // How often a call tries to take the value before it goes to the door. Most calls hold it for less time.
 const TRIES: u32 = 30;
 
+// How often the one at the door tries between two pauses. The first pauses spin too, and are short.
+const TRIES_AT_DOOR: u32 = 8;
+
 /// A value that threads take and give back, which they share by `&`. Each has a seat of its own.
 #[derive(Drop)]
 pub struct LockedCell<S: Drop, V, K, R: CellRule<S, V, K>> {
@@ -100,8 +103,8 @@ impl<S: Drop, V, K, R: CellRule<S, V, K>> LockedCell<S, V, K, R> {
             == 0
     }
 
-    // Takes the value, where it comes home within a few tries.
-    fn try_some(&self, seat: &mut Seat<S, V>) -> bool
+    // Takes the value, where it comes home within this number of tries.
+    fn try_some(&self, seat: &mut Seat<S, V>, tries: u32) -> bool
         requires table { seat.old.table_id ≡ table_of self.now }
         requires may { MayTry R.holding R.learns (R.holds (key_of self.now)) 1 seat.old.id
             seat.old.me }
@@ -110,7 +113,7 @@ impl<S: Drop, V, K, R: CellRule<S, V, K>> LockedCell<S, V, K, R> {
         ensures took { result ≡ true → Took R.holding R.learns seat.old.me seat.new.me }
         ensures kept { result ≡ false → seat.new.me ≡ seat.old.me }
     {
-        for _ in 0..TRIES {
+        for _ in 0..tries {
             if self.try_enter(seat) {
                 return true;
             }
@@ -128,13 +131,13 @@ impl<S: Drop, V, K, R: CellRule<S, V, K>> LockedCell<S, V, K, R> {
         ensures table { seat.new.table_id ≡ table_of self.now }
         ensures took { Took R.holding R.learns seat.old.me seat.new.me }
     {
-        if self.try_some(seat) {
+        if self.try_some(seat, TRIES) {
             return;
         }
         let _door = self.door.lock(rt);
         let mut pause = Pause::new();
         for _ in rt.forever() {
-            if self.try_some(seat) {
+            if self.try_some(seat, TRIES_AT_DOOR) {
                 return;
             }
             pause.wait(rt);
