@@ -6,4 +6,4 @@ pub mod NameLemmas
 pub mod StationLemmas
 pub mod ReplayLemmas
 pub mod ProgramLemmas
-pub mod FiledLemmas
+pub mod FileLemmas

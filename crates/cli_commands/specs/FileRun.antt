@@ -1,7 +1,13 @@
 -- A run of the jobs of a file, in the values that its caller has.
-use Rattle.std.specs.Prelude.{◌≡◌, ℕ, ◌≤◌, true, List, Any, Option, Some, None, IfSome, Result, Ok, Err}
-use Rattle.cube_shape.specs.declared.limits.TheConstants.{MAX_ENTRIES}
+use Rattle.std.specs.Prelude.{◌≡◌, ℕ, ◌≤◌, true, List, Any, Option, Some, None, IfSome, Result, Ok, Err, length}
+use Rattle.cube_shape.specs.declared.limits.TheConstants.{MAX_ENTRIES, MAX_LANES}
 use Rattle.job_types.specs.Job.{JobData}
+use Rattle.job_queue.specs.declared.job_line.JobLine.{Ghosts as LineWords}
+use Rattle.floors.specs.Floor.{IsWhollyFree}
+use Rattle.floors.specs.declared.floor.Floor.{Ghosts as FloorWords}
+use Rattle.dispatcher.specs.declared.sizes.ShopSizes.{ShopSizes}
+use Rattle.crew.specs.Done.{IsDone}
+use Rattle.crew.specs.Members.{RanIn}
 use Rattle.crew.specs.Run.{IsRun}
 use Rattle.crew.specs.declared.running.RunEnd.{RunEnd}
 use Rattle.jobs_csv.specs.Fault.{is_refusal}
@@ -15,6 +21,17 @@ pub record IsFileRun {M : Type 0} (words_of : M → List ℕ) (n : ℕ) (jobs : 
   pub lanes : List (List JobData)
   pub open_lanes : AreOpenLanes lanes jobs
   pub run : IsRun words_of n lanes end
+
+module _ {L Lane Pass Closer Note End F Station Held Machine : Type 0} (line : LineWords L Lane Pass Closer Note End) (floor : FloorWords F Station Held Machine) where
+  -- a shop of these sizes was run: each lane was fed to its end, each worker was run, and the machine is closed and wholly free
+  pub record IsShopRun (sizes : ShopSizes) (end : RunEnd Machine) : Type 0 where
+    pub done : IsDone end
+    pub lanes : length end.finished.accepted.items ≤ MAX_LANES
+    pub ran_in : RanIn line floor sizes.dim (length end.finished.accepted.items) sizes.dispatchers sizes.capacity end
+    pub workers : length end.finished.by_worker.items ≡ sizes.dispatchers
+    pub dim : floor.machine_dim end.finished.machine ≡ sizes.dim
+    pub closed : floor.is_closed sizes.dispatchers end.finished.machine
+    pub free : IsWhollyFree sizes.dim (floor.machine_words end.finished.machine)
 
 -- what is returned for a file of jobs, by its parse: the end of a run that has answered all of them; or a
 -- refusal, which is the parse's, or a failure; and if there was a run, it was one of the file's jobs

@@ -1,8 +1,9 @@
-//! The commands of `cubejobs`: what each reads, does and writes, and the whole program as
-//! `program::run`, over any words, reader and writers.
+//! The commands of `cubejobs`: what each reads, does and writes. The whole program is
+//! `program::run`, over any words, files and streams.
 #![tactic(auto)]
 
-mod filed;
+mod answering;
+mod files;
 mod lanes;
 mod names;
 mod output;
@@ -14,9 +15,11 @@ mod replay;
 mod run;
 mod shop;
 mod stations;
+mod writing;
 
+pub use answering::{Task, answer};
 pub use output::{Output, Replies, Report};
 pub use place::place_on;
 pub use replay::replay_on;
-pub use run::{answer_on, answer_with_progress, report_on, run_on};
+pub use run::{report_on, run_on};
 pub use shop::{Unanswered, answer_file};

@@ -1,13 +1,12 @@
 //! The four commands over devices that fail, and over a large file.
 
-ghost use Rattle.std.specs.Prelude.{◌≤◌};
 ghost use Rattle.cli_words.specs.CommandLine.{AreShopSizes};
 
 use crate::tests::devices::{FailsAt, add, replies_text};
 use crate::tests::facts::{expect_all, expect_true};
 use cli_commands::{place_on, replay_on, report_on, run_on};
 use cube_shape::{MAX_CAPACITY, MAX_DIM, MAX_DISPATCHERS};
-use dispatcher::{Plain, Runner};
+use dispatcher::{Plain, Runner, ShopSizes};
 use jobs_csv::{Counted, Device, Fault, FaultKind};
 use std::alloc::Global;
 use std::io::{Read, Write};
@@ -24,43 +23,62 @@ enum Command {
     Replay,
 }
 
-// These are the numbers of a shop.
-fn expect_shop(rt: &impl Abort, n: u32, dispatchers: u32, capacity: usize)
-    ensures machine { n ≤ MAX_DIM }
-    ensures sizes { AreShopSizes dispatchers capacity }
+// These are the sizes of a shop.
+fn expect_shop(rt: &impl Abort, sizes: ShopSizes)
+    ensures { AreShopSizes sizes }
 {
-    assert!(rt; n <= MAX_DIM && 1 <= capacity && capacity <= MAX_CAPACITY);
+    let ShopSizes {
+        dim,
+        dispatchers,
+        capacity,
+    } = sizes;
+    assert!(rt; dim <= MAX_DIM && 1 <= capacity && capacity <= MAX_CAPACITY);
     assert!(rt; 1 <= dispatchers && dispatchers <= MAX_DISPATCHERS);
 }
 
-// A run by so many dispatchers.
-fn run_by<T: Runner + Sync, R: Read + Device, W: Write + Device>(
-    rt: &(impl AllocGlobal + Abort + Threads + Wait + Sync),
-    n: u32,
-    dispatchers: u32,
-    capacity: usize,
-    runner: &T,
-    reader: &mut R,
-    writer: &mut W,
-) -> Result<(), Fault> {
-    expect_shop(rt, n, dispatchers, capacity);
-    let alloc = rt.alloc();
-    run_on(rt, alloc, n, dispatchers, capacity, runner, reader, writer)
+// The sizes of a shop.
+pub fn sizes_of(dim: u32, dispatchers: u32, capacity: usize) -> ShopSizes {
+    ShopSizes {
+        dim,
+        dispatchers,
+        capacity,
+    }
 }
 
-// A report by so many dispatchers.
-fn report_by<T: Runner + Sync, R: Read + Device, W: Write + Device>(
-    rt: &(impl AllocGlobal + Abort + Threads + Wait + Sync),
-    n: u32,
-    dispatchers: u32,
-    capacity: usize,
+// A run in a shop of these sizes.
+fn run_by<T: Runner + Sync, R: Read + Device, W: Write + Device>(
+    rt: &(impl AllocGlobal + Abort + Threads + Wait + Clone + Send + Sync + 'static),
+    sizes: ShopSizes,
     runner: &T,
     reader: &mut R,
     writer: &mut W,
 ) -> Result<(), Fault> {
-    expect_shop(rt, n, dispatchers, capacity);
+    expect_shop(rt, sizes);
     let alloc = rt.alloc();
-    report_on(rt, alloc, n, dispatchers, capacity, runner, reader, writer)
+    let ShopSizes {
+        dim,
+        dispatchers,
+        capacity,
+    } = sizes;
+    run_on(rt, alloc, dim, dispatchers, capacity, runner, reader, writer)
+}
+
+// A report in a shop of these sizes.
+fn report_by<T: Runner + Sync, R: Read + Device, W: Write + Device>(
+    rt: &(impl AllocGlobal + Abort + Threads + Wait + Clone + Send + Sync + 'static),
+    sizes: ShopSizes,
+    runner: &T,
+    reader: &mut R,
+    writer: &mut W,
+) -> Result<(), Fault> {
+    expect_shop(rt, sizes);
+    let alloc = rt.alloc();
+    let ShopSizes {
+        dim,
+        dispatchers,
+        capacity,
+    } = sizes;
+    report_on(rt, alloc, dim, dispatchers, capacity, runner, reader, writer)
 }
 
 // The commands of a file, on a machine of dimension 3.
@@ -83,14 +101,14 @@ fn replays<R: Read + Device, W: Write + Device>(
 
 // A command on a machine of dimension 3.
 fn answer<R: Read + Device, W: Write + Device>(
-    rt: &(impl AllocGlobal + Abort + Threads + Wait + Sync),
+    rt: &(impl AllocGlobal + Abort + Threads + Wait + Clone + Send + Sync + 'static),
     command: Command,
     reader: &mut R,
     writer: &mut W,
 ) -> Result<(), Fault> {
     match command {
-        Command::Run => run_by(rt, 3, 2, 16, &Plain, reader, writer),
-        Command::Report => report_by(rt, 3, 2, 16, &Plain, reader, writer),
+        Command::Run => run_by(rt, sizes_of(3, 2, 16), &Plain, reader, writer),
+        Command::Report => report_by(rt, sizes_of(3, 2, 16), &Plain, reader, writer),
         Command::Place => places(rt.alloc(), reader, writer),
         Command::Replay => replays(rt.alloc(), reader, writer),
     }
@@ -158,7 +176,7 @@ fn failing(is_read: bool, calls: u64) -> (u64, u64, FaultKind) {
 // The answer then tells so, and else it is good. What was written is the beginning of the good answer,
 // seven bytes a call; and it is nothing after a failed read.
 fn fails(
-    rt: &(impl AllocGlobal + Abort + Threads + Wait + Sync),
+    rt: &(impl AllocGlobal + Abort + Threads + Wait + Clone + Send + Sync + 'static),
     command: Command,
     is_read: bool,
     calls: u64,
@@ -184,7 +202,7 @@ fn fails(
 // How many reads or writes a command makes, each of which is reported where it fails; and flushes too,
 // where they may fail. Zero where each of a thousand fails.
 fn calls_of(
-    rt: &(impl AllocGlobal + Abort + Threads + Wait + Sync),
+    rt: &(impl AllocGlobal + Abort + Threads + Wait + Clone + Send + Sync + 'static),
     command: Command,
     is_read: bool,
     gives_zero: bool,
@@ -211,7 +229,7 @@ fn reports_a_failed_read(rt: HostRuntime) {
 }
 
 // Each of these commands makes so many writes, and then a flush.
-fn expect_writes(rt: &(impl AllocGlobal + Abort + Threads + Wait + Sync), rows: &[(Command, u64)]) {
+fn expect_writes(rt: &(impl AllocGlobal + Abort + Threads + Wait + Clone + Send + Sync + 'static), rows: &[(Command, u64)]) {
     for (command, writes) in rows {
         let found = calls_of(rt, *command, false, true);
         let with_flush = calls_of(rt, *command, false, false);
@@ -254,13 +272,11 @@ pub fn long_file(rt: &(impl AllocGlobal + Abort), count: u64) -> (Vec<u8>, Strin
     )
 }
 
-// Whether a run or a report of this file by so many dispatchers is good, and writes all of this.
+// Whether a run or a report of this file in a shop of these sizes is good, and writes all of this.
 pub fn writes_all<T: Runner + Sync>(
-    rt: &(impl AllocGlobal + Abort + Threads + Wait + Sync),
+    rt: &(impl AllocGlobal + Abort + Threads + Wait + Clone + Send + Sync + 'static),
     is_report: bool,
-    n: u32,
-    dispatchers: u32,
-    capacity: usize,
+    sizes: ShopSizes,
     runner: &T,
     input: &[u8],
     wanted: &[u8],
@@ -268,25 +284,9 @@ pub fn writes_all<T: Runner + Sync>(
     let mut reader = Counted::new(input);
     let mut writer = Counted::new(Vec::new(rt.alloc()));
     let answer = if is_report {
-        report_by(
-            rt,
-            n,
-            dispatchers,
-            capacity,
-            runner,
-            &mut reader,
-            &mut writer,
-        )
+        report_by(rt, sizes, runner, &mut reader, &mut writer)
     } else {
-        run_by(
-            rt,
-            n,
-            dispatchers,
-            capacity,
-            runner,
-            &mut reader,
-            &mut writer,
-        )
+        run_by(rt, sizes, runner, &mut reader, &mut writer)
     };
     let failures = reader.failures().saturating_add(writer.failures());
     (answer == Ok(())) & (failures == 0) & (writer.get_ref().as_slice() == wanted)
@@ -299,13 +299,13 @@ fn is_long_beginning(written: &[u8], wanted: &[u8]) -> bool {
 
 // Whether a run of this file whose writer fails after 20,000 calls wrote the beginning of this.
 fn writes_beginning(
-    rt: &(impl AllocGlobal + Abort + Threads + Wait + Sync),
+    rt: &(impl AllocGlobal + Abort + Threads + Wait + Clone + Send + Sync + 'static),
     input: &[u8],
     wanted: &[u8],
 ) -> bool {
     let mut reader = Counted::new(input);
     let mut writer = Counted::new(FailsAt::new(Vec::new(rt.alloc()), 20_000));
-    let answer = run_by(rt, 0, 2, 16, &Plain, &mut reader, &mut writer);
+    let answer = run_by(rt, sizes_of(0, 2, 16), &Plain, &mut reader, &mut writer);
     let is_told = tells(answer, true, FaultKind::Write);
     is_told & is_long_beginning(&writer.get_ref().device, wanted)
 }
@@ -319,7 +319,7 @@ fn writes_long_files(rt: HostRuntime) {
         &rt,
         &[
             wanted.len() > 150_000,
-            writes_all(&rt, false, 0, 2, 16, &Plain, input, wanted),
+            writes_all(&rt, false, sizes_of(0, 2, 16), &Plain, input, wanted),
             writes_beginning(&rt, input, wanted),
         ],
     );

@@ -1,9 +1,9 @@
 //! Three jobs that are inside the runner at one moment.
 
-use crate::tests::commands::writes_all;
+use crate::tests::commands::{sizes_of, writes_all};
 use crate::tests::facts::expect_true;
-use cli_commands::{Replies, answer_with_progress};
-use cli_words::ShopOptions;
+use cli_commands::{Task, answer};
+use cli_words::{Invocation, ShopOptions};
 use dispatcher::Runner;
 use job_types::{Job, JobId, Region, Reply};
 use jobs_csv::Counted;
@@ -68,7 +68,7 @@ impl Runner for Meeting {
 
 // Three jobs of a file are inside at once where three dispatchers answer them, in a run or a report, which writes this.
 fn expect_meeting(
-    rt: &(impl AllocGlobal + Abort + Threads + Wait + Sync),
+    rt: &(impl AllocGlobal + Abort + Threads + Wait + Clone + Send + Sync + 'static),
     is_report: bool,
     wanted: &str,
 ) {
@@ -76,9 +76,7 @@ fn expect_meeting(
     let is_written = writes_all(
         rt,
         is_report,
-        3,
-        3,
-        3,
+        sizes_of(3, 3, 3),
         &meeting,
         THREE_JOBS,
         wanted.as_bytes(),
@@ -104,17 +102,18 @@ fn three_jobs_of_a_shown_run_are_inside_at_once(rt: HostRuntime) {
     let mut reader = Counted::new(THREE_JOBS);
     let mut writer = Counted::new(Vec::new(rt.alloc()));
     let options = ShopOptions {
-        n: 3,
-        dispatchers: 3,
-        capacity: 3,
+        sizes: sizes_of(3, 3, 3),
         is_quiet: false,
     };
+    let task = Task {
+        invocation: Invocation::Run(options),
+        runner: &meeting,
+    };
     let mut terminal = Some(Vec::new(rt.alloc()));
-    let answer = answer_with_progress::<Replies, _, Meeting, _, _, Vec<u8>>(
+    let answer = answer(
         &rt,
         rt.alloc(),
-        options,
-        &meeting,
+        task,
         &mut reader,
         &mut writer,
         &mut terminal,

@@ -1,10 +1,10 @@
 //! The line of progress: that the output is the same, and that a terminal is as it was in the end.
 
-use crate::tests::commands::long_file;
+use crate::tests::commands::{long_file, sizes_of};
 use crate::tests::devices::FailsAt;
 use crate::tests::facts::expect_true;
-use cli_commands::{Replies, answer_with_progress};
-use cli_words::ShopOptions;
+use cli_commands::{Task, answer};
+use cli_words::{Invocation, ShopOptions};
 use dispatcher::Plain;
 use jobs_csv::Counted;
 use std::io::Write;
@@ -28,16 +28,17 @@ where
     let mut reader = Counted::new(input);
     let mut writer = Counted::new(Vec::new(rt.alloc()));
     let options = ShopOptions {
-        n: 0,
-        dispatchers: 2,
-        capacity: 16,
+        sizes: sizes_of(0, 2, 16),
         is_quiet,
     };
-    let answer = answer_with_progress::<Replies, H, Plain, Counted<&[u8]>, Counted<Vec<u8>>, P>(
+    let task = Task {
+        invocation: Invocation::Run(options),
+        runner: &Plain,
+    };
+    let answer = answer(
         rt,
         rt.alloc(),
-        options,
-        &Plain,
+        task,
         &mut reader,
         &mut writer,
         terminal,

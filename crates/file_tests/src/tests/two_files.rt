@@ -5,7 +5,7 @@ ghost use Rattle.whole_file.specs.Store.{KeepsFiles};
 use crate::tests::devices::push;
 use crate::tests::facts::expect_all;
 use cli_commands::program;
-use cli_commands::program::Ending;
+use cli_commands::program::{Console, Ending};
 use jobs_csv::{Counted, Fault, FaultKind};
 use std::process::Abort;
 use std::sync::Wait;
@@ -52,23 +52,16 @@ where
 {
     let alloc = rt.alloc();
     let words = words_of(rt, line);
-    let mut reader = Counted::new(OLD.as_bytes());
-    let mut writer = Counted::new(Vec::new(alloc));
-    let mut errors = Vec::new(alloc);
-    let mut terminal: Option<Vec<u8>> = None;
-    let mut prompt: Option<Vec<u8>> = None;
-    let ending = program::run(
-        rt,
-        alloc,
-        &words,
-        store,
-        &mut reader,
-        &mut writer,
-        &mut errors,
-        &mut terminal,
-        &mut prompt,
-    );
-    let out = Vec::from_slice(alloc, writer.get_ref()).expect(rt, "no memory");
+    let mut console = Console {
+        reader: Counted::new(OLD.as_bytes()),
+        writer: Counted::new(Vec::new(alloc)),
+        errors: Vec::new(alloc),
+        terminal: None::<Vec<u8>>,
+        prompt: None::<Vec<u8>>,
+    };
+    let ending = program::run(rt, alloc, &words, store, &mut console);
+    let out = Vec::from_slice(alloc, console.writer.get_ref()).expect(rt, "no memory");
+    let Console { reader, errors, .. } = console;
     Ended {
         ending,
         out,

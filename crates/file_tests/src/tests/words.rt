@@ -1,5 +1,6 @@
 //! What good command lines ask for. Bad ones and the helps are seen by running the program.
 
+use crate::tests::commands::sizes_of;
 use crate::tests::devices::push;
 use crate::tests::facts::expect_true;
 use cli_words::{FileNames, Invocation, Request, ShopOptions, parse_args};
@@ -64,102 +65,45 @@ fn expect_lines(rt: &(impl AllocGlobal + Abort), rows: &[(&str, Invocation, &str
     }
 }
 
-// Lines with no file.
-static LINES: [(&str, Invocation, &str, &str); 10] = [
-    (
-        "cubejobs run --dim 0",
-        Invocation::Run(ShopOptions {
-            n: 0,
-            dispatchers: 2,
-            capacity: 16,
-            is_quiet: false,
-        }),
-        "",
-        "",
-    ),
-    (
-        "cubejobs run --dim=12",
-        Invocation::Run(ShopOptions {
-            n: 12,
-            dispatchers: 2,
-            capacity: 16,
-            is_quiet: false,
-        }),
-        "",
-        "",
-    ),
-    (
-        "cubejobs run --dim 3 --dispatchers 1 --capacity=1",
-        Invocation::Run(ShopOptions {
-            n: 3,
-            dispatchers: 1,
-            capacity: 1,
-            is_quiet: false,
-        }),
-        "",
-        "",
-    ),
-    (
-        "cubejobs run --capacity 1024 --dispatchers 16 --dim 3",
-        Invocation::Run(ShopOptions {
-            n: 3,
-            dispatchers: 16,
-            capacity: 1024,
-            is_quiet: false,
-        }),
-        "",
-        "",
-    ),
-    (
-        "cubejobs report --quiet --dim 3",
-        Invocation::Report(ShopOptions {
-            n: 3,
-            dispatchers: 2,
-            capacity: 16,
-            is_quiet: true,
-        }),
-        "",
-        "",
-    ),
-    (
-        "cubejobs report --dim 3",
-        Invocation::Report(ShopOptions {
-            n: 3,
-            dispatchers: 2,
-            capacity: 16,
-            is_quiet: false,
-        }),
-        "",
-        "",
-    ),
-    (
-        "cubejobs report --dim=12 --dispatchers=16 --capacity=1024",
-        Invocation::Report(ShopOptions {
-            n: 12,
-            dispatchers: 16,
-            capacity: 1024,
-            is_quiet: false,
-        }),
-        "",
-        "",
-    ),
-    (
-        "cubejobs report --capacity 1 --dispatchers 3 --dim 0",
-        Invocation::Report(ShopOptions {
-            n: 0,
-            dispatchers: 3,
-            capacity: 1,
-            is_quiet: false,
-        }),
-        "",
-        "",
-    ),
+// A line of `run` or `report` with no file: whether it is a report, the sizes of its shop, and whether it is quiet.
+type ShopLine = (&'static str, bool, u32, u32, usize, bool);
+
+static SHOP_LINES: [ShopLine; 8] = [
+    ("cubejobs run --dim 0", false, 0, 2, 16, false),
+    ("cubejobs run --dim=12", false, 12, 2, 16, false),
+    ("cubejobs run --dim 3 --dispatchers 1 --capacity=1", false, 3, 1, 1, false),
+    ("cubejobs run --capacity 1024 --dispatchers 16 --dim 3", false, 3, 16, 1024, false),
+    ("cubejobs report --quiet --dim 3", true, 3, 2, 16, true),
+    ("cubejobs report --dim 3", true, 3, 2, 16, false),
+    ("cubejobs report --dim=12 --dispatchers=16 --capacity=1024", true, 12, 16, 1024, false),
+    ("cubejobs report --capacity 1 --dispatchers 3 --dim 0", true, 0, 3, 1, false),
+];
+
+// Each of these lines asks for its command with its sizes.
+fn expect_shops(rt: &(impl AllocGlobal + Abort), rows: &[ShopLine]) {
+    for (line, is_report, dim, dispatchers, capacity, is_quiet) in rows {
+        let options = ShopOptions {
+            sizes: sizes_of(*dim, *dispatchers, *capacity),
+            is_quiet: *is_quiet,
+        };
+        let wanted = if *is_report {
+            Invocation::Report(options)
+        } else {
+            Invocation::Run(options)
+        };
+        expect_true(rt, asks_for(rt, line, wanted, "", ""));
+    }
+}
+
+// Lines of the other commands with no file.
+static LINES: [(&str, Invocation, &str, &str); 2] = [
     ("cubejobs place --dim 3", PLACE, "", ""),
     ("cubejobs replay --dim 2 --stations 48", REPLAY, "", ""),
 ];
 
 #[test]
 fn reads_command_lines(rt: HostRuntime) {
+    expect_shops(&rt, &SHOP_LINES);
     expect_lines(&rt, &LINES);
 }
 

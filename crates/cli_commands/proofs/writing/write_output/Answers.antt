@@ -3,7 +3,7 @@ use Rattle.jobs_csv.specs.Jobs.{parse_jobs}
 use Rattle.jobs_csv.specs.Text.{file_text}
 use Rattle.cli_commands.specs.Inner.Shop.{fault_in}
 use Rattle.cli_commands.proofs.RunLemmas.{fault_passed, output_answered, output_failed}
-use Rattle.cli_commands.proofs.run.write_output.Goals as goal
+use Rattle.cli_commands.proofs.writing.write_output.Goals as goal
 
 pub returns-in-Err-clause-answered : goal.returns-in-Err-clause-answered
 returns-in-Err-clause-answered g c bytes is = fault_passed g.F.Floor.machine_words c.args.n (parse_jobs c.args.n bytes)

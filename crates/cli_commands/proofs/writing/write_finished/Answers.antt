@@ -1,6 +1,6 @@
 use Rattle.std.proofs.lemmas.Result.{on_ok_weaker}
 use Rattle.cli_commands.proofs.RunLemmas.{write_failed}
-use Rattle.cli_commands.proofs.run.write_finished.Goals as goal
+use Rattle.cli_commands.proofs.writing.write_finished.Goals as goal
 
 pub returns-clause-written : goal.returns-clause-written
 returns-clause-written g c jobs answers = on_ok_weaker c.write_rows.result

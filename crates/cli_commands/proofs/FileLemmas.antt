@@ -1,15 +1,15 @@
 -- What became of a request, with the files that it names.
-use Rattle.std.proofs.Common.{◌≡◌, ℕ, Bool, true, false, List, Option, None, Some, Result, Ok, Err, IfErr, IfSome, String, Global, is_some, option_map, string_bytes, refl, sym, ap, subst, ◌∙◌}
+use Rattle.std.proofs.Common.{◌≡◌, ℕ, Bool, true, false, List, Option, None, Some, Result, Ok, Err, IfErr, IfSome, OnOk, String, Global, is_some, option_map, string_bytes, refl, sym, ap, subst, ◌∙◌}
 use Rattle.clap.specs.Words.{Text}
 use Rattle.jobs_csv.specs.declared.fault.Fault.{Fault}
 use Rattle.cli_words.specs.declared.invocation.Invocation.{Invocation}
 use Rattle.cli_words.specs.declared.invocation.Invocation.TheVariants.{Run, Report, Place, Replay}
-use Rattle.cli_commands.specs.declared.filed.Stop.{Stop}
-use Rattle.cli_commands.specs.declared.filed.Stop.TheVariants as stop
+use Rattle.cli_commands.specs.declared.files.CommandError.{CommandError}
+use Rattle.cli_commands.specs.declared.files.CommandError.TheVariants as error
 use Rattle.cli_commands.specs.declared.program.Ending.{Ending}
 use Rattle.cli_commands.specs.declared.program.Ending.TheVariants as ending
-use Rattle.cli_commands.specs.Inner.Ending.{EndsAfter}
-use Rattle.cli_commands.specs.Inner.Filed.{EndsIn, IfFault, IfFile, IsOutcome}
+use Rattle.cli_commands.specs.Inner.Ending.{EndsAfter, EndsWith}
+use Rattle.cli_commands.specs.Inner.Files.{EndsIn, IfFault, IfFile, IsOutcome, IsSettled}
 use Rattle.cli_commands.specs.Program.{IsAnswerTo, IsFaultIn, IsFaultOf, names}
 use Rattle.whole_file.specs.Store.{KeepsFiles, KeepsOthers, begun_by, held_by}
 use Rattle.whole_file.specs.declared.file_fault.FileFault.{FileFault}
@@ -40,11 +40,11 @@ same_fault (Report shop) (Some b) old new begun held fault is = is
 same_fault (Place n) (Some b) old new begun held fault is = is
 same_fault (Replay n stations) (Some b) old new begun held fault is = is
 
--- the counts of a file that is read stand in the place of the reader's
-of_file : (name : Text) (output : Option Text) (file_before file_after rb ra wb wa : ℕ) (invocation : Invocation) (result : Result (Unit {0}) Stop) → IfErr result (λ s. IfFault s (IsFaultIn None output file_before file_after wb wa invocation)) → IfErr result (λ s. IfFault s (IsFaultIn (Some name) output rb ra wb wa invocation))
+-- the counts are those of the file that is read, not the reader's
+of_file : (name : Text) (output : Option Text) (file_before file_after rb ra wb wa : ℕ) (invocation : Invocation) (result : Result (Unit {0}) CommandError) → IfErr result (λ s. IfFault s (IsFaultIn None output file_before file_after wb wa invocation)) → IfErr result (λ s. IfFault s (IsFaultIn (Some name) output rb ra wb wa invocation))
 of_file name output file_before file_after rb ra wb wa invocation (Ok done) is = tt
-of_file name output file_before file_after rb ra wb wa invocation (Err (stop.File fault)) is = tt
-of_file name output file_before file_after rb ra wb wa invocation (Err (stop.Fault fault)) is = record {
+of_file name output file_before file_after rb ra wb wa invocation (Err (error.File fault)) is = tt
+of_file name output file_before file_after rb ra wb wa invocation (Err (error.Fault fault)) is = record {
   reads = is.reads;
   writes = is.writes;
   of_reader = λ none. absurd (some_is_there name none);
@@ -56,10 +56,10 @@ names_more : (name : Text) (output : Option Text) (side : FileSide) → names No
 names_more name output Input is = refl
 names_more name output Output is = is
 
-still_named : (name : Text) (output : Option Text) (result : Result (Unit {0}) Stop) → IfErr result (λ s. IfFile s (λ file. names None output file.side ≡ true)) → IfErr result (λ s. IfFile s (λ file. names (Some name) output file.side ≡ true))
+still_named : (name : Text) (output : Option Text) (result : Result (Unit {0}) CommandError) → IfErr result (λ s. IfFile s (λ file. names None output file.side ≡ true)) → IfErr result (λ s. IfFile s (λ file. names (Some name) output file.side ≡ true))
 still_named name output (Ok done) is = tt
-still_named name output (Err (stop.Fault fault)) is = tt
-still_named name output (Err (stop.File fault)) is = names_more name output fault.side is
+still_named name output (Err (error.Fault fault)) is = tt
+still_named name output (Err (error.File fault)) is = names_more name output fault.side is
 
 -- each file is as it was, so each other one is
 none_changed : (output : Option Text) (old new : List ℕ → Option (List ℕ)) → KeepsFiles old new → KeepsOthers output old new
@@ -70,7 +70,7 @@ none_changed (Some name) old new kept = λ file differs. kept file
 
 module _ (fresh : Option (List ℕ)) (store_old store_new : List ℕ → Option (List ℕ)) (read writer_old writer_new : Option (List ℕ)) (rb ra wb wa : ℕ) (name : Text) (invocation : Invocation) where
   -- no draft could be begun
-  pub not_begun : (fault : FileFault) → fault.side ≡ Output → KeepsFiles store_old store_new → IsOutcome fresh store_old store_new read writer_old writer_new rb ra wb wa None (Some name) invocation (Err (stop.File fault))
+  pub not_begun : (fault : FileFault) → fault.side ≡ Output → KeepsFiles store_old store_new → IsOutcome fresh store_old store_new read writer_old writer_new rb ra wb wa None (Some name) invocation (Err (error.File fault))
   not_begun fault side kept = record {
     answered = tt;
     failed = tt;
@@ -81,7 +81,7 @@ module _ (fresh : Option (List ℕ)) (store_old store_new : List ℕ → Option 
 
   module _ (store_between : List ℕ → Option (List ℕ)) (begun : KeepsFiles store_old store_between) where
     -- the request failed, and the draft was thrown away
-    pub thrown_away : (draft_old draft_new : Option (List ℕ)) (before after : ℕ) (fault : Fault) → IfSome read (λ b. IsAnswerTo invocation b draft_old draft_new (Err fault)) → IsFaultOf rb ra before after invocation fault → KeepsFiles store_between store_new → IsOutcome fresh store_old store_new read writer_old writer_new rb ra wb wa None (Some name) invocation (Err (stop.Fault fault))
+    pub thrown_away : (draft_old draft_new : Option (List ℕ)) (before after : ℕ) (fault : Fault) → IfSome read (λ b. IsAnswerTo invocation b draft_old draft_new (Err fault)) → IsFaultOf rb ra before after invocation fault → KeepsFiles store_between store_new → IsOutcome fresh store_old store_new read writer_old writer_new rb ra wb wa None (Some name) invocation (Err (error.Fault fault))
     thrown_away draft_old draft_new before after fault answered is kept = record {
       answered = same_fault invocation read draft_old draft_new fresh (store_new name) fault answered;
       failed = record {
@@ -97,7 +97,7 @@ module _ (fresh : Option (List ℕ)) (store_old store_new : List ℕ → Option 
     }
 
     -- the request was done, and the draft could not be put in the file's place
-    pub not_put : (fault : FileFault) → fault.side ≡ Output → KeepsFiles store_between store_new → IsOutcome fresh store_old store_new read writer_old writer_new rb ra wb wa None (Some name) invocation (Err (stop.File fault))
+    pub not_put : (fault : FileFault) → fault.side ≡ Output → KeepsFiles store_between store_new → IsOutcome fresh store_old store_new read writer_old writer_new rb ra wb wa None (Some name) invocation (Err (error.File fault))
     not_put fault side kept = not_begun fault side (λ file. kept file ∙ begun file)
 
     -- the request was done, and the draft is the file
@@ -110,6 +110,13 @@ module _ (fresh : Option (List ℕ)) (store_old store_new : List ℕ → Option 
       others = λ file differs. others file differs ∙ begun file;
       kept = tt;
     }
+
+    -- the draft was put there or thrown away, by the answer of the command
+    pub settled : (draft_old draft_new : Option (List ℕ)) (before after : ℕ) (answer : Result (Unit {0}) Fault) (result : Result (Unit {0}) CommandError) → draft_old ≡ fresh → IfSome read (λ b. IsAnswerTo invocation b draft_old draft_new answer) → IfErr answer (IsFaultOf rb ra before after invocation) → IsSettled draft_new store_between store_new name answer result → IsOutcome fresh store_old store_new read writer_old writer_new rb ra wb wa None (Some name) invocation result
+    settled draft_old draft_new before after (Err fault) result is_fresh answered failed (is, kept) = subst (IsOutcome fresh store_old store_new read writer_old writer_new rb ra wb wa None (Some name) invocation) (sym is) (thrown_away draft_old draft_new before after fault answered failed kept)
+    settled draft_old draft_new before after (Ok done) (Ok put) is_fresh answered failed (is_put, others) = put_there draft_old draft_new is_fresh is_put answered others
+    settled draft_old draft_new before after (Ok done) (Err (error.Fault fault)) is_fresh answered failed is = absurd is
+    settled draft_old draft_new before after (Ok done) (Err (error.File fault)) is_fresh answered failed (side, kept) = not_put fault side kept
 
 -- ---- a request whose output is a file or the writer
 
@@ -125,8 +132,8 @@ module _ (fresh : Option (List ℕ)) (store : List ℕ → Option (List ℕ)) (r
   })
 
   -- it failed
-  pub not_to_writer : (fault : Fault) → IfSome read (λ b. IsAnswerTo invocation b writer_old writer_new (Err fault)) → IsFaultOf rb ra wb wa invocation fault → IsOutcome fresh store store read writer_old writer_new rb ra wb wa None output invocation (Err (stop.Fault fault))
-  not_to_writer fault answered is = subst (λ (o : Option Text). IsOutcome fresh store store read writer_old writer_new rb ra wb wa None o invocation (Err (stop.Fault fault))) (sym none) (record {
+  pub not_to_writer : (fault : Fault) → IfSome read (λ b. IsAnswerTo invocation b writer_old writer_new (Err fault)) → IsFaultOf rb ra wb wa invocation fault → IsOutcome fresh store store read writer_old writer_new rb ra wb wa None output invocation (Err (error.Fault fault))
+  not_to_writer fault answered is = subst (λ (o : Option Text). IsOutcome fresh store store read writer_old writer_new rb ra wb wa None o invocation (Err (error.Fault fault))) (sym none) (record {
     answered = answered;
     failed = record {
       reads = (rb, ra);
@@ -140,7 +147,12 @@ module _ (fresh : Option (List ℕ)) (store : List ℕ → Option (List ℕ)) (r
     kept = λ file. refl;
   })
 
-module _ (fresh : Option (List ℕ)) (store_old store_new : List ℕ → Option (List ℕ)) (read writer_old writer_new : Option (List ℕ)) (rb ra wb wa : ℕ) (invocation : Invocation) (result : Result (Unit {0}) Stop) where
+  -- whichever it was
+  pub by_writer : (answer : Result (Unit {0}) Fault) (result : Result (Unit {0}) CommandError) → OnOk answer (result ≡ Ok tt) → IfErr answer (λ fault. result ≡ Err (error.Fault fault)) → IfSome read (λ b. IsAnswerTo invocation b writer_old writer_new answer) → IfErr answer (IsFaultOf rb ra wb wa invocation) → IsOutcome fresh store store read writer_old writer_new rb ra wb wa None output invocation result
+  by_writer (Ok done) result is none answered failed = subst (IsOutcome fresh store store read writer_old writer_new rb ra wb wa None output invocation) (sym is) (to_writer answered)
+  by_writer (Err fault) result none is answered failed = subst (IsOutcome fresh store store read writer_old writer_new rb ra wb wa None output invocation) (sym is) (not_to_writer fault answered failed)
+
+module _ (fresh : Option (List ℕ)) (store_old store_new : List ℕ → Option (List ℕ)) (read writer_old writer_new : Option (List ℕ)) (rb ra wb wa : ℕ) (invocation : Invocation) (result : Result (Unit {0}) CommandError) where
   -- the output is the file of this name
   pub to_file : (output : Option Text) (name : Text) → output ≡ Some name → IsOutcome fresh store_old store_new read writer_old writer_new rb ra wb wa None (Some name) invocation result → IsOutcome fresh store_old store_new read writer_old writer_new rb ra wb wa None output invocation result
   to_file output name is outcome = subst (λ (o : Option Text). IsOutcome fresh store_old store_new read writer_old writer_new rb ra wb wa None o invocation result) (sym is) outcome
@@ -160,8 +172,8 @@ module _ (fresh : Option (List ℕ)) (store_old store_new : List ℕ → Option 
   })
 
 -- the file that is to be read could not be opened
-pub not_opened : (fresh : Option (List ℕ)) (store : List ℕ → Option (List ℕ)) (read writer_old writer_new : Option (List ℕ)) (rb ra wb wa : ℕ) (input output : Option Text) (name : Text) (invocation : Invocation) (fault : FileFault) → input ≡ Some name → fault.side ≡ Input → IsOutcome fresh store store read writer_old writer_new rb ra wb wa input output invocation (Err (stop.File fault))
-not_opened fresh store read writer_old writer_new rb ra wb wa input output name invocation fault is side = subst (λ (i : Option Text). IsOutcome fresh store store read writer_old writer_new rb ra wb wa i output invocation (Err (stop.File fault))) (sym is) (record {
+pub not_opened : (fresh : Option (List ℕ)) (store : List ℕ → Option (List ℕ)) (read writer_old writer_new : Option (List ℕ)) (rb ra wb wa : ℕ) (input output : Option Text) (name : Text) (invocation : Invocation) (fault : FileFault) → input ≡ Some name → fault.side ≡ Input → IsOutcome fresh store store read writer_old writer_new rb ra wb wa input output invocation (Err (error.File fault))
+not_opened fresh store read writer_old writer_new rb ra wb wa input output name invocation fault is side = subst (λ (i : Option Text). IsOutcome fresh store store read writer_old writer_new rb ra wb wa i output invocation (Err (error.File fault))) (sym is) (record {
   answered = tt;
   failed = tt;
   side = ap (names (Some name) output) side;
@@ -171,9 +183,8 @@ not_opened fresh store read writer_old writer_new rb ra wb wa input output name 
 
 -- ---- how a call ends after it
 
-module _ (fresh : Option (List ℕ)) (store_old store_new : List ℕ → Option (List ℕ)) (read writer_old writer_new : Option (List ℕ)) (rb ra wb wa : ℕ) (input output : Option Text) (invocation : Invocation) where
-  pub ended_by_fault : (fault : Fault) (end : Ending) (is_reported : Bool) → end ≡ ending.Failed fault is_reported → IsOutcome fresh store_old store_new read writer_old writer_new rb ra wb wa input output invocation (Err (stop.Fault fault)) → EndsAfter invocation read (begun_by fresh writer_old output) (held_by store_new writer_new output) (IsFaultIn input output rb ra wb wa invocation) (names input output) end
-  ended_by_fault fault end is_reported is outcome = subst (EndsAfter invocation read (begun_by fresh writer_old output) (held_by store_new writer_new output) (IsFaultIn input output rb ra wb wa invocation) (names input output)) (sym is) (outcome.answered, outcome.failed)
-
-  pub ended_by_file : (fault : FileFault) (end : Ending) (is_reported : Bool) → end ≡ ending.FileFailed fault is_reported → IsOutcome fresh store_old store_new read writer_old writer_new rb ra wb wa input output invocation (Err (stop.File fault)) → EndsAfter invocation read (begun_by fresh writer_old output) (held_by store_new writer_new output) (IsFaultIn input output rb ra wb wa invocation) (names input output) end
-  ended_by_file fault end is_reported is outcome = subst (EndsAfter invocation read (begun_by fresh writer_old output) (held_by store_new writer_new output) (IsFaultIn input output rb ra wb wa invocation) (names input output)) (sym is) outcome.side
+-- by the result of its request, which is reported
+pub ended : (fresh : Option (List ℕ)) (store_old store_new : List ℕ → Option (List ℕ)) (read writer_old writer_new : Option (List ℕ)) (rb ra wb wa : ℕ) (input output : Option Text) (invocation : Invocation) (result : Result (Unit {0}) CommandError) (end : Ending) → EndsWith result end → IsOutcome fresh store_old store_new read writer_old writer_new rb ra wb wa input output invocation result → EndsAfter invocation read (begun_by fresh writer_old output) (held_by store_new writer_new output) (IsFaultIn input output rb ra wb wa invocation) (names input output) end
+ended fresh store_old store_new read writer_old writer_new rb ra wb wa input output invocation (Ok done) end is outcome = subst (EndsAfter invocation read (begun_by fresh writer_old output) (held_by store_new writer_new output) (IsFaultIn input output rb ra wb wa invocation) (names input output)) (sym is) outcome.answered
+ended fresh store_old store_new read writer_old writer_new rb ra wb wa input output invocation (Err (error.Fault fault)) end (is_reported, is) outcome = subst (EndsAfter invocation read (begun_by fresh writer_old output) (held_by store_new writer_new output) (IsFaultIn input output rb ra wb wa invocation) (names input output)) (sym is) (outcome.answered, outcome.failed)
+ended fresh store_old store_new read writer_old writer_new rb ra wb wa input output invocation (Err (error.File fault)) end (is_reported, is) outcome = subst (EndsAfter invocation read (begun_by fresh writer_old output) (held_by store_new writer_new output) (IsFaultIn input output rb ra wb wa invocation) (names input output)) (sym is) outcome.side

@@ -1,7 +1,7 @@
 use denote.Param.Send.{sendable}
 use Rattle.tree_floor.proofs.SharedLemmas.{tree_floor_sync}
 use Rattle.cli_commands.proofs.RunLemmas.{where_known}
-use Rattle.cli_commands.proofs.run.answer_with_progress.Goals as goal
+use Rattle.cli_commands.proofs.answering.answer.Goals as goal
 
 pub answer_file_shown-answer-requires-sync-F : goal.answer_file_shown-answer-requires-sync-F
 answer_file_shown-answer-requires-sync-F g c κs within = search (sendable, tree_floor_sync) depth 20

@@ -1,7 +1,7 @@
 use Rattle.std.proofs.Common.{inl, refl}
 use Rattle.jobs_csv.specs.Jobs.{parse_jobs}
 use Rattle.cli_commands.proofs.RunLemmas.{fault_unanswered, where_known}
-use Rattle.cli_commands.proofs.shop.answer_file_with.Goals as goal
+use Rattle.cli_commands.proofs.shop.answer_file.Goals as goal
 
 pub returns-in-Err-clause-answered : goal.returns-in-Err-clause-answered
 returns-in-Err-clause-answered g c = fault_unanswered g.F.Floor.machine_words c.args.n (g.R.Read.remaining c.args.reader.now)
