@@ -13,7 +13,6 @@ ghost use Rattle.jobs_csv.specs.Inner.Columns.{job_columns};
 ghost use Rattle.jobs_csv.specs.Inner.Parse.{ReturnsParse};
 ghost use Rattle.jobs_csv.specs.Outcome.{ReturnsFile, ReturnsRows};
 
-use crate::device::Device;
 use crate::fault::{Fault, FaultKind};
 use crate::format::{self, Format};
 use crate::lanes::Lanes;
@@ -21,6 +20,7 @@ use crate::observer::{Observed, Observer, RecordCount};
 use crate::{columns, fields, job_fields};
 use csv::ByteRecord;
 use cube_shape::{MAX_DIM, MAX_LANES};
+use devices::Device;
 use job_types::{Job, JobRefused, Kind};
 use std::alloc::Global;
 use std::io::Read;

@@ -6,10 +6,10 @@ ghost use Rattle.jobs_csv.specs.Fault.{attribute};
 ghost use Rattle.jobs_csv.specs.Text.{file_text, line_of};
 ghost use Rattle.jobs_csv.specs.Inner.Output.{IsTextOf, lines_of};
 
-use crate::device::Device;
 use crate::fault::{Fault, FaultKind, WriteStopped};
 use crate::line_buffer::{LineBuffer, flush_writer, write_out};
 use crate::row::Row;
+use devices::Device;
 use std::alloc::{AllocError, Global};
 use std::collections::VecDeque;
 use std::io::Write;
