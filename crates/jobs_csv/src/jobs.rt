@@ -23,6 +23,7 @@ use cube_shape::{MAX_DIM, MAX_LANES};
 use devices::Device;
 use job_types::{Job, JobRefused, Kind};
 use std::alloc::Global;
+use std::collections::VecDeque;
 use std::io::Read;
 
 // The format of jobs, for a machine of this dimension.
@@ -154,13 +155,13 @@ pub fn read_jobs<R: Read + Device>(alloc: Global, n: u32, reader: &mut R) -> Res
     format::read_list(alloc, &Jobs { n }, reader)
 }
 
-/// Reads the jobs of a whole file, as `read_jobs` does, into a list for each lane, in which the
+/// Reads the jobs of a whole file, as `read_jobs` does, into a queue for each lane, in which the
 /// lane's jobs are in the order of the file.
 pub fn read_lanes<R: Read + Device>(
     alloc: Global,
     n: u32,
     reader: &mut R,
-) -> Result<Vec<Vec<Job>>, Fault>
+) -> Result<Vec<VecDeque<Job>>, Fault>
     requires { n ≤ MAX_DIM }
     ensures parse { IfSome (R.remaining reader.old) (λ bytes.
         ReturnsLanes (parse_jobs n bytes) result) }
@@ -179,7 +180,7 @@ pub fn read_lanes_with<O: Observer, R: Read + Device>(
     n: u32,
     observer: O,
     reader: &mut R,
-) -> Result<(Vec<Vec<Job>>, O), Fault>
+) -> Result<(Vec<VecDeque<Job>>, O), Fault>
     requires limit { n ≤ MAX_DIM }
     requires fresh { O.seen observer ≡ 0 }
     ensures parse { IfSome (R.remaining reader.old) (λ bytes.

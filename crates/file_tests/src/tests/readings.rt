@@ -9,6 +9,7 @@ use jobs_csv::{
     read_lanes_with, read_place, read_schedule, write_rows,
 };
 use std::alloc::Global;
+use std::collections::VecDeque;
 use std::process::Abort;
 
 const JOBS: &[u8] = b"lane,kind,op,root,items\n";
@@ -51,7 +52,7 @@ fn is_of(job: &Job, item: Option<&u64>) -> bool {
 }
 
 // The jobs of a lane have these items, one each.
-fn expect_items(rt: &impl Abort, jobs: &[Job], wanted: &[u64]) {
+fn expect_items(rt: &impl Abort, jobs: &VecDeque<Job>, wanted: &[u64]) {
     expect_true(rt, jobs.len() == wanted.len());
     for (place, job) in jobs.iter().enumerate() {
         expect_true(rt, is_of(job, wanted.get(place)));
@@ -59,7 +60,7 @@ fn expect_items(rt: &impl Abort, jobs: &[Job], wanted: &[u64]) {
 }
 
 // The jobs of a file for a machine of dimension 3, lane by lane.
-fn lanes_of(alloc: Global, input: &[u8]) -> Result<Vec<Vec<Job>>, Fault> {
+fn lanes_of(alloc: Global, input: &[u8]) -> Result<Vec<VecDeque<Job>>, Fault> {
     read_lanes(alloc, 3, &mut Counted::new(input))
 }
 
@@ -81,7 +82,7 @@ fn items_of_lane(lane: usize) -> &'static [u64] {
 }
 
 // There are 16 lanes, of these jobs.
-fn expect_lanes(rt: &impl Abort, lanes: &[Vec<Job>]) {
+fn expect_lanes(rt: &impl Abort, lanes: &[VecDeque<Job>]) {
     expect_true(rt, lanes.len() == 16);
     for (lane, jobs) in lanes.iter().enumerate() {
         expect_items(rt, jobs, items_of_lane(lane));
