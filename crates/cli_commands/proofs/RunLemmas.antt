@@ -8,6 +8,7 @@ use Rattle.std.proofs.lemmas.List.{length-map}
 use Rattle.std.proofs.lemmas.List.Folds.{Any-from_list_any}
 use Rattle.std.proofs.lemmas.List.Sorted.{All-permutation, IsPermutation-map, IsPermutation-trans}
 use Rattle.cube_shape.specs.declared.limits.TheConstants.{MAX_ENTRIES}
+use Rattle.std.specs.declared.collections.VecDeque.{VecDeque}
 use Rattle.job_types.specs.Job.{JobData}
 use Rattle.job_types.specs.Reply.{ReplyData}
 use Rattle.dispatcher.specs.Answers.{AnswersAll}
@@ -58,7 +59,7 @@ fault_unanswered words_of n (Some bytes) fault parsed = (parsed, tt)
 
 -- where the open lanes of a good file were run and answered, so was the file
 pub file_answered : {M : Type 0} (words_of : M → List ℕ) (n : ℕ) (parse : Result (List JobData) Fault)
-    (lanes : Vec (Vec JobData Global) Global) (lists : List (List JobData)) (end : RunEnd M) → ReturnsLanes parse (Ok lanes)
+    (lanes : Vec (VecDeque JobData Global) Global) (lists : List (List JobData)) (end : RunEnd M) → ReturnsLanes parse (Ok lanes)
     → ((jobs : List JobData) → AreLanes lanes.items jobs → AreOpenLanes lists jobs) → IsRun words_of n lists end
     → AnswersAll n lists (by_worker_of end) end.finished.rest.items → length end.finished.accepted.items ≡ length lists
     → ReturnsRun words_of n parse (Ok end)
@@ -79,7 +80,7 @@ reason_refuses_nothing why.Spent refused = true≢false (sym refused)
 
 -- where the run of a good file was not whole
 pub file_unanswered : {M : Type 0} (words_of : M → List ℕ) (n : ℕ) (parse : Result (List JobData) Fault)
-    (lanes : Vec (Vec JobData Global) Global) (lists : List (List JobData)) (s : Stopped M) → ReturnsLanes parse (Ok lanes)
+    (lanes : Vec (VecDeque JobData Global) Global) (lists : List (List JobData)) (s : Stopped M) → ReturnsLanes parse (Ok lanes)
     → ((jobs : List JobData) → AreLanes lanes.items jobs → AreOpenLanes lists jobs)
     → MatchStopped s (λ why back. ⊤) (λ why end. IsRun words_of n lists end) → ReturnsRun words_of n parse (Err (unanswered_of s))
 file_unanswered words_of n parse lanes lists (stopped.Refused why back) parsed opens run = (λ refused. absurd (true≢false (sym refused)), tt)

@@ -31,8 +31,8 @@ use Rattle.whole_file.specs.declared.file_fault.FileSide.TheVariants.{Input, Out
 
 -- the request is answered: jobs by their replies or by totals of them, commands by the first fit, a schedule by its events
 abbrev pub IsAnswerTo : Invocation → List ℕ → Option (List ℕ) → Option (List ℕ) → Result (Unit {0}) Fault → Type 0
-IsAnswerTo (invocation.Run shop) bytes old new result = IsAnswer (parse_jobs shop.n bytes) (AreReplies shop.n) (file_text reply_columns reply_fields) old new result
-IsAnswerTo (invocation.Report shop) bytes old new result = IsAnswer (parse_jobs shop.n bytes) (AreReportRows shop.n) (file_text report_columns report_fields) old new result
+IsAnswerTo (invocation.Run shop) bytes old new result = IsAnswer (parse_jobs shop.sizes.dim bytes) (AreReplies shop.sizes.dim) (file_text reply_columns reply_fields) old new result
+IsAnswerTo (invocation.Report shop) bytes old new result = IsAnswer (parse_jobs shop.sizes.dim bytes) (AreReportRows shop.sizes.dim) (file_text report_columns report_fields) old new result
 IsAnswerTo (invocation.Place n) bytes old new result = IsAnswer (parse_commands n bytes) (ArePlaced n) (file_text place_columns place_fields) old new result
 IsAnswerTo (invocation.Replay n stations) bytes old new result = IsAnswer (parse_schedule bytes) (AreReplayed n stations) (file_text replay_columns replay_fields) old new result
 

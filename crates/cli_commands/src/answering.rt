@@ -71,14 +71,14 @@ where
             let ran = answer_file::<H, RuledLine, TreeFloor, T, R, P>(
                 rt, alloc, options, runner, reader, terminal,
             );
-            write_output::<Replies, TreeFloor, H, W>(rt, alloc, dim, ran, writer)
+            write_output::<Replies, TreeFloor, W>(alloc, dim, ran, writer)
         }
         Invocation::Report(options) => {
             let dim = options.sizes.dim;
             let ran = answer_file::<H, RuledLine, TreeFloor, T, R, P>(
                 rt, alloc, options, runner, reader, terminal,
             );
-            write_output::<Report, TreeFloor, H, W>(rt, alloc, dim, ran, writer)
+            write_output::<Report, TreeFloor, W>(alloc, dim, ran, writer)
         }
         Invocation::Place { n } => place_on(alloc, n, reader, writer),
         Invocation::Replay { n, stations } => replay_on(alloc, n, stations, reader, writer),

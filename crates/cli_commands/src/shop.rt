@@ -20,6 +20,7 @@ use job_queue::JobLine;
 use job_types::Job;
 use jobs_csv::{Device, Fault, FaultKind};
 use std::alloc::Global;
+use std::collections::VecDeque;
 use std::io::{Read, Write};
 use std::sync::Wait;
 use std::thread::Threads;
@@ -62,7 +63,7 @@ fn answer_lanes<H, L, F, T>(
     alloc: Global,
     sizes: ShopSizes,
     runner: &T,
-    lanes: Vec<Vec<Job>>,
+    lanes: Vec<VecDeque<Job>>,
 ) -> Result<RunEnd<F::Machine>, Unanswered<F::Machine>>
 where
     H: Threads + Wait + Sync,
@@ -85,12 +86,7 @@ where
     ensures spent { IfErr result (λ unanswered.
         unanswered.fault.what ≡ FaultKind.Spent → HasSpentLane unanswered.end) }
 {
-    let Ok(lists) = open_lanes(alloc, lanes) else {
-        return Err(Unanswered {
-            fault: Fault::no_memory(),
-            end: None,
-        });
-    };
+    let lists = open_lanes(lanes);
     let ShopSizes {
         dim,
         dispatchers,

@@ -21,14 +21,9 @@ use floors::Floor;
 use jobs_csv::{Device, Fault, FaultKind};
 use std::alloc::Global;
 use std::io::Write;
-use std::thread::Threads;
-
-// The number of threads that make the lines of the rows.
-const LINE_MAKERS: usize = 1;
 
 // Writes the rows that are made of a finished run.
-fn write_finished<O: Output, F: Floor, H: Threads + Sync, W: Write + Device>(
-    rt: &H,
+fn write_finished<O: Output, F: Floor, W: Write + Device>(
     alloc: Global,
     n: u32,
     finished: Finished<F::Machine>,
@@ -50,12 +45,11 @@ where
     let Ok(rows) = O::rows::<F>(alloc, n, finished) else {
         return Err(Fault::no_memory());
     };
-    jobs_csv::write_rows(rt, alloc, LINE_MAKERS, rows, writer)
+    jobs_csv::write_rows(alloc, rows, writer)
 }
 
 // Writes the rows of an answered file, or returns the fault of an unanswered one.
-pub(crate) fn write_output<O: Output, F: Floor, H: Threads + Sync, W: Write + Device>(
-    rt: &H,
+pub(crate) fn write_output<O: Output, F: Floor, W: Write + Device>(
     alloc: Global,
     n: u32,
     answer: Result<RunEnd<F::Machine>, Unanswered<F::Machine>>,
@@ -81,5 +75,5 @@ where
         Ok(end) => end,
         Err(unanswered) => return Err(unanswered.fault),
     };
-    write_finished::<O, F, H, W>(rt, alloc, n, finished, writer)
+    write_finished::<O, F, W>(alloc, n, finished, writer)
 }

@@ -8,10 +8,10 @@ ghost use Rattle.jobs_csv.specs.Inner.Parse.{ReturnsParse};
 ghost use Rattle.jobs_csv.specs.Outcome.{ReturnsFile, ReturnsRows};
 ghost use Rattle.jobs_csv.specs.declared.fault.FaultKind.{FaultKind};
 
-use crate::device::Device;
 use crate::fault::{Fault, FaultKind};
 use crate::input::{self, MAX_RECORDS};
 use csv::{ByteRecord, Reader};
+use devices::Device;
 use std::alloc::{AllocError, Global};
 use std::io::Read;
 

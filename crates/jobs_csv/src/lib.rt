@@ -3,13 +3,12 @@
 //! `read_jobs`, `read_place` and `read_schedule` read a whole file and return its rows or its first
 //! fault; `read_lanes` returns the jobs lane by lane. One loop reads every format: a format checks
 //! a header and reads a record. One buffer writes every row: a `Row` has columns and fields, and
-//! `LineBuffer` writes their lines to a writer that is lent. A reader or writer is a `Device`,
-//! which counts its failed calls, and `Counted` makes one of any; a fault is the device's exactly
-//! where that count rose.
+//! `LineBuffer` writes their lines to a writer that is lent. A reader or writer is a `Device` of the
+//! crate `devices`, which counts its failed calls; a fault is the device's exactly where that count
+//! rose.
 #![tactic(auto)]
 
 mod columns;
-mod device;
 mod fault;
 mod fields;
 mod format;
@@ -30,7 +29,7 @@ mod schedule;
 mod writing;
 
 pub use cube_core::{Event, Refused};
-pub use device::{Counted, Device};
+pub use devices::{Counted, Device};
 pub use fault::{Fault, FaultKind, WriteStopped};
 pub use input::MAX_RECORDS;
 pub use job_types::{Job, JobRefused, Reply};

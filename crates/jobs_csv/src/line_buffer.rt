@@ -1,7 +1,6 @@
 // The lines of a file, buffered on their way to a writer that is lent.
 ghost use Rattle.std.specs.Prelude.{◌≡◌, [], ◌++◌, ℕ, List, IfOk, OnOk};
 ghost use Rattle.std.specs.Io.KnownBytes.{Appends, Keeps};
-ghost use Rattle.jobs_csv.specs.Inner.Output.{HasText, buffered, items_held};
 ghost use Rattle.jobs_csv.specs.Text.{line_of};
 
 use crate::fault::WriteStopped;
@@ -37,7 +36,7 @@ impl Model for LineBuffer {
 }
 
 // Writes out all of a text.
-pub(crate) fn write_out<W: Write>(text: &[u8], writer: &mut W) -> Result<(), WriteStopped>
+fn write_out<W: Write>(text: &[u8], writer: &mut W) -> Result<(), WriteStopped>
     ensures { OnOk result (Appends (W.contents writer.old) (W.contents writer.new) text.now) }
 {
     if writer.write_all(text).is_err() {
@@ -47,24 +46,13 @@ pub(crate) fn write_out<W: Write>(text: &[u8], writer: &mut W) -> Result<(), Wri
 }
 
 // Flushes the writer.
-pub(crate) fn flush_writer<W: Write>(writer: &mut W) -> Result<(), WriteStopped>
+fn flush_writer<W: Write>(writer: &mut W) -> Result<(), WriteStopped>
     ensures { OnOk result (Keeps (W.contents writer.old) (W.contents writer.new)) }
 {
     if writer.flush().is_err() {
         return Err(WriteStopped);
     }
     Ok(())
-}
-
-// The text that is buffered.
-fn text_of(buffer: Box<Writer<Vec<u8>>>) -> Result<Vec<u8>, AllocError>
-    requires { HasText items_held buffer.value (buffered buffer.value) }
-    ensures { IfOk result (λ text. text.items ≡ buffered buffer.value) }
-{
-    let Ok(text) = Box::into_inner(buffer).into_inner() else {
-        return Err(AllocError);
-    };
-    Ok(text)
 }
 
 impl LineBuffer {
@@ -125,7 +113,9 @@ impl LineBuffer {
             fields,
             alloc,
         } = self;
-        let mut text = text_of(buffer)?;
+        let Ok(mut text) = Box::into_inner(buffer).into_inner() else {
+            return Err(WriteStopped);
+        };
         write_out(&text, writer)?;
         text.clear();
         let Ok(writer) = Box::new(alloc, Writer::from_writer(text)) else {
@@ -136,13 +126,6 @@ impl LineBuffer {
             fields,
             alloc,
         })
-    }
-
-    /// The buffered lines.
-    pub fn into_text(self) -> Result<Vec<u8>, AllocError>
-        ensures { IfOk result (λ text. text.items ≡ self) }
-    {
-        text_of(self.writer)
     }
 
     /// Writes out the buffered lines, as `flush` does, if the buffer is full.

@@ -2,7 +2,7 @@
 use crate::file_fault::FileReason;
 use crate::target::{Target, followed};
 use crate::temporary_file::TemporaryFile;
-use jobs_csv::{Counted, Device};
+use devices::{Counted, Device};
 use std::fs::{Files, OpenFile};
 use std::io;
 use std::io::{ErrorKind, Read, Write};
@@ -31,7 +31,7 @@ impl<F: Read> Read for SystemReader<F> {
 }
 
 impl<F> Device for SystemReader<F> {
-    ghost use Rattle.jobs_csv.specs.Device.{failures_of};
+    ghost use Rattle.devices.specs.Device.{failures_of};
 
     ghost failures = { λ reader. failures_of reader.file };
 
@@ -143,7 +143,7 @@ impl<'a, H: Files<File: AsFd> + AllocGlobal> Write for SystemDraft<'a, H> {
 }
 
 impl<'a, H: Files> Device for SystemDraft<'a, H> {
-    ghost use Rattle.jobs_csv.specs.Device.{failures_of};
+    ghost use Rattle.devices.specs.Device.{failures_of};
 
     ghost failures = { λ draft. failures_of draft.file };
 

@@ -9,8 +9,8 @@ use jobs_csv::{
     read_lanes_with, read_place, read_schedule, write_rows,
 };
 use std::alloc::Global;
+use std::collections::VecDeque;
 use std::process::Abort;
-use std::thread::Threads;
 
 const JOBS: &[u8] = b"lane,kind,op,root,items\n";
 
@@ -52,7 +52,7 @@ fn is_of(job: &Job, item: Option<&u64>) -> bool {
 }
 
 // The jobs of a lane have these items, one each.
-fn expect_items(rt: &impl Abort, jobs: &[Job], wanted: &[u64]) {
+fn expect_items(rt: &impl Abort, jobs: &VecDeque<Job>, wanted: &[u64]) {
     expect_true(rt, jobs.len() == wanted.len());
     for (place, job) in jobs.iter().enumerate() {
         expect_true(rt, is_of(job, wanted.get(place)));
@@ -60,7 +60,7 @@ fn expect_items(rt: &impl Abort, jobs: &[Job], wanted: &[u64]) {
 }
 
 // The jobs of a file for a machine of dimension 3, lane by lane.
-fn lanes_of(alloc: Global, input: &[u8]) -> Result<Vec<Vec<Job>>, Fault> {
+fn lanes_of(alloc: Global, input: &[u8]) -> Result<Vec<VecDeque<Job>>, Fault> {
     read_lanes(alloc, 3, &mut Counted::new(input))
 }
 
@@ -82,7 +82,7 @@ fn items_of_lane(lane: usize) -> &'static [u64] {
 }
 
 // There are 16 lanes, of these jobs.
-fn expect_lanes(rt: &impl Abort, lanes: &[Vec<Job>]) {
+fn expect_lanes(rt: &impl Abort, lanes: &[VecDeque<Job>]) {
     expect_true(rt, lanes.len() == 16);
     for (lane, jobs) in lanes.iter().enumerate() {
         expect_items(rt, jobs, items_of_lane(lane));
@@ -111,15 +111,10 @@ fn first_answered(job: Job) -> Reply {
     answered(job, JobId { lane, seq: 0 })
 }
 
-// Whether the file of these replies, written by so many threads, is this.
-pub fn writes(
-    rt: &(impl AllocGlobal + Abort + Threads + Sync),
-    threads: usize,
-    replies: Vec<Reply>,
-    wanted: &[u8],
-) -> bool {
+// Whether the file of these replies is this.
+pub fn writes(rt: &(impl AllocGlobal + Abort), replies: Vec<Reply>, wanted: &[u8]) -> bool {
     let mut writer = Counted::new(Vec::new(rt.alloc()));
-    let answer = write_rows(rt, rt.alloc(), threads, replies, &mut writer);
+    let answer = write_rows(rt.alloc(), replies, &mut writer);
     (answer == Ok(())) & (writer.failures() == 0) & (writer.get_ref().as_slice() == wanted)
 }
 
@@ -133,20 +128,15 @@ fn replies_to(rt: &(impl AllocGlobal + Abort), n: u32, input: &[u8]) -> Vec<Repl
 }
 
 // These records of jobs, for a machine of dimension `n`, have replies with these records.
-fn expect_answer(
-    rt: &(impl AllocGlobal + Abort + Threads + Sync),
-    n: u32,
-    records: &str,
-    wanted: &str,
-) {
+fn expect_answer(rt: &(impl AllocGlobal + Abort), n: u32, records: &str, wanted: &str) {
     let replies = replies_to(rt, n, &joined(rt, JOBS, records.as_bytes()));
     let wanted = joined(rt, REPLIES, wanted.as_bytes());
-    expect_true(rt, writes(rt, 1, replies, &wanted));
+    expect_true(rt, writes(rt, replies, &wanted));
 }
 
 // Each row is the dimension of a machine, records of jobs for it and the records of their replies.
 // The records are of as many lanes as there are records.
-fn expect_replies(rt: &(impl AllocGlobal + Abort + Threads + Sync), rows: &[(u32, &str, &str)]) {
+fn expect_replies(rt: &(impl AllocGlobal + Abort), rows: &[(u32, &str, &str)]) {
     for (n, records, wanted) in rows {
         expect_answer(rt, *n, records, wanted);
     }

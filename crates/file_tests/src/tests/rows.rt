@@ -13,7 +13,6 @@ use jobs_csv::{
 };
 use std::io::Write;
 use std::process::Abort;
-use std::thread::Threads;
 
 // Puts a row behind these lines, and writes them out where that is asked.
 fn push_row<T: Row, W: Write>(
@@ -300,11 +299,7 @@ static TWO: [(u32, u64, &[u64]); 2] = [(1, 0, &[5, 6]), (1, 1, &[5, 6])];
 
 // A write of replies whose writer fails at this call, with an error or by taking nothing. Returns
 // whether the writer failed.
-fn fails_to_write(
-    rt: &(impl AllocGlobal + Abort + Threads + Sync),
-    calls: u64,
-    gives_zero: bool,
-) -> bool {
+fn fails_to_write(rt: &(impl AllocGlobal + Abort), calls: u64, gives_zero: bool) -> bool {
     let device = FailsAt {
         device: Vec::new(rt.alloc()),
         calls,
@@ -312,14 +307,14 @@ fn fails_to_write(
     };
     let mut writer = Counted::new(device);
     let two = replies_to(rt, job_types::Kind::AllReduce { op: Op::Add }, &TWO);
-    let answer = write_rows(rt, rt.alloc(), 2, two, &mut writer);
+    let answer = write_rows(rt.alloc(), two, &mut writer);
     let failed = writer.failures() != 0;
     expect_true(rt, tells(answer, failed, FaultKind::Write));
     failed
 }
 
 // Fourteen writes fail, each where its call does, and then a flush where it may fail.
-fn expect_failures(rt: &(impl AllocGlobal + Abort + Threads + Sync), gives_zero: bool) {
+fn expect_failures(rt: &(impl AllocGlobal + Abort), gives_zero: bool) {
     for calls in 0..14 {
         expect_true(rt, fails_to_write(rt, calls, gives_zero));
     }
@@ -334,7 +329,7 @@ fn reports_a_failed_write(rt: HostRuntime) {
     expect_failures(&rt, true);
 }
 
-// So many replies of lane 1, each to a broadcast of its own number.
+// This many replies of lane 1, each to a broadcast of its own number.
 fn many_replies(rt: &(impl AllocGlobal + Abort), count: u64) -> Vec<Reply> {
     let mut replies = Vec::new(rt.alloc());
     for seq in 0..count {
@@ -346,22 +341,16 @@ fn many_replies(rt: &(impl AllocGlobal + Abort), count: u64) -> Vec<Reply> {
     replies
 }
 
-// Whether so many replies are written by so many threads.
-fn writes_many(
-    rt: &(impl AllocGlobal + Abort + Threads + Sync),
-    threads: usize,
-    count: u64,
-) -> bool {
+// Whether this many replies are written.
+fn writes_many(rt: &(impl AllocGlobal + Abort), count: u64) -> bool {
     let wanted = replies_text(rt, "1", "broadcast", true, count);
-    writes(rt, threads, many_replies(rt, count), wanted.as_bytes())
+    writes(rt, many_replies(rt, count), wanted.as_bytes())
 }
 
-// A part has 64 rows at first, and then 128, and so on: none, one, a whole part, and some more than parts.
+// The lines of the last count fill the buffer of 65,536 bytes twice.
 #[test]
-fn any_number_of_threads_writes_the_same(rt: HostRuntime) {
-    for threads in [0, 1, 2, 3, 16] {
-        for count in [0, 1, 64, 65, 1_000] {
-            expect_true(&rt, writes_many(&rt, threads, count));
-        }
+fn writes_any_number_of_replies(rt: HostRuntime) {
+    for count in [0, 1, 64, 65, 1_000, 6_000] {
+        expect_true(&rt, writes_many(&rt, count));
     }
 }

@@ -2,25 +2,25 @@
 ghost use Rattle.std.specs.Prelude.{◌≡◌, ℕ, length, is_err};
 ghost use Rattle.std.specs.Io.{ReadsAtMost, WritesAtMost};
 ghost use Rattle.std.specs.Io.KnownBytes.{Keeps, ReadConsumes, WriteAppends};
-ghost use Rattle.jobs_csv.specs.Device.{device_of, failures_of, is_failed_write, count_failure};
+ghost use Rattle.devices.specs.Device.{device_of, failures_of, is_failed_write, count_failure};
 
 use std::io;
 use std::io::{Read, Write};
 
 /// A reader or a writer that counts its failed calls.
 pub trait Device {
-    // How many calls have failed.
+    // The number of calls that have failed.
     ghost failures: { Self → ℕ };
 
-    /// How many of its calls have failed. The count saturates at `u64::MAX`.
+    /// Returns how many calls have failed. The count stops at `u64::MAX`.
     fn failures(&self) -> u64
         ensures { result ≡ failures self.now };
 }
 
 /// A reader or a writer with a count of its failed calls.
 ///
-/// A write that takes no byte of a piece that is not empty has failed, as has any call that gives
-/// an error.
+/// A call has failed where it returns an error. A write has failed too where it takes no byte of a
+/// piece that is not empty.
 #[derive(Drop)]
 pub struct Counted<D> {
     device: D,
@@ -28,7 +28,7 @@ pub struct Counted<D> {
 }
 
 impl<D> Counted<D> {
-    /// No call has failed yet.
+    /// Counts the failed calls of this reader or writer, from 0 on.
     pub fn new(device: D) -> Self
         ensures device { device_of result ≡ device }
         ensures failures { failures_of result ≡ 0 }
@@ -36,14 +36,14 @@ impl<D> Counted<D> {
         Counted { device, failed: 0 }
     }
 
-    /// The reader or writer itself.
+    /// Returns the reader or writer itself.
     pub fn get_ref(&self) -> &D
         ensures { result.now ≡ device_of self.now }
     {
         &self.device
     }
 
-    // Counts a call that has failed.
+    // Counts one call more where it has failed.
     fn count_if(&mut self, has_failed: bool)
         ensures failures { failures_of self.new ≡ count_failure has_failed (failures_of self.old) }
         ensures device { device_of self.new ≡ device_of self.old }
