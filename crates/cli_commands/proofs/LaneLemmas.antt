@@ -122,4 +122,4 @@ for_lane n lane (job ∷ jobs) all =
     ]
 
 pub made_for : (n : ℕ) (lists : List (List JobData)) (jobs : List JobData) → AreOpenLanes lists jobs → All (λ job. job.machine ≡ n) jobs → (lane : ℕ) → lane < length lists → All (IsFor n lane) (slice_index_or lists lane [])
-made_for n lists jobs opens all lane lt = subst (All (IsFor n lane)) (sym (opens.each lane lt)) (for_lane n lane jobs all)
+made_for n held jobs opens all lane lt = subst (All (IsFor n lane)) (sym (opens.each lane lt)) (for_lane n lane jobs all)

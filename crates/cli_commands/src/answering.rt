@@ -56,13 +56,13 @@ where
     P: Write + Send + Drop + 'static,
     requires { IsWithinLimits task.invocation }
     ensures answered { IfSome (R.remaining reader.old) (λ bytes.
-        IsAnswerTo task.invocation bytes
+        IsAnswerTo task.entry.invocation bytes
         (W.contents writer.old) (W.contents writer.new) result) }
     ensures failed { IfErr result
         (IsFaultOf (R.failures reader.old) (R.failures reader.new)
-        (W.failures writer.old) (W.failures writer.new) task.invocation) }
+        (W.failures writer.old) (W.failures writer.new) task.entry.invocation) }
     ensures untouched { IfErr result (λ fault. IsMetBeforeWriting fault → writer.new ≡ writer.old) }
-    ensures shown { (terminal.new ≡ terminal.old) ⊎ ShowsProgress task.invocation }
+    ensures shown { (terminal.new ≡ terminal.old) ⊎ ShowsProgress task.entry.invocation }
 {
     let Task { invocation, runner } = task;
     match invocation {

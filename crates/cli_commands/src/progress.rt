@@ -233,14 +233,14 @@ impl Observer for RecordProgress<'_> {
 
 /// A runner that answers jobs by another one. It counts the replies if there is a line of progress.
 #[derive(Drop)]
-pub struct ReplyProgress<'a, T> {
+pub struct ReplyProgress<'a, 'b, T> {
     /// The runner that answers the jobs.
     pub runner: &'a T,
     /// Where the replies are counted.
-    pub counts: Option<&'a Counts>,
+    pub counts: Option<&'b Counts>,
 }
 
-impl<T: Runner> Runner for ReplyProgress<'_, T> {
+impl<T: Runner> Runner for ReplyProgress<'_, '_, T> {
     fn run<R: Wait>(&self, rt: &R, id: JobId, region: Region, job: Job) -> Reply {
         let reply = self.runner.run(rt, id, region, job);
         if let Some(counts) = self.counts {

@@ -1,15 +1,18 @@
-use Rattle.std.proofs.Common.{inl, refl}
+use Rattle.std.proofs.Common.{IfSome, Result, sym, subst}
 use Rattle.jobs_csv.specs.Jobs.{parse_jobs}
+use Rattle.crew.specs.declared.running.RunEnd.{RunEnd}
+use Rattle.cli_commands.specs.FileRun.{ReturnsRun}
+use Rattle.cli_commands.specs.declared.shop.Unanswered.{Unanswered}
 use Rattle.cli_commands.proofs.RunLemmas.{fault_unanswered, where_known}
 use Rattle.cli_commands.proofs.shop.answer_file.Goals as goal
-
-pub returns-in-Err-clause-answered : goal.returns-in-Err-clause-answered
-returns-in-Err-clause-answered g c = fault_unanswered g.F.Floor.machine_words c.args.n (g.R.Read.remaining c.args.reader.now)
-    c.in-Err.fault c.in-Err.ensures.parse
-
-pub returns-in-Err-clause-failed : goal.returns-in-Err-clause-failed
-returns-in-Err-clause-failed g c = inl (c.in-Err.ensures.failed, refl)
+use Rattle.cli_commands.proofs.shop.answer_file.Goals.{in-Ok, in-Err}
 
 pub returns-clause-answered : goal.returns-clause-answered
-returns-clause-answered g c = where_known (g.R.Read.remaining c.args.reader.now) _ _
-    (λ bytes. c.answer_lanes.ensures.answered (parse_jobs c.args.n bytes)) c.in-Ok.ensures.parse
+returns-clause-answered g c =
+    let dim = c.args.options.sizes.dim in
+    elim c.match-read_lanes_with.branch [
+      | in-Ok w ↦ subst (λ (a : Result (RunEnd _) (Unanswered _)). IfSome (g.R.Read.remaining c.args.reader.now) (λ bytes. ReturnsRun g.F.Floor.machine_words dim (parse_jobs dim bytes) a)) (sym w.answer-is)
+        (where_known (g.R.Read.remaining c.args.reader.now) _ _ (λ bytes. w.answer_lanes-answer.ensures.answered (parse_jobs dim bytes)) w.in-Ok.ensures.parse)
+      | in-Err w ↦ subst (λ (a : Result (RunEnd _) (Unanswered _)). IfSome (g.R.Read.remaining c.args.reader.now) (λ bytes. ReturnsRun g.F.Floor.machine_words dim (parse_jobs dim bytes) a)) (sym w.answer-is)
+        (fault_unanswered g.F.Floor.machine_words dim (g.R.Read.remaining c.args.reader.now) w.in-Err.fault w.in-Err.ensures.parse)
+    ]
