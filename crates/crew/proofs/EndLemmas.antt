@@ -5,9 +5,12 @@ use Rattle.std.specs.declared.collections.VecDeque.{VecDeque}
 use Rattle.job_types.specs.Job.{JobData}
 use Rattle.job_queue.specs.declared.record.LaneRecord.{LaneRecord}
 use Rattle.dispatcher.specs.declared.feeding.FeedStop.{FeedStop}
+use Rattle.dispatcher.specs.declared.opening.ShopSizes.{ShopSizes}
+use Rattle.dispatcher.specs.Shop.{ShopId, HasSizes}
 use Rattle.crew.specs.declared.running.LaneEnd.{LaneEnd}
 use Rattle.crew.specs.declared.running.Unfed.{Unfed}
 use Rattle.crew.specs.InnerEnd.{unfed_of, counted_end}
+use Rattle.crew.specs.InnerNaming.{sizes_of}
 
 -- what is known of a lane, by its number and its entries
 abbrev unfed : ℕ → ℕ → Option JobData → VecDeque JobData Global → Option FeedStop → Unfed
@@ -24,3 +27,12 @@ counted u k = record { lane = u.lane; accepted = k; entries = u.entries; back = 
 
 pub counted_is : (counts : List ℕ) (u : Unfed) (k : ℕ) → k ≡ slice_index counts u.lane → counted u k ≡ counted_end counts u
 counted_is counts u k count = ap (counted u) count
+
+-- the sizes of a shop are those that were asked for
+abbrev sized : ℕ → ℕ → ℕ → ShopSizes
+sized dim dispatchers capacity = record { dim = dim; dispatchers = dispatchers; capacity = capacity }
+
+pub sizes_are : (asked : ShopSizes) (lanes : ℕ) (shop : ShopId) → HasSizes asked.dim lanes asked.dispatchers asked.capacity shop → sizes_of shop ≡ asked
+sizes_are asked lanes shop has =
+    ap (λ (k : ℕ). sized k shop.line.sizes.passes shop.line.sizes.capacity) has.dim
+    ∙ (ap (λ (k : ℕ). sized asked.dim k shop.line.sizes.capacity) has.workers ∙ ap (λ (k : ℕ). sized asked.dim asked.dispatchers k) has.holds)

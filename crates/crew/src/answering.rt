@@ -11,7 +11,8 @@ ghost use Rattle.crew.specs.Done.{is_cut_off, is_spent, is_idle, reason_of, IsDo
 ghost use Rattle.crew.specs.Stopped.{MatchStopped};
 
 use crate::running::{LaneEnd, RunEnd, run};
-use dispatcher::{FeedStop, Runner, ShopRefused, Stop};
+use crate::shared::{SharedFloor, SharedLine};
+use dispatcher::{FeedStop, Runner, ShopRefused, ShopSizes, Stop};
 use floors::Floor;
 use job_queue::JobLine;
 use job_types::Job;
@@ -152,57 +153,52 @@ fn batch_of<M>(
 /// Each job then has one right reply, and the machine is wholly free. Where that is not so, nothing is
 /// lost: the error is the first size that is not within its limits, or `OutOfMemory`, with the jobs, or
 /// it is what became of a run in which a thread or memory was refused, or a lane was spent.
-pub fn answer_all<R: Threads + Wait + Sync, L: JobLine + Sync, F: Floor + Sync, T: Runner + Sync>(
+pub fn answer_all<
+    R: Threads + Wait + Sync,
+    L: JobLine + SharedLine,
+    F: Floor + SharedFloor,
+    T: Runner + Sync,
+>(
     rt: &R,
     alloc: Global,
-    n: u32,
-    dispatchers: u32,
-    capacity: usize,
+    sizes: ShopSizes,
     runner: &T,
     jobs: Vec<VecDeque<Job>>,
 ) -> Result<RunEnd<F::Machine>, Stopped<F::Machine>>
-where
-    L::Lane: Send,
-    L::Pass: Send,
-    L::End: Send,
-    L::Closer: Send,
-    L::Note: Send,
-    F::Station: Send,
-    F::Machine: Drop,
     requires lanes { length jobs.items < 2 ^ 32 }
     requires made_for { (k : ℕ) → k < length jobs.items →
-        All (IsFor n k) (slice_index_or (map (λ js. js.items) jobs.items) k []) }
-    ensures run { IfOk result (IsRun F.machine_words n (map (λ js. js.items) jobs.items)) }
+        All (IsFor sizes.dim k) (slice_index_or (map (λ js. js.items) jobs.items) k []) }
+    ensures run { IfOk result (IsRun F.machine_words sizes.dim (map (λ js. js.items) jobs.items)) }
     ensures ran_in { IfOk result
-        (RanIn L.JobLine F.Floor n (length jobs.items) dispatchers capacity) }
+        (RanIn L.JobLine F.Floor sizes (length jobs.items)) }
     ensures done { IfOk result (λ end. IsDone end) }
-    ensures answers { IfOk result (λ end. AnswersAll n (map (λ js. js.items) jobs.items)
+    ensures answers { IfOk result (λ end. AnswersAll sizes.dim (map (λ js. js.items) jobs.items)
         (by_worker_of end) end.finished.rest.items) }
     ensures accepted { IfOk result (λ end.
         end.finished.accepted.items ≡ map (λ js. length js.items) jobs.items) }
-    ensures workers { IfOk result (λ end. length end.finished.by_worker.items ≡ dispatchers) }
-    ensures dim { IfOk result (λ end. F.machine_dim end.finished.machine ≡ n) }
-    ensures closed { IfOk result (λ end. F.is_closed dispatchers end.finished.machine) }
+    ensures workers { IfOk result (λ end. length end.finished.by_worker.items ≡ sizes.dispatchers) }
+    ensures dim { IfOk result (λ end. F.machine_dim end.finished.machine ≡ sizes.dim) }
+    ensures closed { IfOk result (λ end. F.is_closed sizes.dispatchers end.finished.machine) }
     ensures sizes { IfOk result (λ end.
-        refusal_of n (length jobs.items) dispatchers capacity ≡ None) }
+        refusal_of sizes.dim (length jobs.items) sizes.dispatchers sizes.capacity ≡ None) }
     ensures refused { IfErr result (λ stopped. MatchStopped stopped
         (λ why back. (why ≢ ShopRefused.OutOfMemory →
-        refusal_of n (length jobs.items) dispatchers capacity ≡ Some why)
+        refusal_of sizes.dim (length jobs.items) sizes.dispatchers sizes.capacity ≡ Some why)
         × (why ≡ ShopRefused.OutOfMemory →
-        refusal_of n (length jobs.items) dispatchers capacity ≡ None)
+        refusal_of sizes.dim (length jobs.items) sizes.dispatchers sizes.capacity ≡ None)
         × (back.items ≡ jobs.items))
-        (λ why end. refusal_of n (length jobs.items) dispatchers capacity ≡ None)) }
+        (λ why end. refusal_of sizes.dim (length jobs.items) sizes.dispatchers sizes.capacity ≡ None)) }
     ensures unfinished { IfErr result (λ stopped. MatchStopped stopped (λ why back. ⊤)
-        (λ why end. IsRun F.machine_words n (map (λ js. js.items) jobs.items) end)) }
+        (λ why end. IsRun F.machine_words sizes.dim (map (λ js. js.items) jobs.items) end)) }
     ensures unfinished_ran_in { IfErr result (λ stopped. MatchStopped stopped (λ why back. ⊤)
-        (λ why end. RanIn L.JobLine F.Floor n (length jobs.items) dispatchers capacity end)) }
+        (λ why end. RanIn L.JobLine F.Floor sizes (length jobs.items) end)) }
     ensures unfinished_workers { IfErr result (λ stopped. MatchStopped stopped (λ why back. ⊤)
-        (λ why end. length end.finished.by_worker.items ≡ dispatchers)) }
+        (λ why end. length end.finished.by_worker.items ≡ sizes.dispatchers)) }
     ensures reason { IfErr result (λ stopped. MatchStopped stopped (λ why back. ⊤)
         (λ why end. why ≡ reason_of end)) }
     ensures not_done { IfErr result (λ stopped. MatchStopped stopped (λ why back. ⊤)
         (λ why end. ¬ IsDone end)) }
 {
-    let ran = run::<R, L, F, T>(rt, alloc, n, dispatchers, capacity, runner, jobs);
+    let ran = run::<R, L, F, T>(rt, alloc, sizes, runner, jobs);
     batch_of(ran)
 }

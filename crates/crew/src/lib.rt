@@ -9,8 +9,10 @@ mod gang;
 mod member;
 mod ready;
 mod running;
+mod shared;
 mod slots;
 mod threads;
 
 pub use answering::{StopReason, Stopped, answer_all};
 pub use running::{LaneEnd, RunEnd, run};
+pub use shared::{SharedFloor, SharedLine};

@@ -10,7 +10,7 @@ ghost use Rattle.dispatcher.specs.Members.{IsWorkerOf, IsCloserOf};
 
 use crate::member::Fed;
 use crate::running::{LaneEnd, Unfed};
-use dispatcher::{Opened, Shop, ShopRefused, Stop, WorkerEnd, refusal};
+use dispatcher::{Opened, Shop, ShopRefused, ShopSizes, Stop, WorkerEnd, refusal};
 use floors::Floor;
 use job_queue::JobLine;
 use job_types::Job;
@@ -111,19 +111,18 @@ pub struct Ready<L: JobLine, F: Floor> {
 // Opens a shop with a lane for each list of jobs. An error gives the jobs back.
 pub fn make_ready<L: JobLine, F: Floor>(
     alloc: Global,
-    n: u32,
-    dispatchers: u32,
-    capacity: usize,
+    sizes: ShopSizes,
     jobs: Vec<VecDeque<Job>>,
 ) -> Result<Ready<L, F>, (ShopRefused, Vec<VecDeque<Job>>)>
 where
     F::Machine: Drop,
     requires lanes { length jobs.items < 2 ^ 32 }
     requires made_for { (k : ℕ) → k < length jobs.items →
-        All (IsFor n k) (slice_index_or (map (λ js. js.items) jobs.items) k []) }
+        All (IsFor sizes.dim k) (slice_index_or (map (λ js. js.items) jobs.items) k []) }
     ensures jobs { IfOk result (λ ready. ready.jobs ≡ jobs) }
     ensures sizes { IfOk result (λ ready.
-        HasSizes n (length jobs.items) dispatchers capacity ready.opened.shop) }
+        HasSizes sizes.dim (length jobs.items) sizes.dispatchers sizes.capacity
+        ready.opened.shop) }
     ensures lanes { IfOk result (λ ready.
         All (L.is_lane ready.opened.shop.line) ready.opened.lanes.items) }
     ensures workers { IfOk result (λ ready.
@@ -131,21 +130,26 @@ where
     ensures closer { IfOk result (λ ready.
         IsCloserOf L.JobLine ready.opened.shop ready.opened.closer) }
     ensures accepted { IfOk result (λ ready.
-        refusal_of n (length jobs.items) dispatchers capacity ≡ None) }
+        refusal_of sizes.dim (length jobs.items) sizes.dispatchers sizes.capacity ≡ None) }
     ensures refused { IfErr result (λ r. r.0 ≢ ShopRefused.OutOfMemory →
-        refusal_of n (length jobs.items) dispatchers capacity ≡ Some r.0) }
+        refusal_of sizes.dim (length jobs.items) sizes.dispatchers sizes.capacity ≡ Some r.0) }
     ensures memory_last { IfErr result (λ r. r.0 ≡ ShopRefused.OutOfMemory →
-        refusal_of n (length jobs.items) dispatchers capacity ≡ None) }
+        refusal_of sizes.dim (length jobs.items) sizes.dispatchers sizes.capacity ≡ None) }
     ensures gives_back { IfErr result (λ r. r.1.items ≡ jobs.items) }
 {
     let lanes = jobs.len() as u32;
-    if let Some(refused) = refusal(n, lanes, dispatchers, capacity) {
+    let ShopSizes {
+        dim,
+        dispatchers,
+        capacity,
+    } = sizes;
+    if let Some(refused) = refusal(dim, lanes, dispatchers, capacity) {
         return Err((refused, jobs));
     }
     let Ok(room) = MemberRoom::new(alloc, dispatchers as usize, jobs.len()) else {
         return Err((ShopRefused::OutOfMemory, jobs));
     };
-    match Shop::open(alloc, n, lanes, dispatchers, capacity) {
+    match Shop::open(alloc, dim, lanes, dispatchers, capacity) {
         Ok(opened) => Ok(Ready { opened, jobs, room }),
         Err(refused) => {
             room.let_go();

@@ -8,6 +8,7 @@ ghost use Rattle.job_queue.specs.Line.{IsFor};
 ghost use Rattle.dispatcher.specs.Opening.{refusal_of};
 ghost use Rattle.dispatcher.specs.Members.{IsWorkerOf, IsEndOf, IsCloserOf, IsNoteOf, stop_of};
 ghost use Rattle.dispatcher.specs.Stop.{given_back};
+ghost use Rattle.crew.specs.InnerNaming.{sizes_of};
 ghost use Rattle.crew.specs.InnerStop.{StopsBy};
 ghost use Rattle.crew.specs.InnerEnd.{unfed_of, counted_end};
 ghost use Rattle.crew.specs.Run.{IsRun};
@@ -16,10 +17,11 @@ ghost use Rattle.crew.specs.Members.{RanIn};
 use crate::gang::Gang;
 use crate::member::{Door, Fed, Naming};
 use crate::ready::{EndRoom, MemberRoom, Ready, make_ready};
+use crate::shared::{SharedFloor, SharedLine};
 use crate::slots::{man_feeders, man_posts, relieve_feeders, relieve_posts};
 use crate::threads::run_threads;
 use dispatcher::{
-    CloseNote, FeedStop, Finished, Opened, Runner, Shop, ShopRefused, Stop, WorkerEnd,
+    CloseNote, FeedStop, Finished, Opened, Runner, Shop, ShopRefused, ShopSizes, Stop, WorkerEnd,
 };
 use floors::Floor;
 use job_queue::JobLine;
@@ -212,8 +214,7 @@ fn told<J: Naming, R: Wait, L: JobLine, F: Floor, T: Runner>(
     ensures run { (jobs : List (List JobData)) → length jobs ≡ J.shop.line.sizes.lanes →
         ((k : ℕ) → slice_index_or jobs k [] ≡ J.jobs k) →
         IsRun F.machine_words J.shop.floor.dim jobs result }
-    ensures ran_in { RanIn L.JobLine F.Floor J.shop.floor.dim J.shop.line.sizes.lanes
-        J.shop.line.sizes.passes J.shop.line.sizes.capacity result }
+    ensures ran_in { RanIn L.JobLine F.Floor (sizes_of J.shop) J.shop.line.sizes.lanes result }
     ensures workers { length result.finished.by_worker.items ≡ J.shop.line.sizes.passes }
     ensures dim { F.machine_dim result.finished.machine ≡ J.shop.floor.dim }
     ensures closed { F.is_closed J.shop.line.sizes.passes result.finished.machine }
@@ -246,17 +247,10 @@ fn told<J: Naming, R: Wait, L: JobLine, F: Floor, T: Runner>(
 fn run_named<
     J: Naming + Send + Sync,
     R: Threads + Wait + Sync,
-    L: JobLine + Sync,
-    F: Floor + Sync,
+    L: JobLine + SharedLine,
+    F: Floor + SharedFloor,
     T: Runner + Sync,
 >(rt: &R, alloc: Global, runner: &T, ready: Ready<L, F>) -> RunEnd<F::Machine>
-where
-    L::Lane: Send,
-    L::Pass: Send,
-    L::End: Send,
-    L::Closer: Send,
-    L::Note: Send,
-    F::Station: Send,
     requires shop { ready.opened.shop ≡ J.shop }
     requires jobs { (k : ℕ) →
         slice_index_or (map (λ js. js.items) ready.jobs.items) k [] ≡ J.jobs k }
@@ -265,8 +259,7 @@ where
     requires closer { IsCloserOf L.JobLine ready.opened.shop ready.opened.closer }
     ensures run { IsRun F.machine_words J.shop.floor.dim
         (map (λ js. js.items) ready.jobs.items) result }
-    ensures ran_in { RanIn L.JobLine F.Floor J.shop.floor.dim J.shop.line.sizes.lanes
-        J.shop.line.sizes.passes J.shop.line.sizes.capacity result }
+    ensures ran_in { RanIn L.JobLine F.Floor (sizes_of J.shop) J.shop.line.sizes.lanes result }
     ensures workers { length result.finished.by_worker.items ≡ J.shop.line.sizes.passes }
     ensures dim { F.machine_dim result.finished.machine ≡ J.shop.floor.dim }
     ensures closed { F.is_closed J.shop.line.sizes.passes result.finished.machine }
@@ -330,40 +323,35 @@ where
 /// for one more reply: the shop closes early, and some jobs may not be handed in. A worker without a
 /// thread has stopped as `NotRun`, and a lane without one has no stop. An error gives the jobs back; it
 /// is the first size that is not within its limits, or `OutOfMemory`.
-pub fn run<R: Threads + Wait + Sync, L: JobLine + Sync, F: Floor + Sync, T: Runner + Sync>(
+pub fn run<
+    R: Threads + Wait + Sync,
+    L: JobLine + SharedLine,
+    F: Floor + SharedFloor,
+    T: Runner + Sync,
+>(
     rt: &R,
     alloc: Global,
-    n: u32,
-    dispatchers: u32,
-    capacity: usize,
+    sizes: ShopSizes,
     runner: &T,
     jobs: Vec<VecDeque<Job>>,
 ) -> Result<RunEnd<F::Machine>, (ShopRefused, Vec<VecDeque<Job>>)>
-where
-    L::Lane: Send,
-    L::Pass: Send,
-    L::End: Send,
-    L::Closer: Send,
-    L::Note: Send,
-    F::Station: Send,
-    F::Machine: Drop,
     requires lanes { length jobs.items < 2 ^ 32 }
     requires made_for { (k : ℕ) → k < length jobs.items →
-        All (IsFor n k) (slice_index_or (map (λ js. js.items) jobs.items) k []) }
-    ensures run { IfOk result (IsRun F.machine_words n (map (λ js. js.items) jobs.items)) }
-    ensures ran_in { IfOk result
-        (RanIn L.JobLine F.Floor n (length jobs.items) dispatchers capacity) }
-    ensures workers { IfOk result (λ end. length end.finished.by_worker.items ≡ dispatchers) }
-    ensures dim { IfOk result (λ end. F.machine_dim end.finished.machine ≡ n) }
-    ensures closed { IfOk result (λ end. F.is_closed dispatchers end.finished.machine) }
+        All (IsFor sizes.dim k) (slice_index_or (map (λ js. js.items) jobs.items) k []) }
+    ensures run { IfOk result (IsRun F.machine_words sizes.dim (map (λ js. js.items) jobs.items)) }
+    ensures ran_in { IfOk result (RanIn L.JobLine F.Floor sizes (length jobs.items)) }
+    ensures workers { IfOk result (λ end.
+        length end.finished.by_worker.items ≡ sizes.dispatchers) }
+    ensures dim { IfOk result (λ end. F.machine_dim end.finished.machine ≡ sizes.dim) }
+    ensures closed { IfOk result (λ end. F.is_closed sizes.dispatchers end.finished.machine) }
     ensures accepted { IfOk result (λ end.
-        refusal_of n (length jobs.items) dispatchers capacity ≡ None) }
+        refusal_of sizes.dim (length jobs.items) sizes.dispatchers sizes.capacity ≡ None) }
     ensures refused { IfErr result (λ r. r.0 ≢ ShopRefused.OutOfMemory →
-        refusal_of n (length jobs.items) dispatchers capacity ≡ Some r.0) }
+        refusal_of sizes.dim (length jobs.items) sizes.dispatchers sizes.capacity ≡ Some r.0) }
     ensures memory_last { IfErr result (λ r. r.0 ≡ ShopRefused.OutOfMemory →
-        refusal_of n (length jobs.items) dispatchers capacity ≡ None) }
+        refusal_of sizes.dim (length jobs.items) sizes.dispatchers sizes.capacity ≡ None) }
     ensures gives_back { IfErr result (λ r. r.1.items ≡ jobs.items) }
 {
-    let ready = make_ready::<L, F>(alloc, n, dispatchers, capacity, jobs)?;
+    let ready = make_ready::<L, F>(alloc, sizes, jobs)?;
     Ok(run_named::<Brand, R, L, F, T>(rt, alloc, runner, ready))
 }

@@ -6,8 +6,8 @@ mod lists;
 mod words;
 
 use crate::outcome::{Measured, Stopped, nanos_since};
-use crew::{RunEnd, run};
-use cube_shape::MAX_LANES;
+use crew::{RunEnd, SharedFloor, SharedLine, run};
+use cube_shape::{MAX_DIM, MAX_LANES};
 use dispatcher::{Finished, Plain, ShopRefused};
 use floors::Floor;
 use job_queue::JobLine;
@@ -23,7 +23,7 @@ use std::sync::Wait;
 use std::thread::Threads;
 use std::time::Instant;
 use tree_floor::TreeFloor;
-use words::{DIM, Invocation, parse_words};
+use words::{Invocation, parse_words};
 
 // How many replies there are.
 fn reply_count<M>(finished: &Finished<M>) -> u64 {
@@ -48,32 +48,17 @@ fn measured_of<M>(
 
 // Runs a new shop over this line and this floor: how many jobs have a reply, and the nanoseconds from
 // the opening of the shop to its end.
-fn run_shop<R: Threads + Wait + Sync + Clock, L: JobLine + Sync, F: Floor + Sync>(
+fn run_shop<R: Threads + Wait + Sync + Clock, L: JobLine + SharedLine, F: Floor + SharedFloor>(
     rt: &R,
     alloc: Global,
     invocation: Invocation,
 ) -> Option<Measured>
-where
-    L::Lane: Send,
-    L::Pass: Send,
-    L::End: Send,
-    L::Closer: Send,
-    L::Note: Send,
-    F::Station: Send,
-    F::Machine: Drop,
-    requires { invocation.lanes ≤ MAX_LANES }
+    requires lanes { invocation.lanes ≤ MAX_LANES }
+    requires dim { invocation.sizes.dim ≤ MAX_DIM }
 {
     let lists = jobs_of_all(alloc, invocation)?;
     let start = Instant::now(rt);
-    let ran = run::<R, L, F, Plain>(
-        rt,
-        alloc,
-        DIM,
-        invocation.dispatchers,
-        invocation.capacity,
-        &Plain,
-        lists,
-    );
+    let ran = run::<R, L, F, Plain>(rt, alloc, invocation.sizes, &Plain, lists);
     let nanos = nanos_since(rt, start);
     measured_of(alloc, &ran, nanos)
 }
@@ -84,7 +69,8 @@ fn measure_shop<R: Threads + Wait + Sync + Clock>(
     alloc: Global,
     invocation: Invocation,
 ) -> Option<Measured>
-    requires { invocation.lanes ≤ MAX_LANES }
+    requires lanes { invocation.lanes ≤ MAX_LANES }
+    requires dim { invocation.sizes.dim ≤ MAX_DIM }
 {
     if invocation.is_free {
         run_shop::<R, RuledLine, TreeFloor>(rt, alloc, invocation)

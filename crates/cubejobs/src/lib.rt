@@ -15,8 +15,8 @@ pub use cube_ledger::{Ledger, Totals};
 pub use cube_occupancy::{Occupancy, occupancy};
 pub use cube_shape::{MAX_CAPACITY, MAX_DIM, MAX_DISPATCHERS, MAX_LANES};
 pub use dispatcher::{
-    CloseNote, Closer, FeedEnd, FeedStop, Finished, Opened, Plain, Runner, Shop, ShopRefused, Stop,
-    Worker, WorkerEnd, dispatch, dispatch_some, feed, feed_for, sorted_replies,
+    CloseNote, Closer, FeedEnd, FeedStop, Finished, Opened, Plain, Runner, Shop, ShopRefused,
+    ShopSizes, Stop, Worker, WorkerEnd, dispatch, dispatch_some, feed, feed_for, sorted_replies,
 };
 pub use job_types::{Job, JobId, JobRefused, Kind, Op, Region, Reply, Tally};
 pub use ruled_line::RuledLine;

@@ -25,7 +25,7 @@ pub use dispatching::{dispatch, dispatch_some};
 pub use feeding::{FeedEnd, FeedStop, feed, feed_for, wait_for_room};
 pub use finishing::Finished;
 pub use floors::Floor;
-pub use opening::{Opened, ShopRefused, refusal};
+pub use opening::{Opened, ShopRefused, ShopSizes, refusal};
 pub use runner::{Plain, Runner};
 pub use shop::Shop;
 pub use sorting::sorted_replies;

@@ -11,7 +11,7 @@ ghost use Rattle.uses.specs.Processors.{processors_in};
 
 use crew::{RunEnd, answer_all};
 use cube_ledger::Ledger;
-use dispatcher::{Finished, Runner};
+use dispatcher::{Finished, Runner, ShopSizes};
 use job_types::Job;
 use ruled_line::RuledLine;
 use std::alloc::Global;
@@ -42,7 +42,12 @@ pub fn answer_and_count<R: Threads + Wait + Sync, T: Runner + Sync>(
         ≡ processors_in (map (λ replies. replies.items) answered.0.by_worker.items)
         answered.0.rest.items) }
 {
-    let Ok(end) = answer_all::<R, RuledLine, TreeFloor, T>(rt, alloc, n, 4, 16, runner, jobs) else {
+    let sizes = ShopSizes {
+        dim: n,
+        dispatchers: 4,
+        capacity: 16,
+    };
+    let Ok(end) = answer_all::<R, RuledLine, TreeFloor, T>(rt, alloc, sizes, runner, jobs) else {
         return None;
     };
     let RunEnd { finished, .. } = end;

@@ -16,6 +16,8 @@ use std::time::Instant;
 #[derive(Drop)]
 pub struct Timed<T> {
     pub jobs: T,
+    /// The number of calls that are to have success.
+    pub wanted: usize,
     pub times: Option<Vec<u64>>,
 }
 

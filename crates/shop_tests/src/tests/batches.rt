@@ -1,12 +1,12 @@
 //! Batches: over the line and the floor with no lock, and over the two locks.
-ghost use Rattle.std.specs.Prelude.{◌≤◌};
+ghost use Rattle.std.specs.Prelude.{◌≡◌, ◌≤◌};
 
 use crate::tests::at_rest::AtRest;
 use crate::tests::expect::expect_all;
-use crate::tests::over::{BOTH, Over};
-use crew::{RunEnd, Stopped, answer_all};
+use crate::tests::over::{Asked, BOTH, Over, sizes};
+use crew::{RunEnd, SharedFloor, SharedLine, Stopped, answer_all};
 use cube_shape::MAX_LANES;
-use dispatcher::{Finished, Plain, Runner, ShopRefused, sorted_replies};
+use dispatcher::{Finished, Plain, Runner, ShopRefused, ShopSizes, sorted_replies};
 use floors::Floor;
 use job_queue::JobLine;
 use job_types::{JobId, Reply};
@@ -72,49 +72,37 @@ fn batch_from<M: Drop + AtRest>(
 }
 
 // The batch of these jobs, over this line and this floor.
-fn batch_of<R: Threads + Wait + Abort + Sync, L: JobLine + Sync, F: Floor + Sync, T: Runner + Sync>(
-    rt: &R,
-    alloc: Global,
-    lanes: u32,
-    plan: Plan,
-    sizes: (u32, usize),
-    runner: &T,
-) -> Result<Batch, Refused>
+fn batch_of<
+    R: Threads + Wait + Abort + Sync,
+    L: JobLine + SharedLine,
+    F: Floor + SharedFloor,
+    T: Runner + Sync,
+>(rt: &R, alloc: Global, asked: Asked, runner: &T) -> Result<Batch, Refused>
 where
-    L::Lane: Send,
-    L::Pass: Send,
-    L::End: Send,
-    L::Closer: Send,
-    L::Note: Send,
-    F::Station: Send,
-    F::Machine: Drop + AtRest,
-    requires { lanes ≤ MAX_LANES }
+    F::Machine: AtRest,
+    requires dim { asked.sizes.dim ≡ DIM }
+    requires lanes { asked.lanes ≤ MAX_LANES }
 {
-    let (workers, capacity) = sizes;
-    let jobs = lists(alloc, DIM, lanes, plan).expect(rt, "no memory");
-    let answered = answer_all::<R, L, F, T>(rt, alloc, DIM, workers, capacity, runner, jobs);
+    let Asked { sizes, lanes, plan } = asked;
+    let jobs = lists(alloc, sizes.dim, lanes, plan).expect(rt, "no memory");
+    let answered = answer_all::<R, L, F, T>(rt, alloc, sizes, runner, jobs);
     batch_from(rt, alloc, answered)
 }
 
-// The batch of these jobs, by so many workers and with this capacity.
+// The batch of these jobs.
 fn batch_over<R: Threads + Wait + Abort + Sync, T: Runner + Sync>(
     rt: &R,
     alloc: Global,
     over: Over,
-    lanes: u32,
-    plan: Plan,
-    sizes: (u32, usize),
+    asked: Asked,
     runner: &T,
 ) -> Result<Batch, Refused>
-    requires { lanes ≤ MAX_LANES }
+    requires dim { asked.sizes.dim ≡ DIM }
+    requires lanes { asked.lanes ≤ MAX_LANES }
 {
     match over {
-        Over::NoLock => {
-            batch_of::<R, RuledLine, TreeFloor, T>(rt, alloc, lanes, plan, sizes, runner)
-        }
-        Over::Locks => {
-            batch_of::<R, LockedLine, LockedFloor, T>(rt, alloc, lanes, plan, sizes, runner)
-        }
+        Over::NoLock => { batch_of::<R, RuledLine, TreeFloor, T>(rt, alloc, asked, runner) }
+        Over::Locks => { batch_of::<R, LockedLine, LockedFloor, T>(rt, alloc, asked, runner) }
     }
 }
 
@@ -123,14 +111,13 @@ fn answer<R: Threads + Wait + Abort + Sync, T: Runner + Sync>(
     rt: &R,
     alloc: Global,
     over: Over,
-    lanes: u32,
-    plan: Plan,
-    sizes: (u32, usize),
+    asked: Asked,
     runner: &T,
 ) -> Batch
-    requires { lanes ≤ MAX_LANES }
+    requires dim { asked.sizes.dim ≡ DIM }
+    requires lanes { asked.lanes ≤ MAX_LANES }
 {
-    match batch_over(rt, alloc, over, lanes, plan, sizes, runner) {
+    match batch_over(rt, alloc, over, asked, runner) {
         Ok(batch) => batch,
         Err(_) => panic!(rt; "the sizes are within the limits"),
     }
@@ -181,7 +168,12 @@ fn has_accepted(batch: &Batch, accepted: &[u64]) -> bool {
 #[test]
 fn replies_stand_in_the_order_of_their_ids(rt: HostRuntime) {
     for over in BOTH {
-        let batch = answer(&rt, rt.alloc(), over, 3, Plan::Kinds, (2, 2), &Plain);
+        let asked = Asked {
+            sizes: sizes(DIM, 2, 2),
+            lanes: 3,
+            plan: Plan::Kinds,
+        };
+        let batch = answer(&rt, rt.alloc(), over, asked, &Plain);
         let are_these = are_rows(
             &batch.replies,
             &[
@@ -209,15 +201,12 @@ fn any_number_of_workers_gives_the_same_replies(rt: HostRuntime) {
         (Over::Locks, 16),
     ] {
         let runner = Counting::new(Plain);
-        let batch = answer(
-            &rt,
-            rt.alloc(),
-            over,
-            16,
-            Plan::Sums(EACH),
-            (workers, 1),
-            &runner,
-        );
+        let asked = Asked {
+            sizes: sizes(DIM, workers, 1),
+            lanes: 16,
+            plan: Plan::Sums(EACH),
+        };
+        let batch = answer(&rt, rt.alloc(), over, asked, &runner);
         expect_all(
             &rt,
             &[
@@ -229,16 +218,22 @@ fn any_number_of_workers_gives_the_same_replies(rt: HostRuntime) {
     }
 }
 
-// Whether a batch of jobs of several kinds, by so many workers and with this capacity, is refused for this
-// reason, with all lists back.
+// Whether a batch of jobs of several kinds is refused in a shop of these sizes for this reason, with all lists back.
 fn is_refused<R: Threads + Wait + Abort + Sync>(
     rt: &R,
     alloc: Global,
     over: Over,
-    sizes: (u32, usize),
+    sizes: ShopSizes,
     why: ShopRefused,
-) -> bool {
-    match batch_over(rt, alloc, over, 3, Plan::Kinds, sizes, &Plain) {
+) -> bool
+    requires { sizes.dim ≡ DIM }
+{
+    let asked = Asked {
+        sizes,
+        lanes: 3,
+        plan: Plan::Kinds,
+    };
+    match batch_over(rt, alloc, over, asked, &Plain) {
         Ok(_) => false,
         Err((refused, lists)) => refused == why && lists == 3,
     }
@@ -250,8 +245,20 @@ fn sizes_of_a_batch_are_refused(rt: HostRuntime) {
         expect_all(
             &rt,
             &[
-                is_refused(&rt, rt.alloc(), over, (17, 1), ShopRefused::BadDispatchers),
-                is_refused(&rt, rt.alloc(), over, (1, 0), ShopRefused::BadCapacity),
+                is_refused(
+                    &rt,
+                    rt.alloc(),
+                    over,
+                    sizes(DIM, 17, 1),
+                    ShopRefused::BadDispatchers,
+                ),
+                is_refused(
+                    &rt,
+                    rt.alloc(),
+                    over,
+                    sizes(DIM, 1, 0),
+                    ShopRefused::BadCapacity,
+                ),
             ],
         );
     }

@@ -1,6 +1,7 @@
 //! The jobs of two lanes, answered on the tree; the results are worked out by hand.
 use crate::tests::at_rest::AtRest;
 use crate::tests::expect::expect_all;
+use crate::tests::over::sizes;
 use dispatcher::{Finished, Plain};
 use job_types::{JobId, JobRefused, Reply};
 use std::alloc::Global;
@@ -75,7 +76,7 @@ fn each_job_is_answered_once(rt: HostRuntime) -> Result<(), Fail> {
 fn the_whole_by_one_name_answers_each_job_once(rt: HostRuntime) -> Result<(), Fail> {
     let runner = Counting::new(Plain);
     let jobs = lists(rt.alloc(), 3, 3, Plan::Kinds)?;
-    let Ok(end) = cubejobs::answer_all(&rt, rt.alloc(), 3, 3, 2, &runner, jobs) else {
+    let Ok(end) = cubejobs::answer_all(&rt, rt.alloc(), sizes(3, 3, 2), &runner, jobs) else {
         panic!(rt; "no memory, or no thread");
     };
     expect_all(
@@ -100,13 +101,13 @@ fn the_whole_by_one_name_answers_each_job_once(rt: HostRuntime) -> Result<(), Fa
 fn the_whole_by_one_name_has_room_for_four(rt: HostRuntime) -> Result<(), Fail> {
     let runner = Meeting::of(2);
     let jobs = lists(rt.alloc(), 3, 3, Plan::Kinds)?;
-    let Ok(end) = cubejobs::answer_all(&rt, rt.alloc(), 3, 1, 4, &runner, jobs) else {
+    let Ok(end) = cubejobs::answer_all(&rt, rt.alloc(), sizes(3, 1, 4), &runner, jobs) else {
         panic!(rt; "no memory, or no thread");
     };
     expect_all(&rt, &[runner.came() == 4, end.close_number == 4]);
     let runner = Meeting::of(2);
     let jobs = lists(rt.alloc(), 3, 3, Plan::Kinds)?;
-    let Ok(end) = cubejobs::answer_all(&rt, rt.alloc(), 3, 1, 1, &runner, jobs) else {
+    let Ok(end) = cubejobs::answer_all(&rt, rt.alloc(), sizes(3, 1, 1), &runner, jobs) else {
         panic!(rt; "no memory, or no thread");
     };
     expect_all(&rt, &[runner.came() == 4, end.close_number > 4]);

@@ -7,6 +7,7 @@ use crate::tests::at_rest::AtRest;
 use crate::tests::expect::expect_all;
 use crate::tests::over::Over;
 use crate::tests::slot::fill;
+use crew::{SharedFloor, SharedLine};
 use cube_shape::MAX_LANES;
 use dispatcher::{
     CloseNote, Closer, FeedEnd, Finished, Opened, Plain, Shop, Worker, WorkerEnd, dispatch, feed,
@@ -267,19 +268,12 @@ impl<J: Naming, L: JobLine, F: Floor> Member<J, L, F> {
 }
 
 // All at once, each on a thread of its own.
-fn act_all<R: Threads + Wait + Sync, J: Naming + Send + Sync, L: JobLine + Sync, F: Floor + Sync>(
-    rt: &R,
-    shop: &Shop<L, F>,
-    members: &mut [Member<J, L, F>],
-    shared: &Shared,
-)
-where
-    L::Lane: Send,
-    L::Pass: Send,
-    L::End: Send,
-    L::Closer: Send,
-    L::Note: Send,
-    F::Station: Send,
+fn act_all<
+    R: Threads + Wait + Sync,
+    J: Naming + Send + Sync,
+    L: JobLine + SharedLine,
+    F: Floor + SharedFloor,
+>(rt: &R, shop: &Shop<L, F>, members: &mut [Member<J, L, F>], shared: &Shared)
     requires shop { shop.now ≡ J.shop }
     requires machine { J.shop.line.sizes.machine ≡ DIM }
     ensures { length members.new ≡ length members.old }
@@ -486,17 +480,11 @@ where
 fn run_named<
     J: Naming + Send + Sync,
     R: Threads + Wait + Abort + Sync,
-    L: JobLine + Sync,
-    F: Floor + Sync,
+    L: JobLine + SharedLine,
+    F: Floor + SharedFloor,
 >(rt: &R, alloc: Global, opened: Opened<L, F>, shared: &Shared) -> Crowd
 where
-    L::Lane: Send,
-    L::Pass: Send,
-    L::End: Send,
-    L::Closer: Send,
-    L::Note: Send,
-    F::Station: Send,
-    F::Machine: Drop + AtRest,
+    F::Machine: AtRest,
     requires shop { opened.shop ≡ J.shop }
     requires machine { J.shop.line.sizes.machine ≡ DIM }
     requires sizes { (J.shop.line.sizes.lanes ≡ LANES) × (J.shop.line.sizes.passes ≡ WORKERS) }
@@ -522,19 +510,13 @@ where
 }
 
 // The crowd of a new shop, which is closed once so many jobs are answered.
-fn crowd_of<R: Threads + Wait + Abort + Sync, L: JobLine + Sync, F: Floor + Sync>(
+fn crowd_of<R: Threads + Wait + Abort + Sync, L: JobLine + SharedLine, F: Floor + SharedFloor>(
     rt: &R,
     alloc: Global,
     shared: &Shared,
 ) -> Crowd
 where
-    L::Lane: Send,
-    L::Pass: Send,
-    L::End: Send,
-    L::Closer: Send,
-    L::Note: Send,
-    F::Station: Send,
-    F::Machine: Drop + AtRest,
+    F::Machine: AtRest,
 {
     let Ok(opened) = Shop::<L, F>::open(alloc, DIM, LANES, WORKERS, 1) else {
         panic!(rt; "no memory");

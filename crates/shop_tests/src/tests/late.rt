@@ -7,6 +7,7 @@ ghost use Rattle.dispatcher.specs.Members.{IsCloserOf, IsEndOf, IsWorkerOf};
 use crate::tests::at_rest::AtRest;
 use crate::tests::job_crowd::{Naming, add, end_left, keep_end};
 use crate::tests::slot::fill;
+use crew::{SharedFloor, SharedLine};
 use dispatcher::{FeedStop, Finished, Opened, Shop, Worker, WorkerEnd, dispatch, feed};
 use floors::Floor;
 use job_queue::JobLine;
@@ -66,17 +67,12 @@ impl<J: Naming, L: JobLine, F: Floor> Post<J, L, F> {
 }
 
 // All workers answer jobs, each on a thread of its own. All but the first begin once a job has come in.
-fn work_all<R: Threads + Wait + Sync, J: Naming + Send + Sync, L: JobLine + Sync, F: Floor + Sync>(
-    rt: &R,
-    alloc: Global,
-    shop: &Shop<L, F>,
-    posts: &mut [Post<J, L, F>],
-    runner: &Tabled<Meeting>,
-)
-where
-    L::Pass: Send,
-    L::End: Send,
-    F::Station: Send,
+fn work_all<
+    R: Threads + Wait + Sync,
+    J: Naming + Send + Sync,
+    L: JobLine + SharedLine,
+    F: Floor + SharedFloor,
+>(rt: &R, alloc: Global, shop: &Shop<L, F>, posts: &mut [Post<J, L, F>], runner: &Tabled<Meeting>)
     requires { shop.now ≡ J.shop }
     ensures { length posts.new ≡ length posts.old }
 {
@@ -134,13 +130,9 @@ fn ends_of<J: Naming, L: JobLine, F: Floor>(
 fn late_named<
     J: Naming + Send + Sync,
     R: Threads + Wait + Abort + Sync,
-    L: JobLine + Sync,
-    F: Floor + Sync,
+    L: JobLine + SharedLine,
+    F: Floor + SharedFloor,
 >(rt: &R, alloc: Global, opened: Opened<L, F>, runner: &Tabled<Meeting>) -> Finished<F::Machine>
-where
-    L::Pass: Send,
-    L::End: Send,
-    F::Station: Send,
     requires shop { opened.shop ≡ J.shop }
     requires machine { J.shop.line.sizes.machine ≡ 2 }
     requires sizes { (J.shop.line.sizes.lanes ≡ 1) × (J.shop.line.sizes.passes ≡ 2) }
@@ -168,16 +160,13 @@ where
 }
 
 // What becomes of two jobs of one lane, which lie in a closed line before two workers answer them by this runner.
-pub fn late<R: Threads + Wait + Abort + Sync, L: JobLine + Sync, F: Floor + Sync>(
+pub fn late<R: Threads + Wait + Abort + Sync, L: JobLine + SharedLine, F: Floor + SharedFloor>(
     rt: &R,
     alloc: Global,
     runner: &Tabled<Meeting>,
 ) -> Finished<F::Machine>
 where
-    L::Pass: Send,
-    L::End: Send,
-    F::Station: Send,
-    F::Machine: Drop + AtRest,
+    F::Machine: AtRest,
 {
     let Ok(opened) = Shop::<L, F>::open(alloc, 2, 1, 2, 2) else {
         panic!(rt; "no memory");

@@ -1,4 +1,8 @@
-//! What the tests run over: no lock at all, or locks.
+//! What the tests run over: no lock at all, or locks; and what a run of threads is given.
+ghost use Rattle.std.specs.Prelude.{◌≡◌};
+
+use dispatcher::ShopSizes;
+use test_kit::Plan;
 
 /// The line and the floor with no lock, or those under one lock each.
 #[derive(Clone, Copy)]
@@ -11,3 +15,25 @@ pub enum Over {
 
 /// One after the other.
 pub const BOTH: [Over; 2] = [Over::NoLock, Over::Locks];
+
+/// Returns these sizes as one value.
+pub fn sizes(dim: u32, dispatchers: u32, capacity: usize) -> ShopSizes
+    ensures { result ≡ record { dim = dim; dispatchers = dispatchers; capacity = capacity } }
+{
+    ShopSizes {
+        dim,
+        dispatchers,
+        capacity,
+    }
+}
+
+/// What a run is given: the sizes of its shop, the number of its lanes, and the jobs of each.
+#[derive(Clone, Copy)]
+pub struct Asked {
+    /// The sizes of the shop.
+    pub sizes: ShopSizes,
+    /// The number of lanes.
+    pub lanes: u32,
+    /// The jobs of each lane.
+    pub plan: Plan,
+}

@@ -4,8 +4,8 @@ ghost use Rattle.std.specs.Prelude.{◌≤◌};
 use crate::tests::at_rest::AtRest;
 use crate::tests::expect::expect_all;
 use crate::tests::late::late;
-use crate::tests::over::{BOTH, Over};
-use crew::{LaneEnd, RunEnd, run};
+use crate::tests::over::{Asked, BOTH, Over, sizes};
+use crew::{LaneEnd, RunEnd, SharedFloor, SharedLine, run};
 use cube_shape::{MAX_DIM, MAX_LANES};
 use dispatcher::{FeedStop, Finished, Plain, Runner, ShopRefused, Stop};
 use floors::Floor;
@@ -92,9 +92,6 @@ fn told<M: AtRest>(end: &RunEnd<M>, lanes: u32, n: u32) -> Ran {
     }
 }
 
-// The sizes of a shop: the dimension, the workers, and the capacity.
-type Sizes = (u32, u32, usize);
-
 // Why a run is refused, and how many lists came back.
 type Refused = (ShopRefused, usize);
 
@@ -111,29 +108,21 @@ fn ran_from<M: Drop + AtRest>(
 }
 
 // The run of these jobs, over this line and this floor.
-fn run_of<R: Threads + Wait + Abort + Sync, L: JobLine + Sync, F: Floor + Sync, T: Runner + Sync>(
-    rt: &R,
-    alloc: Global,
-    sizes: Sizes,
-    lanes: u32,
-    plan: Plan,
-    runner: &T,
-) -> Result<Ran, Refused>
+fn run_of<
+    R: Threads + Wait + Abort + Sync,
+    L: JobLine + SharedLine,
+    F: Floor + SharedFloor,
+    T: Runner + Sync,
+>(rt: &R, alloc: Global, asked: Asked, runner: &T) -> Result<Ran, Refused>
 where
-    L::Lane: Send,
-    L::Pass: Send,
-    L::End: Send,
-    L::Closer: Send,
-    L::Note: Send,
-    F::Station: Send,
-    F::Machine: Drop + AtRest,
-    requires dim { sizes.0 ≤ MAX_DIM }
-    requires lanes { lanes ≤ MAX_LANES }
+    F::Machine: AtRest,
+    requires dim { asked.sizes.dim ≤ MAX_DIM }
+    requires lanes { asked.lanes ≤ MAX_LANES }
 {
-    let (n, workers, capacity) = sizes;
-    let jobs = lists(alloc, n, lanes, plan).expect(rt, "no memory");
-    let ran = run::<R, L, F, T>(rt, alloc, n, workers, capacity, runner, jobs);
-    ran_from(ran, lanes, n)
+    let Asked { sizes, lanes, plan } = asked;
+    let jobs = lists(alloc, sizes.dim, lanes, plan).expect(rt, "no memory");
+    let ran = run::<R, L, F, T>(rt, alloc, sizes, runner, jobs);
+    ran_from(ran, lanes, sizes.dim)
 }
 
 // The run of these jobs.
@@ -141,21 +130,15 @@ fn run_over<R: Threads + Wait + Abort + Sync, T: Runner + Sync>(
     rt: &R,
     alloc: Global,
     over: Over,
-    sizes: Sizes,
-    lanes: u32,
-    plan: Plan,
+    asked: Asked,
     runner: &T,
 ) -> Result<Ran, Refused>
-    requires dim { sizes.0 ≤ MAX_DIM }
-    requires lanes { lanes ≤ MAX_LANES }
+    requires dim { asked.sizes.dim ≤ MAX_DIM }
+    requires lanes { asked.lanes ≤ MAX_LANES }
 {
     match over {
-        Over::NoLock => {
-            run_of::<R, RuledLine, TreeFloor, T>(rt, alloc, sizes, lanes, plan, runner)
-        }
-        Over::Locks => {
-            run_of::<R, LockedLine, LockedFloor, T>(rt, alloc, sizes, lanes, plan, runner)
-        }
+        Over::NoLock => { run_of::<R, RuledLine, TreeFloor, T>(rt, alloc, asked, runner) }
+        Over::Locks => { run_of::<R, LockedLine, LockedFloor, T>(rt, alloc, asked, runner) }
     }
 }
 
@@ -164,15 +147,13 @@ fn run_through<R: Threads + Wait + Abort + Sync, T: Runner + Sync>(
     rt: &R,
     alloc: Global,
     over: Over,
-    sizes: Sizes,
-    lanes: u32,
-    plan: Plan,
+    asked: Asked,
     runner: &T,
 ) -> Ran
-    requires dim { sizes.0 ≤ MAX_DIM }
-    requires lanes { lanes ≤ MAX_LANES }
+    requires dim { asked.sizes.dim ≤ MAX_DIM }
+    requires lanes { asked.lanes ≤ MAX_LANES }
 {
-    match run_over(rt, alloc, over, sizes, lanes, plan, runner) {
+    match run_over(rt, alloc, over, asked, runner) {
         Ok(ran) => ran,
         Err(_) => panic!(rt; "refused"),
     }
@@ -180,15 +161,12 @@ fn run_through<R: Threads + Wait + Abort + Sync, T: Runner + Sync>(
 
 // Whether the second of two workers began while the first one had a job inside, and met it there with another job, on
 // other processors.
-fn meets_late<R: Threads + Wait + Abort + Sync, L: JobLine + Sync, F: Floor + Sync>(
+fn meets_late<R: Threads + Wait + Abort + Sync, L: JobLine + SharedLine, F: Floor + SharedFloor>(
     rt: &R,
     alloc: Global,
 ) -> bool
 where
-    L::Pass: Send,
-    L::End: Send,
-    F::Station: Send,
-    F::Machine: Drop + AtRest,
+    F::Machine: AtRest,
 {
     let runner = Tabled::new(alloc, 4, Meeting::of(2)).expect(rt, "no memory");
     let finished = late::<R, L, F>(rt, alloc, &runner);
@@ -217,7 +195,12 @@ fn two_jobs_are_inside_at_once(rt: HostRuntime) {
 fn two_workers_of_a_run_meet(rt: HostRuntime) {
     for over in BOTH {
         let runner = Tabled::new(rt.alloc(), 4, Meeting::of(2)).expect(&rt, "no memory");
-        let ran = run_through(&rt, rt.alloc(), over, (2, 2, 2), 1, Plan::Same(2), &runner);
+        let asked = Asked {
+            sizes: sizes(2, 2, 2),
+            lanes: 1,
+            plan: Plan::Same(2),
+        };
+        let ran = run_through(&rt, rt.alloc(), over, asked, &runner);
         expect_all(
             &rt,
             &[
@@ -244,8 +227,12 @@ fn as_many_workers_run_as_were_asked(rt: HostRuntime) {
         (Over::Locks, 8),
     ] {
         let runner = Counting::new(Meeting::of(u64::from(workers)));
-        let sizes = (4, workers, 1);
-        let ran = run_through(&rt, rt.alloc(), over, sizes, 8, Plan::Same(1), &runner);
+        let asked = Asked {
+            sizes: sizes(4, workers, 1),
+            lanes: 8,
+            plan: Plan::Same(1),
+        };
+        let ran = run_through(&rt, rt.alloc(), over, asked, &runner);
         expect_all(
             &rt,
             &[
@@ -275,8 +262,12 @@ fn each_lane_has_a_feeder(rt: HostRuntime) {
         (Over::Locks, 1),
     ] {
         let runner = Keeper::new(lane, TURNS);
-        let plan = Plan::OneHas { lane, count: MANY };
-        let ran = run_through(&rt, rt.alloc(), over, (2, 2, 1), 2, plan, &runner);
+        let asked = Asked {
+            sizes: sizes(2, 2, 1),
+            lanes: 2,
+            plan: Plan::OneHas { lane, count: MANY },
+        };
+        let ran = run_through(&rt, rt.alloc(), over, asked, &runner);
         expect_all(
             &rt,
             &[
@@ -295,15 +286,12 @@ fn each_lane_has_a_feeder(rt: HostRuntime) {
 fn many_feeders_share_room_for_one_job(rt: HostRuntime) {
     for over in BOTH {
         let runner = Tabled::new(rt.alloc(), 4, Counting::new(Plain)).expect(&rt, "no memory");
-        let ran = run_through(
-            &rt,
-            rt.alloc(),
-            over,
-            (2, 4, 1),
-            16,
-            Plan::Same(20),
-            &runner,
-        );
+        let asked = Asked {
+            sizes: sizes(2, 4, 1),
+            lanes: 16,
+            plan: Plan::Same(20),
+        };
+        let ran = run_through(&rt, rt.alloc(), over, asked, &runner);
         expect_all(
             &rt,
             &[
@@ -321,7 +309,12 @@ fn many_feeders_share_room_for_one_job(rt: HostRuntime) {
 #[test]
 fn sizes_are_refused_with_the_jobs_back(rt: HostRuntime) {
     for over in BOTH {
-        let ran = run_over(&rt, rt.alloc(), over, (2, 17, 1), 3, Plan::Same(2), &Plain);
+        let asked = Asked {
+            sizes: sizes(2, 17, 1),
+            lanes: 3,
+            plan: Plan::Same(2),
+        };
+        let ran = run_over(&rt, rt.alloc(), over, asked, &Plain);
         assert!(rt; matches!(ran, Err((ShopRefused::BadDispatchers, 3))));
     }
 }

@@ -163,7 +163,7 @@ impl<L: JobLine, F: Floor> Stage<L, F> {
         } = self;
         let note = note_of(rt, &shop, closer, note);
         let end = end_of(alloc, &shop, worker, end);
-        finish_one(rt, alloc, runner, shop, lane, end, note)
+        finish_one(rt, alloc, runner, shop, (lane, end), note)
     }
 }
 
@@ -182,16 +182,16 @@ fn finish_one<R: Wait + Abort, L: JobLine, F: Floor, T: Runner>(
     alloc: Global,
     runner: &T,
     shop: Shop<L, F>,
-    lane: L::Lane,
-    end: WorkerEnd<L, F>,
+    members: (L::Lane, WorkerEnd<L, F>),
     note: CloseNote<L, F>,
 ) -> Finished<F::Machine>
-    requires lane { L.is_lane shop.line lane }
+    requires lane { L.is_lane shop.line members.0 }
     requires one_lane { shop.line.sizes.lanes ≡ 1 }
-    requires worker { IsEndOf shop end }
+    requires worker { IsEndOf shop members.1 }
     requires one_worker { shop.line.sizes.passes ≡ 1 }
     requires note { IsNoteOf L.JobLine shop note }
 {
+    let (lane, end) = members;
     let lanes = list_of(rt, alloc, lane);
     let ends = list_of(rt, alloc, end);
     shop.finish(rt, runner, lanes, ends, note)

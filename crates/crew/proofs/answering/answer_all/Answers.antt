@@ -15,12 +15,12 @@ returns-clause-done g c = is_done c.run-ran.result c.batch_of.result c.batch_of.
 
 pub returns-clause-answers : goal.returns-clause-answers
 returns-clause-answers g c =
-    of_done c.run-ran.result _ _ (λ end run done. answers_jobs g.F.Floor.machine_words c.args.n (map (λ js. js.items) c.args.jobs.items) end run done.lanes)
+    of_done c.run-ran.result _ _ (λ end run done. answers_jobs g.F.Floor.machine_words c.args.sizes.dim (map (λ js. js.items) c.args.jobs.items) end run done.lanes)
     c.batch_of.result c.run-ran.ensures.run c.batch_of.ensures.done
 
 pub returns-clause-accepted : goal.returns-clause-accepted
 returns-clause-accepted g c =
-    of_done c.run-ran.result _ _ (λ end run done. counts_all g.F.Floor.machine_words c.args.n (map (λ js. js.items) c.args.jobs.items) end run done.lanes ∙ map_twice (λ js. js.items) length c.args.jobs.items)
+    of_done c.run-ran.result _ _ (λ end run done. counts_all g.F.Floor.machine_words c.args.sizes.dim (map (λ js. js.items) c.args.jobs.items) end run done.lanes ∙ map_twice (λ js. js.items) length c.args.jobs.items)
     c.batch_of.result c.run-ran.ensures.run c.batch_of.ensures.done
 
 pub returns-clause-workers : goal.returns-clause-workers

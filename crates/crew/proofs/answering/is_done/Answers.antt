@@ -1,4 +1,4 @@
-use Rattle.std.proofs.Common.{refl, sym, ap, not, ◌∙◌}
+use Rattle.std.proofs.Common.{sym, ap, not, ◌∙◌}
 use Rattle.crew.proofs.DoneLemmas.{not_true, all_run, none_idle}
 use Rattle.crew.proofs.answering.is_done.Goals as goal
 

@@ -20,7 +20,7 @@ invariant_of-result g c =
       all_lanes = sizes.lanes_are ∙ lanes;
       made_for = λ k below. subst (λ (m : ℕ). All (IsFor m k) (slice_index_or (map (λ js. js.items) c.args.jobs.items) k [])) (sym sizes.machine) (c.requires.made_for k below);
       fresh_lanes = c.in-Ok-open.ensures.fresh_lanes ∙ ap fresh_lanes lanes;
-      all_workers = sym (length-map workers worker_record) ∙ (ap length c.in-Ok-open.ensures.fresh_passes ∙ (passes_count c.args.dispatchers ∙ sym sizes.workers));
+      all_workers = sym (length-map workers worker_record) ∙ (ap length c.in-Ok-open.ensures.fresh_passes ∙ (passes_count c.args.sizes.dispatchers ∙ sym sizes.workers));
       ends = (room.ends.0, omega (arith, sizes.workers, room.ends.1));
       fed = (room.fed.0, omega (arith, sizes.lanes_are, lanes, room.fed.1, c.len.ensures));
       unfed = (room.unfed.0, omega (arith, sizes.lanes_are, lanes, room.unfed.1, c.len.ensures));
@@ -31,12 +31,12 @@ invariant_of-result g c =
 pub returns-in-Ok-open-clause-sizes : goal.returns-in-Ok-open-clause-sizes
 returns-in-Ok-open-clause-sizes g c =
     let lanes : c.len-lanes.result ≡ length c.args.jobs.items = omega (arith, c.len-lanes.ensures, c.args.jobs.ok.0) in
-    subst (λ (m : ℕ). HasSizes c.args.n m c.args.dispatchers c.args.capacity c.in-Ok-open.opened.shop) lanes c.in-Ok-open.ensures.sizes
+    subst (λ (m : ℕ). HasSizes c.args.sizes.dim m c.args.sizes.dispatchers c.args.sizes.capacity c.in-Ok-open.opened.shop) lanes c.in-Ok-open.ensures.sizes
 
 pub returns-in-Some-clause-refused : goal.returns-in-Some-clause-refused
 returns-in-Some-clause-refused g c = λ other.
     let lanes : c.len-lanes.result ≡ length c.args.jobs.items = omega (arith, c.len-lanes.ensures, c.args.jobs.ok.0) in
-    subst (λ (m : ℕ). refusal_of c.args.n m c.args.dispatchers c.args.capacity ≡ Some c.in-Some.refused) lanes (sym c.refusal.ensures ∙ c.in-Some.is)
+    subst (λ (m : ℕ). refusal_of c.args.sizes.dim m c.args.sizes.dispatchers c.args.sizes.capacity ≡ Some c.in-Some.refused) lanes (sym c.refusal.ensures ∙ c.in-Some.is)
 
 pub returns-in-Some-clause-gives_back : goal.returns-in-Some-clause-gives_back
 returns-in-Some-clause-gives_back g c = refl
