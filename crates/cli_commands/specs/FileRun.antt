@@ -5,7 +5,7 @@ use Rattle.job_types.specs.Job.{JobData}
 use Rattle.job_queue.specs.declared.job_line.JobLine.{Ghosts as LineWords}
 use Rattle.floors.specs.Floor.{IsWhollyFree}
 use Rattle.floors.specs.declared.floor.Floor.{Ghosts as FloorWords}
-use Rattle.dispatcher.specs.declared.sizes.ShopSizes.{ShopSizes}
+use Rattle.dispatcher.specs.declared.opening.ShopSizes.{ShopSizes}
 use Rattle.crew.specs.Done.{IsDone}
 use Rattle.crew.specs.Members.{RanIn}
 use Rattle.crew.specs.Run.{IsRun}
@@ -27,7 +27,7 @@ module _ {L Lane Pass Closer Note End F Station Held Machine : Type 0} (line : L
   pub record IsShopRun (sizes : ShopSizes) (end : RunEnd Machine) : Type 0 where
     pub done : IsDone end
     pub lanes : length end.finished.accepted.items ≤ MAX_LANES
-    pub ran_in : RanIn line floor sizes.dim (length end.finished.accepted.items) sizes.dispatchers sizes.capacity end
+    pub ran_in : RanIn line floor sizes (length end.finished.accepted.items) end
     pub workers : length end.finished.by_worker.items ≡ sizes.dispatchers
     pub dim : floor.machine_dim end.finished.machine ≡ sizes.dim
     pub closed : floor.is_closed sizes.dispatchers end.finished.machine

@@ -13,7 +13,7 @@ ghost use Rattle.cli_commands.specs.Inner.Shop.{unanswered_of};
 use crate::lanes::open_lanes;
 use crate::progress::{RecordProgress, ReplyProgress, begin_progress, counts_of, end_progress};
 use cli_words::ShopOptions;
-use crew::{RunEnd, StopReason, Stopped, answer_all};
+use crew::{RunEnd, SharedFloor, SharedLine, StopReason, Stopped, answer_all};
 use dispatcher::{Runner, ShopSizes};
 use floors::Floor;
 use job_queue::JobLine;
@@ -67,15 +67,8 @@ fn answer_lanes<H, L, F, T>(
 ) -> Result<RunEnd<F::Machine>, Unanswered<F::Machine>>
 where
     H: Threads + Wait + Sync,
-    L: JobLine + Sync,
-    L::Lane: Send,
-    L::Pass: Send,
-    L::End: Send,
-    L::Closer: Send,
-    L::Note: Send,
-    F: Floor + Sync,
-    F::Station: Send,
-    F::Machine: Drop,
+    L: JobLine + SharedLine,
+    F: Floor + SharedFloor,
     T: Runner + Sync,
     requires lanes { (jobs : List JobData) × AreLanes lanes.items jobs
         × All (λ job. job.machine ≡ sizes.dim) jobs }
@@ -87,12 +80,7 @@ where
         unanswered.fault.what ≡ FaultKind.Spent → HasSpentLane unanswered.end) }
 {
     let lists = open_lanes(lanes);
-    let ShopSizes {
-        dim,
-        dispatchers,
-        capacity,
-    } = sizes;
-    match answer_all::<H, L, F, T>(rt, alloc, dim, dispatchers, capacity, runner, lists) {
+    match answer_all::<H, L, F, T>(rt, alloc, sizes, runner, lists) {
         Ok(end) => Ok(end),
         Err(stopped) => Err(to_unanswered(stopped)),
     }
@@ -126,15 +114,8 @@ pub fn answer_file<H, L, F, T, R, P>(
 ) -> Result<RunEnd<F::Machine>, Unanswered<F::Machine>>
 where
     H: Threads + Wait + Clone + Send + Sync + 'static,
-    L: JobLine + Sync,
-    L::Lane: Send,
-    L::Pass: Send,
-    L::End: Send,
-    L::Closer: Send,
-    L::Note: Send,
-    F: Floor + Sync,
-    F::Station: Send,
-    F::Machine: Drop,
+    L: JobLine + SharedLine,
+    F: Floor + SharedFloor,
     T: Runner + Sync,
     R: Read + Device,
     P: Write + Send + Drop + 'static,

@@ -12,7 +12,7 @@ returns-clause-answered g c =
     let dim = c.args.options.sizes.dim in
     elim c.match-read_lanes_with.branch [
       | in-Ok w ↦ subst (λ (a : Result (RunEnd _) (Unanswered _)). IfSome (g.R.Read.remaining c.args.reader.now) (λ bytes. ReturnsRun g.F.Floor.machine_words dim (parse_jobs dim bytes) a)) (sym w.answer-is)
-        (where_known (g.R.Read.remaining c.args.reader.now) _ _ (λ bytes. w.answer_lanes-answer.ensures.answered (parse_jobs dim bytes)) w.in-Ok.ensures.parse)
+          (where_known (g.R.Read.remaining c.args.reader.now) _ _ (λ bytes. w.answer_lanes-answer.ensures.answered (parse_jobs dim bytes)) w.in-Ok.ensures.parse)
       | in-Err w ↦ subst (λ (a : Result (RunEnd _) (Unanswered _)). IfSome (g.R.Read.remaining c.args.reader.now) (λ bytes. ReturnsRun g.F.Floor.machine_words dim (parse_jobs dim bytes) a)) (sym w.answer-is)
-        (fault_unanswered g.F.Floor.machine_words dim (g.R.Read.remaining c.args.reader.now) w.in-Err.fault w.in-Err.ensures.parse)
+          (fault_unanswered g.F.Floor.machine_words dim (g.R.Read.remaining c.args.reader.now) w.in-Err.fault w.in-Err.ensures.parse)
     ]
