@@ -3,5 +3,6 @@ pub mod Ending
 pub mod Files
 pub mod Names
 pub mod Replay
+pub mod ReportRows
 pub mod Shop
 pub mod Stations

@@ -2,6 +2,7 @@ pub mod JobIds
 pub mod OpenLanes
 pub mod Replies
 pub mod FileRun
+pub mod ReportRows
 pub mod Report
 pub mod Answer
 pub mod Trace
@@ -18,3 +19,5 @@ pub use Rattle.jobs_csv.specs.Jobs.{parse_jobs}
 pub use Rattle.jobs_csv.specs.Text.{file_text}
 pub use Rattle.cli_words.specs.CommandLine.{AreShopSizes}
 pub use Rattle.whole_file.specs.Store.{KeepsFiles, KeepsOthers, begun_by, held_by}
+pub use Rattle.dispatcher.specs.Answers.{all_replies}
+pub use Rattle.dispatcher.specs.Reply.{IsRight, answered}

@@ -8,7 +8,7 @@ use crate::tests::facts::expect_true;
 use crate::tests::jobs::replies_to;
 use cube_ledger::{Ledger, Slip, Totals};
 use cube_occupancy::{FREE_PLACES, Occupancy, occupancy};
-use cube_report::report_rows;
+use cli_commands::report_rows;
 use cube_shape::{MAX_DIM, Region};
 use dispatcher::Finished;
 use floors::Floor;

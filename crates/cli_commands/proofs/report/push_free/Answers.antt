@@ -1,8 +1,8 @@
 use Rattle.std.proofs.Common.{ap, ◌∙◌, ◌++◌, [], ◌∷◌}
 use Rattle.jobs_csv.specs.declared.report_rows.ReportRow.{ReportRow}
-use Rattle.cube_report.specs.Report.{free_row}
-use Rattle.cube_report.proofs.RowLemmas.{row_more}
-use Rattle.cube_report.proofs.rows.push_free.Goals as goal
+use Rattle.cli_commands.specs.ReportRows.{free_row}
+use Rattle.cli_commands.proofs.ReportLemmas.{row_more}
+use Rattle.cli_commands.proofs.report.push_free.Goals as goal
 
 pub loop-dim-preserved : goal.loop-dim-preserved
 loop-dim-preserved c =

@@ -1,9 +1,9 @@
 use Rattle.std.proofs.Common.{ap, ◌∙◌, ◌++◌, [], ◌∷◌}
 use Rattle.jobs_csv.specs.declared.report_rows.ReportRow.TheVariants as row
 use Rattle.cube_ledger.specs.declared.ledger.Totals.{Totals}
-use Rattle.cube_report.specs.InnerRows.{dim_row_in}
-use Rattle.cube_report.proofs.RowLemmas.{row_more}
-use Rattle.cube_report.proofs.rows.push_dims.Goals as goal
+use Rattle.cli_commands.specs.Inner.ReportRows.{dim_row_in}
+use Rattle.cli_commands.proofs.ReportLemmas.{row_more}
+use Rattle.cli_commands.proofs.report.push_dims.Goals as goal
 
 pub loop-dim-preserved : goal.loop-dim-preserved
 loop-dim-preserved c =

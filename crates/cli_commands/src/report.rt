@@ -7,8 +7,8 @@ ghost use Rattle.job_queue.specs.declared.record.QueuedJob.{QueuedJob};
 ghost use Rattle.dispatcher.specs.Reply.{answered, IsRight};
 ghost use Rattle.dispatcher.specs.Answers.{all_replies};
 ghost use Rattle.cube_occupancy.specs.Occupancy.{IsEmptyMachine};
-ghost use Rattle.cube_report.specs.Report.{free_row, rows_of};
-ghost use Rattle.cube_report.specs.InnerRows.{dim_row_in, lane_row_in, total_row_in};
+ghost use Rattle.cli_commands.specs.ReportRows.{free_row, rows_of};
+ghost use Rattle.cli_commands.specs.Inner.ReportRows.{dim_row_in, lane_row_in, total_row_in};
 
 use cube_ledger::{Ledger, Totals};
 use cube_occupancy::{Occupancy, occupancy};

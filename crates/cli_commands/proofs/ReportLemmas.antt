@@ -17,8 +17,8 @@ use Rattle.jobs_csv.specs.declared.report_rows.ReportRow.{ReportRow}
 use Rattle.jobs_csv.specs.declared.report_rows.ReportRow.TheVariants as row
 use Rattle.cube_ledger.specs.declared.slip.Slip.{Slip}
 use Rattle.cube_ledger.specs.Ledger.{HasAllSlips, is_any, is_of_dim, is_of_lane, processors_of, slip_of, totals_of}
-use Rattle.cube_report.specs.Report.{dim_asked, dim_row, free_row, idle_that, jobs_that, lane_row, processors_that, rows_of, total_row}
-use Rattle.cube_report.specs.InnerRows.{dim_row_in, lane_row_in, total_row_in}
+use Rattle.cli_commands.specs.ReportRows.{dim_asked, dim_row, free_row, idle_that, jobs_that, lane_row, processors_that, rows_of, total_row}
+use Rattle.cli_commands.specs.Inner.ReportRows.{dim_row_in, lane_row_in, total_row_in}
 
 -- one row more
 pub row_more : {X : Type 0} (f : ℕ → X) (xs ys : List X) (n : ℕ) → ys ≡ xs ++ map f (range_with_len 0 n) → ys ++ f n ∷ [] ≡ xs ++ map f (range_with_len 0 (n + 1))

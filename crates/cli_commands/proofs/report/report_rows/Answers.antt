@@ -1,9 +1,9 @@
 use Rattle.std.proofs.Common.{◌≡◌, arith, ap, ◌∙◌, ◌++◌, map, length, List, ℕ}
 use Rattle.std.specs.List.{range_with_len}
 use Rattle.jobs_csv.specs.declared.report_rows.ReportRow.{ReportRow}
-use Rattle.cube_report.specs.InnerRows.{lane_row_in}
-use Rattle.cube_report.proofs.RowLemmas.{rows_are}
-use Rattle.cube_report.proofs.rows.report_rows.Goals as goal
+use Rattle.cli_commands.specs.Inner.ReportRows.{lane_row_in}
+use Rattle.cli_commands.proofs.ReportLemmas.{rows_are}
+use Rattle.cli_commands.proofs.report.report_rows.Goals as goal
 
 pub returns : goal.returns
 returns g c jobs permuted right =

@@ -1,9 +1,9 @@
 use Rattle.std.proofs.Common.{ap, ◌∙◌, ◌++◌, [], ◌∷◌}
 use Rattle.jobs_csv.specs.declared.report_rows.ReportRow.TheVariants as row
 use Rattle.cube_ledger.specs.declared.ledger.Totals.{Totals}
-use Rattle.cube_report.specs.InnerRows.{lane_row_in}
-use Rattle.cube_report.proofs.RowLemmas.{row_more}
-use Rattle.cube_report.proofs.rows.push_lanes.Goals as goal
+use Rattle.cli_commands.specs.Inner.ReportRows.{lane_row_in}
+use Rattle.cli_commands.proofs.ReportLemmas.{row_more}
+use Rattle.cli_commands.proofs.report.push_lanes.Goals as goal
 
 pub loop-lane-preserved : goal.loop-lane-preserved
 loop-lane-preserved c =
