@@ -35,12 +35,10 @@ pub(crate) fn open_input<S: FileStore>(store: &S, name: &str) -> Result<S::Reade
     ensures failed { IfErr result (λ error. (fault : TheFileFault)
         × (error ≡ OfFile fault) × (fault.side ≡ Input)) }
 {
+    let side = FileSide::Input;
     match store.open(name) {
         Ok(file) => Ok(file),
-        Err(reason) => Err(CommandError::File(FileFault {
-            side: FileSide::Input,
-            reason,
-        })),
+        Err(reason) => Err(CommandError::File(FileFault { side, reason })),
     }
 }
 
@@ -54,12 +52,10 @@ pub(crate) fn begin_output<S: FileStore>(
     ensures failed { IfErr result (λ error. (fault : TheFileFault)
         × (error ≡ OfFile fault) × (fault.side ≡ Output)) }
 {
+    let side = FileSide::Output;
     match store.draft(name) {
         Ok(draft) => Ok(draft),
-        Err(reason) => Err(CommandError::File(FileFault {
-            side: FileSide::Output,
-            reason,
-        })),
+        Err(reason) => Err(CommandError::File(FileFault { side, reason })),
     }
 }
 
