@@ -1,6 +1,6 @@
 //! Jobs of any number of items: their replies beside plain folds, and a file of mixed sizes.
 
-use crate::tests::commands::writes_all;
+use crate::tests::commands::{sizes_of, writes_all};
 use crate::tests::devices::push;
 use crate::tests::facts::expect_true;
 use crate::tests::jobs::{answered, is_job, made};
@@ -173,14 +173,15 @@ const MIXED_REPLIES: &str = "lane,seq,kind,dim,result,rounds,messages\n\
     2,3,allreduce,3,8 8 8 8 8,3,24\n3,0,exscan,3,0 1 3 6 10 15 21 28,3,24\n\
     3,1,exscan,2,18446744073709551615 9 4,2,8\n";
 
-// Whether so many dispatchers give these replies to a file, on a machine of dimension 3.
+// Whether a run by these dispatchers gives these replies to a file, on a machine of dimension 3.
 fn gives(
-    rt: &(impl AllocGlobal + Abort + Threads + Wait + Sync),
+    rt: &(impl AllocGlobal + Abort + Threads + Wait + Clone + Send + Sync + 'static),
     dispatchers: u32,
     file: &[u8],
     wanted: &[u8],
 ) -> bool {
-    writes_all(rt, false, 3, dispatchers, 2, &Plain, file, wanted)
+    let sizes = sizes_of(3, dispatchers, 2);
+    writes_all(rt, false, sizes, &Plain, file, wanted)
 }
 
 #[test]

@@ -60,7 +60,16 @@ fn run_by<T: Runner + Sync, R: Read + Device, W: Write + Device>(
         dispatchers,
         capacity,
     } = sizes;
-    run_on(rt, alloc, dim, dispatchers, capacity, runner, reader, writer)
+    run_on(
+        rt,
+        alloc,
+        dim,
+        dispatchers,
+        capacity,
+        runner,
+        reader,
+        writer,
+    )
 }
 
 // A report in a shop of these sizes.
@@ -78,7 +87,16 @@ fn report_by<T: Runner + Sync, R: Read + Device, W: Write + Device>(
         dispatchers,
         capacity,
     } = sizes;
-    report_on(rt, alloc, dim, dispatchers, capacity, runner, reader, writer)
+    report_on(
+        rt,
+        alloc,
+        dim,
+        dispatchers,
+        capacity,
+        runner,
+        reader,
+        writer,
+    )
 }
 
 // The commands of a file, on a machine of dimension 3.
@@ -229,7 +247,10 @@ fn reports_a_failed_read(rt: HostRuntime) {
 }
 
 // Each of these commands makes so many writes, and then a flush.
-fn expect_writes(rt: &(impl AllocGlobal + Abort + Threads + Wait + Clone + Send + Sync + 'static), rows: &[(Command, u64)]) {
+fn expect_writes(
+    rt: &(impl AllocGlobal + Abort + Threads + Wait + Clone + Send + Sync + 'static),
+    rows: &[(Command, u64)],
+) {
     for (command, writes) in rows {
         let found = calls_of(rt, *command, false, true);
         let with_flush = calls_of(rt, *command, false, false);

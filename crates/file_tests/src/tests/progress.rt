@@ -35,14 +35,7 @@ where
         invocation: Invocation::Run(options),
         runner: &Plain,
     };
-    let answer = answer(
-        rt,
-        rt.alloc(),
-        task,
-        &mut reader,
-        &mut writer,
-        terminal,
-    );
+    let answer = answer(rt, rt.alloc(), task, &mut reader, &mut writer, terminal);
     expect_true(
         rt,
         (answer == Ok(())) & (writer.get_ref().as_slice() == wanted),

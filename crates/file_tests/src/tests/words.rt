@@ -71,12 +71,40 @@ type ShopLine = (&'static str, bool, u32, u32, usize, bool);
 static SHOP_LINES: [ShopLine; 8] = [
     ("cubejobs run --dim 0", false, 0, 2, 16, false),
     ("cubejobs run --dim=12", false, 12, 2, 16, false),
-    ("cubejobs run --dim 3 --dispatchers 1 --capacity=1", false, 3, 1, 1, false),
-    ("cubejobs run --capacity 1024 --dispatchers 16 --dim 3", false, 3, 16, 1024, false),
+    (
+        "cubejobs run --dim 3 --dispatchers 1 --capacity=1",
+        false,
+        3,
+        1,
+        1,
+        false,
+    ),
+    (
+        "cubejobs run --capacity 1024 --dispatchers 16 --dim 3",
+        false,
+        3,
+        16,
+        1024,
+        false,
+    ),
     ("cubejobs report --quiet --dim 3", true, 3, 2, 16, true),
     ("cubejobs report --dim 3", true, 3, 2, 16, false),
-    ("cubejobs report --dim=12 --dispatchers=16 --capacity=1024", true, 12, 16, 1024, false),
-    ("cubejobs report --capacity 1 --dispatchers 3 --dim 0", true, 0, 3, 1, false),
+    (
+        "cubejobs report --dim=12 --dispatchers=16 --capacity=1024",
+        true,
+        12,
+        16,
+        1024,
+        false,
+    ),
+    (
+        "cubejobs report --capacity 1 --dispatchers 3 --dim 0",
+        true,
+        0,
+        3,
+        1,
+        false,
+    ),
 ];
 
 // Each of these lines asks for its command with its sizes.
