@@ -272,8 +272,10 @@ fn act_all<
     R: Threads + Wait + Sync,
     J: Naming + Send + Sync,
     L: JobLine + SharedLine,
-    F: Floor + SharedFloor,
+    F: Floor + Sync,
 >(rt: &R, shop: &Shop<L, F>, members: &mut [Member<J, L, F>], shared: &Shared)
+where
+    F::Station: Send,
     requires shop { shop.now ≡ J.shop }
     requires machine { J.shop.line.sizes.machine ≡ DIM }
     ensures { length members.new ≡ length members.old }

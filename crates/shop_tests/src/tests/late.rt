@@ -71,8 +71,10 @@ fn work_all<
     R: Threads + Wait + Sync,
     J: Naming + Send + Sync,
     L: JobLine + SharedLine,
-    F: Floor + SharedFloor,
+    F: Floor + Sync,
 >(rt: &R, alloc: Global, shop: &Shop<L, F>, posts: &mut [Post<J, L, F>], runner: &Tabled<Meeting>)
+where
+    F::Station: Send,
     requires { shop.now ≡ J.shop }
     ensures { length posts.new ≡ length posts.old }
 {
