@@ -17,7 +17,7 @@ pub use Rattle.crew.specs.Members.{RanIn}
 pub use Rattle.jobs_csv.specs.Fault.{IsInputFault, fault_text}
 pub use Rattle.jobs_csv.specs.Jobs.{parse_jobs}
 pub use Rattle.jobs_csv.specs.Text.{file_text}
-pub use Rattle.cli_words.specs.CommandLine.{AreShopSizes}
+pub use Rattle.cli_words.specs.CommandLine.{AreShopSizes, IsWithinLimits}
 pub use Rattle.whole_file.specs.Store.{KeepsFiles, KeepsOthers, begun_by, held_by}
 pub use Rattle.dispatcher.specs.Answers.{all_replies}
 pub use Rattle.dispatcher.specs.Reply.{IsRight, answered}
