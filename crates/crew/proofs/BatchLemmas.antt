@@ -1,63 +1,107 @@
 -- What is so of a run, in the words of the batch that it was.
-use Rattle.std.proofs.Common.{◌≡◌, Vec, Result, Ok, Err, IfOk, IfErr, subst}
-use Rattle.std.specs.Prelude.{⊤}
+use Rattle.std.proofs.Common.{◌≡◌, ◌≢◌, Vec, Result, Some, None, Ok, Err, IfOk, IfErr, map, length, subst, ◌∙◌}
 use Rattle.std.specs.declared.alloc.Global.{Global}
 use Rattle.std.specs.declared.collections.VecDeque.{VecDeque}
 use Rattle.job_types.specs.Job.{JobData}
+use Rattle.job_queue.specs.declared.job_line.JobLine.{Ghosts as LineWords}
+use Rattle.floors.specs.declared.floor.Floor.{Ghosts as FloorWords}
 use Rattle.dispatcher.specs.declared.opening.ShopRefused.{ShopRefused}
+use Rattle.dispatcher.specs.declared.opening.ShopRefused.TheVariants.{OutOfMemory}
+use Rattle.dispatcher.specs.declared.opening.ShopSizes.{ShopSizes}
+use Rattle.dispatcher.specs.Opening.{refusal_of}
+use Rattle.dispatcher.proofs.OpenLemmas.{map_twice}
 use Rattle.crew.specs.declared.running.RunEnd.{RunEnd}
 use Rattle.crew.specs.declared.answering.Stopped.{Stopped}
 use Rattle.crew.specs.declared.answering.Stopped.TheVariants.{Refused, Unfinished}
+use Rattle.crew.specs.Batch.{JobLists, IsBatchOutcome}
 use Rattle.crew.specs.Done.{reason_of, IsDone}
+use Rattle.crew.specs.Members.{RanIn}
+use Rattle.crew.specs.Run.{IsRun}
 use Rattle.crew.specs.Stopped.{MatchStopped}
+use Rattle.crew.proofs.DoneLemmas.{counts_all, answers_jobs}
 
 abbrev pub Jobs : Type 0
 Jobs = Vec (VecDeque JobData Global) Global
 
-module _ {M : Type 0} (ran : Result (RunEnd M) (ShopRefused × Jobs)) where
-  -- what a batch is that was answered, and one that was not
-  abbrev pub IsBatch : RunEnd M → Type 0
-  IsBatch end = (ran ≡ Ok end) × IsDone end
+-- what a run returns
+abbrev pub Ran : Type 0 → Type 0
+Ran M = Result (RunEnd M) (ShopRefused × Jobs)
 
-  abbrev pub IsStopped : Stopped M → Type 0
-  IsStopped stopped = MatchStopped stopped (λ why back. ran ≡ Err (why, back)) (λ why end. (ran ≡ Ok end) × (why ≡ reason_of end) × (¬ IsDone end))
+of_ended : {M : Type 0} (P : RunEnd M → Type 0) (ran : Ran M) (end : RunEnd M) → ran ≡ Ok end → IfOk ran P → P end
+of_ended {M} P ran end is so = subst (λ (r : Ran M). IfOk r P) is so
 
-  -- what is so of each run that ran
-  pub of_answered : (P : RunEnd M → Type 0) (result : Result (RunEnd M) (Stopped M)) → IfOk ran P → IfOk result IsBatch → IfOk result P
-  of_answered P (Ok end) so is = subst (λ (r : Result (RunEnd M) (ShopRefused × Jobs)). IfOk r P) is.0 so
-  of_answered P (Err stopped) so is = tt
+of_refusal : {M : Type 0} (P : ShopRefused × Jobs → Type 0) (ran : Ran M) (why : ShopRefused) (back : Jobs) → ran ≡ Err (why, back) → IfErr ran P → P (why, back)
+of_refusal {M} P ran why back is so = subst (λ (r : Ran M). IfErr r P) is so
 
-  pub of_unfinished : (P : RunEnd M → Type 0) (result : Result (RunEnd M) (Stopped M)) → IfOk ran P → IfErr result IsStopped → IfErr result (λ stopped. MatchStopped stopped (λ why back. ⊤) (λ why end. P end))
-  of_unfinished P (Ok end) so is = tt
-  of_unfinished P (Err (Refused why back)) so is = tt
-  of_unfinished P (Err (Unfinished why end)) so is = subst (λ (r : Result (RunEnd M) (ShopRefused × Jobs)). IfOk r P) is.0 so
+-- what a batch is that was answered, and one that was not
+abbrev pub IsBatch : {M : Type 0} → Ran M → RunEnd M → Type 0
+IsBatch ran end = (ran ≡ Ok end) × IsDone end
 
-  -- and where all is done
-  pub of_done : (P Q : RunEnd M → Type 0) → ((end : RunEnd M) → P end → IsDone end → Q end) → (result : Result (RunEnd M) (Stopped M)) → IfOk ran P → IfOk result IsBatch → IfOk result Q
-  of_done P Q then (Ok end) so is = then end (subst (λ (r : Result (RunEnd M) (ShopRefused × Jobs)). IfOk r P) is.0 so) is.1
-  of_done P Q then (Err stopped) so is = tt
+abbrev pub IsStopped : {M : Type 0} → Ran M → Stopped M → Type 0
+IsStopped ran stopped = MatchStopped stopped (λ why back. ran ≡ Err (why, back)) (λ why end. (ran ≡ Ok end) × (why ≡ reason_of end) × (¬ IsDone end))
 
-  pub is_done : (result : Result (RunEnd M) (Stopped M)) → IfOk result IsBatch → IfOk result (λ end. IsDone end)
-  is_done (Ok end) is = is.1
-  is_done (Err stopped) is = tt
+module _ {L Lane Pass Closer Note End F Station Held Machine : Type 0} (line : LineWords L Lane Pass Closer Note End) (floor : FloorWords F Station Held Machine) (asked : ShopSizes) (jobs : JobLists) where
+  -- the sizes are refused for this, or for nothing
+  abbrev pub Refuses : ShopRefused → Type 0
+  Refuses why = refusal_of asked.dim (length jobs) asked.dispatchers asked.capacity ≡ Some why
 
-  -- what is so of a run that was refused
-  pub of_refused : (P Q R : ShopRefused × Jobs → Type 0) (S : RunEnd M → Type 0) (result : Result (RunEnd M) (Stopped M)) → IfErr ran P → IfErr ran Q → IfErr ran R → IfOk ran S → IfErr result IsStopped
-      → IfErr result (λ stopped. MatchStopped stopped (λ why back. P (why, back) × Q (why, back) × R (why, back)) (λ why end. S end))
-  of_refused P Q R S (Ok end) p q r s is = tt
-  of_refused P Q R S (Err (Refused why back)) p q r s is = (
-    subst (λ (it : Result (RunEnd M) (ShopRefused × Jobs)). IfErr it P) is p,
-    subst (λ (it : Result (RunEnd M) (ShopRefused × Jobs)). IfErr it Q) is q,
-    subst (λ (it : Result (RunEnd M) (ShopRefused × Jobs)). IfErr it R) is r,
-  )
-  of_refused P Q R S (Err (Unfinished why end)) p q r s is = subst (λ (it : Result (RunEnd M) (ShopRefused × Jobs)). IfOk it S) is.0 s
+  abbrev pub RefusesNothing : Type 0
+  RefusesNothing = refusal_of asked.dim (length jobs) asked.dispatchers asked.capacity ≡ None
 
-  pub why_stopped : (result : Result (RunEnd M) (Stopped M)) → IfErr result IsStopped → IfErr result (λ stopped. MatchStopped stopped (λ why back. ⊤) (λ why end. why ≡ reason_of end))
-  why_stopped (Ok end) is = tt
-  why_stopped (Err (Refused why back)) is = tt
-  why_stopped (Err (Unfinished why end)) is = is.1
-
-  pub is_not_done : (result : Result (RunEnd M) (Stopped M)) → IfErr result IsStopped → IfErr result (λ stopped. MatchStopped stopped (λ why back. ⊤) (λ why end. ¬ IsDone end))
-  is_not_done (Ok end) is = tt
-  is_not_done (Err (Refused why back)) is = tt
-  is_not_done (Err (Unfinished why end)) is = is.2
+  -- what is so of a run is so of its batch
+  pub outcome_of : (ran : Ran Machine) (result : Result (RunEnd Machine) (Stopped Machine))
+      → IfOk ran (IsRun floor.machine_words asked.dim (map (λ js. js.items) jobs))
+      → IfOk ran (RanIn line floor asked (length jobs))
+      → IfOk ran (λ end. length end.finished.by_worker.items ≡ asked.dispatchers)
+      → IfOk ran (λ end. floor.machine_dim end.finished.machine ≡ asked.dim)
+      → IfOk ran (λ end. floor.is_closed asked.dispatchers end.finished.machine)
+      → IfOk ran (λ end. RefusesNothing)
+      → IfErr ran (λ r. r.0 ≢ OutOfMemory → Refuses r.0)
+      → IfErr ran (λ r. r.0 ≡ OutOfMemory → RefusesNothing)
+      → IfErr ran (λ r. r.1.items ≡ jobs)
+      → IfOk result (IsBatch ran) → IfErr result (IsStopped ran) → IsBatchOutcome line floor asked jobs result
+  outcome_of ran (Ok end) run ran_in workers dim closed sizes first memory_last back batch stopped =
+      let is = batch.0 in
+      let of_run : IsRun floor.machine_words asked.dim (map (λ js. js.items) jobs) end = of_ended (IsRun floor.machine_words asked.dim (map (λ js. js.items) jobs)) ran end is run in
+      record {
+        answered = record {
+          run = of_run;
+          workers = of_ended (λ e. length e.finished.by_worker.items ≡ asked.dispatchers) ran end is workers;
+          sizes = of_ended (λ e. RefusesNothing) ran end is sizes;
+          done = batch.1;
+          answers = answers_jobs floor.machine_words asked.dim (map (λ js. js.items) jobs) end of_run batch.1.lanes;
+          accepted = counts_all floor.machine_words asked.dim (map (λ js. js.items) jobs) end of_run batch.1.lanes ∙ map_twice (λ js. js.items) length jobs;
+          dim = of_ended (λ e. floor.machine_dim e.finished.machine ≡ asked.dim) ran end is dim;
+          closed = of_ended (λ e. floor.is_closed asked.dispatchers e.finished.machine) ran end is closed;
+        };
+        ran_in = of_ended (RanIn line floor asked (length jobs)) ran end is ran_in;
+        refused = tt;
+        unfinished = tt;
+        unfinished_ran_in = tt;
+      }
+  outcome_of ran (Err (Refused why back)) run ran_in workers dim closed sizes first memory_last gives_back batch stopped = record {
+    answered = tt;
+    ran_in = tt;
+    refused = record {
+      first = of_refusal (λ r. r.0 ≢ OutOfMemory → Refuses r.0) ran why back stopped first;
+      memory_last = of_refusal (λ r. r.0 ≡ OutOfMemory → RefusesNothing) ran why back stopped memory_last;
+      gives_back = of_refusal (λ r. r.1.items ≡ jobs) ran why back stopped gives_back;
+    };
+    unfinished = tt;
+    unfinished_ran_in = tt;
+  }
+  outcome_of ran (Err (Unfinished why end)) run ran_in workers dim closed sizes first memory_last back batch stopped =
+      let is = stopped.0 in
+      record {
+        answered = tt;
+        ran_in = tt;
+        refused = tt;
+        unfinished = record {
+          run = of_ended (IsRun floor.machine_words asked.dim (map (λ js. js.items) jobs)) ran end is run;
+          workers = of_ended (λ e. length e.finished.by_worker.items ≡ asked.dispatchers) ran end is workers;
+          sizes = of_ended (λ e. RefusesNothing) ran end is sizes;
+          not_done = stopped.2;
+          reason = stopped.1;
+        };
+        unfinished_ran_in = of_ended (RanIn line floor asked (length jobs)) ran end is ran_in;
+      }

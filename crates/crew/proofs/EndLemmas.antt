@@ -1,32 +1,22 @@
--- The end of a lane, put together from its parts.
-use Rattle.std.proofs.Common.{◌≡◌, ℕ, List, Option, length, slice_index, ap, ◌∙◌}
-use Rattle.std.specs.declared.alloc.Global.{Global}
-use Rattle.std.specs.declared.collections.VecDeque.{VecDeque}
+-- The end of a lane and the sizes of a shop, put together from their parts.
+use Rattle.std.proofs.Common.{◌≡◌, ℕ, List, sym, ap, ◌∙◌}
 use Rattle.job_types.specs.Job.{JobData}
 use Rattle.job_queue.specs.declared.record.LaneRecord.{LaneRecord}
-use Rattle.dispatcher.specs.declared.feeding.FeedStop.{FeedStop}
 use Rattle.dispatcher.specs.declared.opening.ShopSizes.{ShopSizes}
 use Rattle.dispatcher.specs.Shop.{ShopId, HasSizes}
 use Rattle.crew.specs.declared.running.LaneEnd.{LaneEnd}
-use Rattle.crew.specs.declared.running.Unfed.{Unfed}
-use Rattle.crew.specs.InnerEnd.{unfed_of, counted_end}
+use Rattle.crew.specs.InnerEnd.{HasEnded}
 use Rattle.crew.specs.InnerNaming.{sizes_of}
 
--- what is known of a lane, by its number and its entries
-abbrev unfed : ℕ → ℕ → Option JobData → VecDeque JobData Global → Option FeedStop → Unfed
-unfed lane entries back left stop = record { lane = lane; entries = entries; back = back; left = left; stop = stop }
-
-pub unfed_is : (r : LaneRecord) (back : Option JobData) (left : VecDeque JobData Global) (stop : Option FeedStop) (n e : ℕ) → n ≡ r.number → e ≡ length r.entries
-    → unfed n e back left stop ≡ unfed_of r back left stop
-unfed_is r back left stop n e lane entries =
-    ap (λ (k : ℕ). unfed k e back left stop) lane ∙ ap (λ (k : ℕ). unfed r.number k back left stop) entries
-
--- and with its count
-abbrev counted : Unfed → ℕ → LaneEnd
-counted u k = record { lane = u.lane; accepted = k; entries = u.entries; back = u.back; left = u.left; stop = u.stop }
-
-pub counted_is : (counts : List ℕ) (u : Unfed) (k : ℕ) → k ≡ slice_index counts u.lane → counted u k ≡ counted_end counts u
-counted_is counts u k count = ap (counted u) count
+-- the jobs of each lane by another name
+pub named_end : (jobs named : ℕ → List JobData) (lane : LaneRecord) (end : LaneEnd) → ((k : ℕ) → named k ≡ jobs k) → HasEnded jobs lane end → HasEnded named lane end
+named_end jobs named lane end same is = record {
+  number = is.number;
+  accepted = is.accepted;
+  entries = is.entries;
+  all_jobs = is.all_jobs ∙ sym (same lane.number);
+  stopped = is.stopped;
+}
 
 -- the sizes of a shop are those that were asked for
 abbrev sized : ℕ → ℕ → ℕ → ShopSizes

@@ -1,8 +1,6 @@
 -- What the members of a run say together.
 use Rattle.std.proofs.Common.{◌≡◌, ℕ, zero, suc, ◌<◌, ◌≤◌, ◌++◌, ◌∷◌, [], List, Option, Some, None, map, length, take, drop, get_or, length-append, append_assoc, refl, sym, ap, subst, ◌∙◌, arith}
 use Rattle.std.specs.List.{All, AllByRecursion, AllZip}
-use Rattle.std.specs.declared.alloc.Global.{Global}
-use Rattle.std.specs.declared.collections.VecDeque.{VecDeque}
 use Rattle.std.proofs.Math.Seq.{take-append_seam, drop-append_seam}
 use Rattle.std.proofs.lemmas.List.{length-map}
 use Rattle.std.proofs.lemmas.List.Elements.{All-nil, All-cons, All-head, All-tail}
@@ -25,8 +23,8 @@ use Rattle.dispatcher.proofs.OpenLemmas.{map_twice}
 use Rattle.crew.specs.declared.running.LaneEnd.{LaneEnd}
 use Rattle.crew.specs.declared.running.RunEnd.{RunEnd}
 use Rattle.crew.specs.InnerStop.{StopsBy}
-use Rattle.crew.specs.InnerEnd.{unfed_of, counted_end}
-use Rattle.crew.specs.Run.{IsStopOf, IsLaneEnd, accepted_of, by_worker_of, IsRun}
+use Rattle.crew.specs.InnerEnd.{HasEnded}
+use Rattle.crew.specs.Run.{unfed_jobs, IsStopOf, IsLaneEnd, accepted_of, by_worker_of, IsRun}
 use Rattle.crew.proofs.AnswerLemmas.{IsFed, answers_all}
 
 pub lanes_count : (count : ℕ) → length (fresh_lanes count) ≡ count
@@ -62,16 +60,9 @@ stop_as close_number lane end (Some Turns) entries seen by = absurd by
 
 -- ---- all lanes
 
-module _ {A : Type 0} (record_of : A → LaneRecord) (back : A → Option JobData) (left : A → VecDeque JobData Global) (stop : A → Option FeedStop) (counts : List ℕ) where
-  abbrev pub end_of : A → LaneEnd
-  end_of x = counted_end counts (unfed_of (record_of x) (back x) (left x) (stop x))
-
-  -- what the lane has accepted, and what it did not hand in, are its jobs
-  abbrev pub HasFed : (ℕ → List JobData) → A → Type 0
-  HasFed jobs x = accepted_jobs (record_of x) ++ given_back (back x) ++ (left x).items ≡ jobs (record_of x).number
-
-  abbrev pub HasStopped : A → Type 0
-  HasStopped x = StopsBy (record_of x) (back x) (left x).items (stop x)
+module _ {A : Type 0} (record_of : A → LaneRecord) (end_of : A → LaneEnd) (counts : List ℕ) where
+  abbrev pub IsEnd : (ℕ → List JobData) → A → Type 0
+  IsEnd jobs x = HasEnded jobs (record_of x) (end_of x)
 
   abbrev pub Counted : LaneRecord → Type 0
   Counted l = get_or counts l.number 0 ≡ length (accepted l.entries)
@@ -82,27 +73,29 @@ module _ {A : Type 0} (record_of : A → LaneRecord) (back : A → Option JobDat
   counted_jobs : (x : A) → Counted (record_of x) → get_or counts (record_of x).number 0 ≡ length (accepted_jobs (record_of x))
   counted_jobs x counted = counted ∙ sym (length-map (accepted (record_of x).entries) job_of)
 
-  one_end : (jobs : List (List JobData)) (close_number : ℕ) (x : A) → HasFed (λ k. get_or jobs k []) x → HasStopped x → Counted (record_of x) → Seen close_number (record_of x) → IsLaneEnd jobs counts close_number (end_of x)
-  one_end jobs close_number x fed stopped counted seen =
+  one_end : (jobs : List (List JobData)) (close_number : ℕ) (x : A) → IsEnd (λ k. get_or jobs k []) x → Counted (record_of x) → Seen close_number (record_of x) → IsLaneEnd jobs counts close_number (end_of x)
+  one_end jobs close_number x is counted seen =
       let l : LaneRecord = record_of x in
+      let end : LaneEnd = end_of x in
       let own : List JobData = accepted_jobs l in
-      let others : List JobData = given_back (back x) ++ (left x).items in
-      let whole : own ++ others ≡ get_or jobs l.number [] = sym (append_assoc own (given_back (back x)) (left x).items) ∙ fed in
-      let count : get_or counts l.number 0 ≡ length own = counted_jobs x counted in
+      let others : List JobData = unfed_jobs end in
+      let list : List JobData = get_or jobs l.number [] in
+      let whole : own ++ others ≡ list = sym (append_assoc own (given_back end.back) end.left.items) ∙ is.all_jobs in
+      let same : get_or jobs end.lane [] ≡ list = ap (λ (k : ℕ). get_or jobs k []) is.number in
       record {
-        counted = refl;
-        within = omega (arith, count, ap length whole, length-append own others);
-        unfed = sym (drop-append_seam own others) ∙ (ap (drop (length own)) whole ∙ ap (λ (k : ℕ). drop k (get_or jobs l.number [])) (sym count));
-        entries = omega (arith, counted, few_accepted l.entries);
-        stopped = stop_as close_number l (end_of x) (stop x) refl seen stopped;
+        counted = is.accepted ∙ (sym (counted_jobs x counted) ∙ sym (ap (λ (k : ℕ). get_or counts k 0) is.number));
+        within = omega (arith, is.accepted, ap length whole, ap length same, length-append own others);
+        unfed = sym (drop-append_seam own others) ∙ (ap (drop (length own)) (whole ∙ sym same) ∙ ap (λ (k : ℕ). drop k (get_or jobs end.lane [])) (sym is.accepted));
+        entries = omega (arith, is.accepted, is.entries, length-map (accepted l.entries) job_of, few_accepted l.entries);
+        stopped = stop_as close_number l end end.stop is.entries seen is.stopped;
       }
 
-  all_ends : (jobs : List (List JobData)) (close_number : ℕ) (xs : List A) → All (HasFed (λ k. get_or jobs k [])) xs → All HasStopped xs → AllByRecursion Counted (map record_of xs) → AllByRecursion (Seen close_number) (map record_of xs) → All (IsLaneEnd jobs counts close_number) (map end_of xs)
-  all_ends jobs close_number [] fed stopped counted seen = All-nil (IsLaneEnd jobs counts close_number)
-  all_ends jobs close_number (x ∷ xs) fed stopped counted seen =
+  all_ends : (jobs : List (List JobData)) (close_number : ℕ) (xs : List A) → All (IsEnd (λ k. get_or jobs k [])) xs → AllByRecursion Counted (map record_of xs) → AllByRecursion (Seen close_number) (map record_of xs) → All (IsLaneEnd jobs counts close_number) (map end_of xs)
+  all_ends jobs close_number [] are counted seen = All-nil (IsLaneEnd jobs counts close_number)
+  all_ends jobs close_number (x ∷ xs) are counted seen =
       All-cons (IsLaneEnd jobs counts close_number) (end_of x) (map end_of xs)
-      (one_end jobs close_number x (All-head (HasFed (λ k. get_or jobs k [])) x xs fed) (All-head HasStopped x xs stopped) counted.0 seen.0)
-      (all_ends jobs close_number xs (All-tail (HasFed (λ k. get_or jobs k [])) x xs fed) (All-tail HasStopped x xs stopped) counted.1 seen.1)
+      (one_end jobs close_number x (All-head (IsEnd (λ k. get_or jobs k [])) x xs are) counted.0 seen.0)
+      (all_ends jobs close_number xs (All-tail (IsEnd (λ k. get_or jobs k [])) x xs are) counted.1 seen.1)
 
   -- the accepted jobs of each lane are the first ones of its list
   accepted_at : (jobs : List (List JobData)) (ns : List ℕ) (k : ℕ) → length ns ≡ length jobs → get_or (accepted_of jobs ns) k [] ≡ take (get_or ns k 0) (get_or jobs k [])
@@ -117,17 +110,18 @@ module _ {A : Type 0} (record_of : A → LaneRecord) (back : A → Option JobDat
   accepted_count (js ∷ jobs) [] same = absurd (omega (arith, same))
   accepted_count (js ∷ jobs) (n ∷ ns) same = omega (arith, accepted_count jobs ns (omega (arith, same)))
 
-  all_accepted : (jobs : List (List JobData)) (xs : List A) → length counts ≡ length jobs → All (HasFed (λ k. get_or jobs k [])) xs → AllByRecursion Counted (map record_of xs) → AllByRecursion (IsFed (accepted_of jobs counts)) (map record_of xs)
-  all_accepted jobs [] same fed counted = tt
-  all_accepted jobs (x ∷ xs) same fed counted =
+  all_accepted : (jobs : List (List JobData)) (xs : List A) → length counts ≡ length jobs → All (IsEnd (λ k. get_or jobs k [])) xs → AllByRecursion Counted (map record_of xs) → AllByRecursion (IsFed (accepted_of jobs counts)) (map record_of xs)
+  all_accepted jobs [] same are counted = tt
+  all_accepted jobs (x ∷ xs) same are counted =
       let l : LaneRecord = record_of x in
       let own : List JobData = accepted_jobs l in
-      let others : List JobData = given_back (back x) ++ (left x).items in
-      let whole : own ++ others ≡ get_or jobs l.number [] = sym (append_assoc own (given_back (back x)) (left x).items) ∙ All-head (HasFed (λ k. get_or jobs k [])) x xs fed in (
+      let others : List JobData = unfed_jobs (end_of x) in
+      let is = All-head (IsEnd (λ k. get_or jobs k [])) x xs are in
+      let whole : own ++ others ≡ get_or jobs l.number [] = sym (append_assoc own (given_back (end_of x).back) (end_of x).left.items) ∙ is.all_jobs in (
         sym (take-append_seam own others)
             ∙ (ap (take (length own)) whole
             ∙ (ap (λ (k : ℕ). take k (get_or jobs l.number [])) (sym (counted_jobs x counted.0)) ∙ sym (accepted_at jobs counts l.number same))),
-        all_accepted jobs xs same (All-tail (HasFed (λ k. get_or jobs k [])) x xs fed) counted.1,
+        all_accepted jobs xs same (All-tail (IsEnd (λ k. get_or jobs k [])) x xs are) counted.1,
       )
 
 -- there is a reason for each worker's stop
@@ -136,43 +130,50 @@ all_stopped stop replies own [] = tt
 all_stopped stop replies own (e ∷ es) = (own e, all_stopped stop replies own es)
 
 -- a part of each end is that part of its lane
-pub parts_told : {A N V E : Type 0} (lane_of : A → N) (of_lane : N → V) (of_end : E → V) (to_end : A → E) (xs : List A) (lanes : List N) (ends : List E) → lanes ≡ map lane_of xs → ends ≡ map to_end xs → ((x : A) → of_end (to_end x) ≡ of_lane (lane_of x)) → map of_end ends ≡ map of_lane lanes
-parts_told {A} {N} {V} {E} lane_of of_lane of_end to_end xs lanes ends are told same =
-    ap (map of_end) told ∙ (map_twice to_end of_end xs ∙ (each xs ∙ (sym (map_twice lane_of of_lane xs) ∙ sym (ap (map of_lane) are))))
+pub parts_are : {A N V : Type 0} (P : A → Type 0) (lane_of : A → N) (of_lane : N → V) (end_of : A → LaneEnd) (of_end : LaneEnd → V)
+    → ((x : A) → P x → of_end (end_of x) ≡ of_lane (lane_of x)) → (xs : List A) (lanes : List N) (ends : List LaneEnd)
+    → lanes ≡ map lane_of xs → ends ≡ map end_of xs → All P xs → map of_end ends ≡ map of_lane lanes
+parts_are {A} {N} {V} P lane_of of_lane end_of of_end same xs lanes ends are told all =
+    ap (map of_end) told ∙ (map_twice end_of of_end xs ∙ (each xs all ∙ (sym (map_twice lane_of of_lane xs) ∙ sym (ap (map of_lane) are))))
   where
-    each : (xs : List A) → map (λ x. of_end (to_end x)) xs ≡ map (λ x. of_lane (lane_of x)) xs
-    each [] = refl
-    each (x ∷ xs) = ap (λ (v : V). v ∷ map (λ y. of_end (to_end y)) xs) (same x) ∙ ap (λ (vs : List V). of_lane (lane_of x) ∷ vs) (each xs)
+    each : (xs : List A) → All P xs → map (λ x. of_end (end_of x)) xs ≡ map (λ x. of_lane (lane_of x)) xs
+    each [] all = refl
+    each (x ∷ xs) all =
+        ap (λ (v : V). v ∷ map (λ y. of_end (end_of y)) xs) (same x (All-head P x xs all))
+        ∙ ap (λ (vs : List V). of_lane (lane_of x) ∷ vs) (each xs (All-tail P x xs all))
 
 -- the record of a run, from the theorem of its shop
-pub run_of : {A M : Type 0} (record_of : A → LaneRecord) (back : A → Option JobData) (left : A → VecDeque JobData Global) (stop : A → Option FeedStop)
+pub run_of : {A M : Type 0} (record_of : A → LaneRecord) (end_of : A → LaneEnd)
     (words_of : M → List ℕ) (n : ℕ) (jobs : List (List JobData)) (xs : List A) (grants : List (List Region)) (note : ℕ) (end : RunEnd M)
     → FinishedRun n (map record_of xs) grants note (outcome words_of end.finished)
-    → end.lanes.items ≡ map (end_of record_of back left stop end.finished.accepted.items) xs
+    → end.lanes.items ≡ map end_of xs
     → end.close_number ≡ note
-    → All (HasFed record_of back left stop end.finished.accepted.items (λ k. get_or jobs k [])) xs
-    → All (HasStopped record_of back left stop end.finished.accepted.items) xs
+    → All (λ x. HasEnded (λ k. get_or jobs k []) (record_of x) (end_of x)) xs
     → ((k : ℕ) → k < length jobs → times k (map (λ l. l.number) (map record_of xs)) ≡ 1)
     → length xs ≡ length jobs → length end.finished.accepted.items ≡ length jobs
     → AllZip (λ s rs. s ≡ NotRun → rs ≡ []) end.stops.items (by_worker_of end)
     → IsRun words_of n jobs end
-run_of {A} record_of back left stop words_of n jobs xs grants note end finished lanes close fed stopped numbers size count stops =
+run_of {A} record_of end_of words_of n jobs xs grants note end finished lanes close are numbers size count stops =
     let counts : List ℕ = end.finished.accepted.items in
-    let to_end : A → LaneEnd = end_of record_of back left stop counts in
-    let sums : total (λ (l : LaneEnd). l.entries) (map to_end xs) ≡ total (λ (l : LaneRecord). length l.entries) (map record_of xs) =
-    total-map (λ (l : LaneEnd). l.entries) to_end xs ∙ sym (total-map (λ (l : LaneRecord). length l.entries) record_of xs) in
-    let names : map (λ (l : LaneEnd). l.lane) (map to_end xs) ≡ map (λ (l : LaneRecord). l.number) (map record_of xs) =
-    map_twice to_end (λ (l : LaneEnd). l.lane) xs ∙ sym (map_twice record_of (λ (l : LaneRecord). l.number) xs) in
+    let records : List LaneRecord = map record_of xs in
+    let IsEnd : A → Type 0 = λ x. HasEnded (λ k. get_or jobs k []) (record_of x) (end_of x) in
+    let entries : map (λ (l : LaneEnd). l.entries) end.lanes.items ≡ map (λ (l : LaneRecord). length l.entries) records =
+    parts_are IsEnd record_of (λ (l : LaneRecord). length l.entries) end_of (λ (l : LaneEnd). l.entries) (λ x is. is.entries) xs records end.lanes.items refl lanes are in
+    let sums : total (λ (l : LaneEnd). l.entries) end.lanes.items ≡ total (λ (l : LaneRecord). length l.entries) records =
+    sym (total-map (λ (k : ℕ). k) (λ (l : LaneEnd). l.entries) end.lanes.items)
+    ∙ (ap (total (λ (k : ℕ). k)) entries ∙ total-map (λ (k : ℕ). k) (λ (l : LaneRecord). length l.entries) records) in
+    let names : map (λ (l : LaneEnd). l.lane) end.lanes.items ≡ map (λ (l : LaneRecord). l.number) records =
+    parts_are IsEnd record_of (λ (l : LaneRecord). l.number) end_of (λ (l : LaneEnd). l.lane) (λ x is. is.number) xs records end.lanes.items refl lanes are in
     record {
-      lane_count = ap length lanes ∙ (length-map xs to_end ∙ size);
-      lanes = λ k below. ap (times k) (ap (map (λ (l : LaneEnd). l.lane)) lanes ∙ names) ∙ numbers k below;
+      lane_count = ap length lanes ∙ (length-map xs end_of ∙ size);
+      lanes = λ k below. ap (times k) names ∙ numbers k below;
       counts = count;
       ends = subst (All (IsLaneEnd jobs counts end.close_number)) (sym lanes)
-          (subst (λ (c : ℕ). All (IsLaneEnd jobs counts c) (map to_end xs)) (sym close)
-          (all_ends record_of back left stop counts jobs note xs fed stopped finished.counts finished.seen));
-      close_number = close ∙ (finished.close_number ∙ (sym sums ∙ sym (ap (total (λ (l : LaneEnd). l.entries)) lanes)));
-      answers = answers_all n (accepted_of jobs counts) (map record_of xs) grants note (outcome words_of end.finished) finished (all_accepted record_of back left stop counts jobs xs count fed finished.counts)
-          (λ k below. numbers k (omega (arith, below, accepted_count record_of back left stop counts jobs counts count)));
+          (subst (λ (c : ℕ). All (IsLaneEnd jobs counts c) (map end_of xs)) (sym close)
+          (all_ends record_of end_of counts jobs note xs are finished.counts finished.seen));
+      close_number = close ∙ (finished.close_number ∙ sym sums);
+      answers = answers_all n (accepted_of jobs counts) records grants note (outcome words_of end.finished) finished (all_accepted record_of end_of counts jobs xs count are finished.counts)
+          (λ k below. numbers k (omega (arith, below, accepted_count record_of end_of counts jobs counts count)));
       rises = finished.rises;
       rest_rises = finished.rest_rises;
       stops = stops;

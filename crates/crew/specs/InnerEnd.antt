@@ -1,17 +1,17 @@
--- The end of a lane, put together from its parts.
-use Rattle.std.specs.Prelude.{ℕ, List, Option, length, slice_index}
-use Rattle.std.specs.declared.alloc.Global.{Global}
-use Rattle.std.specs.declared.collections.VecDeque.{VecDeque}
+-- The end of a lane, by the record of its lane.
+use Rattle.std.specs.Prelude.{◌≡◌, ℕ, ◌++◌, List, length}
 use Rattle.job_types.specs.Job.{JobData}
 use Rattle.job_queue.specs.declared.record.LaneRecord.{LaneRecord}
-use Rattle.dispatcher.specs.declared.feeding.FeedStop.{FeedStop}
+use Rattle.job_queue.specs.Record.{accepted_jobs}
+use Rattle.dispatcher.specs.Stop.{given_back}
 use Rattle.crew.specs.declared.running.LaneEnd.{LaneEnd}
-use Rattle.crew.specs.declared.running.Unfed.{Unfed}
+use Rattle.crew.specs.InnerStop.{StopsBy}
 
--- what is known of a lane once it was fed, from its record and from what its feed gave back
-abbrev pub unfed_of : LaneRecord → Option JobData → VecDeque JobData Global → Option FeedStop → Unfed
-unfed_of lane back left stop = record { lane = lane.number; entries = length lane.entries; back = back; left = left; stop = stop }
-
--- and with the number of its accepted jobs
-abbrev pub counted_end : List ℕ → Unfed → LaneEnd
-counted_end counts u = record { lane = u.lane; accepted = slice_index counts u.lane; entries = u.entries; back = u.back; left = u.left; stop = u.stop }
+-- The values of the end are those of the record. What the lane has accepted, and what it did not hand in, are the jobs
+-- of its number.
+pub record HasEnded (jobs : ℕ → List JobData) (lane : LaneRecord) (end : LaneEnd) : Type 0 where
+  pub number : end.lane ≡ lane.number
+  pub accepted : end.accepted ≡ length (accepted_jobs lane)
+  pub entries : end.entries ≡ length lane.entries
+  pub all_jobs : accepted_jobs lane ++ given_back end.back ++ end.left.items ≡ jobs lane.number
+  pub stopped : StopsBy lane end.back end.left.items end.stop

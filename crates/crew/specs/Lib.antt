@@ -5,6 +5,7 @@ pub mod Run
 pub mod Done
 pub mod Members
 pub mod Stopped
+pub mod Batch
 pub use Rattle.job_queue.specs.Line.{IsFor}
 pub use Rattle.dispatcher.specs.Answers.{AnswersAll}
 pub use Rattle.dispatcher.specs.Opening.{refusal_of}

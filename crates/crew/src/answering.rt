@@ -3,10 +3,7 @@ ghost use Rattle.std.specs.Prelude.{◌≡◌, ◌≢◌, ℕ, ◌^◌, ◌<◌,
 ghost use Rattle.std.specs.List.{All, list_any};
 ghost use Rattle.job_queue.specs.Line.{IsFor};
 ghost use Rattle.dispatcher.specs.declared.feeding.FeedStop.TheVariants.{Done};
-ghost use Rattle.dispatcher.specs.Opening.{refusal_of};
-ghost use Rattle.dispatcher.specs.Answers.{AnswersAll};
-ghost use Rattle.crew.specs.Run.{by_worker_of, IsRun};
-ghost use Rattle.crew.specs.Members.{RanIn};
+ghost use Rattle.crew.specs.Batch.{IsBatchOutcome};
 ghost use Rattle.crew.specs.Done.{is_cut_off, is_spent, is_idle, reason_of, IsDone};
 ghost use Rattle.crew.specs.Stopped.{MatchStopped};
 
@@ -168,36 +165,7 @@ pub fn answer_all<
     requires lanes { length jobs.items < 2 ^ 32 }
     requires made_for { (k : ℕ) → k < length jobs.items →
         All (IsFor sizes.dim k) (slice_index_or (map (λ js. js.items) jobs.items) k []) }
-    ensures run { IfOk result (IsRun F.machine_words sizes.dim (map (λ js. js.items) jobs.items)) }
-    ensures ran_in { IfOk result
-        (RanIn L.JobLine F.Floor sizes (length jobs.items)) }
-    ensures done { IfOk result (λ end. IsDone end) }
-    ensures answers { IfOk result (λ end. AnswersAll sizes.dim (map (λ js. js.items) jobs.items)
-        (by_worker_of end) end.finished.rest.items) }
-    ensures accepted { IfOk result (λ end.
-        end.finished.accepted.items ≡ map (λ js. length js.items) jobs.items) }
-    ensures workers { IfOk result (λ end. length end.finished.by_worker.items ≡ sizes.dispatchers) }
-    ensures dim { IfOk result (λ end. F.machine_dim end.finished.machine ≡ sizes.dim) }
-    ensures closed { IfOk result (λ end. F.is_closed sizes.dispatchers end.finished.machine) }
-    ensures sizes { IfOk result (λ end.
-        refusal_of sizes.dim (length jobs.items) sizes.dispatchers sizes.capacity ≡ None) }
-    ensures refused { IfErr result (λ stopped. MatchStopped stopped
-        (λ why back. (why ≢ ShopRefused.OutOfMemory →
-        refusal_of sizes.dim (length jobs.items) sizes.dispatchers sizes.capacity ≡ Some why)
-        × (why ≡ ShopRefused.OutOfMemory →
-        refusal_of sizes.dim (length jobs.items) sizes.dispatchers sizes.capacity ≡ None)
-        × (back.items ≡ jobs.items))
-        (λ why end. refusal_of sizes.dim (length jobs.items) sizes.dispatchers sizes.capacity ≡ None)) }
-    ensures unfinished { IfErr result (λ stopped. MatchStopped stopped (λ why back. ⊤)
-        (λ why end. IsRun F.machine_words sizes.dim (map (λ js. js.items) jobs.items) end)) }
-    ensures unfinished_ran_in { IfErr result (λ stopped. MatchStopped stopped (λ why back. ⊤)
-        (λ why end. RanIn L.JobLine F.Floor sizes (length jobs.items) end)) }
-    ensures unfinished_workers { IfErr result (λ stopped. MatchStopped stopped (λ why back. ⊤)
-        (λ why end. length end.finished.by_worker.items ≡ sizes.dispatchers)) }
-    ensures reason { IfErr result (λ stopped. MatchStopped stopped (λ why back. ⊤)
-        (λ why end. why ≡ reason_of end)) }
-    ensures not_done { IfErr result (λ stopped. MatchStopped stopped (λ why back. ⊤)
-        (λ why end. ¬ IsDone end)) }
+    ensures { IsBatchOutcome L.JobLine F.Floor sizes jobs.items result }
 {
     let ran = run::<R, L, F, T>(rt, alloc, sizes, runner, jobs);
     batch_of(ran)

@@ -1,14 +1,16 @@
 // What a thread has: a lane with its jobs, a worker, or the right to close. The type says what is known
 // of it, so it may lie under a lock, and no thread that was not started takes it along.
-ghost use Rattle.std.specs.Prelude.{◌≡◌, ◌≢◌, ℕ, ◌<◌, ◌↔◌, ◌++◌, [], List, None, Some, true, false, IsTrue, IsSome, MatchOption};
+ghost use Rattle.std.specs.Prelude.{◌≡◌, ◌≢◌, ℕ, ◌+◌, ◌<◌, ◌≤◌, ◌↔◌, ◌++◌, [], List, None, Some, true, false, IsTrue, IsSome, MatchOption, length};
 ghost use Rattle.std.specs.List.{All};
 ghost use Rattle.std.specs.VecDeque.{deque_len, deque_capacity};
 ghost use Rattle.job_queue.specs.Record.{accepted_jobs};
 ghost use Rattle.job_queue.specs.Line.{IsFor};
 ghost use Rattle.dispatcher.specs.Members.{IsWorkerOf, IsEndOf, IsCloserOf, IsNoteOf, stop_of};
 ghost use Rattle.dispatcher.specs.Stop.{given_back};
-ghost use Rattle.crew.specs.InnerStop.{StopsBy, IsTakenBack, stop_in};
+ghost use Rattle.crew.specs.InnerStop.{IsTakenBack, stop_in};
+ghost use Rattle.crew.specs.InnerEnd.{HasEnded};
 
+use crate::running::LaneEnd;
 use dispatcher::{
     CloseNote, Closer, FeedStop, Runner, Shop, Stop, Worker, WorkerEnd, dispatch, wait_for_room,
 };
@@ -67,6 +69,8 @@ impl Progress {
 /// A lane, and the jobs that it has still to hand in.
 pub struct Feeder<J: Naming, L: JobLine> {
     lane: L::Lane,
+    // The number of jobs that it was given.
+    given: usize,
     back: Option<Job>,
     left: VecDeque<Job>,
     progress: Progress,
@@ -74,7 +78,7 @@ pub struct Feeder<J: Naming, L: JobLine> {
 }
 
 impl<J: Naming, L: JobLine> Model for Feeder<J, L> {
-    ghost use Rattle.std.specs.Prelude.{◌≡◌, ◌++◌, Bool};
+    ghost use Rattle.std.specs.Prelude.{◌≡◌, ◌++◌, Bool, length};
     ghost use Rattle.std.specs.List.{All};
     ghost use Rattle.job_queue.specs.Record.{accepted_jobs};
     ghost use Rattle.job_queue.specs.Line.{IsFor};
@@ -90,19 +94,8 @@ impl<J: Naming, L: JobLine> Model for Feeder<J, L> {
         × All (IsFor J.shop.line.sizes.machine (L.lane_record f.lane).number) f.left.items
         × (accepted_jobs (L.lane_record f.lane) ++ given_back f.back ++ f.left.items
         ≡ J.jobs (L.lane_record f.lane).number)
-        × HasCome (L.lane_record f.lane) f.back f.left.items f.progress };
-}
-
-/// What became of a feeder.
-pub struct Fed<L: JobLine> {
-    /// Its lane.
-    pub lane: L::Lane,
-    /// The job that the line refused for good, if it did.
-    pub back: Option<Job>,
-    /// The jobs after it that were not handed in.
-    pub left: VecDeque<Job>,
-    /// Why the feed has stopped, or `None` where it was never run.
-    pub stop: Option<FeedStop>,
+        × HasCome (L.lane_record f.lane) f.back f.left.items f.progress
+        × (f.given ≡ length (J.jobs (L.lane_record f.lane).number)) };
 }
 
 // Takes a job back that was refused: it is the next one again where the line was full, and else its feed
@@ -128,6 +121,18 @@ fn take_back(
     Some(stop)
 }
 
+// Returns the number of jobs that a line has accepted: those that were given, less those that came back or are left.
+fn accepted_count(given: usize, back: &Option<Job>, left: &VecDeque<Job>) -> u64
+    requires { length (given_back back.now ++ left.now.items) ≤ given }
+    ensures { result + length (given_back back.now ++ left.now.items) ≡ given }
+{
+    let handed_in = (given - left.len()) as u64;
+    match back {
+        Some(_) => handed_in - 1,
+        None => handed_in,
+    }
+}
+
 impl<J: Naming, L: JobLine> Feeder<J, L> {
     pub fn new(lane: L::Lane, jobs: VecDeque<Job>) -> Feeder<J, L>
         requires lane { L.is_lane J.shop.line lane }
@@ -139,6 +144,7 @@ impl<J: Naming, L: JobLine> Feeder<J, L> {
     {
         Feeder {
             lane,
+            given: jobs.len(),
             back: None,
             left: jobs,
             progress: Progress::NotRun,
@@ -188,31 +194,31 @@ impl<J: Naming, L: JobLine> Feeder<J, L> {
         }
     }
 
-    // What became of it. One that is under way hands in the rest before.
-    #[tactic(auto, using(crate::proofs::MemberLemmas::stops_by))]
-    pub fn into_parts<R: Wait, F: Floor>(self, rt: &R, shop: &Shop<L, F>) -> Fed<L>
+    // Returns its lane, and the lane's end. One that is under way hands in the rest before.
+    pub fn into_end<R: Wait, F: Floor>(self, rt: &R, shop: &Shop<L, F>) -> (L::Lane, LaneEnd)
         requires { shop.now ≡ J.shop }
-        ensures lane { L.is_lane J.shop.line result.lane }
-        ensures jobs { accepted_jobs (L.lane_record result.lane) ++ given_back result.back
-            ++ result.left.items ≡ J.jobs (L.lane_record result.lane).number }
-        ensures stop { StopsBy (L.lane_record result.lane) result.back result.left.items
-            result.stop }
+        ensures lane { L.is_lane J.shop.line result.0 }
+        ensures end { HasEnded J.jobs (L.lane_record result.0) result.1 }
     {
         let mut feeder = self;
         feeder.finish(rt, shop);
         let Feeder {
             lane,
+            given,
             back,
             left,
             progress,
             of: _,
         } = feeder;
-        Fed {
-            lane,
+        let end = LaneEnd {
+            lane: L::lane_number(&lane),
+            accepted: accepted_count(given, &back, &left),
+            entries: L::entry_count(&lane),
             back,
             left,
             stop: progress.stop(),
-        }
+        };
+        (lane, end)
     }
 }
 

@@ -8,8 +8,7 @@ ghost use Rattle.dispatcher.specs.Opening.{refusal_of};
 ghost use Rattle.dispatcher.specs.Shop.{HasSizes};
 ghost use Rattle.dispatcher.specs.Members.{IsWorkerOf, IsCloserOf};
 
-use crate::member::Fed;
-use crate::running::{LaneEnd, Unfed};
+use crate::running::LaneEnd;
 use dispatcher::{Opened, Shop, ShopRefused, ShopSizes, Stop, WorkerEnd, refusal};
 use floors::Floor;
 use job_queue::JobLine;
@@ -17,28 +16,23 @@ use job_types::Job;
 use std::alloc::{AllocError, Global};
 use std::collections::VecDeque;
 
-// Room for what is told of the members of a run.
+// Room for what a run returns of its lanes and of its workers.
 #[derive(Drop)]
 pub struct EndRoom {
-    pub unfed: Vec<Unfed>,
     pub lanes: Vec<LaneEnd>,
     pub stops: Vec<Stop>,
 }
 
 impl EndRoom {
     fn new(alloc: Global, workers: usize, lanes: usize) -> Result<Self, AllocError>
-        ensures unfed { IfOk result (λ room.
-            (room.unfed.items ≡ []) × (lanes ≤ vec_capacity room.unfed)) }
         ensures lanes { IfOk result (λ room.
             (room.lanes.items ≡ []) × (lanes ≤ vec_capacity room.lanes)) }
         ensures stops { IfOk result (λ room.
             (room.stops.items ≡ []) × (workers ≤ vec_capacity room.stops)) }
     {
-        let unfed = Vec::with_capacity(alloc, lanes)?;
         let lane_ends = Vec::with_capacity(alloc, lanes)?;
         let stops = Vec::with_capacity(alloc, workers)?;
         Ok(EndRoom {
-            unfed,
             lanes: lane_ends,
             stops,
         })
@@ -48,8 +42,8 @@ impl EndRoom {
 // Room for the members of a run, when they come out of their slots.
 pub struct MemberRoom<L: JobLine, F: Floor> {
     pub ends: Vec<WorkerEnd<L, F>>,
-    pub fed: Vec<Fed<L>>,
-    pub told: EndRoom,
+    pub fed: Vec<(L::Lane, LaneEnd)>,
+    pub returned: EndRoom,
 }
 
 impl<L: JobLine, F: Floor> MemberRoom<L, F> {
@@ -58,26 +52,32 @@ impl<L: JobLine, F: Floor> MemberRoom<L, F> {
             (room.ends.items ≡ []) × (workers ≤ vec_capacity room.ends)) }
         ensures fed { IfOk result (λ room.
             (room.fed.items ≡ []) × (lanes ≤ vec_capacity room.fed)) }
-        ensures unfed { IfOk result (λ room.
-            (room.told.unfed.items ≡ []) × (lanes ≤ vec_capacity room.told.unfed)) }
         ensures lanes { IfOk result (λ room.
-            (room.told.lanes.items ≡ []) × (lanes ≤ vec_capacity room.told.lanes)) }
+            (room.returned.lanes.items ≡ []) × (lanes ≤ vec_capacity room.returned.lanes)) }
         ensures stops { IfOk result (λ room.
-            (room.told.stops.items ≡ []) × (workers ≤ vec_capacity room.told.stops)) }
+            (room.returned.stops.items ≡ []) × (workers ≤ vec_capacity room.returned.stops)) }
     {
-        let told = EndRoom::new(alloc, workers, lanes)?;
+        let returned = EndRoom::new(alloc, workers, lanes)?;
         let ends = Vec::with_capacity(alloc, workers)?;
         let Ok(fed) = Vec::with_capacity(alloc, lanes) else {
             ends.destroy_empty();
             return Err(AllocError);
         };
-        Ok(MemberRoom { ends, fed, told })
+        Ok(MemberRoom {
+            ends,
+            fed,
+            returned,
+        })
     }
 
     fn let_go(self)
         requires { (self.ends.items ≡ []) × (self.fed.items ≡ []) }
     {
-        let MemberRoom { ends, fed, told: _ } = self;
+        let MemberRoom {
+            ends,
+            fed,
+            returned: _,
+        } = self;
         ends.destroy_empty();
         fed.destroy_empty();
     }
@@ -100,12 +100,10 @@ pub struct Ready<L: JobLine, F: Floor> {
         × (opened.shop.line.sizes.passes ≤ vec_capacity room.ends) },
     pub ghost fed: { (room.fed.items ≡ [])
         × (opened.shop.line.sizes.lanes ≤ vec_capacity room.fed) },
-    pub ghost unfed: { (room.told.unfed.items ≡ [])
-        × (opened.shop.line.sizes.lanes ≤ vec_capacity room.told.unfed) },
-    pub ghost lane_ends: { (room.told.lanes.items ≡ [])
-        × (opened.shop.line.sizes.lanes ≤ vec_capacity room.told.lanes) },
-    pub ghost stops: { (room.told.stops.items ≡ [])
-        × (opened.shop.line.sizes.passes ≤ vec_capacity room.told.stops) },
+    pub ghost lane_ends: { (room.returned.lanes.items ≡ [])
+        × (opened.shop.line.sizes.lanes ≤ vec_capacity room.returned.lanes) },
+    pub ghost stops: { (room.returned.stops.items ≡ [])
+        × (opened.shop.line.sizes.passes ≤ vec_capacity room.returned.stops) },
 }
 
 // Opens a shop with a lane for each list of jobs. An error gives the jobs back.

@@ -1,21 +1,18 @@
 //! A whole run of a shop on threads.
-ghost use Rattle.std.specs.Prelude.{◌≡◌, ◌≢◌, ℕ, ◌^◌, ◌<◌, ◌≤◌, ◌++◌, [], List, None, Some, IfOk, IfErr, map, length, slice_index, slice_index_or};
+ghost use Rattle.std.specs.Prelude.{◌≡◌, ◌≢◌, ℕ, ◌^◌, ◌<◌, ◌≤◌, [], List, None, Some, IfOk, IfErr, map, length, slice_index_or};
 ghost use Rattle.std.specs.List.{All};
 ghost use Rattle.std.specs.Vec.{vec_capacity};
 ghost use Rattle.job_types.specs.Job.{JobData};
-ghost use Rattle.job_queue.specs.Record.{accepted_jobs};
 ghost use Rattle.job_queue.specs.Line.{IsFor};
 ghost use Rattle.dispatcher.specs.Opening.{refusal_of};
 ghost use Rattle.dispatcher.specs.Members.{IsWorkerOf, IsEndOf, IsCloserOf, IsNoteOf, stop_of};
-ghost use Rattle.dispatcher.specs.Stop.{given_back};
 ghost use Rattle.crew.specs.InnerNaming.{sizes_of};
-ghost use Rattle.crew.specs.InnerStop.{StopsBy};
-ghost use Rattle.crew.specs.InnerEnd.{unfed_of, counted_end};
+ghost use Rattle.crew.specs.InnerEnd.{HasEnded};
 ghost use Rattle.crew.specs.Run.{IsRun};
 ghost use Rattle.crew.specs.Members.{RanIn};
 
 use crate::gang::Gang;
-use crate::member::{Door, Fed, Naming};
+use crate::member::{Door, Naming};
 use crate::ready::{EndRoom, MemberRoom, Ready, make_ready};
 use crate::shared::{SharedFloor, SharedLine};
 use crate::slots::{man_feeders, man_posts, relieve_feeders, relieve_posts};
@@ -62,19 +59,9 @@ pub struct RunEnd<M> {
     pub stops: Vec<Stop>,
 }
 
-// What became of a lane, before its accepted jobs are counted.
-#[derive(Drop)]
-pub struct Unfed {
-    lane: u32,
-    entries: u64,
-    back: Option<Job>,
-    left: VecDeque<Job>,
-    stop: Option<FeedStop>,
-}
-
 // The members of a run, once they have stopped, and room for the lanes.
 struct Members<L: JobLine, F: Floor> {
-    fed: Vec<Fed<L>>,
+    fed: Vec<(L::Lane, LaneEnd)>,
     ends: Vec<WorkerEnd<L, F>>,
     note: CloseNote<L, F>,
     lanes: Vec<L::Lane>,
@@ -93,86 +80,26 @@ fn stops_of<L: JobLine, F: Floor>(ends: &[WorkerEnd<L, F>], stops: Vec<Stop>) ->
     stops
 }
 
-// A lane, and what became of it.
-#[tactic(auto, using(crate::proofs::EndLemmas::unfed_is))]
-fn lane_of<L: JobLine>(fed: Fed<L>) -> (L::Lane, Unfed)
-    ensures lane { result.0 ≡ fed.lane }
-    ensures unfed { result.1 ≡ unfed_of (L.lane_record fed.lane) fed.back fed.left fed.stop }
-{
-    let Fed {
-        lane,
-        back,
-        left,
-        stop,
-    } = fed;
-    let unfed = Unfed {
-        lane: L::lane_number(&lane),
-        entries: L::entry_count(&lane),
-        back,
-        left,
-        stop,
-    };
-    (lane, unfed)
-}
-
-// The lanes, and what became of each.
+// Parts the lanes from their ends.
 fn part<L: JobLine>(
-    fed: Vec<Fed<L>>,
+    fed: Vec<(L::Lane, LaneEnd)>,
     mut lanes: Vec<L::Lane>,
-    mut unfed: Vec<Unfed>,
-) -> (Vec<L::Lane>, Vec<Unfed>)
-    requires empty { (lanes.items ≡ []) × (unfed.items ≡ []) }
+    mut ends: Vec<LaneEnd>,
+) -> (Vec<L::Lane>, Vec<LaneEnd>)
+    requires empty { (lanes.items ≡ []) × (ends.items ≡ []) }
     requires lane_room { length fed.items ≤ vec_capacity lanes }
-    requires room { length fed.items ≤ vec_capacity unfed }
-    ensures lanes { result.0.items ≡ map (λ f. f.lane) fed.items }
-    ensures unfed { result.1.items
-        ≡ map (λ f. unfed_of (L.lane_record f.lane) f.back f.left f.stop) fed.items }
+    requires room { length fed.items ≤ vec_capacity ends }
+    ensures lanes { result.0.items ≡ map (λ f. f.0) fed.items }
+    ensures ends { result.1.items ≡ map (λ f. f.1) fed.items }
 {
     let mut fed = VecDeque::from_vec(fed);
     while let Some(one) = fed.pop_front() {
-        let (lane, one) = lane_of(one);
-        unfed.push_reserved(one);
+        let (lane, end) = one;
+        ends.push_reserved(end);
         lanes.push_reserved(lane);
     }
     fed.destroy_empty();
-    (lanes, unfed)
-}
-
-// The number at the lane's place, or 0 where there is none.
-fn count_at(counts: &[u64], lane: u32) -> u64
-    ensures { result ≡ slice_index counts.now lane }
-{
-    match counts.get(lane as usize) {
-        Some(count) => *count,
-        None => 0,
-    }
-}
-
-// The end of each lane, with the number of its accepted jobs.
-fn count_accepted(unfed: Vec<Unfed>, accepted: &[u64], mut lanes: Vec<LaneEnd>) -> Vec<LaneEnd>
-    requires empty { lanes.items ≡ [] }
-    requires room { length unfed.items ≤ vec_capacity lanes }
-    ensures { result.items ≡ map (counted_end accepted.now) unfed.items }
-{
-    let mut unfed = VecDeque::from_vec(unfed);
-    while let Some(one) = unfed.pop_front() {
-        let Unfed {
-            lane,
-            entries,
-            back,
-            left,
-            stop,
-        } = one;
-        lanes.push_reserved(LaneEnd {
-            lane,
-            accepted: count_at(accepted, lane),
-            entries,
-            back,
-            left,
-            stop,
-        });
-    }
-    lanes
+    (lanes, ends)
 }
 
 // How many processors there are for threads, or one where the system does not say.
@@ -183,8 +110,8 @@ fn processors<R: Threads>(rt: &R) -> usize {
     }
 }
 
-// Finishes a shop whose members have stopped, and tells what became of each.
-fn told<J: Naming, R: Wait, L: JobLine, F: Floor, T: Runner>(
+// Finishes a shop whose members have stopped, and returns the end of its run.
+fn run_end<J: Naming, R: Wait, L: JobLine, F: Floor, T: Runner>(
     rt: &R,
     runner: &T,
     shop: Shop<L, F>,
@@ -193,21 +120,15 @@ fn told<J: Naming, R: Wait, L: JobLine, F: Floor, T: Runner>(
 ) -> RunEnd<F::Machine>
     requires shop { shop ≡ J.shop }
     requires machine { J.shop.line.sizes.machine ≡ J.shop.floor.dim }
-    requires lanes { All (λ f. L.is_lane J.shop.line f.lane) members.fed.items }
+    requires lanes { All (λ f. L.is_lane J.shop.line f.0) members.fed.items }
     requires all_lanes { length members.fed.items ≡ J.shop.line.sizes.lanes }
-    requires jobs { All (λ f.
-        accepted_jobs (L.lane_record f.lane) ++ given_back f.back ++ f.left.items
-        ≡ J.jobs (L.lane_record f.lane).number) members.fed.items }
-    requires stopped { All (λ f.
-        StopsBy (L.lane_record f.lane) f.back f.left.items f.stop) members.fed.items }
+    requires lane_ends { All (λ f. HasEnded J.jobs (L.lane_record f.0) f.1) members.fed.items }
     requires workers { All (IsEndOf J.shop) members.ends.items }
     requires all_workers { length members.ends.items ≡ J.shop.line.sizes.passes }
     requires note { IsNoteOf L.JobLine J.shop members.note }
     requires lane_room { (members.lanes.items ≡ [])
         × (J.shop.line.sizes.lanes ≤ vec_capacity members.lanes) }
-    requires unfed { (room.unfed.items ≡ [])
-        × (J.shop.line.sizes.lanes ≤ vec_capacity room.unfed) }
-    requires lane_ends { (room.lanes.items ≡ [])
+    requires end_room { (room.lanes.items ≡ [])
         × (J.shop.line.sizes.lanes ≤ vec_capacity room.lanes) }
     requires stops { (room.stops.items ≡ [])
         × (J.shop.line.sizes.passes ≤ vec_capacity room.stops) }
@@ -226,18 +147,16 @@ fn told<J: Naming, R: Wait, L: JobLine, F: Floor, T: Runner>(
         lanes,
     } = members;
     let EndRoom {
-        unfed,
         lanes: lane_ends,
         stops,
     } = room;
     let close_number = note.number();
     let stops = stops_of(&ends, stops);
-    let (lanes, unfed) = part(fed, lanes, unfed);
+    let (lanes, lane_ends) = part::<L>(fed, lanes, lane_ends);
     let finished = shop.finish(rt, runner, lanes, ends, note);
-    let lanes = count_accepted(unfed, &finished.accepted, lane_ends);
     RunEnd {
         finished,
-        lanes,
+        lanes: lane_ends,
         close_number,
         stops,
     }
@@ -274,7 +193,7 @@ fn run_named<
     let MemberRoom {
         mut ends,
         mut fed,
-        told: room,
+        returned: room,
     } = room;
     let posts = man_posts(alloc, workers, &mut ends);
     let (feeders, lanes) = man_feeders(rt, alloc, &shop, lanes, jobs, &mut fed);
@@ -309,7 +228,7 @@ fn run_named<
         note,
         lanes,
     };
-    told::<J, R, L, F, T>(rt, runner, shop, members, room)
+    run_end::<J, R, L, F, T>(rt, runner, shop, members, room)
 }
 
 /// Opens a shop with a lane for each list of jobs, and hands in all lists at once while all workers

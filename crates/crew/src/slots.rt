@@ -1,15 +1,15 @@
 // How members go into their slots, and come out again.
-ghost use Rattle.std.specs.Prelude.{◌≡◌, ◌≢◌, ℕ, ◌+◌, ◌<◌, ◌≤◌, ◌++◌, [], List, map, length, slice_index_or};
+ghost use Rattle.std.specs.Prelude.{◌≡◌, ◌≢◌, ℕ, ◌+◌, ◌<◌, ◌≤◌, [], List, map, length, slice_index_or};
 ghost use Rattle.std.specs.List.{All};
 ghost use Rattle.std.specs.Option.{MatchOption};
 ghost use Rattle.std.specs.Vec.{vec_capacity};
-ghost use Rattle.job_queue.specs.Record.{accepted_jobs, fresh_lanes};
+ghost use Rattle.job_queue.specs.Record.{fresh_lanes};
 ghost use Rattle.job_queue.specs.Line.{IsFor};
 ghost use Rattle.dispatcher.specs.Members.{IsWorkerOf, IsEndOf};
-ghost use Rattle.dispatcher.specs.Stop.{given_back};
-ghost use Rattle.crew.specs.InnerStop.{StopsBy};
+ghost use Rattle.crew.specs.InnerEnd.{HasEnded};
 
-use crate::member::{Fed, Feeder, Naming, Post};
+use crate::member::{Feeder, Naming, Post};
+use crate::running::LaneEnd;
 use dispatcher::{Shop, Worker, WorkerEnd};
 use floors::Floor;
 use job_queue::JobLine;
@@ -180,7 +180,7 @@ pub fn man_feeders<J: Naming, R: Wait, L: JobLine, F: Floor>(
     shop: &Shop<L, F>,
     lanes: Vec<L::Lane>,
     jobs: Vec<VecDeque<Job>>,
-    fed: &mut Vec<Fed<L>>,
+    fed: &mut Vec<(L::Lane, LaneEnd)>,
 ) -> (Vec<Mutex<Feeder<J, L>>>, Vec<L::Lane>)
     requires shop { shop.now ≡ J.shop }
     requires lanes { All (L.is_lane J.shop.line) lanes.items }
@@ -193,12 +193,8 @@ pub fn man_feeders<J: Naming, R: Wait, L: JobLine, F: Floor>(
     requires empty { fed.old.items ≡ [] }
     requires room { length lanes.items ≤ vec_capacity fed.old }
     ensures count { length result.0.items + length fed.new.items ≡ length lanes.items }
-    ensures lanes { All (λ f. L.is_lane J.shop.line f.lane) fed.new.items }
-    ensures jobs { All (λ f.
-        accepted_jobs (L.lane_record f.lane) ++ given_back f.back ++ f.left.items
-        ≡ J.jobs (L.lane_record f.lane).number) fed.new.items }
-    ensures stops { All (λ f.
-        StopsBy (L.lane_record f.lane) f.back f.left.items f.stop) fed.new.items }
+    ensures lanes { All (λ f. L.is_lane J.shop.line f.0) fed.new.items }
+    ensures lane_ends { All (λ f. HasEnded J.jobs (L.lane_record f.0) f.1) fed.new.items }
     ensures room { length lanes.items ≤ vec_capacity fed.new }
     ensures lane_room { (result.1.items ≡ []) × (length lanes.items ≤ vec_capacity result.1) }
 {
@@ -206,37 +202,29 @@ pub fn man_feeders<J: Naming, R: Wait, L: JobLine, F: Floor>(
     let mut feeders = Vec::new(alloc);
     while let Some(feeder) = unmanned.next() {
         if let Err(failed) = feeders.push(Mutex::new(feeder)) {
-            fed.push_reserved(failed.value.into_inner().into_parts(rt, shop));
+            fed.push_reserved(failed.value.into_inner().into_end(rt, shop));
         }
     }
     (feeders, unmanned.into_room())
 }
 
-// The feeders, out of their slots.
+// Takes the feeders out of their slots: each lane, and its end.
 pub fn relieve_feeders<J: Naming, R: Wait, L: JobLine, F: Floor>(
     rt: &R,
     shop: &Shop<L, F>,
     mut feeders: Vec<Mutex<Feeder<J, L>>>,
-    fed: &mut Vec<Fed<L>>,
+    fed: &mut Vec<(L::Lane, LaneEnd)>,
 )
     requires shop { shop.now ≡ J.shop }
     requires room { length feeders.items + length fed.old.items ≤ vec_capacity fed.old }
-    requires lanes { All (λ f. L.is_lane J.shop.line f.lane) fed.old.items }
-    requires jobs { All (λ f.
-        accepted_jobs (L.lane_record f.lane) ++ given_back f.back ++ f.left.items
-        ≡ J.jobs (L.lane_record f.lane).number) fed.old.items }
-    requires stops { All (λ f.
-        StopsBy (L.lane_record f.lane) f.back f.left.items f.stop) fed.old.items }
+    requires lanes { All (λ f. L.is_lane J.shop.line f.0) fed.old.items }
+    requires lane_ends { All (λ f. HasEnded J.jobs (L.lane_record f.0) f.1) fed.old.items }
     ensures count { length fed.new.items ≡ length feeders.items + length fed.old.items }
-    ensures lanes { All (λ f. L.is_lane J.shop.line f.lane) fed.new.items }
-    ensures jobs { All (λ f.
-        accepted_jobs (L.lane_record f.lane) ++ given_back f.back ++ f.left.items
-        ≡ J.jobs (L.lane_record f.lane).number) fed.new.items }
-    ensures stops { All (λ f.
-        StopsBy (L.lane_record f.lane) f.back f.left.items f.stop) fed.new.items }
+    ensures lanes { All (λ f. L.is_lane J.shop.line f.0) fed.new.items }
+    ensures lane_ends { All (λ f. HasEnded J.jobs (L.lane_record f.0) f.1) fed.new.items }
 {
     while let Some(feeder) = feeders.pop() {
-        fed.push_reserved(feeder.into_inner().into_parts(rt, shop));
+        fed.push_reserved(feeder.into_inner().into_end(rt, shop));
     }
     feeders.destroy_empty();
 }

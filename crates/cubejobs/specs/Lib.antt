@@ -9,3 +9,4 @@ pub use Rattle.dispatcher.specs.Finished.{FinishedRun}
 pub use Rattle.crew.specs.Run.{by_worker_of, IsRun}
 pub use Rattle.crew.specs.Done.{IsDone, reason_of}
 pub use Rattle.crew.specs.Stopped.{MatchStopped}
+pub use Rattle.crew.specs.Batch.{IsAnsweredBatch, IsRefusedBatch, IsUnfinishedBatch}

@@ -1,17 +1,14 @@
 //! A whole batch of jobs, answered over the line with no lock and the tree.
-ghost use Rattle.std.specs.Prelude.{◌≡◌, ◌≢◌, ℕ, ◌^◌, ◌<◌, [], None, Some, IfOk, IfErr, ⊤, map, length, slice_index_or};
+ghost use Rattle.std.specs.Prelude.{ℕ, ◌^◌, ◌<◌, [], IfOk, IfErr, ⊤, map, length, slice_index_or};
 ghost use Rattle.std.specs.List.{All};
 ghost use Rattle.job_queue.specs.Line.{IsFor};
-ghost use Rattle.dispatcher.specs.Answers.{AnswersAll};
-ghost use Rattle.dispatcher.specs.Opening.{refusal_of};
 ghost use Rattle.cube_tree.specs.Ends.{machine_dim, machine_words};
 ghost use Rattle.tree_floor.specs.Roll.{IsRollWhole};
-ghost use Rattle.crew.specs.Run.{by_worker_of, IsRun};
-ghost use Rattle.crew.specs.Done.{IsDone, reason_of};
+ghost use Rattle.crew.specs.Batch.{IsAnsweredBatch, IsRefusedBatch, IsUnfinishedBatch};
 ghost use Rattle.crew.specs.Stopped.{MatchStopped};
 
 use crew::{RunEnd, Stopped};
-use dispatcher::{Runner, ShopRefused, ShopSizes};
+use dispatcher::{Runner, ShopSizes};
 use job_types::Job;
 use ruled_line::RuledLine;
 use std::alloc::Global;
@@ -42,32 +39,12 @@ pub fn answer_all<R: Threads + Wait + Sync, T: Runner + Sync>(
     requires lanes { length jobs.items < 2 ^ 32 }
     requires made_for { (k : ℕ) → k < length jobs.items →
         All (IsFor sizes.dim k) (slice_index_or (map (λ js. js.items) jobs.items) k []) }
-    ensures run { IfOk result (IsRun machine_words sizes.dim (map (λ js. js.items) jobs.items)) }
-    ensures done { IfOk result (λ end. IsDone end) }
-    ensures answers { IfOk result (λ end. AnswersAll sizes.dim (map (λ js. js.items) jobs.items)
-        (by_worker_of end) end.finished.rest.items) }
-    ensures accepted { IfOk result (λ end.
-        end.finished.accepted.items ≡ map (λ js. length js.items) jobs.items) }
-    ensures workers { IfOk result (λ end. length end.finished.by_worker.items ≡ sizes.dispatchers) }
-    ensures dim { IfOk result (λ end. machine_dim end.finished.machine ≡ sizes.dim) }
-    ensures closed { IfOk result (λ end. IsRollWhole sizes.dispatchers end.finished.machine) }
-    ensures sizes { IfOk result (λ end.
-        refusal_of sizes.dim (length jobs.items) sizes.dispatchers sizes.capacity ≡ None) }
-    ensures refused { IfErr result (λ stopped. MatchStopped stopped
-        (λ why back. (why ≢ ShopRefused.OutOfMemory →
-        refusal_of sizes.dim (length jobs.items) sizes.dispatchers sizes.capacity ≡ Some why)
-        × (why ≡ ShopRefused.OutOfMemory →
-        refusal_of sizes.dim (length jobs.items) sizes.dispatchers sizes.capacity ≡ None)
-        × (back.items ≡ jobs.items))
-        (λ why end. refusal_of sizes.dim (length jobs.items) sizes.dispatchers sizes.capacity ≡ None)) }
-    ensures unfinished { IfErr result (λ stopped. MatchStopped stopped (λ why back. ⊤)
-        (λ why end. IsRun machine_words sizes.dim (map (λ js. js.items) jobs.items) end)) }
-    ensures unfinished_workers { IfErr result (λ stopped. MatchStopped stopped (λ why back. ⊤)
-        (λ why end. length end.finished.by_worker.items ≡ sizes.dispatchers)) }
-    ensures reason { IfErr result (λ stopped. MatchStopped stopped (λ why back. ⊤)
-        (λ why end. why ≡ reason_of end)) }
-    ensures not_done { IfErr result (λ stopped. MatchStopped stopped (λ why back. ⊤)
-        (λ why end. ¬ IsDone end)) }
+    ensures answered { IfOk result
+        (IsAnsweredBatch machine_words machine_dim IsRollWhole sizes jobs.items) }
+    ensures refused { IfErr result (λ stopped.
+        MatchStopped stopped (IsRefusedBatch sizes jobs.items) (λ why end. ⊤)) }
+    ensures unfinished { IfErr result (λ stopped.
+        MatchStopped stopped (λ why back. ⊤) (IsUnfinishedBatch machine_words sizes jobs.items)) }
 {
     crew::answer_all::<R, RuledLine, TreeFloor, T>(rt, alloc, sizes, runner, jobs)
 }

@@ -23,7 +23,6 @@ invariant_of-result g c =
       all_workers = sym (length-map workers worker_record) ∙ (ap length c.in-Ok-open.ensures.fresh_passes ∙ (passes_count c.args.sizes.dispatchers ∙ sym sizes.workers));
       ends = (room.ends.0, omega (arith, sizes.workers, room.ends.1));
       fed = (room.fed.0, omega (arith, sizes.lanes_are, lanes, room.fed.1, c.len.ensures));
-      unfed = (room.unfed.0, omega (arith, sizes.lanes_are, lanes, room.unfed.1, c.len.ensures));
       lane_ends = (room.lanes.0, omega (arith, sizes.lanes_are, lanes, room.lanes.1, c.len.ensures));
       stops = (room.stops.0, omega (arith, sizes.workers, room.stops.1));
     }

@@ -35,15 +35,15 @@ man_feeders-feeders-requires-clause-room g c =
     let given = sym (length-map ready.opened.lanes.items g.L.JobLine.lane_record) ∙ (ap length ready.fresh_lanes ∙ lanes_count (length ready.jobs.items)) in
     omega (arith, given, ready.all_lanes, ready.fed.1)
 
-pub told-requires-clause-all_lanes : goal.told-requires-clause-all_lanes
-told-requires-clause-all_lanes g c =
+pub run_end-requires-clause-all_lanes : goal.run_end-requires-clause-all_lanes
+run_end-requires-clause-all_lanes g c =
     let ready = c.args.ready in
     let given = sym (length-map ready.opened.lanes.items g.L.JobLine.lane_record) ∙ (ap length ready.fresh_lanes ∙ lanes_count (length ready.jobs.items)) in
     at_line (λ i. length c.relieve_feeders.new.fed.items ≡ i.sizes.lanes) _ _ c.requires.shop
     (c.relieve_feeders.ensures.count ∙ (c.man_feeders-feeders.ensures.count ∙ (given ∙ sym ready.all_lanes)))
 
-pub told-requires-clause-lane_room : goal.told-requires-clause-lane_room
-told-requires-clause-lane_room g c =
+pub run_end-requires-clause-lane_room : goal.run_end-requires-clause-lane_room
+run_end-requires-clause-lane_room g c =
     let ready = c.args.ready in
     let given = sym (length-map ready.opened.lanes.items g.L.JobLine.lane_record) ∙ (ap length ready.fresh_lanes ∙ lanes_count (length ready.jobs.items)) in
     let room = c.man_feeders-feeders.ensures.lane_room in
@@ -53,6 +53,6 @@ told-requires-clause-lane_room g c =
 pub returns-clause-run : goal.returns-clause-run
 returns-clause-run g c =
     let jobs = c.args.ready.jobs.items in
-    c.told.ensures.run (map (λ js. js.items) jobs)
+    c.run_end.ensures.run (map (λ js. js.items) jobs)
     (at_line (λ i. length (map (λ js. js.items) jobs) ≡ i.sizes.lanes) _ _ c.requires.shop (length-map jobs (λ js. js.items) ∙ sym c.args.ready.all_lanes))
     c.requires.jobs

@@ -1,7 +1,5 @@
-use Rattle.std.proofs.Common.{◌≡◌, ◌++◌, arith}
-use Rattle.job_queue.specs.Record.{accepted_jobs}
-use Rattle.dispatcher.specs.Stop.{given_back}
-use Rattle.crew.specs.InnerStop.{StopsBy}
+use Rattle.std.proofs.Common.{arith}
+use Rattle.crew.specs.InnerEnd.{HasEnded}
 use Rattle.crew.proofs.SlotLemmas.{all_pushed, longer}
 use Rattle.crew.proofs.slots.relieve_feeders.Goals as goal
 
@@ -11,11 +9,10 @@ loop-feeder-preserved g c =
     let inv = c.loop-feeder.invariant in
     let old = c.loop-feeder.fed.items in
     let new = c.push_reserved.new.self.items in
-    let fed = c.into_parts.result in
+    let one = c.into_end.result in
     let pushed = c.push_reserved.ensures.items in (
-      all_pushed (λ f. line.is_lane g.J.Naming.shop.line f.lane) old new fed pushed inv.0 c.into_parts.ensures.lane,
-      all_pushed (λ f. accepted_jobs (line.lane_record f.lane) ++ given_back f.back ++ f.left.items ≡ g.J.Naming.jobs (line.lane_record f.lane).number) old new fed pushed inv.1 c.into_parts.ensures.jobs,
-      all_pushed (λ f. StopsBy (line.lane_record f.lane) f.back f.left.items f.stop) old new fed pushed inv.2 c.into_parts.ensures.stop,
-      omega (arith, inv.3, longer old new fed pushed, longer c.pop.new.self.items c.loop-feeder.feeders.items c.in-Some.feeder c.in-Some.ensures.items),
-      omega (arith, inv.4, c.push_reserved.ensures.capacity),
+      all_pushed (λ f. line.is_lane g.J.Naming.shop.line f.0) old new one pushed inv.0 c.into_end.ensures.lane,
+      all_pushed (λ f. HasEnded g.J.Naming.jobs (line.lane_record f.0) f.1) old new one pushed inv.1 c.into_end.ensures.end,
+      omega (arith, inv.2, longer old new one pushed, longer c.pop.new.self.items c.loop-feeder.feeders.items c.in-Some.feeder c.in-Some.ensures.items),
+      omega (arith, inv.3, c.push_reserved.ensures.capacity),
     )

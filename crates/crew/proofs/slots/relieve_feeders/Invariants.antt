@@ -1,16 +1,13 @@
-use Rattle.std.proofs.Common.{◌≡◌, ◌+◌, ◌≤◌, ◌++◌, length}
+use Rattle.std.proofs.Common.{◌≡◌, ◌+◌, ◌≤◌, length}
 use Rattle.std.specs.List.{All}
 use Rattle.std.specs.Vec.{vec_capacity}
-use Rattle.job_queue.specs.Record.{accepted_jobs}
-use Rattle.dispatcher.specs.Stop.{given_back}
-use Rattle.crew.specs.InnerStop.{StopsBy}
+use Rattle.crew.specs.InnerEnd.{HasEnded}
 use Rattle.crew.proofs.slots.relieve_feeders.Given as goal
 
 abbrev pub invariant-loop-feeder : goal.invariant-loop-feeder
 invariant-loop-feeder g l = let line = g.L.JobLine in let shop = g.J.Naming.shop in
-    All (λ f. line.is_lane shop.line f.lane) l.fed.items
-    × All (λ f. accepted_jobs (line.lane_record f.lane) ++ given_back f.back ++ f.left.items ≡ g.J.Naming.jobs (line.lane_record f.lane).number) l.fed.items
-    × All (λ f. StopsBy (line.lane_record f.lane) f.back f.left.items f.stop) l.fed.items
+    All (λ f. line.is_lane shop.line f.0) l.fed.items
+    × All (λ f. HasEnded g.J.Naming.jobs (line.lane_record f.0) f.1) l.fed.items
     × (length l.feeders.items + length l.fed.items ≡ length l.fn.feeders.items + length l.fn.fed.items)
     × (length l.fn.feeders.items + length l.fn.fed.items ≤ vec_capacity l.fed)
 

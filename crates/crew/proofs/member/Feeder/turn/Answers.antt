@@ -1,4 +1,4 @@
-use Rattle.std.proofs.Common.{◌≡◌, ◌++◌, ◌∷◌, ℕ, List, Option, ap, sym, subst, ◌∙◌}
+use Rattle.std.proofs.Common.{◌≡◌, ◌++◌, ◌∷◌, ℕ, List, Option, length, ap, sym, subst, ◌∙◌}
 use Rattle.std.specs.List.{All}
 use Rattle.std.proofs.lemmas.List.Elements.{All-rest, All-same}
 use Rattle.job_types.specs.Job.{JobData}
@@ -25,6 +25,7 @@ invariant_of-self-in_default-submit g c =
       subst (λ (n : ℕ). All (IsFor machine n) rest) (ap (λ (r : LaneRecord). r.number) (sym gains)) (All-rest (IsFor machine old.number) c.in-Some.job rest _ c.in-Some.ensures.items inv.1),
       one_more old new _ _ c.self.inside.back c.self.inside.left.items rest g.J.Naming.jobs none gains c.in-Some.ensures.items inv.2,
       none,
+      inv.4 ∙ ap (λ (r : LaneRecord). length (g.J.Naming.jobs r.number)) (sym gains),
     )
 
 pub invariant_of-self-in_default-take_back : goal.invariant_of-self-in_default-take_back
@@ -48,6 +49,7 @@ invariant_of-self-in_default-take_back g c =
       subst (λ (r : LaneRecord). accepted_jobs r ++ given_back after ++ again ≡ g.J.Naming.jobs r.number) same
           (subst (λ (b : Option JobData). accepted_jobs new ++ given_back b ++ again ≡ g.J.Naming.jobs new.number) (sym is.2) (as_before old new gains.0 back c.self.inside.left.items again g.J.Naming.jobs gains.1 items inv.2)),
       is.2 ∙ none,
+      inv.4 ∙ (ap (λ (r : LaneRecord). length (g.J.Naming.jobs r.number)) (sym gains.1) ∙ ap (λ (r : LaneRecord). length (g.J.Naming.jobs r.number)) same),
     )
 
 pub invariant_of-self-2 : goal.invariant_of-self-2
@@ -74,4 +76,5 @@ invariant_of-self-2 g c =
       subst (λ (n : ℕ). All (IsFor machine n) again) (sym number) (All-same (IsFor machine old.number) again rest is.1 (All-rest (IsFor machine old.number) c.in-Some.job rest c.self.inside.left.items c.in-Some.ensures.items inv.1)),
       given_up old new why job back after c.self.inside.left.items again g.J.Naming.jobs gains none is.2 items inv.2 number,
       stop_of old new why job after again stop gains c.in-Err.ensures.spent_only is.2 is.0,
+      inv.4 ∙ ap (λ (n : ℕ). length (g.J.Naming.jobs n)) (sym number),
     )

@@ -1,18 +1,18 @@
 use Rattle.std.proofs.Common.{rules, ℕ, ◌≡◌, ◌<◌, Some, length, sym, ap, ◌∙◌, arith}
 use Rattle.dispatcher.proofs.WorkLemmas.{served_same, below_limit, ended_not_enough, ended_not_no_memory, ended_not_idle, full_not_ended, full_not_idle, some_is}
-use Rattle.dispatcher.proofs.dispatching.work.Goals as goal
+use Rattle.dispatcher.proofs.dispatching.Shift.work.Goals as goal
 
 pub loop-preserved : goal.loop-preserved
 loop-preserved g c =
     let inv = c.loop.invariant in
-    let next = c.serve_next-back.ensures in
+    let next = c.serve_next-next.ensures in
     let replies = c.make_room.new.replies.items in
     let reserved = c.make_room.ensures.items in
     let few : (most : ℕ) → c.args.limit ≡ Some most → length replies < most =
     below_limit c.args.limit (length replies) (λ most is. omega (arith, ap length reserved, inv.3 most is)) (c.make_room.ensures.fewer (search rules)) in (
       next.pass,
       next.station,
-      next.served (served_same _ _ _ c.loop.replies.items replies reserved inv.2),
+      next.served (served_same _ _ _ c.loop.shift.replies.items replies reserved inv.2),
       λ most is. omega (arith, next.one_more, few most is),
       λ zero. absurd (omega (arith, few 0 zero)),
     )
@@ -21,7 +21,7 @@ loop-preserved g c =
 
 pub invariant_of-result : goal.invariant_of-result
 invariant_of-result g c =
-    let served = served_same _ _ _ c.loop.replies.items c.make_room.new.replies.items c.make_room.ensures.items c.loop.invariant.2 in
+    let served = served_same _ _ _ c.loop.shift.replies.items c.make_room.new.replies.items c.make_room.ensures.items c.loop.invariant.2 in
     record {
       answers = served.answers;
       regions = served.regions;
@@ -32,7 +32,7 @@ invariant_of-result g c =
 pub returns-in-Some-make_room-clause-of_shop : goal.returns-in-Some-make_room-clause-of_shop
 returns-in-Some-make_room-clause-of_shop g c =
     let inv = c.loop.invariant in
-    let served = served_same _ _ _ c.loop.replies.items c.make_room.new.replies.items c.make_room.ensures.items inv.2 in
+    let served = served_same _ _ _ c.loop.shift.replies.items c.make_room.new.replies.items c.make_room.ensures.items inv.2 in
     record { pass = inv.0; station = inv.1; right = served.right }
 
 pub returns-in-Some-make_room-clause-ended : goal.returns-in-Some-make_room-clause-ended
@@ -51,25 +51,25 @@ returns-in-Some-make_room-clause-fewer g c = λ most is other.
 
 pub returns-in-Some-stop-clause-of_shop : goal.returns-in-Some-stop-clause-of_shop
 returns-in-Some-stop-clause-of_shop g c =
-    let next = c.serve_next-back.ensures in
-    let served = next.served (served_same _ _ _ c.loop.replies.items c.make_room.new.replies.items c.make_room.ensures.items c.loop.invariant.2) in
+    let next = c.serve_next-next.ensures in
+    let served = next.served (served_same _ _ _ c.loop.shift.replies.items c.make_room.new.replies.items c.make_room.ensures.items c.loop.invariant.2) in
     record { pass = next.pass; station = next.station; right = served.right }
 
 pub returns-in-Some-stop-clause-has_run : goal.returns-in-Some-stop-clause-has_run
 returns-in-Some-stop-clause-has_run g c = λ idle.
-    let ended = (rw c.in-Some-stop.is at c.serve_next-back.ensures.stop) in
+    let ended = (rw c.in-Some-stop.is at c.serve_next-next.ensures.stop) in
     ended_not_idle (sym ended ∙ idle)
 
 pub returns-in-Some-stop-clause-enough : goal.returns-in-Some-stop-clause-enough
 returns-in-Some-stop-clause-enough g c = λ enough.
-    let ended = (rw c.in-Some-stop.is at c.serve_next-back.ensures.stop) in
+    let ended = (rw c.in-Some-stop.is at c.serve_next-next.ensures.stop) in
     absurd (ended_not_enough (sym ended ∙ enough))
 
 pub invariant_of-result-in-Some-stop : goal.invariant_of-result-in-Some-stop
 invariant_of-result-in-Some-stop g c =
-    let next = c.serve_next-back.ensures in
+    let next = c.serve_next-next.ensures in
     let ended = (rw c.in-Some-stop.is at next.stop) in
-    let served = next.served (served_same _ _ _ c.loop.replies.items c.make_room.new.replies.items c.make_room.ensures.items c.loop.invariant.2) in
+    let served = next.served (served_same _ _ _ c.loop.shift.replies.items c.make_room.new.replies.items c.make_room.ensures.items c.loop.invariant.2) in
     record {
       answers = served.answers;
       regions = served.regions;
