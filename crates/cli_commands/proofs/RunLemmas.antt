@@ -17,6 +17,8 @@ use Rattle.dispatcher.specs.Reply.{answered, IsRight}
 use Rattle.dispatcher.specs.declared.feeding.FeedStop.{FeedStop}
 use Rattle.dispatcher.specs.declared.feeding.FeedStop.TheVariants.{Done, Closed, LaneSpent, Turns}
 use Rattle.dispatcher.specs.declared.finishing.Finished.{Finished}
+use Rattle.dispatcher.specs.declared.opening.ShopSizes.{ShopSizes}
+use Rattle.crew.specs.Batch.{IsUnfinishedBatch}
 use Rattle.crew.specs.Done.{is_spent, reason_of}
 use Rattle.crew.specs.Run.{by_worker_of, IsLaneEnd, IsRun, IsStopOf}
 use Rattle.crew.specs.Stopped.{MatchStopped}
@@ -79,14 +81,14 @@ reason_refuses_nothing why.OutOfMemory refused = true≢false (sym refused)
 reason_refuses_nothing why.Spent refused = true≢false (sym refused)
 
 -- where the run of a good file was not whole
-pub file_unanswered : {M : Type 0} (words_of : M → List ℕ) (n : ℕ) (parse : Result (List JobData) Fault)
-    (lanes : Vec (VecDeque JobData Global) Global) (lists : List (List JobData)) (s : Stopped M) → ReturnsLanes parse (Ok lanes)
-    → ((jobs : List JobData) → AreLanes lanes.items jobs → AreOpenLanes lists jobs)
-    → MatchStopped s (λ why back. ⊤) (λ why end. IsRun words_of n lists end) → ReturnsRun words_of n parse (Err (unanswered_of s))
-file_unanswered words_of n parse lanes lists (stopped.Refused why back) parsed opens run = (λ refused. absurd (true≢false (sym refused)), tt)
-file_unanswered words_of n parse lanes lists (stopped.Unfinished why end) (jobs, good, are) opens run = (
+pub file_unanswered : {M : Type 0} (words_of : M → List ℕ) (sizes : ShopSizes) (parse : Result (List JobData) Fault)
+    (lanes lists : Vec (VecDeque JobData Global) Global) (s : Stopped M) → ReturnsLanes parse (Ok lanes)
+    → ((jobs : List JobData) → AreLanes lanes.items jobs → AreOpenLanes (map (λ list. list.items) lists.items) jobs)
+    → MatchStopped s (λ why back. ⊤) (IsUnfinishedBatch words_of sizes lists.items) → ReturnsRun words_of sizes.dim parse (Err (unanswered_of s))
+file_unanswered words_of sizes parse lanes lists (stopped.Refused why back) parsed opens unfinished = (λ refused. absurd (true≢false (sym refused)), tt)
+file_unanswered words_of sizes parse lanes lists (stopped.Unfinished why end) (jobs, good, are) opens unfinished = (
   λ refused. absurd (reason_refuses_nothing why refused),
-  (jobs, good, record { lanes = lists; open_lanes = opens jobs are; run = run }),
+  (jobs, good, record { lanes = map (λ list. list.items) lists.items; open_lanes = opens jobs are; run = unfinished.run }),
 )
 
 -- ---- a lane that is spent
@@ -110,10 +112,11 @@ some_spent words_of n lists end is run =
     (k, l, within, at, entries_of_spent end.close_number l l.stop spent is_end.stopped)
 
 -- a shop that was spent has a spent lane
-pub spent_lane : {M : Type 0} (words_of : M → List ℕ) (n : ℕ) (lists : List (List JobData)) (s : Stopped M) → MatchStopped s (λ why back. ⊤) (λ why end. IsRun words_of n lists end) → MatchStopped s (λ why back. ⊤) (λ why end. why ≡ reason_of end) → (unanswered_of s).fault.what ≡ what.Spent → HasSpentLane (unanswered_of s).end
-spent_lane words_of n lists (stopped.Refused why back) run reason is = absurd (cc)
-spent_lane words_of n lists (stopped.Unfinished why.OutOfMemory end) run reason is = absurd (cc)
-spent_lane words_of n lists (stopped.Unfinished why.Spent end) run reason is = some_spent words_of n lists end reason run
+pub spent_lane : {M : Type 0} (words_of : M → List ℕ) (sizes : ShopSizes) (lists : Vec (VecDeque JobData Global) Global) (s : Stopped M)
+    → MatchStopped s (λ why back. ⊤) (IsUnfinishedBatch words_of sizes lists.items) → (unanswered_of s).fault.what ≡ what.Spent → HasSpentLane (unanswered_of s).end
+spent_lane words_of sizes lists (stopped.Refused why back) unfinished is = absurd (cc)
+spent_lane words_of sizes lists (stopped.Unfinished why.OutOfMemory end) unfinished is = absurd (cc)
+spent_lane words_of sizes lists (stopped.Unfinished why.Spent end) unfinished is = some_spent words_of sizes.dim (map (λ list. list.items) lists.items) end unfinished.reason unfinished.run
 
 -- ---- what is made of a run, and written
 

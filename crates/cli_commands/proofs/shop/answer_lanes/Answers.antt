@@ -24,17 +24,16 @@ answer_all-requires-clause-made_for g c κs within =
 pub returns-in-Ok-clause-answered : goal.returns-in-Ok-clause-answered
 returns-in-Ok-clause-answered g c parse are =
     file_answered g.F.Floor.machine_words c.args.sizes.dim parse c.args.lanes (map (λ list. list.items) c.open_lanes-lists.result.items)
-    c.in-Ok.end are c.open_lanes-lists.ensures c.in-Ok.ensures.run c.in-Ok.ensures.answers
-    (as_many _ _ _ c.open_lanes-lists.result.items c.in-Ok.ensures.accepted)
+    c.in-Ok.end are c.open_lanes-lists.ensures c.in-Ok.ensures.answered.run c.in-Ok.ensures.answered.answers
+    (as_many _ _ _ c.open_lanes-lists.result.items c.in-Ok.ensures.answered.accepted)
 
 pub returns-in-Err-clause-answered : goal.returns-in-Err-clause-answered
 returns-in-Err-clause-answered g c parse are =
     subst (λ (u : Unanswered _). ReturnsRun g.F.Floor.machine_words c.args.sizes.dim parse (Err u)) (sym c.to_unanswered.ensures)
-    (file_unanswered g.F.Floor.machine_words c.args.sizes.dim parse c.args.lanes (map (λ list. list.items) c.open_lanes-lists.result.items)
+    (file_unanswered g.F.Floor.machine_words c.args.sizes parse c.args.lanes c.open_lanes-lists.result
     c.in-Err.stopped are c.open_lanes-lists.ensures c.in-Err.ensures.unfinished)
 
 pub returns-in-Err-clause-spent : goal.returns-in-Err-clause-spent
 returns-in-Err-clause-spent g c =
     subst (λ (u : Unanswered _). u.fault.what ≡ Spent → HasSpentLane u.end) (sym c.to_unanswered.ensures)
-    (spent_lane g.F.Floor.machine_words c.args.sizes.dim (map (λ list. list.items) c.open_lanes-lists.result.items)
-    c.in-Err.stopped c.in-Err.ensures.unfinished c.in-Err.ensures.reason)
+    (spent_lane g.F.Floor.machine_words c.args.sizes c.open_lanes-lists.result c.in-Err.stopped c.in-Err.ensures.unfinished)
