@@ -54,8 +54,7 @@ fn are_job_columns(row: &ByteRecord) -> bool
         && items == b"items".as_slice()
 }
 
-// The job of a record of five fields. They are read from left to right, and the first bad one is the
-// error.
+// Reads the job of a record of five fields, from left to right. The first bad field is the error.
 #[tactic(auto, using(crate::proofs::JobLemmas::five), unfolding(crate::specs::Jobs::job_of))]
 fn read_fields(alloc: Global, n: u32, row: &ByteRecord) -> Result<Job, FaultKind>
     requires five { length (fields_of row.now) ≡ 5 }
