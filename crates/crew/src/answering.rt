@@ -30,7 +30,7 @@ pub enum StopReason {
     Spent,
 }
 
-/// A batch that was not answered, with all that it was given or has come to.
+/// A batch that was not answered. It has the jobs, or the end of its run.
 #[derive(Drop)]
 pub enum Stopped<M> {
     /// Nothing was run.
@@ -44,7 +44,7 @@ pub enum Stopped<M> {
     Unfinished {
         /// Whether it was memory or a thread that was refused, or a lane that was spent.
         why: StopReason,
-        /// What became of the run: the replies, and what each lane did not hand in.
+        /// The end of the run: the replies, and what each lane did not hand in.
         end: RunEnd<M>,
     },
 }
@@ -144,12 +144,16 @@ fn batch_of<M>(
     }
 }
 
-/// Answers all jobs, the lists of the lanes from 0 on: opens a shop with a lane for each list, hands in
-/// all lists at once while all workers answer jobs on threads, and finishes the shop.
+/// Answers all jobs, the lists of the lanes from 0 on.
 ///
-/// Each job then has one right reply, and the machine is wholly free. Where that is not so, nothing is
-/// lost: the error is the first size that is not within its limits, or `OutOfMemory`, with the jobs, or
-/// it is what became of a run in which a thread or memory was refused, or a lane was spent.
+/// Opens a shop of these sizes with a lane for each list. Hands in all lists at once, while all workers
+/// answer jobs on threads. Finishes the shop. Each job then has one right reply, and the machine is wholly
+/// free.
+///
+/// # Errors
+///
+/// Nothing is lost. `Refused` has the first size that is not within its limits, or `OutOfMemory`, and the
+/// jobs. `Unfinished` has the end of a run in which a thread or memory was refused, or a lane was spent.
 pub fn answer_all<
     R: Threads + Wait + Sync,
     L: JobLine + SharedLine,

@@ -1,7 +1,8 @@
-//! A shop that is run on threads: lists of jobs in, all of their replies out.
+//! A pool of threads that runs a shop: lists of jobs in, all of their replies out.
 //!
-//! All lanes and every worker are at work at once, each worker on a thread of its own and the lanes on as
-//! many as there are processors. Nothing is lost, also where a thread cannot be started or memory runs out.
+//! The lanes are producers, and the workers are consumers. All are at work at once, each worker on a thread
+//! of its own and the lanes on as many as there are processors. Nothing is lost, also where a thread cannot
+//! be started or memory runs out.
 #![tactic(auto)]
 
 mod answering;

@@ -98,8 +98,8 @@ impl<J: Naming, L: JobLine> Model for Feeder<J, L> {
         × (f.given ≡ length (J.jobs (L.lane_record f.lane).number)) };
 }
 
-// Takes a job back that was refused: it is the next one again where the line was full, and else its feed
-// stops, as is told.
+// Takes a job back that was refused. Where the line was full it is the next one again. Else it is the job that
+// came back, and the reason to stop is returned.
 fn take_back(
     left: &mut VecDeque<Job>,
     back: &mut Option<Job>,
@@ -121,7 +121,7 @@ fn take_back(
     Some(stop)
 }
 
-// Returns the number of jobs that a line has accepted: those that were given, less those that came back or are left.
+// Returns the number of accepted jobs: those that were given, less the one that came back and those that are left.
 fn accepted_count(given: usize, back: &Option<Job>, left: &VecDeque<Job>) -> u64
     requires { length (given_back back.now ++ left.now.items) ≤ given }
     ensures { result + length (given_back back.now ++ left.now.items) ≡ given }
@@ -152,8 +152,8 @@ impl<J: Naming, L: JobLine> Feeder<J, L> {
         }
     }
 
-    // Hands in the next job, where the feed has not stopped, and waits where the line is full. It tells
-    // whether the feed goes on.
+    // Hands in the next job, where the feed has not stopped, and waits where the line is full. Returns whether
+    // the feed goes on.
     pub fn turn<R: Wait, F: Floor>(&mut self, rt: &R, shop: &Shop<L, F>, pause: &mut Pause) -> bool
         requires { shop.now ≡ J.shop }
         ensures { self.new ≡ result }

@@ -29,7 +29,7 @@ use std::marker::Brand;
 use std::sync::{Mutex, Wait};
 use std::thread::{Threads, available_parallelism};
 
-/// What became of a lane.
+/// The end of a lane in a run.
 #[derive(Debug, Drop)]
 pub struct LaneEnd {
     /// The lane's number.
@@ -46,7 +46,7 @@ pub struct LaneEnd {
     pub stop: Option<FeedStop>,
 }
 
-/// What became of a run.
+/// The end of a run.
 #[derive(Drop)]
 pub struct RunEnd<M> {
     /// All replies, and the machine.
@@ -231,17 +231,20 @@ fn run_named<
     run_end::<J, R, L, F, T>(rt, runner, shop, members, room)
 }
 
-/// Opens a shop with a lane for each list of jobs, and hands in all lists at once while all workers
-/// answer jobs. Then it closes the shop and finishes it.
+/// Runs a shop of these sizes on threads, with a lane for each list of jobs.
 ///
-/// Each worker has a thread of its own. The lanes have as many threads as there are processors, and at most
-/// one each; one that has several hands in a job of each in turn.
+/// Opens the shop, hands in all lists at once while all workers answer jobs, closes the shop and finishes
+/// it. Each worker has a thread of its own. The lanes have as many threads as there are processors, and at
+/// most one each. A thread that has several lanes hands in a job of each in turn.
 ///
-/// Each accepted job has one right reply in the end, and what a lane has accepted, followed by what it
-/// did not hand in, is its list. Nothing is lost where a thread cannot be started or there is no memory
-/// for one more reply: the shop closes early, and some jobs may not be handed in. A worker without a
-/// thread has stopped as `NotRun`, and a lane without one has no stop. An error gives the jobs back; it
-/// is the first size that is not within its limits, or `OutOfMemory`.
+/// In the end each accepted job has one right reply. The jobs that a lane has accepted, followed by those
+/// that it did not hand in, are its list. Where a thread cannot be started, or there is no memory for one
+/// more reply, the shop closes early, and some jobs may not be handed in. A worker without a thread has
+/// stopped as `NotRun`, and a lane without one has no stop.
+///
+/// # Errors
+///
+/// The error gives the jobs back. It is the first size that is not within its limits, or `OutOfMemory`.
 pub fn run<
     R: Threads + Wait + Sync,
     L: JobLine + SharedLine,

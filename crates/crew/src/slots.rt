@@ -85,7 +85,7 @@ pub fn man_posts<J: Naming, L: JobLine, F: Floor>(
     posts
 }
 
-// The workers that have stopped, out of their slots.
+// Takes the workers that have stopped out of their slots.
 pub fn relieve_posts<J: Naming, L: JobLine, F: Floor>(
     alloc: Global,
     mut posts: Vec<Mutex<Post<J, L, F>>>,

@@ -9,6 +9,7 @@ mod count;
 mod counting;
 mod extent;
 mod hoarding;
+pub mod line_run;
 mod room;
 mod schedule;
 mod subcubes;

@@ -6,7 +6,7 @@ use crate::tests::expect::{expect_all, expect_texts, made};
 use cube_shape::{MAX_CAPACITY, MAX_LANES};
 use job_queue::{JobLine, Opened, QueuedJob, Receipt, Refused, Rest, Sizes, Taken};
 use job_types::{Job, JobId};
-use line_run::{Finished, run};
+use uses::line_run::{Finished, run};
 use locked_line::LockedLine;
 use ruled_line::RuledLine;
 use std::alloc::{AllocError, Global};

@@ -8,7 +8,7 @@ use crate::tests::over::Over;
 use cube_shape::{MAX_CAPACITY, MAX_LANES, MAX_PASSES};
 use job_queue::{JobLine, Opened, QueuedJob, Receipt, Refused, Rest, Sizes};
 use job_types::Job;
-use line_run::{Door, Naming, drain};
+use uses::line_run::{Door, Naming, drain};
 use locked_line::LockedLine;
 use ruled_line::RuledLine;
 use std::alloc::Global;
