@@ -43,10 +43,10 @@ impl Tree {
         if !self.claim(seat, node, word) {
             return Err(Why::Lost);
         }
-        let Some(at) = self.climb(seat, node) else {
+        let Some(at) = self.mark_path(seat, node) else {
             return Ok(());
         };
-        self.back_out(seat, station, node, at);
+        self.roll_back(seat, station, node, at);
         Err(Why::Under(Node(at)))
     }
 
@@ -62,12 +62,12 @@ impl Tree {
         ensures phase { IsAt seat.new.me Phase.Idle }
     {
         self.zero_held(seat, node);
-        self.tidy_up(seat, station, node);
+        self.clear_path(seat, station, node);
     }
 
     // Up from a node that was claimed: none where the station holds it, or the ancestor that was
     // occupied.
-    fn climb(&self, seat: &mut Seat, node: u64) -> Option<u64>
+    fn mark_path(&self, seat: &mut Seat, node: u64) -> Option<u64>
         requires seat { seat.old.table_id ≡ id_of self.now }
         requires phase { IsAt seat.old.me (phase_after_raise node node) }
         requires node { IsInCube (dim_of self.now) node }
@@ -84,7 +84,7 @@ impl Tree {
         let mut at = node;
         while at > 1 {
             at /= 2;
-            if !self.pass(seat, node, at) {
+            if !self.mark_ancestor(seat, node, at) {
                 return Some(at);
             }
         }
@@ -92,7 +92,7 @@ impl Tree {
     }
 
     // A sweep and a raise at one ancestor: whether it was not occupied.
-    fn pass(&self, seat: &mut Seat, node: u64, at: u64) -> bool
+    fn mark_ancestor(&self, seat: &mut Seat, node: u64, at: u64) -> bool
         requires seat { seat.old.table_id ≡ id_of self.now }
         requires phase { IsAt seat.old.me (Phase.Climbing node at) }
         requires node { IsInCube (dim_of self.now) at }
@@ -112,7 +112,7 @@ impl Tree {
     }
 
     // Gives back a node above which an ancestor was occupied.
-    fn back_out(&self, seat: &mut Seat, station: u32, node: u64, at: u64)
+    fn roll_back(&self, seat: &mut Seat, station: u32, node: u64, at: u64)
         requires seat { seat.old.table_id ≡ id_of self.now }
         requires phase { IsAt seat.old.me (Phase.Backing node at) }
         requires station { (first_of seat.old.me).station ≡ station }
@@ -123,11 +123,11 @@ impl Tree {
         ensures phase { IsAt seat.new.me Phase.Idle }
     {
         self.zero_back(seat, node, at);
-        self.tidy_up(seat, station, node);
+        self.clear_path(seat, station, node);
     }
 
     // Up from a node that was given back, for as long as the ancestors become free.
-    fn tidy_up(&self, seat: &mut Seat, station: u32, node: u64)
+    fn clear_path(&self, seat: &mut Seat, station: u32, node: u64)
         requires seat { seat.old.table_id ≡ id_of self.now }
         requires phase { IsAt seat.old.me (phase_after_zero node) }
         requires station { (first_of seat.old.me).station ≡ station }
@@ -140,14 +140,14 @@ impl Tree {
         let mut at = node;
         while at > 1 {
             at /= 2;
-            if !self.tidy(seat, station, at) {
+            if !self.clear_ancestor(seat, station, at) {
                 return;
             }
         }
     }
 
     // Clears one ancestor: whether it became free by that.
-    fn tidy(&self, seat: &mut Seat, station: u32, at: u64) -> bool
+    fn clear_ancestor(&self, seat: &mut Seat, station: u32, at: u64) -> bool
         requires seat { seat.old.table_id ≡ id_of self.now }
         requires phase { IsAt seat.old.me (Phase.Arriving at) }
         requires station { (first_of seat.old.me).station ≡ station }

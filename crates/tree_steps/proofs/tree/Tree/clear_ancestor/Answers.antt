@@ -1,7 +1,7 @@
 use Rattle.std.proofs.Common.{◌∙◌}
 use Rattle.tree_steps.proofs.EventLemmas.{walks_on}
 use Rattle.tree_steps.proofs.WalkLemmas.{station_of_walk}
-use Rattle.tree_steps.proofs.tree.Tree.tidy.Goals as goal
+use Rattle.tree_steps.proofs.tree.Tree.clear_ancestor.Goals as goal
 
 pub mark-requires-clause-station : goal.mark-requires-clause-station
 mark-requires-clause-station c = station_of_walk c.unmark.ensures.walks ∙ c.requires.station

@@ -2,7 +2,7 @@ use Rattle.std.proofs.Common.{◌≡◌, ◌+◌, ◌^◌, ◌<◌}
 use Rattle.cube_core.specs.Event.{phase_after_zero}
 use Rattle.tree_steps.specs.Steps.{IsAt, Walks}
 use Rattle.tree_steps.specs.Tree.{dim_of}
-use Rattle.tree_steps.proofs.tree.Tree.tidy_up.Given as goal
+use Rattle.tree_steps.proofs.tree.Tree.clear_path.Given as goal
 
 abbrev pub decreases-loop-at : goal.decreases-loop-at
 decreases-loop-at l = l.at

@@ -2,7 +2,7 @@ use Rattle.tree_steps.proofs.EventLemmas.{walks_on, on_false_so}
 use Rattle.tree_steps.proofs.WalkLemmas.{answered_before}
 use Rattle.tree_steps.proofs.AloneLemmas.{others_before, alone_after}
 use Rattle.tree_steps.specs.Alone.{HasHolder}
-use Rattle.tree_steps.proofs.tree.Tree.pass.Goals as goal
+use Rattle.tree_steps.proofs.tree.Tree.mark_ancestor.Goals as goal
 
 pub returns-clause-walks : goal.returns-clause-walks
 returns-clause-walks c = walks_on c.sweep.ensures.walks c.raise.ensures.walks
