@@ -5,13 +5,13 @@ use Rattle.tree_steps.specs.Tree.{dim_of}
 use Rattle.tree_steps.proofs.tree.Tree.clear_path.Given as goal
 
 abbrev pub decreases-loop-at : goal.decreases-loop-at
-decreases-loop-at l = l.at
+decreases-loop-at l = l.at.0
 
 abbrev pub invariant-loop-at : goal.invariant-loop-at
 invariant-loop-at l = record {
   same : l.seat.table_id ≡ l.initial.seat.table_id;
   walks : Walks l.initial.seat.me l.seat.me;
-  phase : IsAt l.seat.me (phase_after_zero l.at);
-  positive : 0 < l.at;
-  in_cube : l.at < 2 ^ (dim_of l.self + 1);
+  phase : IsAt l.seat.me (phase_after_zero l.at.0);
+  positive : 0 < l.at.0;
+  in_cube : l.at.0 < 2 ^ (dim_of l.self + 1);
 }

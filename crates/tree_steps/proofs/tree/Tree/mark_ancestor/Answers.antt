@@ -11,4 +11,4 @@ pub returns-clause-refused : goal.returns-clause-refused
 returns-clause-refused c = on_false_so c.raise.result (answered_before c.sweep.ensures.walks) c.raise.ensures.refused
 
 pub returns-clause-holder : goal.returns-clause-holder
-returns-clause-holder c = λ alone. on_false_so c.raise.result (others_before (HasHolder c.args.at) c.sweep.ensures.walks) (c.raise.ensures.holder (alone_after c.sweep.ensures.walks alone))
+returns-clause-holder c = λ alone. on_false_so c.raise.result (others_before (HasHolder c.args.at.0) c.sweep.ensures.walks) (c.raise.ensures.holder (alone_after c.sweep.ensures.walks alone))
