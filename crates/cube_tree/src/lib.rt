@@ -22,7 +22,9 @@ mod takes;
 mod tries;
 
 pub use comparison::apart;
-pub use handles::{Cube, FreeMachine, RetiredStation, RollReader, StillOut, Subcube, TreeStation};
+pub use handles::{
+    Cube, FreeMachine, RetiredStation, RetirementReader, StillOut, Subcube, TreeStation,
+};
 pub use refusal::Refusal;
 pub use refused::{CubeRefused, SoloRefused};
 pub use solo::Solo;

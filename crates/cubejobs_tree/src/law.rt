@@ -8,9 +8,9 @@ ghost use Rattle.cubejobs_tree.specs.Calls.{bar_to_release};
 ghost use Rattle.cubejobs_tree.specs.Handle.{content_of};
 
 use crate::codes::DONE;
-use crate::content::Content;
 use crate::handle::Handle;
-use crate::places::{put_back, take_out};
+use crate::places::{borrow_content, restore_content};
+use crate::state::State;
 use crate::station::Holding;
 use std::alloc::Global;
 
@@ -48,23 +48,23 @@ pub fn apart(alloc: Global, a: &mut Handle, b: &mut Handle) -> bool
     ensures unchanged { result ≡ false → (content_of a.new ≡ content_of a.old)
         × (content_of b.new ≡ content_of b.old) }
 {
-    let Some((first, first_room)) = take_out(a, alloc) else {
+    let Some((first, first_room)) = borrow_content(a, alloc) else {
         return false;
     };
-    let Some((second, second_room)) = take_out(b, alloc) else {
-        put_back(a, first_room, first);
+    let Some((second, second_room)) = borrow_content(b, alloc) else {
+        restore_content(a, first_room, first);
         return false;
     };
     match (first, second) {
-        (Content::Busy(first), Content::Busy(second)) => {
+        (State::Holding(first), State::Holding(second)) => {
             let (first, second) = compare(first, second);
-            put_back(a, first_room, Content::Busy(first));
-            put_back(b, second_room, Content::Busy(second));
+            restore_content(a, first_room, State::Holding(first));
+            restore_content(b, second_room, State::Holding(second));
             true
         }
         (first, second) => {
-            put_back(a, first_room, first);
-            put_back(b, second_room, second);
+            restore_content(a, first_room, first);
+            restore_content(b, second_room, second);
             false
         }
     }

@@ -8,26 +8,25 @@
 #![tactic(auto)]
 
 mod answer;
-mod ask;
-mod boxed;
 mod calls;
 mod codes;
-mod content;
 mod ends;
 mod exports;
 mod handle;
-mod hidden;
 mod law;
 mod machine;
 mod occupancy;
+mod opaque_ptr;
+mod owned_machine;
+mod ownership;
 mod parts;
 mod places;
 mod readouts;
-mod share;
+mod state;
 mod station;
+mod take_request;
 
 pub use answer::{Answer, OccupancyAnswer, Seated, SizeAnswer, WordAnswer};
-pub use ask::Ask;
 pub use codes::{
     ALREADY_OPEN, BAD_DIMENSION, BAD_NODE, BAD_STATIONS, BAD_VERSION, DONE, NO_STATION, NO_SUBCUBE,
     NOT_OPEN, NOTHING_HELD, OPEN, OTHER_KIND, OUT_OF_MEMORY, RETIRING, STATION_HOLDS, STILL_OUT,
@@ -41,3 +40,4 @@ pub use handle::Handle;
 pub use law::apart;
 pub use occupancy::cubejobs_tree_occupancy;
 pub use readouts::{cubejobs_tree_region, cubejobs_tree_size, cubejobs_tree_word};
+pub use take_request::TakeRequest;

@@ -9,10 +9,10 @@ ghost use Rattle.cubejobs_tree.specs.Calls.{bar_to_release, Names};
 use crate::answer::{Answer, SizeAnswer, WordAnswer, refused};
 use crate::calls;
 use crate::codes::{BAD_NODE, DONE, NOT_OPEN, OTHER_KIND};
-use crate::content::Content;
 use crate::handle::Handle;
 use crate::machine::Machine;
-use crate::places::{put_back, take_out};
+use crate::places::{borrow_content, restore_content};
+use crate::state::State;
 use std::alloc::Global;
 
 /// The region that the station holds.
@@ -26,11 +26,11 @@ pub extern "C" fn cubejobs_tree_region(alloc: Global, station: &mut Handle) -> A
     ensures counts_none { counts_of result ≡ no_refusal }
     ensures unchanged { content_of station.new ≡ content_of station.old }
 {
-    let Some((content, room)) = take_out(station, alloc) else {
+    let Some((content, room)) = borrow_content(station, alloc) else {
         return refused(NOT_OPEN);
     };
     let answer = calls::region(&content);
-    put_back(station, room, content);
+    restore_content(station, room, content);
     answer
 }
 
@@ -65,14 +65,14 @@ pub extern "C" fn cubejobs_tree_size(alloc: Global, cube: &mut Handle) -> SizeAn
         → (result.dim ≡ 0) × (result.stations ≡ 0) × (result.seated ≡ 0) }
     ensures unchanged { content_of cube.new ≡ content_of cube.old }
 {
-    let Some((content, room)) = take_out(cube, alloc) else {
+    let Some((content, room)) = borrow_content(cube, alloc) else {
         return SizeAnswer::refused(NOT_OPEN);
     };
     let answer = match &content {
-        Content::Owner(boxed) => size_of(boxed.get()),
+        State::Machine(owned) => size_of(owned.get()),
         _ => SizeAnswer::refused(OTHER_KIND),
     };
-    put_back(cube, room, content);
+    restore_content(cube, room, content);
     answer
 }
 
@@ -107,19 +107,19 @@ pub extern "C" fn cubejobs_tree_word(alloc: Global, cube: &mut Handle, node: u64
         (content_of cube.old) → result.code ≡ DONE }
     ensures unchanged { content_of cube.new ≡ content_of cube.old }
 {
-    let Some((content, room)) = take_out(cube, alloc) else {
+    let Some((content, room)) = borrow_content(cube, alloc) else {
         return WordAnswer {
             code: NOT_OPEN,
             word: 0,
         };
     };
     let answer = match &content {
-        Content::Owner(boxed) => word_of(boxed.get(), node),
+        State::Machine(owned) => word_of(owned.get(), node),
         _ => WordAnswer {
             code: OTHER_KIND,
             word: 0,
         },
     };
-    put_back(cube, room, content);
+    restore_content(cube, room, content);
     answer
 }

@@ -64,7 +64,7 @@ impl Idle {
             (station_entry self.station) (station_entry refused.0.station) refused.1) }
     {
         let Idle { cube, station } = self;
-        match station.try_take_skipping(&cube, k) {
+        match station.search(&cube, k) {
             Ok(subcube) => Ok(Holding { cube, subcube }),
             Err((station, refusal)) => Err((Idle { cube, station }, refusal)),
         }

@@ -12,7 +12,7 @@ use Rattle.cube_shape.specs.Region.{IsAligned}
 use Rattle.cube_core.specs.Held.{region_at}
 use Rattle.tree_steps.specs.declared.view.Entry.{Entry}
 use Rattle.tree_steps.specs.Rule.{idle_entries}
-use Rattle.tree_steps.specs.Steps.{with_glances}
+use Rattle.tree_steps.specs.Steps.{with_peeks}
 use Rattle.tree_steps.specs.Tree.{id_of}
 use Rattle.cube_tree.specs.declared.handles.Cube.{Cube}
 use Rattle.cube_tree.specs.declared.handles.TreeStation.{TreeStation}
@@ -73,7 +73,7 @@ takes cube j station subcube of_floor t = record {
     n = cube_dim cube
 
     earlier : (t.between.station ≡ (station_entry station).station) × ((d : ℕ) → grants_in d t.between.trail ≡ grants_in d (station_entry station).trail)
-    earlier = tries_give (cube_dim cube) t.tries (with_glances t.glances (station_entry station)) t.between t.searches.refused
+    earlier = tries_give (cube_dim cube) t.tries (with_peeks t.peeks (station_entry station)) t.between t.searches.refused
 
     more : subcube_grants subcube ≡ station_grants station ++ held_region subcube ∷ []
     more =
@@ -94,7 +94,7 @@ stays cube j old new r of_floor back t = (
 )
   where
     kept : ((station_entry new).station ≡ (station_entry old).station) × ((d : ℕ) → grants_in d (station_entry new).trail ≡ grants_in d (station_entry old).trail)
-    kept = tries_give (cube_dim cube) t.tries (with_glances t.glances (station_entry old)) (station_entry new) t.searches.refused
+    kept = tries_give (cube_dim cube) t.tries (with_peeks t.peeks (station_entry old)) (station_entry new) t.searches.refused
 
     same : station_grants new ≡ station_grants old
     same = ap (λ (table : TableId). grants_in (dim_of table) (station_entry new).trail) (back ∙ sym (own_table cube old of_floor)) ∙ kept.1 (dim_of old.seat.table_id)

@@ -73,7 +73,7 @@ impl Floor for TreeFloor {
         let mut station = station;
         let mut pause = Pause::new();
         for _ in rt.forever() {
-            match station.try_take_skipping(&self.cube, k) {
+            match station.search(&self.cube, k) {
                 Ok(subcube) => return subcube,
                 Err((back, _)) => station = back,
             }

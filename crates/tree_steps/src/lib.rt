@@ -12,5 +12,5 @@ mod why;
 
 pub use rule::TreeRule;
 pub use tree::{Seat, Tree};
-pub use view::{Entry, Glance, Size, View};
+pub use view::{Entry, Peek, Size, View};
 pub use why::Why;

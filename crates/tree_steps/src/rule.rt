@@ -1,6 +1,6 @@
 //! The rule of the table, what its steps tell, and how its seats are cut and joined.
 ghost use Rattle.tree_steps.specs.Rule.{IsRuled, first_view};
-ghost use Rattle.tree_steps.specs.Steps.{makes_next, makes_zero, makes_retirement, keeps_load, notes_glance, tells_apart, without_first, only_first, without_stations, joined, blank};
+ghost use Rattle.tree_steps.specs.Steps.{makes_next, makes_zero, makes_retirement, keeps_load, notes_peek, tells_apart, without_first, only_first, without_stations, joined, blank};
 ghost use Rattle.tree_steps.specs.Alone.{makes_look, learns_next, makes_turn, tells_word};
 
 use crate::view::{Size, View};
@@ -60,10 +60,10 @@ impl Play<(), View> for LoadRoll {
 }
 
 /// The word of a node is loaded, and the first station notes what was found; no station makes an event.
-pub struct LoadGlance;
+pub struct LoadPeek;
 
-impl Play<(), View> for LoadGlance {
-    ghost then = { notes_glance };
+impl Play<(), View> for LoadPeek {
+    ghost then = { notes_peek };
 }
 
 /// A load that tells that what the first station holds is apart from what each other holds.

@@ -109,7 +109,7 @@ fn hold_half(cube: &Cube, station: TreeStation, beside_half: bool) -> Result<Sub
     if !beside_half {
         return Err(station);
     }
-    match station.try_take_skipping(cube, DIM - 1) {
+    match station.search(cube, DIM - 1) {
         Ok(subcube) => Ok(subcube),
         Err((station, _)) => Err(station),
     }

@@ -33,7 +33,7 @@ fn turn(cube: &Cube, station: TreeStation, k: u32) -> (TreeStation, bool)
     requires dim { k ≤ cube_dim cube.now }
     ensures { IsStationOf cube.now result.0 }
 {
-    match station.try_take_skipping(cube, k) {
+    match station.search(cube, k) {
         Ok(subcube) => (subcube.release(cube), true),
         Err((station, _)) => (station, false),
     }

@@ -100,7 +100,7 @@ fn search(cube: &Cube, station: TreeStation, k: u32) -> Result<Subcube, (TreeSta
     ensures held { IfOk result (IsSubcubeOf cube.now) }
     ensures back { IfErr result (λ refused. IsStationOf cube.now refused.0) }
 {
-    station.try_take_skipping(cube, k)
+    station.search(cube, k)
 }
 
 // The subcube that was given, which has to be this region.
@@ -285,7 +285,7 @@ fn refusals_are_counted(rt: HostRuntime) {
 }
 
 #[test]
-fn a_search_glances_at_what_refused_an_earlier_one(rt: HostRuntime) {
+fn a_search_peeks_at_what_refused_an_earlier_one(rt: HostRuntime) {
     let (cube, first, second) = opened_pair(&rt, rt.alloc(), 2);
     let first = given(&rt, &cube, try_node(&cube, first, 2), 0, 1);
     // The roll-back of a try under node 2 leaves a mark there.
