@@ -10,7 +10,7 @@ use std::marker::{Model, PhantomData};
 
 /// An operator that joins two numbers into one: associative, and with a unit.
 ///
-/// The type has no values of use: it names the operator of an `Operand`.
+/// A type that implements it is a name for the operator. Nobody needs a value of that type.
 pub trait Operator: Copy {
     ghost unit: { ℕ };
 
@@ -86,11 +86,11 @@ impl<O: Operator> Monoid for Operand<O> {
     ghost laws = { O.laws };
 }
 
-/// The sum modulo `2^64`.
+/// Adds two numbers, modulo `2^64`.
 #[derive(Clone, Copy, Debug, PartialEq, Eq, Hash)]
 pub struct Addition;
 
-/// A number that is added to others.
+/// A number that `Addition` joins with others.
 pub type Add = Operand<Addition>;
 
 impl Operator for Addition {
@@ -109,11 +109,11 @@ impl Operator for Addition {
     ghost laws = { add_laws };
 }
 
-/// The smaller of two.
+/// Takes the smaller of two numbers.
 #[derive(Clone, Copy, Debug, PartialEq, Eq, Hash)]
 pub struct Minimum;
 
-/// A number of which, with others, the smallest is wanted.
+/// A number that `Minimum` joins with others.
 pub type Min = Operand<Minimum>;
 
 impl Operator for Minimum {
@@ -132,11 +132,11 @@ impl Operator for Minimum {
     ghost laws = { min_laws };
 }
 
-/// The larger of two.
+/// Takes the larger of two numbers.
 #[derive(Clone, Copy, Debug, PartialEq, Eq, Hash)]
 pub struct Maximum;
 
-/// A number of which, with others, the largest is wanted.
+/// A number that `Maximum` joins with others.
 pub type Max = Operand<Maximum>;
 
 impl Operator for Maximum {
@@ -155,11 +155,11 @@ impl Operator for Maximum {
     ghost laws = { max_laws };
 }
 
-/// The bits in which two differ.
+/// Takes the bits in which two numbers differ.
 #[derive(Clone, Copy, Debug, PartialEq, Eq, Hash)]
 pub struct BitwiseXor;
 
-/// A number that is joined with others by exclusive or.
+/// A number that `BitwiseXor` joins with others.
 pub type Xor = Operand<BitwiseXor>;
 
 impl Operator for BitwiseXor {
@@ -178,11 +178,11 @@ impl Operator for BitwiseXor {
     ghost laws = { xor_laws };
 }
 
-/// The bits that both have.
+/// Takes the bits that two numbers share.
 #[derive(Clone, Copy, Debug, PartialEq, Eq, Hash)]
 pub struct BitwiseAnd;
 
-/// A number that is joined with others by and.
+/// A number that `BitwiseAnd` joins with others.
 pub type And = Operand<BitwiseAnd>;
 
 impl Operator for BitwiseAnd {
@@ -201,11 +201,11 @@ impl Operator for BitwiseAnd {
     ghost laws = { and_laws };
 }
 
-/// The bits that one of two has.
+/// Takes the bits that one of two numbers has, or both.
 #[derive(Clone, Copy, Debug, PartialEq, Eq, Hash)]
 pub struct BitwiseOr;
 
-/// A number that is joined with others by or.
+/// A number that `BitwiseOr` joins with others.
 pub type Or = Operand<BitwiseOr>;
 
 impl Operator for BitwiseOr {

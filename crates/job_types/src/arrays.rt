@@ -46,7 +46,7 @@ pub(crate) fn answer_on<const N: usize>(items: &[u64], kind: Kind, k: u32, kept:
     }
 }
 
-// Runs the collective by the operator of the job's operation.
+// Does the same by the operator `O`, which joins as the job's operation does.
 fn answer_by<O: Operator, const N: usize>(items: &[u64], kind: Kind, k: u32, kept: &mut Kept)
     requires unit { O.unit ≡ unit_of (operation_of kind) }
     requires join { O.join ≡ join (operation_of kind) }
