@@ -13,7 +13,6 @@ mod arrays;
 mod job;
 mod kept;
 mod kind;
-mod operation;
 mod reply;
 mod request;
 mod rounds;

@@ -1,7 +1,7 @@
 //! The public functions of `collectives` once each on small cubes.
 
 ghost use Rattle.std.specs.Prelude.{◌≡◌, ◌^◌, ◌<◌, ◌≤◌, All, length};
-ghost use Rattle.collectives.specs.Operations.{IsAffineValue};
+ghost use Rattle.collectives.specs.Operations.{IsAffineValue, IsU64};
 ghost use Rattle.collectives.specs.Shape.{message_count};
 
 use crate::tests::facts::expect_all;
@@ -45,12 +45,12 @@ fn joined(rt: HostRuntime) {
     expect_all(
         &rt,
         &[
-            joins(Add(u64::MAX), Add(3), Add(2)),
-            joins(Min(4), Min(9), Min(4)),
-            joins(Max(4), Max(9), Max(9)),
-            joins(Xor(6), Xor(3), Xor(5)),
-            joins(And(6), And(3), And(2)),
-            joins(Or(6), Or(3), Or(7)),
+            joins(Add::new(u64::MAX), Add::new(3), Add::new(2)),
+            joins(Min::new(4), Min::new(9), Min::new(4)),
+            joins(Max::new(4), Max::new(9), Max::new(9)),
+            joins(Xor::new(6), Xor::new(3), Xor::new(5)),
+            joins(And::new(6), And::new(3), And::new(2)),
+            joins(Or::new(6), Or::new(3), Or::new(7)),
             joins(first, second, Affine { a: 6, b: 7 }),
             joins(second, first, Affine { a: 6, b: 9 }),
         ],
@@ -67,12 +67,12 @@ fn units(rt: HostRuntime) {
     expect_all(
         &rt,
         &[
-            is_unit(Add(0)),
-            is_unit(Min(18446744073709551615)),
-            is_unit(Max(0)),
-            is_unit(Xor(0)),
-            is_unit(And(18446744073709551615)),
-            is_unit(Or(0)),
+            is_unit(Add::new(0)),
+            is_unit(Min::new(18446744073709551615)),
+            is_unit(Max::new(0)),
+            is_unit(Xor::new(0)),
+            is_unit(And::new(18446744073709551615)),
+            is_unit(Or::new(0)),
             is_unit(Affine { a: 1, b: 0 }),
         ],
     );
@@ -84,7 +84,7 @@ fn values(rt: HostRuntime) {
     expect_all(
         &rt,
         &[
-            Add(u64::MAX).is_value(),
+            Add::new(u64::MAX).is_value(),
             Affine { a: most, b: most }.is_value(),
             !Affine { a: most + 1, b: 0 }.is_value(),
             !Affine { a: 1, b: most + 1 }.is_value(),
@@ -113,7 +113,14 @@ fn broadcast_from_one(rt: HostRuntime) {
     expect_all(
         &rt,
         &[
-            broadcasts(&mut [Add(4), Add(9)], 1, 1, &[Add(9); 2], 1, 1),
+            broadcasts(
+                &mut [Add::new(4), Add::new(9)],
+                1,
+                1,
+                &[Add::new(9); 2],
+                1,
+                1,
+            ),
             broadcasts(&mut maps(), 2, 2, &[Affine { a: 1, b: 5 }; 4], 2, 3),
         ],
     );
@@ -138,12 +145,12 @@ fn reduces<M: Monoid + PartialEq>(
 
 #[test]
 fn reduce_to_one(rt: HostRuntime) {
-    let unit = Min(u64::MAX);
-    let items = &mut [Min(5), Min(3), Min(9), Min(4)];
+    let unit = Min::new(u64::MAX);
+    let items = &mut [Min::new(5), Min::new(3), Min::new(9), Min::new(4)];
     expect_all(
         &rt,
         &[
-            reduces(items, 2, 2, &[unit, unit, Min(3), unit], 2, 3),
+            reduces(items, 2, 2, &[unit, unit, Min::new(3), unit], 2, 3),
             reduces(&mut maps(), 2, 1, &[UNIT, ALL_MAPS, UNIT, UNIT], 2, 3),
         ],
     );
@@ -166,11 +173,11 @@ fn all_reduces<M: Monoid + PartialEq>(
 
 #[test]
 fn all_reduce_to_all(rt: HostRuntime) {
-    let items = &mut [Add(1), Add(2), Add(3), Add(4)];
+    let items = &mut [Add::new(1), Add::new(2), Add::new(3), Add::new(4)];
     expect_all(
         &rt,
         &[
-            all_reduces(items, 2, &[Add(10); 4], 2, 8),
+            all_reduces(items, 2, &[Add::new(10); 4], 2, 8),
             all_reduces(&mut maps(), 2, &[ALL_MAPS; 4], 2, 8),
         ],
     );
@@ -195,16 +202,35 @@ fn scans<M: Monoid + PartialEq>(
     took(scan(items, scratch, k), rounds, messages) & (*items == *after) & (*scratch == *totals)
 }
 
-const SUMS: &[Add] = &[
-    Add(1),
-    Add(3),
-    Add(6),
-    Add(10),
-    Add(15),
-    Add(21),
-    Add(28),
-    Add(36),
-];
+// The numbers from 1 to 8.
+fn one_to_eight() -> [Add; 8]
+    ensures { All IsU64 result }
+{
+    [
+        Add::new(1),
+        Add::new(2),
+        Add::new(3),
+        Add::new(4),
+        Add::new(5),
+        Add::new(6),
+        Add::new(7),
+        Add::new(8),
+    ]
+}
+
+// The sums of the first numbers, up to and with each place.
+fn sums() -> [Add; 8] {
+    [
+        Add::new(1),
+        Add::new(3),
+        Add::new(6),
+        Add::new(10),
+        Add::new(15),
+        Add::new(21),
+        Add::new(28),
+        Add::new(36),
+    ]
+}
 
 // Each of the maps after those before it.
 const MAPS_SO_FAR: &[Affine] = &[
@@ -216,22 +242,13 @@ const MAPS_SO_FAR: &[Affine] = &[
 
 #[test]
 fn scan_of_all(rt: HostRuntime) {
-    let items = &mut [
-        Add(1),
-        Add(2),
-        Add(3),
-        Add(4),
-        Add(5),
-        Add(6),
-        Add(7),
-        Add(8),
-    ];
-    let (zeros, totals) = (&mut [Add(0); 8], &[Add(36); 8]);
+    let items = &mut one_to_eight();
+    let (zeros, totals) = (&mut [Add::new(0); 8], &[Add::new(36); 8]);
     let (maps_of, scratch) = (&mut maps(), &mut maps());
     expect_all(
         &rt,
         &[
-            scans(items, zeros, 3, SUMS, totals, 3, 24),
+            scans(items, zeros, 3, &sums(), totals, 3, 24),
             scans(maps_of, scratch, 2, MAPS_SO_FAR, &[ALL_MAPS; 4], 2, 8),
         ],
     );
@@ -256,16 +273,19 @@ fn exscans<M: Monoid + PartialEq>(
     took(exscan(items, scratch, k), rounds, messages) & (*items == *after) & (*scratch == *totals)
 }
 
-const SUMS_BEFORE: &[Add] = &[
-    Add(0),
-    Add(1),
-    Add(3),
-    Add(6),
-    Add(10),
-    Add(15),
-    Add(21),
-    Add(28),
-];
+// The sums of the numbers before each place.
+fn sums_before() -> [Add; 8] {
+    [
+        Add::new(0),
+        Add::new(1),
+        Add::new(3),
+        Add::new(6),
+        Add::new(10),
+        Add::new(15),
+        Add::new(21),
+        Add::new(28),
+    ]
+}
 
 // The maps before each of the maps, joined.
 const MAPS_BEFORE: &[Affine] = &[
@@ -277,22 +297,13 @@ const MAPS_BEFORE: &[Affine] = &[
 
 #[test]
 fn scan_of_those_before(rt: HostRuntime) {
-    let items = &mut [
-        Add(1),
-        Add(2),
-        Add(3),
-        Add(4),
-        Add(5),
-        Add(6),
-        Add(7),
-        Add(8),
-    ];
-    let (zeros, totals) = (&mut [Add(0); 8], &[Add(36); 8]);
+    let items = &mut one_to_eight();
+    let (zeros, totals) = (&mut [Add::new(0); 8], &[Add::new(36); 8]);
     let (maps_of, scratch) = (&mut maps(), &mut maps());
     expect_all(
         &rt,
         &[
-            exscans(items, zeros, 3, SUMS_BEFORE, totals, 3, 24),
+            exscans(items, zeros, 3, &sums_before(), totals, 3, 24),
             exscans(maps_of, scratch, 2, MAPS_BEFORE, &[ALL_MAPS; 4], 2, 8),
         ],
     );
@@ -300,15 +311,31 @@ fn scan_of_those_before(rt: HostRuntime) {
 
 #[test]
 fn one_place(rt: HostRuntime) {
-    const SEVEN: &[Max] = &[Max(7)];
+    let seven = &[Max::new(7)];
     expect_all(
         &rt,
         &[
-            broadcasts(&mut [Max(7)], 0, 0, SEVEN, 0, 0),
-            reduces(&mut [Max(7)], 0, 0, SEVEN, 0, 0),
-            all_reduces(&mut [Max(7)], 0, SEVEN, 0, 0),
-            scans(&mut [Max(7)], &mut [Max(0)], 0, SEVEN, SEVEN, 0, 0),
-            exscans(&mut [Max(7)], &mut [Max(7)], 0, &[Max(0)], SEVEN, 0, 0),
+            broadcasts(&mut [Max::new(7)], 0, 0, seven, 0, 0),
+            reduces(&mut [Max::new(7)], 0, 0, seven, 0, 0),
+            all_reduces(&mut [Max::new(7)], 0, seven, 0, 0),
+            scans(
+                &mut [Max::new(7)],
+                &mut [Max::new(0)],
+                0,
+                seven,
+                seven,
+                0,
+                0,
+            ),
+            exscans(
+                &mut [Max::new(7)],
+                &mut [Max::new(7)],
+                0,
+                &[Max::new(0)],
+                seven,
+                0,
+                0,
+            ),
         ],
     );
 }
@@ -330,11 +357,16 @@ fn pads<M: Monoid + PartialEq>(
 
 #[test]
 fn units_past_the_items(rt: HostRuntime) {
-    let padded = &[Min(9), Min(4), Min(7), Min(18446744073709551615)];
+    let padded = &[
+        Min::new(9),
+        Min::new(4),
+        Min::new(7),
+        Min::new(18446744073709551615),
+    ];
     expect_all(
         &rt,
         &[
-            pads(&rt, &[Min(9), Min(4), Min(7)], 2, padded),
+            pads(&rt, &[Min::new(9), Min::new(4), Min::new(7)], 2, padded),
             pads(&rt, padded, 2, padded),
             pads(&rt, &[], 1, &[UNIT; 2]),
         ],
