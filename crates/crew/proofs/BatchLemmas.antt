@@ -27,10 +27,12 @@ Jobs = Vec (VecDeque JobData Global) Global
 abbrev pub Ran : Type 0 → Type 0
 Ran M = Result (RunEnd M) (ShopRefused × Jobs)
 
-of_ended : {M : Type 0} (P : RunEnd M → Type 0) (ran : Ran M) (end : RunEnd M) → ran ≡ Ok end → IfOk ran P → P end
+of_ended : {M : Type 0} (P : RunEnd M → Type 0) (ran : Ran M) (end : RunEnd M)
+    → ran ≡ Ok end → IfOk ran P → P end
 of_ended {M} P ran end is so = subst (λ (r : Ran M). IfOk r P) is so
 
-of_refusal : {M : Type 0} (P : ShopRefused × Jobs → Type 0) (ran : Ran M) (why : ShopRefused) (back : Jobs) → ran ≡ Err (why, back) → IfErr ran P → P (why, back)
+of_refusal : {M : Type 0} (P : ShopRefused × Jobs → Type 0) (ran : Ran M) (why : ShopRefused) (back : Jobs)
+    → ran ≡ Err (why, back) → IfErr ran P → P (why, back)
 of_refusal {M} P ran why back is so = subst (λ (r : Ran M). IfErr r P) is so
 
 -- what a batch is that was answered, and one that was not
@@ -38,7 +40,8 @@ abbrev pub IsBatch : {M : Type 0} → Ran M → RunEnd M → Type 0
 IsBatch ran end = (ran ≡ Ok end) × IsDone end
 
 abbrev pub IsStopped : {M : Type 0} → Ran M → Stopped M → Type 0
-IsStopped ran stopped = MatchStopped stopped (λ why back. ran ≡ Err (why, back)) (λ why end. (ran ≡ Ok end) × (why ≡ reason_of end) × (¬ IsDone end))
+IsStopped ran stopped = MatchStopped stopped (λ why back. ran ≡ Err (why, back))
+    (λ why end. (ran ≡ Ok end) × (why ≡ reason_of end) × (¬ IsDone end))
 
 module _ {L Lane Pass Closer Note End F Station Held Machine : Type 0} (line : LineWords L Lane Pass Closer Note End) (floor : FloorWords F Station Held Machine) (asked : ShopSizes) (jobs : JobLists) where
   -- the sizes are refused for this, or for nothing
@@ -59,7 +62,8 @@ module _ {L Lane Pass Closer Note End F Station Held Machine : Type 0} (line : L
       → IfErr ran (λ r. r.0 ≢ OutOfMemory → Refuses r.0)
       → IfErr ran (λ r. r.0 ≡ OutOfMemory → RefusesNothing)
       → IfErr ran (λ r. r.1.items ≡ jobs)
-      → IfOk result (IsBatch ran) → IfErr result (IsStopped ran) → IsBatchOutcome line floor asked jobs result
+      → IfOk result (IsBatch ran) → IfErr result (IsStopped ran)
+      → IsBatchOutcome line floor asked jobs result
   outcome_of ran (Ok end) run ran_in workers dim closed sizes first memory_last back batch stopped =
       let is = batch.0 in
       let of_run : IsRun floor.machine_words asked.dim (map (λ js. js.items) jobs) end = of_ended (IsRun floor.machine_words asked.dim (map (λ js. js.items) jobs)) ran end is run in

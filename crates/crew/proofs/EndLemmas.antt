@@ -9,7 +9,8 @@ use Rattle.crew.specs.InnerEnd.{HasEnded}
 use Rattle.crew.specs.InnerNaming.{sizes_of}
 
 -- the jobs of each lane by another name
-pub named_end : (jobs named : ℕ → List JobData) (lane : LaneRecord) (end : LaneEnd) → ((k : ℕ) → named k ≡ jobs k) → HasEnded jobs lane end → HasEnded named lane end
+pub named_end : (jobs named : ℕ → List JobData) (lane : LaneRecord) (end : LaneEnd)
+    → ((k : ℕ) → named k ≡ jobs k) → HasEnded jobs lane end → HasEnded named lane end
 named_end jobs named lane end same is = record {
   number = is.number;
   accepted = is.accepted;
@@ -22,7 +23,8 @@ named_end jobs named lane end same is = record {
 abbrev sized : ℕ → ℕ → ℕ → ShopSizes
 sized dim dispatchers capacity = record { dim = dim; dispatchers = dispatchers; capacity = capacity }
 
-pub sizes_are : (asked : ShopSizes) (lanes : ℕ) (shop : ShopId) → HasSizes asked.dim lanes asked.dispatchers asked.capacity shop → sizes_of shop ≡ asked
+pub sizes_are : (asked : ShopSizes) (lanes : ℕ) (shop : ShopId)
+    → HasSizes asked.dim lanes asked.dispatchers asked.capacity shop → sizes_of shop ≡ asked
 sizes_are asked lanes shop has =
     ap (λ (k : ℕ). sized k shop.line.sizes.passes shop.line.sizes.capacity) has.dim
     ∙ (ap (λ (k : ℕ). sized asked.dim k shop.line.sizes.capacity) has.workers ∙ ap (λ (k : ℕ). sized asked.dim asked.dispatchers k) has.holds)

@@ -73,7 +73,9 @@ module _ {A : Type 0} (record_of : A → LaneRecord) (end_of : A → LaneEnd) (c
   counted_jobs : (x : A) → Counted (record_of x) → get_or counts (record_of x).number 0 ≡ length (accepted_jobs (record_of x))
   counted_jobs x counted = counted ∙ sym (length-map (accepted (record_of x).entries) job_of)
 
-  one_end : (jobs : List (List JobData)) (close_number : ℕ) (x : A) → IsEnd (λ k. get_or jobs k []) x → Counted (record_of x) → Seen close_number (record_of x) → IsLaneEnd jobs counts close_number (end_of x)
+  one_end : (jobs : List (List JobData)) (close_number : ℕ) (x : A)
+      → IsEnd (λ k. get_or jobs k []) x → Counted (record_of x) → Seen close_number (record_of x)
+      → IsLaneEnd jobs counts close_number (end_of x)
   one_end jobs close_number x is counted seen =
       let l : LaneRecord = record_of x in
       let end : LaneEnd = end_of x in
@@ -90,7 +92,10 @@ module _ {A : Type 0} (record_of : A → LaneRecord) (end_of : A → LaneEnd) (c
         stopped = stop_as close_number l end end.stop is.entries seen is.stopped;
       }
 
-  all_ends : (jobs : List (List JobData)) (close_number : ℕ) (xs : List A) → All (IsEnd (λ k. get_or jobs k [])) xs → AllByRecursion Counted (map record_of xs) → AllByRecursion (Seen close_number) (map record_of xs) → All (IsLaneEnd jobs counts close_number) (map end_of xs)
+  all_ends : (jobs : List (List JobData)) (close_number : ℕ) (xs : List A)
+      → All (IsEnd (λ k. get_or jobs k [])) xs → AllByRecursion Counted (map record_of xs)
+      → AllByRecursion (Seen close_number) (map record_of xs)
+      → All (IsLaneEnd jobs counts close_number) (map end_of xs)
   all_ends jobs close_number [] are counted seen = All-nil (IsLaneEnd jobs counts close_number)
   all_ends jobs close_number (x ∷ xs) are counted seen =
       All-cons (IsLaneEnd jobs counts close_number) (end_of x) (map end_of xs)
@@ -110,7 +115,9 @@ module _ {A : Type 0} (record_of : A → LaneRecord) (end_of : A → LaneEnd) (c
   accepted_count (js ∷ jobs) [] same = absurd (omega (arith, same))
   accepted_count (js ∷ jobs) (n ∷ ns) same = omega (arith, accepted_count jobs ns (omega (arith, same)))
 
-  all_accepted : (jobs : List (List JobData)) (xs : List A) → length counts ≡ length jobs → All (IsEnd (λ k. get_or jobs k [])) xs → AllByRecursion Counted (map record_of xs) → AllByRecursion (IsFed (accepted_of jobs counts)) (map record_of xs)
+  all_accepted : (jobs : List (List JobData)) (xs : List A) → length counts ≡ length jobs
+      → All (IsEnd (λ k. get_or jobs k [])) xs → AllByRecursion Counted (map record_of xs)
+      → AllByRecursion (IsFed (accepted_of jobs counts)) (map record_of xs)
   all_accepted jobs [] same are counted = tt
   all_accepted jobs (x ∷ xs) same are counted =
       let l : LaneRecord = record_of x in
@@ -130,9 +137,12 @@ all_stopped stop replies own [] = tt
 all_stopped stop replies own (e ∷ es) = (own e, all_stopped stop replies own es)
 
 -- a part of each end is that part of its lane
-pub parts_are : {A N V : Type 0} (P : A → Type 0) (lane_of : A → N) (of_lane : N → V) (end_of : A → LaneEnd) (of_end : LaneEnd → V)
-    → ((x : A) → P x → of_end (end_of x) ≡ of_lane (lane_of x)) → (xs : List A) (lanes : List N) (ends : List LaneEnd)
-    → lanes ≡ map lane_of xs → ends ≡ map end_of xs → All P xs → map of_end ends ≡ map of_lane lanes
+pub parts_are : {A N V : Type 0} (P : A → Type 0) (lane_of : A → N) (of_lane : N → V)
+    (end_of : A → LaneEnd) (of_end : LaneEnd → V)
+    → ((x : A) → P x → of_end (end_of x) ≡ of_lane (lane_of x))
+    → (xs : List A) (lanes : List N) (ends : List LaneEnd)
+    → lanes ≡ map lane_of xs → ends ≡ map end_of xs → All P xs
+    → map of_end ends ≡ map of_lane lanes
 parts_are {A} {N} {V} P lane_of of_lane end_of of_end same xs lanes ends are told all =
     ap (map of_end) told ∙ (map_twice end_of of_end xs ∙ (each xs all ∙ (sym (map_twice lane_of of_lane xs) ∙ sym (ap (map of_lane) are))))
   where
@@ -144,7 +154,8 @@ parts_are {A} {N} {V} P lane_of of_lane end_of of_end same xs lanes ends are tol
 
 -- the record of a run, from the theorem of its shop
 pub run_of : {A M : Type 0} (record_of : A → LaneRecord) (end_of : A → LaneEnd)
-    (words_of : M → List ℕ) (n : ℕ) (jobs : List (List JobData)) (xs : List A) (grants : List (List Region)) (note : ℕ) (end : RunEnd M)
+    (words_of : M → List ℕ) (n : ℕ) (jobs : List (List JobData)) (xs : List A)
+    (grants : List (List Region)) (note : ℕ) (end : RunEnd M)
     → FinishedRun n (map record_of xs) grants note (outcome words_of end.finished)
     → end.lanes.items ≡ map end_of xs
     → end.close_number ≡ note

@@ -1,4 +1,4 @@
--- What is so of a batch: of one that was answered, of one that was refused, and of one that was not finished.
+-- What is so of a batch that was answered, of one that was refused, and of one that was not finished.
 use Rattle.std.specs.Prelude.{◌≡◌, ◌≢◌, ℕ, List, Vec, Some, None, Result, IfOk, IfErr, ⊤, map, length}
 use Rattle.std.specs.declared.alloc.Global.{Global}
 use Rattle.std.specs.declared.collections.VecDeque.{VecDeque}
@@ -22,14 +22,17 @@ use Rattle.crew.specs.Stopped.{MatchStopped}
 abbrev pub JobLists : Type 0
 JobLists = List (VecDeque JobData Global)
 
--- Nothing was run: the first size that is not within its limits, or no memory. The jobs are back.
-pub record IsRefusedBatch (asked : ShopSizes) (jobs : JobLists) (why : ShopRefused) (back : Vec (VecDeque JobData Global) Global) : Type 0 where
-  pub first : why ≢ OutOfMemory → refusal_of asked.dim (length jobs) asked.dispatchers asked.capacity ≡ Some why
-  pub memory_last : why ≡ OutOfMemory → refusal_of asked.dim (length jobs) asked.dispatchers asked.capacity ≡ None
-  pub gives_back : back.items ≡ jobs
+module _ (asked : ShopSizes) (jobs : JobLists) where
+  -- nothing was run: the first size that is not within its limits, or no memory; the jobs are back
+  pub record IsRefusedBatch (why : ShopRefused) (back : Vec (VecDeque JobData Global) Global) : Type 0 where
+    pub first : why ≢ OutOfMemory →
+        refusal_of asked.dim (length jobs) asked.dispatchers asked.capacity ≡ Some why
+    pub memory_last : why ≡ OutOfMemory →
+        refusal_of asked.dim (length jobs) asked.dispatchers asked.capacity ≡ None
+    pub gives_back : back.items ≡ jobs
 
 module _ {M : Type 0} (words_of : M → List ℕ) (asked : ShopSizes) (jobs : JobLists) where
-  -- The batch was run by as many workers as were asked for, and not to its end.
+  -- it was run by as many workers as were asked for, and not to its end
   pub record IsUnfinishedBatch (why : StopReason) (end : RunEnd M) : Type 0 where
     pub run : IsRun words_of asked.dim (map (λ js. js.items) jobs) end
     pub workers : length end.finished.by_worker.items ≡ asked.dispatchers
@@ -38,22 +41,27 @@ module _ {M : Type 0} (words_of : M → List ℕ) (asked : ShopSizes) (jobs : Jo
     pub reason : why ≡ reason_of end
 
 module _ {M : Type 0} (words_of : M → List ℕ) (dim_of : M → ℕ) (is_closed : ℕ → M → Type 0) (asked : ShopSizes) (jobs : JobLists) where
-  -- Each job of the batch has one right reply, and the machine is closed.
+  -- each job has one right reply, and the machine is closed
   pub record IsAnsweredBatch (end : RunEnd M) : Type 0 where
     pub run : IsRun words_of asked.dim (map (λ js. js.items) jobs) end
     pub workers : length end.finished.by_worker.items ≡ asked.dispatchers
     pub sizes : refusal_of asked.dim (length jobs) asked.dispatchers asked.capacity ≡ None
     pub done : IsDone end
-    pub answers : AnswersAll asked.dim (map (λ js. js.items) jobs) (by_worker_of end) end.finished.rest.items
+    pub answers : AnswersAll asked.dim (map (λ js. js.items) jobs)
+        (by_worker_of end) end.finished.rest.items
     pub accepted : end.finished.accepted.items ≡ map (λ js. length js.items) jobs
     pub dim : dim_of end.finished.machine ≡ asked.dim
     pub closed : is_closed asked.dispatchers end.finished.machine
 
 module _ {L Lane Pass Closer Note End F Station Held Machine : Type 0} (line : LineWords L Lane Pass Closer Note End) (floor : FloorWords F Station Held Machine) where
-  -- What a batch returns, for the sizes that were asked for and the jobs of each lane.
+  -- what a batch returns, for the sizes that were asked for and the jobs of each lane
   pub record IsBatchOutcome (asked : ShopSizes) (jobs : JobLists) (result : Result (RunEnd Machine) (Stopped Machine)) : Type 0 where
-    pub answered : IfOk result (IsAnsweredBatch floor.machine_words floor.machine_dim floor.is_closed asked jobs)
+    pub answered : IfOk result
+        (IsAnsweredBatch floor.machine_words floor.machine_dim floor.is_closed asked jobs)
     pub ran_in : IfOk result (RanIn line floor asked (length jobs))
-    pub refused : IfErr result (λ stopped. MatchStopped stopped (IsRefusedBatch asked jobs) (λ why end. ⊤))
-    pub unfinished : IfErr result (λ stopped. MatchStopped stopped (λ why back. ⊤) (IsUnfinishedBatch floor.machine_words asked jobs))
-    pub unfinished_ran_in : IfErr result (λ stopped. MatchStopped stopped (λ why back. ⊤) (λ why end. RanIn line floor asked (length jobs) end))
+    pub refused : IfErr result (λ stopped.
+        MatchStopped stopped (IsRefusedBatch asked jobs) (λ why end. ⊤))
+    pub unfinished : IfErr result (λ stopped.
+        MatchStopped stopped (λ why back. ⊤) (IsUnfinishedBatch floor.machine_words asked jobs))
+    pub unfinished_ran_in : IfErr result (λ stopped.
+        MatchStopped stopped (λ why back. ⊤) (λ why end. RanIn line floor asked (length jobs) end))
