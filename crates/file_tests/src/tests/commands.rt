@@ -1,5 +1,6 @@
 //! The four commands over devices that fail, and over a large file.
 
+ghost use Rattle.std.specs.Prelude.{◌≡◌};
 ghost use Rattle.cli_words.specs.CommandLine.{AreShopSizes};
 
 use crate::tests::devices::{FailsAt, add, replies_text};
@@ -37,7 +38,9 @@ fn expect_shop(rt: &impl Abort, sizes: ShopSizes)
 }
 
 // The sizes of a shop.
-pub fn sizes_of(dim: u32, dispatchers: u32, capacity: usize) -> ShopSizes {
+pub fn sizes_of(dim: u32, dispatchers: u32, capacity: usize) -> ShopSizes
+    ensures { result ≡ record { dim = dim; dispatchers = dispatchers; capacity = capacity } }
+{
     ShopSizes {
         dim,
         dispatchers,
