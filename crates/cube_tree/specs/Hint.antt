@@ -75,8 +75,7 @@ RemembersRefused n j old new =
     Remembers n j (2 * 2 ^ j) (hint_of old) (hint_of new) (station_entry old) (station_entry new)
 
 -- a search up to the node that was taken
-pub record RemembersTaken (cube : Cube) (j : ℕ) (old : TreeStation) (subcube : Subcube)
-    : Type 0 where
+pub record RemembersTaken (cube : Cube) (j : ℕ) (old : TreeStation) (subcube : Subcube) : Type 0 where
   pub between : Entry
   pub search :
       Remembers (cube_dim cube) j (held_node subcube) (hint_of old) (hint_with subcube)

@@ -39,8 +39,7 @@ IsSeenOccupied v peeks = Any (λ g. OnPath g.node v × IsOccupied g.word) peeks
 -- by one peek at most, and then these tries, a station searched the level that is j levels below the root
 -- up to the node `end`: for each node of the level before that one some refusal stands, or the peek found
 -- it or an ancestor of it occupied
-pub record Searches (n j end : ℕ) (peeks : List Peek) (tries : List RefusedTry) (old new : Entry)
-    : Type 0 where
+pub record Searches (n j end : ℕ) (peeks : List Peek) (tries : List RefusedTry) (old new : Entry) : Type 0 where
   pub one : length peeks ≤ 1
   pub refused : AreRefused n tries (with_peeks peeks old) new
   pub level : All (λ t. (2 ^ j ≤ t.node) × (t.node < end)) tries

@@ -11,8 +11,7 @@ use Rattle.cubejobs_tree.specs.declared.machine.Machine.{Machine}
 use Rattle.cubejobs_tree.specs.Ends.{machine_cube}
 
 -- a machine of this cube, none of whose stations waits, after one load of the roll more, which found stations missing
-pub record FindsMissing (cube : Cube) (reader : RetirementReader) (after : Machine) (missing : ℕ)
-    : Type 0 where
+pub record FindsMissing (cube : Cube) (reader : RetirementReader) (after : Machine) (missing : ℕ) : Type 0 where
   pub same : machine_cube after ≡ cube
   pub none_waits : after.stations.items ≡ []
   pub roll : ℕ
