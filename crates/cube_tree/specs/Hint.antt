@@ -36,8 +36,9 @@ IsAbove a v = OnPath a v × (a < v)
 abbrev pub IsHintAbove : Option ℕ → ℕ → Type 0
 IsHintAbove hint v = MatchOption hint ⊥ (λ at. IsAbove at v)
 
--- the peeks of a search from node `first` on, by a station with the hint `had`: one at the hint where this is an ancestor
--- of `first`, and else none. The hint is `kept` after them: the same one, or none where it was not occupied
+-- the peeks of a search from node `first` on, by a station with the hint `had`: one at the hint where
+-- this is an ancestor of `first`, and else none. The hint is `kept` after them: the same one, or none
+-- where it was not occupied
 abbrev pub PeeksAtHint : ℕ → Option ℕ → List Peek → Option ℕ → Type 0
 PeeksAtHint first had [] kept = (IsHintAbove had first → ⊥) × (kept ≡ had)
 PeeksAtHint first had (peek ∷ []) kept =
@@ -45,7 +46,8 @@ PeeksAtHint first had (peek ∷ []) kept =
     × ((IsOccupied peek.word → ⊥) → kept ≡ None)
 PeeksAtHint first had (peek ∷ other ∷ more) kept = ⊥
 
--- the hint after a refused try: the occupied ancestor, if the refusal names one and the try was at the first node
+-- the hint after a refused try: the occupied ancestor, if the refusal names one and the try was at the
+-- first node
 abbrev pub hint_after_refusal : Bool → Option ℕ → Option ℕ → Option ℕ
 hint_after_refusal true (Some at) had = Some at
 hint_after_refusal true None had = had
@@ -54,9 +56,11 @@ hint_after_refusal false ancestor had = had
 -- the hint after these tries, the newest first, of a search from node `first` on
 abbrev pub hint_after : ℕ → Option ℕ → List RefusedTry → Option ℕ
 hint_after first had [] = had
-hint_after first had (t ∷ earlier) = hint_after_refusal (nat_eq t.node first) (ancestor_of t.why) (hint_after first had earlier)
+hint_after first had (t ∷ earlier) =
+    hint_after_refusal (nat_eq t.node first) (ancestor_of t.why) (hint_after first had earlier)
 
--- a station with the hint `had` searched the level that is j levels below the root up to the node `end`; its hint is `now`
+-- a station with the hint `had` searched the level that is j levels below the root up to the node `end`;
+-- its hint is `now`
 pub record Remembers (n j end : ℕ) (had now : Option ℕ) (old new : Entry) : Type 0 where
   pub peeks : List Peek
   pub tries : List RefusedTry
@@ -67,10 +71,13 @@ pub record Remembers (n j end : ℕ) (had now : Option ℕ) (old new : Entry) : 
 
 -- a search of the whole level, each region of which was refused
 abbrev pub RemembersRefused : ℕ → ℕ → TreeStation → TreeStation → Type 0
-RemembersRefused n j old new = Remembers n j (2 * 2 ^ j) (hint_of old) (hint_of new) (station_entry old) (station_entry new)
+RemembersRefused n j old new =
+    Remembers n j (2 * 2 ^ j) (hint_of old) (hint_of new) (station_entry old) (station_entry new)
 
 -- a search up to the node that was taken
 pub record RemembersTaken (cube : Cube) (j : ℕ) (old : TreeStation) (subcube : Subcube) : Type 0 where
   pub between : Entry
-  pub search : Remembers (cube_dim cube) j (held_node subcube) (hint_of old) (hint_with subcube) (station_entry old) between
+  pub search :
+      Remembers (cube_dim cube) j (held_node subcube) (hint_of old) (hint_with subcube)
+      (station_entry old) between
   pub taken : TakesNode cube (held_node subcube) between subcube

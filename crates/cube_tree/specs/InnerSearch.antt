@@ -33,8 +33,9 @@ pub record Finds (node : ℕ) (is_occupied : Bool) (old new : Entry) : Type 0 wh
   pub entry : new ≡ with_peeks (record { node = node; word = word } ∷ []) old
   pub answer : IsTrue is_occupied ↔ IsOccupied word
 
--- a search of the level that is j levels below the root begins at the node `start`, after one peek at most:
--- each node of the level before that one is seen occupied, and none from there on; its hint was `had`, and is `kept`
+-- a search of the level that is j levels below the root begins at the node `start`, after one peek at
+-- most. The peek found each node of the level before that one, or an ancestor of it, occupied, and none
+-- from there on. The hint was `had`, and is `kept`
 pub record Begins (j start : ℕ) (had kept : Option ℕ) (old new : Entry) : Type 0 where
   pub peeks : List Peek
   pub few : length peeks ≤ 1

@@ -1,4 +1,4 @@
--- A search of one level of nodes that passes over those under an ancestor which a try or a peek found occupied.
+-- A search of one level of nodes, which skips those under an ancestor that a try or a peek found occupied.
 use Rattle.std.specs.Prelude.{◌≡◌, ℕ, ◌+◌, ◌*◌, ◌^◌, ◌<◌, ◌≤◌, ◌⊎◌, List, [], ◌∷◌, All, Any, length, MatchOption}
 use Rattle.cube_shape.specs.Node.{OnPath}
 use Rattle.status_word.specs.Word.{IsOccupied}
@@ -36,8 +36,9 @@ AreRefused n (t ∷ earlier) old new = (between : Entry) × AreRefused n earlier
 abbrev pub IsSeenOccupied : ℕ → List Peek → Type 0
 IsSeenOccupied v peeks = Any (λ g. OnPath g.node v × IsOccupied g.word) peeks
 
--- by one peek at most, and then these tries, a station searched the level that is j levels below the root up to
--- the node `end`: for each node of the level before that one some refusal stands, or it is seen occupied
+-- by one peek at most, and then these tries, a station searched the level that is j levels below the root
+-- up to the node `end`: for each node of the level before that one some refusal stands, or the peek found
+-- it or an ancestor of it occupied
 pub record Searches (n j end : ℕ) (peeks : List Peek) (tries : List RefusedTry) (old new : Entry) : Type 0 where
   pub one : length peeks ≤ 1
   pub refused : AreRefused n tries (with_peeks peeks old) new
@@ -45,7 +46,8 @@ pub record Searches (n j end : ℕ) (peeks : List Peek) (tries : List RefusedTry
   pub beside : All (λ t. IsSeenOccupied t.node peeks → ⊥) tries
   pub each : (v : ℕ) → 2 ^ j ≤ v → v < end → Any (StandsFor v) tries ⊎ IsSeenOccupied v peeks
 
--- after a search up to its node, for which no refusal stands and which is not seen occupied, it took this node
+-- after a search up to its node, for which no refusal stands and which no peek found occupied, it took
+-- this node
 pub record TakesNext (cube : Cube) (j : ℕ) (old : Entry) (subcube : Subcube) : Type 0 where
   pub peeks : List Peek
   pub tries : List RefusedTry

@@ -23,8 +23,8 @@ pub struct Cube {
 /// be dropped.
 pub struct TreeStation {
     pub(crate) number: u32,
-    // The ancestor that last refused the first node of a level. A search peeks at it before it tries
-    // what lies under it.
+    // The ancestor that last refused the first node of a level. A search peeks at it before it
+    // tries what lies under it.
     pub(crate) hint: Option<Node>,
     pub(crate) seat: Seat,
     ghost idle: { IsSeatOf number Idle seat.me },
@@ -64,8 +64,8 @@ pub struct FreeMachine {
     pub(crate) seat: Seat,
 }
 
-/// A reader of the roll of a cube, which says which stations have retired. It is no station, and can be
-/// dropped.
+/// A reader of the roll of a cube, which says which stations have retired. It is no station, and can
+/// be dropped.
 #[derive(Drop)]
 pub struct RetirementReader {
     pub(crate) seat: Seat,

@@ -8,7 +8,8 @@ use crate::handles::{Cube, FreeMachine, RetirementReader};
 use cube_shape::MAX_STATIONS;
 
 impl Cube {
-    /// Returns a reader of the roll, for use beside the cube. It knows what the loads of the cube found.
+    /// Returns a reader of the roll, for use beside the cube. It knows what the loads of the cube
+    /// found.
     pub fn retirement_reader(&mut self) -> RetirementReader
         ensures reader { IsReaderOf self.new result }
         ensures loads { reader_loads result ≡ loads_of self.old }

@@ -45,8 +45,8 @@ fn hint_above(hint: Option<Node>, node: Node) -> Option<Node>
 }
 
 impl TreeStation {
-    // Peeks at a node: whether it is occupied. The hint is this node afterwards, or none where it is
-    // not occupied.
+    // Peeks at a node: whether it is occupied. The hint is this node afterwards, or none where it
+    // is not occupied.
     fn peek(self, cube: &Cube, at: Node) -> (TreeStation, bool)
         requires cube { IsStationOf cube.now self }
         requires node { IsInCube (cube_dim cube.now) at.0 }
@@ -65,9 +65,9 @@ impl TreeStation {
         (TreeStation { number, hint, seat }, is_occupied)
     }
 
-    // Returns the node at which a search for a region of dimension `k` begins. It is the first one. But
-    // where the hint is an ancestor of it, and a peek finds it occupied, it is the node after those
-    // under the hint.
+    // Returns the node at which a search for a region of dimension `k` begins. It is the first one.
+    // But where the hint is an ancestor of it, and a peek finds it occupied, it is the node after
+    // those under the hint.
     fn begin_search(self, cube: &Cube, k: u32) -> (TreeStation, Node)
         requires cube { IsStationOf cube.now self }
         requires dim { k ≤ cube_dim cube.now }
@@ -114,11 +114,11 @@ impl TreeStation {
 
     /// Tries the regions of dimension `k` in order, from the first one on, until one is taken.
     ///
-    /// It skips each region under an ancestor that this call found occupied, by a try or by a peek. The
-    /// call peeks at the station's hint, if this is an ancestor of the first region's node, and drops the
-    /// hint where it is not occupied. Where the try of the first region finds an ancestor occupied, this
-    /// becomes the hint. For `j = n - k` the call makes at most `2^j * (3 + 7 * j)` events. The three
-    /// counts of a refusal are those of its tries.
+    /// It skips each region under an ancestor that this call found occupied, by a try or by a peek.
+    /// The call peeks at the station's hint, if this is an ancestor of the first region's node, and
+    /// drops the hint where it is not occupied. Where the try of the first region finds an ancestor
+    /// occupied, this becomes the hint. For `j = n - k` the call makes at most `2^j * (3 + 7 * j)`
+    /// events. The three counts of a refusal are those of its tries.
     pub fn search(self, cube: &Cube, k: u32) -> Result<Subcube, (TreeStation, Refusal)>
         requires cube { IsStationOf cube.now self }
         requires dim { k ≤ cube_dim cube.now }

@@ -33,7 +33,8 @@ impl TreeStation {
         ensures taken { IfOk result (TakesNode cube.now node.0 (station_entry self)) }
         ensures back { IfErr result (λ refused. IsStationOf cube.now refused.0) }
         ensures refused { IfErr result (λ refused.
-            IsRefusedTry (cube_dim cube.now) node.0 (station_entry self) (station_entry refused.0) refused.1) }
+            IsRefusedTry (cube_dim cube.now) node.0 (station_entry self)
+            (station_entry refused.0) refused.1) }
         ensures remembers { IfOk result (λ subcube. hint_with subcube ≡ hint_of self) }
         ensures still_remembers { IfErr result (λ refused. hint_of refused.0 ≡ hint_of self) }
     {

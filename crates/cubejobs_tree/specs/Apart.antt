@@ -9,7 +9,9 @@ use Rattle.cubejobs_tree.specs.declared.station.Holding.{Holding}
 
 -- whatever the two hold, they hold it on one machine
 abbrev pub AreOnOneMachine : Option State → Option State → Type 0
-AreOnOneMachine one other = (a b : Holding) → one ≡ Some (state.Holding a) → other ≡ Some (state.Holding b) → arc_value a.cube ≡ arc_value b.cube
+AreOnOneMachine one other =
+    (a b : Holding) → one ≡ Some (state.Holding a) → other ≡ Some (state.Holding b)
+    → arc_value a.cube ≡ arc_value b.cube
 
 -- both hold, as before, and the regions are apart
 pub record HoldApart (one other one_after other_after : Option State) : Type 0 where

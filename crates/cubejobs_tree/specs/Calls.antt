@@ -24,11 +24,11 @@ refusal_of_take (Some (state.Holding held)) = STATION_HOLDS
 refusal_of_take (Some other) = OTHER_KIND
 
 -- and why one that wants a station with a region is
-abbrev pub bar_to_release : Option State → ℕ
-bar_to_release None = NOT_OPEN
-bar_to_release (Some (state.Idle idle)) = NOTHING_HELD
-bar_to_release (Some (state.Holding held)) = DONE
-bar_to_release (Some other) = OTHER_KIND
+abbrev pub refusal_of_release : Option State → ℕ
+refusal_of_release None = NOT_OPEN
+refusal_of_release (Some (state.Idle idle)) = NOTHING_HELD
+refusal_of_release (Some (state.Holding held)) = DONE
+refusal_of_release (Some other) = OTHER_KIND
 
 -- the station is free, on a machine whose dimension has this property
 abbrev pub FreeOn : (ℕ → Type 0) → Option State → Type 0
@@ -53,7 +53,9 @@ pub record Refuses (request : TakeRequest) (old new : Option State) (answer : An
   pub was : old ≡ Some (state.Idle idle)
   pub is : new ≡ Some (state.Idle again)
   pub same : arc_value again.cube ≡ arc_value idle.cube
-  pub tries : AreTriesRefused request (dim_of_idle idle) (station_entry idle.station) (station_entry again.station) (counts_of answer)
+  pub tries :
+      AreTriesRefused request (dim_of_idle idle) (station_entry idle.station)
+      (station_entry again.station) (counts_of answer)
 
 -- the station gives back the region of the answer
 pub record TakesBack (old new : Option State) (answer : Answer) : Type 0 where

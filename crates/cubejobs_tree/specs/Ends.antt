@@ -14,16 +14,16 @@ use Rattle.cubejobs_tree.specs.declared.station.Idle.{Idle}
 use Rattle.cubejobs_tree.specs.Ownership.{cube_of}
 
 -- why a call that wants an open machine is refused at once, or DONE
-abbrev pub bar_to_machine : Option State → ℕ
-bar_to_machine None = NOT_OPEN
-bar_to_machine (Some (state.Machine (Some machine))) = DONE
-bar_to_machine (Some other) = OTHER_KIND
+abbrev pub refusal_of_machine_call : Option State → ℕ
+refusal_of_machine_call None = NOT_OPEN
+refusal_of_machine_call (Some (state.Machine (Some machine))) = DONE
+refusal_of_machine_call (Some other) = OTHER_KIND
 
 -- and why one that wants a closed machine is
-abbrev pub bar_to_free : Option State → ℕ
-bar_to_free None = NOT_OPEN
-bar_to_free (Some (state.Closed free)) = DONE
-bar_to_free (Some other) = OTHER_KIND
+abbrev pub refusal_of_free : Option State → ℕ
+refusal_of_free None = NOT_OPEN
+refusal_of_free (Some (state.Closed free)) = DONE
+refusal_of_free (Some other) = OTHER_KIND
 
 -- an open machine that has this property
 abbrev pub OnMachine : (Machine → Type 0) → Option State → Type 0

@@ -6,7 +6,7 @@ ghost use Rattle.cube_tree.specs.Tries.{no_refusal};
 ghost use Rattle.cubejobs_tree.specs.Answers.{counts_of, NamesNone};
 ghost use Rattle.cubejobs_tree.specs.TakeRequest.{AreTriesRefused, Takes};
 ghost use Rattle.cubejobs_tree.specs.InnerTakeRequest.{code_of_misfit, HasRegionFor};
-ghost use Rattle.cubejobs_tree.specs.Calls.{bar_to_release, refusal_of_take, dim_of_idle, FreeOn, Gives, Names, Refuses, TakesBack};
+ghost use Rattle.cubejobs_tree.specs.Calls.{refusal_of_release, refusal_of_take, dim_of_idle, FreeOn, Gives, Names, Refuses, TakesBack};
 
 use crate::answer::{Answer, count_of, done, no_subcube, refused};
 use crate::codes::{DONE, NO_SUBCUBE, NOTHING_HELD, OTHER_KIND, STATION_HOLDS};
@@ -73,9 +73,9 @@ pub(crate) fn take(content: State, request: TakeRequest) -> (State, Answer)
 // The region is given back.
 #[inline(always)]
 pub(crate) fn release(content: State) -> (State, Answer)
-    ensures barred { bar_to_release (Some content) ≢ DONE
-        → result.1.code ≡ bar_to_release (Some content) }
-    ensures done { bar_to_release (Some content) ≡ DONE → result.1.code ≡ DONE }
+    ensures barred { refusal_of_release (Some content) ≢ DONE
+        → result.1.code ≡ refusal_of_release (Some content) }
+    ensures done { refusal_of_release (Some content) ≡ DONE → result.1.code ≡ DONE }
     ensures released { result.1.code ≡ DONE → TakesBack (Some content) (Some result.0) result.1 }
     ensures unchanged { result.1.code ≢ DONE → result.0 ≡ content }
     ensures names_none { result.1.code ≢ DONE → NamesNone result.1 }
@@ -93,9 +93,9 @@ pub(crate) fn release(content: State) -> (State, Answer)
 
 // The region that is held.
 pub(crate) fn region(content: &State) -> Answer
-    ensures barred { bar_to_release (Some content.now) ≢ DONE
-        → result.code ≡ bar_to_release (Some content.now) }
-    ensures done { bar_to_release (Some content.now) ≡ DONE → result.code ≡ DONE }
+    ensures barred { refusal_of_release (Some content.now) ≢ DONE
+        → result.code ≡ refusal_of_release (Some content.now) }
+    ensures done { refusal_of_release (Some content.now) ≡ DONE → result.code ≡ DONE }
     ensures named { result.code ≡ DONE → Names (Some content.now) result }
     ensures names_none { result.code ≢ DONE → NamesNone result }
     ensures counts_none { counts_of result ≡ no_refusal }

@@ -8,8 +8,8 @@ ghost use Rattle.cube_tree.specs.Tries.{no_refusal};
 ghost use Rattle.cubejobs_tree.specs.declared.take_request.TakeRequest.TheVariants.{Dim, Node};
 ghost use Rattle.cubejobs_tree.specs.Answers.{counts_of, NamesNone};
 ghost use Rattle.cubejobs_tree.specs.InnerTakeRequest.{code_of_misfit, HasRegionFor};
-ghost use Rattle.cubejobs_tree.specs.Ends.{bar_to_free, bar_to_machine, IsClosed, IsNew, IsStillOpen, OnMachine, Seats};
-ghost use Rattle.cubejobs_tree.specs.Calls.{bar_to_release, refusal_of_take, FreeOn, Gives, Refuses, TakesBack};
+ghost use Rattle.cubejobs_tree.specs.Ends.{refusal_of_free, refusal_of_machine_call, IsClosed, IsNew, IsStillOpen, OnMachine, Seats};
+ghost use Rattle.cubejobs_tree.specs.Calls.{refusal_of_release, refusal_of_take, FreeOn, Gives, Refuses, TakesBack};
 
 use crate::answer::{Answer, Seated, refused};
 use crate::codes::{
@@ -99,8 +99,9 @@ pub extern "C" fn cubejobs_tree_seat(
     station: &mut Handle,
 ) -> Seated
     ensures already { IsSome (content_of station.old) → result.code ≡ ALREADY_OPEN }
-    ensures barred { content_of station.old ≡ None → bar_to_machine (content_of cube.old) ≢ DONE
-        → result.code ≡ bar_to_machine (content_of cube.old) }
+    ensures barred { content_of station.old ≡ None
+        → refusal_of_machine_call (content_of cube.old) ≢ DONE
+        → result.code ≡ refusal_of_machine_call (content_of cube.old) }
     ensures no_station { content_of station.old ≡ None
         → OnMachine (λ machine. machine.stations.items ≡ []) (content_of cube.old)
         → result.code ≡ NO_STATION }
@@ -212,9 +213,9 @@ pub extern "C" fn cubejobs_tree_try_node(alloc: Global, station: &mut Handle, no
 /// Gives the station's region back, and answers which it was.
 #[unsafe(no_mangle)]
 pub extern "C" fn cubejobs_tree_release(alloc: Global, station: &mut Handle) -> Answer
-    ensures barred { bar_to_release (content_of station.old) ≢ DONE
-        → result.code ≡ bar_to_release (content_of station.old) }
-    ensures done { bar_to_release (content_of station.old) ≡ DONE → result.code ≡ DONE }
+    ensures barred { refusal_of_release (content_of station.old) ≢ DONE
+        → result.code ≡ refusal_of_release (content_of station.old) }
+    ensures done { refusal_of_release (content_of station.old) ≡ DONE → result.code ≡ DONE }
     ensures released { result.code ≡ DONE
         → TakesBack (content_of station.old) (content_of station.new) result }
     ensures unchanged { result.code ≢ DONE → content_of station.new ≡ content_of station.old }
@@ -262,9 +263,9 @@ pub extern "C" fn cubejobs_tree_retire(alloc: Global, station: &mut Handle) -> u
 /// words, which are to be freed. Otherwise bit `s` of `missing` is set for each station `s` that has not.
 #[unsafe(no_mangle)]
 pub extern "C" fn cubejobs_tree_close(alloc: Global, cube: &mut Handle, missing: &mut u64) -> u32
-    ensures barred { bar_to_machine (content_of cube.old) ≢ DONE
-        → result ≡ bar_to_machine (content_of cube.old) }
-    ensures tried { bar_to_machine (content_of cube.old) ≡ DONE
+    ensures barred { refusal_of_machine_call (content_of cube.old) ≢ DONE
+        → result ≡ refusal_of_machine_call (content_of cube.old) }
+    ensures tried { refusal_of_machine_call (content_of cube.old) ≡ DONE
         → (result ≡ DONE) ⊎ (result ≡ STILL_OUT) ⊎ (result ≡ RETIRING) }
     ensures closed { result ≡ DONE → IsClosed (content_of cube.old) (content_of cube.new) }
     ensures still_out { result ≡ STILL_OUT → (missing.new ≢ 0)
@@ -273,7 +274,7 @@ pub extern "C" fn cubejobs_tree_close(alloc: Global, cube: &mut Handle, missing:
         → IsStillOpen (content_of cube.old) (content_of cube.new) 0 }
     ensures shared { result ≡ RETIRING
         → OnMachine (λ machine. IsShared machine.cube) (content_of cube.old) }
-    ensures unchanged { bar_to_machine (content_of cube.old) ≢ DONE
+    ensures unchanged { refusal_of_machine_call (content_of cube.old) ≢ DONE
         → content_of cube.new ≡ content_of cube.old }
     ensures same_missing { result ≢ STILL_OUT → missing.new ≡ missing.old }
 {
@@ -300,7 +301,7 @@ fn close_owned(cube: &mut Handle, room: Box<State>, owned: OwnedMachine, missing
         → IsStillOpen (Some (State.Machine owned)) (content_of cube.new) 0 }
     ensures shared { result ≡ RETIRING
         → OnMachine (λ machine. IsShared machine.cube) (Some (State.Machine owned)) }
-    ensures is_machine { bar_to_machine (Some (State.Machine owned)) ≡ DONE }
+    ensures is_machine { refusal_of_machine_call (Some (State.Machine owned)) ≡ DONE }
     ensures same_missing { result ≢ STILL_OUT → missing.new ≡ missing.old }
 {
     let (owner, place) = owned.open();
@@ -325,9 +326,9 @@ fn close_owned(cube: &mut Handle, room: Box<State>, owned: OwnedMachine, missing
 /// Frees the words of a machine that is closed, and its handle is shut.
 #[unsafe(no_mangle)]
 pub extern "C" fn cubejobs_tree_free(alloc: Global, cube: &mut Handle) -> u32
-    ensures barred { bar_to_free (content_of cube.old) ≢ DONE
-        → result ≡ bar_to_free (content_of cube.old) }
-    ensures done { bar_to_free (content_of cube.old) ≡ DONE → result ≡ DONE }
+    ensures barred { refusal_of_free (content_of cube.old) ≢ DONE
+        → result ≡ refusal_of_free (content_of cube.old) }
+    ensures done { refusal_of_free (content_of cube.old) ≡ DONE → result ≡ DONE }
     ensures shut { result ≡ DONE → content_of cube.new ≡ None }
     ensures unchanged { result ≢ DONE → content_of cube.new ≡ content_of cube.old }
 {

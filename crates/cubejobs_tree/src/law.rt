@@ -4,7 +4,7 @@ ghost use Rattle.std.specs.Arc.{arc_value};
 ghost use Rattle.cube_shape.specs.Region.{AreApart};
 ghost use Rattle.cube_tree.specs.Handles.{held_region, IsSameSubcube};
 ghost use Rattle.cubejobs_tree.specs.Apart.{AreOnOneMachine, HoldApart};
-ghost use Rattle.cubejobs_tree.specs.Calls.{bar_to_release};
+ghost use Rattle.cubejobs_tree.specs.Calls.{refusal_of_release};
 ghost use Rattle.cubejobs_tree.specs.Handle.{content_of};
 
 use crate::codes::DONE;
@@ -41,8 +41,8 @@ fn compare(a: Holding, b: Holding) -> (Holding, Holding)
 /// any two handles, and no function for C.
 pub fn apart(alloc: Global, a: &mut Handle, b: &mut Handle) -> bool
     requires one_machine { AreOnOneMachine (content_of a.old) (content_of b.old) }
-    ensures told { bar_to_release (content_of a.old) ≡ DONE
-        → bar_to_release (content_of b.old) ≡ DONE → result ≡ true }
+    ensures told { refusal_of_release (content_of a.old) ≡ DONE
+        → refusal_of_release (content_of b.old) ≡ DONE → result ≡ true }
     ensures apart { IsTrue result → HoldApart (content_of a.old) (content_of b.old)
         (content_of a.new) (content_of b.new) }
     ensures unchanged { result ≡ false → (content_of a.new ≡ content_of a.old)

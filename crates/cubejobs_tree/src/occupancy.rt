@@ -1,7 +1,7 @@
 //! The read-out of how much of a machine is free.
 ghost use Rattle.std.specs.Prelude.{◌≡◌, ◌≢◌, ℕ, ◌+◌, ◌^◌, ◌≤◌, length};
 ghost use Rattle.cubejobs_tree.specs.Handle.{content_of};
-ghost use Rattle.cubejobs_tree.specs.Ends.{bar_to_machine, machine_cube};
+ghost use Rattle.cubejobs_tree.specs.Ends.{refusal_of_machine_call, machine_cube};
 ghost use Rattle.cubejobs_tree.specs.Occupancy.{Counts, CountsNone, IsCounted};
 
 use crate::answer::OccupancyAnswer;
@@ -56,9 +56,9 @@ fn count(n: u32, words: &[u64]) -> OccupancyAnswer
 /// dimension, by the words as each is at some moment of the call.
 #[unsafe(no_mangle)]
 pub extern "C" fn cubejobs_tree_occupancy(alloc: Global, cube: &mut Handle) -> OccupancyAnswer
-    ensures barred { bar_to_machine (content_of cube.old) ≢ DONE
-        → result.code ≡ bar_to_machine (content_of cube.old) }
-    ensures done { bar_to_machine (content_of cube.old) ≡ DONE → result.code ≡ DONE }
+    ensures barred { refusal_of_machine_call (content_of cube.old) ≢ DONE
+        → result.code ≡ refusal_of_machine_call (content_of cube.old) }
+    ensures done { refusal_of_machine_call (content_of cube.old) ≡ DONE → result.code ≡ DONE }
     ensures counted { result.code ≡ DONE
         → IsCounted (content_of cube.old) (content_of cube.new) result }
     ensures nothing { result.code ≢ DONE → CountsNone result }

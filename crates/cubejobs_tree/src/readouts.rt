@@ -3,8 +3,8 @@ ghost use Rattle.std.specs.Prelude.{◌≡◌, ◌≢◌, ◌<◌, ◌≤◌, �
 ghost use Rattle.cube_tree.specs.Tries.{no_refusal};
 ghost use Rattle.cubejobs_tree.specs.Answers.{counts_of, NamesNone};
 ghost use Rattle.cubejobs_tree.specs.Handle.{content_of};
-ghost use Rattle.cubejobs_tree.specs.Ends.{bar_to_machine, dim_of_machine, seated, station_count, OnMachine};
-ghost use Rattle.cubejobs_tree.specs.Calls.{bar_to_release, Names};
+ghost use Rattle.cubejobs_tree.specs.Ends.{refusal_of_machine_call, dim_of_machine, seated, station_count, OnMachine};
+ghost use Rattle.cubejobs_tree.specs.Calls.{refusal_of_release, Names};
 
 use crate::answer::{Answer, SizeAnswer, WordAnswer, refused};
 use crate::calls;
@@ -18,9 +18,9 @@ use std::alloc::Global;
 /// The region that the station holds.
 #[unsafe(no_mangle)]
 pub extern "C" fn cubejobs_tree_region(alloc: Global, station: &mut Handle) -> Answer
-    ensures barred { bar_to_release (content_of station.old) ≢ DONE
-        → result.code ≡ bar_to_release (content_of station.old) }
-    ensures done { bar_to_release (content_of station.old) ≡ DONE → result.code ≡ DONE }
+    ensures barred { refusal_of_release (content_of station.old) ≢ DONE
+        → result.code ≡ refusal_of_release (content_of station.old) }
+    ensures done { refusal_of_release (content_of station.old) ≡ DONE → result.code ≡ DONE }
     ensures named { result.code ≡ DONE → Names (content_of station.old) result }
     ensures names_none { result.code ≢ DONE → NamesNone result }
     ensures counts_none { counts_of result ≡ no_refusal }
@@ -52,9 +52,9 @@ fn size_of(machine: &Machine) -> SizeAnswer
 /// The dimension of the machine, the number of its stations, and how many of them have got a handle.
 #[unsafe(no_mangle)]
 pub extern "C" fn cubejobs_tree_size(alloc: Global, cube: &mut Handle) -> SizeAnswer
-    ensures barred { bar_to_machine (content_of cube.old) ≢ DONE
-        → result.code ≡ bar_to_machine (content_of cube.old) }
-    ensures done { bar_to_machine (content_of cube.old) ≡ DONE → result.code ≡ DONE }
+    ensures barred { refusal_of_machine_call (content_of cube.old) ≢ DONE
+        → result.code ≡ refusal_of_machine_call (content_of cube.old) }
+    ensures done { refusal_of_machine_call (content_of cube.old) ≡ DONE → result.code ≡ DONE }
     ensures dim { result.code ≡ DONE
         → OnMachine (λ machine. result.dim ≡ dim_of_machine machine) (content_of cube.old) }
     ensures stations { result.code ≡ DONE
@@ -98,8 +98,8 @@ fn word_of(machine: &Machine, node: u64) -> WordAnswer
 /// clause says what it is, since stations may work.
 #[unsafe(no_mangle)]
 pub extern "C" fn cubejobs_tree_word(alloc: Global, cube: &mut Handle, node: u64) -> WordAnswer
-    ensures barred { bar_to_machine (content_of cube.old) ≢ DONE
-        → result.code ≡ bar_to_machine (content_of cube.old) }
+    ensures barred { refusal_of_machine_call (content_of cube.old) ≢ DONE
+        → result.code ≡ refusal_of_machine_call (content_of cube.old) }
     ensures bad_node { OnMachine (λ machine. 2 ^ (dim_of_machine machine + 1) ≤ node)
         (content_of cube.old) → result.code ≡ BAD_NODE }
     ensures no_word { result.code ≢ DONE → result.word ≡ 0 }

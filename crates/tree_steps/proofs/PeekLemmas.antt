@@ -11,7 +11,7 @@ use Rattle.cube_core.specs.Phase.{IsAtRest}
 use Rattle.tree_steps.specs.declared.view.Entry.{Entry}
 use Rattle.tree_steps.specs.declared.view.View.{View}
 use Rattle.tree_steps.specs.declared.view.Size.{Size}
-use Rattle.tree_steps.specs.Rule.{first, others, times, world_after, IsEntryOf, WasSeen, WasWord, AreAll, IsView, IsRuled}
+use Rattle.tree_steps.specs.Rule.{first, others, times, IsEntryOf, WasSeen, WasWord, AreAll, IsView, IsRuled}
 use Rattle.tree_steps.specs.Steps.{Known, first_of, put_first, with_peeks, peek_at, IsAt}
 use Rattle.tree_steps.proofs.EventLemmas.{by_parts}
 use Rattle.tree_steps.proofs.WalkLemmas.{LeavesRest}

@@ -50,7 +50,9 @@ WasSeen k acts g = WasWord k acts g.node g.word
 
 -- the entry is the record of its station, whose peeks found words of the schedule
 abbrev pub IsEntryOf : Size → List Act → Entry → Type 0
-IsEntryOf k acts e = (e.station < k.stations) × (record_of (world_after k acts) e.station ≡ record_in e) × All (WasSeen k acts) e.peeks
+IsEntryOf k acts e =
+    (e.station < k.stations) × (record_of (world_after k acts) e.station ≡ record_in e)
+    × All (WasSeen k acts) e.peeks
 
 -- all stations below the count are here, each once, and all but the first are at rest
 pub record AreAll (count : ℕ) (entries : List Entry) : Type 0 where

@@ -32,14 +32,20 @@ with_first e m = (record m.0 { stations = put_first e m.0.stations }, m.1)
 
 -- an entry after an event of its station, and after the beginning of something
 abbrev pub entry_after : Transition → ℕ → Entry → Entry
-entry_after d found e = record { station = e.station; phase = d.next found; trail = d.events found ++ e.trail; peeks = e.peeks }
+entry_after d found e = record {
+  station = e.station;
+  phase = d.next found;
+  trail = d.events found ++ e.trail;
+  peeks = e.peeks;
+}
 
 abbrev pub entry_in : Phase → Entry → Entry
 entry_in p e = record { station = e.station; phase = p; trail = e.trail; peeks = e.peeks }
 
 -- an entry after these peeks, the newest first
 abbrev pub with_peeks : List Peek → Entry → Entry
-with_peeks new e = record { station = e.station; phase = e.phase; trail = e.trail; peeks = new ++ e.peeks }
+with_peeks new e =
+    record { station = e.station; phase = e.phase; trail = e.trail; peeks = new ++ e.peeks }
 
 -- the first station begins something, and makes the event of its phase, and retires
 abbrev pub begin : Phase → Known → Known
@@ -53,7 +59,8 @@ retire_at found m = with_first (entry_after (retirement (first_of m).station) fo
 
 -- the first station notes that a peek at a node found this word
 abbrev pub peek_at : ℕ → ℕ → Known → Known
-peek_at node found m = with_first (with_peeks (record { node = node; word = found } ∷ []) (first_of m)) m
+peek_at node found m =
+    with_first (with_peeks (record { node = node; word = found } ∷ []) (first_of m)) m
 
 -- the seat after the events of the first station that find these words, the newest first
 abbrev pub steps_at : List ℕ → Known → Known

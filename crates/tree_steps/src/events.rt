@@ -57,8 +57,8 @@ impl Tree {
         ensures walks { Walks seat.old.me seat.new.me }
         ensures phase { MatchBool result (IsAt seat.new.me (phase_after_raise node.0 node.0))
             (IsAt seat.new.me Phase.Idle) }
-        ensures refused { OnFalse result (Answered Kind.Claim node.0 Note.Lost (first_of seat.old.me)
-            (first_of seat.new.me)) }
+        ensures refused { OnFalse result (
+            Answered Kind.Claim node.0 Note.Lost (first_of seat.old.me) (first_of seat.new.me)) }
         ensures exact { IsAlone seat.old.me → word ≡ 0
             → OnFalse result (IsBlocked node.0 (others seat.old.me.0.stations)) }
     {
@@ -140,7 +140,9 @@ impl Tree {
         ensures phase { IsAt seat.new.me (Phase.Unmarked at.0) }
     {
         let kept = USE_BITS;
-        self.table.shared.fetch_and::<Next>(seat, at.0 as usize, kept);
+        self.table
+            .shared
+            .fetch_and::<Next>(seat, at.0 as usize, kept);
     }
 
     /// The station's mark is set: the word that it made, unless the node is occupied.
@@ -156,7 +158,10 @@ impl Tree {
             (λ word. IsAt seat.new.me (Phase.Marked at.0 word Seen.NotYet Seen.NotYet)) }
     {
         let bit = Word::mark_mask(station);
-        let found = self.table.shared.fetch_or::<Next>(seat, at.0 as usize, bit.0);
+        let found = self
+            .table
+            .shared
+            .fetch_or::<Next>(seat, at.0 as usize, bit.0);
         if Word(found).is_occupied() {
             None
         } else {

@@ -166,8 +166,8 @@ impl Tree {
         self.table.shared.load::<LoadRoll>(seat, 0)
     }
 
-    /// A peek at a node: a load of its word, which is no event and changes no word. The first station of
-    /// the seat notes what it found.
+    /// Peeks at a node. This loads its word, which is no event and changes no word. The first station
+    /// of the seat notes the word.
     pub fn peek(&self, seat: &mut Seat, node: Node) -> u64
         requires seat { seat.old.table_id ≡ id_of self.now }
         requires node { IsInCube (dim_of self.now) node.0 }
