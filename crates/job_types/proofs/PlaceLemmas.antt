@@ -40,7 +40,8 @@ pub units_put : (u n : ℕ) (places : List ℕ) → places ≡ replicate n u →
 units_put u n places all = let none : n ≡ n - 0 = omega arith in all ∙ ap (λ (count : ℕ). replicate count u) none
 
 -- the next place has its item
-pub item_put : (u n rank : ℕ) (items places : List ℕ) (x : ℕ) → rank < length items → length items ≤ n
+pub item_put : (u n rank : ℕ) (items places : List ℕ) (x : ℕ)
+    → rank < length items → length items ≤ n
     → x ≡ get_or items rank 0 → places ≡ take rank items ++ replicate (n - rank) u
     → set places rank x ≡ take (rank + 1) items ++ replicate (n - (rank + 1)) u
 item_put u n rank items places x within fits same so_far =
