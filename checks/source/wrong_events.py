@@ -1,0 +1,111 @@
+"""Puts wrong events into the tree's algorithm, each of which the law itself must refuse.
+
+Each file of checks/source/wrong-events puts a wrong event into the definition, the code and the table of moves alike, so that
+the code meets the definition again. Its first lines name the functions that hold the event (`code:`) and the lemmas that must
+refuse it (`refused by:`). This check fails where such a function is not proved, but for one that only calls what stands on the
+law; where the law still is proved; or where anything else than these lemmas and what stands on them is refused. Each event
+stands in a copy of the crate under a name of its own, and all copies in one check, which reads what stands below them once;
+where that check does not speak of all of them, each has one of its own.
+
+    checks/run wrong_events [--after-gate]
+
+With --after-gate the libraries below are taken as `rt ci` has just left them, and without it they are built first.
+"""
+import copy
+import os
+import re
+import shutil
+import subprocess
+import tempfile
+
+from checks.lib.repository import files_below, path, read, write
+from checks.lib.toolchain import AFTER_GATE, build_below, crates, kit
+from checks.mutants.edits import words_of
+from checks.mutants.mutant import texts_of
+from checks.mutants.verdict import lines_of, names_of
+
+CRATE = "cube_core"
+HOW = {"stdout": subprocess.PIPE, "stderr": subprocess.STDOUT, "stdin": subprocess.DEVNULL, "text": True, "check": False}
+LEMMA = re.compile(r"(?m)^(?:\./)?proofs/([A-Za-z]*)\.antt:[0-9:]* error: `([^`]*)`")
+OTHER = re.compile(r"(\./)?(proofs/[a-z_]*/|src/)|(note: )?(\./)?(src|specs|proofs)/.*it is not proved that")
+
+
+def refused(lines):
+    """Returns the lemmas that are refused, without those that only stand on them."""
+    return {".".join(it) for it in LEMMA.findall("\n".join(lines))}
+
+
+def others(lines):
+    """Returns anything else that is refused: a proof of the code, a goal of the code, or the code itself."""
+    return [it for it in lines if OTHER.match(it) and not re.search(r"declarations? that depends? on", it)]
+
+
+class Event:
+    """A wrong event, and the copy of the crate that holds it."""
+
+    def __init__(self, file, number):
+        self.file, self.name = file, os.path.basename(file)[: -len(".diff")]
+        self.crate = copy.copy(crates()[CRATE])
+        self.crate.name = f"{CRATE}_{number}"
+        code, lemmas = (re.search(rf"(?m)^{word}: (.*)", read(file))[1] for word in ("code", "refused by"))
+        self.law = self.renamed(f"{CRATE}::world::every_schedule_is_lawful")
+        self.code, self.lemmas = self.renamed(code).split(), lemmas.split()
+
+    def renamed(self, text):
+        """Returns a text of the crate, as it stands in the copy."""
+        return re.sub(rf"\b{CRATE}\b", self.crate.name, text)
+
+    def put_into(self, room):
+        """Writes the copy with the event, and returns why that cannot be done, or nothing."""
+        with tempfile.TemporaryDirectory() as apart:
+            folder = f"{apart}/crates/{CRATE}"
+            shutil.copytree(path("crates", CRATE), folder, ignore=shutil.ignore_patterns("out"))
+            done = subprocess.run(["git", "apply", "--unidiff-zero", self.file], cwd=apart, **HOW)
+            for file, text in texts_of(folder).items():
+                write(f"{room}/{self.crate.name}/{file}", self.renamed(text))
+        return f"the crate has other texts than the change names: {done.stdout}" if done.returncode else ""
+
+    def is_told_in(self, said):
+        """Answers whether the check speaks of its functions and of the law."""
+        return {*self.code, self.law} <= {*names_of(self.crate, said)}
+
+    def why_not(self, said):
+        """Returns why it is not refused as it must be, or nothing where it is. What is said is of its functions and of the law."""
+        lines, states = lines_of(said, self.crate.name), names_of(self.crate, said)
+        if not self.is_told_in(said):
+            errors = [it for it in lines if "error" in it][:20]
+            return "the check does not speak of its functions and of the law:\n" + "\n".join(errors)
+        if states[self.law][0] == "proved":
+            return "the law is proved all the same"
+        if not refused(lines):
+            return "no lemma refuses it"
+        unproved = [it for it in self.code if states[it][0] != "proved" and not re.match(r"[:;] it calls ", states[it][1])]
+        if unproved or others(lines):
+            return "the code does not meet the changed definition:\n" + "\n".join([*unproved, *others(lines)][:20])
+        more = refused(lines) - {*self.lemmas}
+        return f"it is refused by more than the lemmas that it names: {' '.join(sorted(more))}" if more else ""
+
+
+def check(events, room):
+    """Returns what a check of these copies says of their functions and of the law."""
+    words = [kit().RATTLE, "check", *words_of([it.crate for it in events], room)]
+    words += [word for event in events for name in (*event.code, event.law) for word in ("--only", name)]
+    return subprocess.run(words, cwd=room, **HOW).stdout
+
+
+def main(words):
+    build_below([crates()[CRATE]], AFTER_GATE in words)
+    files = files_below("checks/source/wrong-events", ".diff")
+    events, failed = [Event(file, number) for number, file in enumerate(files, 1)], 0
+    with tempfile.TemporaryDirectory() as room:
+        cannot = {it.name: it.put_into(room) for it in events}
+        tried = [it for it in events if not cannot[it.name]]
+        said = check(tried, room) if tried else ""
+        is_whole = all(it.is_told_in(said) for it in tried)
+        for event in events:
+            own = said if is_whole or cannot[event.name] else check([event], room)
+            why = cannot[event.name] or event.why_not(own)
+            failed += bool(why)
+            by = " ".join(sorted(refused(lines_of(own, event.crate.name))))
+            print(f"{'FAILED: ' if why else ''}wrong_events: {event.name}: {why or f'refused by {by}'}", flush=True)
+    return 1 if failed or not events else 0
