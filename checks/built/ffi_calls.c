@@ -1,5 +1,5 @@
 // Calls the library for C beside a plain model: on machines of dimension 0 to 12, random takes, releases
-// and questions, with bad arguments among them. It is C and C++ alike. It exits with 0, or says on standard
+// and questions, with bad arguments among them. `ffi_calls CALLS` makes CALLS on each machine. It is C and C++ alike. It exits with 0, or says on standard
 // error which call answered otherwise than the model.
 #include <stdio.h>
 #include <stdlib.h>
@@ -7,7 +7,7 @@
 
 #include "cubejobs.h"
 
-enum { CALLS = 100000, NOBODY = -1 };
+enum { NOBODY = -1 };
 
 // Bytes on both sides of the machine, which no call may touch.
 struct guarded {
@@ -294,7 +294,8 @@ static void expect_guards(void) {
         expect(memory.before[i] == 0 && memory.after[i] == 0, "a byte outside the machine changed");
 }
 
-int main(void) {
+int main(int argc, char **argv) {
+    const long calls = argc > 1 ? strtol(argv[1], NULL, 10) : 100000;
     expect(sizeof(struct cubejobs_machine) == 4872, "the struct's size is not the library's");
     expect(sizeof(struct cubejobs_answer) == 16 && sizeof(struct cubejobs_station_answer) == 24 && sizeof(struct cubejobs_holder_answer) == 8, "the sizes of answers");
     expect_stale_and_zeros();
@@ -305,11 +306,11 @@ int main(void) {
     expect_any_station();
     for (unsigned dim = 0; dim <= CUBEJOBS_MAX_DIM; dim++) {
         open_both(dim);
-        for (int call = 0; call < CALLS; call++) call_once();
+        for (long call = 0; call < calls; call++) call_once();
         for (unsigned p = 0; p < 1u << dim; p++) expect_holder(p);
         expect_bad_arguments();
         expect_guards();
     }
-    printf("ffi: %d calls on each of %d machines\n", CALLS, CUBEJOBS_MAX_DIM + 1);
+    printf("ffi: %ld calls on each of %d machines\n", calls, CUBEJOBS_MAX_DIM + 1);
     return 0;
 }

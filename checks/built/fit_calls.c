@@ -1,6 +1,6 @@
 // Calls first fit over a caller's own bytes beside a plain model: on machines of dimension 0 to 20, random takes, releases
 // and questions, with bad arguments among them. Then each code where it must come, bytes that processes share, and
-// bytes in a file. It is C and C++ alike. It exits with 0, or says on standard error which call answered otherwise.
+// bytes in a file. `fit_calls CALLS` makes CALLS on each machine. It is C and C++ alike. It exits with 0, or says on standard error which call answered otherwise.
 #define _DEFAULT_SOURCE 1
 #include <fcntl.h>
 #include <stdio.h>
@@ -12,7 +12,7 @@
 
 #include "cubejobs.h"
 
-enum { CALLS = 100000, LARGEST = 20, GUARD = 64, FILL = 0xA5 };
+enum { LARGEST = 20, GUARD = 64, FILL = 0xA5 };
 
 // The machine's bytes stand at an odd address, with bytes on both sides that no call may touch.
 static unsigned char memory[2 * GUARD + (1 << LARGEST) + 1];
@@ -132,9 +132,9 @@ static void open_both(void) {
 }
 
 // Random calls, then each processor by itself: more regions at once than any machine has stations.
-static void call_many(void) {
+static void call_many(long calls) {
     open_both();
-    for (int call = 0; call < (dim < 12 ? CALLS : CALLS >> (dim - 11)); call++) call_once();
+    for (long call = 0; call < (dim < 12 ? calls : calls >> (dim - 11)); call++) call_once();
     open_both();
     for (unsigned p = 0; p < 1u << dim && p < 4096; p++) expect_answer(cubejobs_fit_take(&fit, 0), CUBEJOBS_DONE, 0, p, "each processor");
     expect_guards();
@@ -260,9 +260,10 @@ static void reopen_file(void) {
     expect(munmap(mapped, 32) == 0 && close(file) == 0 && unlink(name) == 0, "the file is removed");
 }
 
-int main(void) {
+int main(int argc, char **argv) {
+    const long calls = argc > 1 ? strtol(argv[1], NULL, 10) : 100000;
     expect(CUBEJOBS_FIT_MAX_DIM == LARGEST && sizeof(cubejobs_bool) == 1, "the limits");
-    for (dim = 0; dim <= LARGEST; dim++) call_many();
+    for (dim = 0; dim <= LARGEST; dim++) call_many(calls);
     expect_codes_of_open();
     expect_codes_of_regions();
     share_bytes();

@@ -39,16 +39,17 @@ class Edit:
         self.name, self.text = os.path.basename(file)[: -len(".edit")], read(file)
         self.pairs, self.why, self.functions, self.source, self.only = [], None, [], self, []
         named = old = None
-        for line in self.text.split("\n"):
-            word, _, rest = line.partition(": ")
+        # A text of several lines has the further ones after `   |`.
+        for word, rest in re.findall(r"^(file|old|new|only):(?: |$)(.*(?:\n   \|.*)*)", self.text, re.M):
+            rest = rest.replace("\n   |", "\n")
             if word == "file":
                 named = rest.strip()
             elif word == "old":
                 old = rest
-            elif line.startswith("new:"):
-                self.pairs.append((named, old, re.sub(r"\A ", "", line[len("new:") :])))
+            elif word == "new":
+                self.pairs.append((named, old, rest))
                 old = None
-            elif word == "only":
+            else:
                 self.only.append(rest.strip())
         if not self.pairs or not all(named and old for named, old, _ in self.pairs):
             self.why = "it is no list of lines 'file:', 'old:' and 'new:'"

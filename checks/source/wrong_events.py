@@ -1,7 +1,7 @@
 """Puts wrong events into the tree's algorithm, each of which the law itself must refuse.
 
-Each file of checks/source/wrong-events puts a wrong event into the definition, the code and the table of moves alike, so that
-the code meets the definition again. Its first lines name the functions that hold the event (`code:`) and the lemmas that must
+Each file of checks/source/wrong-events is a change, written as a mutant is: it puts a wrong event into the definition, the code
+and the table of moves alike, so that the code meets the definition again. Its first lines name the functions that hold the event (`code:`) and the lemmas that must
 refuse it (`refused by:`). This check fails where such a function is not proved, but for one that only calls what stands on the
 law; where the law still is proved; or where anything else than these lemmas and what stands on them is refused. Each event
 stands in a copy of the crate under a name of its own, and all copies in one check, which reads what stands below them once;
@@ -12,16 +12,14 @@ where that check does not speak of all of them, each has one of its own.
 With --after-gate the libraries below are taken as `rt ci` has just left them, and without it they are built first.
 """
 import copy
-import os
 import re
-import shutil
 import subprocess
 import tempfile
 
-from checks.lib.repository import files_below, path, read, write
+from checks.lib.repository import files_below, write
 from checks.lib.toolchain import AFTER_GATE, build_below, crates, kit
 from checks.mutants.edits import words_of
-from checks.mutants.mutant import texts_of
+from checks.mutants.mutant import Edit, texts_of
 from checks.mutants.verdict import lines_of, names_of
 
 CRATE = "cube_core"
@@ -44,10 +42,10 @@ class Event:
     """A wrong event, and the copy of the crate that holds it."""
 
     def __init__(self, file, number):
-        self.file, self.name = file, os.path.basename(file)[: -len(".diff")]
         self.crate = copy.copy(crates()[CRATE])
-        self.crate.name = f"{CRATE}_{number}"
-        code, lemmas = (re.search(rf"(?m)^{word}: (.*)", read(file))[1] for word in ("code", "refused by"))
+        self.texts = texts_of(self.crate.folder)
+        self.edit, self.crate.name = Edit(file, self.texts), f"{CRATE}_{number}"
+        code, lemmas = (re.search(rf"(?m)^{word}: (.*)", self.edit.text)[1] for word in ("code", "refused by"))
         self.law = self.renamed(f"{CRATE}::world::every_schedule_is_lawful")
         self.code, self.lemmas = self.renamed(code).split(), lemmas.split()
 
@@ -57,13 +55,9 @@ class Event:
 
     def put_into(self, room):
         """Writes the copy with the event, and returns why that cannot be done, or nothing."""
-        with tempfile.TemporaryDirectory() as apart:
-            folder = f"{apart}/crates/{CRATE}"
-            shutil.copytree(path("crates", CRATE), folder, ignore=shutil.ignore_patterns("out"))
-            done = subprocess.run(["git", "apply", "--unidiff-zero", self.file], cwd=apart, **HOW)
-            for file, text in texts_of(folder).items():
-                write(f"{room}/{self.crate.name}/{file}", self.renamed(text))
-        return f"the crate has other texts than the change names: {done.stdout}" if done.returncode else ""
+        for file, text in (self.edit.apply(self.texts) or {}).items():
+            write(f"{room}/{self.crate.name}/{file}", self.renamed(text))
+        return self.edit.why or ""
 
     def is_told_in(self, said):
         """Answers whether the check speaks of its functions and of the law."""
@@ -95,17 +89,17 @@ def check(events, room):
 
 def main(words):
     build_below([crates()[CRATE]], AFTER_GATE in words)
-    files = files_below("checks/source/wrong-events", ".diff")
+    files = files_below("checks/source/wrong-events", ".edit")
     events, failed = [Event(file, number) for number, file in enumerate(files, 1)], 0
     with tempfile.TemporaryDirectory() as room:
-        cannot = {it.name: it.put_into(room) for it in events}
-        tried = [it for it in events if not cannot[it.name]]
+        cannot = {it: it.put_into(room) for it in events}
+        tried = [it for it in events if not cannot[it]]
         said = check(tried, room) if tried else ""
         is_whole = all(it.is_told_in(said) for it in tried)
         for event in events:
-            own = said if is_whole or cannot[event.name] else check([event], room)
-            why = cannot[event.name] or event.why_not(own)
+            own = said if is_whole or cannot[event] else check([event], room)
+            why = cannot[event] or event.why_not(own)
             failed += bool(why)
             by = " ".join(sorted(refused(lines_of(own, event.crate.name))))
-            print(f"{'FAILED: ' if why else ''}wrong_events: {event.name}: {why or f'refused by {by}'}", flush=True)
+            print(f"{'FAILED: ' if why else ''}wrong_events: {event.edit.name}: {why or f'refused by {by}'}", flush=True)
     return 1 if failed or not events else 0
