@@ -1,5 +1,6 @@
 """Runs rows: each is a name, a function, and what the function is called with. The function raises Wrong where the row fails."""
 import hashlib
+import inspect
 import os
 import subprocess
 from typing import Any, Callable, NamedTuple, Tuple
@@ -24,6 +25,11 @@ class Row(NamedTuple):
 def title(function):
     """Returns the name of a function as words."""
     return function.__name__.replace("_", " ")
+
+
+def methods(kind):
+    """Returns the methods of a class that want nothing but their object, in their order."""
+    return [it for it in vars(kind).values() if inspect.isfunction(it) and [*inspect.signature(it).parameters] == ["self"]]
 
 
 def must(holds, what):
