@@ -498,7 +498,7 @@ class Situations(Clone):
         self.run("--version")
         beside = f"{self.room}/beside"
         os.makedirs(f"{beside}/deeper")
-        for name, target in (("whole", self.launcher), ("relative", "../a self/cubejobs"), ("deeper/chain", "../whole")):
+        for name, target in (("whole", self.launcher), ("relative", "../a clone/cubejobs"), ("deeper/chain", "../whole")):
             os.symlink(target, f"{beside}/{name}")
             runs(self.run("x", launcher=f"{beside}/{name}"), "args: x\n")
         runs(self.run("x", launcher="./cubejobs", folder=self.folder), "args: x\n")
