@@ -1,9 +1,10 @@
-"""Makes the libraries for C as they are shipped, each one file to link: `checks/run archive FOLDER` writes libcubejobs_c.a and
-libcubejobs_tree.a there, from what stands in the folders `out` of their crates.
+"""Makes the libraries for C as they are shipped, each one file to link: `checks/run archive FOLDER` writes
+libcubejobs_c.a and libcubejobs_tree.a there, from what stands in the folders `out` of their crates.
 
-A library that asks for memory gets the allocator of the toolchain, three functions round malloc, realloc and free. Of what a
-file defines, the functions of its header alone stay visible, so a program can link it beside another library of Rattle and
-beside names of its own. The linker and the archiver are the toolchain's, so no other tool of the machine has a part in the bytes.
+A library that asks for memory gets the allocator of the toolchain, three functions round malloc, realloc and free. Of
+what a file defines, the functions of its header alone stay visible, so a program can link it beside another library of
+Rattle and beside names of its own. The linker and the archiver are the toolchain's, so no other tool of the machine has
+a part in the bytes.
 """
 import os
 import struct
@@ -30,7 +31,8 @@ class Object:
         self.data = bytearray(data)
         start, = struct.unpack_from("<Q", data, 40)
         size, count = struct.unpack_from("<HH", data, 58)
-        # Of each section: its place in the table, its kind, where its bytes begin, how many they are, and the section that it names.
+        # Of each section: its place in the table, its kind, where its bytes begin, how many they are, and the section
+        # that it names.
         self.sections = []
         for at in range(start, start + size * count, size):
             kind, = struct.unpack_from("<I", data, at + 4)

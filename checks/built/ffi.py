@@ -1,12 +1,12 @@
-"""Calls the proved libraries for C from C (with the compiler's checks of addresses and undefined behaviour, and of races), from
-C++ and from Rust.
+"""Calls the proved libraries for C from C (with the compiler's checks of addresses and undefined behaviour, and of
+races), from C++ and from Rust.
 
-Of the exact allocator: 100,000 random calls on a machine of each dimension, beside a plain model; and as many of first fit over
-the caller's own bytes, which processes share and which stand in a file. Of the tree with no lock: each code where it must come,
-handles that are shut, foreign or of the wrong kind, eight threads with a table of counters and with plain memory that regions
-guard, and each request for memory refused in turn. The examples are built and run. A language whose compiler is not there is
-skipped. `checks/run ffi [--after-gate] [--long]` takes the libraries below as `rt ci` has just left them, and makes more than 10^7
-calls of the exact allocator, and of the tree.
+Of the exact allocator: 100,000 random calls on a machine of each dimension, beside a plain model; and as many of first
+fit over the caller's own bytes, which processes share and which stand in a file. Of the tree with no lock: each code
+where it must come, handles that are shut, foreign or of the wrong kind, eight threads with a table of counters and with
+plain memory that regions guard, and each request for memory refused in turn. The examples are built and run. A language
+whose compiler is not there is skipped. `checks/run ffi [--after-gate] [--long]` takes the libraries below as `rt ci`
+has just left them, and makes more than 10^7 calls of the exact allocator, and of the tree.
 """
 import os
 import re
@@ -34,8 +34,8 @@ STATED = r" \* (\d+) \* 2\^dim \+ (\d+) \* stations \+ (\d+) bytes in (\d+) bloc
 
 
 def build(crate, after_gate):
-    """Builds the library of a crate, unless the one that stands is newer than its sources and than what says which processor it
-    is for."""
+    """Builds the library of a crate, unless the one that stands is newer than its sources and than what says which
+    processor it is for."""
     file = path("crates", crate, "out", f"lib{crate}.a")
     sources = [it for name in (crate, *BELOW[crate]) for it in files_below(f"crates/{name}/src", "")]
     sources += [static.__file__, path("checks/lib/toolchain.py")]
@@ -109,7 +109,8 @@ def rows(room, longer):
     yield Row("a race is seen", must_be_seen, (room, RACES, ["-DUNGUARDED"], ["500"], b"WARNING: ThreadSanitizer: data race"))
     unmarked = [*CLANG, f"-I{room}/unmarked"]
     yield Row("what is not written is seen", must_be_seen, (room, unmarked, [], ["20"], b"WARNING: MemorySanitizer"))
-    # A library keeps its names to itself: it is linked whole beside the other one, and beside names of the program's own.
+    # A library keeps its names to itself: it is linked whole beside the other one, and beside names of the program's
+    # own.
     for whole in ([EXACT, TREE], [TREE, EXACT], []):
         both = ["-Wl,--whole-archive", *(libraries[it] for it in whole), "-Wl,--no-whole-archive"] if whole else [libraries[TREE]]
         names = ["-xc", f"{room}/own.c", "-xnone"]

@@ -1,9 +1,9 @@
 """Tries what the program does with the system's files: `checks/run files PROGRAM [--long]`.
 
-It replaces files of all owners and permissions, follows links, and comes between the program and its temporary file: by a
-second user who tries to read it, by a signal, and by calls of the C library that fail or do more than they should. A part
-that this machine cannot try, for want of a second user, of gcc or of a mount, is skipped with a line that says so. With --long
-the second user tries ten times as often.
+It replaces files of all owners and permissions, follows links, and comes between the program and its temporary file: by
+a second user who tries to read it, by a signal, and by calls of the C library that fail or do more than they should. A
+part that this machine cannot try, for want of a second user, of gcc or of a mount, is skipped with a line that says so.
+With --long the second user tries ten times as often.
 """
 import os
 import shutil
@@ -85,8 +85,8 @@ def heed_signals():
     """Undoes what a shell does to a command in the background, which then ignores Ctrl-C."""
     for number in ENDING:
         signal.signal(number, signal.SIG_DFL)
-# A second user who tries to read each temporary file of a folder until he is stopped, and then says how often he saw one and
-# how often he could open one.
+# A second user who tries to read each temporary file of a folder until he is stopped, and then says how often he saw
+# one and how often he could open one.
 WATCHER = """
 import os, sys
 folder, seen, read = sys.argv[1], 0, 0
@@ -141,8 +141,8 @@ class Parts(Files):
         must_be(file, STRANGER, OTHER_GROUP, 0o775)
 
     def keeps_a_secret(self):
-        """Nobody else can open the temporary file that replaces a file of mode 0600. That of a new file he can, so he sees what
-        there is to see."""
+        """Nobody else can open the temporary file that replaces a file of mode 0600. That of a new file he can, so he
+        sees what there is to see."""
         needs_two_users()
         folder = self.folder(mode=0o755)
         for name, may_read in (("secret.csv", False), ("new.csv", True)):
@@ -207,7 +207,8 @@ class Parts(Files):
         must(os.stat(os.path.join(deep, "old.csv")).st_mode & 0o777 == 0o640, "the mode has changed")
 
     def minds_protected_links(self):
-        """In a folder that all share, the system does not let one user follow another one's link; so the program does not."""
+        """In a folder that all share, the system does not let one user follow another one's link; so the program does
+        not."""
         needs_two_users()
         if holds("/proc/sys/fs/protected_symlinks").strip() != b"1":
             raise Skipped("this system does not protect links")
@@ -297,8 +298,8 @@ class Parts(Files):
         must_hold(file, b"old\n", "the file has changed")
 
     def minds_what_comes_between(self):
-        """The file is on its disk before it is renamed. It is removed where the rename fails. Another file that got its name is
-        neither renamed nor removed."""
+        """The file is on its disk before it is renamed. It is removed where the rename fails. Another file that got its
+        name is neither renamed nor removed."""
         if not shutil.which("gcc"):
             raise Skipped("there is no gcc")
         shims, folder = shim("files.c", self.made), self.folder()

@@ -1,8 +1,9 @@
 """Compiles the headers in `include/` in each C from C89 to C23 and each C++ from C++98 to C++23, with no warning.
 
-Each header stands alone, and both stand together in either order, under gcc and clang, and the sanitizers of which a header
-knows. A struct of a header has a name that C++ can say. A line names each compiler that is not there and each standard that it
-does not know. Headers with a fault must be refused, which is tried first. `checks/run headers FOLDER` takes other headers.
+Each header stands alone, and both stand together in either order, under gcc and clang, and the sanitizers of which a
+header knows. A struct of a header has a name that C++ can say. A line names each compiler that is not there and each
+standard that it does not know. Headers with a fault must be refused, which is tried first. `checks/run headers FOLDER`
+takes other headers.
 """
 import os
 import re

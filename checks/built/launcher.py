@@ -1,7 +1,7 @@
 """Shows what the launcher ./cubejobs does in each situation that a user can meet.
 
-Each part runs the launcher in a small copy of the repository, with a stand-in for `rt` and with a PATH
-that has no awk. It fails where an answer is another one. `checks/run launcher FILE` tries the launcher FILE.
+Each part runs the launcher in a small copy of the repository, with a stand-in for `rt` and with a PATH that has no awk.
+It fails where an answer is another one. `checks/run launcher FILE` tries the launcher FILE.
 """
 import contextlib
 import hashlib
@@ -25,8 +25,8 @@ TOOLS = ["sh", "flock", "kill", "sed", *COREUTILS]
 PATIENCE, COLUMNS = 10, 80
 # The shells that are here, each of which may be /bin/sh.
 SHELLS = [[shutil.which(it[0]), *it[1:]] for it in (["sh"], ["dash"], ["bash"], ["busybox", "sh"]) if shutil.which(it[0])]
-# A call reads all sources once and starts a few small tools. It may take this many times the processor time
-# of one bare reading, which depends on the machine as the call does.
+# A call reads all sources once and starts a few small tools. It may take this many times the processor time of one bare
+# reading, which depends on the machine as the call does.
 MOST_READINGS = 3
 PARTS = ("src", "specs", "proofs")
 RELEASED = "release/linux-x86_64/cubejobs"
@@ -292,7 +292,8 @@ class Situations(Clone):
         runs(self.run("run", "--help"), "args: run --help\n")
 
     def help_that_cannot_be_written(self):
-        """Tries a full disk, a closed output and a reader that has gone, with a program that fails and one that does not notice."""
+        """Tries a full disk, a closed output and a reader that has gone, with a program that fails and one that does
+        not notice."""
         self.run("--version")
         for program, last in (("echo 'failed: record 0: Write' >&2; exit 3", []), ("echo note >&2", ["note"])):
             self.write("out/cubejobs", f"#!/bin/sh\n{program}\n")
@@ -318,7 +319,8 @@ class Situations(Clone):
         must(self.builds() == before + 1, "nothing was built")
 
     def passes_over(self, *texts):
-        """Sees that a call begins a build, and that its first sentence says with these words why the release is not run."""
+        """Sees that a call begins a build, and that its first sentence says with these words why the release is not
+        run."""
         shutil.rmtree(self.at("out"), ignore_errors=True)
         before = self.builds()
         answer = self.run("run", "--dim", "3")

@@ -31,7 +31,8 @@ def helps(built):
 
 
 def verbatim(text):
-    """Returns lines that `man` shows as they are: backslashes, hyphens and first letters are kept apart from roff's own."""
+    """Returns lines that `man` shows as they are: backslashes, hyphens and first letters are kept apart from roff's
+    own."""
     lines = (line.rstrip().replace("\\", "\\e").replace("-", "\\-") for line in text.strip("\n").split("\n"))
     shown = (f"\\&{line}" if line[:1] in (".", "'") else line for line in lines)
     return "\n".join([".in 0", ".nf", *shown, ".fi"])

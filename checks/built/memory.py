@@ -1,13 +1,14 @@
 """Refuses each request for memory of `cubejobs` in turn, and each start of a thread, and reads the program's answer.
 
-For each input it runs the program, counts its requests for memory, and runs it once more for each request, with that one
-refused; for small inputs also with that one and the two after it, and with that one and all after it. The answer must be
-that of ample memory, or status 3 with `failed: record 0: OutOfMemory` on standard error and at most the first lines of the
-output. Where the command names its files, the line may name one of them instead, and the output must be whole or as it was. A
-run once more for each thread, in which that one and all later ones cannot be started, must end with that fault and no output.
-No run may hang, also where one dispatcher that gets no memory is all that empties a line of one job. There must be a thread
-for each dispatcher, and as many that feed as there are lanes or processors, whichever are fewer. Where the second thread that
-feeds cannot be started, the first one must stop feeding at once. `checks/run memory FILE` tries the program FILE, with gcc.
+For each input it runs the program, counts its requests for memory, and runs it once more for each request, with that
+one refused; for small inputs also with that one and the two after it, and with that one and all after it. The answer
+must be that of ample memory, or status 3 with `failed: record 0: OutOfMemory` on standard error and at most the first
+lines of the output. Where the command names its files, the line may name one of them instead, and the output must be
+whole or as it was. A run once more for each thread, in which that one and all later ones cannot be started, must end
+with that fault and no output. No run may hang, also where one dispatcher that gets no memory is all that empties a line
+of one job. There must be a thread for each dispatcher, and as many that feed as there are lanes or processors,
+whichever are fewer. Where the second thread that feeds cannot be started, the first one must stop feeding at once.
+`checks/run memory FILE` tries the program FILE, with gcc.
 """
 import os
 import subprocess
@@ -24,7 +25,8 @@ PROCESSORS = len(os.sched_getaffinity(0))
 LONG, REPLY_BYTES = 10_000, 16
 # How many requests are refused in a row: one alone; or three, and all from the first one on.
 ONE, EACH_WAY = [1], [1, 3, 0]
-# The names, among the words of a command, of a file with its input and of a file that it writes, which holds OLD before.
+# The names, among the words of a command, of a file with its input and of a file that it writes, which holds OLD
+# before.
 INPUT_FILE, OUTPUT_FILE, OLD = "jobs.csv", "old.csv", b"old\n"
 WANT = b"failed: record 0: OutOfMemory\n"
 WANT_OF_FILE = [b"failed: input: OutOfMemory: jobs.csv\n", b"failed: output: OutOfMemory: old.csv\n"]
@@ -50,7 +52,8 @@ def example(name):
 
 def inputs():
     """Returns the words of each command, its input, and how many requests are refused in a row."""
-    # Jobs of two lanes, enough for the list of all replies to grow some times; of all lanes, so that each list does; and large ones.
+    # Jobs of two lanes, enough for the list of all replies to grow some times; of all lanes, so that each list does;
+    # and large ones.
     few, many = jobs(20, 2), jobs(200, 16)
     large = (HEADER + "".join(row(at, kind, (it * 2**at for it in range(4096))) for at, kind in enumerate(LARGEST))).encode()
     alone, four = "--dispatchers 1 --capacity 1", "--dispatchers 4 --capacity 1"
@@ -108,8 +111,8 @@ class Command:
         return [int(number) for number in read_bytes(self.path("count")).split()]
 
     def threads(self):
-        """Returns how many threads it starts: one for each dispatcher, and for the open lanes one each, but no more than there
-        are processors."""
+        """Returns how many threads it starts: one for each dispatcher, and for the open lanes one each, but no more
+        than there are processors."""
         if self.words[1] not in ("run", "report"):
             return 0
         dispatchers = int(self.words[self.words.index("--dispatchers") + 1]) if "--dispatchers" in self.words else 2
@@ -140,9 +143,9 @@ def refuse_each(built, shims, arguments, text, counts):
 
 
 def must_stop_feeding(built, shims):
-    """Tries two long lanes. A worker keeps its replies in a list that grows, so the bytes that a run asks for show how many jobs
-    were answered: all where nothing is refused, none where the dispatcher is, and few where the second thread that feeds is. If
-    the first thread went on, all jobs of its lane would be."""
+    """Tries two long lanes. A worker keeps its replies in a list that grows, so the bytes that a run asks for show how
+    many jobs were answered: all where nothing is refused, none where the dispatcher is, and few where the second thread
+    that feeds is. If the first thread went on, all jobs of its lane would be."""
     if PROCESSORS < 2:
         raise Skipped("on one processor one thread feeds, so a second one is not refused")
     text, sizes = HEADER.encode() + LONG * b"0,allreduce,add,0,1\n1,allreduce,add,0,1\n", []

@@ -1,8 +1,9 @@
 """Compares view/index.html with the program: `checks/run page PROGRAM`. With `--draw` it writes the pictures of docs/.
 
-What the page shows after each event of a schedule is compared with a replay that is cut there: the words with its end rows,
-the row, and that there is a sentence for it. What it shows after each command of `place` is compared with the rows. Files that are no
-output of the program must each be refused with a reason. The pictures of docs/ must be those that the page saves.
+What the page shows after each event of a schedule is compared with a replay that is cut there: the words with its end
+rows, the row, and that there is a sentence for it. What it shows after each command of `place` is compared with the
+rows. Files that are no output of the program must each be refused with a reason. The pictures of docs/ must be those
+that the page saves.
 
 The scripts of the page run under node, over a small stand-in for a document; where there is a Chromium, the page itself
 is opened in it too, at several events. Where there is no node or no Chromium, that is told and passed over.
@@ -202,7 +203,8 @@ def compare_place(text, shown):
 
 
 def check_pictures(schedules, draws):
-    """Sees that docs/TREE.md has each of these schedules, with its command line and its picture, and that the page draws it so."""
+    """Sees that docs/TREE.md has each of these schedules, with its command line and its picture, and that the page
+    draws it so."""
     told_of = read("docs/TREE.md")
     asked = [{"text": one.text, "event": one.event, "n": one.n} for one in schedules]
     for one, told in zip(schedules, page_in_node(asked)):

@@ -1,11 +1,11 @@
 """Runs the built program with a terminal as standard error, and reads what it shows while it works.
 
-A long run shows how many records are read and how many replies are done, in one line that is wiped at
-the end. Standard output and what stays on the terminal are those of a run with `--quiet`. Nothing is shown
-for short work, with `--quiet`, where TERM is dumb, and where standard error is no terminal. A terminal that
-nobody reads, and one that is stopped, hold up no more of a run than a second at its end. With a terminal as standard
-input each command says in one line of standard error what it waits for, and help and a bad command line do not.
-`checks/run progress FILE` tries the program FILE.
+A long run shows how many records are read and how many replies are done, in one line that is wiped at the end. Standard
+output and what stays on the terminal are those of a run with `--quiet`. Nothing is shown for short work, with
+`--quiet`, where TERM is dumb, and where standard error is no terminal. A terminal that nobody reads, and one that is
+stopped, hold up no more of a run than a second at its end. With a terminal as standard input each command says in one
+line of standard error what it waits for, and help and a bad command line do not. `checks/run progress FILE` tries the
+program FILE.
 """
 import contextlib
 import os
@@ -22,7 +22,8 @@ from checks.lib.toolchain import program
 
 ENVIRONMENT = {**os.environ, "TERM": "xterm"}
 HEADER = "lane,kind,op,root,items\n"
-# Nothing is shown of fewer records than LEAST. The program looks at its counts ten times a second: LONG jobs take it some tenths.
+# Nothing is shown of fewer records than LEAST. The program looks at its counts ten times a second: LONG jobs take it
+# some tenths.
 LEAST, SOME, LONG = 1000, 30_500, 400_500
 # A count that stays is shown within this many seconds.
 SHOWN_WITHIN = 30
@@ -79,8 +80,8 @@ class Terminal:
 
 
 def on_terminal(command, given, **how):
-    """Runs a command with a terminal as standard error. Returns the status, standard output, and the bytes that the terminal
-    was sent."""
+    """Runs a command with a terminal as standard error. Returns the status, standard output, and the bytes that the
+    terminal was sent."""
     terminal = Terminal()
     with tempfile.TemporaryFile() as file:
         file.write(given)
@@ -93,8 +94,8 @@ def on_terminal(command, given, **how):
 
 
 def slow_answer(command, parts, awaited):
-    """Runs a command with a terminal as standard error, which is given each part of its input once the terminal
-    was sent the line that is awaited after the part before."""
+    """Runs a command with a terminal as standard error, which is given each part of its input once the terminal was
+    sent the line that is awaited after the part before."""
     terminal = Terminal()
     started = terminal.start(command, stdin=subprocess.PIPE)
     terminal.listener.start()

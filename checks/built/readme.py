@@ -2,8 +2,8 @@
 relative link of these, of CONTRIBUTING.md and of the pages on calling.
 
 The commands run in a copy of this repository without what was made in it, on a PATH with no `rt`, with the program and
-libraries that are given in the place of those of release/: `checks/run readme FOLDER`. A line `..` stands for all that follows.
-A line whose compiler is not there is passed over, and named.
+libraries that are given in the place of those of release/: `checks/run readme FOLDER`. A line `..` stands for all that
+follows. A line whose compiler is not there is passed over, and named.
 """
 import glob
 import hashlib

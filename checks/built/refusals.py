@@ -1,13 +1,12 @@
 """Refuses memory to single calls of the libraries, and looks at what comes back.
 
-The program `cube_bench memory` makes calls one after the other, and after each it writes a line: the call's
-name, and what came back. Each of its requests for memory is refused in turn, then each and the two after it,
-then each and all after it. A call must say OutOfMemory exactly where one of its own requests was refused, and
-else answer what it answers with ample memory. Where it was refused the line has what was given back: all items
-of a job, all stations of a cube, all replies that a worker has. A call that is to take no memory makes no
-request. In the end the program must hold as many blocks of memory as in the beginning, so what a refused call
-had begun is ended again. It needs gcc, and fails where an answer is another one. `checks/run refusals FILE` tries
-the program FILE.
+The program `cube_bench memory` makes calls one after the other, and after each it writes a line: the call's name, and
+what came back. Each of its requests for memory is refused in turn, then each and the two after it, then each and all
+after it. A call must say OutOfMemory exactly where one of its own requests was refused, and else answer what it answers
+with ample memory. Where it was refused the line has what was given back: all items of a job, all stations of a cube,
+all replies that a worker has. A call that is to take no memory makes no request. In the end the program must hold as
+many blocks of memory as in the beginning, so what a refused call had begun is ended again. It needs gcc, and fails
+where an answer is another one. `checks/run refusals FILE` tries the program FILE.
 """
 import os
 import tempfile
@@ -23,8 +22,8 @@ SECONDS = 20
 MODES = {"one": "1", "three": "3", "all": "0"}
 REFUSED = " OutOfMemory"
 
-# The calls of each run: the call's name, what it gives, what comes back where it is refused (None: it takes no
-# memory), and how many of the calls after it are left out then.
+# The calls of each run: the call's name, what it gives, what comes back where it is refused (None: it takes no memory),
+# and how many of the calls after it are left out then.
 REST = 99
 ITEMS = [("items", " 4 7 1 8", "", 1), ("Job::new", " 4 7 1 8", " 4 7 1 8", 0)]
 RUNS = {

@@ -1,12 +1,12 @@
 """Compares the files of release/ with what was built from these sources, to the byte.
 
-`checks/run release FOLDER`, as the gate calls it, finds in FOLDER the files that were just built from nothing, under the
-names that they have in release/. Where release/ is of these sources, each of its files must be that very file, and need
-no symbol of a C library later than 2.34; else it fails. Where another build of the toolchain made release/ and this one makes
-other bytes, it names both builds and skips the comparison. Where the sources have moved on, it says how to renew
-release/, which is no failure: the launcher passes such a release over. The libraries, which cannot look what processor they
-run on, must have no instruction that an x86-64 may lack. `checks/run release --renew` proves and builds, and puts the files and
-their sums there.
+`checks/run release FOLDER`, as the gate calls it, finds in FOLDER the files that were just built from nothing, under
+the names that they have in release/. Where release/ is of these sources, each of its files must be that very file, and
+need no symbol of a C library later than 2.34; else it fails. Where another build of the toolchain made release/ and
+this one makes other bytes, it names both builds and skips the comparison. Where the sources have moved on, it says how
+to renew release/, which is no failure: the launcher passes such a release over. The libraries, which cannot look what
+processor they run on, must have no instruction that an x86-64 may lack. `checks/run release --renew` proves and builds,
+and puts the files and their sums there.
 """
 import hashlib
 import os
@@ -31,8 +31,8 @@ LIBRARIES = [name for name in FILES if name.endswith(".a")]
 NEWEST_GLIBC = (2, 34)
 # Where the Rust package has copies of the libraries: a package holds the files that it links.
 RUST = path("rust", "lib")
-# The instructions of each x86-64, as objdump writes them without a suffix of size: those of whole numbers, of the x87, and of
-# SSE and SSE2. What is not among them is taken for one that a processor may lack.
+# The instructions of each x86-64, as objdump writes them without a suffix of size: those of whole numbers, of the x87,
+# and of SSE and SSE2. What is not among them is taken for one that a processor may lack.
 CONDITION = "(?:n?[abceglopsz]|n?[abgl]e|p[eo])"
 EVERYWHERE = re.compile(
     rf"(?:j{CONDITION}|set{CONDITION}|cmov{CONDITION}|jmp|j[er]?cxz|loop(?:n?e)?|call|ret|leave|enter|push[fq]*|pop[fq]*|nop|endbr64|pause|int3|hlt|ud2"
@@ -111,7 +111,8 @@ class Release:
                 yield name, f"needs the C library {'.'.join(map(str, newest_symbol(data)))}"
 
     def differences(self, built):
-        """Returns what is wrong with a release of these sources, and what is not compared since another build made other bytes."""
+        """Returns what is wrong with a release of these sources, and what is not compared since another build made
+        other bytes."""
         wrong, skipped = [], []
         is_other = self.said("built by") not in ("", build_here())
         for name, fault in self.faults(built):
@@ -132,7 +133,8 @@ def newest_symbol(data):
 
 
 def is_everywhere(line):
-    """Answers whether each x86-64 has an instruction. A pextrw into memory is of SSE4.1, and one into a register is not."""
+    """Answers whether each x86-64 has an instruction. A pextrw into memory is of SSE4.1, and one into a register is
+    not."""
     line = line[PREFIXES.match(line).end() :]
     return not line or bool(EVERYWHERE.fullmatch(line.split()[0])) and not line.startswith("pextrw WORD")
 

@@ -100,8 +100,8 @@ def without_parameters(rest):
 
 
 def owner_of(head):
-    """Returns how a check calls the owner of a method: a type or a trait by its name, an `impl` of a trait by the type, the
-    trait and the trait's own arguments, as LanesRowSinkJob for `impl RowSink<Job> for Lanes`."""
+    """Returns how a check calls the owner of a method: a type or a trait by its name, an `impl` of a trait by the type,
+    the trait and the trait's own arguments, as LanesRowSinkJob for `impl RowSink<Job> for Lanes`."""
     if head.startswith("trait"):
         return re.match(r"trait\s+(\w+)", head)[1]
     rest, parameters = without_parameters(head[len("impl") :])

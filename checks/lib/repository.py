@@ -55,6 +55,7 @@ def place(file):
 
 
 def limits():
-    """Returns each constant of the limits: its file, the sentence above it, its name, and its value as it is written."""
+    """Returns each constant of the limits: its file, the sentence above it, its name, and its value as it is
+    written."""
     pattern = r"(///.*\n)?pub const (\w+): \w+ = (.*);"
     return [(home, *found) for home in LIMITS for found in re.findall(pattern, read(home))]

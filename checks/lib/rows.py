@@ -1,4 +1,5 @@
-"""Runs rows: each is a name, a function, and what the function is called with. The function raises Wrong where the row fails."""
+"""Runs rows: each is a name, a function, and what the function is called with. The function raises Wrong where the row
+fails."""
 import hashlib
 import inspect
 import os

@@ -1,5 +1,5 @@
-"""What checks share that call the prover, a compiler or the program: the toolchain's own library, which knows the words of a
-check, the libraries of this repository as they stand, and the program that was built."""
+"""What checks share that call the prover, a compiler or the program: the toolchain's own library, which knows the words
+of a check, the libraries of this repository as they stand, and the program that was built."""
 import importlib.machinery
 import importlib.util
 import os
@@ -10,8 +10,8 @@ import sys
 
 from checks.lib.repository import ROOT, path, read
 
-# The processor that the libraries for C are built for: any of this kind. A program can look for the processor that it needs, as
-# `cubejobs` does; a library cannot.
+# The processor that the libraries for C are built for: any of this kind. A program can look for the processor that it
+# needs, as `cubejobs` does; a library cannot.
 FOR_ANY = ["--cpu", "x86-64"]
 AFTER_GATE = "--after-gate"
 PROGRAM = "crates/jobs_cli/out/jobs_cli"
@@ -43,14 +43,15 @@ def build_below(tops, after_gate):
 
 
 def check_words(crate, functions):
-    """Returns the words of a check of these functions of the crate, or of none where the one name is empty, over the libraries
-    that stand."""
+    """Returns the words of a check of these functions of the crate, or of none where the one name is empty, over the
+    libraries that stand."""
     words = [kit().RATTLE, "check", *crate.words(["--jobs", "1"], keeps=False)]
     return words + [word for name in functions for word in ("--only", name)]
 
 
 def program(words):
-    """Returns the program that the words name, or else the one that `rt ci` left, which is built where there is none."""
+    """Returns the program that the words name, or else the one that `rt ci` left, which is built where there is
+    none."""
     named = [word for word in words if not word.startswith("-")]
     if not named and not os.path.exists(path(PROGRAM)):
         subprocess.run([path("cubejobs"), "--prove", "--version"], stdout=subprocess.DEVNULL, check=True)

@@ -1,22 +1,24 @@
 """Tries the mutants: wrong bodies and definitions, each of which the prover must refuse.
 
 A function is proved from its own body and the contracts of what it calls, never from their bodies. So mutants of
-different functions do not help one another: many stand in one copy of a crate, and one check of that copy tells of
-each function that holds a mutant whether it is still proved. A second mutant of a function stands in a copy of the function
-under a name of its own, with a copy of its proof files, unless it is a trait's. All that one mutant can do to another is to
-hide it, and this check looks for that. The copy of the crate is read as a library by source, since of a crate that is checked
-itself each open goal is searched a second time, to print how its proof may start. Crates of which none stands below another
-are copied side by side into one check, which reads what stands below them once. A mutant of a definition stands alone in its
-copy; a line `only: FUNCTION` names a function that it is to be refused for, and without one all functions are proved.
+different functions do not help one another: many stand in one copy of a crate, and one check of that copy tells of each
+function that holds a mutant whether it is still proved. A second mutant of a function stands in a copy of the function
+under a name of its own, with a copy of its proof files, unless it is a trait's. All that one mutant can do to another
+is to hide it, and this check looks for that. The copy of the crate is read as a library by source, since of a crate
+that is checked itself each open goal is searched a second time, to print how its proof may start. Crates of which none
+stands below another are copied side by side into one check, which reads what stands below them once. A mutant of a
+definition stands alone in its copy; a line `only: FUNCTION` names a function that it is to be refused for, and without
+one all functions are proved.
 
     checks/run edits [--stale | --plan] [--after-gate] [--anew] [--keep FOLDER] [--from FOLDER] [CRATE | CRATE/EDIT ..]
 
 With no name it tries all mutants of edits/CRATE and crates/CRATE/must-fail, the crates side by side. --stale only sees
-that each can be applied, and takes a second. --plan shows which share a check. --after-gate takes the libraries as `rt ci` has
-just left them, so it comes before anything else builds one; without it the libraries below are built first. Which were refused
-is kept in ~/.cache/cubejobs/edits, by a sum of the mutant, this check, the toolchain, and the crate and all below it, as
-`rt ci` keeps its proofs: a later run tries a mutant again where one of these has changed, and with --anew each. --keep puts
-what each check said into a folder. --from takes CRATE's mutants from FOLDER/CRATE. What is said of a mutant:
+that each can be applied, and takes a second. --plan shows which share a check. --after-gate takes the libraries as `rt
+ci` has just left them, so it comes before anything else builds one; without it the libraries below are built first.
+Which were refused is kept in ~/.cache/cubejobs/edits, by a sum of the mutant, this check, the toolchain, and the crate
+and all below it, as `rt ci` keeps its proofs: a later run tries a mutant again where one of these has changed, and with
+--anew each. --keep puts what each check said into a folder. --from takes CRATE's mutants from FOLDER/CRATE. What is
+said of a mutant:
 
     refused   its function has a goal of its own that is not proved, or that its proof file does not meet
     PROVED    the prover let it through
@@ -48,9 +50,9 @@ MOST_EDITS = 64
 
 
 def words_of(crates, room):
-    """Returns the words of a check of the copies of these crates. A library, a static one too, is given by its source to a crate
-    with nothing in it: of the crate that it is called for a check also prints how a proof may start, and searches every open
-    goal again for it."""
+    """Returns the words of a check of the copies of these crates. A library, a static one too, is given by its source
+    to a crate with nothing in it: of the crate that it is called for a check also prints how a proof may start, and
+    searches every open goal again for it."""
     each = [crate.words(["--jobs", "1"], keeps=False) for crate in crates]
     if crates[0].is_program:
         return each[0]
@@ -81,8 +83,8 @@ def put_copies(turn, room):
 
 
 def run_check(turn, room, keep, tally, is_whole=False):
-    """Checks copies of crates with the texts of their batches, all of them or the functions that hold a mutant, and returns
-    what the check said."""
+    """Checks copies of crates with the texts of their batches, all of them or the functions that hold a mutant, and
+    returns what the check said."""
     put_copies(turn, room)
     each = [(crate, edit) for crate, batch in turn for edit in batch.edits]
     only = dict.fromkeys(it for crate, edit in each for it in [*(path_of(it, crate) for it in edit.functions), *edit.only])
@@ -104,8 +106,8 @@ def run_check(turn, room, keep, tally, is_whole=False):
 
 
 def by_itself(crate, batch, room, keep, tally, said):
-    """Returns what a check of this crate alone says, of which this may be known; of all its functions, where it knows one by no
-    such name."""
+    """Returns what a check of this crate alone says, of which this may be known; of all its functions, where it knows
+    one by no such name."""
     said = said or run_check([(crate, batch)], room, keep, tally)
     if "has no function" in said and not names_of(crate, said):
         said = run_check([(crate, batch)], room, keep, tally, is_whole=True)
@@ -113,7 +115,8 @@ def by_itself(crate, batch, room, keep, tally, said):
 
 
 def are_alone(batch):
-    """Answers whether a check of this batch must prove all functions of its crate, so that no other crate stands in it."""
+    """Answers whether a check of this batch must prove all functions of its crate, so that no other crate stands in
+    it."""
     return any(not it.functions and not it.only for it in batch.edits)
 
 
@@ -147,8 +150,8 @@ def try_track(track, options, tally):
 
 
 def tracks_of(work):
-    """Returns the crates in as few tracks as can be: those with most checks first, each into the first track where none stands
-    below another."""
+    """Returns the crates in as few tracks as can be: those with most checks first, each into the first track where none
+    stands below another."""
     tracks = []
     for crate, batches, texts in sorted(work, key=lambda it: (-len(it[1]), -sum(len(batch.edits) for batch in it[1]))):
         count, below = sum(len(it.edits) for it in batches), {it.name for it in crate.below()}
@@ -170,7 +173,8 @@ def lanes():
 
 
 def work_of(options, tally):
-    """Returns each crate with the batches of the mutants that are to be tried, and its texts. Tells of those that cannot be."""
+    """Returns each crate with the batches of the mutants that are to be tried, and its texts. Tells of those that
+    cannot be."""
     work = []
     for crate in crates().values():
         wanted = [it.partition("/")[2] for it in options.names if it.partition("/")[0] == crate.name]

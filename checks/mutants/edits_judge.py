@@ -1,13 +1,13 @@
-"""Tests `edits`, which judges mutants, and the reader of sources under it: mutants of `region_bits` and of `pause` whose
-verdicts are known must be told so.
+"""Tests `edits`, which judges mutants, and the reader of sources under it: mutants of `region_bits` and of `pause`
+whose verdicts are known must be told so.
 
 One mutant is a wrong body. One changes nothing, in a function that calls the wrong one, so that it is hidden in their
-common check; one has a name that does not exist, so that the front end refuses the check of all; one is right, and
-only the proof misses a name; one is stale. Three stand in functions that hold another one, so that each pair has a copy: a
-wrong body, one that changes nothing, and one in a function with a proof file. The check of the wrong body tells its open goal, and
-does not search it again. The two of `pause` stand in the check of the others, and neither crate's verdicts are the other's.
-Two mutants of a definition name the function that is proved over it: one that it is refused for, and one that does not read it.
-Words given here are passed on to `edits`.
+common check; one has a name that does not exist, so that the front end refuses the check of all; one is right, and only
+the proof misses a name; one is stale. Three stand in functions that hold another one, so that each pair has a copy: a
+wrong body, one that changes nothing, and one in a function with a proof file. The check of the wrong body tells its
+open goal, and does not search it again. The two of `pause` stand in the check of the others, and neither crate's
+verdicts are the other's. Two mutants of a definition name the function that is proved over it: one that it is refused
+for, and one that does not read it. Words given here are passed on to `edits`.
 """
 import os
 import re
@@ -21,7 +21,8 @@ from checks.mutants.verdict import NAMES_ONLY, lines_of
 BITS, MEANING = "src/bits.rt", "specs/Represents.antt"
 FILL, MEANS = "bits[start..end].fill(taken);", "a p → bit_of bits p ≡ true"
 NONE, WROTE = "none_set(&bits[start..end])", "write(bits, n, region, true);"
-# By crate and name: file, old text, new text, what must be said of it, and the function that is proved over a definition.
+# By crate and name: file, old text, new text, what must be said of it, and the function that is proved over a
+# definition.
 PLANTED = {
     "region_bits/wrong_body": (BITS, FILL, "bits[start..end].fill(!taken);", "refused"),
     "region_bits/hidden_and_unchanged": ("src/regions.rt", WROTE, WROTE, "PROVED"),
@@ -57,7 +58,8 @@ SOURCES = {
 
 
 def judged(folder, *words):
-    """Returns the status of `edits`, and what it says of each mutant of the folder. What it keeps stands in that folder too."""
+    """Returns the status of `edits`, and what it says of each mutant of the folder. What it keeps stands in that folder
+    too."""
     env = {**os.environ, "XDG_CACHE_HOME": f"{folder}/cache"}
     command = [path("checks", "run"), "edits", "--from", folder, *words, "region_bits", "pause"]
     ran = subprocess.run(command, stdout=subprocess.PIPE, text=True, check=False, env=env)

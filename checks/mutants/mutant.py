@@ -1,4 +1,5 @@
-"""Mutants of a crate: small changes of its text, copies of a function that hold one, and the batches that share a check."""
+"""Mutants of a crate: small changes of its text, copies of a function that hold one, and the batches that share a
+check."""
 import copy
 import os
 import re
@@ -10,14 +11,15 @@ PARTS = ("src", "specs", "proofs")
 
 
 def path_of(function, crate=None):
-    """Returns a function's name, or the end of it where it is a method, for the module of its type is not known here."""
+    """Returns a function's name, or the end of it where it is a method, for the module of its type is not known
+    here."""
     inside = [crate.name, *function.module] if crate and not crate.is_program else function.module
     return "::".join([*([function.owner] if function.owner else inside), function.name])
 
 
 def names_for(function, crate, names):
-    """Returns the names that the check may have for a function. A method is named after the module of its type, which may be
-    another one than that of its `impl`."""
+    """Returns the names that the check may have for a function. A method is named after the module of its type, which
+    may be another one than that of its `impl`."""
     ours = [it for it in names if it.startswith(f"{crate}::") and it.rpartition("::")[2] == function.name]
     inside = "::".join([crate, *function.module]) + "::"
     if not function.owner:
@@ -32,8 +34,8 @@ def texts_of(folder):
 
 
 class Edit:
-    """A mutant: its pairs of texts, and the functions that hold them. One of specs/ alone is held by none, and may name those
-    that are to be proved over it."""
+    """A mutant: its pairs of texts, and the functions that hold them. One of specs/ alone is held by none, and may name
+    those that are to be proved over it."""
 
     def __init__(self, file, texts):
         self.name, self.text = os.path.basename(file)[: -len(".edit")], read(file)
@@ -81,7 +83,8 @@ class Edit:
 
 
 def proof_folders_of(function, texts):
-    """Returns the folders of proof files that may be this function's: where it has an owner, the module of that type counts."""
+    """Returns the folders of proof files that may be this function's: where it has an owner, the module of that type
+    counts."""
     own = "/".join([*function.module, *([function.owner] if function.owner else []), function.name])
     ends = f"/{function.owner}/{function.name}" if function.owner else None
     found = {os.path.dirname(it) for it in texts if it.startswith("proofs/")}
@@ -97,8 +100,8 @@ def copied_proofs(folder, name, crate, texts):
 
 
 def as_a_copy(edit, number, crate, texts):
-    """Returns the mutant in a copy of its function, and the copy's text and proof files. None where it is not the mutant of one
-    function alone, or where that function cannot stand there twice."""
+    """Returns the mutant in a copy of its function, and the copy's text and proof files. None where it is not the
+    mutant of one function alone, or where that function cannot stand there twice."""
     function = edit.functions[0] if len(edit.functions) == 1 else None
     if not function or function.is_of_trait or any(file != function.file for file, _, _ in edit.pairs):
         return None
@@ -156,8 +159,8 @@ def edits_of(crate, texts, folder=None):
 
 
 def batches_of(edits, crate, texts):
-    """Returns the mutants in as few checks as can be: first those that no copy can hold, then each in the place of what it
-    changes, and then copies."""
+    """Returns the mutants in as few checks as can be: first those that no copy can hold, then each in the place of what
+    it changes, and then copies."""
     batches, left = [], []
     bound = [it for it in edits if not as_a_copy(it, 0, crate, texts)]
     for edit in [*bound, *(it for it in edits if it not in bound)]:

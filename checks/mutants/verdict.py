@@ -22,15 +22,15 @@ def names_of(crate, said):
 
 
 def lines_of(said, crate):
-    """Returns the lines of a check, with the files of this crate named as in its folder. Where a line names what is near, what
-    is missing comes in a line of its own: the two are one here."""
+    """Returns the lines of a check, with the files of this crate named as in its folder. Where a line names what is
+    near, what is missing comes in a line of its own: the two are one here."""
     told = re.sub(r"\n +(?=has no field )", " ", said)
     return re.sub(rf"(?m)^((?:note: )?(?:\./)?){crate}/(?=(?:{'|'.join(PARTS)})/)", r"\1", told).split("\n")
 
 
 def told_of(function, name, texts, lines):
-    """Returns what the check says of goals of this function: those of its span or its own proof files, and apart from them
-    those that only miss a name."""
+    """Returns what the check says of goals of this function: those of its span or its own proof files, and apart from
+    them those that only miss a name."""
     text = texts[function.file]
     span = next((it for it in functions_in(function.file, text) if it.key() == function.key()), None)
     rows = range(text.count("\n", 0, span.start) + 1, text.count("\n", 0, span.end) + 2) if span else ()
@@ -45,8 +45,8 @@ def told_of(function, name, texts, lines):
 
 
 def told_of_edit(crate, batch, edit, names, lines):
-    """Returns what the check says of a mutant: the states and the names of its functions, the goals of its own, and those that
-    only miss a name."""
+    """Returns what the check says of a mutant: the states and the names of its functions, the goals of its own, and
+    those that only miss a name."""
     if not edit.functions:
         told = [it for it in lines if IN_A_PART.match(it) and "error" in it]
         state = "proved" if all(state == "proved" for state, _ in names.values()) else "not proved"
@@ -65,7 +65,8 @@ def told_of_edit(crate, batch, edit, names, lines):
 
 
 def verdict(crate, batch, edit, names, lines):
-    """Returns what the check says of one mutant of the batch, as a word and the reason, or None where another one hides it."""
+    """Returns what the check says of one mutant of the batch, as a word and the reason, or None where another one hides
+    it."""
     states, shown, own, by_name = told_of_edit(crate, batch, edit, names, lines)
     what = ", ".join(shown)
     if not states:
@@ -82,7 +83,8 @@ def verdict(crate, batch, edit, names, lines):
 
 
 class Kept:
-    """What this machine's earlier runs said of mutants that they saw refused, each under a sum of all that this stands on."""
+    """What this machine's earlier runs said of mutants that they saw refused, each under a sum of all that this stands
+    on."""
 
     def __init__(self, is_used):
         caches = os.environ.get("XDG_CACHE_HOME") or os.path.expanduser("~/.cache")
@@ -146,7 +148,8 @@ class Tally:
 
 
 def unreached(crate, batch, lines, tally):
-    """Returns lists of the mutants of a batch of which the check says nothing, each list for a check; tells of a single one."""
+    """Returns lists of the mutants of a batch of which the check says nothing, each list for a check; tells of a single
+    one."""
     if len(batch.edits) > 1:
         named = [it for it in batch.edits if any(told_of(function, "", batch.texts, lines)[0] for function in it.functions)]
         others = [it for it in batch.edits if it not in named]

@@ -2,7 +2,8 @@
 has it, where the file of a quote is not named above it, where a file that is named does not exist, where a quote is
 empty, and where a library has no CALLING.md with a caller.
 
-`checks/run callers --write` puts the callers as they stand into the files; the sentences above them are written by hand.
+`checks/run callers --write` puts the callers as they stand into the files; the sentences above them are written by
+hand.
 """
 import os
 import re

@@ -1,20 +1,21 @@
-"""Shows what the types refuse: handles of a running tree that are dropped or used twice, takes of it under a lock, lines that
-end early, and ends of workers that a caller puts together.
+"""Shows what the types refuse: handles of a running tree that are dropped or used twice, takes of it under a lock,
+lines that end early, and ends of workers that a caller puts together.
 
-The functions below are put into a small crate over `cube_tree`. The compiler must refuse each of the wrong ones by the error
-named with it, and none of those beside them, which end all that they are given. The calls of the tree are lent no runtime, and a
-lock cannot be taken without one: so no such call takes a lock. One that is lent a runtime could.
+The functions below are put into a small crate over `cube_tree`. The compiler must refuse each of the wrong ones by the
+error named with it, and none of those beside them, which end all that they are given. The calls of the tree are lent no
+runtime, and a lock cannot be taken without one: so no such call takes a lock. One that is lent a runtime could.
 
-Others are put into `ruled_line`, beside the calls of the line with no lock. What its `take` answers where the line has ended can
-be had only from a pop that found the ring empty after a reading that sealed the line: neither from the reading alone, nor from an
-earlier pop, nor from nothing; and neither the reading nor a pop may be let go. An entry can be settled only by what its push
-answered, and a push wants an entry that came before the close: so no call settles before it pushes, none pushes before it
-enters, and neither an entry nor what came of its push may be let go or used twice.
+Others are put into `ruled_line`, beside the calls of the line with no lock. What its `take` answers where the line has
+ended can be had only from a pop that found the ring empty after a reading that sealed the line: neither from the
+reading alone, nor from an earlier pop, nor from nothing; and neither the reading nor a pop may be let go. An entry can
+be settled only by what its push answered, and a push wants an entry that came before the close: so no call settles
+before it pushes, none pushes before it enters, and neither an entry nor what came of its push may be let go or used
+twice.
 
-A third list stands over `dispatcher`: a caller reads the end of a worker and the close note, and can neither make one, nor put
-other replies into one, nor take one apart for its pass or its station. Nothing is proved of these functions: a check that is
-asked for no function reads the crate and holds it to the types. With --after-gate the libraries below are taken as `rt ci` has
-just left them, and without it they are built first.
+A third list stands over `dispatcher`: a caller reads the end of a worker and the close note, and can neither make one,
+nor put other replies into one, nor take one apart for its pass or its station. Nothing is proved of these functions: a
+check that is asked for no function reads the crate and holds it to the types. With --after-gate the libraries below are
+taken as `rt ci` has just left them, and without it they are built first.
 """
 import copy
 import re
@@ -92,8 +93,8 @@ MEMBERS = [(name, error, SHOP + signature, body) for name, error, signature, bod
     ("takes_the_line_of_a_note", FIELD, "(note: CloseNote<L, F>) -> L::Note", "note.line"),
 )]
 
-# Wrong functions beside the line with no lock, in the file in which they stand. A wrong take stands where `take` does. A wrong put
-# stands where the line's own witnesses are made, so that none is refused for their private fields.
+# Wrong functions beside the line with no lock, in the file in which they stand. A wrong take stands where `take` does.
+# A wrong put stands where the line's own witnesses are made, so that none is refused for their private fields.
 TAKES, PUTS = "src/job_line.rt", "src/line.rt"
 END, ENDED = " -> Taken<RuledEnd>", "Taken::Ended(RuledEnd(()))"
 READING = "(line: &RuledLine, gate: &mut line_gate::GatePass, saw: line_ring::SawEmpty)" + END
@@ -153,7 +154,8 @@ def source(functions, text):
 
 
 def compiled(known, folder, name, uses):
-    """Returns the file, line and error of what is refused in the library of this name in this folder, and what was said."""
+    """Returns the file, line and error of what is refused in the library of this name in this folder, and what was
+    said."""
     crate = copy.copy(known["ruled_line"])
     crate.folder, crate.name, crate.deps = folder, name, uses
     how = {"stdin": subprocess.DEVNULL, "stdout": subprocess.PIPE, "stderr": subprocess.STDOUT, "text": True}

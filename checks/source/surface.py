@@ -1,20 +1,19 @@
 """Measures the believed surface: the definitions that the public contracts cite, directly or through others.
 
-It reads the contracts of the public items in crates/*/src and the definitions in crates/*/specs, and
-counts the definitions and lines of that closure. Comments, blank lines and imports are no lines. It fails
-where docs/DEFINITIONS.md does not name a definition of the closure in its crate's section, where the first
-column of its tables names what is not there, where a library does not pass on a definition of a crate below that
-its public clauses cite (`pub use` in its specs/Lib.antt, of the name or of its module), and where what the theorem
-or the program reaches, counted over all crates below it, has more lines than its budget. It lists the definitions that
-no public contract reaches: their place is among the proofs, or in a folder `inner` or a file `Inner*.antt`.
+It reads the contracts of the public items in crates/*/src and the definitions in crates/*/specs, and counts the
+definitions and lines of that closure. Comments, blank lines and imports are no lines. It fails where
+docs/DEFINITIONS.md does not name a definition of the closure in its crate's section, where the first column of its
+tables names what is not there, where a library does not pass on a definition of a crate below that its public clauses
+cite (`pub use` in its specs/Lib.antt, of the name or of its module), and where what the theorem or the program reaches,
+counted over all crates below it, has more lines than its budget. It lists the definitions that no public contract
+reaches: their place is among the proofs, or in a folder `inner` or a file `Inner*.antt`.
 
-  checks/run surface                  the table, and what fails
-  checks/run surface --list CRATE     the crate's definitions of the closure, each after those that it cites
-  checks/run surface --missing        the definitions that docs/DEFINITIONS.md does not name
-  checks/run surface --unreached      the definitions that no public contract reaches
+checks/run surface the table, and what fails checks/run surface --list CRATE the crate's definitions of the closure,
+each after those that it cites checks/run surface --missing the definitions that docs/DEFINITIONS.md does not name
+checks/run surface --unreached the definitions that no public contract reaches
 
-The invariants of types with a model are no part of it: no caller sees the private fields of which they
-speak. With `--invariants` they are counted too.
+The invariants of types with a model are no part of it: no caller sees the private fields of which they speak. With
+`--invariants` they are counted too.
 
 Nor are the proofs that an `impl` gives for the laws of its trait: the law itself counts, in the trait.
 """
@@ -28,8 +27,8 @@ from checks.lib.repository import NO_LIBRARIES, crate_names, files_below, path, 
 from checks.lib.rows import print_faults
 # What a reader of a promise has to believe: the public items of these crates, or those of this name alone, and the most
 # lines that all of their clauses may reach, in whatever crate. The theorem is `Shop::finish`, with the contracts of the
-# queues, allocators and runners that it speaks of, and with what its values say of a reply and of a job. Over threads it
-# is `crew::run`. CONTRIBUTING.md says when a budget may be raised.
+# queues, allocators and runners that it speaks of, and with what its values say of a reply and of a job. Over threads
+# it is `crew::run`. CONTRIBUTING.md says when a budget may be raised.
 OF_THE_THEOREM = (("dispatcher", "finish"), ("dispatcher", "run"), ("job_queue", None), ("floors", None), ("job_types", "at"), ("job_types", "tally"), ("job_types", "dim"))
 WHOLES = {
     "the theorem": (OF_THE_THEOREM, 320),
@@ -218,8 +217,8 @@ def sources_of(crate):
 
 @functools.cache
 def laws():
-    """Returns the names of the laws of all traits: the ghost items below a trait's last function. What an `impl` gives for a law
-    is a proof, which nobody has to believe."""
+    """Returns the names of the laws of all traits: the ghost items below a trait's last function. What an `impl` gives
+    for a law is a proof, which nobody has to believe."""
     items = [item for crate in crate_names() for file in sources_of(crate).values() for item in all_items(file)]
     return {law.name for item in items if item.kind == "trait" for law in after_functions(item.items) if law.kind == "ghost"}
 
@@ -276,8 +275,8 @@ class Source:
 
 
 def exports(files):
-    """Returns the names of the items of lib.rt and of its public modules and of what it passes on, or None for a program, all of
-    whose `pub` items count."""
+    """Returns the names of the items of lib.rt and of its public modules and of what it passes on, or None for a
+    program, all of whose `pub` items count."""
     if "lib.rt" not in files:
         return None
     lib = files["lib.rt"]

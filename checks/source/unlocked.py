@@ -1,7 +1,8 @@
-"""Shows that no lock stands in the line of jobs or in the tree: `ruled_line`, `tree_floor` and all crates of this repository below them.
+"""Shows that no lock stands in the line of jobs or in the tree: `ruled_line`, `tree_floor` and all crates of this
+repository below them.
 
-No contract says this of a call that may wait: a lock around such a call changes neither its result nor what it records. So
-this check reads the sources. It finds in them
+No contract says this of a call that may wait: a lock around such a call changes neither its result nor what it records.
+So this check reads the sources. It finds in them
 
 - a lock, a channel, a once cell or another type of the standard library that makes a thread wait for another one,
 - a crate of the toolchain that is not in ALLOWED, in the crate's line of crates.txt, without which no source can name it; the queue of
@@ -11,7 +12,7 @@ this check reads the sources. It finds in them
 - a loop with no bound (`forever`), of which a lock made by hand needs one. The floor's `take` alone has such a loop: it tries until a
   subcube is free.
 
-  checks/run unlocked [FOLDER]      of this repository, or of a copy of it
+checks/run unlocked [FOLDER] of this repository, or of a copy of it
 """
 import os
 import re

@@ -1,11 +1,12 @@
 """Puts wrong events into the tree's algorithm, each of which the law itself must refuse.
 
-Each file of checks/source/wrong-events is a change, written as a mutant is: it puts a wrong event into the definition, the code
-and the table of moves alike, so that the code meets the definition again. Its first lines name the functions that hold the event (`code:`) and the lemmas that must
-refuse it (`refused by:`). This check fails where such a function is not proved, but for one that only calls what stands on the
-law; where the law still is proved; or where anything else than these lemmas and what stands on them is refused. Each event
-stands in a copy of the crate under a name of its own, and all copies in one check, which reads what stands below them once;
-where that check does not speak of all of them, each has one of its own.
+Each file of checks/source/wrong-events is a change, written as a mutant is: it puts a wrong event into the definition,
+the code and the table of moves alike, so that the code meets the definition again. Its first lines name the functions
+that hold the event (`code:`) and the lemmas that must refuse it (`refused by:`). This check fails where such a function
+is not proved, but for one that only calls what stands on the law; where the law still is proved; or where anything else
+than these lemmas and what stands on them is refused. Each event stands in a copy of the crate under a name of its own,
+and all copies in one check, which reads what stands below them once; where that check does not speak of all of them,
+each has one of its own.
 
     checks/run wrong_events [--after-gate]
 
@@ -64,7 +65,8 @@ class Event:
         return {*self.code, self.law} <= {*names_of(self.crate, said)}
 
     def why_not(self, said):
-        """Returns why it is not refused as it must be, or nothing where it is. What is said is of its functions and of the law."""
+        """Returns why it is not refused as it must be, or nothing where it is. What is said is of its functions and of
+        the law."""
         lines, states = lines_of(said, self.crate.name), names_of(self.crate, said)
         if not self.is_told_in(said):
             errors = [it for it in lines if "error" in it][:20]

@@ -27,8 +27,8 @@ DEVICES = {
     "nothing open": ("<&- >&- 2>&-", GOOD, 3, ""),
 }
 
-# `run` at dimension 3, whose input is not waited for: what it has so far, the status, and standard error.
-# A read of what is not there yet fails, and nothing is read after a refused record.
+# `run` at dimension 3, whose input is not waited for: what it has so far, the status, and standard error. A read of
+# what is not there yet fails, and nothing is read after a refused record.
 NOT_WAITED_FOR = {
     "input that has nothing yet": ("", 3, READ),
     "input that has a good job so far": (GOOD, 3, READ),

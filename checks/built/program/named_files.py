@@ -1,5 +1,5 @@
-"""Rows of files that are named: what is read and written, and that nothing else is there in the end, against an output that is
-written in part, or is changed by a command that fails, and against a draft that stays."""
+"""Rows of files that are named: what is read and written, and that nothing else is there in the end, against an output
+that is written in part, or is changed by a command that fails, and against a draft that stays."""
 import os
 import shutil
 import tempfile
@@ -16,8 +16,8 @@ HELD = {
     "jobs.csv": GOOD, "bad.csv": BAD, "old.csv": "old\n", "place.csv": PLACED[0], "calls.csv": PLAYED[0],
     "folder/in.csv": GOOD,
 }
-# Words, after `run --dim 3` where they name no command, and the text of standard input; then the file that is new or changed, or
-# None where the reply is standard output, and its text.
+# Words, after `run --dim 3` where they name no command, and the text of standard input; then the file that is new or
+# changed, or None where the reply is standard output, and its text.
 ANSWERED = {
     "an input": ("jobs.csv", BAD, None),
     "an input before the options": ("run jobs.csv --dim 3", BAD, None),
@@ -37,8 +37,8 @@ ANSWERED = {
     "a place": ("place --dim 3 place.csv --output new.csv", "", "new.csv", PLACED[1]),
     "a replay": ("replay --dim 3 --stations 1 calls.csv --output new.csv", "", "new.csv", PLAYED[1]),
 }
-# Words and standard input, and the line of standard error: against an output that changes, or that is there, though the input is
-# refused or is not there. A fault with a file's name is one that the system has: the status is 3, and else 1.
+# Words and standard input, and the line of standard error: against an output that changes, or that is there, though the
+# input is refused or is not there. A fault with a file's name is one that the system has: the status is 3, and else 1.
 LONG = "a" * 300
 FAILED = {
     "an input by a link": ("link.csv", "", "record 0: Fields"),
@@ -136,7 +136,8 @@ def without_leave(program, words, err):
 
 
 def beside_open_input(program):
-    """Reads a named file while standard input stays open, against a command that reads standard input though FILE is given."""
+    """Reads a named file while standard input stays open, against a command that reads standard input though FILE is
+    given."""
     with tempfile.TemporaryDirectory() as folder, open_pipe() as (inner, _):
         put_in(folder, {"jobs.csv": GOOD})
         must_answer([program, *words_of("jobs.csv")], None, 0, REPLY, "", stdin=inner, timeout=10, cwd=folder)

@@ -10,8 +10,8 @@ def example(name):
 
 
 def of_stations(text, dash=""):
-    """Returns the lines of a text in which `0: a b; 1: c` is a and b of station 0, then c of station 1. A call with no argument has
-    a dash for it."""
+    """Returns the lines of a text in which `0: a b; 1: c` is a and b of station 0, then c of station 1. A call with no
+    argument has a dash for it."""
     parts = [part.partition(":") for part in text.split(";")]
     return [f"{at.strip()},{word}{'' if ',' in word else dash}" for at, _, words in parts for word in words.split()]
 
