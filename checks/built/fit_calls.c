@@ -1,15 +1,14 @@
-// Calls first fit over a caller's own bytes beside a plain model: on machines of dimension 0 to 20, random takes, releases
-// and questions, with bad arguments among them. Then each code where it must come, bytes that processes share, and
-// bytes in a file. `fit_calls CALLS` makes CALLS on each machine. It is C and C++ alike. It exits with 0, or says on standard error which call answered otherwise.
+// Calls first fit over a caller's own bytes beside a plain model: on machines of dimension 0 to 20, random takes,
+// releases and questions, with bad arguments among them. Then each code where it must come, bytes that processes share,
+// and bytes in a file. `fit_calls CALLS` makes CALLS on each machine. It is C and C++ alike. It exits with 0, or says on
+// standard error which call answered otherwise.
 #define _DEFAULT_SOURCE 1
 #include <fcntl.h>
-#include <stdio.h>
-#include <stdlib.h>
-#include <string.h>
 #include <sys/mman.h>
 #include <sys/wait.h>
 #include <unistd.h>
 
+#include "calls.h"
 #include "cubejobs.h"
 
 enum { LARGEST = 20, GUARD = 64, FILL = 0xA5 };
@@ -21,26 +20,11 @@ static struct cubejobs_fit fit;
 
 // Whether each processor is held, by the model.
 static unsigned char held[1 << LARGEST];
-static unsigned dim;
-static uint64_t seed = 88172645463325252u;
 
-static unsigned random_below(unsigned bound) {
-    seed ^= seed << 13;
-    seed ^= seed >> 7;
-    seed ^= seed << 17;
-    return (unsigned)(seed % bound);
+static void expect_of(int line, struct cubejobs_answer got, unsigned code, unsigned k, uint64_t base, const char *what) {
+    expect_at(__FILE__, line, got.code == code && got.dim == k && got.base == base, what);
 }
-
-static void expect(bool holds, const char *what) {
-    if (!holds) {
-        fprintf(stderr, "fit: dimension %u: %s\n", dim, what);
-        exit(1);
-    }
-}
-
-static void expect_answer(struct cubejobs_answer got, unsigned code, unsigned k, uint64_t base, const char *what) {
-    expect(got.code == code && got.dim == k && got.base == base, what);
-}
+#define expect_answer(got, code, k, base, what) expect_of(__LINE__, (got), (code), (k), (base), (what))
 
 // Whether all of these processors are held, or none of them.
 static bool are_all(unsigned base, unsigned k, int value) {

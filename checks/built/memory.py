@@ -1,13 +1,11 @@
 """Refuses each request for memory of `cubejobs` in turn, and each start of a thread, and reads the program's answer.
 
-For each input it runs the program, counts its requests for memory, and runs it once more for each request, with that
-one refused; for small inputs also with that one and the two after it, and with that one and all after it. The answer
-must be that of ample memory, or status 3 with `failed: record 0: OutOfMemory` on standard error and at most the first
-lines of the output. Where the command names its files, the line may name one of them instead, and the output must be
-whole or as it was. A run once more for each thread, in which that one and all later ones cannot be started, must end
-with that fault and no output. No run may hang, also where one dispatcher that gets no memory is all that empties a line
-of one job. There must be a thread for each dispatcher, and as many that feed as there are lanes or processors,
-whichever are fewer. Where the second thread that feeds cannot be started, the first one must stop feeding at once.
+For each input it runs the program once for each of its requests, with that one refused; for small inputs also with the
+two after it, and with all after it. The answer must be that of ample memory, or status 3 with OutOfMemory on standard
+error and at most the first lines of the output. A file that is named may be named there, and the output must be whole
+or as it was. A run in which a thread and all later ones cannot be started ends with that fault and no output. No run
+may hang. There must be a thread for each dispatcher, and as many that feed as there are lanes or processors, whichever
+are fewer. Where the second thread that feeds cannot be started, the first one must stop feeding at once.
 `checks/run memory FILE` tries the program FILE, with gcc.
 """
 import os

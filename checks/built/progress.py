@@ -1,11 +1,10 @@
 """Runs the built program with a terminal as standard error, and reads what it shows while it works.
 
-A long run shows how many records are read and how many replies are done, in one line that is wiped at the end. Standard
-output and what stays on the terminal are those of a run with `--quiet`. Nothing is shown for short work, with
-`--quiet`, where TERM is dumb, and where standard error is no terminal. A terminal that nobody reads, and one that is
-stopped, hold up no more of a run than a second at its end. With a terminal as standard input each command says in one
-line of standard error what it waits for, and help and a bad command line do not. `checks/run progress FILE` tries the
-program FILE.
+A long run shows how many records are read and how many replies are done, in one line that is wiped at the end; all else
+is as in a run with `--quiet`. Nothing is shown for short work, with `--quiet`, where TERM is dumb, and where standard
+error is no terminal. A terminal that nobody reads, or that is stopped, holds up a run by a second at most. With a
+terminal as standard input each command says in one line what it waits for.
+`checks/run progress FILE` tries the program FILE.
 """
 import contextlib
 import os

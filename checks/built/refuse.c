@@ -53,9 +53,7 @@ __attribute__((destructor)) static void end(void) {
 /* A program that has started threads ends so, and no destructor runs. */
 void _exit(int status) {
     end();
-    syscall(SYS_exit_group, status);
-    for (;;) {
-    }
+    for (;;) syscall(SYS_exit_group, status);
 }
 
 /* Whether this request, for so many bytes, is one to refuse. */
@@ -63,56 +61,39 @@ static int refuses(size_t size) {
     __atomic_add_fetch(&bytes_asked, size, __ATOMIC_SEQ_CST);
     unsigned long number = __atomic_add_fetch(&requests, 1, __ATOMIC_SEQ_CST);
     int is_refused = first_refused && number >= first_refused && (!most_refused || number - first_refused < most_refused);
-    if (is_refused) {
-        __atomic_add_fetch(&refusals, 1, __ATOMIC_SEQ_CST);
-    }
+    if (is_refused) __atomic_add_fetch(&refusals, 1, __ATOMIC_SEQ_CST);
     return is_refused;
 }
 
+/* The function of this name that comes after the one of this file. */
+#define REAL(name) \
+    static __typeof__(&name) real; \
+    if (!real) real = (__typeof__(&name))dlsym(RTLD_NEXT, #name)
+
 int pthread_create(pthread_t *thread, const pthread_attr_t *attributes, void *(*body)(void *), void *argument) {
-    static int (*real)(pthread_t *, const pthread_attr_t *, void *(*)(void *), void *);
-    if (!real) {
-        real = (int (*)(pthread_t *, const pthread_attr_t *, void *(*)(void *), void *))dlsym(RTLD_NEXT, "pthread_create");
-    }
+    REAL(pthread_create);
     unsigned long number = __atomic_add_fetch(&starts, 1, __ATOMIC_SEQ_CST);
-    if (first_refused_start && number >= first_refused_start) {
-        return EAGAIN;
-    }
+    if (first_refused_start && number >= first_refused_start) return EAGAIN;
     return real(thread, attributes, body, argument);
 }
 
 void *malloc(size_t size) {
-    static void *(*real)(size_t);
-    if (!real) {
-        real = (void *(*)(size_t))dlsym(RTLD_NEXT, "malloc");
-    }
+    REAL(malloc);
     void *block = refuses(size) ? NULL : real(size);
-    if (block) {
-        __atomic_add_fetch(&held, 1, __ATOMIC_SEQ_CST);
-    }
+    if (block) __atomic_add_fetch(&held, 1, __ATOMIC_SEQ_CST);
     return block;
 }
 
 void *realloc(void *block, size_t size) {
-    static void *(*real)(void *, size_t);
-    if (!real) {
-        real = (void *(*)(void *, size_t))dlsym(RTLD_NEXT, "realloc");
-    }
+    REAL(realloc);
     void *grown = refuses(size) ? NULL : real(block, size);
-    if (grown && !block) {
-        __atomic_add_fetch(&held, 1, __ATOMIC_SEQ_CST);
-    }
+    if (grown && !block) __atomic_add_fetch(&held, 1, __ATOMIC_SEQ_CST);
     return grown;
 }
 
 void free(void *block) {
-    static void (*real)(void *);
-    if (!real) {
-        real = (void (*)(void *))dlsym(RTLD_NEXT, "free");
-    }
-    if (block) {
-        __atomic_sub_fetch(&held, 1, __ATOMIC_SEQ_CST);
-    }
+    REAL(free);
+    if (block) __atomic_sub_fetch(&held, 1, __ATOMIC_SEQ_CST);
     real(block);
 }
 
@@ -125,8 +106,6 @@ static void tell(void) {
 
 ssize_t write(int file, const void *bytes, size_t length) {
     long written = syscall(SYS_write, file, bytes, length);
-    if (tells && file == 1 && written > 0 && ((const char *)bytes)[written - 1] == '\n') {
-        tell();
-    }
+    if (tells && file == 1 && written > 0 && ((const char *)bytes)[written - 1] == '\n') tell();
     return written;
 }

@@ -1,12 +1,10 @@
 """Compares the files of release/ with what was built from these sources, to the byte.
 
-`checks/run release FOLDER`, as the gate calls it, finds in FOLDER the files that were just built from nothing, under
-the names that they have in release/. Where release/ is of these sources, each of its files must be that very file, and
-need no symbol of a C library later than 2.34; else it fails. Where another build of the toolchain made release/ and
-this one makes other bytes, it names both builds and skips the comparison. Where the sources have moved on, it says how
-to renew release/, which is no failure: the launcher passes such a release over. The libraries, which cannot look what
-processor they run on, must have no instruction that an x86-64 may lack. `checks/run release --renew` proves and builds,
-and puts the files and their sums there.
+`checks/run release FOLDER` finds in FOLDER what was just built from nothing. Where release/ is of these sources, each
+of its files must be that very file, and need no symbol of a C library later than 2.34. Where another build of the
+toolchain made release/ and this one makes other bytes, the comparison is skipped. Where the sources have moved on, it
+says how to renew release/, which is no failure: the launcher passes such a release over. The libraries must have no
+instruction that an x86-64 may lack. `checks/run release --renew` proves and builds, and puts files and sums there.
 """
 import hashlib
 import os

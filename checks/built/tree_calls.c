@@ -5,9 +5,8 @@
 #include "cubejobs_tree.h"
 
 #include <pthread.h>
-#include <stdio.h>
-#include <stdlib.h>
-#include <string.h>
+
+#include "calls.h"
 
 #define THREADS 8
 #define PROCESSORS (1u << CUBEJOBS_TREE_MAX_DIM)
@@ -19,19 +18,10 @@ static unsigned long plain[PROCESSORS];
 static unsigned long pairs = 20000;
 
 static void want(int line, uint64_t got, uint64_t wanted) {
-    if (got != wanted) {
-        printf("tree_calls.c:%d: %llu, and not %llu\n", line, (unsigned long long)got, (unsigned long long)wanted);
-        exit(1);
-    }
+    if (got != wanted) fprintf(stderr, "%llu, and not %llu\n", (unsigned long long)got, (unsigned long long)wanted);
+    expect_at("tree_calls.c", line, got == wanted, "another answer");
 }
 #define WANT(got, wanted) want(__LINE__, (got), (wanted))
-
-static uint64_t next(uint64_t *seed) {
-    *seed ^= *seed << 13;
-    *seed ^= *seed >> 7;
-    *seed ^= *seed << 17;
-    return *seed;
-}
 
 /* A handle of each kind that is not an open station: nothing is done, and nothing changes. */
 static void no_station(struct cubejobs_station *handle, uint32_t code) {
@@ -68,7 +58,7 @@ static void handles(void) {
     static struct cubejobs_station one;
     struct cubejobs_cube bytes;
     struct cubejobs_station random;
-    uint64_t seed = 88172645463325252u, missing = 0;
+    uint64_t missing = 0;
     unsigned i;
     WANT(cubejobs_tree_open_version(&made, CUBEJOBS_TREE_VERSION + 1, 2, 2), CUBEJOBS_TREE_BAD_VERSION);
     WANT(cubejobs_tree_open_version(&made, CUBEJOBS_TREE_VERSION - 1, 2, 2), CUBEJOBS_TREE_BAD_VERSION);

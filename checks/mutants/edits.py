@@ -1,31 +1,26 @@
 """Tries the mutants: wrong bodies and definitions, each of which the prover must refuse.
 
-A function is proved from its own body and the contracts of what it calls, never from their bodies. So mutants of
-different functions do not help one another: many stand in one copy of a crate, and one check of that copy tells of each
-function that holds a mutant whether it is still proved. A second mutant of a function stands in a copy of the function
-under a name of its own, with a copy of its proof files, unless it is a trait's. All that one mutant can do to another
-is to hide it, and this check looks for that. The copy of the crate is read as a library by source, since of a crate
-that is checked itself each open goal is searched a second time, to print how its proof may start. Crates of which none
-stands below another are copied side by side into one check, which reads what stands below them once. A mutant of a
-definition stands alone in its copy; a line `only: FUNCTION` names a function that it is to be refused for, and without
-one all functions are proved.
+A function is proved from its own body and the contracts of what it calls. So mutants of different functions do not help
+one another: many share one copy of a crate and one check of it. A second mutant of a function stands in a copy of the
+function, with a copy of its proof files, unless it is a trait's. One mutant can only hide another, which is looked for.
+The copy of a crate is read as a library by source: of a crate that is checked itself each open goal is searched twice.
+Crates of which none stands below another share a check. A mutant of a definition stands alone in its copy; a line
+`only: FUNCTION` names a function that it is to be refused for, and without one all functions are proved.
 
     checks/run edits [--stale | --plan] [--after-gate] [--anew] [--keep FOLDER] [--from FOLDER] [CRATE | CRATE/EDIT ..]
 
-With no name it tries all mutants of edits/CRATE and crates/CRATE/must-fail, the crates side by side. --stale only sees
-that each can be applied, and takes a second. --plan shows which share a check. --after-gate takes the libraries as `rt
-ci` has just left them, so it comes before anything else builds one; without it the libraries below are built first.
-Which were refused is kept in ~/.cache/cubejobs/edits, by a sum of the mutant, this check, the toolchain, and the crate
-and all below it, as `rt ci` keeps its proofs: a later run tries a mutant again where one of these has changed, and with
---anew each. --keep puts what each check said into a folder. --from takes CRATE's mutants from FOLDER/CRATE. What is
-said of a mutant:
+With no name it tries all mutants of edits/CRATE and crates/CRATE/must-fail. --stale only sees that each can be applied.
+--plan shows which share a check. --after-gate takes the libraries below as `rt ci` has just left them; without it they
+are built first. What was refused is kept in ~/.cache/cubejobs/edits, by a sum of all that the verdict stands on, and
+with --anew each is tried. --keep puts what each check said into a folder. --from takes CRATE's mutants from
+FOLDER/CRATE. What is said of a mutant:
 
     refused   its function has a goal of its own that is not proved, or that its proof file does not meet
     PROVED    the prover let it through
     NAMES     it is refused, but only since a proof file names what the mutant took away, which says little
     BAD       it cannot be applied, the front end does not read it, or the check does not speak of its function
 
-The last line counts them. The status is 1 unless each is refused and no function without a mutant is.
+The status is 0 where each is refused and no function without a mutant is.
 """
 import argparse
 import os

@@ -1,13 +1,10 @@
-"""Tests `edits`, which judges mutants, and the reader of sources under it: mutants of `region_bits` and of `pause`
-whose verdicts are known must be told so.
+"""Tests `edits`, which judges mutants, and the reader of sources under it: mutants of known verdicts must be told so.
 
-One mutant is a wrong body. One changes nothing, in a function that calls the wrong one, so that it is hidden in their
-common check; one has a name that does not exist, so that the front end refuses the check of all; one is right, and only
-the proof misses a name; one is stale. Three stand in functions that hold another one, so that each pair has a copy: a
-wrong body, one that changes nothing, and one in a function with a proof file. The check of the wrong body tells its
-open goal, and does not search it again. The two of `pause` stand in the check of the others, and neither crate's
-verdicts are the other's. Two mutants of a definition name the function that is proved over it: one that it is refused
-for, and one that does not read it. Words given here are passed on to `edits`.
+Of `region_bits` one is a wrong body; one changes nothing, in a function that calls the wrong one, so that it is hidden
+in their common check; one has a name that does not exist, so that the front end refuses the check of all; one is right,
+and only the proof misses a name; one is stale. Three stand in functions that hold another one, so each pair has a copy.
+Two of `pause` stand in the same check, and neither crate's verdicts are the other's. Two of a definition name the
+function that is proved over it, of which one does not read it. Words given here are passed on to `edits`.
 """
 import os
 import re

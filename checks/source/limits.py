@@ -1,12 +1,10 @@
-"""Fails where a source, a definition or a proof writes the number of a limit in the place of its name, or another file
-a wrong one.
+"""Fails where a source, a definition or a proof writes the number of a limit in the place of its name.
 
-It reads the limits of crates/cube_shape and crates/region_bits (src/limits.rt), and looks through src, specs and proofs
-of all crates for each literal that is such a number, or `2^MAX_DIM`, `2^(MAX_DIM + 1)` or `2^MAX_BITS_DIM`, or one less
-or more, in whatever form: `1024`, `0x400`, `1 << 10`, `2 ^ 10`. Comments do not count, nor do tests and what they
-share, whose rows are worked by hand. OTHERS says what else such a number may be; an entry that no literal needs fails
-too, and so does a limit without a sentence of its own. What C, Rust, the page and a reader are told of the limits
-stands in files that cannot name them: WRITTEN says where, and each of these numbers must be that of its limit.
+It reads the limits (src/limits.rt of cube_shape and region_bits), and looks in all crates for each literal that is such
+a number or a power of interest, or one less or more, in whatever form: `1024`, `0x400`, `1 << 10`. Comments do not
+count, nor do tests, whose rows are worked by hand. OTHERS says what else such a number may be; an entry that no literal
+needs fails too, and so does a limit without a sentence. C, Rust, the page and documents cannot name a limit: WRITTEN
+says where they write it out, and each of these numbers must be that of its limit.
 """
 import re
 

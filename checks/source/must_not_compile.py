@@ -1,21 +1,11 @@
-"""Shows what the types refuse: handles of a running tree that are dropped or used twice, takes of it under a lock,
-lines that end early, and ends of workers that a caller puts together.
+"""Shows what the types refuse: the compiler must refuse each wrong function by the error named with it, and no other.
 
-The functions below are put into a small crate over `cube_tree`. The compiler must refuse each of the wrong ones by the
-error named with it, and none of those beside them, which end all that they are given. The calls of the tree are lent no
-runtime, and a lock cannot be taken without one: so no such call takes a lock. One that is lent a runtime could.
-
-Others are put into `ruled_line`, beside the calls of the line with no lock. What its `take` answers where the line has
-ended can be had only from a pop that found the ring empty after a reading that sealed the line: neither from the
-reading alone, nor from an earlier pop, nor from nothing; and neither the reading nor a pop may be let go. An entry can
-be settled only by what its push answered, and a push wants an entry that came before the close: so no call settles
-before it pushes, none pushes before it enters, and neither an entry nor what came of its push may be let go or used
-twice.
-
-A third list stands over `dispatcher`: a caller reads the end of a worker and the close note, and can neither make one,
-nor put other replies into one, nor take one apart for its pass or its station. Nothing is proved of these functions: a
-check that is asked for no function reads the crate and holds it to the types. With --after-gate the libraries below are
-taken as `rt ci` has just left them, and without it they are built first.
+Handles of a running tree cannot be dropped or used twice. Its calls are lent no runtime, without which no lock can be
+taken. Of the line with no lock, an end can be had only from a pop that found the ring empty after a reading that sealed
+the line; an entry can be settled only by what its push answered, and a push wants an entry that came before the close.
+A caller reads the end of a worker and the close note of a shop, and can neither make nor change one. Nothing is proved
+of these functions: a check that is asked for none reads the crate and holds it to the types.
+`checks/run must_not_compile [--after-gate]` takes the libraries below as `rt ci` has left them, or builds them first.
 """
 import copy
 import re

@@ -1,21 +1,19 @@
 """Measures the believed surface: the definitions that the public contracts cite, directly or through others.
 
 It reads the contracts of the public items in crates/*/src and the definitions in crates/*/specs, and counts the
-definitions and lines of that closure. Comments, blank lines and imports are no lines. It fails where
-docs/DEFINITIONS.md does not name a definition of the closure in its crate's section, where the first column of its
-tables names what is not there, where a library does not pass on a definition of a crate below that its public clauses
-cite (`pub use` in its specs/Lib.antt, of the name or of its module), and where what the theorem or the program reaches,
-counted over all crates below it, has more lines than its budget. It lists the definitions that no public contract
-reaches: their place is among the proofs, or in a folder `inner` or a file `Inner*.antt`.
+definitions and lines of that closure, without comments, blank lines and imports. It fails where docs/DEFINITIONS.md
+does not name a definition of the closure in its crate's section, or names what is not there; where a library does not
+pass on a definition of a crate below that its public clauses cite (`pub use` in its specs/Lib.antt, of the name or of
+its module); and where what the theorem or the program reaches has more lines than its budget. The definitions that no
+public contract reaches belong among the proofs, or into a folder `inner` or a file `Inner*.antt`.
 
-checks/run surface the table, and what fails checks/run surface --list CRATE the crate's definitions of the closure,
-each after those that it cites checks/run surface --missing the definitions that docs/DEFINITIONS.md does not name
-checks/run surface --unreached the definitions that no public contract reaches
+  checks/run surface                  the table, and what fails
+  checks/run surface --list CRATE     the crate's definitions of the closure, each after those that it cites
+  checks/run surface --missing        the definitions that docs/DEFINITIONS.md does not name
+  checks/run surface --unreached      the definitions that no public contract reaches
 
-The invariants of types with a model are no part of it: no caller sees the private fields of which they speak. With
-`--invariants` they are counted too.
-
-Nor are the proofs that an `impl` gives for the laws of its trait: the law itself counts, in the trait.
+The invariants of types with a model count with `--invariants` alone: no caller sees the private fields of which they
+speak. Nor do the proofs that an `impl` gives for the laws of its trait: the law itself counts, in the trait.
 """
 import functools
 import os

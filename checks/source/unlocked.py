@@ -1,18 +1,14 @@
-"""Shows that no lock stands in the line of jobs or in the tree: `ruled_line`, `tree_floor` and all crates of this
-repository below them.
+"""Finds locks in the sources of the queue and of the tree: `ruled_line`, `tree_floor` and all crates below them.
 
-No contract says this of a call that may wait: a lock around such a call changes neither its result nor what it records.
-So this check reads the sources. It finds in them
+No contract says this of a call that may wait: a lock around it changes neither its result nor what it records. It finds
 
 - a lock, a channel, a once cell or another type of the standard library that makes a thread wait for another one,
-- a crate of the toolchain that is not in ALLOWED, in the crate's line of crates.txt, without which no source can name it; the queue of
-  `crossbeam_queue` has no lock, but a push or a pop of it may wait for another one that is under way; of `crossbeam_utils` the
-  sources may name `Backoff` alone, which spins and yields,
+- a crate of the toolchain that is not in ALLOWED, in the crate's line of crates.txt; the queue of `crossbeam_queue` has
+  no lock, but a push or a pop may wait for another one; of `crossbeam_utils` sources may name `Backoff` alone,
 - the repository's `locked_cell`, of which its locked line and floor are made, and
-- a loop with no bound (`forever`), of which a lock made by hand needs one. The floor's `take` alone has such a loop: it tries until a
-  subcube is free.
+- a loop with no bound (`forever`), of which a lock made by hand needs one; the floor's `take` alone has such a loop.
 
-checks/run unlocked [FOLDER] of this repository, or of a copy of it
+`checks/run unlocked [FOLDER]` reads this repository, or a copy of it.
 """
 import os
 import re

@@ -1,11 +1,9 @@
 """Fails where one word has two senses: a public type whose name stands in two crates, or a word of docs/GLOSSARY.md
 with two entries.
 
-It reads the types that each crates/*/src/lib.rt makes public (not those that it passes on from another crate), and the
-first column of the glossary's tables. ALLOWED says which crates may share a name, and why; an entry that is not needed
-fails too. Bare, the names of NOBODYS belong to no crate, unless an entry allows it.
-
-checks/run words [FOLDER] of this repository, or of a copy of it
+It reads the types that each library makes public and has itself, and the first column of the glossary's tables. ALLOWED
+says which crates may share a name, and why; an entry that is not needed fails too. Bare, the names of NOBODYS belong to
+no crate. `checks/run words [FOLDER]` reads this repository, or a copy of it.
 """
 import glob
 import os

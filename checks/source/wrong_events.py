@@ -4,13 +4,8 @@ Each file of checks/source/wrong-events is a change, written as a mutant is: it 
 the code and the table of moves alike, so that the code meets the definition again. Its first lines name the functions
 that hold the event (`code:`) and the lemmas that must refuse it (`refused by:`). This check fails where such a function
 is not proved, but for one that only calls what stands on the law; where the law still is proved; or where anything else
-than these lemmas and what stands on them is refused. Each event stands in a copy of the crate under a name of its own,
-and all copies in one check, which reads what stands below them once; where that check does not speak of all of them,
-each has one of its own.
-
-    checks/run wrong_events [--after-gate]
-
-With --after-gate the libraries below are taken as `rt ci` has just left them, and without it they are built first.
+than these lemmas and what stands on them is refused. Each event stands in a copy of the crate, and all copies in one
+check. `checks/run wrong_events [--after-gate]` takes the libraries below as `rt ci` has left them, or builds them.
 """
 import copy
 import re
