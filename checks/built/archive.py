@@ -73,7 +73,6 @@ class Object:
 
 
 def make(name, out, room):
-    """Writes the library `name` to the file `out`."""
     tools = f"{kit().KIT}/toolchain/bin"
     archives = [path("crates", name, "out", f"lib{name}.a"), f"{kit().KIT}/c/liblibc_c.a"]
     whole = f"{room}/{name}.o"

@@ -48,7 +48,6 @@ def build(crate, after_gate):
 
 
 def compiled(room, compiler, source, libraries, *flags):
-    """Compiles a program over libraries, and returns its file."""
     has = shutil.which(compiler[0])
     if not has or compiler[0] == "clang" and answer([*compiler, "-o", "/dev/null", "-"], "int main(void) { return 0; }")[0]:
         raise Skipped(f"no {' '.join(compiler)} here")

@@ -107,7 +107,6 @@ print(seen, read)
 
 
 def take_names():
-    """Takes the first 1,500 names of this very process."""
     for number in range(1500):
         with open(f"{TEMPORARY}{os.getpid()}-{number}.part", "x", encoding="utf-8") as file:
             file.write("not of this run, and longer than what is written\n" * 9)
@@ -188,7 +187,7 @@ class Parts(Files):
         must((status, errors) == (0, b""), f"status {status}, {errors}")
         must_hold(os.path.join(folder, "new.csv"), REPLIES, "the output is not whole")
         sizes = [os.path.getsize(os.path.join(folder, name)) for name in left_over(folder)]
-        must(sizes == [49 * 9] * 1500, f"{len(sizes)} of 1500 other self are left, or one was changed")
+        must(sizes == [49 * 9] * 1500, f"{len(sizes)} of 1500 other files are left, or one was changed")
 
     def follows_links(self):
         """A link stays one, and its target is replaced or created, also where it lies in another folder."""
@@ -289,7 +288,7 @@ class Parts(Files):
         must(not left_over(folder), "a temporary file is left")
 
     def is_refused_a_rename(self):
-        """A file of another user, who lets all write to it, in a folder where each may rename his own self alone."""
+        """A file of another user, who lets all write to it, in a folder where each may rename his own files alone."""
         needs_two_users()
         folder = self.folder(mode=0o1777, owner=(OTHER_USER, OTHER_GROUP))
         file = os.path.join(folder, "his.csv")

@@ -38,7 +38,6 @@ def source(folder, names, language):
 
 
 def refusal(folder, compiler, standard, names, flags=()):
-    """Returns what a compiler says against these headers, or nothing."""
     language = COMPILERS[compiler][0]
     words = [compiler, f"-std={standard}", *WARNINGS, *flags, "-O1", "-I", folder, "-x", language, "-c", "-", "-o", "/dev/null"]
     status, _, said = answer(words, source(folder, names, language), text=True)

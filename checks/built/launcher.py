@@ -83,7 +83,6 @@ class Clone:
         return os.path.join(self.folder, name)
 
     def plan(self, *words):
-        """Says what the next builds do."""
         write(f"{self.fake}/plan", "\n".join(words) + "\n")
 
     def write(self, name, text):
@@ -91,7 +90,6 @@ class Clone:
             file.write(text)
 
     def go(self):
-        """Lets a stand-in that waits go on."""
         write(f"{self.fake}/go", "")
 
     def calls(self):
@@ -101,7 +99,6 @@ class Clone:
         return [(int(line[0]), line[1]) for line in lines]
 
     def builds(self):
-        """Returns how often a program was built."""
         return [crate for _, crate in self.calls()].count("jobs_cli")
 
     def release(self, program="echo \"released: $*\"", sources=None, sum_of=None, head="#!/bin/sh\n"):
@@ -114,7 +111,6 @@ class Clone:
         self.write("release/linux-x86_64/SHA256SUMS", sums)
 
     def sources(self):
-        """Returns the checksum of the sources, as a build notes it."""
         self.run("--prove")
         return read(self.at("out/cubejobs.sources")).strip()
 
@@ -128,7 +124,6 @@ class Clone:
         return started
 
     def end(self):
-        """Ends all that was started, with the children of each."""
         for started in self.started:
             with contextlib.suppress(ProcessLookupError):
                 os.killpg(started.pid, signal.SIGKILL)
@@ -174,7 +169,6 @@ def sentences(err):
 
 
 def line_with(started, text):
-    """Returns the next line of standard error that has this text, as soon as it is there."""
     seen, limit = "", time.monotonic() + PATIENCE
     while time.monotonic() < limit:
         if select.select([started.stderr], [], [], 0.1)[0]:
@@ -246,7 +240,6 @@ READING = "find crates.txt crates/*/src crates/*/specs crates/*/proofs -type f -
 
 
 def least_seconds(act, *words, **how):
-    """Returns the least processor time of the children that ten calls of `act` start and wait for."""
     costs = []
     for _ in range(10):
         before = resource.getrusage(resource.RUSAGE_CHILDREN)
@@ -552,7 +545,7 @@ class Situations(Clone):
         refuses(self.run("--version"), "out cannot be written")
 
     def as_nobody(self, *words):
-        """Returns the answer where the self cannot be written."""
+        """Returns the answer where the clone cannot be written."""
         wrapped = []
         for at, _, _ in os.walk(self.room):
             os.chmod(at, 0o555 if at.startswith(self.folder) else 0o777)
@@ -620,7 +613,6 @@ class Situations(Clone):
 
 
 def in_a_clone(situation, launcher):
-    """Tries a situation in a clone of its own."""
     with tempfile.TemporaryDirectory(prefix="launcher-") as room:
         clone = Situations(room, launcher)
         try:

@@ -15,14 +15,12 @@ COMMAND = re.compile(r"^  (\w+) +\S.*$", re.M)
 
 
 def output(built, *words):
-    """Returns what the program shows for these words."""
     status, out, err = answer([built, *words], "", text=True)
     must(status == 0 and not err, f"{' '.join(words)}: status {status}, errors {err[:200]!r}")
     return out
 
 
 def helps(built):
-    """Returns the help of the program and of each of its commands, by their names."""
     shown = {"": output(built, "--help")}
     listed = shown[""].partition("Commands:\n")[2].partition("\n\n")[0]
     shown.update({name: output(built, name, "--help") for name in COMMAND.findall(listed) if name != "help"})

@@ -39,7 +39,6 @@ def row(lane, kind, items):
 
 
 def jobs(count, lanes):
-    """Returns a file of jobs of these lanes and of all kinds and sizes."""
     rows = (row(at % lanes, KINDS[at % len(KINDS)], range(2 ** ((at + at // 5) % 5))) for at in range(count))
     return (HEADER + "".join(rows)).encode()
 
@@ -73,8 +72,6 @@ def inputs():
 
 
 class Command:
-    """A command of the program on some input, in a folder of its own."""
-
     def __init__(self, built, arguments, text, folder, shims):
         self.words, self.text, self.folder, self.shims = [built, *arguments.split()], text, folder, shims
         self.names_input, self.names_output = INPUT_FILE in self.words, OUTPUT_FILE in self.words
@@ -99,13 +96,11 @@ class Command:
         return got if not self.names_output else (got[0], got[1] + read_bytes(self.path(OUTPUT_FILE)), got[2])
 
     def may_fail_by(self, got, wanted):
-        """Answers whether this is an answer of a command that got too little memory."""
         errors = [WANT, *WANT_OF_FILE[:1][: self.names_input], *WANT_OF_FILE[1:][: self.names_output]]
         is_kept = got[1] == OLD if self.names_output else wanted[1].startswith(got[1])
         return got[0] == 3 and got[2] in errors and is_kept
 
     def counted(self):
-        """Returns how many requests for memory and starts of threads there were, and for how many bytes."""
         return [int(number) for number in read_bytes(self.path("count")).split()]
 
     def threads(self):
@@ -119,7 +114,6 @@ class Command:
 
 
 def refuse_each(built, shims, arguments, text, counts):
-    """Refuses each request and each thread of a command."""
     with tempfile.TemporaryDirectory() as folder:
         command = Command(built, arguments, text, folder, shims)
         wanted = command.run(0)

@@ -109,7 +109,6 @@ failed = []
 
 
 def expect(holds, what):
-    """Notes a fault unless this holds."""
     if not holds:
         failed.append(what)
 
@@ -126,7 +125,6 @@ def page_in_node(asked):
 
 
 def output(built, words, lines):
-    """Returns what the program writes for these lines."""
     status, out, err = answer([built, *words.split()], "\n".join(lines) + "\n", text=True)
     must(status == 0, f"{words}: status {status}: {err}")
     return out
@@ -188,7 +186,6 @@ class Schedule:
 
 
 def compare_place(text, shown):
-    """Compares who holds what after each command, by the rows alone."""
     held = {}
     for number, row in enumerate(text.splitlines()[1:], 1):
         _, name, dim, base, outcome = row.split(",")
@@ -220,7 +217,6 @@ def check_pictures(schedules, draws):
 
 
 def check_browser(browser, schedules):
-    """Opens the page itself at some events of each schedule."""
     for one in schedules:
         shown = page_in_node([{"text": one.text, "n": one.n}])[0]["shown"]
         for event in (0, 1, one.event or 2, len(one.rows)):

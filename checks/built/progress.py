@@ -30,7 +30,6 @@ COUNTED = re.compile(rb"\r(?:(\d+) records read|(\d+) of (\d+) replies done)")
 
 
 def jobs(count, last=""):
-    """Returns a file of this many jobs of two items each, and a last record."""
     return (HEADER + "".join(f"{number % 16},allreduce,add,0,{number} 1\n" for number in range(count)) + last).encode()
 
 
@@ -58,7 +57,6 @@ class Terminal:
         return started
 
     def fill(self):
-        """Writes until the terminal takes no more."""
         os.set_blocking(self.slave, False)
         with contextlib.suppress(BlockingIOError):
             while os.write(self.slave, b"." * 100):
@@ -66,7 +64,6 @@ class Terminal:
         os.set_blocking(self.slave, True)
 
     def await_count(self, line):
-        """Waits until the terminal was sent this line."""
         end = time.monotonic() + SHOWN_WITHIN
         while line not in self.sent:
             must(time.monotonic() < end, f"the terminal was not sent {line}, but {self.sent[-60:]}")
@@ -231,7 +228,6 @@ TYPED = {
 
 
 def typed_answer(built, words, typed):
-    """Runs a command with a terminal as standard input, at which this is typed."""
     master, slave = pty.openpty()
     os.write(master, typed)
     try:

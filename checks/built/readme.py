@@ -46,7 +46,6 @@ def pages(pattern):
 
 
 def commands(document):
-    """Yields each command of a document with the lines that it shows."""
     for block in BLOCK.findall(read(document)):
         for piece in re.split(r"^\$ ", block, flags=re.M)[1:]:
             command, _, shown = piece.partition("\n")
@@ -59,7 +58,6 @@ def anchors(text):
 
 
 def links_of(page):
-    """Yields the relative links of a page: the file and the heading."""
     for link in LINK.findall(FENCED.sub("", read(page))):
         if not re.match(r"[a-z]+:", link):
             file, _, anchor = link.partition("#")
@@ -67,7 +65,6 @@ def links_of(page):
 
 
 def must_be_followed(documents):
-    """Follows each relative link of these pages."""
     links = [(page, *link) for page in documents for link in links_of(page)]
     broken = [f"{page}: there is no {file}" for page, file, _ in links if not os.path.exists(path(file))]
     there = [(page, file, anchor) for page, file, anchor in links if anchor and os.path.exists(path(file))]

@@ -48,7 +48,6 @@ RUNS.update({("shop", shop, str(jobs)): shop_calls(jobs) for shop in ("free", "l
 
 
 def told(out):
-    """Returns the lines of a run, each with the requests and the refusals up to it, and the blocks that are held."""
     lines = out.decode().split("\n")
     must(lines.pop() == "" and len(lines) % 2 == 0, f"output {lines[-2:]}")
     counts = [tuple(int(word) for word in line.split()[1:]) for line in lines[1::2]]

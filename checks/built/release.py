@@ -52,7 +52,6 @@ NOT_EVERYWHERE = bytes.fromhex("660f3829c1")
 
 
 def build_here():
-    """Returns the build of the toolchain that is here."""
     return subprocess.run(["rt", "version"], stdout=subprocess.PIPE, text=True, check=True).stdout.split()[0]
 
 
@@ -61,8 +60,6 @@ def sum_of(data):
 
 
 class Release:
-    """A folder with the files that are shipped, and SHA256SUMS."""
-
     def __init__(self, folder):
         self.folder, self.sums = folder, os.path.join(folder, "SHA256SUMS")
 
@@ -75,7 +72,6 @@ class Release:
         return read_bytes(self.folder, name)
 
     def take(self, files):
-        """Puts files here, and their sums."""
         os.makedirs(self.folder, exist_ok=True)
         version = subprocess.run([files["cubejobs"], "--version"], stdout=subprocess.PIPE, text=True, check=True).stdout.split()[1]
         for name, file in files.items():
@@ -118,7 +114,6 @@ class Release:
         return wrong + [*lacking(self.folder)], skipped
 
     def change(self, name, at, new):
-        """Changes a file from the byte `at` on."""
         data = bytearray(self.bytes_of(name))
         data[at : at + len(new)] = new
         with open(os.path.join(self.folder, name), "wb") as file:
@@ -126,7 +121,6 @@ class Release:
 
 
 def newest_symbol(data):
-    """Returns the newest version of the C library whose symbols a file needs."""
     return max([(int(a), int(b)) for a, b in re.findall(rb"GLIBC_(\d+)\.(\d+)", data)], default=(0, 0))
 
 
@@ -157,7 +151,6 @@ def stale_copies():
 
 
 def renew():
-    """Proves and builds, and puts the files and their sums into release/."""
     subprocess.run([path("cubejobs"), "--prove"], check=True)
     for crate in archive.LIBRARIES:
         subprocess.run(["rt", "lib", *FOR_ANY], cwd=path("crates", crate), check=True, stdout=subprocess.DEVNULL)
@@ -209,7 +202,6 @@ def not_seen_of_instructions(release, built):
 
 
 def compare(built):
-    """Compares release/ with what was built. Returns what is wrong."""
     release, wrong = Release(RELEASE), [*lacking(built), *stale_copies()]
     if release.said("sources") != sum_of_sources():
         print("release: the files of release/ are of other sources; to renew them: checks/run release --renew")

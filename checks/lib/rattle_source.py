@@ -114,12 +114,10 @@ def owner_of(head):
 
 
 def last_name(path):
-    """Returns the last name of a path, without its arguments."""
     return re.findall(r"\w+", re.sub(r"<.*", "", path.strip(" \n&"), flags=re.S))[-1]
 
 
 def module_of(file):
-    """Returns the names of the module that a file below src/ is."""
     return [it for it in file[len("src/") : -len(".rt")].split("/") if it not in ("lib", "main", "mod")]
 
 
@@ -170,7 +168,6 @@ def read_items(clean, file, module, around=None, at=0, end=None):
 
 
 def items_in(file, text):
-    """Returns the items of a file, each with those inside it."""
     return read_items(blanked(text), file, module_of(file))
 
 

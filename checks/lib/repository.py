@@ -16,13 +16,11 @@ def path(*names):
 
 
 def read(*names):
-    """Returns the text of a file."""
     with open(path(*names), encoding="utf-8") as file:
         return file.read()
 
 
 def read_bytes(*names):
-    """Returns the bytes of a file."""
     with open(path(*names), "rb") as file:
         return file.read()
 

@@ -24,7 +24,6 @@ class Row(NamedTuple):
 
 
 def title(function):
-    """Returns the name of a function as words."""
     return function.__name__.replace("_", " ")
 
 
@@ -34,7 +33,6 @@ def methods(kind):
 
 
 def must(holds, what):
-    """Fails the row unless this holds."""
     if not holds:
         raise Wrong(what)
 
@@ -70,7 +68,6 @@ def run_rows(check, rows, says_ok=False):
 
 
 def print_faults(faults):
-    """Prints what is wrong, one fault a line. Returns the status of the check."""
     faults = list(faults)
     for fault in faults:
         print(f"FAILED: {fault}")
@@ -78,7 +75,6 @@ def print_faults(faults):
 
 
 def shown(data):
-    """Returns the start of a text, as it is shown."""
     return f"{data[:200]!r}{' ..' if len(data) > 200 else ''}"
 
 

@@ -18,7 +18,6 @@ PROGRAM = "crates/jobs_cli/out/jobs_cli"
 
 
 def kit():
-    """Returns the toolchain's own library."""
     if "rtlib" not in sys.modules:
         rt = shutil.which("rt") or sys.exit("rt is not on PATH")
         loader = importlib.machinery.SourceFileLoader("rtlib", os.path.join(os.path.dirname(os.path.realpath(rt)), "rtlib.py"))
@@ -28,7 +27,6 @@ def kit():
 
 
 def crates(root=ROOT):
-    """Returns the crates of this repository by their names."""
     return {it.name: it for it in kit().crates_below(root)}
 
 
@@ -60,7 +58,6 @@ def program(words):
 
 
 def gcc(source, out, *flags):
-    """Compiles a C program of `checks/built` with no warning."""
     words = ["gcc", "-O1", "-Wall", "-Wextra", "-Werror", *flags, path("checks", "built", source), "-o", out]
     subprocess.run(words, check=True)
     return out

@@ -69,7 +69,6 @@ def words_of(crates, room):
 
 
 def put_copies(turn, room):
-    """Writes the copies of crates with the texts of their batches."""
     for crate, batch in turn:
         for part in PARTS:
             shutil.rmtree(f"{room}/{crate.name}/{part}", ignore_errors=True)
@@ -128,7 +127,6 @@ def turns_in(left):
 
 
 def try_track(track, options, tally):
-    """Tries the mutants of crates of which none stands below another."""
     with tempfile.TemporaryDirectory(prefix="edits-") as room:
         os.mkdir(f"{room}/kept")
         left = [(crate, list(batches), texts) for crate, batches, texts in track]
@@ -162,7 +160,6 @@ def tracks_of(work):
 
 
 def lanes():
-    """Returns how many checks run side by side."""
     free = 1024 * int(re.search(r"MemAvailable:\s+(\d+)", read("/proc/meminfo"))[1])
     return max(1, min(len(os.sched_getaffinity(0)), free // CHECK_BYTES))
 
@@ -188,7 +185,6 @@ def work_of(options, tally):
 
 
 def show_plan(work, options, tally):
-    """Prints which mutants share a check, and returns 1 where one cannot be applied."""
     turns = [turn for track in tracks_of(work) for turn in turns_in([(crate, list(them), texts) for crate, them, texts in track])]
     for number, turn in enumerate(turns if options.plan else (), 1):
         for crate, batch in turn:

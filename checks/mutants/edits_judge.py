@@ -64,7 +64,6 @@ def judged(folder, *words):
 
 
 def plant(folder):
-    """Writes the mutants to the folder."""
     for name, (file, old, new, _, *only) in PLANTED.items():
         write(f"{folder}/{name}.edit", f"file: {file}\nold: {old}\nnew: {new}\n" + "".join(f"only: {it}\n" for it in only))
 

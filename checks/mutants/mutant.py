@@ -29,7 +29,6 @@ def names_for(function, crate, names):
 
 
 def texts_of(folder):
-    """Returns the texts of a crate by their paths in its folder."""
     return {os.path.relpath(file, folder): read(file) for part in PARTS for file in files_below(f"{folder}/{part}", "")}
 
 
@@ -153,7 +152,6 @@ class Batch:
 
 
 def edits_of(crate, texts, folder=None):
-    """Returns the mutants of a crate, or those that a folder has for it."""
     places = [f"{folder}/{crate}"] if folder else [path(MUTANTS, crate), path("crates", crate, "must-fail")]
     return [Edit(file, texts) for at in places for file in files_below(at, ".edit")]
 

@@ -17,7 +17,6 @@ IN_A_PART = re.compile(rf"(?:note: )?(?:\./)?(?:{'|'.join(PARTS)})/\S+:\d+:\d+: 
 
 
 def names_of(crate, said):
-    """Returns what a check says of each function of a crate."""
     return {it[0]: it[1:] for it in NAMED.findall(said) if it[0].startswith(f"{crate.name}::")}
 
 
@@ -99,14 +98,12 @@ class Kept:
         return os.path.join(self.folder, hashlib.sha256(named.encode()).hexdigest())
 
     def reason(self, crate, edit):
-        """Returns why it was refused, or None where it is to be tried."""
         try:
             return read(self.file(crate, edit)) if self.is_used else None
         except OSError:
             return None
 
     def keep(self, crate, edit, reason):
-        """Keeps it where that can be done."""
         try:
             os.makedirs(self.folder, exist_ok=True)
             with tempfile.NamedTemporaryFile("w", dir=self.folder, encoding="utf-8", delete=False) as it:
@@ -128,7 +125,6 @@ class Tally:
             print(f"{crate}/{edit}: {word}: {reason}", flush=True)
 
     def told_before(self, crate, edit):
-        """Answers whether an earlier run saw it refused, which then is told again."""
         reason = self.kept.reason(crate, edit)
         if reason is not None:
             self.of_earlier += 1

@@ -69,7 +69,6 @@ def item(file, head):
 
 
 def caller(name):
-    """Returns the source of a caller, without the sentence that opens its file."""
     file, _, head = name.partition("#")
     return item(file, head) if head else OPENING.sub("", read("crates", file))
 
@@ -79,7 +78,6 @@ def page_of(crate):
 
 
 def uncalled():
-    """Yields what is wrong with the list of libraries itself."""
     for crate in sorted({*crate_names()} - {*NO_LIBRARIES, *QUOTES, *UNCALLED}):
         yield f"crates/{crate} has no caller in its CALLING.md"
     for crate in sorted({*QUOTES, *UNCALLED} & {*NO_LIBRARIES} | {*UNCALLED} & {*QUOTES}):
@@ -90,7 +88,6 @@ def uncalled():
 
 
 def misnamed(where, names, text):
-    """Yields what is wrong with the files that the page names, and with its quotes as such."""
     for file in NAMED.findall(text):
         if not os.path.exists(path(file)):
             yield f"{where} names {file}, which does not exist"

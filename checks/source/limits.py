@@ -66,7 +66,6 @@ LITERAL = re.compile(rf"(?<![\w\-])(?<!(?<!\.)\.){POWER}(?P<digits>0[xob][\da-fA
 
 
 def value(match):
-    """Returns the number that a literal is, with its power."""
     digits = match["digits"].replace("_", "")
     number = int(digits) if digits.isdecimal() else int(digits, 0)
     if match["sign"] is None:
@@ -89,7 +88,6 @@ def named_numbers():
 
 
 def miswritten(words):
-    """Yields what is wrong with the numbers that stand in files which cannot name a limit."""
     for file, pattern, name in WRITTEN:
         found = re.findall(pattern, read(file))
         if len(found) != 1:

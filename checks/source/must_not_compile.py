@@ -164,7 +164,6 @@ def must_refuse(functions, places, found, said):
 
 
 def in_a_library(known, uses, head, functions):
-    """Compiles functions in a library of their own."""
     with tempfile.TemporaryDirectory() as folder:
         text, lines = source(functions, head)
         write(f"{folder}/src/lib.rt", text)
@@ -173,7 +172,6 @@ def in_a_library(known, uses, head, functions):
 
 
 def in_the_line(known, wrong):
-    """Compiles functions in the files of the line with no lock."""
     line, places = known["ruled_line"], {}
     with tempfile.TemporaryDirectory() as folder:
         for part in ("src", "specs", "proofs"):

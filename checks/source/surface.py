@@ -62,7 +62,6 @@ class Scope:
         self.parent, self.names, self.passed_on, self.globs, self.globs_passed_on = parent, {}, {}, [], []
 
     def take(self, text):
-        """Takes an import."""
         found = IMPORT.match(" ".join(text.split()))
         if not found or not found["path"].startswith("Rattle."):
             return
@@ -101,8 +100,6 @@ class Scope:
 
 
 class Specs:
-    """All definitions of the repository, by module and name."""
-
     def __init__(self):
         self.modules, self.scopes = {}, {}
         for crate in crate_names():
@@ -153,7 +150,6 @@ class Specs:
         return self.at((above, last), (*seen, target)) if above.startswith("Rattle.") and ".specs" in above else None
 
     def passes_on(self, crate, definition):
-        """Whether a crate passes on a definition of a crate below: by its name, or with its module."""
         lib = f"Rattle.{crate}.specs"
         modules = self.scopes[lib].passed_on.values() if lib in self.scopes else ()
         return self.at((lib, definition.name)) is definition or definition.module in map(".".join, modules)
@@ -222,7 +218,6 @@ def laws():
 
 
 def after_functions(items):
-    """Returns the items of a trait after its last function."""
     return items[1 + max((at for at, item in enumerate(items) if item.kind == "fn"), default=-1) :]
 
 
@@ -368,7 +363,6 @@ def print_all(definitions):
 
 
 def print_report(surface):
-    """Prints the table and what fails, and returns the status."""
     for name, *numbers in surface.table():
         print(f"{name:14}" + "".join(f"{number:>12}" for number in numbers))
     for it in surface.unreached:

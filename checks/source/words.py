@@ -33,7 +33,6 @@ ALLOWED = {
 
 
 def types_in(items):
-    """Returns the names of the public types among these items and inside them."""
     return {item.name for item in all_items(items) if item.is_public and item.kind in TYPES}
 
 
@@ -51,7 +50,6 @@ def public_types(source):
 
 
 def homes(root):
-    """Returns the crates that have a public type of each name."""
     found = {}
     for library in sorted(glob.glob(f"{root}/crates/*/src/lib.rt")):
         source = os.path.dirname(library)
@@ -61,7 +59,6 @@ def homes(root):
 
 
 def type_faults(found):
-    """Yields what is wrong with the names of public types, and with the entries that allow some."""
     for name, crates in sorted(found.items()):
         allowed, _ = ALLOWED.get(name, ("", ""))
         if (len(crates) > 1 or name in NOBODYS) and " ".join(crates) != allowed:

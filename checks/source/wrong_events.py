@@ -35,8 +35,6 @@ def others(lines):
 
 
 class Event:
-    """A wrong event, and the copy of the crate that holds it."""
-
     def __init__(self, file, number):
         self.crate = copy.copy(crates()[CRATE])
         self.texts = texts_of(self.crate.folder)
@@ -46,17 +44,14 @@ class Event:
         self.code, self.lemmas = self.renamed(code).split(), lemmas.split()
 
     def renamed(self, text):
-        """Returns a text of the crate, as it stands in the copy."""
         return re.sub(rf"\b{CRATE}\b", self.crate.name, text)
 
     def put_into(self, room):
-        """Writes the copy with the event, and returns why that cannot be done, or nothing."""
         for file, text in (self.edit.apply(self.texts) or {}).items():
             write(f"{room}/{self.crate.name}/{file}", self.renamed(text))
         return self.edit.why or ""
 
     def is_told_in(self, said):
-        """Answers whether the check speaks of its functions and of the law."""
         return {*self.code, self.law} <= {*names_of(self.crate, said)}
 
     def why_not(self, said):
@@ -78,7 +73,6 @@ class Event:
 
 
 def check(events, room):
-    """Returns what a check of these copies says of their functions and of the law."""
     words = [kit().RATTLE, "check", *words_of([it.crate for it in events], room)]
     words += [word for event in events for name in (*event.code, event.law) for word in ("--only", name)]
     return subprocess.run(words, cwd=room, **HOW).stdout
