@@ -42,7 +42,7 @@ def page(built):
     about, _, rest = shown.pop("").partition("\n")
     parts = [
         f'.TH {name.upper()} 1 "" "{name} {version}"',
-        ".\\\" Made of the program's help by checks/man.",
+        ".\\\" Made of the program's help by checks/run man.",
         f".SH NAME\n{name} \\- {about[0].lower()}{about[1:]}",
         f".SH PROGRAM\n{verbatim(rest)}",
         *(f'.SH "{name.upper()} {command.upper()}"\n{verbatim(text)}' for command, text in shown.items()),

@@ -40,11 +40,12 @@ def build_below(tops, after_gate):
             sys.exit(f"the library {dep.name} was not built")
 
 
-def check_words(crate, functions):
+def check_words(crate, functions, folder=None):
     """Returns the words of a check of these functions of the crate, or of none where the one name is empty, over the
     libraries that stand."""
     words = [kit().RATTLE, "check", *crate.words(["--jobs", "1"], keeps=False)]
-    return words + [word for name in functions for word in ("--only", name)]
+    words += [word for name in functions for word in ("--only", name)]
+    return words + (["--incremental", folder] if folder else [])
 
 
 def program(words):
