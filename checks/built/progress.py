@@ -215,12 +215,9 @@ OF_JOBS = f"{HEADER}0,scan,add,0,7\n", WAITS.format("jobs", HEADER.strip())
 TYPED = {
     "run --dim 3": (*OF_JOBS, "lane,seq,kind,dim,result,rounds,messages\n0,0,scan,0,7,0,0\n"),
     "report --dim 0 --quiet": (
-        *OF_JOBS, "group,key,count,processors,idle\nlane,0,1,1,0\ndim,0,1,1,0\nfree,0,1,1,0\ntotal,-,1,1,0\n"
-    ),
-    "place --dim 2": (
-        "command,name,dim\ntake,a,1\n", WAITS.format("commands", "command,name,dim"),
-        "command,name,dim,base,outcome\ntake,a,1,0,given\n",
-    ),
+        *OF_JOBS, "group,key,count,processors,idle\nlane,0,1,1,0\ndim,0,1,1,0\nfree,0,1,1,0\ntotal,-,1,1,0\n"),
+    "place --dim 2": ("command,name,dim\ntake,a,1\n", WAITS.format("commands", "command,name,dim"),
+        "command,name,dim,base,outcome\ntake,a,1,0,given\n"),
     "replay --dim 3 --stations 1": (
         "station,call,arg\n", WAITS.format("a schedule", "station,call,arg"), "station,event,node,word,note\n-,end,-,-,0\n"
     ),

@@ -13,27 +13,19 @@ def given(rows):
 # a free, which is `-` in the command: with `>` the commands stand by themselves.
 PLACES = {
     "no commands": ("3", ""),
-    "takes and frees": (
-        "3",
+    "takes and frees": ("3",
         "take,a,1,0,given take,b,0,2,given take,c,1,4,given free,b,0,2,freed take,d,1,2,given take,e,2,-,nosubcube "
-        "free,a,1,0,freed free,c,1,4,freed free,d,1,2,freed take,f,3,0,given",
-    ),
-    "four free processors, none aligned": (
-        "3",
+        "free,a,1,0,freed free,c,1,4,freed free,d,1,2,freed take,f,3,0,given"),
+    "four free processors, none aligned": ("3",
         "take,a,1,0,given take,b,1,2,given take,c,1,4,given take,d,1,6,given free,b,1,2,freed free,c,1,4,freed "
-        "take,e,2,-,nosubcube",
-    ),
+        "take,e,2,-,nosubcube"),
     "each outcome but one": (
-        "1", "take,a,0,0,given take,a,1,-,held free,b,-,-,nothingheld take,b,1,-,nosubcube free,a,0,0,freed",
-    ),
+        "1", "take,a,0,0,given take,a,1,-,held free,b,-,-,nothingheld take,b,1,-,nosubcube free,a,0,0,freed"),
     "48 names hold regions": (
-        "12", [f"take,a{at},0,{at},given" for at in range(48)] + ["take,a48,0,-,nostation", "take,a0,0,-,held"],
-    ),
-    "48 names hold regions, and one gives its back": (
-        "12",
+        "12", [f"take,a{at},0,{at},given" for at in range(48)] + ["take,a48,0,-,nostation", "take,a0,0,-,held"]),
+    "48 names hold regions, and one gives its back": ("12",
         [f"take,{at},0,{at},given" for at in range(48)] + """take,x,12,-,nostation take,x,0,-,nostation take,0,0,-,held
-        free,7,0,7,freed take,x,0,7,given take,y,0,-,nostation""".split(),
-    ),
+        free,7,0,7,freed take,x,0,7,given take,y,0,-,nostation""".split()),
     # against another order of outcomes than held, nostation, nosubcube
     "48 names hold the whole machine": (
         "6",
@@ -42,23 +34,17 @@ PLACES = {
         take,x,1,-,nosubcube take,x,0,36,given take,y,0,-,nostation free,47,0,63,freed take,47,0,63,given""".split(),
     ),
     # against names that are cut short, and names that are taken for numbers
-    "names of 15 and 16 letters": (
-        "2",
+    "names of 15 and 16 letters": ("2",
         "take,abcdefghijklmno,0,0,given take,abcdefghijklmnop,0,1,given take,abcdefghijklmnoq,0,2,given "
-        "free,abcdefghijklmnop,0,1,freed take,0123456789012345,0,1,given",
-    ),
+        "free,abcdefghijklmnop,0,1,freed take,0123456789012345,0,1,given"),
     "names that are digits": (
-        "1", "take,0,0,0,given free,00,-,-,nothingheld take,00,0,1,given free,0,0,0,freed free,000,-,-,nothingheld",
-    ),
+        "1", "take,0,0,0,given free,00,-,-,nothingheld take,00,0,1,given free,0,0,0,freed free,000,-,-,nothingheld"),
     # against a region that is not the first one: the tightest one, or the next one
-    "a tighter region comes later": (
-        "3",
+    "a tighter region comes later": ("3",
         "take,a,2,0,given take,b,0,4,given free,a,2,0,freed take,c,0,0,given free,c,0,0,freed take,d,0,0,given "
-        "take,e,1,2,given",
-    ),
+        "take,e,1,2,given"),
     "a hundred names, one after the other": (
-        "2", [row for at in range(100) for row in (f"take,n{at},2,0,given", f"free,n{at},2,0,freed")],
-    ),
+        "2", [row for at in range(100) for row in (f"take,n{at},2,0,given", f"free,n{at},2,0,freed")]),
     "a million commands": ("0", ["free,a,-,-,nothingheld"] * MOST),
 }
 

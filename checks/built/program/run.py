@@ -22,96 +22,69 @@ RUNS = {
     "a machine of one processor": ("0", "0,scan,add,0,7", "0,0,scan,0,7,0,0"),
     "the last lane of a machine of one processor": ("0", "15,allreduce,add,0,7", "15,0,allreduce,0,7,0,0"),
     "a root on a machine of one processor": (
-        "0", "0,broadcast,-,0,7; 0,reduce,or,0,7", "0,0,broadcast,0,7,0,0; 0,1,reduce,0,7,0,0"
-    ),
+        "0", "0,broadcast,-,0,7; 0,reduce,or,0,7", "0,0,broadcast,0,7,0,0; 0,1,reduce,0,7,0,0"),
     "a reduction in lane 3": ("1", "3,reduce,add,1,5 6", "3,0,reduce,1,- 11,1,1"),
     "two kinds in one lane": (
-        "2", "0,reduce,min,2,5 3 9 4; 0,broadcast,-,1,4 9", "0,0,reduce,2,- - 3 -,2,3; 0,1,broadcast,1,9 9,1,1"
-    ),
+        "2", "0,reduce,min,2,5 3 9 4; 0,broadcast,-,1,4 9", "0,0,reduce,2,- - 3 -,2,3; 0,1,broadcast,1,9 9,1,1"),
     "the largest machine": ("12", "15,reduce,max,0,1 2", "15,0,reduce,1,2 -,1,1"),
     "and": ("2", "0,allreduce,and,0,12 10", "0,0,allreduce,1,8 8,1,2"),
     "or": ("2", "0,allreduce,or,0,12 10", "0,0,allreduce,1,14 14,1,2"),
-    "two lanes": (
-        "3", "1,allreduce,xor,0,5 6; 0,scan,max,0,2 9 4 7; 1,reduce,or,1,8 1",
-        "0,0,scan,2,2 9 9 9,2,8; 1,0,allreduce,1,3 3,1,2; 1,1,reduce,1,- 9,1,1"
-    ),
+    "two lanes": ("3", "1,allreduce,xor,0,5 6; 0,scan,max,0,2 9 4 7; 1,reduce,or,1,8 1",
+        "0,0,scan,2,2 9 9 9,2,8; 1,0,allreduce,1,3 3,1,2; 1,1,reduce,1,- 9,1,1"),
     "lanes are sorted": (
-        "3", "1,allreduce,add,0,5 6; 0,allreduce,add,0,7", "0,0,allreduce,0,7,0,0; 1,0,allreduce,1,11 11,1,2"
-    ),
-    "two lanes in turn": (
-        "3",
+        "3", "1,allreduce,add,0,5 6; 0,allreduce,add,0,7", "0,0,allreduce,0,7,0,0; 1,0,allreduce,1,11 11,1,2"),
+    "two lanes in turn": ("3",
         "10,allreduce,add,0,1; 2,allreduce,add,0,2; 10,allreduce,add,0,3; 2,allreduce,add,0,4 4; 10,allreduce,add,0,5",
         "2,0,allreduce,0,2,0,0; 2,1,allreduce,1,8 8,1,2; 10,0,allreduce,0,1,0,0; 10,1,allreduce,0,3,0,0; "
-        "10,2,allreduce,0,5,0,0"
-    ),
-    "five jobs of each lane": (
-        "2", [f"{15 - at % 16},allreduce,add,0,{at} 1" for at in range(80)],
-        [f"{lane},{seq},allreduce,1,{many(2, 16 * seq + 16 - lane)},1,2" for lane in range(16) for seq in range(5)],
-    ),
-    "jobs as large as the machine": (
-        "12", f"0,broadcast,-,4095,{RANKS}; 0,reduce,max,2048,{RANKS};"
+        "10,2,allreduce,0,5,0,0"),
+    "five jobs of each lane": ("2", [f"{15 - at % 16},allreduce,add,0,{at} 1" for at in range(80)],
+        [f"{lane},{seq},allreduce,1,{many(2, 16 * seq + 16 - lane)},1,2" for lane in range(16) for seq in range(5)]),
+    "jobs as large as the machine": ("12", f"0,broadcast,-,4095,{RANKS}; 0,reduce,max,2048,{RANKS};"
         f"0,allreduce,add,0,{ONES}; 0,scan,add,0,{ONES}; 0,exscan,add,0,{ONES}",
         f"0,0,broadcast,12,{many(4096, 4095)},12,4095; 0,1,reduce,12,{many(2048, '-')} 4095 {many(2047, '-')},12,4095;"
         f"0,2,allreduce,12,{many(4096, 4096)},12,49152; 0,3,scan,12,{first(4096, 1)},12,49152;"
-        f"0,4,exscan,12,{RANKS},12,49152",
-    ),
+        f"0,4,exscan,12,{RANKS},12,49152"),
     # against numbers with a sign, numbers of 53 bits as they are in a double, sums that stop at a limit
     "the least of numbers about 2^63": (
         "2", "0,scan,min,0,18446744073709551615 9223372036854775808 9223372036854775807 9223372036854775809",
-        "0,0,scan,2,18446744073709551615 9223372036854775808 9223372036854775807 9223372036854775807,2,8"
-    ),
-    "the greatest of numbers about 2^63": (
-        "2",
+        "0,0,scan,2,18446744073709551615 9223372036854775808 9223372036854775807 9223372036854775807,2,8"),
+    "the greatest of numbers about 2^63": ("2",
         "0,scan,max,0,9223372036854775807 9223372036854775808 18446744073709551614 18446744073709551615; "
         "0,reduce,max,3,18446744073709551615 18446744073709551614 9223372036854775808 9223372036854775807",
         "0,0,scan,2,9223372036854775807 9223372036854775808 18446744073709551614 18446744073709551615,2,8; "
-        "0,1,reduce,2,- - - 18446744073709551615,2,3"
-    ),
-    "sums past 2^63 and past 2^64": (
-        "2", "0,scan,add,0,9223372036854775807 1 9223372036854775807 2",
-        "0,0,scan,2,9223372036854775807 9223372036854775808 18446744073709551615 1,2,8"
-    ),
-    "bits past 2^63": (
-        "1",
+        "0,1,reduce,2,- - - 18446744073709551615,2,3"),
+    "sums past 2^63 and past 2^64": ("2", "0,scan,add,0,9223372036854775807 1 9223372036854775807 2",
+        "0,0,scan,2,9223372036854775807 9223372036854775808 18446744073709551615 1,2,8"),
+    "bits past 2^63": ("1",
         "0,reduce,xor,1,18446744073709551615 1; 0,allreduce,and,0,18446744073709551615 9223372036854775808; "
         "0,allreduce,or,0,9223372036854775808 1; 0,broadcast,-,0,18446744073709551615 0",
         "0,0,reduce,1,- 18446744073709551614,1,1; 0,1,allreduce,1,9223372036854775808 9223372036854775808,1,2; "
         "0,2,allreduce,1,9223372036854775809 9223372036854775809,1,2; "
-        "0,3,broadcast,1,18446744073709551615 18446744073709551615,1,1"
-    ),
+        "0,3,broadcast,1,18446744073709551615 18446744073709551615,1,1"),
     # against records that end with a buffer of 8 or 16 KiB
-    "a record of 21 KB": (
-        "10", f"0,scan,add,0,{many(1024, 2**64 - 1)}",
-        f"0,0,scan,10,{' '.join(str(2**64 - 1 - rank) for rank in range(1024))},10,10240",
-    ),
+    "a record of 21 KB": ("10", f"0,scan,add,0,{many(1024, 2**64 - 1)}",
+        f"0,0,scan,10,{' '.join(str(2**64 - 1 - rank) for rank in range(1024))},10,10240"),
     # numbers of items that fill no subcube: a place with no item is never shown, and changes no result
     "an all-reduce of three": ("3", "0,allreduce,add,0,1 2 3", "0,0,allreduce,2,6 6 6,2,8"),
     "an exclusive scan of three": ("3", "0,exscan,min,0,9 4 7", "0,0,exscan,2,18446744073709551615 9 4,2,8"),
-    "an exclusive scan of seven, by each operation": (
-        "3", [f"0,exscan,{op},0,12 10 14 8 9 11 13" for op in OPERATIONS],
+    "an exclusive scan of seven, by each operation": ("3", [f"0,exscan,{op},0,12 10 14 8 9 11 13" for op in OPERATIONS],
         "0,0,exscan,3,0 12 22 36 44 53 64,3,24; 0,1,exscan,3,18446744073709551615 12 10 10 8 8 8,3,24;"
         "0,2,exscan,3,0 12 12 14 14 14 14,3,24; 0,3,exscan,3,0 12 6 8 0 9 2,3,24;"
-        "0,4,exscan,3,18446744073709551615 12 8 8 8 8 8,3,24; 0,5,exscan,3,0 12 14 14 14 15 15,3,24",
-    ),
+        "0,4,exscan,3,18446744073709551615 12 8 8 8 8 8,3,24; 0,5,exscan,3,0 12 14 14 14 15 15,3,24"),
     "a scan of five": ("3", "0,scan,min,0,9 4 7 3 8", "0,0,scan,3,9 4 4 3 3,3,24"),
     "a reduction of three": ("3", "0,reduce,max,2,5 3 9", "0,0,reduce,2,- - 9,2,3"),
     "a broadcast of three": ("3", "0,broadcast,-,1,4 9 6", "0,0,broadcast,2,9 9 9,2,3"),
-    "seven of eight, by each operation": (
-        "3", [f"0,allreduce,{op},0,12 10 14 8 9 11 13" for op in OPERATIONS],
-        [f"0,{seq},allreduce,3,{many(7, total)},3,24" for seq, total in enumerate((77, 8, 14, 15, 8, 15))],
-    ),
+    "seven of eight, by each operation": ("3", [f"0,allreduce,{op},0,12 10 14 8 9 11 13" for op in OPERATIONS],
+        [f"0,{seq},allreduce,3,{many(7, total)},3,24" for seq, total in enumerate((77, 8, 14, 15, 8, 15))]),
     "one item less than the largest machine has processors": (
         "12", f"0,scan,add,0,{many(4095, 1)}; 0,reduce,min,4094,{many(4095, 7)}",
-        f"0,0,scan,12,{first(4095, 1)},12,49152; 0,1,reduce,12,{many(4094, '-')} 7,12,4095",
-    ),
+        f"0,0,scan,12,{first(4095, 1)},12,49152; 0,1,reduce,12,{many(4094, '-')} 7,12,4095"),
     "1,000 numbers": ("10", f"0,allreduce,add,0,{first(1000, 1)}", f"0,0,allreduce,10,{many(1000, 500500)},10,10240"),
-    "jobs of mixed sizes": (
-        "3",
+    "jobs of mixed sizes": ("3",
         "2,scan,add,0,1 1 1; 0,allreduce,max,0,4 8 6 2 5; 2,reduce,xor,0,7; 0,broadcast,-,5,1 2 3 4 5 6 7; "
         "2,scan,or,0,1 2",
         "0,0,allreduce,3,8 8 8 8 8,3,24; 0,1,broadcast,3,6 6 6 6 6 6 6,3,7; 2,0,scan,2,1 2 3,2,8; "
-        "2,1,reduce,0,7,0,0; 2,2,scan,1,1 3,1,2"
-    ),
+        "2,1,reduce,0,7,0,0; 2,2,scan,1,1 3,1,2"),
     "quoted fields": ("3", '"0",allreduce,add,0,"1 2"', "0,0,allreduce,1,3 3,1,2"),
     "blank lines": ("3", ["", "0,allreduce,add,0,1 2", ""], "0,0,allreduce,1,3 3,1,2"),
     "carriage returns": ("3", ["0,allreduce,add,0,1 2\r"], "0,0,allreduce,1,3 3,1,2"),
@@ -128,8 +101,7 @@ REFUSED = {
     "the root of a broadcast of three items": ("Job BadRoot", "0,broadcast,-,3,4 9 6"),
     "the root of a reduction of five items": ("Job BadRoot", "0,reduce,min,7,4 9 6 2 5"),
     "nine items after a good record": (
-        "record 2: Job TooLarge", "0,scan,add,0,1 2 3", "0,scan,add,0,1 2 3 4 5 6 7 8 9"
-    ),
+        "record 2: Job TooLarge", "0,scan,add,0,1 2 3", "0,scan,add,0,1 2 3 4 5 6 7 8 9"),
     "sixteen items": ("Job TooLarge", f"0,allreduce,add,0,{many(16, 1)}"),
     "sixteen items and a bad root": ("Job TooLarge", f"0,reduce,add,99,{many(16, 1)}"),
     "no items": ("Job Empty", "0,allreduce,add,0,"),
