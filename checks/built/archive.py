@@ -81,8 +81,8 @@ def make(name, out, room):
     made = Object(read_bytes(whole))
     made.hide()
     defined, wanted = made.visible()
-    is_fine = defined and all(it.startswith(OWN) for it in defined) and not any(it.startswith(b"rattle_") for it in wanted)
-    must(is_fine, f"archive: lib{name}.a defines {sorted(defined)} and asks for {sorted(wanted)}")
+    has_others = not all(it.startswith(OWN) for it in defined) or any(it.startswith(b"rattle_") for it in wanted)
+    must(defined and not has_others, f"archive: lib{name}.a defines {sorted(defined)} and asks for {sorted(wanted)}")
     with open(whole, "wb") as file:
         file.write(made.data)
     if os.path.exists(out):

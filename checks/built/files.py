@@ -74,7 +74,9 @@ class Files:
 
     def must_end(self, folder, name, errors="", words=RUN, **options):
         """Writes the output to this name, which is done or fails with this error."""
-        words, wanted = [*words, "--output", name], (3 if errors else 0, b"", f"failed: output: {errors}\n".encode() if errors else b"")
+        words, wanted = [*words, "--output", name], (0, b"", b"")
+        if errors:
+            wanted = 3, b"", f"failed: output: {errors}\n".encode()
         got = self.run(folder, words, **options)
         must(got == wanted, f"{words}: status, output and errors are {got}")
         must(not left_over(folder), f"{words}: {left_over(folder)} is left")
@@ -195,7 +197,7 @@ class Parts(Files):
         deep = os.path.join(folder, "deep")
         os.mkdir(deep)
         put(os.path.join(deep, "old.csv"), mode=0o640)
-        links = {"link": "deep/old.csv", "second": "link", "none": "deep/new.csv", "far": "none2", "none2": "deep/newest.csv"}
+        links = {"link": "deep/old.csv", "second": "link", "none": "deep/new.csv", "far": "near", "near": "deep/newest.csv"}
         for name, target in links.items():
             os.symlink(target, os.path.join(folder, name))
         for name, target in (("second", "old.csv"), ("none", "new.csv"), ("far", "newest.csv")):

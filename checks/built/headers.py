@@ -5,6 +5,7 @@ header knows. A struct of a header has a name that C++ can say. A line names eac
 standard that it does not know. Headers with a fault must be refused, which is tried first. `checks/run headers FOLDER`
 takes other headers.
 """
+import itertools
 import os
 import re
 import shutil
@@ -14,6 +15,7 @@ from checks.lib.repository import path, read, write
 from checks.lib.rows import Row, Skipped, answer, must, run_rows
 
 NAMES = ("cubejobs.h", "cubejobs_tree.h")
+NOWHERE = ["-o", "/dev/null"]
 WARNINGS = ["-Werror", "-Wall", "-Wextra", "-pedantic", "-Wconversion", "-Wshadow"]
 # Each compiler with its language, and the standards from the oldest to the newest.
 C = ("c89", "c99", "c11", "c17", "c2x")
@@ -39,8 +41,8 @@ def source(folder, names, language):
 
 def refusal(folder, compiler, standard, names, flags=()):
     language = COMPILERS[compiler][0]
-    words = [compiler, f"-std={standard}", *WARNINGS, *flags, "-O1", "-I", folder, "-x", language, "-c", "-", "-o", "/dev/null"]
-    status, _, said = answer(words, source(folder, names, language), text=True)
+    words = [compiler, f"-std={standard}", *WARNINGS, *flags, "-O1", "-I", folder, "-x", language, "-c", "-"]
+    status, _, said = answer([*words, *NOWHERE], source(folder, names, language), text=True)
     return "" if status == 0 and not said else said or "it failed with no word"
 
 
@@ -56,8 +58,8 @@ def must_be_seen(folder, oldest, old, new, language):
     with tempfile.TemporaryDirectory() as room:
         write(f"{room}/{NAMES[1]}", text.replace(old, new))
         for compiler in (it for it in oldest if COMPILERS[it][0] == language):
-            said = [refusal(room, compiler, oldest[compiler], NAMES[1:], flags) for flags in ((), ("-fsanitize=thread",))]
-            must(any(said), f"{compiler} takes {new!r}")
+            tries = (refusal(room, compiler, oldest[compiler], NAMES[1:], flags) for flags in ((), ("-fsanitize=thread",)))
+            must(any(tries), f"{compiler} takes {new!r}")
 
 
 def known_standards():
@@ -67,7 +69,8 @@ def known_standards():
         if not shutil.which(compiler):
             print(f"headers: no {compiler} here")
             continue
-        tried = {it: answer([compiler, f"-std={it}", "-x", language, "-c", "/dev/null", "-o", "/dev/null"])[0] for it in standards}
+        words = [compiler, "-x", language, "-c", "/dev/null", *NOWHERE]
+        tried = {it: answer([*words, f"-std={it}"])[0] for it in standards}
         known[compiler] = [it for it, status in tried.items() if status == 0]
         if any(tried.values()):
             print(f"headers: {compiler} does not know {', '.join(it for it, status in tried.items() if status)}")
@@ -79,11 +82,11 @@ def main(words):
     if not known:
         raise Skipped("there is no compiler")
     oldest = {compiler: standards[0] for compiler, standards in known.items()}
-    rows = [Row(f"a fault that is seen: {new!r}", must_be_seen, (folder, oldest, old, new, of)) for old, new, of in FAULTS]
+    rows = [Row(f"a fault that is seen: {fault[1]!r}", must_be_seen, (folder, oldest, *fault)) for fault in FAULTS]
     for compiler, standards in known.items():
         tries = [(names, ()) for names in (NAMES[:1], NAMES[1:], NAMES, NAMES[::-1])]
         tries += [(NAMES, (f"-fsanitize={it}",)) for it in SANITIZERS[compiler]]
-        for standard in standards:
-            title = f"{compiler} -std={standard}"
-            rows += [Row(" ".join([title, *flags, *of]), must_compile, (folder, compiler, standard, of, flags)) for of, flags in tries]
+        for standard, (names, flags) in itertools.product(standards, tries):
+            title = " ".join([compiler, f"-std={standard}", *flags, *names])
+            rows.append(Row(title, must_compile, (folder, compiler, standard, names, flags)))
     return run_rows("headers", rows)

@@ -19,12 +19,13 @@ from checks.lib.repository import crate_names, files_below, path, place, read, w
 from checks.lib.rows import Row, Wrong, methods, must, put, run_rows, title
 
 # What a call needs that finds a program: coreutils. What a build needs besides.
-COREUTILS = "cat chmod cksum cp date dirname env fold id ls mkdir mkfifo mv readlink rm sha256sum sleep tail tsort uname".split()
-TOOLS = ["sh", "flock", "kill", "sed", *COREUTILS]
+COREUTILS = "cat chmod cksum cp date dirname env fold id ls mkdir mkfifo mv readlink rm sha256sum sleep tail tsort uname"
+TOOLS = ["sh", "flock", "kill", "sed", *COREUTILS.split()]
 # Seconds that a call may take, and the columns of the longest line that it writes.
 PATIENCE, COLUMNS = 10, 80
 # The shells that are here, each of which may be /bin/sh.
-SHELLS = [[shutil.which(it[0]), *it[1:]] for it in (["sh"], ["dash"], ["bash"], ["busybox", "sh"]) if shutil.which(it[0])]
+KNOWN = (["sh"], ["dash"], ["bash"], ["busybox", "sh"])
+SHELLS = [[shutil.which(it[0]), *it[1:]] for it in KNOWN if shutil.which(it[0])]
 # A call reads all sources once and starts a few small tools. It may take this many times the processor time of one bare
 # reading, which depends on the machine as the call does.
 MOST_READINGS = 3
@@ -72,7 +73,8 @@ class Clone:
         shutil.copytree(self.at("crates/jobs_cli"), self.at("crates/cube_shape"))
         for crate in ("cube_shape", "jobs_cli"):
             self.write(f"crates/{crate}/src/lib.rt", f"//! {crate}\n")
-        self.write("crates.txt", "# crate: libraries\ncube_shape:\nother: cube_shape\njobs_cli may_wait=2: cube_shape clap\n")
+        lines = "# crate: libraries", "cube_shape:", "other: cube_shape", "jobs_cli may_wait=2: cube_shape clap", ""
+        self.write("crates.txt", "\n".join(lines))
         self.launcher, self.rt = shutil.copy(launcher, self.at("cubejobs")), os.path.join(self.tools, "rt")
         for tool in TOOLS:
             os.symlink(shutil.which(tool), os.path.join(self.tools, tool))
@@ -294,12 +296,13 @@ class Situations(Clone):
                 with output(at) as out:
                     closing = [shutil.which("sh"), "-c", 'exec "$@" >&-', "sh"] if at == "closed" else []
                     status, _, err = self.run("--help", wrapped=[*closing, *shell], out=out)
-                must(status == 3 and err == [*last, "failed: record 0: Write"], f"{shell}, {at}: status {status}, errors {err}")
+                wanted = 3, [*last, "failed: record 0: Write"]
+                must((status, err) == wanted, f"{shell}, {at}: status {status}, errors {err}")
 
     def a_release_needs_coreutils_alone(self):
         self.release()
         shutil.rmtree(self.at("out"))
-        for tool in {*TOOLS} - {"sh", *COREUTILS} | {"rt"}:
+        for tool in {*TOOLS} - {"sh", *COREUTILS.split()} | {"rt"}:
             os.remove(f"{self.tools}/{tool}")
         for words in ("run --dim 3", "walk", ""):
             answers(self.run(*words.split()), 0, f"released: {words}\n", [])
@@ -402,7 +405,8 @@ class Situations(Clone):
             for word in ("--version", "--prove"):
                 self.plan("fails")
                 status, _, err = self.run(word, wrapped=shell)
-                must(status == 70 and deep.replace(" ", "") in "".join(err).replace(" ", ""), f"{shell}: {status} {err}")
+                is_named = deep.replace(" ", "") in "".join(err).replace(" ", "")
+                must(status == 70 and is_named, f"{shell}: {status} {err}")
 
     def line_ends_are_kept(self):
         """Clones by a git that is asked to change line ends: the sources are the same, and the launcher runs."""
@@ -414,14 +418,16 @@ class Situations(Clone):
             if attributes:
                 shutil.copy(path(".gitattributes"), made)
             git = ["git", "-c", "user.name=x", "-c", "user.email=x@x", "-c", "init.defaultBranch=main"]
-            for words in (["-C", made, "init", "-q"], ["-C", made, "add", "-A"], ["-C", made, "commit", "-q", "-m", "x"],
-                          ["-c", "core.autocrlf=true", "clone", "-q", made, taken]):
-                subprocess.run([*git, *words], check=True, capture_output=True)
+            for words in (["init"], ["add", "-A"], ["commit", "-m", "x"]):
+                subprocess.run([*git, "-C", made, *words], check=True, capture_output=True)
+            clones = [*git, "-c", "core.autocrlf=true", "clone", "-q", made, taken]
+            subprocess.run(clones, check=True, capture_output=True)
             with open(f"{taken}/cubejobs", "rb") as file:
                 must((b"\r" in file.read()) != attributes, "line ends are as they should not be")
             if attributes:
                 runs(self.run("--version", launcher=f"{taken}/cubejobs"), "args: --version\n")
-                must(read(f"{taken}/out/cubejobs.sources").strip() == self.sources(), "the sources have another checksum")
+                has = read(f"{taken}/out/cubejobs.sources").strip()
+                must(has == self.sources(), "the sources have another checksum")
 
     def a_release_of_a_clone_that_cannot_be_written(self):
         self.release()
@@ -436,7 +442,7 @@ class Situations(Clone):
         self.plan("waits")
         started = self.start("--version")
         line = line_with(started, "crate 1")
-        must(re.fullmatch(r"cubejobs: \d+:\d\d  crate 1 of 2: cube_shape", line), f"the first line of progress is {line!r}")
+        must(re.fullmatch(r"cubejobs: \d+:\d\d  crate 1 of 2: cube_shape", line), f"progress begins with {line!r}")
         must(started.poll() is None and not os.path.exists(f"{self.fake}/go"), "the build had ended")
         self.go()
         answer = ended(started)
@@ -456,7 +462,8 @@ class Situations(Clone):
     def every_source_of_the_repository_is_seen(self):
         """Tries a file at each depth at which there is one in this repository."""
         depths = {}
-        for file in (file for crate in crate_names() for part in PARTS for file in files_below(f"crates/{crate}/{part}", "")):
+        folders = [f"crates/{crate}/{part}" for crate in crate_names() for part in PARTS]
+        for file in (file for folder in folders for file in files_below(folder, "")):
             _, _, *inside = place(file).split("/")
             depths[inside[0], len(inside), os.path.splitext(file)[1]] = "/".join(["crates/cube_shape", *inside])
         must(len(depths) > 8, f"files stand at {len(depths)} depths")
@@ -493,7 +500,8 @@ class Situations(Clone):
         self.run("--version")
         beside = f"{self.room}/beside"
         os.makedirs(f"{beside}/deeper")
-        for name, target in (("whole", self.launcher), ("relative", "../a clone/cubejobs"), ("deeper/chain", "../whole")):
+        links = {"whole": self.launcher, "relative": "../a clone/cubejobs", "deeper/chain": "../whole"}
+        for name, target in links.items():
             os.symlink(target, f"{beside}/{name}")
             runs(self.run("x", launcher=f"{beside}/{name}"), "args: x\n")
         runs(self.run("x", launcher="./cubejobs", folder=self.folder), "args: x\n")

@@ -31,7 +31,8 @@ WANT_OF_FILE = [b"failed: input: OutOfMemory: jobs.csv\n", b"failed: output: Out
 HEADER = "lane,kind,op,root,items\n"
 # A kind, an operation and a root of each collective, and the same for jobs of the largest machine.
 KINDS = (("scan", "add", 0), ("broadcast", "-", 0), ("reduce", "min", 0), ("allreduce", "xor", 0), ("exscan", "min", 0))
-LARGEST = (("broadcast", "-", 4095), ("reduce", "max", 2048), ("allreduce", "add", 0), ("scan", "or", 0), ("exscan", "and", 0))
+LARGEST = (
+    ("broadcast", "-", 4095), ("reduce", "max", 2048), ("allreduce", "add", 0), ("scan", "or", 0), ("exscan", "and", 0))
 
 
 def row(lane, kind, items):
@@ -52,7 +53,8 @@ def inputs():
     # Jobs of two lanes, enough for the list of all replies to grow some times; of all lanes, so that each list does;
     # and large ones.
     few, many = jobs(20, 2), jobs(200, 16)
-    large = (HEADER + "".join(row(at, kind, (it * 2**at for it in range(4096))) for at, kind in enumerate(LARGEST))).encode()
+    rows = (row(at, kind, (it * 2**at for it in range(4096))) for at, kind in enumerate(LARGEST))
+    large = (HEADER + "".join(rows)).encode()
     alone, four = "--dispatchers 1 --capacity 1", "--dispatchers 4 --capacity 1"
     return [
         ("run --dim 3", example("jobs"), EACH_WAY),
@@ -119,7 +121,7 @@ def refuse_each(built, shims, arguments, text, counts):
         wanted = command.run(0)
         must(wanted[0] == 0, f"status {wanted[0]} with ample memory")
         total, threads, _ = command.counted()
-        must(total and threads == command.threads(), f"{total} requests and {threads} threads, for {command.threads()} threads")
+        must(total and threads == command.threads(), f"{total} requests, {threads} threads for {command.threads()}")
         wants = 0
         for count, refused in ((count, refused) for count in counts for refused in range(1, total + 1)):
             got = command.run(refused, count)
@@ -131,7 +133,8 @@ def refuse_each(built, shims, arguments, text, counts):
             none = OLD if command.names_output else b""
             must(got == (3, none, WANT), f"no thread from {thread} on: status {got[0]}, errors {got[2]}")
         must(wants, "no request is answered by OutOfMemory")
-    return f"each of {total} requests refused, in {len(counts)} ways, {wants} answered by OutOfMemory; so was each of {threads} threads"
+    ways = f"each of {total} requests refused, in {len(counts)} ways"
+    return f"{ways}, {wants} answered by OutOfMemory; so was each of {threads} threads"
 
 
 def must_stop_feeding(built, shims):
@@ -148,8 +151,8 @@ def must_stop_feeding(built, shims):
             must(got[0] == status, f"status {got[0]} with no thread from {thread} on")
             sizes.append(command.counted()[2])
     whole, none, few = sizes
-    must(whole - none >= 2 * LONG * REPLY_BYTES, f"the bytes do not show how many jobs were answered: {whole}, {none} with none")
-    must(few - none <= LONG * REPLY_BYTES, f"the first thread that feeds goes on: {few} bytes, and {none} with no answer")
+    must(whole - none >= 2 * LONG * REPLY_BYTES, f"{whole} bytes do not show the jobs, with {none} for none")
+    must(few - none <= LONG * REPLY_BYTES, f"the first thread goes on: {few} bytes, and {none} for none")
     return f"{few - none} bytes for replies"
 
 
@@ -157,5 +160,6 @@ def main(words):
     built = program(words)
     with tempfile.TemporaryDirectory() as folder:
         shims = shim("refuse.c", folder)
-        rows = [Row(arguments, refuse_each, (built, shims, arguments, text, counts)) for arguments, text, counts in inputs()]
-        return run_rows("memory", [*rows, Row("the second thread that feeds refused", must_stop_feeding, (built, shims))], says_ok=True)
+        rows = [Row(words, refuse_each, (built, shims, words, *how)) for words, *how in inputs()]
+        rows.append(Row("the second thread that feeds refused", must_stop_feeding, (built, shims)))
+        return run_rows("memory", rows, says_ok=True)

@@ -70,7 +70,8 @@ const elements = new Map();
 function newElement() {
   const names = new Set();
   return {
-    textContent: "", innerHTML: "", value: "", hidden: false, dataset: {}, style: {}, clientWidth: 1000, scrollWidth: 0, scrollLeft: 0,
+    textContent: "", innerHTML: "", value: "", hidden: false, dataset: {}, style: {},
+    clientWidth: 1000, scrollWidth: 0, scrollLeft: 0,
     classList: { add: (name) => names.add(name), remove: (name) => names.delete(name) },
     setAttribute() {}, focus() {}, click() {},
   };
@@ -98,7 +99,7 @@ const told = asked.map(({ text, event, n }) => {
   for (let row = 0; row <= file.rows.length; row++) {
     show(row);
     const text = (id) => by(id).textContent;
-    shown.push({ count: text("count"), now: text("now"), row: text("row"), words: text("words"), holders: text("holders"), end: text("end") });
+    shown.push(Object.fromEntries(["count", "now", "row", "words", "holders", "end"].map((id) => [id, text(id)])));
   }
   return { shown };
 });
@@ -191,7 +192,8 @@ def compare_place(text, shown):
         _, name, dim, base, outcome = row.split(",")
         if outcome == "given":
             first, length = int(base), 1 << int(dim)
-            held[name] = f"processor{'s' if length > 1 else ''} {first}{f' to {first + length - 1}' if length > 1 else ''} by {name}"
+            many = f"processors {first} to {first + length - 1} by {name}"
+            held[name] = many if length > 1 else f"processor {first} by {name}"
         elif outcome == "freed":
             del held[name]
         wanted = f"Held: {'; '.join(held.values())}." if held else "No processor is held."
@@ -222,8 +224,8 @@ def check_browser(browser, schedules):
         for event in (0, 1, one.event or 2, len(one.rows)):
             link = f"file://{path(PAGE)}?event={event}&n={one.n}#csv={urllib.parse.quote(one.text)}"
             with tempfile.TemporaryDirectory() as folder:
-                words = [browser, "--headless", "--no-sandbox", "--disable-gpu", f"--user-data-dir={folder}", "--dump-dom", link]
-                status, dom, _ = answer(words, "", text=True)
+                words = [browser, "--headless", "--no-sandbox", "--disable-gpu", f"--user-data-dir={folder}"]
+                status, dom, _ = answer([*words, "--dump-dom", link], "", text=True)
             must(status == 0, f"{browser} ends with status {status}")
             for name, wanted in shown[event].items():
                 found = re.search(rf'id="{name}"[^>]*>(.*?)</', dom, re.S)
@@ -252,5 +254,6 @@ def main(words):
         print("page: not opened in a browser, since there is no Chromium")
     cuts, commands = sum(len(one.cuts) for one in schedules), len(place.splitlines()) - 1
     status = print_faults(failed)
-    print(f"page: {cuts} cuts of {len(schedules)} schedules, {commands} commands, {len(BAD_FILES)} bad files, {len(failed)} failed")
+    tried = f"{cuts} cuts of {len(schedules)} schedules, {commands} commands, {len(BAD_FILES)} bad files"
+    print(f"page: {tried}, {len(failed)} failed")
     return status

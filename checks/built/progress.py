@@ -219,8 +219,8 @@ TYPED = {
     "place --dim 2": ("command,name,dim\ntake,a,1\n", WAITS.format("commands", "command,name,dim"),
         "command,name,dim,base,outcome\ntake,a,1,0,given\n"),
     "replay --dim 3 --stations 1": (
-        "station,call,arg\n", WAITS.format("a schedule", "station,call,arg"), "station,event,node,word,note\n-,end,-,-,0\n"
-    ),
+        "station,call,arg\n", WAITS.format("a schedule", "station,call,arg"),
+        "station,event,node,word,note\n-,end,-,-,0\n"),
 }
 
 

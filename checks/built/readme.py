@@ -54,7 +54,8 @@ def commands(document):
 
 def anchors(text):
     """Returns what a link may name of a page: its headings, in small letters and with hyphens."""
-    return {re.sub(r"[^\w\- ]", "", heading.lower()).replace(" ", "-") for heading in HEADING.findall(FENCED.sub("", text))}
+    headings = HEADING.findall(FENCED.sub("", text))
+    return {re.sub(r"[^\w\- ]", "", heading.lower()).replace(" ", "-") for heading in headings}
 
 
 def links_of(page):
@@ -68,7 +69,8 @@ def must_be_followed(documents):
     links = [(page, *link) for page in documents for link in links_of(page)]
     broken = [f"{page}: there is no {file}" for page, file, _ in links if not os.path.exists(path(file))]
     there = [(page, file, anchor) for page, file, anchor in links if anchor and os.path.exists(path(file))]
-    broken += [f"{page}: {file} has no heading {anchor}" for page, file, anchor in there if anchor not in anchors(read(file))]
+    lost = [(page, file, anchor) for page, file, anchor in there if anchor not in anchors(read(file))]
+    broken += [f"{page}: {file} has no heading {anchor}" for page, file, anchor in lost]
     must(not broken, "; ".join(broken))
     must(len(links) >= LEAST_LINKS, f"only {len(links)} links were found")
 
@@ -107,7 +109,7 @@ def main(words):
         rows = [Row("README.md is one page", must_be_short)]
         for document in documents:
             shown = list(commands(document))
-            rows += [Row(f"{document}: {command}", must_show, (command, lines, folder, env)) for command, lines in shown]
+            rows += [Row(f"{document}: {it[0]}", must_show, (*it, folder, env)) for it in shown]
             least = LEAST_COMMANDS.get(document, 0)
             must(len(shown) >= least, f"{document} shows {len(shown)} commands")
         followed = [*documents, "CONTRIBUTING.md", *pages("crates/*/CALLING.md")]

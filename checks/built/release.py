@@ -33,20 +33,24 @@ RUST = path("rust", "lib")
 # and of SSE and SSE2. What is not among them is taken for one that a processor may lack.
 CONDITION = "(?:n?[abceglopsz]|n?[abgl]e|p[eo])"
 EVERYWHERE = re.compile(
-    rf"(?:j{CONDITION}|set{CONDITION}|cmov{CONDITION}|jmp|j[er]?cxz|loop(?:n?e)?|call|ret|leave|enter|push[fq]*|pop[fq]*|nop|endbr64|pause|int3|hlt|ud2"
-    r"|mov|movabs|movzx|movsxd?|lea|xchg|xadd|cmpxchg(?:8b)?|bswap|cbw|cwde|cdqe|cwd|cdq|cqo|cl[cd]|st[cd]|cpuid|rdtsc|syscall"
-    r"|add|adc|sub|sbb|inc|dec|neg|cmp|i?mul|i?div|and|or|xor|not|test|sh[lr]d?|sa[lr]|ro[lr]|rc[lr]|bt[crs]?|bs[fr]"
-    r"|(?:movs|stos|lods|scas|cmps)[bwdq]|f(?!isttp)[a-z0-9]+|emms"
-    r"|mov(?:[au]p|ntp|mskp|hp|lp|s)[sd]|mov(?:hl|lh)ps|movnt(?:i|q|dq)|mov[dq]|movdq[au]|mov(?:q2dq|dq2q)|maskmov(?:q|dqu)"
-    r"|(?:add|sub|mul|div|sqrt|min|max|cmp\w*)[sp][sd]|u?comis[sd]|(?:rcp|rsqrt)[sp]s|(?:andn?|or|xor|shuf|unpck[hl])p[sd]"
-    r"|cvtt?(?:p[sdi]|s[sdi]|dq)2(?:p[sdi]|s[sdi]|dq)|(?:ld|st)mxcsr|(?:s|l|m|cl)f(?:ence|lush)|prefetch(?:nta|t[012])|fx(?:save|rstor)(?:64)?"
-    r"|pack(?:ss(?:wb|dw)|uswb)|p(?:add|sub)(?:[bwdq]|u?s[bw])|pandn?|por|pxor|pcmp(?:eq|gt)[bwd]|pmul(?:[lh]w|huw|udq)|pmaddwd|pavg[bw]"
-    r"|p(?:max|min)(?:ub|sw)|pmovmskb|psadbw|pshuf(?:d|[hl]w|w)|pextrw|pinsrw|ps(?:[lr]l(?:[wdq]|dq)|ra[wd])|punpck[hl](?:bw|wd|dq|qdq))"
+    rf"(?:j{CONDITION}|set{CONDITION}"
+    rf"|cmov{CONDITION}|jmp|j[er]?cxz|loop(?:n?e)?|call|ret|leave|enter|push[fq]*"
+    r"|pop[fq]*|nop|endbr64|pause|int3|hlt|ud2|mov|movabs|movzx|movsxd?|lea|xchg|xadd|cmpxchg(?:8b)?|bswap|cbw"
+    r"|cwde|cdqe|cwd|cdq|cqo|cl[cd]|st[cd]|cpuid|rdtsc|syscall|add|adc|sub|sbb|inc|dec|neg|cmp|i?mul|i?div|and"
+    r"|or|xor|not|test|sh[lr]d?|sa[lr]|ro[lr]|rc[lr]|bt[crs]?|bs[fr]|(?:movs|stos|lods|scas|cmps)[bwdq]"
+    r"|f(?!isttp)[a-z0-9]+|emms|mov(?:[au]p|ntp|mskp|hp|lp|s)[sd]|mov(?:hl|lh)ps|movnt(?:i|q|dq)|mov[dq]"
+    r"|movdq[au]|mov(?:q2dq|dq2q)|maskmov(?:q|dqu)|(?:add|sub|mul|div|sqrt|min|max|cmp\w*)[sp][sd]|u?comis[sd]"
+    r"|(?:rcp|rsqrt)[sp]s|(?:andn?|or|xor|shuf|unpck[hl])p[sd]|cvtt?(?:p[sdi]|s[sdi]|dq)2(?:p[sdi]|s[sdi]|dq)"
+    r"|(?:ld|st)mxcsr|(?:s|l|m|cl)f(?:ence|lush)|prefetch(?:nta|t[012])|fx(?:save|rstor)(?:64)?"
+    r"|pack(?:ss(?:wb|dw)|uswb)|p(?:add|sub)(?:[bwdq]|u?s[bw])|pandn?|por|pxor|pcmp(?:eq|gt)[bwd]"
+    r"|pmul(?:[lh]w|huw|udq)|pmaddwd|pavg[bw]|p(?:max|min)(?:ub|sw)|pmovmskb|psadbw|pshuf(?:d|[hl]w|w)|pextrw"
+    r"|pinsrw|ps(?:[lr]l(?:[wdq]|dq)|ra[wd])|punpck[hl](?:bw|wd|dq|qdq))"
 )
 PREFIXES = re.compile(r"(?:(?:lock|repn?z?|repnz|bnd|notrack|data16|addr32|[cdefgs]s|rex(?:\.\w+)?)\s+)*")
 # Some that a processor may lack, of SSE3, SSSE3, SSE4, AVX, BMI and others.
-LACKED = "haddps addsubps lddqu fisttp pshufb palignr pabsd ptest pextrq pextrd extractps pcmpeqq pcmpgtq pmaxsd blendvpd roundsd crc32".split()
-LACKED += "popcnt lzcnt tzcnt andn bextr mulx shlx rorx movbe cmpxchg16b lahf vaddps vpxor movntdqa pmuldq packusdw".split()
+LACKED = """haddps addsubps lddqu fisttp pshufb palignr pabsd ptest pextrq pextrd extractps pcmpeqq pcmpgtq pmaxsd blendvpd
+    roundsd crc32 popcnt lzcnt tzcnt andn bextr mulx shlx rorx movbe cmpxchg16b lahf vaddps vpxor movntdqa pmuldq
+    packusdw""".split()
 # pcmpeqq of two registers, an instruction of SSE4.1.
 NOT_EVERYWHERE = bytes.fromhex("660f3829c1")
 
@@ -73,7 +77,8 @@ class Release:
 
     def take(self, files):
         os.makedirs(self.folder, exist_ok=True)
-        version = subprocess.run([files["cubejobs"], "--version"], stdout=subprocess.PIPE, text=True, check=True).stdout.split()[1]
+        how = {"stdout": subprocess.PIPE, "text": True, "check": True}
+        version = subprocess.run([files["cubejobs"], "--version"], **how).stdout.split()[1]
         for name, file in files.items():
             shutil.copyfile(file, os.path.join(self.folder, name))
             os.chmod(os.path.join(self.folder, name), 0o755 if name == "cubejobs" else 0o644)
@@ -139,7 +144,8 @@ def lacking(folder):
         lines = re.findall(r"^\s*[0-9a-f]+:\t(.*)$", text, re.M)
         found = {line for line in lines if not is_everywhere(line)}
         if found or len(lines) < 100:
-            yield f"{name} has {len(found)} instructions that an x86-64 may lack, of {len(lines)}: {', '.join(sorted(found)[:3])}"
+            some = ", ".join(sorted(found)[:3])
+            yield f"{name} has {len(found)} instructions that an x86-64 may lack, of {len(lines)}: {some}"
 
 
 def stale_copies():

@@ -4,7 +4,8 @@ Positions are those of the file's own text. The tests of this reader are rows of
 """
 import re
 
-LITERAL = re.compile(r"""//[^\n]*|/\*.*?\*/|"(?:\\.|[^"\\])*"|'(?:\\x[0-9a-fA-F]{2}|\\u\{[^}]*\}|\\.|[^\\'\n])'""", re.S)
+LETTER = r"""'(?:\\x[0-9a-fA-F]{2}|\\u\{[^}]*\}|\\.|[^\\'\n])'"""
+LITERAL = re.compile(r"""//[^\n]*|/\*.*?\*/|"(?:\\.|[^"\\])*"|""" + LETTER, re.S)
 COMMENT_OF_ANTT = re.compile(r"\{-.*?-\}|(?:^|(?<=\s))--+(?=\s|$)[^\n]*", re.S | re.M)
 ITEM = re.compile(
     r"\bghost\s+use\b[^;]*;"
@@ -48,7 +49,8 @@ class Item:
     """An item of a file, from `start` to `end`: a function, an `impl`, a type, a module, an import, or a ghost item."""
 
     def __init__(self, kind, name, file, start, module=(), around=None):
-        self.kind, self.name, self.file, self.start, self.module, self.around = kind, name, file, start, list(module), around
+        self.kind, self.name, self.file, self.start = kind, name, file, start
+        self.module, self.around = list(module), around
         self.visibility, self.head, self.text, self.inside, self.end = "", "", "", None, None
         self.clauses, self.items = [], []
 
@@ -159,7 +161,8 @@ def read_items(clean, file, module, around=None, at=0, end=None):
             at = item.end = clean.find(";", start) + 1 or len(clean)
             item.head = clean[start : at - 1]
         else:
-            at = read_end(clean, item, match.end("name") if kind == "fn" else match.end("kind") if match["kind"] else at)
+            head = "name" if kind == "fn" else "kind"
+            at = read_end(clean, item, match.end(head) if match["kind"] else at)
         if item.inside and kind != "ghost":
             inner = [*module, item.name] if kind == "mod" else module
             item.items = read_items(clean, file, inner, item, *item.inside)

@@ -29,7 +29,8 @@ def title(function):
 
 def methods(kind):
     """Returns the methods of a class that want nothing but their object, in their order."""
-    return [it for it in vars(kind).values() if inspect.isfunction(it) and [*inspect.signature(it).parameters] == ["self"]]
+    found = [it for it in vars(kind).values() if inspect.isfunction(it)]
+    return [it for it in found if [*inspect.signature(it).parameters] == ["self"]]
 
 
 def must(holds, what):

@@ -20,7 +20,8 @@ PROGRAM = "crates/jobs_cli/out/jobs_cli"
 def kit():
     if "rtlib" not in sys.modules:
         rt = shutil.which("rt") or sys.exit("rt is not on PATH")
-        loader = importlib.machinery.SourceFileLoader("rtlib", os.path.join(os.path.dirname(os.path.realpath(rt)), "rtlib.py"))
+        file = os.path.join(os.path.dirname(os.path.realpath(rt)), "rtlib.py")
+        loader = importlib.machinery.SourceFileLoader("rtlib", file)
         sys.modules["rtlib"] = importlib.util.module_from_spec(importlib.util.spec_from_loader("rtlib", loader))
         loader.exec_module(sys.modules["rtlib"])
     return sys.modules["rtlib"]

@@ -58,8 +58,8 @@ def words_of(crates, room):
         del words[at : at + 2]
     words[words.index("--links") + 1] = f"{JUDGED}="
     words = ["--crate-name", JUDGED, f"{JUDGED}/src/lib.rt", *words[words.index("src/lib.rt") + 1 :]]
-    read_too = [("--extern", f"core={kit().KIT}/rlibs/core.rlib"), *(pair for more in each[1:] for pair in zip(more, more[1:]))]
-    for flag, value in read_too:
+    core = "--extern", f"core={kit().KIT}/rlibs/core.rlib"
+    for flag, value in [core, *(pair for more in each[1:] for pair in zip(more, more[1:]))]:
         if flag in ("--extern", "-L") and value not in words:
             words += [flag, value]
     for crate in crates:
@@ -81,7 +81,8 @@ def run_check(turn, room, keep, tally, is_whole=False):
     returns what the check said."""
     put_copies(turn, room)
     each = [(crate, edit) for crate, batch in turn for edit in batch.edits]
-    only = dict.fromkeys(it for crate, edit in each for it in [*(path_of(it, crate) for it in edit.functions), *edit.only])
+    named = ([*(path_of(it, crate) for it in edit.functions), *edit.only] for crate, edit in each)
+    only = dict.fromkeys(it for names in named for it in names)
     words = [kit().RATTLE, "check", *words_of([crate for crate, _ in turn], room), "--incremental", f"{room}/kept"]
     words += [word for name in only if not is_whole for word in ("--only", name)]
     folder = f"{room}/{turn[0][0].name}" if turn[0][0].is_program else room
@@ -185,7 +186,8 @@ def work_of(options, tally):
 
 
 def show_plan(work, options, tally):
-    turns = [turn for track in tracks_of(work) for turn in turns_in([(crate, list(them), texts) for crate, them, texts in track])]
+    left = [[(crate, list(batches), texts) for crate, batches, texts in track] for track in tracks_of(work)]
+    turns = [turn for track in left for turn in turns_in(track)]
     for number, turn in enumerate(turns if options.plan else (), 1):
         for crate, batch in turn:
             print(f"check {number}: {crate.name}: {len(batch.edits)}: {' '.join(it.name for it in batch.edits)}")
@@ -195,7 +197,8 @@ def show_plan(work, options, tally):
 
 
 def cost_of(track):
-    return sum((sum(len(it.edits) + 10 for it in batches)) * sum(map(len, texts.values())) for _, batches, texts in track)
+    each = ((sum(len(it.edits) + 10 for it in batches), texts.values()) for _, batches, texts in track)
+    return sum(edits * sum(map(len, texts)) for edits, texts in each)
 
 
 def main(words):
@@ -215,6 +218,7 @@ def main(words):
         return show_plan(work, options, tally)
     build_below([it[0] for it in work], options.after_gate)
     with ThreadPoolExecutor(lanes()) as pool:
-        for ran in [pool.submit(try_track, it, options, tally) for it in sorted(tracks_of(work), key=cost_of, reverse=True)]:
+        tracks = sorted(tracks_of(work), key=cost_of, reverse=True)
+        for ran in [pool.submit(try_track, it, options, tally) for it in tracks]:
             ran.result()
     return tally.end()

@@ -48,7 +48,8 @@ SOURCES = {
         (None, "fn first() -> u8 { 1 }"), ("Second", "fn third(&self) -> u8 { 3 }")],
     "fn of(a: [u8; 2], f: fn(u8))\n ensures one { a } ensures { b } { c }\nstruct No { d: u8 }": [
         (None, "fn of(a: [u8; 2], f: fn(u8))\n ensures one { a } ensures { b } { c }")],
-    "trait Law { fn told() requires { a }; fn kept() { b } }\nimpl<T: A<B>> Law<T> for C<T> { fn told() { c } ghost d = { e } }": [
+    "trait Law { fn told() requires { a }; fn kept() { b } }\n"
+    "impl<T: A<B>> Law<T> for C<T> { fn told() { c } ghost d = { e } }": [
         ("Law", "fn kept() { b }"), ("CLaw", "fn told() { c }")],
     "impl Sink<Job> for Lanes { fn row() { // }\n '}'; \"}\" } }": [("LanesSinkJob", "fn row() { // }\n '}'; \"}\" }")],
 }
@@ -65,7 +66,8 @@ def judged(folder, *words):
 
 def plant(folder):
     for name, (file, old, new, _, *only) in PLANTED.items():
-        write(f"{folder}/{name}.edit", f"file: {file}\nold: {old}\nnew: {new}\n" + "".join(f"only: {it}\n" for it in only))
+        lines = [f"file: {file}", f"old: {old}", f"new: {new}", *(f"only: {it}" for it in only), ""]
+        write(f"{folder}/{name}.edit", "\n".join(lines))
 
 
 def of_the_reader():
@@ -108,7 +110,8 @@ def of_one(folder, words):
     is_tried = status == 0 and told == {WRONG: "refused"} and " in 1 checks " in said
     yield "a refused mutant passes, and a changed one is tried", is_tried, said
     logs = [read(it.path) for it in os.scandir(f"{folder}/kept")]
-    yield "an open goal is told, and not searched again", logs and all(OPEN in it and OFFER not in it for it in logs), logs
+    is_so = logs and all(OPEN in it and OFFER not in it for it in logs)
+    yield "an open goal is told, and not searched again", is_so, logs
 
 
 def main(words):

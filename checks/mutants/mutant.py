@@ -65,7 +65,8 @@ class Edit:
                 self.why = f"an old: text stands in {file} {count} times, and not once"
                 return
             at = texts[file].index(old)
-            held = [it for it in functions_in(file, texts[file]) if it.start <= at < it.end] if file.startswith("src/") else []
+            functions = functions_in(file, texts[file]) if file.startswith("src/") else []
+            held = [it for it in functions if it.start <= at < it.end]
             self.functions += [it for it in held[-1:] if it.key() not in [other.key() for other in self.functions]]
             texts = {**texts, file: texts[file].replace(old, new)}
         if not self.functions and any(file.startswith("src/") for file, _, _ in self.pairs):
@@ -130,7 +131,8 @@ class Batch:
 
     def takes(self, edit):
         held = {it.key() for other in self.edits for it in other.functions}
-        is_apart = edit.functions and all(it.functions for it in self.edits) and not held & {it.key() for it in edit.functions}
+        own = {it.key() for it in edit.functions}
+        is_apart = own and all(it.functions for it in self.edits) and not held & own
         changed = edit.apply(self.texts) if is_apart or not self.edits else None
         if changed is None:
             return False

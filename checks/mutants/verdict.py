@@ -88,7 +88,8 @@ class Kept:
     def __init__(self, is_used):
         caches = os.environ.get("XDG_CACHE_HOME") or os.path.expanduser("~/.cache")
         self.folder, self.is_used, self.sums = os.path.join(caches, "cubejobs", "edits"), is_used, {}
-        judges = (__file__, mutant.__file__, rattle_source.__file__, os.path.join(os.path.dirname(__file__), "edits.py"))
+        beside = os.path.join(os.path.dirname(__file__), "edits.py")
+        judges = (__file__, mutant.__file__, rattle_source.__file__, beside)
         self.own = hashlib.sha256(b"".join(read_bytes(file) for file in judges)).hexdigest()
 
     def file(self, crate, edit):
@@ -117,7 +118,8 @@ class Tally:
     """The lines that are printed, and how many mutants there are of each verdict."""
 
     def __init__(self, kept):
-        self.counts, self.lock, self.seconds, self.checks, self.kept, self.of_earlier = {}, threading.Lock(), 0.0, 0, kept, 0
+        self.counts, self.lock, self.kept = {}, threading.Lock(), kept
+        self.seconds, self.checks, self.of_earlier = 0.0, 0, 0
 
     def tell(self, crate, edit, word, reason):
         with self.lock:
@@ -147,7 +149,8 @@ def unreached(crate, batch, lines, tally):
     """Returns lists of the mutants of a batch of which the check says nothing, each list for a check; tells of a single
     one."""
     if len(batch.edits) > 1:
-        named = [it for it in batch.edits if any(told_of(function, "", batch.texts, lines)[0] for function in it.functions)]
+        is_told = lambda edit: any(told_of(it, "", batch.texts, lines)[0] for it in edit.functions)
+        named = [*filter(is_told, batch.edits)]
         others = [it for it in batch.edits if it not in named]
         return [*([it] for it in named), others] if named else [[it] for it in others]
     first = next((it for it in lines if "error" in it), lines[-1])

@@ -62,7 +62,8 @@ WRITTEN = (
 SUFFIX = r"(?:[ui](?:8|16|32|64|128|size))?"
 POWER = rf"(?:(?P<base>[12]){SUFFIX}\s*(?P<sign>\^|<<|\.pow\()\s*)?"
 # A number, with the power that it may be the exponent of; no part of a name, and no field such as `pair.0`.
-LITERAL = re.compile(rf"(?<![\w\-])(?<!(?<!\.)\.){POWER}(?P<digits>0[xob][\da-fA-F_]+|\d[\d_]*?){SUFFIX}(?![\w\-]|\.\d)")
+DIGITS = r"(?P<digits>0[xob][\da-fA-F_]+|\d[\d_]*?)"
+LITERAL = re.compile(rf"(?<![\w\-])(?<!(?<!\.)\.){POWER}{DIGITS}{SUFFIX}(?![\w\-]|\.\d)")
 
 
 def value(match):

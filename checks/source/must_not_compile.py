@@ -68,6 +68,7 @@ use floors::Floor;
 use job_queue::JobLine;
 use job_types::Reply;
 """
+OF_SHOP = ["dispatcher", "floors", "job_queue", "job_types"]
 SHOP, PARTS = "<L: JobLine, F: Floor>", "pass: L::Pass, station: F::Station"
 MEMBERS = [(name, error, SHOP + signature, body) for name, error, signature, body in (
     ("reads_the_replies", FINE, "(end: &WorkerEnd<L, F>) -> usize", "end.replies().len()"),
@@ -193,6 +194,6 @@ def main(words):
         Row("handles that are used twice", library, (["cube_tree"], OVER_TREE, GOOD + USES)),
         Row("takes under a lock", library, (["cube_tree"], OVER_LOCK, LOCKED)),
         *(Row(f"steps of the line, list {number}", line, (wrong,)) for number, wrong in enumerate(WRONG_STEPS, 1)),
-        Row("ends that are put together", library, (["dispatcher", "floors", "job_queue", "job_types"], OVER_SHOP, MEMBERS)),
+        Row("ends that are put together", library, (OF_SHOP, OVER_SHOP, MEMBERS)),
     ]
     return run_rows("must_not_compile", rows, says_ok=True)

@@ -23,11 +23,13 @@ import sys
 from checks.lib.rattle_source import TYPES, all_items, blanked, items_in, passed_on, uncommented
 from checks.lib.repository import NO_LIBRARIES, crate_names, files_below, path, place, read
 from checks.lib.rows import print_faults
+
 # What a reader of a promise has to believe: the public items of these crates, or those of this name alone, and the most
 # lines that all of their clauses may reach, in whatever crate. The theorem is `Shop::finish`, with the contracts of the
 # queues, allocators and runners that it speaks of, and with what its values say of a reply and of a job. Over threads
 # it is `crew::run`. CONTRIBUTING.md says when a budget may be raised.
-OF_THE_THEOREM = (("dispatcher", "finish"), ("dispatcher", "run"), ("job_queue", None), ("floors", None), ("job_types", "at"), ("job_types", "tally"), ("job_types", "dim"))
+OF_THE_THEOREM = (("dispatcher", "finish"), ("dispatcher", "run"), ("job_queue", None), ("floors", None),
+                  ("job_types", "at"), ("job_types", "tally"), ("job_types", "dim"))
 WHOLES = {
     "the theorem": (OF_THE_THEOREM, 320),
     "the theorem over threads": ((*OF_THE_THEOREM, ("crew", "run")), 400),
@@ -36,8 +38,12 @@ WHOLES = {
 
 # A name or a path of names: anything but spaces, brackets, commas and semicolons.
 TOKEN = re.compile(r"[^\s(){}\[\],;]+")
-HEADER = re.compile(r"(?:(?:(?:pub|abbrev|unfoldable|opaque|data|record|law|mutual)\s+)*)(?P<name>[^\s:(){},]+)\s*(?:[({][^=]*[)}]\s*)?:(?=\s)")
-IMPORT = re.compile(r"(?P<words>(?:(?:pub|abbrev|unfoldable|ghost)\s+)*)use\s+(?P<path>[^\s;{]+?)\.?(?:\{(?P<names>[^}]*)\})?(?:\s+as\s+(?P<alias>[^\s;]+))?\s*;?\s*$", re.S)
+HEADER = re.compile(
+    r"(?:(?:(?:pub|abbrev|unfoldable|opaque|data|record|law|mutual)\s+)*)"
+    r"(?P<name>[^\s:(){},]+)\s*(?:[({][^=]*[)}]\s*)?:(?=\s)")
+IMPORT = re.compile(
+    r"(?P<words>(?:(?:pub|abbrev|unfoldable|ghost)\s+)*)use\s+(?P<path>[^\s;{]+?)\.?"
+    r"(?:\{(?P<names>[^}]*)\})?(?:\s+as\s+(?P<alias>[^\s;]+))?\s*;?\s*$", re.S)
 
 
 class Definition:
@@ -214,7 +220,8 @@ def laws():
     """Returns the names of the laws of all traits: the ghost items below a trait's last function. What an `impl` gives
     for a law is a proof, which nobody has to believe."""
     items = [item for crate in crate_names() for file in sources_of(crate).values() for item in all_items(file)]
-    return {law.name for item in items if item.kind == "trait" for law in after_functions(item.items) if law.kind == "ghost"}
+    traits = [after_functions(item.items) for item in items if item.kind == "trait"]
+    return {law.name for below in traits for law in below if law.kind == "ghost"}
 
 
 def after_functions(items):
@@ -287,7 +294,8 @@ def named_in_documents():
             owners = re.findall(r"crates/(\w+)", line)
         for quoted in re.findall(r"`([^`]+)`", line):
             for crate in owners:
-                found.setdefault(crate, set()).update(piece for token in TOKEN.findall(quoted) for piece in [token, *token.split(".")])
+                pieces = (piece for token in TOKEN.findall(quoted) for piece in [token, *token.split(".")])
+                found.setdefault(crate, set()).update(pieces)
     return found
 
 
@@ -316,13 +324,14 @@ class Surface:
         every = [it for module in self.specs.modules.values() for it in module.values()]
         self.unreached = [it for it in every if it not in reached and not it.is_inner()]
         self.stale = list(stale_names(every))
-        self.kept_back = [why for crate in self.crates if crate not in NO_LIBRARIES for why in self.not_passed_on(crate)]
+        libraries = [crate for crate in self.crates if crate not in NO_LIBRARIES]
+        self.kept_back = [why for crate in libraries for why in self.not_passed_on(crate)]
 
     def not_passed_on(self, crate):
         """What the public clauses of a library cite of the crates below, and the library does not pass on."""
         for it in sorted(set(self.roots[crate]), key=str):
             if it.crate != crate and not self.specs.passes_on(crate, it):
-                yield f"crates/{crate}/specs/Lib.antt does not pass on {it} of {it.crate}, which its public clauses cite"
+                yield f"crates/{crate}/specs/Lib.antt does not pass on {it} of {it.crate}, which its clauses cite"
 
     def table(self):
         yield ("crate", "definitions", "lines", "with below", "lines", "not named", "unreached", "lines")

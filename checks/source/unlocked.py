@@ -21,7 +21,7 @@ from checks.lib.toolchain import crates
 TOPS = ("ruled_line", "tree_floor")
 ALLOWED = {"std", "atomic_table", "bitflags", "crossbeam_queue", "crossbeam_utils", "thiserror"}
 LOCKS = re.compile(
-    r"\b(?:\w*Mutex\w*|\w+Lock|\w+LockReadGuard|\w+LockWriteGuard|Condvar|Barrier|OnceCell|mpsc|lock|try_lock|locked_\w+)\b"
+    r"\b(?:\w*Mutex\w*|\w+Lock|\w+Lock(?:Read|Write)Guard|Condvar|Barrier|OnceCell|mpsc|(?:try_)?lock|locked_\w+)\b"
     r"|\bsync::(?:\{[^}]*)?\bOnce\b|\bcrossbeam_utils\b(?!::Backoff;)"
 )
 FOREVER = re.compile(r"\bforever\b")

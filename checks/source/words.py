@@ -16,19 +16,19 @@ from checks.lib.rows import print_faults
 NOBODYS = ("Lane", "Pass", "Station")
 # Which crates have a type of this name, and why that misleads nobody.
 ALLOWED = {
-    "Answer": ("cubejobs_c cubejobs_tree", "what a call of a library for C answers; no crate stands on either, and each has a header of its own"),
-    "Entry": ("job_queue tree_steps", "a lane's entry into a line, and a station's member of a seat, which cube_tree alone names"),
+    "Answer": ("cubejobs_c cubejobs_tree", "what a call of a library for C answers; each has a header of its own"),
+    "Entry": ("job_queue tree_steps", "a lane's entry into a line, and a station's member of a seat"),
     "Finished": ("dispatcher line_run", "what is known at the end: of a shop, of a run over a line alone"),
-    "FreeMachine": ("cube_tree locked_floor", "what the close of a tree, and of a floor under a lock, gives; callers of floors see F::Machine"),
+    "FreeMachine": ("cube_tree locked_floor", "what a close gives; callers of floors see F::Machine"),
     "Kind": ("cube_core job_types", "of an event, and of a collective; a caller of jobs sees no event"),
     "LaneRecord": ("job_queue line_ring", "what a lane has done, at a line and at its ring, which ruled_line joins"),
     "Opened": ("dispatcher job_queue", "a new shop, and a new line, each with all that its callers need"),
     "PassRecord": ("job_queue line_ring", "what a pass has done, at a line and at its ring, which ruled_line joins"),
     "Reading": ("job_queue line_gate", "what a pass read of a line, and of its gate, which ruled_line joins"),
     "Refused": ("cube_core job_queue", "a refused call of the pure machine, and a refused job of a line"),
-    "Request": ("cli_words job_types", "what a command line asks for, and what a job asks for; a caller of either sees one of them"),
+    "Request": ("cli_words job_types", "of a command line, and of a job; a caller of either sees one"),
     "Row": ("jobs_csv test_kit", "what is written as a line of CSV, and a row of a test"),
-    "Tally": ("collectives uses", "rounds and messages, and what a stranger's line counts in a caller that nobody builds on"),
+    "Tally": ("collectives uses", "rounds and messages, and what a stranger's line counts"),
 }
 
 

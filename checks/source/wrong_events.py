@@ -19,8 +19,9 @@ from checks.mutants.mutant import Edit, texts_of
 from checks.mutants.verdict import lines_of, names_of
 
 CRATE = "cube_core"
-HOW = {"stdout": subprocess.PIPE, "stderr": subprocess.STDOUT, "stdin": subprocess.DEVNULL, "text": True, "check": False}
+HOW = {"stdout": subprocess.PIPE, "stderr": subprocess.STDOUT, "stdin": subprocess.DEVNULL, "text": True}
 LEMMA = re.compile(r"(?m)^(?:\./)?proofs/([A-Za-z]*)\.antt:[0-9:]* error: `([^`]*)`")
+CALLS = re.compile(r"[:;] it calls ")
 OTHER = re.compile(r"(\./)?(proofs/[a-z_]*/|src/)|(note: )?(\./)?(src|specs|proofs)/.*it is not proved that")
 
 
@@ -65,7 +66,7 @@ class Event:
             return "the law is proved all the same"
         if not refused(lines):
             return "no lemma refuses it"
-        unproved = [it for it in self.code if states[it][0] != "proved" and not re.match(r"[:;] it calls ", states[it][1])]
+        unproved = [it for it in self.code if states[it][0] != "proved" and not CALLS.match(states[it][1])]
         if unproved or others(lines):
             return "the code does not meet the changed definition:\n" + "\n".join([*unproved, *others(lines)][:20])
         more = refused(lines) - {*self.lemmas}
@@ -75,7 +76,7 @@ class Event:
 def check(events, room):
     words = [kit().RATTLE, "check", *words_of([it.crate for it in events], room)]
     words += [word for event in events for name in (*event.code, event.law) for word in ("--only", name)]
-    return subprocess.run(words, cwd=room, **HOW).stdout
+    return subprocess.run(words, cwd=room, check=False, **HOW).stdout
 
 
 def main(words):
@@ -92,5 +93,6 @@ def main(words):
             why = cannot[event] or event.why_not(own)
             failed += bool(why)
             by = " ".join(sorted(refused(lines_of(own, event.crate.name))))
-            print(f"{'FAILED: ' if why else ''}wrong_events: {event.edit.name}: {why or f'refused by {by}'}", flush=True)
+            told = f"{event.edit.name}: {why or f'refused by {by}'}"
+            print(f"{'FAILED: ' if why else ''}wrong_events: {told}", flush=True)
     return 1 if failed or not events else 0

@@ -65,6 +65,7 @@ UNEXPECTED = {
     "dispatchers of a place": ("place --dim 3 --dispatchers 2", "--dispatchers"),
 }
 # The words, and the first line of standard error.
+NO_VALUE = "a value is required for '{}' but none was supplied"
 MISSING, NO_MORE = "the following required arguments were not provided:", "found; no more were expected"
 OTHERS = {
     "no command": ("", "'cubejobs' requires a subcommand but one was not provided"),
@@ -72,10 +73,10 @@ OTHERS = {
     "capital letters": ("RUN --dim 3", "unrecognized subcommand 'RUN'"),
     "no dimension": ("run", MISSING),
     "no stations": ("replay --dim 3", MISSING),
-    "an output with no name": ("place --dim 3 --output", "a value is required for '--output <FILE>' but none was supplied"),
+    "an output with no name": ("place --dim 3 --output", NO_VALUE.format("--output <FILE>")),
     "an input that is no text": (["run", "--dim", "3", b"\xff"], NO_TEXT),
-    "a dimension with no number": ("run --dim", f"a value is required for '{N}' but none was supplied"),
-    "an option for a number": ("run --dim --capacity 3", f"a value is required for '{N}' but none was supplied"),
+    "a dimension with no number": ("run --dim", NO_VALUE.format(N)),
+    "an option for a number": ("run --dim --capacity 3", NO_VALUE.format(N)),
     "help of a command as a word": ("run help", MISSING),
     "help with a value": ("run --help=3", f"unexpected value '3' for '--help' {NO_MORE}"),
     "help of no command": ("help walk", "unrecognized subcommand 'walk'"),
@@ -123,7 +124,8 @@ HELPS = {
     "report": ("report --help", [JOBS, TOTALS, *OF_EVERY_FILE, *OF_A_SHOP, r"\bSpent\b", r"cubejobs report --dim \d"]),
     "place": ("place --help", [COMMANDS, ANSWERS, *OF_EVERY_FILE, r"cubejobs place --dim \d"]),
     "run, after a good option": ("run --dim 3 --help", [JOBS, REPLIES]),
-    "replay": ("replay --help", [CALLS, EVENTS, *OF_EVERY_FILE, RANGE(1, 48), *WRITTEN_LIMITS, r"cubejobs replay --dim \d"]),
+    "replay": (
+        "replay --help", [CALLS, EVENTS, *OF_EVERY_FILE, RANGE(1, 48), *WRITTEN_LIMITS, r"cubejobs replay --dim \d"]),
 }
 
 

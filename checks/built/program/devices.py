@@ -150,17 +150,19 @@ def rows(program):
     yield Row("device: a reader that takes one line", first_line_alone, (program,))
     # against a program that reads to the end before it looks at the first record, or waits where there is nothing yet
     for words, header in HEADERS.items():
-        command, title = [program, *words.split(), "--dim", "3"], f"{words.split()[0]}: input that stays open after record"
+        command, name = [program, *words.split(), "--dim", "3"], words.split()[0]
         for number, given in enumerate(("x\n", f"{header}\nx\n")):
-            yield Row(f"{title} {number}", stays_open, (command, given, 1, f"refused: record {number}: Fields\n", True))
+            title = f"{name}: input that stays open after record {number}"
+            yield Row(title, stays_open, (command, given, 1, f"refused: record {number}: Fields\n", True))
     for name, (given, status, err) in NOT_WAITED_FOR.items():
         yield Row(f"device: {name}", stays_open, (run, given, status, err, False))
     yield Row("run: input that comes byte by byte", byte_by_byte, (run, CUT_ANYWHERE, REPLY))
-    # against a program that waits for an output which takes a part and then no byte more, or that says that all went out
+    # against a program that waits for an output which takes a part and no byte more, or that says that all went out
     yield Row("device: a named file at its limit", named_file_with_a_limit, (place, "new.csv"))
     yield Row("device: a named file at its limit, in place of another", named_file_with_a_limit, (place, "old.csv"))
     yield Row("device: output that is full and not waited for", pipe_that_is_full, (place,))
     yield Row("device: output that has some room and is not waited for", pipe_with_room, (place,))
     # Python ignores the signal that the system sends at the limit, and so does the program then.
     yield Row("device: a file at its limit", file_with_a_limit, (place, 3, WRITE, False))
-    yield Row("device: a file at its limit, and the signal of it", file_with_a_limit, (place, -signal.SIGXFSZ, "", True))
+    ended = place, -signal.SIGXFSZ, "", True
+    yield Row("device: a file at its limit, and the signal of it", file_with_a_limit, ended)

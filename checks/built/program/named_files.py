@@ -73,7 +73,8 @@ DENIED = {
     "an input that may not be read": ("secret.csv", "input: Denied: secret.csv"),
     "an output that may not be written": ("--output fixed.csv", "output: Denied: fixed.csv"),
     "an output in a folder that may not be written": ("--output shut/new.csv", "output: Denied: shut/new.csv"),
-    "an output over a file in a folder that may not be written": ("--output shut/old.csv", "output: Denied: shut/old.csv"),
+    "an output over a file in a folder that may not be written": (
+        "--output shut/old.csv", "output: Denied: shut/old.csv"),
 }
 MODES = {"secret.csv": 0o200, "fixed.csv": 0o444, "shut": 0o555, "shut/old.csv": 0o666, ".": 0o777}
 

@@ -125,7 +125,8 @@ REPLAYS = {
         refused,9223372036854775809,-,notincube refused,18446744073709551615,-,notincube refused,0,-,notincube
         refused,16,-,notincube; 4294967296: refused,4294967297,-,nostation; 0: refused,-,-,resting; -: end,-,-,0"""),
     "a hundred steps": (
-        "0", "1", "0: take,1 step,100", f"0: look,1,-,free claim,1,OLR,held {'refused,-,-,resting ' * 98}; -: end,1,OLR,- end,-,-,1",
+        "0", "1", "0: take,1 step,100", 
+        "0: look,1,-,free claim,1,OLR,held" + " refused,-,-,resting" * 98 + "; -: end,1,OLR,- end,-,-,1",
     ),
     "a million calls": ("3", "1", "0:" + " run" * MOST, "-: end,-,-,0"),
     "refused calls": ("1", "1", "0: step,1 release; 5: take,1; 0: take,4 retire take,1",
@@ -172,6 +173,7 @@ REFUSED = {
 
 def rows(program):
     for name, (n, stations, calls, out) in REPLAYS.items():
-        words, given = f"replay --dim {n} --stations {stations}", of_stations(calls, ",-") if isinstance(calls, str) else calls
+        words = f"replay --dim {n} --stations {stations}"
+        given = of_stations(calls, ",-") if isinstance(calls, str) else calls
         yield Row(f"replay: {name}", *answered(program, words, CALLS, given, EVENTS, of_stations(out)))
     yield from refused(program, "replay --stations 1", REFUSED)

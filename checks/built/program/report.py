@@ -27,14 +27,16 @@ REPORTS = {
     "five jobs of each lane": ("2", [f"{15 - at % 16},allreduce,add,0,{at} 1" for at in range(80)],
         totals(["5,10,0"] * 16, [NONE, "80,160,0", NONE], "80,160,0")),
     "jobs as large as the machine": (
-        "12", [f"0,allreduce,add,0,{many(4096, 1)}"] * 4, totals(["4,16384,0"], [NONE] * 12 + ["4,16384,0"], "4,16384,0"),
+        "12", [f"0,allreduce,add,0,{many(4096, 1)}"] * 4,
+        totals(["4,16384,0"], [NONE] * 12 + ["4,16384,0"], "4,16384,0"),
     ),
     "jobs that do not fill their subcubes": ("3", "0,allreduce,add,0,1 2 3; 0,scan,min,0,9 4 7 3 8",
         totals(["2,12,4"], [NONE, NONE, "1,4,1", "1,8,3"], "2,12,4")),
     "idle processors of two lanes": ("2", "1,scan,xor,0,1 2 3; 0,reduce,add,2,5 3 9; 1,broadcast,-,0,4",
         totals(["1,4,1", "2,5,1"], ["1,1,0", NONE, "2,8,2"], "3,9,2")),
     "1,000 numbers": (
-        "10", [f"0,allreduce,add,0,{first(1000, 1)}"] * 3, totals(["3,3072,72"], [NONE] * 10 + ["3,3072,72"], "3,3072,72"),
+        "10", [f"0,allreduce,add,0,{first(1000, 1)}"] * 3,
+        totals(["3,3072,72"], [NONE] * 10 + ["3,3072,72"], "3,3072,72"),
     ),
 }
 # The largest file of jobs that is answered.
@@ -44,7 +46,8 @@ MILLION = f"{MOST},{MOST},0"
 def rows(program):
     for name, (n, given, out) in REPORTS.items():
         for shop in SHOPS:
-            yield Row(f"report {shop}: {name}", *answered(program, f"report --dim {n} {shop}", JOBS, given, TOTALS, out))
+            words = f"report --dim {n} {shop}"
+            yield Row(f"report {shop}: {name}", *answered(program, words, JOBS, given, TOTALS, out))
     given, out = ["0,scan,add,0,7"] * MOST, totals([MILLION], [MILLION], MILLION)
     yield Row("report: a million jobs", *answered(program, "report --dim 0", JOBS, given, TOTALS, out))
     yield from refused(program, "report", REFUSED)
