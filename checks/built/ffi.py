@@ -13,6 +13,7 @@ import re
 import shutil
 import subprocess
 import tempfile
+from typing import NamedTuple, Sequence
 
 from checks.built import archive, static
 from checks.lib.repository import files_below, path, read
@@ -50,77 +51,76 @@ def build(crate, after_gate):
         subprocess.run(["rt", "lib", *FOR_ANY], cwd=path("crates", crate), stdout=subprocess.DEVNULL, check=True)
 
 
-def compiled(room, compiler, source, libraries, *flags):
-    has, tried = shutil.which(compiler[0]), [*compiler, "-o", "/dev/null", "-"]
-    if not has or compiler[0] == "clang" and answer(tried, "int main(void) { return 0; }")[0]:
-        raise Skipped(f"no {' '.join(compiler)} here")
-    out = os.path.join(room, "program")
-    words = [*compiler, *STRICT, path(source), "-xnone", *flags, *libraries, "-pthread", "-o", out]
-    status, _, said = answer(words, timeout=SECONDS)
-    must(status == 0, f"{' '.join(words)}: {said.decode(errors='replace')}")
-    return out
+class Program(NamedTuple):
+    """A C program: its source, its libraries, and how it is compiled and run. It may have to show what a file has."""
+
+    source: str
+    libraries: Sequence[str]
+    compiler: Sequence[str] = CHECKED
+    flags: Sequence[str] = ()
+    words: Sequence[str] = ()
+    placed: Sequence[str] = ()
+    shown: str = ""
+
+    def start(self, room):
+        """Compiles and runs the program over the libraries of a folder. Returns its status and its outputs."""
+        has, tried = shutil.which(self.compiler[0]), [*self.compiler, "-o", "/dev/null", "-"]
+        if not has or self.compiler[0] == "clang" and answer(tried, "int main(void) { return 0; }")[0]:
+            raise Skipped(f"no {' '.join(self.compiler)} here")
+        libraries = [f"{room}/lib{it}.a" if it in BELOW else it for it in self.libraries]
+        words = [*self.compiler, *STRICT, path(self.source), "-xnone", *self.flags, *libraries, "-pthread"]
+        status, _, said = answer([*words, "-o", f"{room}/program"], timeout=SECONDS)
+        must(status == 0, f"{' '.join(words)}: {said.decode(errors='replace')}")
+        return answer([*self.placed, f"{room}/program", *self.words], timeout=SECONDS)
 
 
-def must_run(room, compiler, source, libraries, flags, words, placed, shown):
-    """Compiles and runs a program, which must end well, and show what the file has."""
-    command = [*placed, compiled(room, compiler, source, libraries, *flags), *map(str, words)]
-    status, out, said = answer(command, timeout=SECONDS)
+def must_run(room, program):
+    """Sees that a program ends well, and shows what its file has."""
+    status, out, said = program.start(room)
     must(status == 0, f"status {status}: {(out + said).decode(errors='replace')[-2000:]}")
-    if shown:
-        must(out.decode() == read(shown), f"it shows {out.decode()!r}")
-    return out.decode().strip() if not shown else ""
+    if program.shown:
+        must(out.decode() == read(program.shown), f"it shows {out.decode()!r}")
+    return "" if program.shown else out.decode().strip()
 
 
-def must_be_seen(room, compiler, flags, words, warning):
+def must_be_seen(room, program, warning):
     """Sees that a sanitizer stops a program with this warning."""
-    program = compiled(room, compiler, TREE_CALLS, [f"{room}/lib{TREE}.a"], *flags)
-    status, out, said = answer([*PLACED, program, *words], timeout=SECONDS)
+    status, out, said = program.start(room)
     must(status != 0 and warning in out + said, f"status {status}, and no {warning.decode()}")
 
 
-TREE_CALLS = "checks/built/tree_calls.c"
-EXAMPLES = {EXACT: ("subcubes", "fit"), TREE: ("threads", "arena")}
+CALLS = "checks/built/{}_calls.c".format
 
 
 def programs(longer):
-    """Returns the programs: what each is, its compiler, its source, its library, its words, and how it is started."""
-    calls = [(f"{name}.c", EXACT, [100_000 * min(longer, 10)], []) for name in ("ffi_calls", "fit_calls")]
-    tried = [(*one[:1], compiler, *one[1:]) for compiler in (CHECKED, CXX) for one in calls]
-    tried += [
-        ("tree_calls.c", CHECKED, TREE, [10_000 * longer], []),
-        ("tree_calls.c", RACES, TREE, [500 * longer], PLACED),
-        ("tree_calls.c", CLANG, TREE, [2000 * longer], PLACED),
-        ("tree_calls.c", CXX, TREE, [20_000 * longer], []),
-        ("arena_calls.c", CHECKED, TREE, [], []),
-    ]
-    return tried
+    """Yields the programs that must end well."""
+    for compiler in (CHECKED, CXX):
+        for name in ("ffi", "fit"):
+            yield Program(CALLS(name), [EXACT], compiler, words=[str(100_000 * min(longer, 10))])
+        for name in ("subcubes", "fit"):
+            yield Program(f"examples/{name}.c", [EXACT], compiler, shown=f"examples/{name}.out")
+    for compiler, pairs, placed in ((CHECKED, 10_000, ()), (RACES, 500, PLACED), (CLANG, 2000, PLACED), (CXX, 20_000, ())):
+        yield Program(CALLS("tree"), [TREE], compiler, words=[str(pairs * longer)], placed=placed)
+    for name in ("threads", "arena"):
+        yield Program(f"examples/{name}.c", [TREE], shown=f"examples/{name}.out")
+    yield Program(CALLS("arena"), [TREE])
+    stated = re.search(STATED, read("include/cubejobs_tree.h")).groups()
+    yield Program("checks/built/tree_memory.c", [TREE], C, ["-Wl,--wrap=malloc,--wrap=free"], stated)
 
 
 def rows(room, longer):
-    libraries = {crate: f"{room}/lib{crate}.a" for crate in (EXACT, TREE)}
-    for source, compiler, crate, words, placed in programs(longer):
-        title = f"{source} by {' '.join(compiler)}"
-        file = f"checks/built/{source}"
-        yield Row(title, must_run, (room, compiler, file, [libraries[crate]], [], words, placed, ""))
-    for crate, compiler in ((EXACT, CHECKED), (EXACT, CXX), (TREE, CHECKED)):
-        for name in EXAMPLES[crate]:
-            example = f"examples/{name}.c", [libraries[crate]], [], [], [], f"examples/{name}.out"
-            yield Row(f"examples/{name}.c by {' '.join(compiler)}", must_run, (room, compiler, *example))
-    stated = re.search(STATED, read("include/cubejobs_tree.h")).groups()
-    wrapped = "checks/built/tree_memory.c", [libraries[TREE]], ["-Wl,--wrap=malloc,--wrap=free"]
-    yield Row("tree_memory.c", must_run, (room, C, *wrapped, stated, [], ""))
+    for program in programs(longer):
+        yield Row(f"{program.source} by {' '.join(program.compiler)}", must_run, (room, program))
     # What a sanitizer must see: a race that no region guards, and an answer that no header calls written.
-    race = b"WARNING: ThreadSanitizer: data race"
-    yield Row("a race is seen", must_be_seen, (room, RACES, ["-DUNGUARDED"], ["500"], race))
-    unmarked = [*CLANG, f"-I{room}/unmarked"]
-    yield Row("what is not written is seen", must_be_seen, (room, unmarked, [], ["20"], b"WARNING: MemorySanitizer"))
-    # A library keeps its names to itself: it is linked whole beside the other one, and beside names of the program's
-    # own.
+    race = Program(CALLS("tree"), [TREE], RACES, ["-DUNGUARDED"], ["500"], PLACED)
+    yield Row("a race is seen", must_be_seen, (room, race, b"WARNING: ThreadSanitizer: data race"))
+    unmarked = Program(CALLS("tree"), [TREE], [*CLANG, f"-I{room}/unmarked"], [], ["20"], PLACED)
+    yield Row("what is not written is seen", must_be_seen, (room, unmarked, b"WARNING: MemorySanitizer"))
+    # A library keeps its names to itself: it is linked whole beside the other one, and beside names of the program's own.
     for whole in ([EXACT, TREE], [TREE, EXACT], []):
-        both = ["-Wl,--whole-archive", *map(libraries.get, whole), "-Wl,--no-whole-archive"] if whole else [libraries[TREE]]
-        names = ["-xc", f"{room}/own.c", "-xnone"]
-        example = "examples/threads.c", both, names, [], [], "examples/threads.out"
-        yield Row(f"names of its own, and {' and '.join(whole) or TREE}", must_run, (room, C, *example))
+        both = ["-Wl,--whole-archive", *whole, "-Wl,--no-whole-archive"] if whole else [TREE]
+        names = Program("examples/threads.c", both, C, ["-xc", f"{room}/own.c", "-xnone"], shown="examples/threads.out")
+        yield Row(f"names of its own, and {' and '.join(whole) or TREE}", must_run, (room, names))
 
 
 def rust(room):

@@ -149,8 +149,8 @@ def unreached(crate, batch, lines, tally):
     """Returns lists of the mutants of a batch of which the check says nothing, each list for a check; tells of a single
     one."""
     if len(batch.edits) > 1:
-        is_told = lambda edit: any(told_of(it, "", batch.texts, lines)[0] for it in edit.functions)
-        named = [*filter(is_told, batch.edits)]
+        texts = batch.texts
+        named = [it for it in batch.edits if any(told_of(held, "", texts, lines)[0] for held in it.functions)]
         others = [it for it in batch.edits if it not in named]
         return [*([it] for it in named), others] if named else [[it] for it in others]
     first = next((it for it in lines if "error" in it), lines[-1])

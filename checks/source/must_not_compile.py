@@ -15,7 +15,7 @@ import tempfile
 from functools import partial
 
 from checks.lib.repository import read, write
-from checks.lib.rows import Row, Wrong, must, run_rows
+from checks.lib.rows import Row, must, run_rows
 from checks.lib.toolchain import AFTER_GATE, build_below, check_words, crates
 
 # The errors by which a function is refused. FINE is one that the compiler takes.
