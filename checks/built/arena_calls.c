@@ -1,5 +1,5 @@
-/* Calls the allocator of examples/arena.c: each block is aligned to its size, rounded up to pages and a power of two, and
- * a size that the arena has not is refused. */
+/* Calls the allocator of examples/arena.c: each block is aligned to its size, rounded up to pages and a power of two,
+ * and a size that the arena has not is refused. */
 #define main example_main
 #include "../../examples/arena.c"
 #undef main

@@ -6,7 +6,7 @@
 #include <string.h>
 
 static uint64_t seed = 88172645463325252u;
-/* The dimension of the machine that is called, which is told where a call answers otherwise. */
+/* The dimension of the machine that is called, which is printed where a call answers otherwise. */
 static unsigned dim;
 
 static inline uint64_t next(uint64_t *state) {

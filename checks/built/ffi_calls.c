@@ -124,7 +124,8 @@ static void call_once(void) {
     } else if (call < 5) {
         expect(same(got = cubejobs_release(machine, station), model_release(station)), "release");
     } else if (call < 7) {
-        expect(same(got = cubejobs_take_region(machine, station, base, k), model_take_region(station, base, k)), "take of a region");
+        got = cubejobs_take_region(machine, station, base, k);
+        expect(same(got, model_take_region(station, base, k)), "take of a region");
     } else if (call == 7) {
         got = take_any(k);
     } else {
@@ -185,7 +186,7 @@ static void expect_regions(void) {
     expect(cubejobs_take_region(machine, 1, 8, 1).code == CUBEJOBS_BAD_BASE, "a pair at 8");
     expect(cubejobs_take_region(machine, 1, 4, 2).code == CUBEJOBS_NO_SUBCUBE, "four processors at 4");
     expect(cubejobs_take_region(machine, 0, 0, 0).code == CUBEJOBS_STATION_HOLDS, "a second region of station 0");
-    for (unsigned k = 0; k < 5; k++) expect(cubejobs_free_regions(machine, k) == left[k], "free regions beside the pair at 4");
+    for (unsigned k = 0; k < 5; k++) expect(cubejobs_free_regions(machine, k) == left[k], "what the pair at 4 leaves");
 }
 
 // Worked rows on the largest machine: the code of each bad argument, the first of two; and each station holds a
@@ -205,8 +206,9 @@ static void expect_codes(void) {
     for (unsigned station = 0; station < 48; station++)
         expect(same(cubejobs_take(machine, station, 0), answer(CUBEJOBS_DONE, 0, station)), "48 takes");
     expect(cubejobs_take(machine, 48, 0).code == CUBEJOBS_BAD_STATION, "a take of station 48");
-    expect(cubejobs_free_regions(machine, 0) == 4048 && cubejobs_free_regions(machine, 11) == 1, "what 48 stations leave");
-    expect(cubejobs_holder(machine, 47).found && cubejobs_holder(machine, 47).station == 47, "the holder of processor 47");
+    expect(cubejobs_free_regions(machine, 0) == 4048, "what 48 stations leave");
+    expect(cubejobs_free_regions(machine, 11) == 1, "the largest region that they leave");
+    expect(cubejobs_holder(machine, 47).found && cubejobs_holder(machine, 47).station == 47, "who has processor 47");
     for (unsigned station = 48; station-- > 0;)
         expect(same(cubejobs_release(machine, station), answer(CUBEJOBS_DONE, 0, station)), "48 releases");
     expect(cubejobs_take(machine, 47, 12).code == CUBEJOBS_DONE, "the whole machine");
@@ -249,7 +251,7 @@ static void call_many(long calls) {
 int main(int argc, char **argv) {
     const long calls = argc > 1 ? strtol(argv[1], NULL, 10) : 100000;
     expect(sizeof *machine == 4872, "the struct's size is not the library's");
-    expect(sizeof(struct cubejobs_answer) == 16 && sizeof(struct cubejobs_station_answer) == 24, "the sizes of answers");
+    expect(sizeof(struct cubejobs_answer) == 16 && sizeof(struct cubejobs_station_answer) == 24, "sizes of answers");
     expect(sizeof(struct cubejobs_holder_answer) == 8, "the size of an answer on a holder");
     expect_stale_and_zeros();
     expect_regions();

@@ -1,15 +1,16 @@
 #!/bin/sh
-# Tests the Rust package over the libraries for C of a folder: `checks/run ffi_rust FOLDER`. Each warning of rustc, clippy and rustdoc
-# is an error. The tests, documents and examples are of FOLDER's libraries, and so is a program that names the package by its path.
-# `cargo package` and `cargo vendor` take the libraries of release/: what they make is built with nothing of the repository beside it.
-# A library that is missing, and a target that has none, are one sentence each.
+# Tests the Rust package over the libraries for C of a folder: `checks/run ffi_rust FOLDER`. Each warning of rustc,
+# clippy and rustdoc is an error. The tests, documents and examples are of FOLDER's libraries, and so is a program that
+# names the package by its path. `cargo package` and `cargo vendor` take the libraries of release/: what they make is
+# built with nothing of the repository beside it. A missing library, and a target that has none, are a sentence each.
 set -eu
 lib=$(cd "$1" && pwd)
 cd "$(dirname "$0")/../../rust"
 package=$PWD
 work=$(mktemp -d)
 trap 'rm -rf -- "$work"' EXIT
-export CARGO_TARGET_DIR="$work/target" CARGO_TERM_COLOR=never RUSTFLAGS=-Dwarnings RUSTDOCFLAGS=-Dwarnings CUBEJOBS_LIB="$lib"
+export CARGO_TARGET_DIR="$work/target" CARGO_TERM_COLOR=never CUBEJOBS_LIB="$lib"
+export RUSTFLAGS=-Dwarnings RUSTDOCFLAGS=-Dwarnings
 
 # Runs a command. Its output is kept in a log, and shown if it fails.
 quiet() {
@@ -42,7 +43,8 @@ shows() {
 # user FOLDER DEPENDENCY: a program of one's own.
 user() {
     mkdir -p "$1/src"
-    printf '[package]\nname = "user"\nversion = "0.1.0"\nedition = "2021"\n\n[dependencies]\ncubejobs = %s\n' "$2" > "$1/Cargo.toml"
+    printf '[package]\nname = "user"\nversion = "0.1.0"\nedition = "2021"\n[dependencies]\ncubejobs = %s\n' "$2" \
+        > "$1/Cargo.toml"
     cp "$package/examples/subcubes.rs" "$1/src/main.rs"
 }
 
@@ -65,19 +67,21 @@ user "$work/user" "{ path = \"$package\" }"
 shows "$subcubes" cargo run --quiet --offline --manifest-path "$work/user/Cargo.toml"
 mkdir "$work/some"
 for name in libcubejobs_c.a libcubejobs_tree.a; do
-    sentence="there is no $work/some/$name: set CUBEJOBS_LIB to the folder of $name, or take a clone whose release/ has it"
-    refused "$sentence" env CUBEJOBS_LIB="$work/some" cargo build --offline --manifest-path "$work/user/Cargo.toml"
+    sentence="set CUBEJOBS_LIB to the folder of $name, or take a clone whose release/ has it"
+    refused "there is no $work/some/$name: $sentence" \
+        env CUBEJOBS_LIB="$work/some" cargo build --offline --manifest-path "$work/user/Cargo.toml"
     cp -- "$lib/$name" "$work/some"
 done
 quiet rustc --edition 2021 build.rs -o "$work/script"
 for target in 'linux on aarch64' 'macos on x86_64'; do
     refused "the libraries of cubejobs are for Linux on x86-64 only, not for $target" \
-        env CARGO_MANIFEST_DIR="$package" CARGO_CFG_TARGET_OS="${target% on *}" CARGO_CFG_TARGET_ARCH="${target#* on }" "$work/script"
+        env CARGO_MANIFEST_DIR="$package" CARGO_CFG_TARGET_OS="${target% on *}" \
+        CARGO_CFG_TARGET_ARCH="${target#* on }" "$work/script"
 done
 echo "ffi: a Rust program names the package by its path; a missing library or another target is one sentence"
 
-# A package that could not be made leaves no build script that looks for the libraries in that package. Cargo takes a copy of the
-# package for the package itself where both have one target folder: so each of these has a folder of its own.
+# A package that could not be made leaves no build script that looks for the libraries in that package. Each of these has
+# a folder of its own: where both have one target folder, cargo takes a copy of the package for the package itself.
 unset CUBEJOBS_LIB
 export CARGO_TARGET_DIR="$work/failed"
 refused "there is no $work/none/.*" env CUBEJOBS_LIB="$work/none" cargo package --offline --allow-dirty

@@ -1,8 +1,8 @@
-/* A stand-in for calls of the C library, by which checks/files comes between the program and its temporary file. Build it
- * with gcc -shared -fPIC and name it in LD_PRELOAD. STAND_IN names what it does:
+/* A stand-in for calls of the C library, by which the check `files` comes between the program and its temporary file.
+ * Build it with gcc -shared -fPIC and name it in LD_PRELOAD. STAND_IN names what it does:
  *
  *   order  ends the program with status 99 where a file is renamed before one was brought to its disk
- *   swap   puts another file under the name of each temporary file of the working folder, once the program's is on its disk
+ *   swap   puts another file under the name of each temporary file of the folder, once the program's is on its disk
  *   refuse makes each rename fail
  */
 #define _GNU_SOURCE

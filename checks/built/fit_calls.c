@@ -1,7 +1,7 @@
 // Calls first fit over a caller's own bytes beside a plain model: on machines of dimension 0 to 20, random takes,
 // releases and questions, with bad arguments among them. Then each code where it must come, bytes that processes share,
-// and bytes in a file. `fit_calls CALLS` makes CALLS on each machine. It is C and C++ alike. It exits with 0, or says on
-// standard error which call answered otherwise.
+// and bytes in a file. `fit_calls CALLS` makes CALLS on each machine. It is C and C++ alike. It exits with 0, or says
+// on standard error which call answered otherwise.
 #define _DEFAULT_SOURCE 1
 #include <fcntl.h>
 #include <sys/mman.h>
@@ -21,7 +21,8 @@ static struct cubejobs_fit fit;
 // Whether each processor is held, by the model.
 static unsigned char held[1 << LARGEST];
 
-static void expect_of(int line, struct cubejobs_answer got, unsigned code, unsigned k, uint64_t base, const char *what) {
+static void expect_of(int line, struct cubejobs_answer got, unsigned code, unsigned k, uint64_t base, const char *what)
+{
     expect_at(__FILE__, line, got.code == code && got.dim == k && got.base == base, what);
 }
 #define expect_answer(got, code, k, base, what) expect_of(__LINE__, (got), (code), (k), (base), (what))
@@ -103,7 +104,7 @@ static void call_once(void) {
 
 static void expect_guards(void) {
     for (unsigned i = 0; i < GUARD; i++)
-        expect(bytes[-1 - (int)i] == FILL && bytes[((size_t)1 << dim) + i] == FILL, "a byte outside the machine changed");
+        expect(bytes[-1 - (int)i] == FILL && bytes[((size_t)1 << dim) + i] == FILL, "a byte outside changed");
 }
 
 static void open_both(void) {
@@ -120,7 +121,8 @@ static void call_many(long calls) {
     open_both();
     for (long call = 0; call < (dim < 12 ? calls : calls >> (dim - 11)); call++) call_once();
     open_both();
-    for (unsigned p = 0; p < 1u << dim && p < 4096; p++) expect_answer(cubejobs_fit_take(&fit, 0), CUBEJOBS_DONE, 0, p, "each processor");
+    for (unsigned p = 0; p < 1u << dim && p < 4096; p++)
+        expect_answer(cubejobs_fit_take(&fit, 0), CUBEJOBS_DONE, 0, p, "each processor");
     expect_guards();
 }
 
@@ -164,7 +166,7 @@ static void expect_codes_of_regions(void) {
     expect_answer(cubejobs_fit_take(&fit, 4), CUBEJOBS_BAD_DIMENSION, 0, 0, "dimension 4");
     expect_answer(cubejobs_fit_take(&fit, UINT32_MAX), CUBEJOBS_BAD_DIMENSION, 0, 0, "the worst dimension");
     expect_answer(cubejobs_fit_take(&fit, 2), CUBEJOBS_NO_SUBCUBE, 0, 0, "four processors");
-    expect_answer(cubejobs_fit_take_region(&fit, UINT64_MAX, 4), CUBEJOBS_BAD_DIMENSION, 0, 0, "dimension 4 at the worst base");
+    expect_answer(cubejobs_fit_take_region(&fit, UINT64_MAX, 4), CUBEJOBS_BAD_DIMENSION, 0, 0, "dimension 4, worst base");
     expect_answer(cubejobs_fit_take_region(&fit, UINT64_MAX, 0), CUBEJOBS_BAD_BASE, 0, 0, "the worst base");
     expect_answer(cubejobs_fit_take_region(&fit, 8, 0), CUBEJOBS_BAD_BASE, 0, 0, "a processor at 8");
     expect_answer(cubejobs_fit_take_region(&fit, 1, 1), CUBEJOBS_BAD_BASE, 0, 0, "a pair at 1");
@@ -210,7 +212,8 @@ static void share_bytes(void) {
     expect_answer(cubejobs_fit_take(&fit, 1), CUBEJOBS_DONE, 1, 0, "the parent takes a pair");
     in_a_child(release_the_pair);
     expect_answer(cubejobs_fit_take(&fit, 2), CUBEJOBS_DONE, 2, 4, "the parent finds the child's processor");
-    expect(cubejobs_fit_release(&fit, 0, 0) == CUBEJOBS_DONE && cubejobs_fit_release(&fit, 4, 2) == CUBEJOBS_DONE, "all comes back");
+    expect(cubejobs_fit_release(&fit, 0, 0) == CUBEJOBS_DONE, "the child's processor comes back");
+    expect(cubejobs_fit_release(&fit, 4, 2) == CUBEJOBS_DONE, "all comes back");
     in_a_child(find_it_released);
     expect_answer(cubejobs_fit_take(&fit, 0), CUBEJOBS_NO_SUBCUBE, 0, 0, "the parent finds the machine held");
     expect(munmap(shared, 8) == 0, "munmap");

@@ -235,7 +235,7 @@ ON_A_MOUNT = """
     "$3" "$1/cubejobs" run --dim 3 </dev/null 2>&1
     echo "status $?"
 """
-# What a processor that lacks something is told by the program.
+# What the program says on a processor that lacks something.
 LACKS = ("this machine lacks a feature of x86-64-v2, which this program was built for: run it on another machine, "
          "or build it with --cpu x86-64")
 READING = "find crates.txt crates/*/src crates/*/specs crates/*/proofs -type f -exec cksum {} +"

@@ -6,7 +6,7 @@ rows. Files that are no output of the program must each be refused with a reason
 that the page saves.
 
 The scripts of the page run under node, over a small stand-in for a document; where there is a Chromium, the page itself
-is opened in it too, at several events. Where there is no node or no Chromium, that is told and passed over.
+is opened in it too, at several events. Without node the check is skipped, and without a Chromium that part of it.
 """
 import html
 import json

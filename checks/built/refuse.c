@@ -56,11 +56,12 @@ void _exit(int status) {
     for (;;) syscall(SYS_exit_group, status);
 }
 
-/* Whether this request, for so many bytes, is one to refuse. */
+/* Whether this request, for `size` bytes, is one to refuse. */
 static int refuses(size_t size) {
     __atomic_add_fetch(&bytes_asked, size, __ATOMIC_SEQ_CST);
     unsigned long number = __atomic_add_fetch(&requests, 1, __ATOMIC_SEQ_CST);
-    int is_refused = first_refused && number >= first_refused && (!most_refused || number - first_refused < most_refused);
+    int is_past = !first_refused || number < first_refused || (most_refused && number - first_refused >= most_refused);
+    int is_refused = !is_past;
     if (is_refused) __atomic_add_fetch(&refusals, 1, __ATOMIC_SEQ_CST);
     return is_refused;
 }

@@ -1,7 +1,7 @@
-/* Calls the lock-free tree from C or C++: each code where it must come, handles that are shut, foreign or of
- * the wrong kind, and then eight threads with a table of counters by processor, and plain memory that regions guard.
- * `tree_calls [PAIRS]`: so many takes with their releases by each thread. With UNGUARDED a thread writes to the memory of
- * a processor that it has given back, which a sanitizer must see. */
+/* Calls the lock-free tree from C or C++: each code where it must come, handles that are shut, foreign or of the wrong
+ * kind, and then eight threads with a table of counters by processor, and plain memory that regions guard. Each thread
+ * makes `tree_calls PAIRS` takes with their releases. With UNGUARDED a thread writes to the memory of a processor that
+ * it has given back, which a sanitizer must see. */
 #include "cubejobs_tree.h"
 
 #include <pthread.h>
@@ -249,7 +249,8 @@ static void *work(void *argument) {
             if ((tries == 0 && !searches) || tries > level) tally->wrong++;
             continue;
         }
-        if (a.code || a.dim != k || a.base % (UINT64_C(1) << k) || a.base + (UINT64_C(1) << k) > PROCESSORS) tally->wrong++;
+        if (a.code || a.dim != k || a.base % (UINT64_C(1) << k)) tally->wrong++;
+        if (a.base + (UINT64_C(1) << k) > PROCESSORS) tally->wrong++;
         for (p = a.base; p < a.base + (UINT64_C(1) << k); p++) {
             if (__atomic_fetch_add(&counters[p], 1, __ATOMIC_RELAXED)) tally->overlaps++;
             plain[p]++;

@@ -1,5 +1,5 @@
-/* Refuses each request for memory in turn: the call answers OUT_OF_MEMORY and changes nothing, nothing is left over once all
- * has been closed, and a take, a release and the read-outs ask for none. Then counts what machines of each size and stations
+/* Refuses each request for memory in turn: the call answers OUT_OF_MEMORY and changes nothing, nothing is left over once
+ * all has been closed, and a take, a release and the read-outs ask for none. Then counts what machines and stations
  * take: `tree_memory NODE STATION MORE BLOCKS SEAT` has the bytes for 2^dim, for a station and besides, the blocks of a
  * machine, and the bytes of a station that has its handle. It is linked with --wrap=malloc and --wrap=free. */
 #include "cubejobs_tree.h"
@@ -46,12 +46,12 @@ static int run(long allowed) {
     for (i = 0; i < 3; i++) {
         struct cubejobs_tree_seated seated;
         while ((seated = cubejobs_tree_seat(&cube, &s[i])).code == CUBEJOBS_TREE_OUT_OF_MEMORY) {
-            if (cubejobs_tree_region(&s[i]).code != CUBEJOBS_TREE_NOT_OPEN) return printf("seat: the handle is open\n"), -1;
+            if (cubejobs_tree_region(&s[i]).code != CUBEJOBS_TREE_NOT_OPEN) return printf("seat: it is open\n"), -1;
             if (cubejobs_tree_size(&cube).seated != i) return printf("seat: a station is lost\n"), -1;
             refused++;
             left = 1000;
         }
-        if (seated.code || seated.number != i) return printf("seat: code %u, number %u\n", seated.code, seated.number), -1;
+        if (seated.code || seated.number != i) return printf("code %u, number %u\n", seated.code, seated.number), -1;
     }
     own = asked;
     left = 0;
@@ -61,7 +61,7 @@ static int run(long allowed) {
     }
     cubejobs_tree_word(&cube, 1);
     if (cubejobs_tree_occupancy(&cube).held != 6) return printf("occupancy\n"), -1;
-    if (cubejobs_tree_close(&cube, &missing) != CUBEJOBS_TREE_STILL_OUT || missing != 7) return printf("still out\n"), -1;
+    if (cubejobs_tree_close(&cube, &missing) != CUBEJOBS_TREE_STILL_OUT || missing != 7) return printf("out\n"), -1;
     for (i = 0; i < 3; i++)
         if (cubejobs_tree_release(&s[i]).code || cubejobs_tree_retire(&s[i])) return printf("release\n"), -1;
     if (cubejobs_tree_close(&cube, &missing) || cubejobs_tree_free(&cube)) return printf("close\n"), -1;

@@ -39,7 +39,7 @@ def must(holds, what):
 
 
 def must_be_distinct(rows):
-    """Fails where two rows try the same: a check that repeats one row in the place of others sees nothing."""
+    """Fails where two rows try the same: a check that repeats one row sees nothing of the others."""
     seen = {}
     for row in rows:
         key = row.act, hashlib.sha256(repr(row.arguments).encode("utf-8", "surrogatepass")).digest()

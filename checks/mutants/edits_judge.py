@@ -35,7 +35,7 @@ PLANTED = {
     "pause/unchanged": ("src/pause.rt", "burst: FIRST_BURST,", "burst: FIRST_BURST,", "PROVED"),
 }
 WRONG = "pause/wrong_body"
-# A missing name, as a check tells it in one line and, where it lists names that are near, in two.
+# A missing name, as a check reports it in one line and, where it lists names that are near, in two.
 MISSING = (
     "./proofs/a/Answers.antt:1:2: error: `returns`: record `A` has no field `b` (nearest: .c)\n",
     "./proofs/a/Answers.antt:1:2: error: `returns`: record `A` (nearest: .c, .d)\n  has no field `b`\n",
@@ -73,14 +73,14 @@ def plant(folder):
 def of_the_reader():
     """Yields what is expected of the reader, whether it holds, and what was found."""
     for said in MISSING:
-        yield "a missing name is told from a goal", NAMES_ONLY.match(lines_of(said, "region_bits")[0]), said
+        yield "a missing name is no goal", NAMES_ONLY.match(lines_of(said, "region_bits")[0]), said
     for text, wanted in SOURCES.items():
         found = [(it.owner, text[it.start : it.end]) for it in functions_in("src/lib.rt", text)]
         yield "a function ends with its body", found == wanted, found
     item = items_in("src/lib.rt", next(text for text in SOURCES if "ensures one" in text))[0]
     yield "clauses are read", [it.strip() for it in item.clauses] == ["a", "b"], item.clauses
     plain = uncommented('a "// b" // c\n/* d */ e')
-    yield "a comment is told from a string", plain.split() == ["a", '"//', 'b"', "e"], plain
+    yield "a string is no comment", plain.split() == ["a", '"//', 'b"', "e"], plain
 
 
 def of_all(folder, words):
@@ -111,7 +111,7 @@ def of_one(folder, words):
     yield "a refused mutant passes, and a changed one is tried", is_tried, said
     logs = [read(it.path) for it in os.scandir(f"{folder}/kept")]
     is_so = logs and all(OPEN in it and OFFER not in it for it in logs)
-    yield "an open goal is told, and not searched again", is_so, logs
+    yield "an open goal is reported, and not searched again", is_so, logs
 
 
 def main(words):

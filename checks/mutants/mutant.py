@@ -159,7 +159,7 @@ def edits_of(crate, texts, folder=None):
 
 
 def batches_of(edits, crate, texts):
-    """Returns the mutants in as few checks as can be: first those that no copy can hold, then each in the place of what
+    """Returns the mutants in as few checks as can be: first those that no copy can hold, then each in place of what
     it changes, and then copies."""
     batches, left = [], []
     bound = [it for it in edits if not as_a_copy(it, 0, crate, texts)]

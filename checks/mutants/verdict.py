@@ -146,7 +146,7 @@ class Tally:
 
 
 def unreached(crate, batch, lines, tally):
-    """Returns lists of the mutants of a batch of which the check says nothing, each list for a check; tells of a single
+    """Returns lists of the mutants of a batch of which the check says nothing, each list for a check. Reports a single
     one."""
     if len(batch.edits) > 1:
         texts = batch.texts

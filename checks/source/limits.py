@@ -1,4 +1,4 @@
-"""Fails where a source, a definition or a proof writes the number of a limit in the place of its name.
+"""Fails where a source, a definition or a proof writes the number of a limit and not its name.
 
 It reads the limits (src/limits.rt of cube_shape and region_bits), and looks in all crates for each literal that is such
 a number or a power of interest, or one less or more, in whatever form: `1024`, `0x400`, `1 << 10`. Comments do not
@@ -30,7 +30,7 @@ OTHERS = (
     (r"cubejobs_c/src/machine\.rt", r"\[bool; 4096\]", "2^MAX_DIM in the struct for C"),
     (r"cubejobs_c/src/machine\.rt", r"\[Slot; 48\]", "MAX_STATIONS in the struct for C"),
 )
-# Which file tells a limit, in which words, and which limit it is.
+# Which file writes a limit, in which words, and which limit it is.
 WRITTEN = (
     ("include/cubejobs.h", r"#define CUBEJOBS_MAX_DIM (\d+)", "MAX_DIM"),
     ("include/cubejobs.h", r"#define CUBEJOBS_MAX_STATIONS (\d+)", "MAX_STATIONS"),
@@ -107,7 +107,7 @@ def sources():
 
 
 def unnamed(words):
-    """Yields each number that stands in the place of a name, and each entry of OTHERS that no number needs."""
+    """Yields each number that should be a name, and each entry of OTHERS that no number needs."""
     needed = set()
     for file, number, line in sources():
         for match in (found for found in LITERAL.finditer(line) if value(found) in words):

@@ -62,7 +62,7 @@ class Definition:
 
 
 class Scope:
-    """What the names of a file or a block stand for: (module, name), or a module alone."""
+    """What the names of a file or a block mean: (module, name), or a module alone."""
 
     def __init__(self, parent=None):
         self.parent, self.names, self.passed_on, self.globs, self.globs_passed_on = parent, {}, {}, [], []

@@ -9,8 +9,8 @@ def given(rows):
     return [f"{word},{name},{dim if word == 'take' else '-'}" for word, name, dim, *_ in fields]
 
 
-# The dimension, and the rows that answer the commands. Each row has the fields of its command but for the dimension of
-# a free, which is `-` in the command: with `>` the commands stand by themselves.
+# The dimension, and the rows of the answer. A command is the first fields of its row; that of a free has a dash for the
+# dimension.
 PLACES = {
     "no commands": ("3", ""),
     "takes and frees": ("3",
