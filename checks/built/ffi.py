@@ -45,10 +45,9 @@ def build(crate, after_gate):
     sources += [static.__file__, path("checks/lib/toolchain.py")]
     if os.path.exists(file) and all(os.path.getmtime(it) <= os.path.getmtime(file) for it in sources):
         return
-    if after_gate:
-        must(static.main([crate]) == 0, f"the library {crate} was not built")
-    else:
-        subprocess.run(["rt", "lib", *FOR_ANY], cwd=path("crates", crate), stdout=subprocess.DEVNULL, check=True)
+    words = [path("checks", "run"), "static", crate] if after_gate else ["rt", "lib", *FOR_ANY]
+    status, out, said = answer(words, cwd=path("crates", crate), timeout=SECONDS)
+    must(status == 0, f"the library {crate} was not built:\n{(out + said).decode(errors='replace')}")
 
 
 class Program(NamedTuple):
