@@ -14,7 +14,7 @@ use Rattle.jobs_csv.specs.Fault.{is_refusal}
 use Rattle.jobs_csv.specs.declared.fault.Fault.{Fault}
 use Rattle.cli_commands.specs.OpenLanes.{AreOpenLanes}
 use Rattle.cli_commands.specs.Replies.{AnswersJobs}
-use Rattle.cli_commands.specs.declared.shop.Unanswered.{Unanswered}
+use Rattle.cli_commands.specs.declared.shop.AnswerError.{AnswerError}
 
 -- the values are those of a run of the open lanes of these jobs
 pub record IsFileRun {M : Type 0} (words_of : M → List ℕ) (n : ℕ) (jobs : List JobData) (end : RunEnd M) : Type 0 where
@@ -35,11 +35,11 @@ module _ {L Lane Pass Closer Note End F Station Held Machine : Type 0} (line : L
 
 -- what is returned for a file of jobs, by its parse: the end of a run that has answered all of them; or a
 -- refusal, which is the parse's, or a failure; and if there was a run, it was one of the file's jobs
-abbrev pub ReturnsRun : {M : Type 0} → (M → List ℕ) → ℕ → Result (List JobData) Fault → Result (RunEnd M) (Unanswered M) → Type 0
+abbrev pub ReturnsRun : {M : Type 0} → (M → List ℕ) → ℕ → Result (List JobData) Fault → Result (RunEnd M) (AnswerError M) → Type 0
 ReturnsRun words_of n parse (Ok end) = (jobs : List JobData) × (parse ≡ Ok jobs) × IsFileRun words_of n jobs end × AnswersJobs n jobs end.finished
-ReturnsRun words_of n parse (Err unanswered) =
-    (is_refusal unanswered.fault.what ≡ true → parse ≡ Err unanswered.fault)
-    × IfSome unanswered.end (λ end. (jobs : List JobData) × (parse ≡ Ok jobs) × IsFileRun words_of n jobs end)
+ReturnsRun words_of n parse (Err error) =
+    (is_refusal error.fault.what ≡ true → parse ≡ Err error.fault)
+    × IfSome error.end (λ end. (jobs : List JobData) × (parse ≡ Ok jobs) × IsFileRun words_of n jobs end)
 
 -- there was a run, and a lane of it has made as many entries as a lane may
 abbrev pub HasSpentLane : {M : Type 0} → Option (RunEnd M) → Type 0

@@ -24,4 +24,4 @@ pub use place::place_on;
 pub use replay::replay_on;
 pub use report::report_rows;
 pub use run::{report_on, run_on};
-pub use shop::{Unanswered, answer_file};
+pub use shop::{AnswerError, answer_file};

@@ -8,12 +8,12 @@ ghost use Rattle.jobs_csv.specs.Lanes.{AreLanes, ReturnsLanes};
 ghost use Rattle.jobs_csv.specs.declared.fault.Fault.{Fault as TheFault};
 ghost use Rattle.cli_commands.specs.Answer.{IsShopFault};
 ghost use Rattle.cli_commands.specs.FileRun.{HasSpentLane, IsShopRun, ReturnsRun};
-ghost use Rattle.cli_commands.specs.Inner.Shop.{unanswered_of};
+ghost use Rattle.cli_commands.specs.Inner.Shop.{error_of};
 
 use crate::lanes::open_lanes;
 use crate::progress::{RecordProgress, ReplyProgress, begin_progress, counts_of, end_progress};
 use cli_words::ShopOptions;
-use crew::{RunEnd, SharedFloor, SharedLine, StopReason, Stopped, answer_all};
+use crew::{RunEnd, SharedFloor, SharedLine, StopReason, RunError, answer_all};
 use dispatcher::{Runner, ShopSizes};
 use floors::Floor;
 use job_queue::JobLine;
@@ -27,7 +27,7 @@ use std::thread::Threads;
 
 /// Why the jobs of a file were not all answered.
 #[derive(Drop)]
-pub struct Unanswered<M> {
+pub struct AnswerError<M> {
     /// The first fault of the file, or what failed.
     pub fault: Fault,
     /// The run as far as it got, if there was one: the replies, and what each lane did not hand in.
@@ -35,13 +35,13 @@ pub struct Unanswered<M> {
 }
 
 // Returns the fault of a shop that has not answered all jobs, with its run if there was one.
-fn to_unanswered<M: Drop>(stopped: Stopped<M>) -> Unanswered<M>
-    ensures { result ≡ unanswered_of stopped }
+fn to_error<M: Drop>(stopped: RunError<M>) -> AnswerError<M>
+    ensures { result ≡ error_of stopped }
 {
     let (why, end) = match stopped {
-        Stopped::Unfinished { why, end } => (why, end),
-        Stopped::Refused { .. } => {
-            return Unanswered {
+        RunError::Unfinished { why, end } => (why, end),
+        RunError::Refused { .. } => {
+            return AnswerError {
                 fault: Fault::no_memory(),
                 end: None,
             };
@@ -51,7 +51,7 @@ fn to_unanswered<M: Drop>(stopped: Stopped<M>) -> Unanswered<M>
         StopReason::OutOfMemory => FaultKind::OutOfMemory,
         StopReason::Spent => FaultKind::Spent,
     };
-    Unanswered {
+    AnswerError {
         fault: Fault { row: 0, what },
         end: Some(end),
     }
@@ -64,7 +64,7 @@ fn answer_lanes<H, L, F, T>(
     sizes: ShopSizes,
     runner: &T,
     lanes: Vec<VecDeque<Job>>,
-) -> Result<RunEnd<F::Machine>, Unanswered<F::Machine>>
+) -> Result<RunEnd<F::Machine>, AnswerError<F::Machine>>
 where
     H: Threads + Wait + Sync,
     L: JobLine + SharedLine,
@@ -75,14 +75,14 @@ where
     ensures answered { (parse : Result (List JobData) TheFault) → ReturnsLanes parse (Ok lanes) →
         ReturnsRun F.machine_words sizes.dim parse result }
     ensures run { IfOk result (IsShopRun L.JobLine F.Floor sizes) }
-    ensures failed { IfErr result (λ unanswered. IsShopFault unanswered.fault) }
-    ensures spent { IfErr result (λ unanswered.
-        unanswered.fault.what ≡ FaultKind.Spent → HasSpentLane unanswered.end) }
+    ensures failed { IfErr result (λ error. IsShopFault error.fault) }
+    ensures spent { IfErr result (λ error.
+        error.fault.what ≡ FaultKind.Spent → HasSpentLane error.end) }
 {
     let lists = open_lanes(lanes);
     match answer_all::<H, L, F, T>(rt, alloc, sizes, runner, lists) {
         Ok(end) => Ok(end),
-        Err(stopped) => Err(to_unanswered(stopped)),
+        Err(stopped) => Err(to_error(stopped)),
     }
 }
 
@@ -111,7 +111,7 @@ pub fn answer_file<H, L, F, T, R, P>(
     runner: &T,
     reader: &mut R,
     terminal: &mut Option<P>,
-) -> Result<RunEnd<F::Machine>, Unanswered<F::Machine>>
+) -> Result<RunEnd<F::Machine>, AnswerError<F::Machine>>
 where
     H: Threads + Wait + Clone + Send + Sync + 'static,
     L: JobLine + SharedLine,
@@ -123,12 +123,12 @@ where
     ensures answered { IfSome (R.remaining reader.old) (λ bytes.
         ReturnsRun F.machine_words options.sizes.dim (parse_jobs options.sizes.dim bytes) result) }
     ensures run { IfOk result (IsShopRun L.JobLine F.Floor options.sizes) }
-    ensures failed { IfErr result (λ unanswered.
-        (IsInputFault (R.failures reader.old) (R.failures reader.new) unanswered.fault
-        × (unanswered.end ≡ None))
-        ⊎ IsShopFault unanswered.fault) }
-    ensures spent { IfErr result (λ unanswered.
-        unanswered.fault.what ≡ FaultKind.Spent → HasSpentLane unanswered.end) }
+    ensures failed { IfErr result (λ error.
+        (IsInputFault (R.failures reader.old) (R.failures reader.new) error.fault
+        × (error.end ≡ None))
+        ⊎ IsShopFault error.fault) }
+    ensures spent { IfErr result (λ error.
+        error.fault.what ≡ FaultKind.Spent → HasSpentLane error.end) }
     ensures shown { (terminal.new ≡ terminal.old) ⊎ (options.is_quiet ≡ false) }
 {
     let ShopOptions { sizes, is_quiet } = options;
@@ -142,7 +142,7 @@ where
             };
             answer_lanes::<H, L, F, ReplyProgress<T>>(rt, alloc, sizes, &runner, lanes)
         }
-        Err(fault) => Err(Unanswered { fault, end: None }),
+        Err(fault) => Err(AnswerError { fault, end: None }),
     };
     end_progress(rt, progress, terminal);
     answer

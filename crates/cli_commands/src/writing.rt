@@ -13,7 +13,7 @@ ghost use Rattle.cli_commands.specs.Inner.Shop.{fault_in};
 ghost use Rattle.cli_commands.specs.Replies.{AnswersJobs};
 
 use crate::output::Output;
-use crate::shop::Unanswered;
+use crate::shop::AnswerError;
 use crew::RunEnd;
 use cube_shape::MAX_DIM;
 use dispatcher::Finished;
@@ -48,11 +48,11 @@ where
     jobs_csv::write_rows(alloc, rows, writer)
 }
 
-// Writes the rows of an answered file, or returns the fault of an unanswered one.
+// Writes the rows of an answered file, or returns the fault of an error one.
 pub(crate) fn write_output<O: Output, F: Floor, W: Write + Device>(
     alloc: Global,
     n: u32,
-    answer: Result<RunEnd<F::Machine>, Unanswered<F::Machine>>,
+    answer: Result<RunEnd<F::Machine>, AnswerError<F::Machine>>,
     writer: &mut W,
 ) -> Result<(), Fault>
 where
@@ -73,7 +73,7 @@ where
 {
     let RunEnd { finished, .. } = match answer {
         Ok(end) => end,
-        Err(unanswered) => return Err(unanswered.fault),
+        Err(error) => return Err(error.fault),
     };
     write_finished::<O, F, W>(alloc, n, finished, writer)
 }

@@ -11,13 +11,13 @@ use Rattle.dispatcher.specs.declared.opening.ShopSizes.{ShopSizes}
 use Rattle.dispatcher.specs.Opening.{refusal_of}
 use Rattle.dispatcher.proofs.OpenLemmas.{map_twice}
 use Rattle.crew.specs.declared.running.RunEnd.{RunEnd}
-use Rattle.crew.specs.declared.answering.Stopped.{Stopped}
-use Rattle.crew.specs.declared.answering.Stopped.TheVariants.{Refused, Unfinished}
+use Rattle.crew.specs.declared.answering.RunError.{RunError}
+use Rattle.crew.specs.declared.answering.RunError.TheVariants.{Refused, Unfinished}
 use Rattle.crew.specs.Batch.{JobLists, IsBatchOutcome}
 use Rattle.crew.specs.Done.{reason_of, IsDone}
 use Rattle.crew.specs.Members.{RanIn}
 use Rattle.crew.specs.Run.{IsRun}
-use Rattle.crew.specs.Stopped.{MatchStopped}
+use Rattle.crew.specs.RunError.{MatchRunError}
 use Rattle.crew.proofs.DoneLemmas.{counts_all, answers_jobs}
 
 abbrev pub Jobs : Type 0
@@ -39,8 +39,8 @@ of_refusal {M} P ran why back is so = subst (λ (r : Ran M). IfErr r P) is so
 abbrev pub IsBatch : {M : Type 0} → Ran M → RunEnd M → Type 0
 IsBatch ran end = (ran ≡ Ok end) × IsDone end
 
-abbrev pub IsStopped : {M : Type 0} → Ran M → Stopped M → Type 0
-IsStopped ran stopped = MatchStopped stopped (λ why back. ran ≡ Err (why, back))
+abbrev pub IsRunError : {M : Type 0} → Ran M → RunError M → Type 0
+IsRunError ran stopped = MatchRunError stopped (λ why back. ran ≡ Err (why, back))
     (λ why end. (ran ≡ Ok end) × (why ≡ reason_of end) × (¬ IsDone end))
 
 module _ {L Lane Pass Closer Note End F Station Held Machine : Type 0} (line : LineWords L Lane Pass Closer Note End) (floor : FloorWords F Station Held Machine) (asked : ShopSizes) (jobs : JobLists) where
@@ -52,7 +52,7 @@ module _ {L Lane Pass Closer Note End F Station Held Machine : Type 0} (line : L
   RefusesNothing = refusal_of asked.dim (length jobs) asked.dispatchers asked.capacity ≡ None
 
   -- what is so of a run is so of its batch
-  pub outcome_of : (ran : Ran Machine) (result : Result (RunEnd Machine) (Stopped Machine))
+  pub outcome_of : (ran : Ran Machine) (result : Result (RunEnd Machine) (RunError Machine))
       → IfOk ran (IsRun floor.machine_words asked.dim (map (λ js. js.items) jobs))
       → IfOk ran (RanIn line floor asked (length jobs))
       → IfOk ran (λ end. length end.finished.by_worker.items ≡ asked.dispatchers)
@@ -62,7 +62,7 @@ module _ {L Lane Pass Closer Note End F Station Held Machine : Type 0} (line : L
       → IfErr ran (λ r. r.0 ≢ OutOfMemory → Refuses r.0)
       → IfErr ran (λ r. r.0 ≡ OutOfMemory → RefusesNothing)
       → IfErr ran (λ r. r.1.items ≡ jobs)
-      → IfOk result (IsBatch ran) → IfErr result (IsStopped ran)
+      → IfOk result (IsBatch ran) → IfErr result (IsRunError ran)
       → IsBatchOutcome line floor asked jobs result
   outcome_of ran (Ok end) run ran_in workers dim closed sizes first memory_last back batch stopped =
       let is = batch.0 in

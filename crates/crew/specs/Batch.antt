@@ -12,11 +12,11 @@ use Rattle.dispatcher.specs.Answers.{AnswersAll}
 use Rattle.dispatcher.specs.Opening.{refusal_of}
 use Rattle.crew.specs.declared.running.RunEnd.{RunEnd}
 use Rattle.crew.specs.declared.answering.StopReason.{StopReason}
-use Rattle.crew.specs.declared.answering.Stopped.{Stopped}
+use Rattle.crew.specs.declared.answering.RunError.{RunError}
 use Rattle.crew.specs.Run.{by_worker_of, IsRun}
 use Rattle.crew.specs.Members.{RanIn}
 use Rattle.crew.specs.Done.{IsDone, reason_of}
-use Rattle.crew.specs.Stopped.{MatchStopped}
+use Rattle.crew.specs.RunError.{MatchRunError}
 
 -- the lists of jobs that a batch is given, one for each lane
 abbrev pub JobLists : Type 0
@@ -55,13 +55,13 @@ module _ {M : Type 0} (words_of : M → List ℕ) (dim_of : M → ℕ) (is_close
 
 module _ {L Lane Pass Closer Note End F Station Held Machine : Type 0} (line : LineWords L Lane Pass Closer Note End) (floor : FloorWords F Station Held Machine) where
   -- what a batch returns, for the sizes that were asked for and the jobs of each lane
-  pub record IsBatchOutcome (asked : ShopSizes) (jobs : JobLists) (result : Result (RunEnd Machine) (Stopped Machine)) : Type 0 where
+  pub record IsBatchOutcome (asked : ShopSizes) (jobs : JobLists) (result : Result (RunEnd Machine) (RunError Machine)) : Type 0 where
     pub answered : IfOk result
         (IsAnsweredBatch floor.machine_words floor.machine_dim floor.is_closed asked jobs)
     pub ran_in : IfOk result (RanIn line floor asked (length jobs))
     pub refused : IfErr result (λ stopped.
-        MatchStopped stopped (IsRefusedBatch asked jobs) (λ why end. ⊤))
+        MatchRunError stopped (IsRefusedBatch asked jobs) (λ why end. ⊤))
     pub unfinished : IfErr result (λ stopped.
-        MatchStopped stopped (λ why back. ⊤) (IsUnfinishedBatch floor.machine_words asked jobs))
+        MatchRunError stopped (λ why back. ⊤) (IsUnfinishedBatch floor.machine_words asked jobs))
     pub unfinished_ran_in : IfErr result (λ stopped.
-        MatchStopped stopped (λ why back. ⊤) (λ why end. RanIn line floor asked (length jobs) end))
+        MatchRunError stopped (λ why back. ⊤) (λ why end. RanIn line floor asked (length jobs) end))

@@ -4,7 +4,7 @@ pub mod InnerEnd
 pub mod Run
 pub mod Done
 pub mod Members
-pub mod Stopped
+pub mod RunError
 pub mod Batch
 pub use Rattle.job_queue.specs.Line.{IsFor}
 pub use Rattle.dispatcher.specs.Answers.{AnswersAll}

@@ -5,7 +5,7 @@ ghost use Rattle.job_queue.specs.Line.{IsFor};
 ghost use Rattle.dispatcher.specs.declared.feeding.FeedStop.TheVariants.{Done};
 ghost use Rattle.crew.specs.Batch.{IsBatchOutcome};
 ghost use Rattle.crew.specs.Done.{is_cut_off, is_spent, is_idle, reason_of, IsDone};
-ghost use Rattle.crew.specs.Stopped.{MatchStopped};
+ghost use Rattle.crew.specs.RunError.{MatchRunError};
 
 use crate::running::{LaneEnd, RunEnd, run};
 use crate::shared::{SharedFloor, SharedLine};
@@ -32,7 +32,7 @@ pub enum StopReason {
 
 /// A batch that was not answered. It has the jobs, or the end of its run.
 #[derive(Drop)]
-pub enum Stopped<M> {
+pub enum RunError<M> {
     /// Nothing was run.
     Refused {
         /// The first size that is not within its limits, or `OutOfMemory`.
@@ -128,19 +128,19 @@ fn stop_reason<M>(end: &RunEnd<M>) -> StopReason
 // The batch that a run was: it is answered where all is done.
 fn batch_of<M>(
     ran: Result<RunEnd<M>, (ShopRefused, Vec<VecDeque<Job>>)>,
-) -> Result<RunEnd<M>, Stopped<M>>
+) -> Result<RunEnd<M>, RunError<M>>
     ensures done { IfOk result (λ end. (ran ≡ Ok end) × IsDone end) }
-    ensures stopped { IfErr result (λ stopped. MatchStopped stopped
+    ensures stopped { IfErr result (λ stopped. MatchRunError stopped
         (λ why back. ran ≡ Err (why, back))
         (λ why end. (ran ≡ Ok end) × (why ≡ reason_of end) × (¬ IsDone end))) }
 {
     match ran {
         Ok(end) if is_done(&end) => Ok(end),
-        Ok(end) => Err(Stopped::Unfinished {
+        Ok(end) => Err(RunError::Unfinished {
             why: stop_reason(&end),
             end,
         }),
-        Err((why, jobs)) => Err(Stopped::Refused { why, jobs }),
+        Err((why, jobs)) => Err(RunError::Refused { why, jobs }),
     }
 }
 
@@ -165,7 +165,7 @@ pub fn answer_all<
     sizes: ShopSizes,
     runner: &T,
     jobs: Vec<VecDeque<Job>>,
-) -> Result<RunEnd<F::Machine>, Stopped<F::Machine>>
+) -> Result<RunEnd<F::Machine>, RunError<F::Machine>>
     requires lanes { length jobs.items < 2 ^ 32 }
     requires made_for { (k : ℕ) → k < length jobs.items →
         All (IsFor sizes.dim k) (slice_index_or (map (λ js. js.items) jobs.items) k []) }

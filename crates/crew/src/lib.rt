@@ -6,7 +6,7 @@
 #![tactic(auto)]
 
 mod answering;
-mod gang;
+mod members;
 mod member;
 mod ready;
 mod running;
@@ -14,6 +14,6 @@ mod shared;
 mod slots;
 mod threads;
 
-pub use answering::{StopReason, Stopped, answer_all};
+pub use answering::{StopReason, RunError, answer_all};
 pub use running::{LaneEnd, RunEnd, run};
 pub use shared::{SharedFloor, SharedLine};

@@ -67,7 +67,7 @@ impl Progress {
 }
 
 /// A lane, and the jobs that it has still to hand in.
-pub struct Feeder<J: Naming, L: JobLine> {
+pub struct LaneSlot<J: Naming, L: JobLine> {
     lane: L::Lane,
     // The number of jobs that it was given.
     given: usize,
@@ -77,7 +77,7 @@ pub struct Feeder<J: Naming, L: JobLine> {
     of: PhantomData<J>,
 }
 
-impl<J: Naming, L: JobLine> Model for Feeder<J, L> {
+impl<J: Naming, L: JobLine> Model for LaneSlot<J, L> {
     ghost use Rattle.std.specs.Prelude.{◌≡◌, ◌++◌, Bool, length};
     ghost use Rattle.std.specs.List.{All};
     ghost use Rattle.job_queue.specs.Record.{accepted_jobs};
@@ -133,8 +133,8 @@ fn accepted_count(given: usize, back: &Option<Job>, left: &VecDeque<Job>) -> u64
     }
 }
 
-impl<J: Naming, L: JobLine> Feeder<J, L> {
-    pub fn new(lane: L::Lane, jobs: VecDeque<Job>) -> Feeder<J, L>
+impl<J: Naming, L: JobLine> LaneSlot<J, L> {
+    pub fn new(lane: L::Lane, jobs: VecDeque<Job>) -> LaneSlot<J, L>
         requires lane { L.is_lane J.shop.line lane }
         requires made_for { All (IsFor J.shop.line.sizes.machine (L.lane_record lane).number)
             jobs.items }
@@ -142,7 +142,7 @@ impl<J: Naming, L: JobLine> Feeder<J, L> {
             ≡ J.jobs (L.lane_record lane).number }
         requires no_entries { (L.lane_record lane).entries ≡ [] }
     {
-        Feeder {
+        LaneSlot {
             lane,
             given: jobs.len(),
             back: None,
@@ -202,7 +202,7 @@ impl<J: Naming, L: JobLine> Feeder<J, L> {
     {
         let mut feeder = self;
         feeder.finish(rt, shop);
-        let Feeder {
+        let LaneSlot {
             lane,
             given,
             back,
@@ -223,13 +223,13 @@ impl<J: Naming, L: JobLine> Feeder<J, L> {
 }
 
 /// A worker, or what it was when it stopped.
-pub struct Post<J: Naming, L: JobLine, F: Floor> {
+pub struct WorkerSlot<J: Naming, L: JobLine, F: Floor> {
     worker: Option<Worker<L, F>>,
     end: Option<WorkerEnd<L, F>>,
     of: PhantomData<J>,
 }
 
-impl<J: Naming, L: JobLine, F: Floor> Model for Post<J, L, F> {
+impl<J: Naming, L: JobLine, F: Floor> Model for WorkerSlot<J, L, F> {
     ghost use Rattle.std.specs.Prelude.{◌≡◌, ◌≢◌, Option, None, MatchOption};
     ghost use Rattle.std.specs.Option.{option_map};
     ghost use Rattle.dispatcher.specs.Members.{IsWorkerOf, IsEndOf, stop_of};
@@ -253,12 +253,12 @@ fn ran_out<L: JobLine, F: Floor>(end: &WorkerEnd<L, F>) -> bool
     end.stop() == Stop::OutOfMemory
 }
 
-impl<J: Naming, L: JobLine, F: Floor> Post<J, L, F> {
-    pub fn new(worker: Worker<L, F>) -> Post<J, L, F>
+impl<J: Naming, L: JobLine, F: Floor> WorkerSlot<J, L, F> {
+    pub fn new(worker: Worker<L, F>) -> WorkerSlot<J, L, F>
         requires { IsWorkerOf J.shop worker }
         ensures { result ≡ None }
     {
-        Post {
+        WorkerSlot {
             worker: Some(worker),
             end: None,
             of: PhantomData,
@@ -297,7 +297,7 @@ impl<J: Naming, L: JobLine, F: Floor> Post<J, L, F> {
             (λ stop. stop_of result ≡ stop) }
         ensures has_run { IsSome self → stop_of result ≢ Stop.NotRun }
     {
-        let Post { worker, end, of: _ } = self;
+        let WorkerSlot { worker, end, of: _ } = self;
         match (worker, end) {
             (Some(worker), None) => worker.stand_down(alloc),
             (None, Some(end)) => end,
@@ -308,13 +308,13 @@ impl<J: Naming, L: JobLine, F: Floor> Post<J, L, F> {
 }
 
 /// The right to close, or the note of the close.
-pub struct Door<J: Naming, L: JobLine, F: Floor> {
+pub struct CloserSlot<J: Naming, L: JobLine, F: Floor> {
     closer: Option<Closer<L, F>>,
     note: Option<CloseNote<L, F>>,
     of: PhantomData<J>,
 }
 
-impl<J: Naming, L: JobLine, F: Floor> Model for Door<J, L, F> {
+impl<J: Naming, L: JobLine, F: Floor> Model for CloserSlot<J, L, F> {
     ghost use Rattle.std.specs.Prelude.{◌≡◌, Bool, is_some, None, MatchOption};
     ghost use Rattle.dispatcher.specs.Members.{IsCloserOf, IsNoteOf};
 
@@ -328,12 +328,12 @@ impl<J: Naming, L: JobLine, F: Floor> Model for Door<J, L, F> {
         (λ c. IsCloserOf L.JobLine J.shop c × (d.note ≡ None)) };
 }
 
-impl<J: Naming, L: JobLine, F: Floor> Door<J, L, F> {
-    pub fn new(closer: Closer<L, F>) -> Door<J, L, F>
+impl<J: Naming, L: JobLine, F: Floor> CloserSlot<J, L, F> {
+    pub fn new(closer: Closer<L, F>) -> CloserSlot<J, L, F>
         requires { IsCloserOf L.JobLine J.shop closer }
         ensures { result ≡ false }
     {
-        Door {
+        CloserSlot {
             closer: Some(closer),
             note: None,
             of: PhantomData,
@@ -357,7 +357,7 @@ impl<J: Naming, L: JobLine, F: Floor> Door<J, L, F> {
         requires { shop.now ≡ J.shop }
         ensures { IsNoteOf L.JobLine J.shop result }
     {
-        let Door {
+        let CloserSlot {
             closer,
             note,
             of: _,

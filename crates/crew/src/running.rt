@@ -11,11 +11,11 @@ ghost use Rattle.crew.specs.InnerEnd.{HasEnded};
 ghost use Rattle.crew.specs.Run.{IsRun};
 ghost use Rattle.crew.specs.Members.{RanIn};
 
-use crate::gang::Gang;
-use crate::member::{Door, Naming};
+use crate::members::ShopMembers;
+use crate::member::{CloserSlot, Naming};
 use crate::ready::{EndRoom, MemberRoom, Ready, make_ready};
 use crate::shared::{SharedFloor, SharedLine};
-use crate::slots::{man_feeders, man_posts, relieve_feeders, relieve_posts};
+use crate::slots::{slots_for_lanes, slots_for_workers, lanes_from_slots, workers_from_slots};
 use crate::threads::run_threads;
 use dispatcher::{
     CloseNote, FeedStop, Finished, Opened, Runner, Shop, ShopRefused, ShopSizes, Stop, WorkerEnd,
@@ -195,22 +195,22 @@ fn run_named<
         mut fed,
         returned: room,
     } = room;
-    let posts = man_posts(alloc, workers, &mut ends);
-    let (feeders, lanes) = man_feeders(rt, alloc, &shop, lanes, jobs, &mut fed);
+    let posts = slots_for_workers(alloc, workers, &mut ends);
+    let (feeders, lanes) = slots_for_lanes(rt, alloc, &shop, lanes, jobs, &mut fed);
     let all_have_slots = ends.is_empty() && fed.is_empty();
-    let gang: Gang<J, L, F, T> = Gang {
+    let gang: ShopMembers<J, L, F, T> = ShopMembers {
         shop: &shop,
         runner,
         alloc,
         posts,
         feeders,
         feeder_threads: processors(rt),
-        door: Mutex::new(Door::new(closer)),
+        door: Mutex::new(CloserSlot::new(closer)),
     };
     if all_have_slots {
         run_threads(rt, &gang);
     }
-    let Gang {
+    let ShopMembers {
         shop: _,
         runner: _,
         alloc: _,
@@ -219,9 +219,9 @@ fn run_named<
         feeder_threads: _,
         door,
     } = gang;
-    relieve_posts(alloc, posts, &mut ends);
+    workers_from_slots(alloc, posts, &mut ends);
     let note = door.into_inner().into_note(rt, &shop);
-    relieve_feeders(rt, &shop, feeders, &mut fed);
+    lanes_from_slots(rt, &shop, feeders, &mut fed);
     let members = Members {
         fed,
         ends,

@@ -8,7 +8,7 @@ ghost use Rattle.job_queue.specs.Line.{IsFor};
 ghost use Rattle.dispatcher.specs.Members.{IsWorkerOf, IsEndOf};
 ghost use Rattle.crew.specs.InnerEnd.{HasEnded};
 
-use crate::member::{Feeder, Naming, Post};
+use crate::member::{LaneSlot, Naming, WorkerSlot};
 use crate::running::LaneEnd;
 use dispatcher::{Shop, Worker, WorkerEnd};
 use floors::Floor;
@@ -20,12 +20,12 @@ use std::marker::{Model, PhantomData};
 use std::sync::{Mutex, Wait};
 
 // Workers that have no slot yet.
-struct Idle<J: Naming, L: JobLine, F: Floor> {
+struct WaitingWorkers<J: Naming, L: JobLine, F: Floor> {
     workers: Vec<Worker<L, F>>,
     of: PhantomData<J>,
 }
 
-impl<J: Naming, L: JobLine, F: Floor> Model for Idle<J, L, F> {
+impl<J: Naming, L: JobLine, F: Floor> Model for WaitingWorkers<J, L, F> {
     ghost use Rattle.std.specs.Prelude.{ℕ, length};
     ghost use Rattle.std.specs.List.{All};
     ghost use Rattle.dispatcher.specs.Members.{IsWorkerOf};
@@ -38,32 +38,32 @@ impl<J: Naming, L: JobLine, F: Floor> Model for Idle<J, L, F> {
     ghost invariant = { λ i. All (IsWorkerOf J.shop) i.workers.items };
 }
 
-impl<J: Naming, L: JobLine, F: Floor> Idle<J, L, F> {
+impl<J: Naming, L: JobLine, F: Floor> WaitingWorkers<J, L, F> {
     // A slot for the last of them.
     #[tactic(auto, using(crate::proofs::SlotLemmas::all_last, crate::proofs::SlotLemmas::all_front))]
-    fn next(&mut self) -> Option<Post<J, L, F>>
+    fn next(&mut self) -> Option<WorkerSlot<J, L, F>>
         ensures fewer { MatchOption result ((self.old ≡ 0) × (self.new ≡ 0))
             (λ post. self.old ≡ self.new + 1) }
     {
         let worker = self.workers.pop()?;
-        Some(Post::new(worker))
+        Some(WorkerSlot::new(worker))
     }
 
     // All of them have one.
     fn end(self)
         requires { self ≡ 0 }
     {
-        let Idle { workers, of: _ } = self;
+        let WaitingWorkers { workers, of: _ } = self;
         workers.destroy_empty();
     }
 }
 
 // A slot for each worker. One for which there is no memory stands down at once.
-pub fn man_posts<J: Naming, L: JobLine, F: Floor>(
+pub fn slots_for_workers<J: Naming, L: JobLine, F: Floor>(
     alloc: Global,
     workers: Vec<Worker<L, F>>,
     ends: &mut Vec<WorkerEnd<L, F>>,
-) -> Vec<Mutex<Post<J, L, F>>>
+) -> Vec<Mutex<WorkerSlot<J, L, F>>>
     requires workers { All (IsWorkerOf J.shop) workers.items }
     requires empty { ends.old.items ≡ [] }
     requires room { length workers.items ≤ vec_capacity ends.old }
@@ -71,7 +71,7 @@ pub fn man_posts<J: Naming, L: JobLine, F: Floor>(
     ensures ends { All (IsEndOf J.shop) ends.new.items }
     ensures room { length workers.items ≤ vec_capacity ends.new }
 {
-    let mut idle: Idle<J, L, F> = Idle {
+    let mut idle: WaitingWorkers<J, L, F> = WaitingWorkers {
         workers,
         of: PhantomData,
     };
@@ -86,9 +86,9 @@ pub fn man_posts<J: Naming, L: JobLine, F: Floor>(
 }
 
 // Takes the workers that have stopped out of their slots.
-pub fn relieve_posts<J: Naming, L: JobLine, F: Floor>(
+pub fn workers_from_slots<J: Naming, L: JobLine, F: Floor>(
     alloc: Global,
-    mut posts: Vec<Mutex<Post<J, L, F>>>,
+    mut posts: Vec<Mutex<WorkerSlot<J, L, F>>>,
     ends: &mut Vec<WorkerEnd<L, F>>,
 )
     requires room { length posts.items + length ends.old.items ≤ vec_capacity ends.old }
@@ -103,13 +103,13 @@ pub fn relieve_posts<J: Naming, L: JobLine, F: Floor>(
 }
 
 // Lanes with their jobs that have no slot yet.
-struct Unmanned<J: Naming, L: JobLine> {
+struct WaitingLanes<J: Naming, L: JobLine> {
     lanes: Vec<L::Lane>,
     jobs: Vec<VecDeque<Job>>,
     of: PhantomData<J>,
 }
 
-impl<J: Naming, L: JobLine> Model for Unmanned<J, L> {
+impl<J: Naming, L: JobLine> Model for WaitingLanes<J, L> {
     ghost use Rattle.std.specs.Prelude.{◌≡◌, ℕ, ◌<◌, ◌≤◌, [], map, length, slice_index_or};
     ghost use Rattle.std.specs.List.{All};
     ghost use Rattle.std.specs.Vec.{vec_capacity};
@@ -129,8 +129,8 @@ impl<J: Naming, L: JobLine> Model for Unmanned<J, L> {
         × (J.shop.line.sizes.lanes ≤ vec_capacity u.lanes) };
 }
 
-impl<J: Naming, L: JobLine> Unmanned<J, L> {
-    fn new(lanes: Vec<L::Lane>, jobs: Vec<VecDeque<Job>>) -> Unmanned<J, L>
+impl<J: Naming, L: JobLine> WaitingLanes<J, L> {
+    fn new(lanes: Vec<L::Lane>, jobs: Vec<VecDeque<Job>>) -> WaitingLanes<J, L>
         requires lanes { All (L.is_lane J.shop.line) lanes.items }
         requires fresh { map L.lane_record lanes.items ≡ fresh_lanes (length jobs.items) }
         requires jobs { (k : ℕ) → k < length jobs.items →
@@ -140,7 +140,7 @@ impl<J: Naming, L: JobLine> Unmanned<J, L> {
         requires room { J.shop.line.sizes.lanes ≤ vec_capacity lanes }
         ensures { result ≡ length lanes.items }
     {
-        Unmanned {
+        WaitingLanes {
             lanes,
             jobs,
             of: PhantomData,
@@ -148,7 +148,7 @@ impl<J: Naming, L: JobLine> Unmanned<J, L> {
     }
 
     // The last of them, with the last list.
-    fn next(&mut self) -> Option<Feeder<J, L>>
+    fn next(&mut self) -> Option<LaneSlot<J, L>>
         ensures fewer { MatchOption result ((self.old ≡ 0) × (self.new ≡ 0))
             (λ feeder. self.old ≡ self.new + 1) }
     {
@@ -156,7 +156,7 @@ impl<J: Naming, L: JobLine> Unmanned<J, L> {
         let Some(list) = self.jobs.pop() else {
             unreachable!()
         };
-        Some(Feeder::new(lane, list))
+        Some(LaneSlot::new(lane, list))
     }
 
     // Room for as many, once all of them have a slot.
@@ -174,14 +174,14 @@ impl<J: Naming, L: JobLine> Unmanned<J, L> {
 }
 
 // A slot for each lane with its jobs. One for which there is no memory hands in nothing.
-pub fn man_feeders<J: Naming, R: Wait, L: JobLine, F: Floor>(
+pub fn slots_for_lanes<J: Naming, R: Wait, L: JobLine, F: Floor>(
     rt: &R,
     alloc: Global,
     shop: &Shop<L, F>,
     lanes: Vec<L::Lane>,
     jobs: Vec<VecDeque<Job>>,
     fed: &mut Vec<(L::Lane, LaneEnd)>,
-) -> (Vec<Mutex<Feeder<J, L>>>, Vec<L::Lane>)
+) -> (Vec<Mutex<LaneSlot<J, L>>>, Vec<L::Lane>)
     requires shop { shop.now ≡ J.shop }
     requires lanes { All (L.is_lane J.shop.line) lanes.items }
     requires all_lanes { J.shop.line.sizes.lanes ≡ length lanes.items }
@@ -198,7 +198,7 @@ pub fn man_feeders<J: Naming, R: Wait, L: JobLine, F: Floor>(
     ensures room { length lanes.items ≤ vec_capacity fed.new }
     ensures lane_room { (result.1.items ≡ []) × (length lanes.items ≤ vec_capacity result.1) }
 {
-    let mut unmanned: Unmanned<J, L> = Unmanned::new(lanes, jobs);
+    let mut unmanned: WaitingLanes<J, L> = WaitingLanes::new(lanes, jobs);
     let mut feeders = Vec::new(alloc);
     while let Some(feeder) = unmanned.next() {
         if let Err(failed) = feeders.push(Mutex::new(feeder)) {
@@ -209,10 +209,10 @@ pub fn man_feeders<J: Naming, R: Wait, L: JobLine, F: Floor>(
 }
 
 // Takes the feeders out of their slots: each lane, and its end.
-pub fn relieve_feeders<J: Naming, R: Wait, L: JobLine, F: Floor>(
+pub fn lanes_from_slots<J: Naming, R: Wait, L: JobLine, F: Floor>(
     rt: &R,
     shop: &Shop<L, F>,
-    mut feeders: Vec<Mutex<Feeder<J, L>>>,
+    mut feeders: Vec<Mutex<LaneSlot<J, L>>>,
     fed: &mut Vec<(L::Lane, LaneEnd)>,
 )
     requires shop { shop.now ≡ J.shop }

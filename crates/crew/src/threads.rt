@@ -7,7 +7,7 @@ use std::thread::{Builder, Threads};
 const STACK_BYTES: usize = 1 << 21;
 
 // Members that wait for threads, and what a thread does for them.
-pub trait Crew {
+pub trait ThreadWork {
     ghost is_ready: { Self → Type 0 };
 
     // How many workers there are.
@@ -36,62 +36,62 @@ fn with_stack() -> Builder {
 
 // Starts a thread for each worker, and then those that feed, each for some of the lanes; closes the shop
 // once all of these have ended, and waits for the workers. Where a thread cannot be started no other one is.
-pub fn run_threads<R: Threads + Wait + Sync, C: Crew + Sync>(rt: &R, crew: &C)
-    requires { C.is_ready crew.now }
+pub fn run_threads<R: Threads + Wait + Sync, C: ThreadWork + Sync>(rt: &R, members: &C)
+    requires { C.is_ready members.now }
 {
     thread::scope(
         thread::scope_env(),
         rt,
         |workers|
-            requires { C.is_ready crew.now }
+            requires { C.is_ready members.now }
         {
             let mut started = true;
-            for index in 0..crew.worker_count() {
+            for index in 0..members.worker_count() {
                 if started {
                     started = with_stack()
                         .spawn_scoped(
                             workers,
                             move ||
-                                requires { C.is_ready crew.now }
-                            { crew.work(rt, index) },
+                                requires { C.is_ready members.now }
+                            { members.work(rt, index) },
                         )
                         .is_ok();
                 }
             }
             if started {
-                feed_on_threads(rt, crew);
+                feed_on_threads(rt, members);
             }
-            crew.close(rt);
+            members.close(rt);
         },
     );
 }
 
 // Starts the threads that feed, and waits for them. Where one cannot be started the shop is closed at
 // once, so that the others do not hand in what is not going to be a whole run.
-fn feed_on_threads<R: Threads + Wait + Sync, C: Crew + Sync>(rt: &R, crew: &C)
-    requires { C.is_ready crew.now }
+fn feed_on_threads<R: Threads + Wait + Sync, C: ThreadWork + Sync>(rt: &R, members: &C)
+    requires { C.is_ready members.now }
 {
     thread::scope(
         thread::scope_env(),
         rt,
         |feeders|
-            requires { C.is_ready crew.now }
+            requires { C.is_ready members.now }
         {
             let mut started = true;
-            for index in 0..crew.feeder_count() {
+            for index in 0..members.feeder_count() {
                 if started {
                     started = with_stack()
                         .spawn_scoped(
                             feeders,
                             move ||
-                                requires { C.is_ready crew.now }
-                            { crew.feed(rt, index) },
+                                requires { C.is_ready members.now }
+                            { members.feed(rt, index) },
                         )
                         .is_ok();
                 }
             }
             if !started {
-                crew.close(rt);
+                members.close(rt);
             }
         },
     );

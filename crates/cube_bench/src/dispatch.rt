@@ -5,7 +5,7 @@ ghost use Rattle.std.specs.Prelude.{◌≤◌};
 mod lists;
 mod words;
 
-use crate::outcome::{Measured, Stopped, nanos_since};
+use crate::outcome::{Measured, MeasureError, nanos_since};
 use crew::{RunEnd, SharedFloor, SharedLine, run};
 use cube_shape::{MAX_DIM, MAX_LANES};
 use dispatcher::{Finished, Plain, ShopRefused};
@@ -84,12 +84,12 @@ pub fn measure<R: Threads + Wait + Sync + Clock>(
     rt: &R,
     alloc: Global,
     words: &[String],
-) -> Result<Measured, Stopped> {
+) -> Result<Measured, MeasureError> {
     let Some(invocation) = parse_words(words) else {
-        return Err(Stopped::BadWords);
+        return Err(MeasureError::BadWords);
     };
     let Some(measured) = measure_shop(rt, alloc, invocation) else {
-        return Err(Stopped::Failed);
+        return Err(MeasureError::Failed);
     };
     Ok(measured)
 }

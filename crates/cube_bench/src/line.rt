@@ -7,7 +7,7 @@ mod calls;
 mod words;
 
 use crate::jobs::jobs_of;
-use crate::outcome::{Measured, Stopped, nanos_since};
+use crate::outcome::{Measured, MeasureError, nanos_since};
 use calls::{Feeding, Taking, Timed, room_for_times, submit, take, times_of_all};
 use crew::SharedLine;
 use cube_shape::{MAX_CAPACITY, MAX_LANES, MAX_PASSES};
@@ -302,9 +302,9 @@ pub fn measure<R: Threads + Wait + Sync + Clock>(
     rt: &R,
     alloc: Global,
     words: &[String],
-) -> Result<Measured, Stopped> {
+) -> Result<Measured, MeasureError> {
     let Some(invocation) = parse_words(words) else {
-        return Err(Stopped::BadWords);
+        return Err(MeasureError::BadWords);
     };
     let measured = if invocation.is_ruled {
         measure_line::<R, RuledLine>(rt, alloc, invocation)
@@ -312,7 +312,7 @@ pub fn measure<R: Threads + Wait + Sync + Clock>(
         measure_line::<R, LockedLine>(rt, alloc, invocation)
     };
     let Some(measured) = measured else {
-        return Err(Stopped::Failed);
+        return Err(MeasureError::Failed);
     };
     Ok(measured)
 }

@@ -11,7 +11,7 @@ mod shop;
 mod single;
 mod told;
 
-use crate::outcome::{Measured, Stopped};
+use crate::outcome::{Measured, MeasureError};
 use locked_floor::LockedFloor;
 use locked_line::LockedLine;
 use ruled_line::RuledLine;
@@ -75,12 +75,12 @@ pub fn measure<R: Wait + Print>(
     rt: &R,
     alloc: Global,
     words: &[String],
-) -> Result<Measured, Stopped> {
+) -> Result<Measured, MeasureError> {
     let Some(calls) = calls_of(words) else {
-        return Err(Stopped::BadWords);
+        return Err(MeasureError::BadWords);
     };
     let Ok(count) = call_all(rt, alloc, calls) else {
-        return Err(Stopped::Failed);
+        return Err(MeasureError::Failed);
     };
     Ok(Measured::counted(alloc, count))
 }

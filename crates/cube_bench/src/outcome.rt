@@ -40,7 +40,7 @@ impl Measured {
 }
 
 /// Why nothing was measured.
-pub enum Stopped {
+pub enum MeasureError {
     /// The words ask for no measurement.
     BadWords,
     /// There was no memory or no clock, or the output failed.

@@ -3,7 +3,7 @@
 ghost use Rattle.std.specs.Prelude.{◌≡◌, ◌^◌, ◌<◌, ◌≤◌, All, IfSome, length};
 ghost use Rattle.collectives.specs.Operations.{IsU64};
 
-use crate::outcome::{Measured, Stopped};
+use crate::outcome::{Measured, MeasureError};
 use collectives::{Add, all_reduce, broadcast, exscan, reduce, scan};
 use std::alloc::{AllocError, Global};
 
@@ -136,12 +136,12 @@ fn digest_after(alloc: Global, invocation: Invocation) -> Result<u64, AllocError
 
 /// Runs the collective that the words ask for, so many times, and counts a number that all places
 /// determine in the end.
-pub fn measure(alloc: Global, words: &[String]) -> Result<Measured, Stopped> {
+pub fn measure(alloc: Global, words: &[String]) -> Result<Measured, MeasureError> {
     let Some(invocation) = parse_words(words) else {
-        return Err(Stopped::BadWords);
+        return Err(MeasureError::BadWords);
     };
     let Ok(digest) = digest_after(alloc, invocation) else {
-        return Err(Stopped::Failed);
+        return Err(MeasureError::Failed);
     };
     Ok(Measured::counted(alloc, digest))
 }

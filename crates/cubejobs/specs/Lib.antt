@@ -8,5 +8,5 @@ pub use Rattle.dispatcher.specs.Opening.{refusal_of}
 pub use Rattle.dispatcher.specs.Finished.{FinishedRun}
 pub use Rattle.crew.specs.Run.{by_worker_of, IsRun}
 pub use Rattle.crew.specs.Done.{IsDone, reason_of}
-pub use Rattle.crew.specs.Stopped.{MatchStopped}
+pub use Rattle.crew.specs.RunError.{MatchRunError}
 pub use Rattle.crew.specs.Batch.{IsAnsweredBatch, IsRefusedBatch, IsUnfinishedBatch}

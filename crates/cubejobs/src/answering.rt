@@ -5,9 +5,9 @@ ghost use Rattle.job_queue.specs.Line.{IsFor};
 ghost use Rattle.cube_tree.specs.Ends.{machine_dim, machine_words};
 ghost use Rattle.tree_floor.specs.Roll.{IsRollWhole};
 ghost use Rattle.crew.specs.Batch.{IsAnsweredBatch, IsRefusedBatch, IsUnfinishedBatch};
-ghost use Rattle.crew.specs.Stopped.{MatchStopped};
+ghost use Rattle.crew.specs.RunError.{MatchRunError};
 
-use crew::{RunEnd, Stopped};
+use crew::{RunEnd, RunError};
 use dispatcher::{Runner, ShopSizes};
 use job_types::Job;
 use ruled_line::RuledLine;
@@ -35,16 +35,16 @@ pub fn answer_all<R: Threads + Wait + Sync, T: Runner + Sync>(
     sizes: ShopSizes,
     runner: &T,
     jobs: Vec<VecDeque<Job>>,
-) -> Result<RunEnd<FreeMachine>, Stopped<FreeMachine>>
+) -> Result<RunEnd<FreeMachine>, RunError<FreeMachine>>
     requires lanes { length jobs.items < 2 ^ 32 }
     requires made_for { (k : ℕ) → k < length jobs.items →
         All (IsFor sizes.dim k) (slice_index_or (map (λ js. js.items) jobs.items) k []) }
     ensures answered { IfOk result
         (IsAnsweredBatch machine_words machine_dim IsRollWhole sizes jobs.items) }
     ensures refused { IfErr result (λ stopped.
-        MatchStopped stopped (IsRefusedBatch sizes jobs.items) (λ why end. ⊤)) }
+        MatchRunError stopped (IsRefusedBatch sizes jobs.items) (λ why end. ⊤)) }
     ensures unfinished { IfErr result (λ stopped.
-        MatchStopped stopped (λ why back. ⊤) (IsUnfinishedBatch machine_words sizes jobs.items)) }
+        MatchRunError stopped (λ why back. ⊤) (IsUnfinishedBatch machine_words sizes jobs.items)) }
 {
     crew::answer_all::<R, RuledLine, TreeFloor, T>(rt, alloc, sizes, runner, jobs)
 }

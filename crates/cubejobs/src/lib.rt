@@ -10,7 +10,7 @@
 mod answering;
 
 pub use answering::answer_all;
-pub use crew::{LaneEnd, RunEnd, StopReason, Stopped};
+pub use crew::{LaneEnd, RunEnd, StopReason, RunError};
 pub use cube_ledger::{Ledger, Totals};
 pub use cube_occupancy::{Occupancy, occupancy};
 pub use cube_shape::{MAX_CAPACITY, MAX_DIM, MAX_DISPATCHERS, MAX_LANES};

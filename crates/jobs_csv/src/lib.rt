@@ -30,7 +30,7 @@ mod writing;
 
 pub use cube_core::{Event, Refused};
 pub use devices::{Counted, Device};
-pub use fault::{Fault, FaultKind, WriteStopped};
+pub use fault::{Fault, FaultKind, WriteError};
 pub use input::MAX_RECORDS;
 pub use job_types::{Job, JobRefused, Reply};
 pub use jobs::{read_jobs, read_lanes, read_lanes_with};

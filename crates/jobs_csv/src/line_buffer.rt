@@ -3,7 +3,7 @@ ghost use Rattle.std.specs.Prelude.{◌≡◌, [], ◌++◌, ℕ, List, IfOk, On
 ghost use Rattle.std.specs.Io.KnownBytes.{Appends, Keeps};
 ghost use Rattle.jobs_csv.specs.Text.{line_of};
 
-use crate::fault::WriteStopped;
+use crate::fault::WriteError;
 use crate::row::{Row, RowFields};
 use csv::Writer;
 use std::alloc::{AllocError, Global};
@@ -36,21 +36,21 @@ impl Model for LineBuffer {
 }
 
 // Writes out all of a text.
-fn write_out<W: Write>(text: &[u8], writer: &mut W) -> Result<(), WriteStopped>
+fn write_out<W: Write>(text: &[u8], writer: &mut W) -> Result<(), WriteError>
     ensures { OnOk result (Appends (W.contents writer.old) (W.contents writer.new) text.now) }
 {
     if writer.write_all(text).is_err() {
-        return Err(WriteStopped);
+        return Err(WriteError);
     }
     Ok(())
 }
 
 // Flushes the writer.
-fn flush_writer<W: Write>(writer: &mut W) -> Result<(), WriteStopped>
+fn flush_writer<W: Write>(writer: &mut W) -> Result<(), WriteError>
     ensures { OnOk result (Keeps (W.contents writer.old) (W.contents writer.new)) }
 {
     if writer.flush().is_err() {
-        return Err(WriteStopped);
+        return Err(WriteError);
     }
     Ok(())
 }
@@ -92,7 +92,7 @@ impl LineBuffer {
         self,
         row: T,
         writer: &mut W,
-    ) -> Result<Self, WriteStopped>
+    ) -> Result<Self, WriteError>
         ensures { IfOk result (λ lines. (out : List ℕ)
             × Appends (W.contents writer.old) (W.contents writer.new) out
             × (out ++ lines ≡ self ++ line_of (T.fields row))) }
@@ -103,7 +103,7 @@ impl LineBuffer {
     }
 
     /// Writes out the buffered lines and empties the buffer.
-    pub fn flush<W: Write>(self, writer: &mut W) -> Result<Self, WriteStopped>
+    pub fn flush<W: Write>(self, writer: &mut W) -> Result<Self, WriteError>
         ensures written { OnOk result
             (Appends (W.contents writer.old) (W.contents writer.new) self) }
         ensures empty { IfOk result (λ lines. lines ≡ []) }
@@ -114,12 +114,12 @@ impl LineBuffer {
             alloc,
         } = self;
         let Ok(mut text) = Box::into_inner(buffer).into_inner() else {
-            return Err(WriteStopped);
+            return Err(WriteError);
         };
         write_out(&text, writer)?;
         text.clear();
         let Ok(writer) = Box::new(alloc, Writer::from_writer(text)) else {
-            return Err(WriteStopped);
+            return Err(WriteError);
         };
         Ok(LineBuffer {
             writer,
@@ -129,7 +129,7 @@ impl LineBuffer {
     }
 
     /// Writes out the buffered lines, as `flush` does, if the buffer is full.
-    pub fn flush_if_full<W: Write>(self, writer: &mut W) -> Result<Self, WriteStopped>
+    pub fn flush_if_full<W: Write>(self, writer: &mut W) -> Result<Self, WriteError>
         ensures { IfOk result (λ lines. (out : List ℕ)
             × Appends (W.contents writer.old) (W.contents writer.new) out
             × (out ++ lines ≡ self)) }
@@ -142,7 +142,7 @@ impl LineBuffer {
     }
 
     /// Writes out the last lines and flushes the writer.
-    pub fn finish<W: Write>(self, writer: &mut W) -> Result<(), WriteStopped>
+    pub fn finish<W: Write>(self, writer: &mut W) -> Result<(), WriteError>
         ensures { OnOk result (Appends (W.contents writer.old) (W.contents writer.new) self) }
     {
         let _empty = self.flush(writer)?;

@@ -4,7 +4,7 @@ ghost use Rattle.std.specs.Io.KnownBytes.{Appends};
 ghost use Rattle.jobs_csv.specs.Fault.{attribute};
 ghost use Rattle.jobs_csv.specs.Text.{file_text};
 
-use crate::fault::{Fault, FaultKind, WriteStopped};
+use crate::fault::{Fault, FaultKind, WriteError};
 use crate::line_buffer::LineBuffer;
 use crate::row::Row;
 use devices::Device;
@@ -16,7 +16,7 @@ fn write_all_rows<R: Row + Drop, W: Write>(
     alloc: Global,
     rows: Vec<R>,
     writer: &mut W,
-) -> Result<(), WriteStopped>
+) -> Result<(), WriteError>
     ensures { OnOk result (Appends (W.contents writer.old) (W.contents writer.new)
         (file_text R.columns R.fields rows.items)) }
 {
@@ -48,7 +48,7 @@ pub fn write_rows<R: Row + Drop, W: Write + Device>(
     let failures_before = writer.failures();
     match write_all_rows(alloc, rows, writer) {
         Ok(()) => Ok(()),
-        Err(WriteStopped) => Err(Fault::attribute(
+        Err(WriteError) => Err(Fault::attribute(
             FaultKind::Write,
             failures_before,
             writer.failures(),

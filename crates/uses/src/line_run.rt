@@ -8,5 +8,5 @@ mod running;
 
 pub use draining::drain;
 pub use feeding::feed;
-pub use member::{Door, Feeder, Naming, Taker};
+pub use member::{CloserSlot, Feeder, Naming, Taker};
 pub use running::{Finished, run};

@@ -8,7 +8,7 @@ use crate::tests::readings::{name_of, writes};
 use cube_core::{Event, Kind, Note, Refused};
 use job_types::{JobId, Op, Reply};
 use jobs_csv::{
-    Counted, Device, FaultKind, LineBuffer, PlaceRow, ReplayRow, ReportRow, Row, WriteStopped,
+    Counted, Device, FaultKind, LineBuffer, PlaceRow, ReplayRow, ReportRow, Row, WriteError,
     write_rows,
 };
 use std::io::Write;
@@ -37,7 +37,7 @@ fn write_text<T: Row, W: Write>(
     rows: &[T],
     flushes: bool,
     writer: &mut W,
-) -> Result<(), WriteStopped> {
+) -> Result<(), WriteError> {
     let mut lines = lines.push_header::<T>().expect(rt, "no memory");
     for row in rows {
         lines = push_row(rt, lines, row, flushes, writer);
@@ -267,7 +267,7 @@ fn write_many<W: Write>(
     lines: LineBuffer,
     count: u64,
     writer: &mut W,
-) -> Result<LineBuffer, WriteStopped> {
+) -> Result<LineBuffer, WriteError> {
     let mut lines = lines;
     for _row in 0..count {
         lines = lines.write_row(refused(0, Some(1_000_000), Refused::NotInCube), writer)?;

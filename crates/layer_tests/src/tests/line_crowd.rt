@@ -8,7 +8,7 @@ use crate::tests::over::Over;
 use cube_shape::{MAX_CAPACITY, MAX_LANES, MAX_PASSES};
 use job_queue::{JobLine, Opened, QueuedJob, Receipt, Refused, Rest, Sizes};
 use job_types::Job;
-use uses::line_run::{Door, Naming, drain};
+use uses::line_run::{CloserSlot, Naming, drain};
 use locked_line::LockedLine;
 use ruled_line::RuledLine;
 use std::alloc::Global;
@@ -176,7 +176,7 @@ fn room_of_all<R: Abort>(
 fn shut_late<R: Wait, J: Naming, L: JobLine>(
     rt: &R,
     line: &L,
-    door: &Mutex<Door<J, L>>,
+    door: &Mutex<CloserSlot<J, L>>,
     found: &Found,
 )
     requires { L.id line.now ≡ J.line }
@@ -191,7 +191,7 @@ fn take_or_close<R: Wait, J: Naming, L: JobLine>(
     rt: &R,
     line: &L,
     pass: &mut L::Pass,
-    door: &Mutex<Door<J, L>>,
+    door: &Mutex<CloserSlot<J, L>>,
     taken: Option<&Mutex<Vec<QueuedJob>>>,
     found: &Found,
 )
@@ -211,7 +211,7 @@ fn work<R: Wait, J: Naming, L: JobLine>(
     line: &L,
     number: usize,
     own: &mut Result<L::Lane, L::Pass>,
-    door: &Mutex<Door<J, L>>,
+    door: &Mutex<CloserSlot<J, L>>,
     crowd: &Crowd,
 )
     requires named { L.id line.now ≡ J.line }
@@ -256,7 +256,7 @@ impl<J: Naming, L: JobLine> Member<J, L> {
         rt: &R,
         line: &L,
         number: usize,
-        door: &Mutex<Door<J, L>>,
+        door: &Mutex<CloserSlot<J, L>>,
         crowd: &Crowd,
     )
         requires named { L.id line.now ≡ J.line }
@@ -278,7 +278,7 @@ fn act_all<R: Threads + Wait + Sync, J: Naming + Send + Sync, L: JobLine + Sync>
     rt: &R,
     line: &L,
     members: &mut [Member<J, L>],
-    door: &Mutex<Door<J, L>>,
+    door: &Mutex<CloserSlot<J, L>>,
     crowd: &Crowd,
 )
 where
@@ -420,7 +420,7 @@ where
     let mut members: Vec<Member<J, L>> = Vec::new(alloc);
     man_passes(rt, &mut passes, &mut members);
     man_lanes(rt, &mut lanes, &mut members);
-    let door: Mutex<Door<J, L>> = Mutex::new(Door::new(closer));
+    let door: Mutex<CloserSlot<J, L>> = Mutex::new(CloserSlot::new(closer));
     act_all(rt, &line, members.as_mut_slice(), &door, crowd);
     part(rt, members, &mut lanes, &mut passes);
     let note = door.into_inner().into_note(rt, &line);

@@ -4,7 +4,7 @@ ghost use Rattle.std.specs.Prelude.{◌≡◌, ◌≤◌};
 use crate::tests::at_rest::AtRest;
 use crate::tests::expect::expect_all;
 use crate::tests::over::{Asked, BOTH, Over, sizes};
-use crew::{RunEnd, SharedFloor, SharedLine, Stopped, answer_all};
+use crew::{RunEnd, SharedFloor, SharedLine, RunError, answer_all};
 use cube_shape::MAX_LANES;
 use dispatcher::{Finished, Plain, Runner, ShopRefused, ShopSizes, sorted_replies};
 use floors::Floor;
@@ -62,12 +62,12 @@ type Refused = (ShopRefused, usize);
 fn batch_from<M: Drop + AtRest>(
     rt: &impl Abort,
     alloc: Global,
-    answered: Result<RunEnd<M>, Stopped<M>>,
+    answered: Result<RunEnd<M>, RunError<M>>,
 ) -> Result<Batch, Refused> {
     match answered {
         Ok(RunEnd { finished, .. }) => Ok(sorted(rt, alloc, finished)),
-        Err(Stopped::Refused { why, jobs }) => Err((why, jobs.len())),
-        Err(Stopped::Unfinished { .. }) => panic!(rt; "no memory, or no thread"),
+        Err(RunError::Refused { why, jobs }) => Err((why, jobs.len())),
+        Err(RunError::Unfinished { .. }) => panic!(rt; "no memory, or no thread"),
     }
 }
 

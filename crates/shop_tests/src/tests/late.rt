@@ -19,13 +19,13 @@ use std::thread::{Threads, for_each_mut};
 use test_kit::{Meeting, Plan, Tabled, jobs, only_lane, sole};
 
 // A worker before it runs, or its end.
-struct Post<J: Naming, L: JobLine, F: Floor> {
+struct WorkerSlot<J: Naming, L: JobLine, F: Floor> {
     worker: Option<Worker<L, F>>,
     end: Option<WorkerEnd<L, F>>,
     of: PhantomData<J>,
 }
 
-impl<J: Naming, L: JobLine, F: Floor> Model for Post<J, L, F> {
+impl<J: Naming, L: JobLine, F: Floor> Model for WorkerSlot<J, L, F> {
     ghost use Rattle.std.specs.Prelude.{◌≡◌, None, IfSome, MatchOption};
     ghost use Rattle.dispatcher.specs.Members.{IsEndOf, IsWorkerOf};
 
@@ -37,11 +37,11 @@ impl<J: Naming, L: JobLine, F: Floor> Model for Post<J, L, F> {
         (λ w. IsWorkerOf J.shop w × (p.end ≡ None)) };
 }
 
-impl<J: Naming, L: JobLine, F: Floor> Post<J, L, F> {
+impl<J: Naming, L: JobLine, F: Floor> WorkerSlot<J, L, F> {
     fn of(worker: Worker<L, F>) -> Self
         requires { IsWorkerOf J.shop worker }
     {
-        Post {
+        WorkerSlot {
             worker: Some(worker),
             end: None,
             of: PhantomData,
@@ -61,7 +61,7 @@ impl<J: Naming, L: JobLine, F: Floor> Post<J, L, F> {
     fn into_end(self, alloc: Global) -> Option<WorkerEnd<L, F>>
         ensures { IfSome result (IsEndOf J.shop) }
     {
-        let Post { worker, end, of: _ } = self;
+        let WorkerSlot { worker, end, of: _ } = self;
         end_left::<J, L, F>(alloc, worker, end)
     }
 }
@@ -72,7 +72,7 @@ fn work_all<
     J: Naming + Send + Sync,
     L: JobLine + SharedLine,
     F: Floor + Sync,
->(rt: &R, alloc: Global, shop: &Shop<L, F>, posts: &mut [Post<J, L, F>], runner: &Tabled<Meeting>)
+>(rt: &R, alloc: Global, shop: &Shop<L, F>, posts: &mut [WorkerSlot<J, L, F>], runner: &Tabled<Meeting>)
 where
     F::Station: Send,
     requires { shop.now ≡ J.shop }
@@ -95,16 +95,16 @@ where
 }
 
 // A post for each worker.
-fn man_posts<J: Naming, L: JobLine, F: Floor>(
+fn slots_for_workers<J: Naming, L: JobLine, F: Floor>(
     rt: &impl Abort,
     alloc: Global,
     mut workers: Vec<Worker<L, F>>,
-) -> Vec<Post<J, L, F>>
+) -> Vec<WorkerSlot<J, L, F>>
     requires { All (IsWorkerOf J.shop) workers.items }
 {
     let mut posts = Vec::new(alloc);
     while let Some(worker) = workers.pop() {
-        add(rt, &mut posts, Post::of(worker));
+        add(rt, &mut posts, WorkerSlot::of(worker));
     }
     workers.destroy_empty();
     posts
@@ -115,7 +115,7 @@ fn ends_of<J: Naming, L: JobLine, F: Floor>(
     rt: &impl Abort,
     alloc: Global,
     shop: &Shop<L, F>,
-    mut posts: Vec<Post<J, L, F>>,
+    mut posts: Vec<WorkerSlot<J, L, F>>,
 ) -> Vec<WorkerEnd<L, F>>
     requires { shop.now ≡ J.shop }
     ensures { All (IsEndOf shop.now) result.items }
@@ -154,7 +154,7 @@ fn late_named<
     let fed = feed(rt, &shop, &mut lane, two);
     assert!(rt; fed.stop == FeedStop::Done);
     let note = shop.close(rt, closer);
-    let mut posts: Vec<Post<J, L, F>> = man_posts(rt, alloc, workers);
+    let mut posts: Vec<WorkerSlot<J, L, F>> = slots_for_workers(rt, alloc, workers);
     work_all(rt, alloc, &shop, posts.as_mut_slice(), runner);
     let ends = ends_of(rt, alloc, &shop, posts);
     assert!(rt; ends.len() == 2);

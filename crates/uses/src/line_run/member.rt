@@ -140,13 +140,13 @@ impl<J: Naming, L: JobLine> Taker<J, L> {
 }
 
 /// The right to close, or the note of the close.
-pub struct Door<J: Naming, L: JobLine> {
+pub struct CloserSlot<J: Naming, L: JobLine> {
     closer: Option<L::Closer>,
     note: Option<L::Note>,
     of: PhantomData<J>,
 }
 
-impl<J: Naming, L: JobLine> Model for Door<J, L> {
+impl<J: Naming, L: JobLine> Model for CloserSlot<J, L> {
     ghost use Rattle.std.specs.Prelude.{◌≡◌, Bool, None, MatchOption};
     ghost use Rattle.std.specs.Option.{is_some};
 
@@ -159,12 +159,12 @@ impl<J: Naming, L: JobLine> Model for Door<J, L> {
         (MatchOption d.note ⊥ (L.is_note J.line)) (λ c. L.is_closer J.line c × (d.note ≡ None)) };
 }
 
-impl<J: Naming, L: JobLine> Door<J, L> {
-    pub fn new(closer: L::Closer) -> Door<J, L>
+impl<J: Naming, L: JobLine> CloserSlot<J, L> {
+    pub fn new(closer: L::Closer) -> CloserSlot<J, L>
         requires { L.is_closer J.line closer }
         ensures { result ≡ false }
     {
-        Door {
+        CloserSlot {
             closer: Some(closer),
             note: None,
             of: PhantomData,
@@ -187,7 +187,7 @@ impl<J: Naming, L: JobLine> Door<J, L> {
         requires { L.id line.now ≡ J.line }
         ensures { L.is_note J.line result }
     {
-        let Door {
+        let CloserSlot {
             closer,
             note,
             of: _,

@@ -6,7 +6,7 @@ ghost use Rattle.job_types.specs.Job.{JobData};
 ghost use Rattle.job_queue.specs.Record.{fresh_lanes, fresh_passes, job_of};
 ghost use Rattle.job_queue.specs.Line.{IsFor};
 
-use crate::line_run::member::{Door, Feeder, Naming, Taker};
+use crate::line_run::member::{CloserSlot, Feeder, Naming, Taker};
 use crate::line_run::pair::{Pair, both};
 use crew::SharedLine;
 use job_queue::{JobLine, Opened, QueuedJob, Rest};
@@ -32,7 +32,7 @@ pub struct Finished {
 struct Gang<J: Naming, L: JobLine> {
     feeders: (Mutex<Feeder<J, L>>, Mutex<Feeder<J, L>>),
     takers: (Mutex<Taker<J, L>>, Mutex<Taker<J, L>>),
-    door: Mutex<Door<J, L>>,
+    door: Mutex<CloserSlot<J, L>>,
 }
 
 // Feeds by both lanes and drains by both passes at once, and closes the line after the lanes.
@@ -124,7 +124,7 @@ fn run_named<J: Naming + Send + Sync, R: Threads + Wait + Sync, L: JobLine + Sha
             Mutex::new(Taker::new(pass, Vec::new(alloc))),
             Mutex::new(Taker::new(another, Vec::new(alloc))),
         ),
-        door: Mutex::new(Door::new(closer)),
+        door: Mutex::new(CloserSlot::new(closer)),
     };
     run_threads(rt, &line, &gang);
     let Gang {

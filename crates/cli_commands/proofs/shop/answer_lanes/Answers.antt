@@ -3,7 +3,7 @@ use Rattle.std.proofs.lemmas.List.{length-map}
 use Rattle.cube_shape.specs.declared.limits.TheConstants.{MAX_LANES}
 use Rattle.jobs_csv.specs.declared.fault.FaultKind.TheVariants.{Spent}
 use Rattle.cli_commands.specs.FileRun.{HasSpentLane, ReturnsRun}
-use Rattle.cli_commands.specs.declared.shop.Unanswered.{Unanswered}
+use Rattle.cli_commands.specs.declared.shop.AnswerError.{AnswerError}
 use Rattle.cli_commands.proofs.LaneLemmas.{few_lanes, made_for}
 use Rattle.cli_commands.proofs.RunLemmas.{as_many, file_answered, file_unanswered, spent_lane}
 use Rattle.cli_commands.proofs.shop.answer_lanes.Goals as goal
@@ -29,11 +29,11 @@ returns-in-Ok-clause-answered g c parse are =
 
 pub returns-in-Err-clause-answered : goal.returns-in-Err-clause-answered
 returns-in-Err-clause-answered g c parse are =
-    subst (λ (u : Unanswered _). ReturnsRun g.F.Floor.machine_words c.args.sizes.dim parse (Err u)) (sym c.to_unanswered.ensures)
+    subst (λ (u : AnswerError _). ReturnsRun g.F.Floor.machine_words c.args.sizes.dim parse (Err u)) (sym c.to_error.ensures)
     (file_unanswered g.F.Floor.machine_words c.args.sizes parse c.args.lanes c.open_lanes-lists.result
     c.in-Err.stopped are c.open_lanes-lists.ensures c.in-Err.ensures.unfinished)
 
 pub returns-in-Err-clause-spent : goal.returns-in-Err-clause-spent
 returns-in-Err-clause-spent g c =
-    subst (λ (u : Unanswered _). u.fault.what ≡ Spent → HasSpentLane u.end) (sym c.to_unanswered.ensures)
+    subst (λ (u : AnswerError _). u.fault.what ≡ Spent → HasSpentLane u.end) (sym c.to_error.ensures)
     (spent_lane g.F.Floor.machine_words c.args.sizes c.open_lanes-lists.result c.in-Err.stopped c.in-Err.ensures.unfinished)

@@ -1,7 +1,7 @@
 use Rattle.std.proofs.Common.{arith}
 use Rattle.crew.specs.InnerEnd.{HasEnded}
 use Rattle.crew.proofs.SlotLemmas.{all_pushed, longer}
-use Rattle.crew.proofs.slots.man_feeders.Goals as goal
+use Rattle.crew.proofs.slots.slots_for_lanes.Goals as goal
 
 pub loop-feeder-preserved-in-Err : goal.loop-feeder-preserved-in-Err
 loop-feeder-preserved-in-Err g c =

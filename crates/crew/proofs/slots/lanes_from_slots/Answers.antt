@@ -1,7 +1,7 @@
 use Rattle.std.proofs.Common.{arith}
 use Rattle.crew.specs.InnerEnd.{HasEnded}
 use Rattle.crew.proofs.SlotLemmas.{all_pushed, longer}
-use Rattle.crew.proofs.slots.relieve_feeders.Goals as goal
+use Rattle.crew.proofs.slots.lanes_from_slots.Goals as goal
 
 pub loop-feeder-preserved : goal.loop-feeder-preserved
 loop-feeder-preserved g c =

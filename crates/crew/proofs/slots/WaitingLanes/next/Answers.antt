@@ -5,7 +5,7 @@ use Rattle.job_queue.specs.declared.record.LaneRecord.{LaneRecord}
 use Rattle.job_queue.specs.Record.{accepted_jobs}
 use Rattle.job_queue.specs.Line.{IsFor}
 use Rattle.crew.proofs.SlotLemmas.{all_front, longer, fresh_pop, last_named, rest_named}
-use Rattle.crew.proofs.slots.Unmanned.next.Goals as goal
+use Rattle.crew.proofs.slots.WaitingLanes.next.Goals as goal
 
 pub new-requires-clause-made_for : goal.new-requires-clause-made_for
 new-requires-clause-made_for g c =

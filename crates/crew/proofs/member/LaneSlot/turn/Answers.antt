@@ -9,7 +9,7 @@ use Rattle.job_queue.proofs.FeedLemmas.{refused_number}
 use Rattle.dispatcher.specs.Shop.{ShopId}
 use Rattle.dispatcher.specs.Stop.{given_back}
 use Rattle.crew.proofs.MemberLemmas.{none_back, one_more, as_before, is_again, given_up, is_back, stop_of}
-use Rattle.crew.proofs.member.Feeder.turn.Goals as goal
+use Rattle.crew.proofs.member.LaneSlot.turn.Goals as goal
 
 pub invariant_of-self-in_default-submit : goal.invariant_of-self-in_default-submit
 invariant_of-self-in_default-submit g c =

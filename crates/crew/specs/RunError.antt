@@ -6,10 +6,10 @@ use Rattle.job_types.specs.Job.{JobData}
 use Rattle.dispatcher.specs.declared.opening.ShopRefused.{ShopRefused}
 use Rattle.crew.specs.declared.running.RunEnd.{RunEnd}
 use Rattle.crew.specs.declared.answering.StopReason.{StopReason}
-use Rattle.crew.specs.declared.answering.Stopped.{Stopped}
-use Rattle.crew.specs.declared.answering.Stopped.TheVariants.{Refused, Unfinished}
+use Rattle.crew.specs.declared.answering.RunError.{RunError}
+use Rattle.crew.specs.declared.answering.RunError.TheVariants.{Refused, Unfinished}
 
 -- of one that ran nothing, and of one that ran some
-abbrev pub MatchStopped : {M : Type 0} → Stopped M → (ShopRefused → Vec (VecDeque JobData Global) Global → Type 0) → (StopReason → RunEnd M → Type 0) → Type 0
-MatchStopped (Refused why jobs) P Q = P why jobs
-MatchStopped (Unfinished why end) P Q = Q why end
+abbrev pub MatchRunError : {M : Type 0} → RunError M → (ShopRefused → Vec (VecDeque JobData Global) Global → Type 0) → (StopReason → RunEnd M → Type 0) → Type 0
+MatchRunError (Refused why jobs) P Q = P why jobs
+MatchRunError (Unfinished why end) P Q = Q why end

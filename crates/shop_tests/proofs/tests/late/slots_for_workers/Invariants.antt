@@ -1,7 +1,7 @@
 use Rattle.std.proofs.Common.{vec_len}
 use Rattle.std.specs.List.{All}
 use Rattle.dispatcher.specs.Members.{IsWorkerOf}
-use Rattle.shop_tests.proofs.tests.late.man_posts.Given as goal
+use Rattle.shop_tests.proofs.tests.late.slots_for_workers.Given as goal
 
 abbrev pub decreases-loop-worker : goal.decreases-loop-worker
 decreases-loop-worker g l = vec_len l.workers

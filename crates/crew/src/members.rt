@@ -1,6 +1,6 @@
 // The slots of all members of a shop, as a crew.
-use crate::member::{Door, Feeder, Naming, Post};
-use crate::threads::Crew;
+use crate::member::{CloserSlot, LaneSlot, Naming, WorkerSlot};
+use crate::threads::ThreadWork;
 use dispatcher::{Runner, Shop};
 use floors::Floor;
 use job_queue::JobLine;
@@ -9,18 +9,18 @@ use std::alloc::Global;
 use std::sync::{Mutex, Wait};
 
 // A shop that is lent, the runner of its workers, and a slot for each of its members.
-pub struct Gang<'a, J: Naming, L: JobLine, F: Floor, T> {
+pub struct ShopMembers<'a, J: Naming, L: JobLine, F: Floor, T> {
     pub shop: &'a Shop<L, F>,
     pub runner: &'a T,
     pub alloc: Global,
-    pub posts: Vec<Mutex<Post<J, L, F>>>,
-    pub feeders: Vec<Mutex<Feeder<J, L>>>,
+    pub posts: Vec<Mutex<WorkerSlot<J, L, F>>>,
+    pub feeders: Vec<Mutex<LaneSlot<J, L>>>,
     // How many threads share the lanes.
     pub feeder_threads: usize,
-    pub door: Mutex<Door<J, L, F>>,
+    pub door: Mutex<CloserSlot<J, L, F>>,
 }
 
-impl<'a, J: Naming, L: JobLine, F: Floor, T: Runner> Gang<'a, J, L, F, T> {
+impl<'a, J: Naming, L: JobLine, F: Floor, T: Runner> ShopMembers<'a, J, L, F, T> {
     ghost use Rattle.std.specs.Prelude.{◌≡◌};
 
     // Hands in a job of each lane of a feeder's thread in turn. It tells whether one of them goes on.
@@ -37,7 +37,7 @@ impl<'a, J: Naming, L: JobLine, F: Floor, T: Runner> Gang<'a, J, L, F, T> {
     }
 }
 
-impl<'a, J: Naming, L: JobLine, F: Floor, T: Runner> Crew for Gang<'a, J, L, F, T> {
+impl<'a, J: Naming, L: JobLine, F: Floor, T: Runner> ThreadWork for ShopMembers<'a, J, L, F, T> {
     ghost use Rattle.std.specs.Prelude.{◌≡◌};
 
     ghost is_ready = { λ g. g.shop.now ≡ J.shop };

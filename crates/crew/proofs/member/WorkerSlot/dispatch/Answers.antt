@@ -2,7 +2,7 @@ use Rattle.std.proofs.Common.{subst}
 use Rattle.dispatcher.specs.Shop.{ShopId}
 use Rattle.dispatcher.specs.Members.{IsEndOf}
 use Rattle.crew.proofs.MemberLemmas.{ended}
-use Rattle.crew.proofs.member.Post.dispatch.Goals as goal
+use Rattle.crew.proofs.member.WorkerSlot.dispatch.Goals as goal
 
 pub invariant_of-self-2 : goal.invariant_of-self-2
 invariant_of-self-2 g c =
