@@ -33,7 +33,7 @@ const WIPE: &[u8] = b"\r                               \r";
 ///
 /// The threads of a run count here. No contract says what they count.
 #[derive(Drop)]
-pub struct Counts {
+pub(crate) struct Counts {
     records: AtomicU64,
     replies: AtomicU64,
 }
@@ -116,7 +116,7 @@ fn show<H: Wait, W: Write>(rt: &H, board: &Board, mut terminal: W) -> W {
 /// One thread writes it, and no other waits for a write: the reader and the workers of a run only count.
 /// No contract says what it shows.
 #[derive(Drop)]
-pub struct Progress<W> {
+pub(crate) struct Progress<W> {
     board: Arc<Board, Global>,
     thread: JoinHandle<W>,
 }
@@ -164,7 +164,7 @@ impl<W: Write + Send + Drop + 'static> Progress<W> {
 }
 
 /// Begins the line of progress, unless the run is quiet or there is no terminal.
-pub fn begin_progress<H, P>(
+pub(crate) fn begin_progress<H, P>(
     rt: &H,
     alloc: Global,
     is_quiet: bool,
@@ -183,7 +183,7 @@ where
 }
 
 /// Ends the line of progress, if there is one, and gives its terminal back.
-pub fn end_progress<H, P>(rt: &H, progress: Option<Progress<P>>, terminal: &mut Option<P>)
+pub(crate) fn end_progress<H, P>(rt: &H, progress: Option<Progress<P>>, terminal: &mut Option<P>)
 where
     H: Threads + Wait,
     P: Write + Send + Drop + 'static,
@@ -195,7 +195,7 @@ where
 }
 
 /// Returns where the threads of the run count, if its progress is shown.
-pub fn counts_of<W: Write + Send + Drop + 'static>(
+pub(crate) fn counts_of<W: Write + Send + Drop + 'static>(
     progress: &Option<Progress<W>>,
 ) -> Option<&Counts> {
     match progress {
@@ -206,7 +206,7 @@ pub fn counts_of<W: Write + Send + Drop + 'static>(
 
 /// An observer that counts the records that are read, for the line of progress too if there is one.
 #[derive(Drop)]
-pub struct RecordProgress<'a> {
+pub(crate) struct RecordProgress<'a> {
     seen: u64,
     counts: Option<&'a Counts>,
 }
@@ -233,7 +233,7 @@ impl Observer for RecordProgress<'_> {
 
 /// A runner that answers jobs by another one. It counts the replies if there is a line of progress.
 #[derive(Drop)]
-pub struct ReplyProgress<'a, 'b, T> {
+pub(crate) struct ReplyProgress<'a, 'b, T> {
     /// The runner that answers the jobs.
     pub runner: &'a T,
     /// Where the replies are counted.

@@ -24,7 +24,7 @@ use std::marker::{Brand, Model, PhantomData};
 use std::sync::Wait;
 
 /// Names one run: its shop, and the jobs of each lane.
-pub trait Naming {
+pub(crate) trait Naming {
     ghost use Rattle.std.specs.Prelude.{ℕ, List};
     ghost use Rattle.job_types.specs.Job.{JobData};
     ghost use Rattle.dispatcher.specs.Shop.{ShopId};
@@ -67,7 +67,7 @@ impl Progress {
 }
 
 /// A lane, and the jobs that it has still to hand in.
-pub struct LaneSlot<J: Naming, L: JobLine> {
+pub(crate) struct LaneSlot<J: Naming, L: JobLine> {
     lane: L::Lane,
     // The number of jobs that it was given.
     given: usize,
@@ -223,7 +223,7 @@ impl<J: Naming, L: JobLine> LaneSlot<J, L> {
 }
 
 /// A worker, or what it was when it stopped.
-pub struct WorkerSlot<J: Naming, L: JobLine, F: Floor> {
+pub(crate) struct WorkerSlot<J: Naming, L: JobLine, F: Floor> {
     worker: Option<Worker<L, F>>,
     end: Option<WorkerEnd<L, F>>,
     of: PhantomData<J>,
@@ -308,7 +308,7 @@ impl<J: Naming, L: JobLine, F: Floor> WorkerSlot<J, L, F> {
 }
 
 /// The right to close, or the note of the close.
-pub struct CloserSlot<J: Naming, L: JobLine, F: Floor> {
+pub(crate) struct CloserSlot<J: Naming, L: JobLine, F: Floor> {
     closer: Option<Closer<L, F>>,
     note: Option<CloseNote<L, F>>,
     of: PhantomData<J>,

@@ -9,7 +9,7 @@ use std::alloc::Global;
 use std::sync::{Mutex, Wait};
 
 // A shop that is lent, the runner of its workers, and a slot for each of its members.
-pub struct ShopMembers<'a, J: Naming, L: JobLine, F: Floor, T> {
+pub(crate) struct ShopMembers<'a, J: Naming, L: JobLine, F: Floor, T> {
     pub shop: &'a Shop<L, F>,
     pub runner: &'a T,
     pub alloc: Global,

@@ -18,7 +18,7 @@ use std::collections::VecDeque;
 
 // Room for what a run returns of its lanes and of its workers.
 #[derive(Drop)]
-pub struct EndRoom {
+pub(crate) struct EndRoom {
     pub lanes: Vec<LaneEnd>,
     pub stops: Vec<Stop>,
 }
@@ -40,7 +40,7 @@ impl EndRoom {
 }
 
 // Room for the members of a run, when they come out of their slots.
-pub struct MemberRoom<L: JobLine, F: Floor> {
+pub(crate) struct MemberRoom<L: JobLine, F: Floor> {
     pub ends: Vec<WorkerEnd<L, F>>,
     pub fed: Vec<(L::Lane, LaneEnd)>,
     pub returned: EndRoom,
@@ -84,7 +84,7 @@ impl<L: JobLine, F: Floor> MemberRoom<L, F> {
 }
 
 // A shop that is open, with all of its members, the jobs of its lanes, and room for what comes out.
-pub struct Ready<L: JobLine, F: Floor> {
+pub(crate) struct Ready<L: JobLine, F: Floor> {
     pub opened: Opened<L, F>,
     pub jobs: Vec<VecDeque<Job>>,
     pub room: MemberRoom<L, F>,
@@ -107,7 +107,7 @@ pub struct Ready<L: JobLine, F: Floor> {
 }
 
 // Opens a shop with a lane for each list of jobs. An error gives the jobs back.
-pub fn make_ready<L: JobLine, F: Floor>(
+pub(crate) fn make_ready<L: JobLine, F: Floor>(
     alloc: Global,
     sizes: ShopSizes,
     jobs: Vec<VecDeque<Job>>,

@@ -59,7 +59,7 @@ impl<J: Naming, L: JobLine, F: Floor> WaitingWorkers<J, L, F> {
 }
 
 // A slot for each worker. One for which there is no memory stands down at once.
-pub fn slots_for_workers<J: Naming, L: JobLine, F: Floor>(
+pub(crate) fn slots_for_workers<J: Naming, L: JobLine, F: Floor>(
     alloc: Global,
     workers: Vec<Worker<L, F>>,
     ends: &mut Vec<WorkerEnd<L, F>>,
@@ -86,7 +86,7 @@ pub fn slots_for_workers<J: Naming, L: JobLine, F: Floor>(
 }
 
 // Takes the workers that have stopped out of their slots.
-pub fn workers_from_slots<J: Naming, L: JobLine, F: Floor>(
+pub(crate) fn workers_from_slots<J: Naming, L: JobLine, F: Floor>(
     alloc: Global,
     mut posts: Vec<Mutex<WorkerSlot<J, L, F>>>,
     ends: &mut Vec<WorkerEnd<L, F>>,
@@ -174,7 +174,7 @@ impl<J: Naming, L: JobLine> WaitingLanes<J, L> {
 }
 
 // A slot for each lane with its jobs. One for which there is no memory hands in nothing.
-pub fn slots_for_lanes<J: Naming, R: Wait, L: JobLine, F: Floor>(
+pub(crate) fn slots_for_lanes<J: Naming, R: Wait, L: JobLine, F: Floor>(
     rt: &R,
     alloc: Global,
     shop: &Shop<L, F>,
@@ -209,7 +209,7 @@ pub fn slots_for_lanes<J: Naming, R: Wait, L: JobLine, F: Floor>(
 }
 
 // Takes the feeders out of their slots: each lane, and its end.
-pub fn lanes_from_slots<J: Naming, R: Wait, L: JobLine, F: Floor>(
+pub(crate) fn lanes_from_slots<J: Naming, R: Wait, L: JobLine, F: Floor>(
     rt: &R,
     shop: &Shop<L, F>,
     mut feeders: Vec<Mutex<LaneSlot<J, L>>>,

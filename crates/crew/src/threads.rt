@@ -7,7 +7,7 @@ use std::thread::{Builder, Threads};
 const STACK_BYTES: usize = 1 << 21;
 
 // Members that wait for threads, and what a thread does for them.
-pub trait ThreadWork {
+pub(crate) trait ThreadWork {
     ghost is_ready: { Self → Type 0 };
 
     // How many workers there are.
@@ -36,7 +36,7 @@ fn with_stack() -> Builder {
 
 // Starts a thread for each worker, and then those that feed, each for some of the lanes; closes the shop
 // once all of these have ended, and waits for the workers. Where a thread cannot be started no other one is.
-pub fn run_threads<R: Threads + Wait + Sync, C: ThreadWork + Sync>(rt: &R, members: &C)
+pub(crate) fn run_threads<R: Threads + Wait + Sync, C: ThreadWork + Sync>(rt: &R, members: &C)
     requires { C.is_ready members.now }
 {
     thread::scope(

@@ -80,7 +80,7 @@ fn measure_shop<R: Threads + Wait + Sync + Clock>(
 }
 
 /// Runs the shop that the words ask for, and counts and times it.
-pub fn measure<R: Threads + Wait + Sync + Clock>(
+pub(crate) fn measure<R: Threads + Wait + Sync + Clock>(
     rt: &R,
     alloc: Global,
     words: &[String],

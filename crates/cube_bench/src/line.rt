@@ -298,7 +298,7 @@ fn measure_line<R: Threads + Wait + Sync + Clock, L: JobLine + SharedLine>(
 }
 
 /// Runs the line that the words ask for, and counts and times the jobs that were taken.
-pub fn measure<R: Threads + Wait + Sync + Clock>(
+pub(crate) fn measure<R: Threads + Wait + Sync + Clock>(
     rt: &R,
     alloc: Global,
     words: &[String],

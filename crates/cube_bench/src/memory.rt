@@ -71,7 +71,7 @@ fn call_all<R: Wait + Print>(rt: &R, alloc: Global, calls: Calls) -> io::Result<
 }
 
 /// Makes the calls that the words ask for, and counts those that had the memory that they asked for.
-pub fn measure<R: Wait + Print>(
+pub(crate) fn measure<R: Wait + Print>(
     rt: &R,
     alloc: Global,
     words: &[String],

@@ -136,7 +136,7 @@ fn digest_after(alloc: Global, invocation: Invocation) -> Result<u64, AllocError
 
 /// Runs the collective that the words ask for, so many times, and counts a number that all places
 /// determine in the end.
-pub fn measure(alloc: Global, words: &[String]) -> Result<Measured, MeasureError> {
+pub(crate) fn measure(alloc: Global, words: &[String]) -> Result<Measured, MeasureError> {
     let Some(invocation) = parse_words(words) else {
         return Err(MeasureError::BadWords);
     };

@@ -27,7 +27,7 @@ fn given_takes<R: Threads + Wait + Sync>(rt: &R, alloc: Global, run: TreeRun) ->
 }
 
 /// Makes the run that the words ask for, and counts how many takes were given.
-pub fn measure<R: Threads + Wait + Sync>(
+pub(crate) fn measure<R: Threads + Wait + Sync>(
     rt: &R,
     alloc: Global,
     words: &[String],

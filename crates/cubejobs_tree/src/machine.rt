@@ -10,7 +10,7 @@ use cube_tree::{Cube, RetirementReader, TreeStation};
 use std::collections::VecDeque;
 
 /// A machine, with its stations that have no handle yet, the first of them in front.
-pub struct Machine {
+pub(crate) struct Machine {
     pub(crate) cube: Ownership,
     pub(crate) stations: VecDeque<TreeStation>,
     pub(crate) reader: RetirementReader,

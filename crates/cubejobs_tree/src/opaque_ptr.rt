@@ -11,7 +11,7 @@ use std::marker::Model;
 /// A pointer that only this module follows.
 #[repr(C)]
 #[derive(Drop)]
-pub struct OpaquePtr {
+pub(crate) struct OpaquePtr {
     ptr: *mut u8,
     alloc: Global,
     pub ghost content: { Option Inside } by { content_coded },

@@ -7,7 +7,7 @@ use std::marker::Model;
 
 /// A machine in a box of its own.
 #[derive(Drop)]
-pub struct OwnedMachine {
+pub(crate) struct OwnedMachine {
     place: Box<Option<Machine>>,
 }
 

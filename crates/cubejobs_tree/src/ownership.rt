@@ -9,7 +9,7 @@ use std::ops::Deref;
 use std::sync::Arc;
 
 /// The cube of a machine, and whether other handles own it too.
-pub enum Ownership {
+pub(crate) enum Ownership {
     /// Handles of its stations may own it too.
     Shared(Arc<Cube>),
     /// No other handle owns it.

@@ -6,7 +6,7 @@ use cube_tree::FreeMachine;
 
 /// The content of a handle.
 #[derive(Drop)]
-pub enum State {
+pub(crate) enum State {
     /// A machine, in a box of its own, since it is larger than a station.
     Machine(OwnedMachine),
     /// A station that holds nothing.

@@ -10,14 +10,14 @@ use cube_tree::{Cube, Refusal, RetiredStation, Subcube, TreeStation, Why};
 use std::sync::Arc;
 
 /// A station that holds nothing.
-pub struct Idle {
+pub(crate) struct Idle {
     pub(crate) cube: Arc<Cube>,
     pub(crate) station: TreeStation,
     ghost of_cube: { IsStationOf (arc_value cube) station },
 }
 
 /// A station that holds a region.
-pub struct Holding {
+pub(crate) struct Holding {
     pub(crate) cube: Arc<Cube>,
     pub(crate) subcube: Subcube,
     ghost of_cube: { IsSubcubeOf (arc_value cube) subcube },

@@ -11,7 +11,7 @@ use job_types::{Kind, Op};
 use std::alloc::Global;
 
 /// The lane of a field: a number below `MAX_LANES`.
-pub fn lane(field: &[u8]) -> Result<u32, FaultKind>
+pub(crate) fn lane(field: &[u8]) -> Result<u32, FaultKind>
     ensures parse { ReturnsParse (λ lane. lane) (number_within 0 (MAX_LANES - 1) field.now) result }
     ensures below { IfOk result (λ lane. lane < MAX_LANES) }
 {
@@ -45,7 +45,7 @@ fn read_op(field: &[u8]) -> Result<Op, FaultKind>
 ///
 /// The root is a number in every record. A collective with no root does not keep it.
 #[tactic(auto, unfolding(crate::specs::JobFields::collective_of))]
-pub fn read_collective(kind: &[u8], op: &[u8], root: &[u8]) -> Result<Kind, FaultKind>
+pub(crate) fn read_collective(kind: &[u8], op: &[u8], root: &[u8]) -> Result<Kind, FaultKind>
     ensures { ReturnsParse (λ kind. kind) (collective_of kind.now op.now root.now) result }
 {
     if kind == b"broadcast".as_slice() {
@@ -77,7 +77,7 @@ pub fn read_collective(kind: &[u8], op: &[u8], root: &[u8]) -> Result<Kind, Faul
 }
 
 /// Returns whether a collective has no root and the field of its root is not `0`.
-pub fn has_superfluous_root(kind: Kind, root: &[u8]) -> bool
+pub(crate) fn has_superfluous_root(kind: Kind, root: &[u8]) -> bool
     ensures { result ≡ has_superfluous_root kind root.now }
 {
     match kind {
@@ -87,7 +87,7 @@ pub fn has_superfluous_root(kind: Kind, root: &[u8]) -> bool
 }
 
 /// The items of a field: numbers with one space between two, or nothing at all.
-pub fn items(alloc: Global, field: &[u8]) -> Result<Vec<u64>, FaultKind>
+pub(crate) fn items(alloc: Global, field: &[u8]) -> Result<Vec<u64>, FaultKind>
     ensures { ReturnsParse (λ items. items.items) (items_of field.now) result }
 {
     if field.is_empty() {

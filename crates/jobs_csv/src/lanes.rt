@@ -10,7 +10,7 @@ use std::collections::VecDeque;
 
 /// A queue of jobs for each lane, those of a lane in the order in which they were pushed.
 #[derive(Drop)]
-pub struct Lanes {
+pub(crate) struct Lanes {
     pub jobs: Vec<VecDeque<Job>>,
 }
 

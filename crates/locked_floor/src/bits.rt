@@ -7,7 +7,7 @@ use alloc_bits::AllocBits;
 use cube_shape::{MAX_STATIONS, Region};
 
 // Gives a station that holds nothing a region of dimension `k`, if one is free.
-pub fn allot(bits: &mut AllocBits, station: u32, k: u32) -> Option<Region>
+pub(crate) fn allot(bits: &mut AllocBits, station: u32, k: u32) -> Option<Region>
     requires station { station < MAX_STATIONS }
     requires idle { held_in bits.old station ≡ None }
     requires dim { k ≤ bits.old.dim }
@@ -17,7 +17,7 @@ pub fn allot(bits: &mut AllocBits, station: u32, k: u32) -> Option<Region>
 }
 
 // Takes the region of a station away.
-pub fn withdraw(bits: &mut AllocBits, station: u32)
+pub(crate) fn withdraw(bits: &mut AllocBits, station: u32)
     requires { HoldsSome bits.old station }
     ensures { Withdraws bits.old station bits.new }
 {

@@ -18,10 +18,10 @@ use locked_cell::LockedCell;
 use std::alloc::{AllocError, Global};
 use std::sync::Wait;
 
-pub type Seat = atomic_table::Seat<AllocBits, View>;
+pub(crate) type Seat = atomic_table::Seat<AllocBits, View>;
 
 #[derive(Drop)]
-pub struct BitsLock {
+pub(crate) struct BitsLock {
     cell: LockedCell<AllocBits, View, Size, FloorRule>,
 }
 

@@ -11,7 +11,7 @@ use crate::handle::LockedStation;
 use cube_shape::MAX_STATIONS;
 
 // Makes the stations, of the first seat's records.
-pub fn deal_stations(
+pub(crate) fn deal_stations(
     lock: &BitsLock,
     mut seat: Seat,
     mut stations: Vec<LockedStation>,
@@ -35,7 +35,7 @@ pub fn deal_stations(
 }
 
 // One seat with the records of all stations.
-pub fn gather_stations(lock: &BitsLock, mut stations: Vec<LockedStation>) -> Seat
+pub(crate) fn gather_stations(lock: &BitsLock, mut stations: Vec<LockedStation>) -> Seat
     requires stations { All (is_seated (floor_id lock.now)) stations.items }
     requires all { length stations.items ≡ (size_of lock.now).stations }
     requires some { 0 < length stations.items }

@@ -9,7 +9,7 @@ use alloc_bits::AllocBits;
 use atomic_table::{Join, Play, Split, TableRule};
 use locked_cell::CellRule;
 
-pub struct FloorRule;
+pub(crate) struct FloorRule;
 
 impl TableRule<AllocBits, View, Size> for FloorRule {
     ghost holds = { Keeps };
@@ -23,25 +23,25 @@ impl CellRule<AllocBits, View, Size> for FloorRule {
     ghost learns = { Knows };
 }
 
-pub struct Grant;
+pub(crate) struct Grant;
 
 impl Play<AllocBits, View> for Grant {
     ghost then = { λ st before found after. after ≡ after_grant before };
 }
 
-pub struct Free;
+pub(crate) struct Free;
 
 impl Play<AllocBits, View> for Free {
     ghost then = { λ st before found after. after ≡ after_free before };
 }
 
-pub struct Leave;
+pub(crate) struct Leave;
 
 impl Play<AllocBits, View> for Leave {
     ghost then = { λ st before found after. after ≡ after_nothing before };
 }
 
-pub struct Compare;
+pub(crate) struct Compare;
 
 impl Play<AllocBits, View> for Compare {
     ghost then = { λ st before found after.
@@ -49,7 +49,7 @@ impl Play<AllocBits, View> for Compare {
 }
 
 // One station's record is dealt out.
-pub struct Deal;
+pub(crate) struct Deal;
 
 impl Split<View> for Deal {
     ghost left = { without_station };
@@ -58,7 +58,7 @@ impl Split<View> for Deal {
 }
 
 // The records of two seats come together.
-pub struct Gather;
+pub(crate) struct Gather;
 
 impl Join<View> for Gather {
     ghost both = { joined };

@@ -5,13 +5,13 @@ use std::collections::LinkedList;
 
 // The size of a machine.
 #[derive(Clone, Copy)]
-pub struct Size {
+pub(crate) struct Size {
     pub dim: u32,
     pub stations: u32,
 }
 
 // What a station is known to have done.
-pub struct StationRecord {
+pub(crate) struct StationRecord {
     pub number: u32,
     // The regions that it was given, in order.
     pub grants: LinkedList<Region>,
@@ -20,7 +20,7 @@ pub struct StationRecord {
 }
 
 // The records that the seat carries, and the allocation that it found where it has taken the slot.
-pub struct View {
+pub(crate) struct View {
     pub about: Size,
     pub stations: LinkedList<StationRecord>,
     pub found: Option<AllocBits>,

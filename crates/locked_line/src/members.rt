@@ -12,7 +12,7 @@ use crate::store_lock::{Seat, StoreLock};
 use std::collections::VecDeque;
 
 // Makes the lanes, of the first seat's records.
-pub fn deal_lanes(
+pub(crate) fn deal_lanes(
     lock: &StoreLock,
     seat: &mut Seat,
     mut lanes: Vec<LockedLane>,
@@ -44,7 +44,7 @@ pub fn deal_lanes(
 }
 
 // Makes the passes, once the lanes are made, and leaves the closer's record.
-pub fn deal_passes(
+pub(crate) fn deal_passes(
     lock: &StoreLock,
     seat: &mut Seat,
     mut passes: Vec<LockedPass>,
@@ -72,7 +72,7 @@ pub fn deal_passes(
 }
 
 // Takes in the records of the lanes.
-pub fn gather_lanes(lock: &StoreLock, seat: &mut Seat, lanes: Vec<LockedLane>)
+pub(crate) fn gather_lanes(lock: &StoreLock, seat: &mut Seat, lanes: Vec<LockedLane>)
     requires table { seat.old.table_id ≡ table_of lock.now }
     requires idle { IsIdle seat.old.me }
     requires lanes { All (is_lane (line_id lock.now)) lanes.items }
@@ -97,7 +97,7 @@ pub fn gather_lanes(lock: &StoreLock, seat: &mut Seat, lanes: Vec<LockedLane>)
 }
 
 // Takes in the records of the passes.
-pub fn gather_passes(lock: &StoreLock, seat: &mut Seat, passes: Vec<LockedPass>)
+pub(crate) fn gather_passes(lock: &StoreLock, seat: &mut Seat, passes: Vec<LockedPass>)
     requires table { seat.old.table_id ≡ table_of lock.now }
     requires idle { IsIdle seat.old.me }
     requires passes { All (is_pass (line_id lock.now)) passes.items }

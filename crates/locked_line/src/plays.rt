@@ -10,7 +10,7 @@ use atomic_table::{Join, Play, Split, TableRule};
 use job_queue::Sizes;
 use locked_cell::CellRule;
 
-pub struct LineRule;
+pub(crate) struct LineRule;
 
 impl TableRule<Store, View, Sizes> for LineRule {
     ghost holds = { Keeps };
@@ -24,44 +24,44 @@ impl CellRule<Store, View, Sizes> for LineRule {
     ghost learns = { Knows };
 }
 
-pub struct Accept;
+pub(crate) struct Accept;
 
 impl Play<Store, View> for Accept {
     ghost then = { λ st before found after. after ≡ after_entry before };
 }
 
-pub struct Fill;
+pub(crate) struct Fill;
 
 impl Play<Store, View> for Fill {
     ghost then = { λ st before found after. after ≡ after_full_entry before };
 }
 
-pub struct Refuse;
+pub(crate) struct Refuse;
 
 impl Play<Store, View> for Refuse {
     ghost then = { λ st before found after. after ≡ after_seen before };
 }
 
-pub struct Hand;
+pub(crate) struct Hand;
 
 impl Play<Store, View> for Hand {
     ghost then = { λ st before found after. after ≡ after_taken before };
 }
 
-pub struct Read;
+pub(crate) struct Read;
 
 impl Play<Store, View> for Read {
     ghost then = { λ st before found after. after ≡ after_reading before };
 }
 
-pub struct Shut;
+pub(crate) struct Shut;
 
 impl Play<Store, View> for Shut {
     ghost then = { λ st before found after. after ≡ after_close before };
 }
 
 // One lane's record is dealt out.
-pub struct DealLane;
+pub(crate) struct DealLane;
 
 impl Split<View> for DealLane {
     ghost left = { without_lane };
@@ -70,7 +70,7 @@ impl Split<View> for DealLane {
 }
 
 // One pass's record is dealt out.
-pub struct DealPass;
+pub(crate) struct DealPass;
 
 impl Split<View> for DealPass {
     ghost left = { without_pass };
@@ -79,7 +79,7 @@ impl Split<View> for DealPass {
 }
 
 // The records of two seats come together.
-pub struct Gather;
+pub(crate) struct Gather;
 
 impl Join<View> for Gather {
     ghost both = { joined };

@@ -10,7 +10,7 @@ use std::collections::VecDeque;
 // The state of the line: its jobs, the count of its entries, its closed mark and the number of
 // accepted jobs of each lane.
 #[derive(Drop)]
-pub struct Store {
+pub(crate) struct Store {
     pub(crate) jobs: VecDeque<QueuedJob>,
     pub(crate) accepted: Vec<u64>,
     pub(crate) entries: u64,
@@ -20,10 +20,10 @@ pub struct Store {
 }
 
 // A push of this call found the line full. Only `Store::push` makes it, and it has no `Drop`.
-pub struct SawFull(());
+pub(crate) struct SawFull(());
 
 // A pop of this call found the line empty. Only `Store::pop` makes it, and it has no `Drop`.
-pub struct SawEmpty(());
+pub(crate) struct SawEmpty(());
 
 /// Shows that a `LockedLine` has ended: it was closed when a pop of this call found it empty.
 #[derive(Debug, Drop)]

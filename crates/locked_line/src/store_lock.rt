@@ -23,10 +23,10 @@ use locked_cell::LockedCell;
 use std::alloc::{AllocError, Global};
 use std::sync::Wait;
 
-pub type Seat = atomic_table::Seat<Store, View>;
+pub(crate) type Seat = atomic_table::Seat<Store, View>;
 
 #[derive(Drop)]
-pub struct StoreLock {
+pub(crate) struct StoreLock {
     cell: LockedCell<Store, View, Sizes, LineRule>,
 }
 

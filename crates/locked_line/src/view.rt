@@ -4,12 +4,12 @@ use job_queue::{LaneRecord, PassRecord, Sizes};
 use std::collections::LinkedList;
 
 // What the closer is known to have done.
-pub struct CloserRecord {
+pub(crate) struct CloserRecord {
     pub closed_at: Option<u64>,
 }
 
 // The records that the seat carries, and the state that it found where it has taken the slot.
-pub struct View {
+pub(crate) struct View {
     pub about: Sizes,
     pub lanes: LinkedList<LaneRecord>,
     pub passes: LinkedList<PassRecord>,

@@ -12,12 +12,12 @@ use line_ring::{DidPut, Ring, RingLane, RingPass, SawEmpty, SawFull};
 use std::sync::Wait;
 
 // The gate and the ring of a ruled line.
-pub type LineGate = Gate<RingTook, RingWasFull, RingWasEmpty>;
+pub(crate) type LineGate = Gate<RingTook, RingWasFull, RingWasEmpty>;
 
-pub type LineRing = Ring<QueuedJob>;
+pub(crate) type LineRing = Ring<QueuedJob>;
 
 // A push of this call put a job in, by this entry: the entry is settled as accepted by it alone.
-pub struct RingTook(DidPut<Entered>);
+pub(crate) struct RingTook(DidPut<Entered>);
 
 impl Pushed for RingTook {
     ghost entry = { λ took. took.0 };
@@ -29,7 +29,7 @@ impl Pushed for RingTook {
 }
 
 // A push of this call, by this entry, found the ring full: the entry is settled as full by it alone.
-pub struct RingWasFull(SawFull<Entered>);
+pub(crate) struct RingWasFull(SawFull<Entered>);
 
 impl Pushed for RingWasFull {
     ghost entry = { λ full. full.0 };
@@ -41,7 +41,7 @@ impl Pushed for RingWasFull {
 }
 
 // A pop of this call found the ring empty: the gate is read with it alone.
-pub struct RingWasEmpty(SawEmpty);
+pub(crate) struct RingWasEmpty(SawEmpty);
 
 impl Witness for RingWasEmpty {
     fn spend(self) {
@@ -51,7 +51,7 @@ impl Witness for RingWasEmpty {
 }
 
 // The gate was read as sealed. Only `RuledLine::read` makes it, and it has no `Drop`.
-pub struct Sealed(());
+pub(crate) struct Sealed(());
 
 /// Shows that a `RuledLine` has ended: a pop found its ring empty after its gate was read as sealed.
 /// Only the pop that found it so makes one.

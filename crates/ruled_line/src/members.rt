@@ -15,7 +15,7 @@ use line_ring::RingEnd;
 use std::collections::VecDeque;
 
 // Makes the lanes.
-pub fn deal_lanes(
+pub(crate) fn deal_lanes(
     gate: &LineGate,
     ring: &LineRing,
     members: &mut GateMembers,
@@ -50,7 +50,7 @@ pub fn deal_lanes(
 }
 
 // Makes the passes.
-pub fn deal_passes(
+pub(crate) fn deal_passes(
     gate: &LineGate,
     ring: &LineRing,
     members: &mut GateMembers,
@@ -84,7 +84,7 @@ pub fn deal_passes(
 }
 
 // Takes the lanes back, and puts the count of each lane's jobs into its place.
-pub fn gather_lanes(
+pub(crate) fn gather_lanes(
     gate: &LineGate,
     ring: &LineRing,
     gate_end: &mut GateEnd,
@@ -123,7 +123,7 @@ pub fn gather_lanes(
 }
 
 // Takes the passes back.
-pub fn gather_passes(
+pub(crate) fn gather_passes(
     gate: &LineGate,
     ring: &LineRing,
     gate_end: &mut GateEnd,

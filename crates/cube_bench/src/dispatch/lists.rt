@@ -11,7 +11,7 @@ use std::alloc::Global;
 use std::collections::VecDeque;
 
 /// The jobs of all lanes, each list at its lane's number.
-pub fn jobs_of_all(alloc: Global, invocation: Invocation) -> Option<Vec<VecDeque<Job>>>
+pub(crate) fn jobs_of_all(alloc: Global, invocation: Invocation) -> Option<Vec<VecDeque<Job>>>
     requires lanes { invocation.lanes ≤ MAX_LANES }
     requires dim { invocation.sizes.dim ≤ MAX_DIM }
     ensures count { IfSome result (λ lists. length lists.items ≡ invocation.lanes) }

@@ -9,7 +9,7 @@ const DIM: u32 = 10;
 
 /// The run that is to be measured.
 #[derive(Clone, Copy)]
-pub struct Invocation {
+pub(crate) struct Invocation {
     /// Whether the shop is the one with no lock.
     pub is_free: bool,
     /// The numbers of each job: one for each processor at most.
@@ -75,7 +75,7 @@ fn can_run(run: &Invocation) -> bool {
 }
 
 /// The run that the words ask for, if they are well formed and a shop of these sizes can be opened.
-pub fn parse_words(words: &[String]) -> Option<Invocation>
+pub(crate) fn parse_words(words: &[String]) -> Option<Invocation>
     ensures lanes { IfSome result (λ it. it.lanes ≤ MAX_LANES) }
     ensures dim { IfSome result (λ it. it.sizes.dim ≤ MAX_DIM) }
 {

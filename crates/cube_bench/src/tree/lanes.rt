@@ -13,7 +13,7 @@ use std::thread::Threads;
 use std::{mem, thread};
 
 /// The dimension of the machine.
-pub const DIM: u32 = 10;
+pub(crate) const DIM: u32 = 10;
 
 // A station that one thread steps with, and what came of its turns.
 struct Lane {
@@ -144,7 +144,7 @@ fn close(rt: &impl Wait, cube: Cube) {
 }
 
 /// How many takes are given in the run that is asked for.
-pub fn given_in<R: Threads + Wait + Sync>(
+pub(crate) fn given_in<R: Threads + Wait + Sync>(
     rt: &R,
     alloc: Global,
     threads: u32,

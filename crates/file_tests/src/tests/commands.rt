@@ -38,7 +38,7 @@ fn expect_shop(rt: &impl Abort, sizes: ShopSizes)
 }
 
 // The sizes of a shop.
-pub fn sizes_of(dim: u32, dispatchers: u32, capacity: usize) -> ShopSizes
+pub(crate) fn sizes_of(dim: u32, dispatchers: u32, capacity: usize) -> ShopSizes
     ensures { result ≡ record { dim = dim; dispatchers = dispatchers; capacity = capacity } }
 {
     ShopSizes {
@@ -148,7 +148,7 @@ fn good_file(command: Command) -> &'static [u8] {
 
 // Whether an answer tells whether a device has failed: it is this fault of no record where one has, and
 // else it is good.
-pub fn tells(answer: Result<(), Fault>, has_failed: bool, what: FaultKind) -> bool {
+pub(crate) fn tells(answer: Result<(), Fault>, has_failed: bool, what: FaultKind) -> bool {
     let fault = Fault { row: 0, what };
     ((answer == Err(fault)) == has_failed) & ((answer == Ok(())) != has_failed)
 }
@@ -289,7 +289,7 @@ fn long_input(rt: &(impl AllocGlobal + Abort), count: u64) -> Vec<u8> {
 }
 
 // So many jobs of one item, and their replies.
-pub fn long_file(rt: &(impl AllocGlobal + Abort), count: u64) -> (Vec<u8>, String) {
+pub(crate) fn long_file(rt: &(impl AllocGlobal + Abort), count: u64) -> (Vec<u8>, String) {
     (
         long_input(rt, count),
         replies_text(rt, "3", "scan", false, count),
@@ -297,7 +297,7 @@ pub fn long_file(rt: &(impl AllocGlobal + Abort), count: u64) -> (Vec<u8>, Strin
 }
 
 // Whether a run or a report of this file in a shop of these sizes is good, and writes all of this.
-pub fn writes_all<T: Runner + Sync>(
+pub(crate) fn writes_all<T: Runner + Sync>(
     rt: &(impl AllocGlobal + Abort + Threads + Wait + Clone + Send + Sync + 'static),
     is_report: bool,
     sizes: ShopSizes,

@@ -8,7 +8,7 @@ use std::process::Abort;
 // A device that moves at most seven bytes a call, and fails at one call: with an error, or where it
 // gives zero by taking nothing.
 #[derive(Drop)]
-pub struct FailsAt<D> {
+pub(crate) struct FailsAt<D> {
     pub device: D,
     pub calls: u64,
     pub gives_zero: bool,
@@ -63,17 +63,17 @@ impl<D: Write> Write for FailsAt<D> {
 }
 
 // Puts an item behind a list.
-pub fn push<T>(rt: &impl Abort, list: &mut Vec<T>, item: T) {
+pub(crate) fn push<T>(rt: &impl Abort, list: &mut Vec<T>, item: T) {
     list.push(item).expect(rt, "no memory");
 }
 
 // Puts these bytes behind a text.
-pub fn add(rt: &impl Abort, text: &mut Vec<u8>, more: &[u8]) {
+pub(crate) fn add(rt: &impl Abort, text: &mut Vec<u8>, more: &[u8]) {
     text.extend_from_slice(more).expect(rt, "no memory");
 }
 
 // Two texts joined.
-pub fn joined(rt: &(impl AllocGlobal + Abort), a: &[u8], b: &[u8]) -> Vec<u8> {
+pub(crate) fn joined(rt: &(impl AllocGlobal + Abort), a: &[u8], b: &[u8]) -> Vec<u8> {
     let mut text = Vec::new(rt.alloc());
     add(rt, &mut text, a);
     add(rt, &mut text, b);
@@ -81,7 +81,7 @@ pub fn joined(rt: &(impl AllocGlobal + Abort), a: &[u8], b: &[u8]) -> Vec<u8> {
 }
 
 // Whether this is told in these words.
-pub fn says<T: Display>(rt: &(impl AllocGlobal + Abort), what: &T, wanted: &str) -> bool {
+pub(crate) fn says<T: Display>(rt: &(impl AllocGlobal + Abort), what: &T, wanted: &str) -> bool {
     let told = what.to_string(rt.alloc()).expect(rt, "no memory");
     told.as_str() == wanted
 }
@@ -93,7 +93,7 @@ fn add_str(rt: &impl Abort, text: &mut String, more: &str) {
 
 // The file of so many replies of a lane, each to a job of this kind on one item, which is its own number
 // or 1.
-pub fn replies_text(
+pub(crate) fn replies_text(
     rt: &(impl AllocGlobal + Abort),
     lane: &str,
     kind: &str,

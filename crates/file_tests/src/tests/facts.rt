@@ -3,11 +3,11 @@
 use std::process::Abort;
 
 // This holds.
-pub fn expect_true(rt: &impl Abort, fact: bool) {
+pub(crate) fn expect_true(rt: &impl Abort, fact: bool) {
     assert!(rt; fact);
 }
 
 // All of these hold.
-pub fn expect_all(rt: &impl Abort, facts: &[bool]) {
+pub(crate) fn expect_all(rt: &impl Abort, facts: &[bool]) {
     assert!(rt; !facts.contains(&false));
 }

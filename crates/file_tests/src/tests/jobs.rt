@@ -34,13 +34,13 @@ fn first_region(job: &Job) -> Region
 }
 
 // The reply to a job on the first region that has a processor for each of its items.
-pub fn answered(job: Job, id: JobId) -> Reply {
+pub(crate) fn answered(job: Job, id: JobId) -> Reply {
     let region = first_region(&job);
     job.answer(id, region)
 }
 
 // This is the dimension of a machine, and this one of its lanes.
-pub fn expect_lane(rt: &impl Abort, n: u32, lane: u32)
+pub(crate) fn expect_lane(rt: &impl Abort, n: u32, lane: u32)
     ensures machine { n ≤ MAX_DIM }
     ensures lane { lane < MAX_LANES }
 {
@@ -48,7 +48,7 @@ pub fn expect_lane(rt: &impl Abort, n: u32, lane: u32)
 }
 
 // What is made of a request for a job of this kind on these items.
-pub fn asked(
+pub(crate) fn asked(
     rt: &impl Abort,
     alloc: Global,
     n: u32,
@@ -62,12 +62,12 @@ pub fn asked(
 }
 
 // The job of a request that is not refused.
-pub fn made(rt: &impl Abort, alloc: Global, n: u32, lane: u32, kind: Kind, items: &[u64]) -> Job {
+pub(crate) fn made(rt: &impl Abort, alloc: Global, n: u32, lane: u32, kind: Kind, items: &[u64]) -> Job {
     asked(rt, alloc, n, lane, kind, items).expect(rt, "a job")
 }
 
 // The reply with this id to a job of this kind on these items.
-pub fn reply_to(
+pub(crate) fn reply_to(
     rt: &impl Abort,
     alloc: Global,
     n: u32,
@@ -80,7 +80,7 @@ pub fn reply_to(
 
 // The replies to jobs of this kind, for the machine of dimension 3. Each row is the lane and the number of
 // a job, and its items.
-pub fn replies_to(
+pub(crate) fn replies_to(
     rt: &(impl AllocGlobal + Abort),
     kind: Kind,
     rows: &[(u32, u64, &[u64])],
@@ -98,7 +98,7 @@ pub fn replies_to(
 }
 
 // Whether a job is one of this kind on these items, with this machine, lane and dimension.
-pub fn is_job(job: &Job, machine: u32, lane: u32, dim: u32, kind: Kind, items: &[u64]) -> bool {
+pub(crate) fn is_job(job: &Job, machine: u32, lane: u32, dim: u32, kind: Kind, items: &[u64]) -> bool {
     (job.machine() == machine)
         & (job.lane() == lane)
         & (job.dim() == dim)

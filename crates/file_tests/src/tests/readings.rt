@@ -112,7 +112,7 @@ fn first_answered(job: Job) -> Reply {
 }
 
 // Whether the file of these replies is this.
-pub fn writes(rt: &(impl AllocGlobal + Abort), replies: Vec<Reply>, wanted: &[u8]) -> bool {
+pub(crate) fn writes(rt: &(impl AllocGlobal + Abort), replies: Vec<Reply>, wanted: &[u8]) -> bool {
     let mut writer = Counted::new(Vec::new(rt.alloc()));
     let answer = write_rows(rt.alloc(), replies, &mut writer);
     (answer == Ok(())) & (writer.failures() == 0) & (writer.get_ref().as_slice() == wanted)
@@ -245,7 +245,7 @@ fn expect_commands(rt: &(impl AllocGlobal + Abort), texts: &[&[u8]], wanted: &[C
 }
 
 // The name that this text is.
-pub fn name_of(rt: &impl Abort, text: &[u8]) -> Name {
+pub(crate) fn name_of(rt: &impl Abort, text: &[u8]) -> Name {
     Name::new(text).expect(rt, "a name")
 }
 

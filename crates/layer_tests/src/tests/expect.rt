@@ -10,12 +10,12 @@ use std::sync::atomic::Ordering::SeqCst;
 use std::thread::yield_now;
 
 /// All of these have to hold.
-pub fn expect_all(rt: &impl Abort, facts: &[bool]) {
+pub(crate) fn expect_all(rt: &impl Abort, facts: &[bool]) {
     assert!(rt; facts.iter().all(|it| *it));
 }
 
 /// Each value has to show as its text.
-pub fn expect_texts<T: Display>(rt: &impl Abort, alloc: Global, rows: &[(T, &str)]) {
+pub(crate) fn expect_texts<T: Display>(rt: &impl Abort, alloc: Global, rows: &[(T, &str)]) {
     for (value, text) in rows {
         let shown = format!(in alloc; "{value}").expect(rt, "no memory");
         assert!(rt; shown.as_str() == *text);
@@ -23,7 +23,7 @@ pub fn expect_texts<T: Display>(rt: &impl Abort, alloc: Global, rows: &[(T, &str
 }
 
 /// Waits until the count is so high.
-pub fn await_count<R: Wait>(rt: &R, count: &AtomicU64, least: u64) {
+pub(crate) fn await_count<R: Wait>(rt: &R, count: &AtomicU64, least: u64) {
     for _ in rt.forever() {
         if count.load(SeqCst) >= least {
             return;
@@ -34,7 +34,7 @@ pub fn await_count<R: Wait>(rt: &R, count: &AtomicU64, least: u64) {
 }
 
 /// What was made, for which there has to be memory.
-pub fn made<T, E: Debug>(rt: &impl Abort, it: Result<T, E>) -> T
+pub(crate) fn made<T, E: Debug>(rt: &impl Abort, it: Result<T, E>) -> T
     ensures { it ≡ Ok result }
 {
     it.expect(rt, "no memory")

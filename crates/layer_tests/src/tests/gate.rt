@@ -12,7 +12,7 @@ use std::alloc::Global;
 use std::process::Abort;
 
 // Nothing outside the gate was found.
-pub struct Nothing(());
+pub(crate) struct Nothing(());
 
 impl Witness for Nothing {
     fn spend(self) {
@@ -21,7 +21,7 @@ impl Witness for Nothing {
 }
 
 // What the test says of an entry's push.
-pub struct Said(Entered);
+pub(crate) struct Said(Entered);
 
 impl Pushed for Said {
     ghost entry = { λ said. said.0 };
@@ -32,7 +32,7 @@ impl Pushed for Said {
     }
 }
 
-pub type TestGate = Gate<Said, Said, Nothing>;
+pub(crate) type TestGate = Gate<Said, Said, Nothing>;
 
 const COUNTS: Counts = Counts {
     lanes: 2,
@@ -69,7 +69,7 @@ fn leave(
 }
 
 // What the pass reads.
-pub fn read(gate: &TestGate, pass: &mut GatePass) -> (u64, EntryCount)
+pub(crate) fn read(gate: &TestGate, pass: &mut GatePass) -> (u64, EntryCount)
     requires { pass.old.gate ≡ gate.now.table }
     ensures { pass.new.gate ≡ gate.now.table }
 {
@@ -79,7 +79,7 @@ pub fn read(gate: &TestGate, pass: &mut GatePass) -> (u64, EntryCount)
 }
 
 // The members of a gate, each in a place of its own.
-pub struct Table {
+pub(crate) struct Table {
     pub first: GateLane,
     pub second: GateLane,
     pub pass: GatePass,
@@ -107,7 +107,7 @@ fn deal(gate: &TestGate, mut members: GateMembers) -> Table
 }
 
 // A new gate, and its members.
-pub fn opened<R: Abort>(rt: &R, alloc: Global) -> (TestGate, Table)
+pub(crate) fn opened<R: Abort>(rt: &R, alloc: Global) -> (TestGate, Table)
     ensures counts { result.0.counts ≡ record { lanes = 2; passes = 1 } }
     ensures lanes { (result.1.first.gate ≡ result.0.table)
         × (result.1.second.gate ≡ result.0.table) }
@@ -121,7 +121,7 @@ pub fn opened<R: Abort>(rt: &R, alloc: Global) -> (TestGate, Table)
     (gate, table)
 }
 
-pub fn end(gate: TestGate, members: (GateLane, GateLane, GatePass), note: GateNote)
+pub(crate) fn end(gate: TestGate, members: (GateLane, GateLane, GatePass), note: GateNote)
     requires counts { gate.counts ≡ record { lanes = 2; passes = 1 } }
     requires lanes { (members.0.gate ≡ gate.table) × (members.1.gate ≡ gate.table) }
     requires others { (members.2.gate ≡ gate.table) × (note.gate ≡ gate.table) }
@@ -136,7 +136,7 @@ pub fn end(gate: TestGate, members: (GateLane, GateLane, GatePass), note: GateNo
 }
 
 // One entry, which is settled, or undone where it is late.
-pub fn go_through(gate: &TestGate, lane: &mut GateLane, full: bool) -> Result<u64, u64>
+pub(crate) fn go_through(gate: &TestGate, lane: &mut GateLane, full: bool) -> Result<u64, u64>
     requires gate { lane.old.gate ≡ gate.now.table }
     requires settled { IsSettled lane.old.known }
     requires unspent { length lane.old.known.entries < MAX_ENTRIES }

@@ -17,11 +17,11 @@ use std::sync::Wait;
 use std::thread::Threads;
 use test_kit::{Pair, Plan, SUM, both, job, jobs};
 
-pub const JOBS: usize = 100;
+pub(crate) const JOBS: usize = 100;
 
 // What comes of a job that is handed in, which comes back where it is refused: `LaneSpent` for one that is
 // not for this line and lane.
-pub fn hand_in<R: Wait, L: JobLine>(
+pub(crate) fn hand_in<R: Wait, L: JobLine>(
     rt: &R,
     line: &L,
     lane: &mut L::Lane,
@@ -387,7 +387,7 @@ fn rest_stands_in_order(rt: HostRuntime) {
 
 // Whether the jobs of each lane stand in the order of their seqs, none of them seen before. Marks
 // them as seen.
-pub fn are_new_and_rise(seen: &mut [[bool; JOBS]], taken: &[QueuedJob]) -> bool {
+pub(crate) fn are_new_and_rise(seen: &mut [[bool; JOBS]], taken: &[QueuedJob]) -> bool {
     let mut next = [0; 16];
     for queued in taken {
         let JobId { lane, seq } = queued.id;

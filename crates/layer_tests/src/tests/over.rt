@@ -2,7 +2,7 @@
 
 /// The line with no lock, or the one under a lock.
 #[derive(Clone, Copy)]
-pub enum Over {
+pub(crate) enum Over {
     /// The line with no lock.
     NoLock,
     /// The line under one lock.

@@ -13,7 +13,7 @@ use std::sync::Wait;
 
 // A piece that is for every machine.
 #[derive(Clone, Copy, PartialEq, Eq)]
-pub struct Token {
+pub(crate) struct Token {
     lane: u32,
     seq: u64,
 }
@@ -45,7 +45,7 @@ fn is_in(answer: Result<DidPut<()>, (Token, SawFull<()>)>, token: Token) -> bool
 }
 
 // Puts the lane's next piece in, or says that the ring is full. A lane puts 100 pieces in at most.
-pub fn put<R: Wait>(rt: &R, ring: &Ring<Token>, lane: &mut RingLane<Token>) -> bool
+pub(crate) fn put<R: Wait>(rt: &R, ring: &Ring<Token>, lane: &mut RingLane<Token>) -> bool
     requires { lane.old.ring ≡ ring.now.id }
     ensures { lane.new.ring ≡ ring.now.id }
 {
@@ -72,7 +72,7 @@ fn popped(answer: Result<Token, SawEmpty>) -> Option<(u32, u64)> {
 }
 
 // The lane and the seq of the piece at the front, if there is one.
-pub fn take<R: Wait>(rt: &R, ring: &Ring<Token>, pass: &mut RingPass<Token>) -> Option<(u32, u64)>
+pub(crate) fn take<R: Wait>(rt: &R, ring: &Ring<Token>, pass: &mut RingPass<Token>) -> Option<(u32, u64)>
     requires { pass.old.ring ≡ ring.now.id }
     ensures { pass.new.ring ≡ ring.now.id }
 {
@@ -88,10 +88,10 @@ fn len<R: Wait>(rt: &R, ring: &Ring<Token>, pass: &mut RingPass<Token>) -> usize
 }
 
 // A lane of a ring, or a pass.
-pub type Member = Result<RingLane<Token>, RingPass<Token>>;
+pub(crate) type Member = Result<RingLane<Token>, RingPass<Token>>;
 
 // A ring with its members, and the end that they come back to.
-pub struct Hand {
+pub(crate) struct Hand {
     pub ring: Ring<Token>,
     pub end: RingEnd<Token>,
     pub members: Vec<Member>,
@@ -189,7 +189,7 @@ impl Hand {
 }
 
 // What is left in a ring, once its four lanes and three passes are back.
-pub fn rest_of<R: Wait + Abort>(rt: &R, hand: Hand) -> VecDeque<Token>
+pub(crate) fn rest_of<R: Wait + Abort>(rt: &R, hand: Hand) -> VecDeque<Token>
     requires end { hand.end.ring ≡ hand.ring.id }
     requires none { (hand.end.back_lanes ≡ []) × (hand.end.back_passes ≡ []) }
     requires members { All (λ member. MatchResult member (λ lane. lane.ring ≡ hand.ring.id)

@@ -5,7 +5,7 @@ use locked_floor::LockedFloor;
 use tree_floor::TreeFloor;
 
 // A machine that can be asked.
-pub trait AtRest {
+pub(crate) trait AtRest {
     // Whether it has this dimension and is wholly free.
     fn is_at_rest(&self, dim: u32) -> bool;
 }

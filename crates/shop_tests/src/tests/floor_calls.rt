@@ -16,7 +16,7 @@ use tree_floor::TreeFloor;
 use uses::{Hoarding, hold_pair};
 
 // A floor with its stations.
-pub fn opened<F: Floor>(
+pub(crate) fn opened<F: Floor>(
     rt: &impl Abort,
     alloc: Global,
     n: u32,

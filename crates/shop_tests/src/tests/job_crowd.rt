@@ -38,7 +38,7 @@ const WORKERS: u32 = 4;
 const EACH: u32 = 20;
 
 // Names the shop of a crowd.
-pub trait Naming {
+pub(crate) trait Naming {
     ghost use Rattle.dispatcher.specs.Shop.{ShopId};
 
     ghost shop: { ShopId };
@@ -132,7 +132,7 @@ struct Left<L: JobLine, F: Floor> {
 }
 
 // The end of a worker, which stands down if it has not run.
-pub fn end_left<J: Naming, L: JobLine, F: Floor>(
+pub(crate) fn end_left<J: Naming, L: JobLine, F: Floor>(
     alloc: Global,
     worker: Option<Worker<L, F>>,
     end: Option<WorkerEnd<L, F>>,
@@ -296,7 +296,7 @@ where
 }
 
 // A list with one more, where there is memory for it.
-pub fn add<T>(rt: &impl Abort, list: &mut Vec<T>, one: T)
+pub(crate) fn add<T>(rt: &impl Abort, list: &mut Vec<T>, one: T)
     ensures { list.new.items ≡ list.old.items ++ one ∷ [] }
 {
     match list.push(one) {
@@ -372,7 +372,7 @@ fn keep_lane<L: JobLine, F: Floor>(
 }
 
 // The end of a worker is one of the ends.
-pub fn keep_end<L: JobLine, F: Floor>(
+pub(crate) fn keep_end<L: JobLine, F: Floor>(
     rt: &impl Abort,
     shop: &Shop<L, F>,
     ends: &mut Vec<WorkerEnd<L, F>>,

@@ -162,7 +162,7 @@ fn late_named<
 }
 
 // What becomes of two jobs of one lane, which lie in a closed line before two workers answer them by this runner.
-pub fn late<R: Threads + Wait + Abort + Sync, L: JobLine + SharedLine, F: Floor + SharedFloor>(
+pub(crate) fn late<R: Threads + Wait + Abort + Sync, L: JobLine + SharedLine, F: Floor + SharedFloor>(
     rt: &R,
     alloc: Global,
     runner: &Tabled<Meeting>,

@@ -6,7 +6,7 @@ use test_kit::Plan;
 
 /// The line and the floor with no lock, or those under one lock each.
 #[derive(Clone, Copy)]
-pub enum Over {
+pub(crate) enum Over {
     /// No lock.
     NoLock,
     /// Locks.
@@ -14,10 +14,10 @@ pub enum Over {
 }
 
 /// One after the other.
-pub const BOTH: [Over; 2] = [Over::NoLock, Over::Locks];
+pub(crate) const BOTH: [Over; 2] = [Over::NoLock, Over::Locks];
 
 /// Returns these sizes as one value.
-pub fn sizes(dim: u32, dispatchers: u32, capacity: usize) -> ShopSizes
+pub(crate) fn sizes(dim: u32, dispatchers: u32, capacity: usize) -> ShopSizes
     ensures { result ≡ record { dim = dim; dispatchers = dispatchers; capacity = capacity } }
 {
     ShopSizes {
@@ -29,7 +29,7 @@ pub fn sizes(dim: u32, dispatchers: u32, capacity: usize) -> ShopSizes
 
 /// What a run is given: the sizes of its shop, the number of its lanes, and the jobs of each.
 #[derive(Clone, Copy)]
-pub struct Asked {
+pub(crate) struct Asked {
     /// The sizes of the shop.
     pub sizes: ShopSizes,
     /// The number of lanes.

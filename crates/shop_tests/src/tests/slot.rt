@@ -2,7 +2,7 @@
 ghost use Rattle.std.specs.Prelude.{◌≡◌, None, Some};
 
 // Puts a value into an empty place.
-pub fn fill<T>(slot: &mut Option<T>, value: T)
+pub(crate) fn fill<T>(slot: &mut Option<T>, value: T)
     requires { slot.old ≡ None }
     ensures { slot.new ≡ Some value }
 {

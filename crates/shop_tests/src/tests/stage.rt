@@ -24,7 +24,7 @@ use test_kit::{Row, SUM, job, listed, only_lane, only_worker};
 
 // Such a shop. Its worker stands in one of two places, before it runs and after that, and so does the
 // right to close.
-pub struct Stage<L: JobLine, F: Floor> {
+pub(crate) struct Stage<L: JobLine, F: Floor> {
     shop: Shop<L, F>,
     lane: L::Lane,
     worker: Option<Worker<L, F>>,
@@ -52,7 +52,7 @@ impl<L: JobLine, F: Floor> Model for Stage<L, F> {
 }
 
 // A job that was given back, and why.
-pub type Back = (Job, Refused);
+pub(crate) type Back = (Job, Refused);
 
 impl<L: JobLine, F: Floor> Stage<L, F> {
     pub fn open(rt: &impl Abort, alloc: Global, capacity: usize) -> Self
