@@ -3,10 +3,10 @@ import os
 import re
 
 ROOT = os.path.dirname(os.path.dirname(os.path.dirname(os.path.realpath(__file__))))
-# The wrong bodies: a folder for each crate, in which each file is a mutant.
-MUTANTS = "edits"
+# The mutants: a folder for each crate, in which each file is a mutant.
+MUTANTS = "mutants"
 # The crates on which nobody builds: callers, programs, measurements and tests.
-NO_LIBRARIES = ("uses", "jobs_cli", "cube_bench", "test_kit", "layer_tests", "shop_tests", "file_tests")
+NO_LIBRARIES = ("uses", "jobs_cli", "cube_bench", "tests_kit", "tests_layers", "tests_shops", "tests_files")
 LIMITS = ("crates/cube_shape/src/limits.rt", "crates/region_bits/src/limits.rt")
 
 

@@ -1,4 +1,4 @@
-"""Tries the mutants: wrong bodies and definitions, each of which the prover must refuse.
+"""Tries the mutants: mutants and definitions, each of which the prover must refuse.
 
 A function is proved from its own body and the contracts of what it calls. So mutants of different functions do not help
 one another: many share one copy of a crate and one check of it. A second mutant of a function stands in a copy of the
@@ -9,7 +9,7 @@ Crates of which none stands below another share a check. A mutant of a definitio
 
     checks/run edits [--stale | --plan] [--after-gate] [--anew] [--keep FOLDER] [--from FOLDER] [CRATE | CRATE/EDIT ..]
 
-With no name it tries all mutants of edits/CRATE and crates/CRATE/must-fail. --stale only sees that each can be applied.
+With no name it tries all mutants of mutants/CRATE and crates/CRATE/must-fail. --stale only sees that each can be applied.
 --plan shows which share a check. --after-gate takes the libraries below as `rt ci` has just left them; without it they
 are built first. What was refused is kept in ~/.cache/cubejobs/edits, by a sum of all that the verdict stands on, and
 with --anew each is tried. --keep puts what each check said into a folder. --from takes CRATE's mutants from

@@ -1,9 +1,9 @@
 """Tests `edits`, which judges mutants, and the reader of sources under it: mutants of known verdicts must be told so.
 
-Of `region_bits` one is a wrong body; one changes nothing, in a function that calls the wrong one, so that it is hidden
+Of `region_bits` one is a mutant; one changes nothing, in a function that calls the wrong one, so that it is hidden
 in their common check; one has a name that does not exist, so that the front end refuses the check of all; one is right,
 and only the proof misses a name; one is stale. Three stand in functions that hold another one, so each pair has a copy.
-Two of `pause` stand in the same check, and neither crate's verdicts are the other's. Two of a definition name the
+Two of `backoff` stand in the same check, and neither crate's verdicts are the other's. Two of a definition name the
 function that is proved over it, of which one does not read it. Words given here are passed on to `edits`.
 """
 import os
@@ -59,7 +59,7 @@ def judged(folder, *words):
     """Returns the status of `edits`, and what it says of each mutant of the folder. What it keeps stands in that folder
     too."""
     env = {**os.environ, "XDG_CACHE_HOME": f"{folder}/cache"}
-    command = [path("checks", "run"), "edits", "--from", folder, *words, "region_bits", "pause"]
+    command = [path("checks", "run"), "edits", "--from", folder, *words, "region_bits", "backoff"]
     ran = subprocess.run(command, stdout=subprocess.PIPE, text=True, check=False, env=env)
     return ran.returncode, dict(re.findall(r"(?m)^(\w+/\S+): (\w+): ", ran.stdout)), ran.stdout
 
@@ -89,7 +89,7 @@ def of_all(folder, words):
     yield "a stale mutant fails before any check", status == 1 and told == {"region_bits/stale": "BAD"}, said
     _, _, said = judged(folder, "--plan")
     first = re.findall(r"(?m)^check 1: (\w+): ", said)
-    yield "crates beside one another share a check", sorted(first) == ["pause", "region_bits"], said
+    yield "crates beside one another share a check", sorted(first) == ["backoff", "region_bits"], said
     status, told, said = judged(folder, *words)
     yield "mutants that are not refused fail", status == 1, said
     for name, (_, _, _, wanted, *_) in PLANTED.items():

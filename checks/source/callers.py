@@ -18,9 +18,9 @@ from checks.lib.rows import Wrong, must, print_faults
 QUOTES = {
     "alloc_bits": ("uses/src/two_regions.rt",),
     "cli_commands": ("jobs_cli/src/main.rt#fn main",),
-    "cli_words": ("cli_commands/src/program.rt#pub fn run<",),
+    "cli_args": ("cli_commands/src/program.rt#pub fn run<",),
     "collectives": ("uses/src/extent.rt",),
-    "crew": ("uses/src/answering.rt",),
+    "shop_threads": ("uses/src/answering.rt",),
     "cube_core": ("uses/src/schedule.rt",),
     "cube_ledger": ("uses/src/answering.rt",),
     "cube_occupancy": ("cli_commands/src/report.rt#pub fn report_rows<",),
@@ -31,28 +31,28 @@ QUOTES = {
     "cubejobs_tree": ("../examples/threads.c",),
     "devices": (
         "jobs_csv/src/writing.rt#pub fn write_rows<",
-        "whole_file/src/system_draft.rt#impl<F> Device for SystemReader",
+        "atomic_file/src/system_draft.rt#impl<F> Device for SystemReader",
     ),
     "dispatcher": ("uses/src/counting.rt",),
     "floors": ("uses/src/any_floor.rt",),
     "job_queue": ("uses/src/line_run/feeding.rt", "uses/src/line_run/draining.rt"),
     "job_types": ("dispatcher/src/runner.rt#impl Runner for Plain",),
     "jobs_csv": ("uses/src/count.rt",),
-    "line_gate": ("ruled_line/src/job_line.rt#fn submit",),
-    "line_ring": ("ruled_line/src/line.rt#pub(crate) fn pop_at_last",),
-    "locked_cell": ("locked_floor/src/bits_lock.rt#pub fn enter",),
-    "locked_floor": ("cube_bench/src/dispatch.rt#fn measure_shop",),
-    "locked_line": ("cube_bench/src/dispatch.rt#fn measure_shop",),
-    "pause": ("tree_floor/src/tree_floor.rt#fn take",),
+    "line_gate": ("line_ruled/src/job_line.rt#fn submit",),
+    "line_ring": ("line_ruled/src/line.rt#pub(crate) fn pop_at_last",),
+    "locked_cell": ("floor_locked/src/bits_lock.rt#pub fn enter",),
+    "floor_locked": ("cube_bench/src/dispatch.rt#fn measure_shop",),
+    "line_locked": ("cube_bench/src/dispatch.rt#fn measure_shop",),
+    "backoff": ("floor_tree/src/floor_tree.rt#fn take",),
     "region_bits": ("alloc_bits/src/alloc_bits.rt#pub fn take",),
-    "ruled_line": ("uses/src/answering.rt",),
+    "line_ruled": ("uses/src/answering.rt",),
     "status_word": ("cube_core/src/effect.rt#fn see",),
-    "tree_floor": ("uses/src/answering.rt",),
+    "floor_tree": ("uses/src/answering.rt",),
     "tree_steps": ("cube_tree/src/takes.rt#pub fn try_node",),
-    "whole_file": ("cli_commands/src/files.rt#pub(crate) fn settle_output<",),
+    "atomic_file": ("cli_commands/src/files.rt#pub(crate) fn settle_output<",),
 }
 # A library that nobody calls, and why.
-UNCALLED = {"histories": "it has no code that runs"}
+UNCALLED = {"ghost_history": "it has no code that runs"}
 OPENING = re.compile(r"\A(//.*\n)+\n?")
 BLOCK = re.compile(r"((?<=```rust\n)|(?<=```antt\n)|(?<=```c\n)).*?(?=```\n)", re.DOTALL)
 NAMED = re.compile(r"`((?:crates|examples)/[^`\s]+)`")

@@ -17,16 +17,16 @@ OTHERS = (
     (r"jobs_csv/", r"48 \+|- 48|== 48|48 ≤ byte", "the byte of the digit 0"),
     (r"jobs_csv/proofs/CsvRecords\.antt", r"c == 13", "the byte of a carriage return"),
     (r"jobs_csv/.*/(name|Name|NameLemmas|PlainLemmas)\.", r"1[67]", "the bytes of a name"),
-    (r"cli_words/src/command_line\.rt", r"1 to 16 bytes", "the bytes of a name"),
-    (r"cli_words/src/command_line\.rt", r"or 16 in a scan", "the bytes of an item in a job"),
-    (r"cli_words/", r'default_value\("16"\)|codes "16"', "the room of a line where no word says it"),
+    (r"cli_args/src/command_line\.rt", r"1 to 16 bytes", "the bytes of a name"),
+    (r"cli_args/src/command_line\.rt", r"or 16 in a scan", "the bytes of an item in a job"),
+    (r"cli_args/", r'default_value\("16"\)|codes "16"', "the room of a line where no word says it"),
     (r"uses/src/(answering|whole)\.rt", r"capacity: 16", "the room of this caller's line"),
     (r"cubejobs_tree/src/codes\.rt", r"[A-Z_]+: u32 = \d+;", "the code of an answer"),
     (r"\w+/proofs/", r"search \(.*\) depth 20", "how deep a search goes"),
     (r"cli_commands/src/progress\.rt", r"PAUSE: u64 = 20", "the pause of the line of progress"),
     (r"cube_bench/src/rounds\.rt", r"MAX_DIM: u32 = 20", "the largest job that is measured"),
     # Limits that have to be written out: when one is changed, its entry here is one that no literal needs.
-    (r"cli_words/src/command_line\.rt", r"lane is below 16", "MAX_LANES in the help"),
+    (r"cli_args/src/command_line\.rt", r"lane is below 16", "MAX_LANES in the help"),
     (r"cubejobs_c/src/machine\.rt", r"\[bool; 4096\]", "2^MAX_DIM in the struct for C"),
     (r"cubejobs_c/src/machine\.rt", r"\[Slot; 48\]", "MAX_STATIONS in the struct for C"),
 )
@@ -101,7 +101,7 @@ def sources():
     """Yields the lines that count: place, number and text without a comment."""
     folders = [f"crates/{crate}/{part}" for crate in crate_names() for part in ("src", "specs", "proofs")]
     for file in (file for folder in folders for file in files_below(folder, ".rt", ".antt")):
-        if place(file) not in LIMITS and not re.search(r"_tests/|/test_kit/|/tests\.rt$", file):
+        if place(file) not in LIMITS and not re.search(r"/tests_[a-z]+/|/tests\.rt$", file):
             for number, line in enumerate(uncommented(read(file), file.endswith(".antt")).splitlines(), 1):
                 yield place(file), number, line
 

@@ -147,7 +147,7 @@ def source(functions, text):
 def compiled(known, folder, name, uses):
     """Returns the file, line and error of what is refused in the library of this name in this folder, and what was
     said."""
-    crate = copy.copy(known["ruled_line"])
+    crate = copy.copy(known["line_ruled"])
     crate.folder, crate.name, crate.deps = folder, name, uses
     how = {"stdin": subprocess.DEVNULL, "stdout": subprocess.PIPE, "stderr": subprocess.STDOUT, "text": True}
     said = subprocess.run(check_words(crate, [""]), cwd=folder, check=False, **how).stdout
@@ -173,7 +173,7 @@ def in_a_library(known, uses, head, functions):
 
 
 def in_the_line(known, wrong):
-    line, places = known["ruled_line"], {}
+    line, places = known["line_ruled"], {}
     with tempfile.TemporaryDirectory() as folder:
         for part in ("src", "specs", "proofs"):
             shutil.copytree(f"{line.folder}/{part}", f"{folder}/{part}")
@@ -187,7 +187,7 @@ def in_the_line(known, wrong):
 
 def main(words):
     known = crates()
-    build_below([known[it] for it in ("crew", "tree_floor", "ruled_line")], AFTER_GATE in words)
+    build_below([known[it] for it in ("shop_threads", "floor_tree", "line_ruled")], AFTER_GATE in words)
     library, line = partial(in_a_library, known), partial(in_the_line, known)
     rows = [
         Row("handles that are dropped", library, (["cube_tree"], OVER_TREE, GOOD + DROPS)),

@@ -27,12 +27,12 @@ from checks.lib.rows import print_faults
 # What a reader of a promise has to believe: the public items of these crates, or those of this name alone, and the most
 # lines that all of their clauses may reach, in whatever crate. The theorem is `Shop::finish`, with the contracts of the
 # queues, allocators and runners that it speaks of, and with what its values say of a reply and of a job. Over threads
-# it is `crew::run`. CONTRIBUTING.md says when a budget may be raised.
+# it is `shop_threads::run`. CONTRIBUTING.md says when a budget may be raised.
 OF_THE_THEOREM = (("dispatcher", "finish"), ("dispatcher", "run"), ("job_queue", None), ("floors", None),
                   ("job_types", "at"), ("job_types", "tally"), ("job_types", "dim"))
 WHOLES = {
     "the theorem": (OF_THE_THEOREM, 320),
-    "the theorem over threads": ((*OF_THE_THEOREM, ("crew", "run")), 400),
+    "the theorem over threads": ((*OF_THE_THEOREM, ("shop_threads", "run")), 400),
     "the program": ((("cli_commands", None),), 1020),
 }
 

@@ -1,4 +1,4 @@
-"""Finds locks in the sources of the queue and of the tree: `ruled_line`, `tree_floor` and all crates below them.
+"""Finds locks in the sources of the queue and of the tree: `line_ruled`, `floor_tree` and all crates below them.
 
 No contract says this of a call that may wait: a lock around it changes neither its result nor what it records. It finds
 
@@ -18,14 +18,14 @@ from checks.lib.repository import ROOT, files_below, read
 from checks.lib.rows import print_faults
 from checks.lib.toolchain import crates
 
-TOPS = ("ruled_line", "tree_floor")
+TOPS = ("line_ruled", "floor_tree")
 ALLOWED = {"std", "atomic_table", "bitflags", "crossbeam_queue", "crossbeam_utils", "thiserror"}
 LOCKS = re.compile(
     r"\b(?:\w*Mutex\w*|\w+Lock|\w+Lock(?:Read|Write)Guard|Condvar|Barrier|OnceCell|mpsc|(?:try_)?lock|locked_\w+)\b"
     r"|\bsync::(?:\{[^}]*)?\bOnce\b|\bcrossbeam_utils\b(?!::Backoff;)"
 )
 FOREVER = re.compile(r"\bforever\b")
-WAITS = {"crates/tree_floor/src/tree_floor.rt": 1}
+WAITS = {"crates/floor_tree/src/floor_tree.rt": 1}
 
 
 def faults_of(crate, root):

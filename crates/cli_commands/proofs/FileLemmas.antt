@@ -2,8 +2,8 @@
 use Rattle.std.proofs.Common.{◌≡◌, ℕ, Bool, true, false, List, Option, None, Some, Result, Ok, Err, IfErr, IfSome, OnOk, String, Global, is_some, option_map, string_bytes, refl, sym, ap, subst, ◌∙◌}
 use Rattle.clap.specs.Words.{Text}
 use Rattle.jobs_csv.specs.declared.fault.Fault.{Fault}
-use Rattle.cli_words.specs.declared.invocation.Invocation.{Invocation}
-use Rattle.cli_words.specs.declared.invocation.Invocation.TheVariants.{Run, Report, Place, Replay}
+use Rattle.cli_args.specs.declared.invocation.Invocation.{Invocation}
+use Rattle.cli_args.specs.declared.invocation.Invocation.TheVariants.{Run, Report, Place, Replay}
 use Rattle.cli_commands.specs.declared.files.CommandError.{CommandError}
 use Rattle.cli_commands.specs.declared.files.CommandError.TheVariants as error
 use Rattle.cli_commands.specs.declared.program.Ending.{Ending}
@@ -11,11 +11,11 @@ use Rattle.cli_commands.specs.declared.program.Ending.TheVariants as ending
 use Rattle.cli_commands.specs.Inner.Ending.{EndsAfter, EndsWith}
 use Rattle.cli_commands.specs.Inner.Files.{EndsIn, IfFault, IfFile, IsOutcome, IsSettled}
 use Rattle.cli_commands.specs.Program.{IsAnswerTo, IsFaultIn, IsFaultOf, names}
-use Rattle.whole_file.specs.Store.{KeepsFiles, KeepsOthers, begun_by, held_by}
-use Rattle.whole_file.specs.declared.file_fault.FileFault.{FileFault}
-use Rattle.whole_file.specs.declared.file_fault.FileReason.{FileReason}
-use Rattle.whole_file.specs.declared.file_fault.FileSide.{FileSide}
-use Rattle.whole_file.specs.declared.file_fault.FileSide.TheVariants.{Input, Output}
+use Rattle.atomic_file.specs.Store.{KeepsFiles, KeepsOthers, begun_by, held_by}
+use Rattle.atomic_file.specs.declared.file_fault.FileFault.{FileFault}
+use Rattle.atomic_file.specs.declared.file_fault.FileReason.{FileReason}
+use Rattle.atomic_file.specs.declared.file_fault.FileSide.{FileSide}
+use Rattle.atomic_file.specs.declared.file_fault.FileSide.TheVariants.{Input, Output}
 
 -- ---- the names of files
 

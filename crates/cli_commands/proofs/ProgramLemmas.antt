@@ -4,9 +4,9 @@ use Rattle.clap.specs.Words.{IsAmong, Text, fault_of}
 use Rattle.clap.specs.declared.error.kind.ErrorKind.{ErrorKind}
 use Rattle.clap.specs.declared.error.kind.ErrorKind.TheVariants.{DisplayHelp, DisplayVersion, OutOfMemory}
 use Rattle.jobs_csv.specs.declared.fault.Fault.{Fault}
-use Rattle.cli_words.specs.declared.invocation.Invocation.{Invocation}
-use Rattle.cli_words.specs.declared.invocation.Request.{Request}
-use Rattle.cli_words.specs.CommandLine.{AsksFor, AsksForHelp, program_app}
+use Rattle.cli_args.specs.declared.invocation.Invocation.{Invocation}
+use Rattle.cli_args.specs.declared.invocation.Request.{Request}
+use Rattle.cli_args.specs.CommandLine.{AsksFor, AsksForHelp, program_app}
 use Rattle.cli_commands.specs.declared.program.Ending.{Ending}
 use Rattle.cli_commands.specs.declared.program.Ending.TheVariants.{Done, Rejected, Failed, FileFailed}
 use Rattle.cli_commands.specs.Inner.Ending.{EndsAfter, EndsOn, IsShown}

@@ -6,8 +6,8 @@ use Rattle.std.proofs.lemmas.List.{append_assoc}
 use Rattle.std.proofs.lemmas.List.Concat.{flat_map-cons}
 use Rattle.std.proofs.lemmas.List.Elements.{All-head, All-tail}
 use Rattle.std.proofs.lemmas.List.FromFn.{map-range_with_len_more}
-use Rattle.histories.specs.Sums.{total}
-use Rattle.histories.proofs.SumLemmas.{total-append, total-map}
+use Rattle.ghost_history.specs.Sums.{total}
+use Rattle.ghost_history.proofs.SumLemmas.{total-append, total-map}
 use Rattle.job_types.specs.Reply.{ReplyData}
 use Rattle.job_queue.specs.declared.record.QueuedJob.{QueuedJob}
 use Rattle.dispatcher.specs.Reply.{answered, IsRight}

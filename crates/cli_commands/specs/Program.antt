@@ -13,10 +13,10 @@ use Rattle.jobs_csv.specs.ReportRows.{report_columns, report_fields}
 use Rattle.jobs_csv.specs.Replies.{reply_columns, reply_fields}
 use Rattle.jobs_csv.specs.Schedule.{parse_schedule}
 use Rattle.jobs_csv.specs.Text.{file_text}
-use Rattle.cli_words.specs.declared.invocation.Invocation.{Invocation}
-use Rattle.cli_words.specs.declared.invocation.Request.{Request}
-use Rattle.cli_words.specs.declared.invocation.Invocation.TheVariants as invocation
-use Rattle.cli_words.specs.CommandLine.{AsksFor, AsksForHelp, IsBadCommandLine}
+use Rattle.cli_args.specs.declared.invocation.Invocation.{Invocation}
+use Rattle.cli_args.specs.declared.invocation.Request.{Request}
+use Rattle.cli_args.specs.declared.invocation.Invocation.TheVariants as invocation
+use Rattle.cli_args.specs.CommandLine.{AsksFor, AsksForHelp, IsBadCommandLine}
 use Rattle.cli_commands.specs.declared.program.Ending.{Ending}
 use Rattle.cli_commands.specs.declared.program.Ending.TheVariants.{Done, Rejected, Failed, FileFailed}
 use Rattle.cli_commands.specs.Answer.{IsAnswer, IsCommandFault, IsRunFault}
@@ -24,10 +24,10 @@ use Rattle.cli_commands.specs.Place.{ArePlaced}
 use Rattle.cli_commands.specs.Replay.{AreReplayed}
 use Rattle.cli_commands.specs.Replies.{AreReplies}
 use Rattle.cli_commands.specs.Report.{AreReportRows}
-use Rattle.whole_file.specs.FileFault.{file_fault_text}
-use Rattle.whole_file.specs.declared.file_fault.FileFault.{FileFault}
-use Rattle.whole_file.specs.declared.file_fault.FileSide.{FileSide}
-use Rattle.whole_file.specs.declared.file_fault.FileSide.TheVariants.{Input, Output}
+use Rattle.atomic_file.specs.FileFault.{file_fault_text}
+use Rattle.atomic_file.specs.declared.file_fault.FileFault.{FileFault}
+use Rattle.atomic_file.specs.declared.file_fault.FileSide.{FileSide}
+use Rattle.atomic_file.specs.declared.file_fault.FileSide.TheVariants.{Input, Output}
 
 -- the request is answered: jobs by their replies or by totals of them, commands by the first fit, a schedule by its events
 abbrev pub IsAnswerTo : Invocation → List ℕ → Option (List ℕ) → Option (List ℕ) → Result (Unit {0}) Fault → Type 0

@@ -1,6 +1,6 @@
 // A command, from the bytes that it reads to the bytes that it writes.
 ghost use Rattle.std.specs.Prelude.{◌≡◌, ◌⊎◌, IfErr, IfSome};
-ghost use Rattle.cli_words.specs.CommandLine.{IsWithinLimits};
+ghost use Rattle.cli_args.specs.CommandLine.{IsWithinLimits};
 ghost use Rattle.cli_commands.specs.Answer.{IsMetBeforeWriting};
 ghost use Rattle.cli_commands.specs.Program.{IsAnswerTo, IsFaultOf, ShowsProgress};
 
@@ -9,15 +9,15 @@ use crate::place::place_on;
 use crate::replay::replay_on;
 use crate::shop::answer_file;
 use crate::writing::write_output;
-use cli_words::Invocation;
+use cli_args::Invocation;
 use dispatcher::Runner;
+use floor_tree::TreeFloor;
 use jobs_csv::{Device, Fault};
-use ruled_line::RuledLine;
+use line_ruled::RuledLine;
 use std::alloc::Global;
 use std::io::{Read, Write};
 use std::sync::Wait;
 use std::thread::Threads;
-use tree_floor::TreeFloor;
 
 /// A command, and the runner of its jobs.
 #[derive(Drop)]

@@ -2,12 +2,12 @@
 ghost use Rattle.std.specs.Prelude.{◌≡◌, Some, IfErr, IfOk, OnOk, Err, Ok};
 ghost use Rattle.cli_commands.specs.Inner.Files.{IsSettled};
 ghost use Rattle.cli_commands.specs.declared.files.CommandError.TheVariants.{Fault as OfFault, File as OfFile};
-ghost use Rattle.whole_file.specs.Store.{KeepsFiles};
-ghost use Rattle.whole_file.specs.declared.file_fault.FileFault.{FileFault as TheFileFault};
-ghost use Rattle.whole_file.specs.declared.file_fault.FileSide.TheVariants.{Input, Output};
+ghost use Rattle.atomic_file.specs.Store.{KeepsFiles};
+ghost use Rattle.atomic_file.specs.declared.file_fault.FileFault.{FileFault as TheFileFault};
+ghost use Rattle.atomic_file.specs.declared.file_fault.FileSide.TheVariants.{Input, Output};
 
+use atomic_file::{FileFault, FileSide, FileStore};
 use jobs_csv::Fault;
-use whole_file::{FileFault, FileSide, FileStore};
 
 /// Why a request was not answered.
 #[derive(Clone, Copy, Debug, PartialEq, Eq)]

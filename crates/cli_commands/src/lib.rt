@@ -1,4 +1,4 @@
-//! The commands of `cubejobs`: what each reads, does and writes. The whole program is
+//! The commands of `cubejobs`, from the bytes that they read to the bytes that they write. The whole program is
 //! `program::run`, over any words, files and streams.
 #![tactic(auto)]
 

@@ -5,7 +5,7 @@ ghost use Rattle.jobs_csv.specs.PlaceRows.{place_columns, place_fields};
 ghost use Rattle.jobs_csv.specs.Text.{file_text};
 ghost use Rattle.jobs_csv.specs.declared.place_rows.PlaceRow.{PlaceRow as Row};
 ghost use Rattle.std.specs.Io.KnownBytes.{Appends};
-ghost use Rattle.cli_words.specs.declared.invocation.Invocation.TheVariants.{Place};
+ghost use Rattle.cli_args.specs.declared.invocation.Invocation.TheVariants.{Place};
 ghost use Rattle.cli_commands.specs.Answer.{IsCommandFault, IsMetBeforeWriting};
 ghost use Rattle.cli_commands.specs.Place.{ArePlaced};
 ghost use Rattle.cli_commands.specs.Inner.Stations.{AreStations, IsAnswerLine, dim_of, named_holdings};

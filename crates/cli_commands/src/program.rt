@@ -6,18 +6,19 @@ ghost use Rattle.clap.specs.Words.{FailsBy, fault_of, kind_of};
 ghost use Rattle.clap.specs.declared.error.kind.ErrorKind.TheVariants.{DisplayHelp, DisplayVersion, OutOfMemory};
 ghost use Rattle.jobs_csv.specs.Fault.{attribute, fault_text};
 ghost use Rattle.jobs_csv.specs.declared.fault.Fault.{Fault as TheFault};
-ghost use Rattle.cli_words.specs.CommandLine.{IsWithinLimits, program_app};
+ghost use Rattle.cli_args.specs.CommandLine.{IsWithinLimits, program_app};
 ghost use Rattle.cli_commands.specs.Answer.{IsMetBeforeWriting};
 ghost use Rattle.cli_commands.specs.Inner.Ending.{EndsOn, EndsWith, IsShown};
 ghost use Rattle.cli_commands.specs.Inner.Files.{IsOutcome, StopsBeforeWriting};
 ghost use Rattle.cli_commands.specs.Program.{AsksForInput, AsksForOutput, AsksForProgress, EndsBy, IsFaultIn, MayWrite, ReportsFile, ShowsProgress, exit_status, file_line, input_of, name_of, output_of};
-ghost use Rattle.whole_file.specs.Store.{KeepsFiles, KeepsOthers, begun_by, held_by};
-ghost use Rattle.whole_file.specs.declared.file_fault.FileFault.{FileFault as TheFileFault};
+ghost use Rattle.atomic_file.specs.Store.{KeepsFiles, KeepsOthers, begun_by, held_by};
+ghost use Rattle.atomic_file.specs.declared.file_fault.FileFault.{FileFault as TheFileFault};
 
 use crate::answering::{Task, answer};
 use crate::files::{CommandError, answered, begin_output, open_input, settle_output};
+use atomic_file::{FileFault, FileSide, FileStore};
 use clap::error::ErrorKind;
-use cli_words::{FileNames, Invocation, Request, parse_args};
+use cli_args::{FileNames, Invocation, Request, parse_args};
 use dispatcher::Plain;
 use jobs_csv::{Device, Fault, FaultKind};
 use std::alloc::Global;
@@ -25,7 +26,6 @@ use std::io::{Read, Write};
 use std::process::ExitCode;
 use std::sync::Wait;
 use std::thread::Threads;
-use whole_file::{FileFault, FileSide, FileStore};
 
 /// The streams of the program.
 #[derive(Drop)]

@@ -5,7 +5,7 @@ ghost use Rattle.std.specs.List.{flat_map};
 ghost use Rattle.jobs_csv.specs.ReplayRows.{replay_columns, replay_fields};
 ghost use Rattle.jobs_csv.specs.Text.{file_text, line_of};
 ghost use Rattle.jobs_csv.specs.declared.replay_rows.ReplayRow.{ReplayRow as Row};
-ghost use Rattle.cli_words.specs.declared.invocation.Invocation.TheVariants.{Replay};
+ghost use Rattle.cli_args.specs.declared.invocation.Invocation.TheVariants.{Replay};
 ghost use Rattle.cli_commands.specs.Answer.{IsCommandFault, IsMetBeforeWriting};
 ghost use Rattle.cli_commands.specs.Program.{IsAnswerTo};
 ghost use Rattle.cli_commands.specs.Replay.{AreReplayed, final_rows};

@@ -1,12 +1,12 @@
 // The commands `run` and `report` with no terminal, by loose sizes.
 ghost use Rattle.std.specs.Prelude.{◌≡◌, true, IfErr, IfSome};
-ghost use Rattle.cli_words.specs.CommandLine.{AreShopSizes};
-ghost use Rattle.cli_words.specs.declared.invocation.Invocation.TheVariants.{Run, Report as TheReport};
+ghost use Rattle.cli_args.specs.CommandLine.{AreShopSizes};
+ghost use Rattle.cli_args.specs.declared.invocation.Invocation.TheVariants.{Run, Report as TheReport};
 ghost use Rattle.cli_commands.specs.Answer.{IsMetBeforeWriting, IsRunFault};
 ghost use Rattle.cli_commands.specs.Program.{IsAnswerTo};
 
 use crate::answering::{Task, answer};
-use cli_words::{Invocation, ShopOptions};
+use cli_args::{Invocation, ShopOptions};
 use dispatcher::{Runner, ShopSizes};
 use jobs_csv::{Device, Fault};
 use std::alloc::Global;

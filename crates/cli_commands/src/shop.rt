@@ -1,6 +1,6 @@
 //! Runs the jobs of a file.
 ghost use Rattle.std.specs.Prelude.{◌≡◌, ◌⊎◌, false, None, Ok, All, IfErr, IfOk, IfSome, List, Result};
-ghost use Rattle.cli_words.specs.CommandLine.{AreShopSizes};
+ghost use Rattle.cli_args.specs.CommandLine.{AreShopSizes};
 ghost use Rattle.jobs_csv.specs.Fault.{IsInputFault};
 ghost use Rattle.job_types.specs.Job.{JobData};
 ghost use Rattle.jobs_csv.specs.Jobs.{parse_jobs};
@@ -12,13 +12,13 @@ ghost use Rattle.cli_commands.specs.Inner.Shop.{error_of};
 
 use crate::lanes::open_lanes;
 use crate::progress::{RecordProgress, ReplyProgress, begin_progress, counts_of, end_progress};
-use cli_words::ShopOptions;
-use crew::{RunEnd, SharedFloor, SharedLine, StopReason, RunError, answer_all};
+use cli_args::ShopOptions;
 use dispatcher::{Runner, ShopSizes};
 use floors::Floor;
 use job_queue::JobLine;
 use job_types::Job;
 use jobs_csv::{Device, Fault, FaultKind};
+use shop_threads::{RunEnd, RunError, SharedFloor, SharedLine, StopReason, answer_all};
 use std::alloc::Global;
 use std::collections::VecDeque;
 use std::io::{Read, Write};

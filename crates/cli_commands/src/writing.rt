@@ -14,11 +14,11 @@ ghost use Rattle.cli_commands.specs.Replies.{AnswersJobs};
 
 use crate::output::Output;
 use crate::shop::AnswerError;
-use crew::RunEnd;
 use cube_shape::MAX_DIM;
 use dispatcher::Finished;
 use floors::Floor;
 use jobs_csv::{Device, Fault, FaultKind};
+use shop_threads::RunEnd;
 use std::alloc::Global;
 use std::io::Write;
 

@@ -5,24 +5,24 @@ ghost use Rattle.std.specs.Prelude.{◌≤◌};
 mod lists;
 mod words;
 
-use crate::outcome::{Measured, MeasureError, nanos_since};
-use crew::{RunEnd, SharedFloor, SharedLine, run};
+use crate::outcome::{MeasureError, Measured, nanos_since};
 use cube_shape::{MAX_DIM, MAX_LANES};
 use dispatcher::{Finished, Plain, ShopRefused};
+use floor_locked::LockedFloor;
+use floor_tree::TreeFloor;
 use floors::Floor;
 use job_queue::JobLine;
 use job_types::Job;
+use line_locked::LockedLine;
+use line_ruled::RuledLine;
 use lists::jobs_of_all;
-use locked_floor::LockedFloor;
-use locked_line::LockedLine;
-use ruled_line::RuledLine;
+use shop_threads::{RunEnd, SharedFloor, SharedLine, run};
 use std::alloc::Global;
 use std::collections::VecDeque;
 use std::rt::Clock;
 use std::sync::Wait;
 use std::thread::Threads;
 use std::time::Instant;
-use tree_floor::TreeFloor;
 use words::{Invocation, parse_words};
 
 // How many replies there are.

@@ -7,13 +7,13 @@ mod calls;
 mod words;
 
 use crate::jobs::jobs_of;
-use crate::outcome::{Measured, MeasureError, nanos_since};
+use crate::outcome::{MeasureError, Measured, nanos_since};
 use calls::{Feeding, Taking, Timed, room_for_times, submit, take, times_of_all};
-use crew::SharedLine;
 use cube_shape::{MAX_CAPACITY, MAX_LANES, MAX_PASSES};
 use job_queue::{JobLine, Opened, QueuedJob, Refused, Rest, Sizes, Taken};
-use locked_line::LockedLine;
-use ruled_line::RuledLine;
+use line_locked::LockedLine;
+use line_ruled::RuledLine;
+use shop_threads::SharedLine;
 use std::alloc::Global;
 use std::rt::Clock;
 use std::sync::{Mutex, Wait};

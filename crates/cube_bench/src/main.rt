@@ -39,7 +39,7 @@ mod outcome;
 mod rounds;
 mod tree;
 
-use outcome::{Measured, MeasureError, print};
+use outcome::{MeasureError, Measured, print};
 use std::alloc::Global;
 use std::io;
 use std::process::ExitCode;

@@ -11,14 +11,14 @@ mod shop;
 mod single;
 mod told;
 
-use crate::outcome::{Measured, MeasureError};
-use locked_floor::LockedFloor;
-use locked_line::LockedLine;
-use ruled_line::RuledLine;
+use crate::outcome::{MeasureError, Measured};
+use floor_locked::LockedFloor;
+use floor_tree::TreeFloor;
+use line_locked::LockedLine;
+use line_ruled::RuledLine;
 use std::alloc::Global;
 use std::io;
 use std::sync::Wait;
-use tree_floor::TreeFloor;
 
 // The calls that can be made.
 #[derive(Clone, Copy)]

@@ -3,7 +3,7 @@
 ghost use Rattle.std.specs.Prelude.{◌≡◌, ◌^◌, ◌<◌, ◌≤◌, All, IfSome, length};
 ghost use Rattle.collectives.specs.Operations.{IsU64};
 
-use crate::outcome::{Measured, MeasureError};
+use crate::outcome::{MeasureError, Measured};
 use collectives::{Add, all_reduce, broadcast, exscan, reduce, scan};
 use std::alloc::{AllocError, Global};
 

@@ -7,7 +7,7 @@ mod lanes;
 mod turns;
 mod words;
 
-use crate::outcome::{Measured, MeasureError};
+use crate::outcome::{MeasureError, Measured};
 use alone::{given_by_bits, given_by_solo};
 use lanes::given_in;
 use std::alloc::Global;

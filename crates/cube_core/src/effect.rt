@@ -269,7 +269,14 @@ pub(crate) fn look_right(station: u64, at: u64, marked: u64, left: Seen, word: u
 
 /// One exchange of the word that the station's mark made for the word without its marks and
 /// without each side whose child was seen free.
-pub(crate) fn clear(station: u64, at: u64, marked: u64, left: Seen, right: Seen, word: u64) -> Effect
+pub(crate) fn clear(
+    station: u64,
+    at: u64,
+    marked: u64,
+    left: Seen,
+    right: Seen,
+    word: u64,
+) -> Effect
     requires { 0 < at }
     ensures { IsEffect (clear_event station at marked (cleared_as_seen marked left right)) word
         result }

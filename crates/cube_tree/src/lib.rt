@@ -1,4 +1,4 @@
-//! A lock-free buddy allocator of subcubes, which any number of threads use at once.
+//! A lock-free buddy allocator of aligned power-of-two blocks (subcubes) for any number of threads at once.
 //!
 //! A `Cube` is the status tree of a machine as shared words, and each of its stations takes and gives
 //! back the region of one node at a time. Every atomic step of a call is an event of the tree as a

@@ -3,19 +3,19 @@ ghost use Rattle.std.specs.Prelude.{ℕ, ◌^◌, ◌<◌, [], IfOk, IfErr, ⊤,
 ghost use Rattle.std.specs.List.{All};
 ghost use Rattle.job_queue.specs.Line.{IsFor};
 ghost use Rattle.cube_tree.specs.Ends.{machine_dim, machine_words};
-ghost use Rattle.tree_floor.specs.Roll.{IsRollWhole};
-ghost use Rattle.crew.specs.Batch.{IsAnsweredBatch, IsRefusedBatch, IsUnfinishedBatch};
-ghost use Rattle.crew.specs.RunError.{MatchRunError};
+ghost use Rattle.floor_tree.specs.Roll.{IsRollWhole};
+ghost use Rattle.shop_threads.specs.Batch.{IsAnsweredBatch, IsRefusedBatch, IsUnfinishedBatch};
+ghost use Rattle.shop_threads.specs.RunError.{MatchRunError};
 
-use crew::{RunEnd, RunError};
 use dispatcher::{Runner, ShopSizes};
+use floor_tree::{FreeMachine, TreeFloor};
 use job_types::Job;
-use ruled_line::RuledLine;
+use line_ruled::RuledLine;
+use shop_threads::{RunEnd, RunError};
 use std::alloc::Global;
 use std::collections::VecDeque;
 use std::sync::Wait;
 use std::thread::Threads;
-use tree_floor::{FreeMachine, TreeFloor};
 
 /// Answers all jobs, the lists of the lanes from 0 on. Opens a shop of these sizes with a lane for each
 /// list. Hands in all lists at once, while all workers answer jobs by the runner on threads. Finishes the
@@ -46,5 +46,5 @@ pub fn answer_all<R: Threads + Wait + Sync, T: Runner + Sync>(
     ensures unfinished { IfErr result (λ stopped.
         MatchRunError stopped (λ why back. ⊤) (IsUnfinishedBatch machine_words sizes jobs.items)) }
 {
-    crew::answer_all::<R, RuledLine, TreeFloor, T>(rt, alloc, sizes, runner, jobs)
+    shop_threads::answer_all::<R, RuledLine, TreeFloor, T>(rt, alloc, sizes, runner, jobs)
 }

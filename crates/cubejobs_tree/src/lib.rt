@@ -1,4 +1,4 @@
-//! The running tree for callers in C, C++ and Rust: subcubes for many threads at once, with no lock.
+//! The lock-free block allocator for callers in C, C++ and Rust, as a static library: many threads take blocks at once.
 //!
 //! A caller keeps handles of 16 bytes, of a machine and of its stations, and passes one to each call. What
 //! stands behind a handle is a box that only this library follows; so the clauses of each call say what

@@ -10,10 +10,10 @@ ghost use Rattle.dispatcher.specs.InnerFeed.{stop_at};
 
 use crate::limit::is_reached;
 use crate::shop::Shop;
+use backoff::Pause;
 use floors::Floor;
 use job_queue::{JobLine, Refused};
 use job_types::Job;
-use pause::Pause;
 use std::collections::VecDeque;
 use std::sync::Wait;
 use std::thread::yield_now;

@@ -11,6 +11,7 @@
 //! ties them to the process, which ends by `program::exit_code`.
 #![tactic(auto)]
 
+use atomic_file::SystemFiles;
 use cli_commands::program;
 use cli_commands::program::{Console, Ending};
 use jobs_csv::{Counted, Fault};
@@ -18,7 +19,6 @@ use std::io::IsTerminal;
 use std::process::ExitCode;
 use std::rt::Env;
 use std::{io, process};
-use whole_file::SystemFiles;
 
 // The words of the command line, from the program's name on.
 fn words<R: Env + AllocGlobal>(rt: &R) -> io::Result<Vec<String>> {

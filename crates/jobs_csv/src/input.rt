@@ -46,7 +46,10 @@ pub(crate) fn open_reader<R: Read>(alloc: Global, text: R) -> Reader<R>
 }
 
 /// Reads the next record into `row`, and returns whether there was one.
-pub(crate) fn next_record<R: Read>(reader: &mut Reader<R>, row: &mut ByteRecord) -> Result<bool, Fault>
+pub(crate) fn next_record<R: Read>(
+    reader: &mut Reader<R>,
+    row: &mut ByteRecord,
+) -> Result<bool, Fault>
     requires { IsPlain reader.old }
     ensures plain { OnOk result (IsPlain reader.new) }
     ensures more { IfOk result (λ found. found ≡ true

@@ -1,4 +1,4 @@
-//! The CSV files of the machine: their parse, and the rows that answer them.
+//! CSV files of jobs, commands and schedules: their parsers, and the writers of the rows that answer them.
 //!
 //! `read_jobs`, `read_place` and `read_schedule` read a whole file and return its rows or its first
 //! fault; `read_lanes` returns the jobs lane by lane. One loop reads every format: a format checks

@@ -1,4 +1,4 @@
-//! The atomic steps of stations on the shared words of a status tree.
+//! The atomic steps of the lock-free block allocator: each is one load, store, exchange or fetch on one shared word.
 #![tactic(auto)]
 
 mod events;

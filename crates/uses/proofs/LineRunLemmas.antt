@@ -4,8 +4,8 @@ use Rattle.std.specs.List.{All}
 use Rattle.std.proofs.lemmas.List.Elements.{All-head, All-tail, All-same}
 use mathlib.Core.Logic.{dite}
 use native.Mathlib.Decide.{ℕ_discrete}
-use Rattle.histories.specs.Sums.{total, is_at, times}
-use Rattle.histories.proofs.SumLemmas.{total-append, total-map, is_at-other}
+use Rattle.ghost_history.specs.Sums.{total, is_at, times}
+use Rattle.ghost_history.proofs.SumLemmas.{total-append, total-map, is_at-other}
 use Rattle.job_types.specs.Job.{JobData}
 use Rattle.job_queue.specs.declared.record.QueuedJob.{QueuedJob}
 use Rattle.job_queue.specs.declared.record.LaneRecord.{LaneRecord}

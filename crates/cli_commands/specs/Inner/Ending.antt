@@ -5,13 +5,13 @@ use Rattle.clap.specs.declared.error.kind.ErrorKind.TheVariants.{DisplayHelp, Di
 use Rattle.jobs_csv.specs.Fault.{is_refusal}
 use Rattle.jobs_csv.specs.declared.fault.Fault.{Fault}
 use Rattle.jobs_csv.specs.declared.fault.FaultKind.TheVariants as what
-use Rattle.cli_words.specs.declared.invocation.Invocation.{Invocation}
+use Rattle.cli_args.specs.declared.invocation.Invocation.{Invocation}
 use Rattle.cli_commands.specs.declared.files.CommandError.{CommandError}
 use Rattle.cli_commands.specs.declared.files.CommandError.TheVariants as error
 use Rattle.cli_commands.specs.declared.program.Ending.{Ending}
 use Rattle.cli_commands.specs.declared.program.Ending.TheVariants.{Done, Rejected, Failed, FileFailed}
 use Rattle.cli_commands.specs.Program.{IsAnswerTo}
-use Rattle.whole_file.specs.declared.file_fault.FileSide.{FileSide}
+use Rattle.atomic_file.specs.declared.file_fault.FileSide.{FileSide}
 
 -- the request is answered, or it failed for one of the reasons that are given, which is its answer too, or a file of
 -- one of these sides could not be had

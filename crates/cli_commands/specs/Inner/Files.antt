@@ -2,14 +2,14 @@
 use Rattle.std.specs.Prelude.{◌≡◌, ℕ, true, List, Option, Some, Result, Ok, Err, IfErr, IfSome, ⊤}
 use Rattle.clap.specs.Words.{Text}
 use Rattle.jobs_csv.specs.declared.fault.Fault.{Fault}
-use Rattle.cli_words.specs.declared.invocation.Invocation.{Invocation}
+use Rattle.cli_args.specs.declared.invocation.Invocation.{Invocation}
 use Rattle.cli_commands.specs.declared.files.CommandError.{CommandError}
 use Rattle.cli_commands.specs.declared.files.CommandError.TheVariants as error
 use Rattle.cli_commands.specs.Answer.{IsMetBeforeWriting}
 use Rattle.cli_commands.specs.Program.{IsAnswerTo, IsFaultIn, names}
-use Rattle.whole_file.specs.Store.{KeepsFiles, KeepsOthers, begun_by, held_by}
-use Rattle.whole_file.specs.declared.file_fault.FileFault.{FileFault}
-use Rattle.whole_file.specs.declared.file_fault.FileSide.TheVariants.{Output}
+use Rattle.atomic_file.specs.Store.{KeepsFiles, KeepsOthers, begun_by, held_by}
+use Rattle.atomic_file.specs.declared.file_fault.FileFault.{FileFault}
+use Rattle.atomic_file.specs.declared.file_fault.FileSide.TheVariants.{Output}
 
 -- where it stopped for a fault, this is so of the fault
 abbrev pub IfFault : CommandError → (Fault → Type 0) → Type 0

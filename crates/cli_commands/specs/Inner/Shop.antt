@@ -1,10 +1,10 @@
 -- What is told of a shop that has not answered all jobs.
 use Rattle.std.specs.Prelude.{Option, Some, None, Result, Ok, Err}
-use Rattle.crew.specs.declared.answering.StopReason.{StopReason}
-use Rattle.crew.specs.declared.answering.StopReason.TheVariants as why
-use Rattle.crew.specs.declared.answering.RunError.{RunError}
-use Rattle.crew.specs.declared.answering.RunError.TheVariants as stopped
-use Rattle.crew.specs.declared.running.RunEnd.{RunEnd}
+use Rattle.shop_threads.specs.declared.answering.StopReason.{StopReason}
+use Rattle.shop_threads.specs.declared.answering.StopReason.TheVariants as why
+use Rattle.shop_threads.specs.declared.answering.RunError.{RunError}
+use Rattle.shop_threads.specs.declared.answering.RunError.TheVariants as stopped
+use Rattle.shop_threads.specs.declared.running.RunEnd.{RunEnd}
 use Rattle.jobs_csv.specs.declared.fault.Fault.{Fault}
 use Rattle.jobs_csv.specs.declared.fault.FaultKind.{FaultKind}
 use Rattle.jobs_csv.specs.declared.fault.FaultKind.TheVariants as what

@@ -28,7 +28,11 @@ pub(crate) type Feeding = Timed<VecDeque<Job>>;
 pub(crate) type Taking = Timed<Vec<QueuedJob>>;
 
 /// Room for the times of so many calls, where they are timed.
-pub(crate) fn room_for_times(alloc: Global, is_timed: bool, count: usize) -> Option<Option<Vec<u64>>> {
+pub(crate) fn room_for_times(
+    alloc: Global,
+    is_timed: bool,
+    count: usize,
+) -> Option<Option<Vec<u64>>> {
     if is_timed {
         Some(Some(Vec::with_capacity(alloc, count).ok()?))
     } else {

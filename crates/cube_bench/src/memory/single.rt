@@ -11,7 +11,7 @@ use job_queue::JobLine;
 use std::alloc::Global;
 use std::marker::Model;
 use std::sync::Wait;
-use test_kit::{only_lane, only_worker, sole};
+use tests_kit::{only_lane, only_worker, sole};
 
 /// A new shop with its lane, its worker and its closer, and room for what its end is given.
 pub(crate) struct Single<L: JobLine, F: Floor> {

@@ -40,7 +40,12 @@ fn turn(cube: &Cube, station: TreeStation, k: u32) -> (TreeStation, bool)
 }
 
 /// So many turns of a station: how many takes were given.
-pub(crate) fn turns(cube: &Cube, station: TreeStation, sizes: Sizes, count: u64) -> (TreeStation, u64)
+pub(crate) fn turns(
+    cube: &Cube,
+    station: TreeStation,
+    sizes: Sizes,
+    count: u64,
+) -> (TreeStation, u64)
     requires cube { IsStationOf cube.now station }
     requires dim { cube_dim cube.now ≡ DIM }
     ensures { IsStationOf cube.now result.0 }

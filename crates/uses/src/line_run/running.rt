@@ -1,16 +1,16 @@
 // A whole run: two lanes and two passes, each on a thread of its own.
 ghost use Rattle.std.specs.Prelude.{◌≡◌, ℕ, ◌+◌, ◌++◌, [], ◌∷◌, map, length};
 ghost use Rattle.std.specs.List.{All};
-ghost use Rattle.histories.specs.Sums.{total};
+ghost use Rattle.ghost_history.specs.Sums.{total};
 ghost use Rattle.job_types.specs.Job.{JobData};
 ghost use Rattle.job_queue.specs.Record.{fresh_lanes, fresh_passes, job_of};
 ghost use Rattle.job_queue.specs.Line.{IsFor};
 
 use crate::line_run::member::{CloserSlot, Feeder, Naming, Taker};
 use crate::line_run::pair::{Pair, both};
-use crew::SharedLine;
 use job_queue::{JobLine, Opened, QueuedJob, Rest};
 use job_types::Job;
+use shop_threads::SharedLine;
 use std::alloc::Global;
 use std::collections::VecDeque;
 use std::marker::Brand;

@@ -1,7 +1,7 @@
 use denote.Param.Send.{sendable}
 use Rattle.std.proofs.Common.{IfSome, sym, subst}
-use Rattle.tree_floor.proofs.SharedLemmas.{tree_floor_sync}
-use Rattle.cli_words.specs.declared.invocation.Invocation.{Invocation}
+use Rattle.floor_tree.proofs.SharedLemmas.{tree_floor_sync}
+use Rattle.cli_args.specs.declared.invocation.Invocation.{Invocation}
 use Rattle.cli_commands.specs.Program.{IsAnswerTo}
 use Rattle.cli_commands.proofs.RunLemmas.{where_known}
 use Rattle.cli_commands.proofs.answering.answer.Goals as goal

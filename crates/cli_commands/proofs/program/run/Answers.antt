@@ -4,7 +4,7 @@ use Rattle.cli_commands.specs.Program.{IsFaultIn, input_of, output_of}
 use Rattle.cli_commands.proofs.FileLemmas.{ended}
 use Rattle.cli_commands.proofs.ProgramLemmas.{carried_out, explained, may_write, reads_input, shows, shows_help, writes_output}
 use Rattle.cli_commands.proofs.program.run.Goals as goal
-use Rattle.whole_file.specs.Store.{begun_by, held_by}
+use Rattle.atomic_file.specs.Store.{begun_by, held_by}
 
 -- the request was answered, or the reason why it was not is reported
 pub returns-clause-ends : goal.returns-clause-ends

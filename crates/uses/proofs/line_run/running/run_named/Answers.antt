@@ -7,7 +7,7 @@ use Rattle.job_queue.specs.declared.record.PassRecord.{PassRecord}
 use Rattle.job_queue.specs.Record.{fresh_lane, job_of}
 use Rattle.job_queue.specs.Line.{LineId, IsFor}
 use Rattle.job_queue.specs.Run.{WholeRun}
-use Rattle.histories.specs.Sums.{total, times}
+use Rattle.ghost_history.specs.Sums.{total, times}
 use Rattle.uses.proofs.LineRunLemmas.{each_once, first_of_two, second_of_two}
 use Rattle.uses.proofs.line_run.running.run_named.Goals as goal
 
