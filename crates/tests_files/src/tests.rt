@@ -2,8 +2,8 @@
 
 mod any_number;
 mod commands;
-mod devices;
 mod facts;
+mod failing_devices;
 mod faults;
 mod jobs;
 mod meetings;

@@ -1,8 +1,8 @@
 //! Jobs of any number of items: their replies beside plain folds, and a file of mixed sizes.
 
 use crate::tests::commands::{sizes_of, writes_all};
-use crate::tests::devices::push;
 use crate::tests::facts::expect_true;
+use crate::tests::failing_devices::push;
 use crate::tests::jobs::{answered, is_job, made};
 use dispatcher::Plain;
 use job_types::{JobId, Kind, Op, Reply};

@@ -3,8 +3,8 @@
 ghost use Rattle.std.specs.Prelude.{◌≡◌};
 ghost use Rattle.cli_args.specs.CommandLine.{AreShopSizes};
 
-use crate::tests::devices::{FailsAt, add, replies_text};
 use crate::tests::facts::{expect_all, expect_true};
+use crate::tests::failing_devices::{FailsAt, add, replies_text};
 use cli_commands::{place_on, replay_on, report_on, run_on};
 use cube_shape::{MAX_CAPACITY, MAX_DIM, MAX_DISPATCHERS};
 use dispatcher::{Plain, Runner, ShopSizes};

@@ -1,7 +1,7 @@
 //! The texts of faults, names, and which device a fault names.
 
-use crate::tests::devices::{FailsAt, says};
 use crate::tests::facts::{expect_all, expect_true};
+use crate::tests::failing_devices::{FailsAt, says};
 use job_types::JobRefused;
 use jobs_csv::{Counted, Device, Fault, FaultKind, Name};
 use std::alloc::Global;

@@ -4,8 +4,8 @@ ghost use Rattle.std.specs.Prelude.{◌≡◌, ◌<◌, ◌≤◌, length};
 ghost use Rattle.cube_shape.specs.Region.{IsAligned};
 ghost use Rattle.job_types.specs.Dim.{dim_of};
 
-use crate::tests::devices::{push, says};
 use crate::tests::facts::{expect_all, expect_true};
+use crate::tests::failing_devices::{push, says};
 use collectives::Tally;
 use cube_shape::{MAX_DIM, MAX_LANES, Region};
 use job_types::{Job, JobId, JobRefused, Kind, Op, Reply, Request};

@@ -1,8 +1,8 @@
 //! The line of progress: that the output is the same, and that a terminal is as it was in the end.
 
 use crate::tests::commands::{long_file, sizes_of};
-use crate::tests::devices::FailsAt;
 use crate::tests::facts::expect_true;
+use crate::tests::failing_devices::FailsAt;
 use cli_args::{Invocation, ShopOptions};
 use cli_commands::{Task, answer};
 use dispatcher::Plain;

@@ -1,7 +1,7 @@
 //! Files that are read.
 
-use crate::tests::devices::{joined, push};
 use crate::tests::facts::{expect_all, expect_true};
+use crate::tests::failing_devices::{joined, push};
 use crate::tests::jobs::{answered, expect_lane, is_job};
 use job_types::{Job, JobId, Kind, Op, Reply};
 use jobs_csv::{

@@ -1,7 +1,7 @@
 //! Files that are refused, in each of the three formats.
 
-use crate::tests::devices::{FailsAt, add, joined};
 use crate::tests::facts::expect_true;
+use crate::tests::failing_devices::{FailsAt, add, joined};
 use cube_shape::MAX_DIM;
 use job_types::JobRefused;
 use jobs_csv::{Counted, Device, Fault, FaultKind, read_jobs, read_place, read_schedule};

@@ -1,8 +1,8 @@
 //! Rows that are written, and writers that fail.
 
 use crate::tests::commands::tells;
-use crate::tests::devices::{FailsAt, push, replies_text};
 use crate::tests::facts::{expect_all, expect_true};
+use crate::tests::failing_devices::{FailsAt, push, replies_text};
 use crate::tests::jobs::{replies_to, reply_to};
 use crate::tests::readings::{name_of, writes};
 use cube_core::{Event, Kind, Note, Refused};

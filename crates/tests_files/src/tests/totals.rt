@@ -3,8 +3,8 @@
 ghost use Rattle.std.specs.Prelude.{◌≡◌, ◌^◌, ◌+◌, ◌≤◌, IfOk, length};
 ghost use Rattle.floors.specs.Floor.{IsWhollyFree};
 
-use crate::tests::devices::push;
 use crate::tests::facts::expect_true;
+use crate::tests::failing_devices::push;
 use crate::tests::jobs::replies_to;
 use cli_commands::report_rows;
 use cube_ledger::{Ledger, Slip, Totals};

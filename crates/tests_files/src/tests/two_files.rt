@@ -2,8 +2,8 @@
 ghost use Rattle.std.specs.Prelude.{◌≡◌, ◌⊎◌};
 ghost use Rattle.atomic_file.specs.Store.{KeepsFiles};
 
-use crate::tests::devices::push;
 use crate::tests::facts::expect_all;
+use crate::tests::failing_devices::push;
 use atomic_file::{FileFault, FileReason, FileSide, FileStore};
 use cli_commands::program;
 use cli_commands::program::{Console, Ending};

@@ -1,8 +1,8 @@
 //! What good command lines ask for. Bad ones and the helps are seen by running the program.
 
 use crate::tests::commands::sizes_of;
-use crate::tests::devices::push;
 use crate::tests::facts::expect_true;
+use crate::tests::failing_devices::push;
 use cli_args::{FileNames, Invocation, Request, ShopOptions, parse_args};
 use cube_shape::MAX_STATIONS;
 use std::process::Abort;
