@@ -34,7 +34,7 @@ PLACED = ["setarch", "-R"]
 OWN_NAMES = "#include <stdlib.h>\n" + "".join(f"void {it}(void) {{ abort(); }}\n" for it in (
     "*rattle_alloc", "*rattle_realloc", "rattle_dealloc"))
 # What the tree's header states of the memory that machines and stations take.
-STATED = r"(\d+) \* 2\^dim \+ (\d+) \* stations \+ (\d+) bytes in (\d+) blocks for a machine, .* (\d+) bytes in one block"
+STATED = r"(\d+) \* 2\^dim \+ (\d+) \* stations \+ (\d+) bytes in (\d+) blocks for .* (\d+) bytes in one block"
 
 
 def build(crate, after_gate):
@@ -98,7 +98,8 @@ def programs(longer):
             yield Program(CALLS(name), [EXACT], compiler, words=[str(100_000 * min(longer, 10))])
         for name in ("subcubes", "fit"):
             yield Program(f"examples/{name}.c", [EXACT], compiler, shown=f"examples/{name}.out")
-    for compiler, pairs, placed in ((CHECKED, 10_000, ()), (RACES, 500, PLACED), (CLANG, 2000, PLACED), (CXX, 20_000, ())):
+    for compiler, pairs in ((CHECKED, 10_000), (RACES, 500), (CLANG, 2000), (CXX, 20_000)):
+        placed = PLACED if compiler in (RACES, CLANG) else ()
         yield Program(CALLS("tree"), [TREE], compiler, words=[str(pairs * longer)], placed=placed)
     for name in ("threads", "arena"):
         yield Program(f"examples/{name}.c", [TREE], shown=f"examples/{name}.out")
@@ -115,7 +116,8 @@ def rows(room, longer):
     yield Row("a race is seen", must_be_seen, (room, race, b"WARNING: ThreadSanitizer: data race"))
     unmarked = Program(CALLS("tree"), [TREE], [*CLANG, f"-I{room}/unmarked"], [], ["20"], PLACED)
     yield Row("what is not written is seen", must_be_seen, (room, unmarked, b"WARNING: MemorySanitizer"))
-    # A library keeps its names to itself: it is linked whole beside the other one, and beside names of the program's own.
+    # A library keeps its names to itself: it is linked whole beside the other one, and beside names of the program's
+    # own.
     for whole in ([EXACT, TREE], [TREE, EXACT], []):
         both = ["-Wl,--whole-archive", *whole, "-Wl,--no-whole-archive"] if whole else [TREE]
         names = Program("examples/threads.c", both, C, ["-xc", f"{room}/own.c", "-xnone"], shown="examples/threads.out")

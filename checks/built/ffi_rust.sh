@@ -80,8 +80,8 @@ for target in 'linux on aarch64' 'macos on x86_64'; do
 done
 echo "ffi: a Rust program names the package by its path; a missing library or another target is one sentence"
 
-# A package that could not be made leaves no build script that looks for the libraries in that package. Each of these has
-# a folder of its own: where both have one target folder, cargo takes a copy of the package for the package itself.
+# A package that could not be made leaves no build script that looks for the libraries in that package. Each of these
+# has a folder of its own: where both have one target folder, cargo takes a copy of the package for the package itself.
 unset CUBEJOBS_LIB
 export CARGO_TARGET_DIR="$work/failed"
 refused "there is no $work/none/.*" env CUBEJOBS_LIB="$work/none" cargo package --offline --allow-dirty

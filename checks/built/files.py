@@ -197,7 +197,8 @@ class Parts(Files):
         deep = os.path.join(folder, "deep")
         os.mkdir(deep)
         put(os.path.join(deep, "old.csv"), mode=0o640)
-        links = {"link": "deep/old.csv", "second": "link", "none": "deep/new.csv", "far": "near", "near": "deep/newest.csv"}
+        links = {"link": "deep/old.csv", "second": "link", "none": "deep/new.csv", "far": "none2"}
+        links["none2"] = "deep/newest.csv"
         for name, target in links.items():
             os.symlink(target, os.path.join(folder, name))
         for name, target in (("second", "old.csv"), ("none", "new.csv"), ("far", "newest.csv")):

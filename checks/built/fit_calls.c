@@ -166,7 +166,7 @@ static void expect_codes_of_regions(void) {
     expect_answer(cubejobs_fit_take(&fit, 4), CUBEJOBS_BAD_DIMENSION, 0, 0, "dimension 4");
     expect_answer(cubejobs_fit_take(&fit, UINT32_MAX), CUBEJOBS_BAD_DIMENSION, 0, 0, "the worst dimension");
     expect_answer(cubejobs_fit_take(&fit, 2), CUBEJOBS_NO_SUBCUBE, 0, 0, "four processors");
-    expect_answer(cubejobs_fit_take_region(&fit, UINT64_MAX, 4), CUBEJOBS_BAD_DIMENSION, 0, 0, "dimension 4, worst base");
+    expect_answer(cubejobs_fit_take_region(&fit, UINT64_MAX, 4), CUBEJOBS_BAD_DIMENSION, 0, 0, "worst base, 4");
     expect_answer(cubejobs_fit_take_region(&fit, UINT64_MAX, 0), CUBEJOBS_BAD_BASE, 0, 0, "the worst base");
     expect_answer(cubejobs_fit_take_region(&fit, 8, 0), CUBEJOBS_BAD_BASE, 0, 0, "a processor at 8");
     expect_answer(cubejobs_fit_take_region(&fit, 1, 1), CUBEJOBS_BAD_BASE, 0, 0, "a pair at 1");

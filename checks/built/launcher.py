@@ -19,8 +19,9 @@ from checks.lib.repository import crate_names, files_below, path, place, read, w
 from checks.lib.rows import Row, Wrong, methods, must, put, run_rows, title
 
 # What a call needs that finds a program: coreutils. What a build needs besides.
-COREUTILS = "cat chmod cksum cp date dirname env fold id ls mkdir mkfifo mv readlink rm sha256sum sleep tail tsort uname"
-TOOLS = ["sh", "flock", "kill", "sed", *COREUTILS.split()]
+COREUTILS = """cat chmod cksum cp date dirname env fold id ls mkdir mkfifo mv readlink rm sha256sum sleep tail tsort
+    uname""".split()
+TOOLS = ["sh", "flock", "kill", "sed", *COREUTILS]
 # Seconds that a call may take, and the columns of the longest line that it writes.
 PATIENCE, COLUMNS = 10, 80
 # The shells that are here, each of which may be /bin/sh.
@@ -302,7 +303,7 @@ class Situations(Clone):
     def a_release_needs_coreutils_alone(self):
         self.release()
         shutil.rmtree(self.at("out"))
-        for tool in {*TOOLS} - {"sh", *COREUTILS.split()} | {"rt"}:
+        for tool in {*TOOLS} - {"sh", *COREUTILS} | {"rt"}:
             os.remove(f"{self.tools}/{tool}")
         for words in ("run --dim 3", "walk", ""):
             answers(self.run(*words.split()), 0, f"released: {words}\n", [])

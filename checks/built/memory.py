@@ -5,8 +5,8 @@ two after it, and with all after it. The answer must be that of ample memory, or
 error and at most the first lines of the output. A file that is named may be named there, and the output must be whole
 or as it was. A run in which a thread and all later ones cannot be started ends with that fault and no output. No run
 may hang. There must be a thread for each dispatcher, and as many that feed as there are lanes or processors, whichever
-are fewer. Where the second thread that feeds cannot be started, the first one must stop feeding at once.
-`checks/run memory FILE` tries the program FILE, with gcc.
+are fewer. Where the second thread that feeds cannot be started, the first one must stop feeding at once. `checks/run
+memory FILE` tries the program FILE, with gcc.
 """
 import os
 import subprocess

@@ -3,8 +3,8 @@
 A long run shows how many records are read and how many replies are done, in one line that is wiped at the end; all else
 is as in a run with `--quiet`. Nothing is shown for short work, with `--quiet`, where TERM is dumb, and where standard
 error is no terminal. A terminal that nobody reads, or that is stopped, holds up a run by a second at most. With a
-terminal as standard input each command says in one line what it waits for.
-`checks/run progress FILE` tries the program FILE.
+terminal as standard input each command says in one line what it waits for. `checks/run progress FILE` tries the program
+FILE.
 """
 import contextlib
 import os
@@ -16,7 +16,7 @@ import threading
 import time
 import tty
 
-from checks.lib.rows import Row, Wrong, answer, must, run_rows, title
+from checks.lib.rows import Row, Wrong, answer, methods, must, run_rows, title
 from checks.lib.toolchain import program
 
 ENVIRONMENT = {**os.environ, "TERM": "xterm"}
@@ -135,77 +135,77 @@ def must_be_wiped(got, wanted, count):
     must(screen(sent) == [""], f"the terminal shows {screen(sent)}")
 
 
-def long_work(command):
-    given = jobs(LONG)
-    wanted = answer([*command, "--quiet"], given)
-    must(wanted[0] == 0 and len(wanted[1]) > 100 and wanted[2] == b"", "a run with --quiet fails")
-    must(answer(command, given) == wanted, "standard error is a file, and the answer is another one")
-    must_be_wiped(on_terminal(command, given), wanted, LONG)
-    for words, env, when in ((["--quiet"], {}, "with --quiet"), ([], {"TERM": "dumb"}, "where TERM is dumb")):
-        status, out, sent = on_terminal([*command, *words], given, env=env)
-        must((status, out) == wanted[:2] and sent == b"", f"{when} the terminal is sent {sent[:60]}")
+class Parts:
+    """What is tried of `run` and of `report`: each method is a row."""
 
+    def __init__(self, built, name):
+        self.command = [built, name, "--dim", "3", "--dispatchers", "4"]
 
-def slow_input(command):
-    lines = jobs(SOME).splitlines(keepends=True)
-    cuts = [0, 1001, 2501, 2502, len(lines)]
-    parts = [b"".join(lines[start:end]) for start, end in zip(cuts, cuts[1:])]
-    got = slow_answer(command, parts, [b"\r%d records read" % (end - 1) for end in cuts[1:-1]])
-    must_be_wiped(got, answer(command, jobs(SOME)), SOME)
+    def long_work(self):
+        given = jobs(LONG)
+        wanted = answer([*self.command, "--quiet"], given)
+        must(wanted[0] == 0 and len(wanted[1]) > 100 and wanted[2] == b"", "a run with --quiet fails")
+        must(answer(self.command, given) == wanted, "standard error is a file, and the answer is another one")
+        must_be_wiped(on_terminal(self.command, given), wanted, LONG)
+        for words, env, when in ((["--quiet"], {}, "with --quiet"), ([], {"TERM": "dumb"}, "where TERM is dumb")):
+            status, out, sent = on_terminal([*self.command, *words], given, env=env)
+            must((status, out) == wanted[:2] and sent == b"", f"{when} the terminal is sent {sent[:60]}")
 
+    def slow_input(self):
+        lines = jobs(SOME).splitlines(keepends=True)
+        cuts = [0, 1001, 2501, 2502, len(lines)]
+        parts = [b"".join(lines[start:end]) for start, end in zip(cuts, cuts[1:])]
+        got = slow_answer(self.command, parts, [b"\r%d records read" % (end - 1) for end in cuts[1:-1]])
+        must_be_wiped(got, answer(self.command, jobs(SOME)), SOME)
 
-def one_terminal(command):
-    given = jobs(LONG)
-    _, _, wanted = on_terminal([*command, "--quiet"], given, with_output=True)
-    status, _, sent = on_terminal(command, given, with_output=True)
-    must(status == 0 and COUNTED.search(sent), "nothing is shown")
-    must(screen(sent) == screen(wanted), "the terminal shows something else after the run")
+    def one_terminal(self):
+        given = jobs(LONG)
+        _, _, wanted = on_terminal([*self.command, "--quiet"], given, with_output=True)
+        status, _, sent = on_terminal(self.command, given, with_output=True)
+        must(status == 0 and COUNTED.search(sent), "nothing is shown")
+        must(screen(sent) == screen(wanted), "the terminal shows something else after the run")
 
+    def refused_file(self):
+        lines = jobs(SOME, "0,scan,plus,0,4\n").splitlines(keepends=True)
+        parts = [b"".join(lines[: LEAST + 1]), b"".join(lines[LEAST + 1 :])]
+        line = f"refused: record {SOME + 1}: Word"
+        status, out, sent = slow_answer(self.command, parts, [b"\r%d records read" % LEAST])
+        must((status, out) == (1, b"") and COUNTED.search(sent), f"status {status}, terminal {sent[-60:]}")
+        must(screen(sent) == [line, ""], f"the terminal shows {screen(sent)}")
+        must(answer(self.command, b"".join(lines)) == (1, b"", f"{line}\n".encode()), "a file gets another line")
 
-def refused_file(command):
-    lines = jobs(SOME, "0,scan,plus,0,4\n").splitlines(keepends=True)
-    parts = [b"".join(lines[: LEAST + 1]), b"".join(lines[LEAST + 1 :])]
-    line = f"refused: record {SOME + 1}: Word"
-    status, out, sent = slow_answer(command, parts, [b"\r%d records read" % LEAST])
-    must((status, out) == (1, b"") and COUNTED.search(sent), f"status {status}, terminal {sent[-60:]}")
-    must(screen(sent) == [line, ""], f"the terminal shows {screen(sent)}")
-    must(answer(command, b"".join(lines)) == (1, b"", f"{line}\n".encode()), "a file gets another line")
+    def short_work(self):
+        given = jobs(LEAST - 1)
+        status, out, sent = on_terminal(self.command, given)
+        must((status, out) == answer(self.command, given)[:2] and sent == b"", f"status {status}, terminal {sent[:60]}")
 
+    def lost_terminal(self):
+        given = jobs(SOME)
+        master, slave = pty.openpty()
+        os.close(master)
+        status, out, _ = answer(self.command, given, stderr=slave, env=ENVIRONMENT)
+        os.close(slave)
+        must((status, out) == answer(self.command, given)[:2], f"status {status}")
 
-def short_work(command):
-    given = jobs(LEAST - 1)
-    status, out, sent = on_terminal(command, given)
-    must((status, out) == answer(command, given)[:2] and sent == b"", f"status {status}, terminal {sent[:60]}")
-
-
-def lost_terminal(command):
-    given = jobs(SOME)
-    master, slave = pty.openpty()
-    os.close(master)
-    status, out, _ = answer(command, given, stderr=slave, env=ENVIRONMENT)
-    os.close(slave)
-    must((status, out) == answer(command, given)[:2], f"status {status}")
-
-
-def unread_terminal(command):
-    """Nobody reads the terminal, which takes no more. The run ends all the same: its line waits from the first records
-    on, and the other records and all replies do not."""
-    lines = jobs(SOME).splitlines(keepends=True)
-    terminal = Terminal()
-    terminal.fill()
-    started = terminal.start(command, stdin=subprocess.PIPE)
-    try:
-        started.stdin.write(b"".join(lines[: LEAST + 1]))
-        started.stdin.flush()
-        time.sleep(1)
-        out, _ = started.communicate(b"".join(lines[LEAST + 1 :]), timeout=30)
-    except subprocess.TimeoutExpired:
-        started.kill()
-        raise Wrong("a run waits for a terminal that nobody reads") from None
-    finally:
-        terminal.close()
-    wanted = answer(command, b"".join(lines))[:2]
-    must((started.returncode, out) == wanted, f"status {started.returncode}, and {len(out)} bytes of output")
+    def unread_terminal(self):
+        """Nobody reads the terminal, which takes no more. The run ends all the same: its line waits from the first
+        records on, and the other records and all replies do not."""
+        lines = jobs(SOME).splitlines(keepends=True)
+        terminal = Terminal()
+        terminal.fill()
+        started = terminal.start(self.command, stdin=subprocess.PIPE)
+        try:
+            started.stdin.write(b"".join(lines[: LEAST + 1]))
+            started.stdin.flush()
+            time.sleep(1)
+            out, _ = started.communicate(b"".join(lines[LEAST + 1 :]), timeout=30)
+        except subprocess.TimeoutExpired:
+            started.kill()
+            raise Wrong("a run waits for a terminal that nobody reads") from None
+        finally:
+            terminal.close()
+        wanted = answer(self.command, b"".join(lines))[:2]
+        must((started.returncode, out) == wanted, f"status {started.returncode}, and {len(out)} bytes of output")
 
 
 # What is typed to each command, what it says before, and what it answers.
@@ -247,12 +247,10 @@ def typed_input(built, words, typed, said, wanted):
     must(status == 2 and out == "" and "waiting" not in err, f"a bad command line says {err}")
 
 
-PARTS = (long_work, slow_input, one_terminal, refused_file, short_work, lost_terminal, unread_terminal)
-
-
 def main(words):
-    built = program(words)
-    commands = {name: [built, name, "--dim", "3", "--dispatchers", "4"] for name in ("run", "report")}
-    rows = [Row(f"{name}: {title(part)}", part, (command,)) for name, command in commands.items() for part in PARTS]
+    built, rows = program(words), []
+    for name in ("run", "report"):
+        parts = Parts(built, name)
+        rows += [Row(f"{name}: {title(part)}", part, (parts,)) for part in methods(Parts)]
     rows += [Row(f"{words}: typed input", typed_input, (built, words, *typed)) for words, typed in TYPED.items()]
     return run_rows("progress", rows)

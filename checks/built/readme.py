@@ -2,8 +2,8 @@
 relative link of these, of CONTRIBUTING.md and of the pages on calling.
 
 The commands run in a copy of this repository without what was made in it, on a PATH with no `rt`, with the program and
-libraries of FOLDER as those of release/: `checks/run readme FOLDER`. A line `..` is for all that
-follows. A line whose compiler is not there is passed over, and named.
+libraries of FOLDER as those of release/: `checks/run readme FOLDER`. A line `..` is for all that follows. A line whose
+compiler is not there is passed over, and named.
 """
 import glob
 import hashlib

@@ -4,8 +4,8 @@ The program `cube_bench memory` makes calls one after the other, and after each 
 what came back. Each of its requests for memory is refused in turn, then each and the two after it, then each and all
 after it. A call must say OutOfMemory exactly where one of its own requests was refused, and give back what it got: all
 items of a job, all stations of a cube, all replies that a worker has. A call that is to take no memory makes no
-request. In the end the program must hold as many blocks of memory as in the beginning.
-`checks/run refusals FILE` tries the program FILE, with gcc.
+request. In the end the program must hold as many blocks of memory as in the beginning. `checks/run refusals FILE` tries
+the program FILE, with gcc.
 """
 import os
 import tempfile

@@ -48,8 +48,8 @@ EVERYWHERE = re.compile(
 )
 PREFIXES = re.compile(r"(?:(?:lock|repn?z?|repnz|bnd|notrack|data16|addr32|[cdefgs]s|rex(?:\.\w+)?)\s+)*")
 # Some that a processor may lack, of SSE3, SSSE3, SSE4, AVX, BMI and others.
-LACKED = """haddps addsubps lddqu fisttp pshufb palignr pabsd ptest pextrq pextrd extractps pcmpeqq pcmpgtq pmaxsd blendvpd
-    roundsd crc32 popcnt lzcnt tzcnt andn bextr mulx shlx rorx movbe cmpxchg16b lahf vaddps vpxor movntdqa pmuldq
+LACKED = """haddps addsubps lddqu fisttp pshufb palignr pabsd ptest pextrq pextrd extractps pcmpeqq pcmpgtq pmaxsd
+    blendvpd roundsd crc32 popcnt lzcnt tzcnt andn bextr mulx shlx rorx movbe cmpxchg16b lahf vaddps vpxor movntdqa pmuldq
     packusdw""".split()
 # pcmpeqq of two registers, an instruction of SSE4.1.
 NOT_EVERYWHERE = bytes.fromhex("660f3829c1")

@@ -1,5 +1,5 @@
-/* Refuses each request for memory in turn: the call answers OUT_OF_MEMORY and changes nothing, nothing is left over once
- * all has been closed, and a take, a release and the read-outs ask for none. Then counts what machines and stations
+/* Refuses each request for memory in turn: the call answers OUT_OF_MEMORY and changes nothing, nothing is left over
+ * once all has been closed, and a take, a release and the read-outs ask for none. Then counts what machines and stations
  * take: `tree_memory NODE STATION MORE BLOCKS SEAT` has the bytes for 2^dim, for a station and besides, the blocks of a
  * machine, and the bytes of a station that has its handle. It is linked with --wrap=malloc and --wrap=free. */
 #include "cubejobs_tree.h"

@@ -159,8 +159,8 @@ def edits_of(crate, texts, folder=None):
 
 
 def batches_of(edits, crate, texts):
-    """Returns the mutants in as few checks as can be: first those that no copy can hold, then each in place of what
-    it changes, and then copies."""
+    """Returns the mutants in as few checks as can be: first those that no copy can hold, then each in place of what it
+    changes, and then copies."""
     batches, left = [], []
     bound = [it for it in edits if not as_a_copy(it, 0, crate, texts)]
     for edit in [*bound, *(it for it in edits if it not in bound)]:

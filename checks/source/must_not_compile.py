@@ -4,8 +4,8 @@ Handles of a running tree cannot be dropped or used twice. Its calls are lent no
 taken. Of the line with no lock, an end can be had only from a pop that found the ring empty after a reading that sealed
 the line; an entry can be settled only by what its push answered, and a push wants an entry that came before the close.
 A caller reads the end of a worker and the close note of a shop, and can neither make nor change one. Nothing is proved
-of these functions: a check that is asked for none reads the crate and holds it to the types.
-`checks/run must_not_compile [--after-gate]` takes the libraries below as `rt ci` has left them, or builds them first.
+of these functions: a check that is asked for none reads the crate and holds it to the types. `checks/run
+must_not_compile [--after-gate]` takes the libraries below as `rt ci` has left them, or builds them first.
 """
 import copy
 import re

@@ -7,10 +7,9 @@ pass on a definition of a crate below that its public clauses cite (`pub use` in
 its module); and where what the theorem or the program reaches has more lines than its budget. The definitions that no
 public contract reaches belong among the proofs, or into a folder `inner` or a file `Inner*.antt`.
 
-  checks/run surface                  the table, and what fails
-  checks/run surface --list CRATE     the crate's definitions of the closure, each after those that it cites
-  checks/run surface --missing        the definitions that docs/DEFINITIONS.md does not name
-  checks/run surface --unreached      the definitions that no public contract reaches
+checks/run surface the table, and what fails checks/run surface --list CRATE the crate's definitions of the closure,
+each after those that it cites checks/run surface --missing the definitions that docs/DEFINITIONS.md does not name
+checks/run surface --unreached the definitions that no public contract reaches
 
 The invariants of types with a model count with `--invariants` alone: no caller sees the private fields of which they
 speak. Nor do the proofs that an `impl` gives for the laws of its trait: the law itself counts, in the trait.

@@ -3,9 +3,9 @@
 Each file of checks/source/wrong-events is a change, written as a mutant is: it puts a wrong event into the definition,
 the code and the table of moves alike, so that the code meets the definition again. Its first lines name the functions
 that hold the event (`code:`) and the lemmas that must refuse it (`refused by:`). This check fails where such a function
-is not proved, unless it only calls what stands on the law; where the law still is proved; or where anything else
-than these lemmas and what stands on them is refused. Each event stands in a copy of the crate, and all copies in one
-check. `checks/run wrong_events [--after-gate]` takes the libraries below as `rt ci` has left them, or builds them.
+is not proved, unless it only calls what stands on the law; where the law still is proved; or where anything else than
+these lemmas and what stands on them is refused. Each event stands in a copy of the crate, and all copies in one check.
+`checks/run wrong_events [--after-gate]` takes the libraries below as `rt ci` has left them, or builds them.
 """
 import copy
 import re

@@ -31,7 +31,8 @@ PLACES = {
         "6",
         [f"take,{at},1,{2 * at},given" for at in range(16)] + [f"take,{at},0,{16 + at},given" for at in range(16, 48)]
         + """take,x,0,-,nostation take,x,6,-,nostation take,3,0,-,held take,3,6,-,held free,x,-,-,nothingheld
-        free,20,0,36,freed take,x,1,-,nosubcube take,x,0,36,given take,y,0,-,nostation free,47,0,63,freed take,47,0,63,given""".split(),
+        free,20,0,36,freed take,x,1,-,nosubcube take,x,0,36,given take,y,0,-,nostation free,47,0,63,freed
+        take,47,0,63,given""".split(),
     ),
     # against names that are cut short, and names that are taken for numbers
     "names of 15 and 16 letters": ("2",

@@ -5,8 +5,8 @@ from checks.lib.rows import Row
 
 
 def totals(lanes, dims, total):
-    """Returns the rows of a report, with counts worked by hand: lanes and dimensions with their counts,
-    processors and idle ones, and what is free in a machine that is as large as the dimensions say."""
+    """Returns the rows of a report, with counts worked by hand: lanes and dimensions with their counts, processors and
+    idle ones, and what is free in a machine that is as large as the dimensions say."""
     size = len(dims) - 1
     rows = [f"lane,{lane},{counts}" for lane, counts in enumerate(lanes)]
     rows += [f"dim,{dim},{counts}" for dim, counts in enumerate(dims)]
