@@ -9,8 +9,8 @@ use Rattle.cli_commands.specs.declared.files.CommandError.TheVariants as error
 use Rattle.cli_commands.specs.declared.program.Ending.{Ending}
 use Rattle.cli_commands.specs.declared.program.Ending.TheVariants as ending
 use Rattle.cli_commands.specs.Inner.Ending.{EndsAfter, EndsWith}
-use Rattle.cli_commands.specs.Inner.Files.{EndsIn, IfFault, IfFile, IsOutcome, IsSettled}
-use Rattle.cli_commands.specs.Program.{IsAnswerTo, IsFaultIn, IsFaultOf, names}
+use Rattle.cli_commands.specs.Inner.Files.{EndsIn, IfFault, IfFile, IsOutcome, IsSettled, StopsBeforeWriting}
+use Rattle.cli_commands.specs.Program.{EndsBeforeWriting, IsAnswerTo, IsFaultIn, IsFaultOf, names}
 use Rattle.atomic_file.specs.Store.{KeepsFiles, KeepsOthers, begun_by, held_by}
 use Rattle.atomic_file.specs.declared.file_fault.FileFault.{FileFault}
 use Rattle.atomic_file.specs.declared.file_fault.FileReason.{FileReason}
@@ -41,7 +41,7 @@ same_fault (Place n) (Some b) old new begun held fault is = is
 same_fault (Replay n stations) (Some b) old new begun held fault is = is
 
 -- the counts are those of the file that is read, not the reader's
-of_file : (name : Text) (output : Option Text) (file_before file_after rb ra wb wa : ℕ) (invocation : Invocation) (result : Result (Unit {0}) CommandError) → IfErr result (λ s. IfFault s (IsFaultIn None output file_before file_after wb wa invocation)) → IfErr result (λ s. IfFault s (IsFaultIn (Some name) output rb ra wb wa invocation))
+of_file : (name : Text) (output : Option Text) (file_before file_after rb ra wb wa : ℕ) (invocation : Invocation) (result : Result (Unit {0}) CommandError) → IfErr result (λ s. IfFault s (IsFaultIn file_before file_after wb wa None output invocation)) → IfErr result (λ s. IfFault s (IsFaultIn rb ra wb wa (Some name) output invocation))
 of_file name output file_before file_after rb ra wb wa invocation (Ok done) is = tt
 of_file name output file_before file_after rb ra wb wa invocation (Err (error.File fault)) is = tt
 of_file name output file_before file_after rb ra wb wa invocation (Err (error.Fault fault)) is = record {
@@ -184,7 +184,13 @@ not_opened fresh store read writer_old writer_new rb ra wb wa input output name 
 -- ---- how a call ends after it
 
 -- by the result of its request, which is reported
-pub ended : (fresh : Option (List ℕ)) (store_old store_new : List ℕ → Option (List ℕ)) (read writer_old writer_new : Option (List ℕ)) (rb ra wb wa : ℕ) (input output : Option Text) (invocation : Invocation) (result : Result (Unit {0}) CommandError) (end : Ending) → EndsWith result end → IsOutcome fresh store_old store_new read writer_old writer_new rb ra wb wa input output invocation result → EndsAfter invocation read (begun_by fresh writer_old output) (held_by store_new writer_new output) (IsFaultIn input output rb ra wb wa invocation) (names input output) end
-ended fresh store_old store_new read writer_old writer_new rb ra wb wa input output invocation (Ok done) end is outcome = subst (EndsAfter invocation read (begun_by fresh writer_old output) (held_by store_new writer_new output) (IsFaultIn input output rb ra wb wa invocation) (names input output)) (sym is) outcome.answered
-ended fresh store_old store_new read writer_old writer_new rb ra wb wa input output invocation (Err (error.Fault fault)) end (is_reported, is) outcome = subst (EndsAfter invocation read (begun_by fresh writer_old output) (held_by store_new writer_new output) (IsFaultIn input output rb ra wb wa invocation) (names input output)) (sym is) (outcome.answered, outcome.failed)
-ended fresh store_old store_new read writer_old writer_new rb ra wb wa input output invocation (Err (error.File fault)) end (is_reported, is) outcome = subst (EndsAfter invocation read (begun_by fresh writer_old output) (held_by store_new writer_new output) (IsFaultIn input output rb ra wb wa invocation) (names input output)) (sym is) outcome.side
+pub ended : (fresh : Option (List ℕ)) (store_old store_new : List ℕ → Option (List ℕ)) (read writer_old writer_new : Option (List ℕ)) (rb ra wb wa : ℕ) (input output : Option Text) (invocation : Invocation) (result : Result (Unit {0}) CommandError) (end : Ending) → EndsWith result end → IsOutcome fresh store_old store_new read writer_old writer_new rb ra wb wa input output invocation result → EndsAfter invocation read (begun_by fresh writer_old output) (held_by store_new writer_new output) (IsFaultIn rb ra wb wa input output invocation) (names input output) end
+ended fresh store_old store_new read writer_old writer_new rb ra wb wa input output invocation (Ok done) end is outcome = subst (EndsAfter invocation read (begun_by fresh writer_old output) (held_by store_new writer_new output) (IsFaultIn rb ra wb wa input output invocation) (names input output)) (sym is) outcome.answered
+ended fresh store_old store_new read writer_old writer_new rb ra wb wa input output invocation (Err (error.Fault fault)) end (is_reported, is) outcome = subst (EndsAfter invocation read (begun_by fresh writer_old output) (held_by store_new writer_new output) (IsFaultIn rb ra wb wa input output invocation) (names input output)) (sym is) (outcome.answered, outcome.failed)
+ended fresh store_old store_new read writer_old writer_new rb ra wb wa input output invocation (Err (error.File fault)) end (is_reported, is) outcome = subst (EndsAfter invocation read (begun_by fresh writer_old output) (held_by store_new writer_new output) (IsFaultIn rb ra wb wa input output invocation) (names input output)) (sym is) outcome.side
+
+-- and where it ends before it writes, so does its request
+pub ended_before : (P : Type 0) (result : Result (Unit {0}) CommandError) (end : Ending) → EndsWith result end → IfErr result (λ s. StopsBeforeWriting s → P) → EndsBeforeWriting end → P
+ended_before P (Ok done) end is stops before = absurd (subst EndsBeforeWriting is before)
+ended_before P (Err (error.Fault fault)) end (is_reported, is) stops before = stops (subst EndsBeforeWriting is before)
+ended_before P (Err (error.File fault)) end (is_reported, is) stops before = stops tt

@@ -10,7 +10,7 @@ ghost use Rattle.cli_args.specs.CommandLine.{IsWithinLimits, program_app};
 ghost use Rattle.cli_commands.specs.Answer.{IsMetBeforeWriting};
 ghost use Rattle.cli_commands.specs.Inner.Ending.{EndsOn, EndsWith, IsShown};
 ghost use Rattle.cli_commands.specs.Inner.Files.{IsOutcome, StopsBeforeWriting};
-ghost use Rattle.cli_commands.specs.Program.{AsksForInput, AsksForOutput, AsksForProgress, EndsBy, IsFaultIn, MayWrite, ReportsFile, ShowsProgress, exit_status, file_line, input_of, name_of, output_of};
+ghost use Rattle.cli_commands.specs.Program.{AsksForInput, AsksForOutput, AsksForProgress, EndsBeforeWriting, EndsBy, IsFaultIn, MayWrite, ReportsFault, ReportsFileFault, ShowsProgress, exit_status, file_line, input_of, name_of, output_of};
 ghost use Rattle.atomic_file.specs.Store.{KeepsFiles, KeepsOthers, begun_by, held_by};
 ghost use Rattle.atomic_file.specs.declared.file_fault.FileFault.{FileFault as TheFileFault};
 
@@ -106,8 +106,7 @@ fn report_file<E: Write>(file: FileFault, name: &Option<String>, errors: &mut E)
 // Reports in one line why a request was not answered.
 fn report<E: Write>(answer: Result<(), CommandError>, files: &FileNames, errors: &mut E) -> Ending
     ensures ends { EndsWith answer result }
-    ensures line { (fault : TheFault) → result ≡ Ending.Failed fault true
-        → Appends (E.contents errors.old) (E.contents errors.new) (fault_text fault ++ 10 ∷ []) }
+    ensures line { ReportsFault result (E.contents errors.old) (E.contents errors.new) }
     ensures file_line { (fault : TheFileFault) → result ≡ Ending.FileFailed fault true
         → Appends (E.contents errors.old) (E.contents errors.new)
         (file_line (name_of (option_map string_bytes files.now.input)
@@ -224,8 +223,7 @@ fn announce<Q: Write>(request: &Request, prompt: &mut Option<Q>)
 fn show<W: Write + Device, E: Write>(error: &clap::Error, writer: &mut W, errors: &mut E) -> Ending
     ensures shown { (result ≡ Ending.Done) ⊎ ((is_reported : Bool) × (result ≡ Ending.Failed
         (attribute FaultKind.Write (W.failures writer.old) (W.failures writer.new)) is_reported)) }
-    ensures line { (fault : TheFault) → result ≡ Ending.Failed fault true
-        → Appends (E.contents errors.old) (E.contents errors.new) (fault_text fault ++ 10 ∷ []) }
+    ensures line { ReportsFault result (E.contents errors.old) (E.contents errors.new) }
     ensures quiet { result ≡ Ending.Done → errors.new ≡ errors.old }
 {
     let failures_before = writer.failures();
@@ -248,8 +246,7 @@ fn explain<W: Write + Device, E: Write>(
     ensures untouched { (fault : TheFault) (is_reported : Bool)
         → result ≡ Ending.Failed fault is_reported → IsMetBeforeWriting fault → writer.new ≡ writer.old }
     ensures aside { (writer.new ≡ writer.old) ⊎ IsShown (kind_of error.now) }
-    ensures line { (fault : TheFault) → result ≡ Ending.Failed fault true
-        → Appends (E.contents errors.old) (E.contents errors.new) (fault_text fault ++ 10 ∷ []) }
+    ensures line { ReportsFault result (E.contents errors.old) (E.contents errors.new) }
     ensures quiet { result ≡ Ending.Done → errors.new ≡ errors.old }
     ensures rejected { result ≡ Ending.Rejected → writer.new ≡ writer.old }
 {
@@ -291,18 +288,14 @@ where
         (held_by (S.bytes store.old) (R.remaining console.old.reader))
         (begun_by S.fresh (W.contents console.old.writer))
         (held_by (S.bytes store.new) (W.contents console.new.writer))
-        (λ input output. IsFaultIn input output
-        (R.failures console.old.reader) (R.failures console.new.reader)
+        (IsFaultIn (R.failures console.old.reader) (R.failures console.new.reader)
         (W.failures console.old.writer) (W.failures console.new.writer)) result }
-    ensures line { (fault : TheFault) → result ≡ Ending.Failed fault true → Appends
-        (E.contents console.old.errors) (E.contents console.new.errors)
-        (fault_text fault ++ 10 ∷ []) }
-    ensures file_line { (fault : TheFileFault) → result ≡ Ending.FileFailed fault true
-        → ReportsFile (map string_bytes words.now) fault
+    ensures line { ReportsFault result
+        (E.contents console.old.errors) (E.contents console.new.errors) }
+    ensures file_line { ReportsFileFault (map string_bytes words.now) result
         (E.contents console.old.errors) (E.contents console.new.errors) }
     ensures quiet { result ≡ Ending.Done → console.new.errors ≡ console.old.errors }
-    ensures rejected { result ≡ Ending.Rejected → (console.new.reader ≡ console.old.reader)
-        × (console.new.writer ≡ console.old.writer) }
+    ensures rejected { result ≡ Ending.Rejected → console.new.reader ≡ console.old.reader }
     ensures others { (name : Option (List ℕ)) × MayWrite (map string_bytes words.now) name
         × KeepsOthers name (S.bytes store.old) (S.bytes store.new) }
     ensures kept { (result ≡ Ending.Done) ⊎ KeepsFiles (S.bytes store.old) (S.bytes store.new) }
@@ -310,12 +303,7 @@ where
         ⊎ AsksForProgress (map string_bytes words.now) }
     ensures prompted { (console.new.prompt ≡ console.old.prompt)
         ⊎ AsksForInput (map string_bytes words.now) }
-    ensures untouched { (fault : TheFault) (is_reported : Bool)
-        → result ≡ Ending.Failed fault is_reported → IsMetBeforeWriting fault
-        → console.new.writer ≡ console.old.writer }
-    ensures no_file { (fault : TheFileFault) (is_reported : Bool)
-        → result ≡ Ending.FileFailed fault is_reported
-        → console.new.writer ≡ console.old.writer }
+    ensures untouched { EndsBeforeWriting result → console.new.writer ≡ console.old.writer }
     ensures aside { (console.new.writer ≡ console.old.writer)
         ⊎ AsksForOutput (map string_bytes words.now) }
     ensures unread { (console.new.reader ≡ console.old.reader)

@@ -37,7 +37,7 @@ EndsIn invocation read old new (Err (error.File fault)) = ⊤
 -- the writer holds; and the counts of failed calls of the reader and of the writer
 pub record IsOutcome (fresh : Option (List ℕ)) (store_old store_new : List ℕ → Option (List ℕ)) (read writer_old writer_new : Option (List ℕ)) (read_before read_after write_before write_after : ℕ) (input output : Option Text) (invocation : Invocation) (result : Result (Unit {0}) CommandError) : Type 0 where
   pub answered : EndsIn invocation read (begun_by fresh writer_old output) (held_by store_new writer_new output) result
-  pub failed : IfErr result (λ s. IfFault s (IsFaultIn input output read_before read_after write_before write_after invocation))
+  pub failed : IfErr result (λ s. IfFault s (IsFaultIn read_before read_after write_before write_after input output invocation))
   pub side : IfErr result (λ s. IfFile s (λ file. names input output file.side ≡ true))
   pub others : KeepsOthers output store_old store_new
   pub kept : IfErr result (λ s. KeepsFiles store_old store_new)
