@@ -10,6 +10,17 @@ from typing import NamedTuple
 BENCH = os.path.dirname(os.path.realpath(__file__))
 ROOT = os.path.dirname(BENCH)
 TURNS = 7
+# The numbers of dispatchers, the places of a queue, and the inputs by which the settings of `run` are measured: the
+# dimension of the machine, what kind of jobs, how many, the number of items of each, and the number of lanes.
+DISPATCHERS = (1, 2, 4)
+CAPACITIES = (16, 1_024)
+SETTING_INPUTS = (
+    (3, "allreduce", 1_000_000, 1, 1),
+    (3, "allreduce", 1_000_000, 1, 16),
+    (4, "scan", 300_000, 16, 16),
+    (6, "scan", 100_000, 64, 4),
+    (10, "scan", 20_000, 1_024, 4),
+)
 
 
 class Cost(NamedTuple):

@@ -6,7 +6,7 @@ Both make the same turns of one station on one thread, on a machine of dimension
 through the library, and `cube_bench tree` through `cube_tree`. A run is so long that its start does not count. They run in
 turn, and of each the least processor time of all rounds is taken: nanoseconds a pair.
 
-`bench/boundary.py ARCHIVE` takes the library as one file to link (checks/archive makes it). It needs gcc, and the program
+`bench/boundary.py ARCHIVE` takes the library as one file to link (`checks/run archive` makes it). It needs gcc, and the program
 `cube_bench`, proved and built: `cd crates/cube_bench && rt run`.
 """
 import os

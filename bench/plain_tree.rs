@@ -55,7 +55,7 @@ impl Words {
             self.words[at].fetch_and(USE_BITS, SeqCst);
             if self.words[at].fetch_or(side, SeqCst) & OCCUPIED != 0 {
                 self.words[node].store(0, SeqCst);
-                self.tidy_up(station, node);
+                self.clear_path(station, node);
                 return false;
             }
             child = at;
@@ -63,18 +63,18 @@ impl Words {
         true
     }
 
-    fn tidy_up(&self, station: u32, node: usize) {
+    fn clear_path(&self, station: u32, node: usize) {
         let mut at = node;
         while at > 1 {
             at /= 2;
-            if !self.tidy(station, at) {
+            if !self.clear_ancestor(station, at) {
                 return;
             }
         }
     }
 
     /// Clears one ancestor: whether it became free by that.
-    fn tidy(&self, station: u32, at: usize) -> bool {
+    fn clear_ancestor(&self, station: u32, at: usize) -> bool {
         self.words[at].fetch_and(USE_BITS, SeqCst);
         let found = self.words[at].fetch_or(mark_of(station), SeqCst);
         if found & OCCUPIED != 0 {
@@ -103,7 +103,7 @@ impl Machine for Words {
 
     fn release(&self, station: u32, node: usize) {
         self.words[node].store(0, SeqCst);
-        self.tidy_up(station, node);
+        self.clear_path(station, node);
     }
 }
 

@@ -1,4 +1,4 @@
-//! The allocation bits of a hypercube machine, for one thread.
+//! A first-fit allocator of aligned power-of-two blocks for one thread (`AllocBits`).
 //!
 //! The buddy strategy of Chen and Shin ("Processor Allocation in an N-Cube Multiprocessor Using
 //! Gray Codes", IEEE Transactions on Computers, 1987) keeps an allocation bit for each processor.

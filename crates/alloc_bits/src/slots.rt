@@ -9,7 +9,7 @@ use cube_shape::Region;
 use region_bits::MAX_BITS_DIM;
 
 /// The region of a station, if it holds one.
-pub fn region_of(slots: &[Option<Region>], station: u32) -> Option<Region>
+pub(crate) fn region_of(slots: &[Option<Region>], station: u32) -> Option<Region>
     ensures { result ≡ slot_of slots.now station }
 {
     slots.get(station as usize).copied().flatten()
@@ -17,14 +17,14 @@ pub fn region_of(slots: &[Option<Region>], station: u32) -> Option<Region>
 
 /// Whether no station holds a region.
 #[tactic(auto, using(std::proofs::lemmas::List::get_or_past))]
-pub fn all_empty(slots: &[Option<Region>]) -> bool
+pub(crate) fn all_empty(slots: &[Option<Region>]) -> bool
     ensures { IsTrue result ↔ ((s : ℕ) → slot_of slots.now s ≡ None) }
 {
     slots.iter().all(|slot| slot.is_none())
 }
 
 /// The station whose region has a processor, the first if there are several.
-pub fn holder_of(slots: &[Option<Region>], processor: u64) -> Option<u32>
+pub(crate) fn holder_of(slots: &[Option<Region>], processor: u64) -> Option<u32>
     requires count { length slots.now < 2 ^ 32 }
     requires limits { (s : ℕ) (a : HeldRegion) → slot_of slots.now s ≡ Some a → a.dim ≤ MAX_BITS_DIM }
     ensures held { IfSome result (λ s. (a : HeldRegion) × (slot_of slots.now s ≡ Some a)
@@ -51,7 +51,7 @@ fn covers(region: Region, processor: u64) -> bool
 }
 
 /// Gives a station a region, or takes its region away.
-pub fn set_slot(slots: &mut [Option<Region>], station: u32, region: Option<Region>)
+pub(crate) fn set_slot(slots: &mut [Option<Region>], station: u32, region: Option<Region>)
     requires { station < length slots.old }
     ensures len { length slots.new ≡ length slots.old }
     ensures own { slot_of slots.new station ≡ region }

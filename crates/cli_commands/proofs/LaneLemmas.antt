@@ -1,9 +1,10 @@
 -- The lanes of jobs, and which of them are open.
-use Rattle.std.proofs.Common.{◌≡◌, ◌≢◌, ◌⊎◌, ℕ, suc, ◌-◌, ◌<◌, ◌≤◌, ◌==◌, inl, inr, Bool, true, false, List, [], ◌∷◌, All, Vec, Global, length, map, take, slice_index_or, if◌then◌else◌, refl, sym, ap, subst, ◌∙◌, arith}
+use Rattle.std.proofs.Common.{◌≡◌, ◌≢◌, ◌⊎◌, ℕ, suc, ◌-◌, ◌<◌, ◌≤◌, ◌==◌, inl, inr, Bool, true, false, List, [], ◌∷◌, All, Global, length, map, take, slice_index_or, if◌then◌else◌, refl, sym, ap, subst, ◌∙◌, arith}
 use Rattle.std.proofs.lemmas.Bool.{cases_eq, cases_lt}
 use Rattle.std.proofs.lemmas.Bool.Decides.{nat_tests}
 use Rattle.std.proofs.lemmas.List.{get_or-map, get_or-take, length-map, length-take-le}
 use Rattle.std.proofs.lemmas.List.Elements.{All-cons}
+use Rattle.std.specs.declared.collections.VecDeque.{VecDeque}
 use Rattle.job_types.specs.Job.{JobData}
 use Rattle.cube_shape.specs.declared.limits.TheConstants.{MAX_LANES}
 use Rattle.job_queue.specs.Line.{IsFor}
@@ -54,24 +55,24 @@ below_count count (job ∷ jobs) none below =
 
 -- ---- the open lanes
 
-module _ (lanes : List (Vec JobData Global)) (count : ℕ) (jobs : List JobData) (none : Vec JobData Global) (are : AreLanes lanes jobs) where
+module _ (lanes : List (VecDeque JobData Global)) (count : ℕ) (jobs : List JobData) (none : VecDeque JobData Global) (are : AreLanes lanes jobs) where
   lists : List (List JobData)
   lists = map (λ lane. lane.items) (take count lanes)
 
   -- there are as many lists
   listed : count ≤ length lanes → length lists ≡ count
   unfolding lists
-  listed le = length-map (take count lanes) (λ (lane : Vec JobData Global). lane.items) ∙ length-take-le count lanes le
+  listed le = length-map (take count lanes) (λ (lane : VecDeque JobData Global). lane.items) ∙ length-take-le count lanes le
 
   same_lane : count ≤ length lanes → (lane : ℕ) → lane < count → slice_index_or lists lane [] ≡ in_lane lane jobs
   unfolding lists
   same_lane le lane lt =
       let within : lane < length (take count lanes) = omega (arith, lt, length-take-le count lanes le) in
-      get_or-map (λ (l : Vec JobData Global). l.items) (take count lanes) lane none [] within
-      ∙ ap (λ (l : Vec JobData Global). l.items) (get_or-take count lanes lane none lt)
+      get_or-map (λ (l : VecDeque JobData Global). l.items) (take count lanes) lane none [] within
+      ∙ ap (λ (l : VecDeque JobData Global). l.items) (get_or-take count lanes lane none lt)
       ∙ are.each lane none (omega (arith, lt, le, are.count))
 
-  lane_count_is : 1 ≤ count → count ≤ length lanes → ((lane : ℕ) (d : Vec JobData Global) → count ≤ lane → lane < length lanes → (slice_index_or lanes lane d).items ≡ []) → (count ≡ 1) ⊎ ((d : Vec JobData Global) → (slice_index_or lanes (count - 1) d).items ≢ []) → IsLaneCount jobs count
+  lane_count_is : 1 ≤ count → count ≤ length lanes → ((lane : ℕ) (d : VecDeque JobData Global) → count ≤ lane → lane < length lanes → (slice_index_or lanes lane d).items ≡ []) → (count ≡ 1) ⊎ ((d : VecDeque JobData Global) → (slice_index_or lanes (count - 1) d).items ≢ []) → IsLaneCount jobs count
   lane_count_is some le past last = record {
     some = some;
     all = below_count count jobs (λ lane from lt. sym (are.each lane none lt) ∙ past lane none from (omega (arith, lt, are.count))) are.below;
@@ -88,26 +89,26 @@ module _ (lanes : List (Vec JobData Global)) (count : ℕ) (jobs : List JobData)
       ]
 
   -- the lists of the first lanes are the open ones
-  opened_by : 1 ≤ count → count ≤ length lanes → ((lane : ℕ) (d : Vec JobData Global) → count ≤ lane → lane < length lanes → (slice_index_or lanes lane d).items ≡ []) → (count ≡ 1) ⊎ ((d : Vec JobData Global) → (slice_index_or lanes (count - 1) d).items ≢ []) → AreOpenLanes lists jobs
+  opened_by : 1 ≤ count → count ≤ length lanes → ((lane : ℕ) (d : VecDeque JobData Global) → count ≤ lane → lane < length lanes → (slice_index_or lanes lane d).items ≡ []) → (count ≡ 1) ⊎ ((d : VecDeque JobData Global) → (slice_index_or lanes (count - 1) d).items ≢ []) → AreOpenLanes lists jobs
   opened_by some le past last = record {
     count = subst (IsLaneCount jobs) (sym (listed le)) (lane_count_is some le past last);
     each = λ lane lt. same_lane le lane (subst (λ (all : ℕ). lane < all) (listed le) lt);
   }
 
-pub opened : (lanes : List (Vec JobData Global)) (count : ℕ) (jobs : List JobData) → AreLanes lanes jobs → 1 ≤ count → count ≤ length lanes → ((lane : ℕ) (d : Vec JobData Global) → count ≤ lane → lane < length lanes → (slice_index_or lanes lane d).items ≡ []) → (count ≡ 1) ⊎ ((d : Vec JobData Global) → (slice_index_or lanes (count - 1) d).items ≢ []) → AreOpenLanes (map (λ lane. lane.items) (take count lanes)) jobs
+pub opened : (lanes : List (VecDeque JobData Global)) (count : ℕ) (jobs : List JobData) → AreLanes lanes jobs → 1 ≤ count → count ≤ length lanes → ((lane : ℕ) (d : VecDeque JobData Global) → count ≤ lane → lane < length lanes → (slice_index_or lanes lane d).items ≡ []) → (count ≡ 1) ⊎ ((d : VecDeque JobData Global) → (slice_index_or lanes (count - 1) d).items ≢ []) → AreOpenLanes (map (λ lane. lane.items) (take count lanes)) jobs
 unfolding lists
 opened [] count jobs are some le past last = absurd (omega (arith, some, le))
 opened (first ∷ rest) count jobs are some le past last = opened_by (first ∷ rest) count jobs first are some le past last
 
 -- the same, of lanes that are seen through a reference
-pub opened_at : (seen lanes : List (Vec JobData Global)) (count : ℕ) (jobs : List JobData) → seen ≡ lanes → AreLanes lanes jobs → 1 ≤ count → count ≤ length seen → ((lane : ℕ) (d : Vec JobData Global) → count ≤ lane → lane < length seen → (slice_index_or seen lane d).items ≡ []) → (count ≡ 1) ⊎ ((d : Vec JobData Global) → (slice_index_or seen (count - 1) d).items ≢ []) → AreOpenLanes (map (λ lane. lane.items) (take count lanes)) jobs
+pub opened_at : (seen lanes : List (VecDeque JobData Global)) (count : ℕ) (jobs : List JobData) → seen ≡ lanes → AreLanes lanes jobs → 1 ≤ count → count ≤ length seen → ((lane : ℕ) (d : VecDeque JobData Global) → count ≤ lane → lane < length seen → (slice_index_or seen lane d).items ≡ []) → (count ≡ 1) ⊎ ((d : VecDeque JobData Global) → (slice_index_or seen (count - 1) d).items ≢ []) → AreOpenLanes (map (λ lane. lane.items) (take count lanes)) jobs
 opened_at seen lanes count jobs same are some le past last =
-    subst (λ (ls : List (Vec JobData Global)). AreOpenLanes (map (λ lane. lane.items) (take count ls)) jobs) same (opened seen count jobs (subst (λ (ls : List (Vec JobData Global)). AreLanes ls jobs) (sym same) are) some le past last)
+    subst (λ (ls : List (VecDeque JobData Global)). AreOpenLanes (map (λ lane. lane.items) (take count ls)) jobs) same (opened seen count jobs (subst (λ (ls : List (VecDeque JobData Global)). AreLanes ls jobs) (sym same) are) some le past last)
 
 -- ---- what the open lanes hold
 
 -- there are no more of them than there may be
-pub few_lanes : (lanes : List (Vec JobData Global)) (lists : List (List JobData)) (jobs : List JobData) → AreLanes lanes jobs → AreOpenLanes lists jobs → length lists ≤ MAX_LANES
+pub few_lanes : (lanes : List (VecDeque JobData Global)) (lists : List (List JobData)) (jobs : List JobData) → AreLanes lanes jobs → AreOpenLanes lists jobs → length lists ≤ MAX_LANES
 few_lanes lanes lists jobs are opens = opens.count.least MAX_LANES (omega arith) are.below
 
 -- the jobs of a lane are for that lane
@@ -121,4 +122,4 @@ for_lane n lane (job ∷ jobs) all =
     ]
 
 pub made_for : (n : ℕ) (lists : List (List JobData)) (jobs : List JobData) → AreOpenLanes lists jobs → All (λ job. job.machine ≡ n) jobs → (lane : ℕ) → lane < length lists → All (IsFor n lane) (slice_index_or lists lane [])
-made_for n lists jobs opens all lane lt = subst (All (IsFor n lane)) (sym (opens.each lane lt)) (for_lane n lane jobs all)
+made_for n held jobs opens all lane lt = subst (All (IsFor n lane)) (sym (opens.each lane lt)) (for_lane n lane jobs all)

@@ -5,5 +5,6 @@ pub mod TraceLemmas
 pub mod NameLemmas
 pub mod StationLemmas
 pub mod ReplayLemmas
+pub mod ReportLemmas
 pub mod ProgramLemmas
-pub mod FiledLemmas
+pub mod FileLemmas

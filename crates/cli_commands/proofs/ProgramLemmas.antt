@@ -1,16 +1,17 @@
 -- How a call of the program ends.
-use Rattle.std.proofs.Common.{◌≡◌, ◌⊎◌, ℕ, List, Option, None, Some, inl, inr, subst}
+use Rattle.std.proofs.Common.{◌≡◌, ◌⊎◌, ℕ, Bool, List, Option, None, Some, inl, inr, refl, subst}
 use Rattle.clap.specs.Words.{IsAmong, Text, fault_of}
 use Rattle.clap.specs.declared.error.kind.ErrorKind.{ErrorKind}
 use Rattle.clap.specs.declared.error.kind.ErrorKind.TheVariants.{DisplayHelp, DisplayVersion, OutOfMemory}
 use Rattle.jobs_csv.specs.declared.fault.Fault.{Fault}
-use Rattle.cli_words.specs.declared.invocation.Invocation.{Invocation}
-use Rattle.cli_words.specs.declared.invocation.Request.{Request}
-use Rattle.cli_words.specs.CommandLine.{AsksFor, AsksForHelp, program_app}
+use Rattle.cli_args.specs.declared.invocation.Invocation.{Invocation}
+use Rattle.cli_args.specs.declared.invocation.Request.{Request}
+use Rattle.cli_args.specs.CommandLine.{AsksFor, AsksForHelp, program_app}
 use Rattle.cli_commands.specs.declared.program.Ending.{Ending}
 use Rattle.cli_commands.specs.declared.program.Ending.TheVariants.{Done, Rejected, Failed, FileFailed}
+use Rattle.cli_commands.specs.Answer.{IsMetBeforeWriting}
 use Rattle.cli_commands.specs.Inner.Ending.{EndsAfter, EndsOn, IsShown}
-use Rattle.cli_commands.specs.Program.{AsksForInput, AsksForOutput, AsksForProgress, EndsBy, MayWrite, ShowsProgress, input_of, names, output_of}
+use Rattle.cli_commands.specs.Program.{AsksForInput, AsksForOutput, AsksForProgress, EndsBeforeWriting, EndsBy, MayWrite, ShowsProgress, input_of, names, output_of}
 
 -- a request that the words ask for, carried out
 pub carried_out : (words : List Text) (request : Request) (read old new : Option Text → Option (List ℕ)) (may_fail : Option Text → Option Text → Invocation → Fault → Type 0) (ending : Ending) → AsksFor words request → EndsAfter request.invocation (read (input_of request)) (old (output_of request)) (new (output_of request)) (may_fail (input_of request) (output_of request) request.invocation) (names (input_of request) (output_of request)) ending → EndsBy words read old new may_fail ending
@@ -65,3 +66,11 @@ reads_input words request asks (inr is) = inr (request, asks, is)
 pub shows_help : {A : Type 0} (words : List Text) (kind : ErrorKind) → (kind ≡ OutOfMemory) ⊎ IsAmong kind (fault_of program_app words) → A ⊎ IsShown kind → A ⊎ AsksForOutput words
 shows_help words kind has (inl same) = inl same
 shows_help words kind has (inr is) = inr (inl (shown words kind has is))
+
+-- words that have an error: where the call ends before it writes, nothing is written
+pub explained_before : (P : Type 0) (kind : ErrorKind) (end : Ending) → EndsOn kind end → (end ≡ Rejected → P)
+    → ((fault : Fault) (is_reported : Bool) → end ≡ Failed fault is_reported → IsMetBeforeWriting fault → P) → EndsBeforeWriting end → P
+explained_before P kind Done is rejected failed before = absurd before
+explained_before P kind Rejected is rejected failed before = rejected refl
+explained_before P kind (Failed fault is_reported) is rejected failed before = failed fault is_reported refl before
+explained_before P kind (FileFailed fault is_reported) is rejected failed before = absurd is

@@ -8,6 +8,7 @@ use Rattle.std.proofs.lemmas.List.{length-map}
 use Rattle.std.proofs.lemmas.List.Folds.{Any-from_list_any}
 use Rattle.std.proofs.lemmas.List.Sorted.{All-permutation, IsPermutation-map, IsPermutation-trans}
 use Rattle.cube_shape.specs.declared.limits.TheConstants.{MAX_ENTRIES}
+use Rattle.std.specs.declared.collections.VecDeque.{VecDeque}
 use Rattle.job_types.specs.Job.{JobData}
 use Rattle.job_types.specs.Reply.{ReplyData}
 use Rattle.dispatcher.specs.Answers.{AnswersAll}
@@ -16,15 +17,17 @@ use Rattle.dispatcher.specs.Reply.{answered, IsRight}
 use Rattle.dispatcher.specs.declared.feeding.FeedStop.{FeedStop}
 use Rattle.dispatcher.specs.declared.feeding.FeedStop.TheVariants.{Done, Closed, LaneSpent, Turns}
 use Rattle.dispatcher.specs.declared.finishing.Finished.{Finished}
-use Rattle.crew.specs.Done.{is_spent, reason_of}
-use Rattle.crew.specs.Run.{by_worker_of, IsLaneEnd, IsRun, IsStopOf}
-use Rattle.crew.specs.Stopped.{MatchStopped}
-use Rattle.crew.specs.declared.answering.StopReason.{StopReason}
-use Rattle.crew.specs.declared.answering.StopReason.TheVariants as why
-use Rattle.crew.specs.declared.answering.Stopped.{Stopped}
-use Rattle.crew.specs.declared.answering.Stopped.TheVariants as stopped
-use Rattle.crew.specs.declared.running.LaneEnd.{LaneEnd}
-use Rattle.crew.specs.declared.running.RunEnd.{RunEnd}
+use Rattle.dispatcher.specs.declared.opening.ShopSizes.{ShopSizes}
+use Rattle.shop_threads.specs.Batch.{IsUnfinishedBatch}
+use Rattle.shop_threads.specs.Done.{is_spent, reason_of}
+use Rattle.shop_threads.specs.Run.{by_worker_of, IsLaneEnd, IsRun, IsStopOf}
+use Rattle.shop_threads.specs.RunError.{MatchRunError}
+use Rattle.shop_threads.specs.declared.answering.StopReason.{StopReason}
+use Rattle.shop_threads.specs.declared.answering.StopReason.TheVariants as why
+use Rattle.shop_threads.specs.declared.answering.RunError.{RunError}
+use Rattle.shop_threads.specs.declared.answering.RunError.TheVariants as stopped
+use Rattle.shop_threads.specs.declared.running.LaneEnd.{LaneEnd}
+use Rattle.shop_threads.specs.declared.running.RunEnd.{RunEnd}
 use Rattle.jobs_csv.specs.declared.fault.Fault.{Fault}
 use Rattle.jobs_csv.specs.declared.fault.FaultKind.TheVariants as what
 use Rattle.jobs_csv.specs.Fault.{attribute, has_failed, is_refusal}
@@ -32,9 +35,9 @@ use Rattle.jobs_csv.specs.Jobs.{parse_jobs}
 use Rattle.jobs_csv.specs.Lanes.{AreLanes, ReturnsLanes}
 use Rattle.cli_commands.specs.Answer.{IsAnswer}
 use Rattle.cli_commands.specs.FileRun.{HasSpentLane, ReturnsRun}
-use Rattle.cli_commands.specs.Inner.Shop.{fault_in, kind_of_reason, unanswered_of}
+use Rattle.cli_commands.specs.Inner.Shop.{fault_in, kind_of_reason, error_of}
 use Rattle.cli_commands.specs.OpenLanes.{AreOpenLanes, IsLaneCount}
-use Rattle.cli_commands.specs.declared.shop.Unanswered.{Unanswered}
+use Rattle.cli_commands.specs.declared.shop.AnswerError.{AnswerError}
 use Rattle.cli_commands.specs.Replies.{AnswersJobs, AreReplies, replies_in}
 use Rattle.cli_commands.proofs.OrderLemmas.{all_jobs}
 
@@ -58,7 +61,7 @@ fault_unanswered words_of n (Some bytes) fault parsed = (parsed, tt)
 
 -- where the open lanes of a good file were run and answered, so was the file
 pub file_answered : {M : Type 0} (words_of : M → List ℕ) (n : ℕ) (parse : Result (List JobData) Fault)
-    (lanes : Vec (Vec JobData Global) Global) (lists : List (List JobData)) (end : RunEnd M) → ReturnsLanes parse (Ok lanes)
+    (lanes : Vec (VecDeque JobData Global) Global) (lists : List (List JobData)) (end : RunEnd M) → ReturnsLanes parse (Ok lanes)
     → ((jobs : List JobData) → AreLanes lanes.items jobs → AreOpenLanes lists jobs) → IsRun words_of n lists end
     → AnswersAll n lists (by_worker_of end) end.finished.rest.items → length end.finished.accepted.items ≡ length lists
     → ReturnsRun words_of n parse (Ok end)
@@ -78,14 +81,14 @@ reason_refuses_nothing why.OutOfMemory refused = true≢false (sym refused)
 reason_refuses_nothing why.Spent refused = true≢false (sym refused)
 
 -- where the run of a good file was not whole
-pub file_unanswered : {M : Type 0} (words_of : M → List ℕ) (n : ℕ) (parse : Result (List JobData) Fault)
-    (lanes : Vec (Vec JobData Global) Global) (lists : List (List JobData)) (s : Stopped M) → ReturnsLanes parse (Ok lanes)
-    → ((jobs : List JobData) → AreLanes lanes.items jobs → AreOpenLanes lists jobs)
-    → MatchStopped s (λ why back. ⊤) (λ why end. IsRun words_of n lists end) → ReturnsRun words_of n parse (Err (unanswered_of s))
-file_unanswered words_of n parse lanes lists (stopped.Refused why back) parsed opens run = (λ refused. absurd (true≢false (sym refused)), tt)
-file_unanswered words_of n parse lanes lists (stopped.Unfinished why end) (jobs, good, are) opens run = (
+pub file_unanswered : {M : Type 0} (words_of : M → List ℕ) (sizes : ShopSizes) (parse : Result (List JobData) Fault)
+    (lanes lists : Vec (VecDeque JobData Global) Global) (s : RunError M) → ReturnsLanes parse (Ok lanes)
+    → ((jobs : List JobData) → AreLanes lanes.items jobs → AreOpenLanes (map (λ list. list.items) lists.items) jobs)
+    → MatchRunError s (λ why back. ⊤) (IsUnfinishedBatch words_of sizes lists.items) → ReturnsRun words_of sizes.dim parse (Err (error_of s))
+file_unanswered words_of sizes parse lanes lists (stopped.Refused why back) parsed opens unfinished = (λ refused. absurd (true≢false (sym refused)), tt)
+file_unanswered words_of sizes parse lanes lists (stopped.Unfinished why end) (jobs, good, are) opens unfinished = (
   λ refused. absurd (reason_refuses_nothing why refused),
-  (jobs, good, record { lanes = lists; open_lanes = opens jobs are; run = run }),
+  (jobs, good, record { lanes = map (λ list. list.items) lists.items; open_lanes = opens jobs are; run = unfinished.run }),
 )
 
 -- ---- a lane that is spent
@@ -109,10 +112,11 @@ some_spent words_of n lists end is run =
     (k, l, within, at, entries_of_spent end.close_number l l.stop spent is_end.stopped)
 
 -- a shop that was spent has a spent lane
-pub spent_lane : {M : Type 0} (words_of : M → List ℕ) (n : ℕ) (lists : List (List JobData)) (s : Stopped M) → MatchStopped s (λ why back. ⊤) (λ why end. IsRun words_of n lists end) → MatchStopped s (λ why back. ⊤) (λ why end. why ≡ reason_of end) → (unanswered_of s).fault.what ≡ what.Spent → HasSpentLane (unanswered_of s).end
-spent_lane words_of n lists (stopped.Refused why back) run reason is = absurd (cc)
-spent_lane words_of n lists (stopped.Unfinished why.OutOfMemory end) run reason is = absurd (cc)
-spent_lane words_of n lists (stopped.Unfinished why.Spent end) run reason is = some_spent words_of n lists end reason run
+pub spent_lane : {M : Type 0} (words_of : M → List ℕ) (sizes : ShopSizes) (lists : Vec (VecDeque JobData Global) Global) (s : RunError M)
+    → MatchRunError s (λ why back. ⊤) (IsUnfinishedBatch words_of sizes lists.items) → (error_of s).fault.what ≡ what.Spent → HasSpentLane (error_of s).end
+spent_lane words_of sizes lists (stopped.Refused why back) unfinished is = absurd (cc)
+spent_lane words_of sizes lists (stopped.Unfinished why.OutOfMemory end) unfinished is = absurd (cc)
+spent_lane words_of sizes lists (stopped.Unfinished why.Spent end) unfinished is = some_spent words_of sizes.dim (map (λ list. list.items) lists.items) end unfinished.reason unfinished.run
 
 -- ---- what is made of a run, and written
 
@@ -155,15 +159,15 @@ not_refused fault before after (inr is) refused = absurd (true≢false (sym (ap 
 -- a fault in place of a run is passed on
 pub fault_passed : {M Row : Type 0} (words_of : M → List ℕ) (n : ℕ) (parse : Result (List JobData) Fault)
     (answers : List JobData → List Row → Type 0) (text : List Row → List ℕ) (old new : Option (List ℕ))
-    (answer : Result (RunEnd M) (Unanswered M)) (fault : Fault) → fault_in answer ≡ Some fault → ReturnsRun words_of n parse answer
+    (answer : Result (RunEnd M) (AnswerError M)) (fault : Fault) → fault_in answer ≡ Some fault → ReturnsRun words_of n parse answer
     → IsAnswer parse answers text old new (Err fault)
 fault_passed words_of n parse answers text old new (Ok end) fault none is = cc
-fault_passed words_of n parse answers text old new (Err unanswered) fault same is = subst (λ (f : Fault). is_refusal f.what ≡ true → parse ≡ Err f) (cc) is.0
+fault_passed words_of n parse answers text old new (Err error) fault same is = subst (λ (f : Fault). is_refusal f.what ≡ true → parse ≡ Err f) (cc) is.0
 
 -- what is made of the run of a file, written or not
 pub output_answered : {M Row : Type 0} (words_of : M → List ℕ) (n : ℕ) (parse : Result (List JobData) Fault)
     (answers : List JobData → List Row → Type 0) (text : List Row → List ℕ) (old new : Option (List ℕ)) (before after : ℕ)
-    (answer : Result (RunEnd M) (Unanswered M)) (end : RunEnd M) (result : Result (Unit {0}) Fault) → answer ≡ Ok end
+    (answer : Result (RunEnd M) (AnswerError M)) (end : RunEnd M) (result : Result (Unit {0}) Fault) → answer ≡ Ok end
     → ReturnsRun words_of n parse answer
     → ((jobs : List JobData) → AnswersJobs n jobs end.finished → OnOk result ((rows : List Row) × answers jobs rows × Appends old new (text rows)))
     → IfErr result (λ fault. (fault ≡ attribute what.Write before after) ⊎ (fault ≡ record { row = 0; what = what.OutOfMemory }))

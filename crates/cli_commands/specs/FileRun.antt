@@ -1,14 +1,20 @@
 -- A run of the jobs of a file, in the values that its caller has.
-use Rattle.std.specs.Prelude.{◌≡◌, ℕ, ◌≤◌, true, List, Any, Option, Some, None, IfSome, Result, Ok, Err}
-use Rattle.cube_shape.specs.declared.limits.TheConstants.{MAX_ENTRIES}
+use Rattle.std.specs.Prelude.{◌≡◌, ℕ, ◌≤◌, true, List, Any, Option, Some, None, IfSome, Result, Ok, Err, length}
+use Rattle.cube_shape.specs.declared.limits.TheConstants.{MAX_ENTRIES, MAX_LANES}
 use Rattle.job_types.specs.Job.{JobData}
-use Rattle.crew.specs.Run.{IsRun}
-use Rattle.crew.specs.declared.running.RunEnd.{RunEnd}
+use Rattle.job_queue.specs.declared.job_line.JobLine.{Ghosts as LineWords}
+use Rattle.floors.specs.Floor.{IsWhollyFree}
+use Rattle.floors.specs.declared.floor.Floor.{Ghosts as FloorWords}
+use Rattle.dispatcher.specs.declared.opening.ShopSizes.{ShopSizes}
+use Rattle.shop_threads.specs.Done.{IsDone}
+use Rattle.shop_threads.specs.Members.{RanIn}
+use Rattle.shop_threads.specs.Run.{IsRun}
+use Rattle.shop_threads.specs.declared.running.RunEnd.{RunEnd}
 use Rattle.jobs_csv.specs.Fault.{is_refusal}
 use Rattle.jobs_csv.specs.declared.fault.Fault.{Fault}
 use Rattle.cli_commands.specs.OpenLanes.{AreOpenLanes}
 use Rattle.cli_commands.specs.Replies.{AnswersJobs}
-use Rattle.cli_commands.specs.declared.shop.Unanswered.{Unanswered}
+use Rattle.cli_commands.specs.declared.shop.AnswerError.{AnswerError}
 
 -- the values are those of a run of the open lanes of these jobs
 pub record IsFileRun {M : Type 0} (words_of : M → List ℕ) (n : ℕ) (jobs : List JobData) (end : RunEnd M) : Type 0 where
@@ -16,13 +22,24 @@ pub record IsFileRun {M : Type 0} (words_of : M → List ℕ) (n : ℕ) (jobs : 
   pub open_lanes : AreOpenLanes lanes jobs
   pub run : IsRun words_of n lanes end
 
+module _ {L Lane Pass Closer Note End F Station Held Machine : Type 0} (line : LineWords L Lane Pass Closer Note End) (floor : FloorWords F Station Held Machine) where
+  -- a shop of these sizes was run: each lane was fed to its end, each worker was run, and the machine is closed and wholly free
+  pub record IsShopRun (sizes : ShopSizes) (end : RunEnd Machine) : Type 0 where
+    pub done : IsDone end
+    pub lanes : length end.finished.accepted.items ≤ MAX_LANES
+    pub ran_in : RanIn line floor sizes (length end.finished.accepted.items) end
+    pub workers : length end.finished.by_worker.items ≡ sizes.dispatchers
+    pub dim : floor.machine_dim end.finished.machine ≡ sizes.dim
+    pub closed : floor.is_closed sizes.dispatchers end.finished.machine
+    pub free : IsWhollyFree sizes.dim (floor.machine_words end.finished.machine)
+
 -- what is returned for a file of jobs, by its parse: the end of a run that has answered all of them; or a
 -- refusal, which is the parse's, or a failure; and if there was a run, it was one of the file's jobs
-abbrev pub ReturnsRun : {M : Type 0} → (M → List ℕ) → ℕ → Result (List JobData) Fault → Result (RunEnd M) (Unanswered M) → Type 0
+abbrev pub ReturnsRun : {M : Type 0} → (M → List ℕ) → ℕ → Result (List JobData) Fault → Result (RunEnd M) (AnswerError M) → Type 0
 ReturnsRun words_of n parse (Ok end) = (jobs : List JobData) × (parse ≡ Ok jobs) × IsFileRun words_of n jobs end × AnswersJobs n jobs end.finished
-ReturnsRun words_of n parse (Err unanswered) =
-    (is_refusal unanswered.fault.what ≡ true → parse ≡ Err unanswered.fault)
-    × IfSome unanswered.end (λ end. (jobs : List JobData) × (parse ≡ Ok jobs) × IsFileRun words_of n jobs end)
+ReturnsRun words_of n parse (Err error) =
+    (is_refusal error.fault.what ≡ true → parse ≡ Err error.fault)
+    × IfSome error.end (λ end. (jobs : List JobData) × (parse ≡ Ok jobs) × IsFileRun words_of n jobs end)
 
 -- there was a run, and a lane of it has made as many entries as a lane may
 abbrev pub HasSpentLane : {M : Type 0} → Option (RunEnd M) → Type 0

@@ -2,6 +2,7 @@ pub mod JobIds
 pub mod OpenLanes
 pub mod Replies
 pub mod FileRun
+pub mod ReportRows
 pub mod Report
 pub mod Answer
 pub mod Trace
@@ -11,10 +12,12 @@ pub mod Program
 pub mod Inner
 pub use Rattle.floors.specs.Floor.{IsWhollyFree}
 pub use Rattle.job_types.specs.Job.{JobData}
-pub use Rattle.crew.specs.Done.{IsDone}
-pub use Rattle.crew.specs.Members.{RanIn}
+pub use Rattle.shop_threads.specs.Done.{IsDone}
+pub use Rattle.shop_threads.specs.Members.{RanIn}
 pub use Rattle.jobs_csv.specs.Fault.{IsInputFault, fault_text}
 pub use Rattle.jobs_csv.specs.Jobs.{parse_jobs}
 pub use Rattle.jobs_csv.specs.Text.{file_text}
-pub use Rattle.cli_words.specs.CommandLine.{AreShopSizes}
-pub use Rattle.whole_file.specs.Store.{KeepsFiles, KeepsOthers, begun_by, held_by}
+pub use Rattle.cli_args.specs.CommandLine.{AreShopSizes, IsWithinLimits}
+pub use Rattle.atomic_file.specs.Store.{KeepsFiles, KeepsOthers, begun_by, held_by}
+pub use Rattle.dispatcher.specs.Answers.{all_replies}
+pub use Rattle.dispatcher.specs.Reply.{IsRight, answered}

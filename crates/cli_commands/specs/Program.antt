@@ -4,7 +4,7 @@ use Rattle.std.specs.Io.KnownBytes.{Appends}
 use Rattle.clap.specs.Words.{Text}
 use Rattle.jobs_csv.specs.declared.fault.Fault.{Fault}
 use Rattle.jobs_csv.specs.declared.fault.FaultKind.TheVariants as what
-use Rattle.jobs_csv.specs.Fault.{is_refusal, status_of}
+use Rattle.jobs_csv.specs.Fault.{fault_text, is_refusal, status_of}
 use Rattle.jobs_csv.specs.Jobs.{parse_jobs}
 use Rattle.jobs_csv.specs.Place.{parse_commands}
 use Rattle.jobs_csv.specs.PlaceRows.{place_columns, place_fields}
@@ -13,26 +13,26 @@ use Rattle.jobs_csv.specs.ReportRows.{report_columns, report_fields}
 use Rattle.jobs_csv.specs.Replies.{reply_columns, reply_fields}
 use Rattle.jobs_csv.specs.Schedule.{parse_schedule}
 use Rattle.jobs_csv.specs.Text.{file_text}
-use Rattle.cli_words.specs.declared.invocation.Invocation.{Invocation}
-use Rattle.cli_words.specs.declared.invocation.Request.{Request}
-use Rattle.cli_words.specs.declared.invocation.Invocation.TheVariants as invocation
-use Rattle.cli_words.specs.CommandLine.{AsksFor, AsksForHelp, IsBadCommandLine}
+use Rattle.cli_args.specs.declared.invocation.Invocation.{Invocation}
+use Rattle.cli_args.specs.declared.invocation.Request.{Request}
+use Rattle.cli_args.specs.declared.invocation.Invocation.TheVariants as invocation
+use Rattle.cli_args.specs.CommandLine.{AsksFor, AsksForHelp, IsBadCommandLine}
 use Rattle.cli_commands.specs.declared.program.Ending.{Ending}
 use Rattle.cli_commands.specs.declared.program.Ending.TheVariants.{Done, Rejected, Failed, FileFailed}
-use Rattle.cli_commands.specs.Answer.{IsAnswer, IsCommandFault, IsRunFault}
+use Rattle.cli_commands.specs.Answer.{IsAnswer, IsCommandFault, IsMetBeforeWriting, IsRunFault}
 use Rattle.cli_commands.specs.Place.{ArePlaced}
 use Rattle.cli_commands.specs.Replay.{AreReplayed}
 use Rattle.cli_commands.specs.Replies.{AreReplies}
 use Rattle.cli_commands.specs.Report.{AreReportRows}
-use Rattle.whole_file.specs.FileFault.{file_fault_text}
-use Rattle.whole_file.specs.declared.file_fault.FileFault.{FileFault}
-use Rattle.whole_file.specs.declared.file_fault.FileSide.{FileSide}
-use Rattle.whole_file.specs.declared.file_fault.FileSide.TheVariants.{Input, Output}
+use Rattle.atomic_file.specs.FileFault.{file_fault_text}
+use Rattle.atomic_file.specs.declared.file_fault.FileFault.{FileFault}
+use Rattle.atomic_file.specs.declared.file_fault.FileSide.{FileSide}
+use Rattle.atomic_file.specs.declared.file_fault.FileSide.TheVariants.{Input, Output}
 
 -- the request is answered: jobs by their replies or by totals of them, commands by the first fit, a schedule by its events
 abbrev pub IsAnswerTo : Invocation → List ℕ → Option (List ℕ) → Option (List ℕ) → Result (Unit {0}) Fault → Type 0
-IsAnswerTo (invocation.Run shop) bytes old new result = IsAnswer (parse_jobs shop.n bytes) (AreReplies shop.n) (file_text reply_columns reply_fields) old new result
-IsAnswerTo (invocation.Report shop) bytes old new result = IsAnswer (parse_jobs shop.n bytes) (AreReportRows shop.n) (file_text report_columns report_fields) old new result
+IsAnswerTo (invocation.Run shop) bytes old new result = IsAnswer (parse_jobs shop.sizes.dim bytes) (AreReplies shop.sizes.dim) (file_text reply_columns reply_fields) old new result
+IsAnswerTo (invocation.Report shop) bytes old new result = IsAnswer (parse_jobs shop.sizes.dim bytes) (AreReportRows shop.sizes.dim) (file_text report_columns report_fields) old new result
 IsAnswerTo (invocation.Place n) bytes old new result = IsAnswer (parse_commands n bytes) (ArePlaced n) (file_text place_columns place_fields) old new result
 IsAnswerTo (invocation.Replay n stations) bytes old new result = IsAnswer (parse_schedule bytes) (AreReplayed n stations) (file_text replay_columns replay_fields) old new result
 
@@ -66,7 +66,7 @@ file_line (Some name) fault = file_fault_text fault ++ codes ": " ++ name ++ 10 
 
 -- the fault is one that a request may have, by the counts of failed calls of the reader and of the writer, before
 -- and after; where a file is read or written in place of these, by the counts of that file
-pub record IsFaultIn (input output : Option Text) (read_before read_after write_before write_after : ℕ) (invocation : Invocation) (fault : Fault) : Type 0 where
+pub record IsFaultIn (read_before read_after write_before write_after : ℕ) (input output : Option Text) (invocation : Invocation) (fault : Fault) : Type 0 where
   pub reads : ℕ × ℕ
   pub writes : ℕ × ℕ
   pub of_reader : input ≡ None → reads ≡ (read_before, read_after)
@@ -89,9 +89,21 @@ IsFailureOf words read old new may_fail fault =
 abbrev pub AsksForFile : List Text → FileSide → Type 0
 AsksForFile words side = (request : Request) × AsksFor words request × (names (input_of request) (output_of request) side ≡ true)
 
--- the words ask for a request, and the line that reports the fault of its file is added to what was written before
-abbrev pub ReportsFile : List Text → FileFault → Option (List ℕ) → Option (List ℕ) → Type 0
-ReportsFile words fault old new = (request : Request) × AsksFor words request × Appends old new (file_line (name_of (input_of request) (output_of request) fault.side) fault)
+-- a fault that is reported is one line, which is added to what was written before
+abbrev pub ReportsFault : Ending → Option (List ℕ) → Option (List ℕ) → Type 0
+ReportsFault ending old new = (fault : Fault) → ending ≡ Failed fault true → Appends old new (fault_text fault ++ 10 ∷ [])
+
+-- a fault of a file that is reported is the line of a file that the words name, which is added
+abbrev pub ReportsFileFault : List Text → Ending → Option (List ℕ) → Option (List ℕ) → Type 0
+ReportsFileFault words ending old new =
+    (fault : FileFault) → ending ≡ FileFailed fault true → (request : Request) × AsksFor words request × Appends old new (file_line (name_of (input_of request) (output_of request) fault.side) fault)
+
+-- a call that ends so has written nothing on standard output: the command line was bad, a fault was met before the first row, or a file could not be had
+abbrev pub EndsBeforeWriting : Ending → Type 0
+EndsBeforeWriting Done = ⊥
+EndsBeforeWriting Rejected = ⊤
+EndsBeforeWriting (Failed fault is_reported) = IsMetBeforeWriting fault
+EndsBeforeWriting (FileFailed fault is_reported) = ⊤
 
 -- the words ask for a request that writes the file of this name, where there is a name
 abbrev pub MayWrite : List Text → Option Text → Type 0

@@ -2,7 +2,7 @@
 use Rattle.std.specs.Prelude.{◌≡◌, ℕ, List}
 use Rattle.job_types.specs.Job.{JobData}
 use Rattle.jobs_csv.specs.declared.report_rows.ReportRow.{ReportRow}
-use Rattle.cube_report.specs.Report.{rows_of}
+use Rattle.cli_commands.specs.ReportRows.{rows_of}
 use Rattle.cli_commands.specs.JobIds.{with_ids}
 use Rattle.cli_commands.specs.OpenLanes.{IsLaneCount}
 

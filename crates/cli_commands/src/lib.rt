@@ -1,8 +1,9 @@
-//! The commands of `cubejobs`: what each reads, does and writes, and the whole program as
-//! `program::run`, over any words, reader and writers.
+//! The commands of `cubejobs`, from the bytes that they read to the bytes that they write. The whole program is
+//! `program::run`, over any words, files and streams.
 #![tactic(auto)]
 
-mod filed;
+mod answering;
+mod files;
 mod lanes;
 mod names;
 mod output;
@@ -11,12 +12,16 @@ mod play;
 pub mod program;
 mod progress;
 mod replay;
+mod report;
 mod run;
 mod shop;
 mod stations;
+mod writing;
 
+pub use answering::{Task, answer};
 pub use output::{Output, Replies, Report};
 pub use place::place_on;
 pub use replay::replay_on;
-pub use run::{answer_on, answer_with_progress, report_on, run_on};
-pub use shop::{Unanswered, answer_file};
+pub use report::report_rows;
+pub use run::{report_on, run_on};
+pub use shop::{AnswerError, answer_file};

@@ -5,7 +5,7 @@ ghost use Rattle.floors.specs.Floor.{IsWhollyFree};
 ghost use Rattle.job_types.specs.Job.{JobData};
 ghost use Rattle.cli_commands.specs.Replies.{AnswersJobs};
 
-use cube_report::report_rows;
+use crate::report::report_rows;
 use cube_shape::MAX_DIM;
 use dispatcher::{Finished, sorted_replies};
 use floors::Floor;

@@ -5,7 +5,7 @@ ghost use Rattle.jobs_csv.specs.PlaceRows.{place_columns, place_fields};
 ghost use Rattle.jobs_csv.specs.Text.{file_text};
 ghost use Rattle.jobs_csv.specs.declared.place_rows.PlaceRow.{PlaceRow as Row};
 ghost use Rattle.std.specs.Io.KnownBytes.{Appends};
-ghost use Rattle.cli_words.specs.declared.invocation.Invocation.TheVariants.{Place};
+ghost use Rattle.cli_args.specs.declared.invocation.Invocation.TheVariants.{Place};
 ghost use Rattle.cli_commands.specs.Answer.{IsCommandFault, IsMetBeforeWriting};
 ghost use Rattle.cli_commands.specs.Place.{ArePlaced};
 ghost use Rattle.cli_commands.specs.Inner.Stations.{AreStations, IsAnswerLine, dim_of, named_holdings};
@@ -13,7 +13,7 @@ ghost use Rattle.cli_commands.specs.Program.{IsAnswerTo};
 
 use crate::stations::Stations;
 use cube_shape::MAX_DIM;
-use jobs_csv::{Command, Device, Fault, FaultKind, LineBuffer, PlaceRow, WriteStopped};
+use jobs_csv::{Command, Device, Fault, FaultKind, LineBuffer, PlaceRow, WriteError};
 use std::alloc::{AllocError, Global};
 use std::io::{Read, Write};
 
@@ -41,7 +41,7 @@ fn answer_all<W: Write>(
     n: u32,
     commands: Vec<Command>,
     writer: &mut W,
-) -> Result<(), WriteStopped>
+) -> Result<(), WriteError>
     requires limit { n ≤ MAX_DIM }
     requires fits { All (λ command. Fits n command) commands.items }
     ensures { OnOk result ((rows : List Row) × ArePlaced n commands.items rows
@@ -84,7 +84,7 @@ pub fn place_on<R: Read + Device, W: Write + Device>(
     let failures_before = writer.failures();
     match answer_all(alloc, n, commands, writer) {
         Ok(()) => Ok(()),
-        Err(WriteStopped) => Err(Fault::attribute(
+        Err(WriteError) => Err(Fault::attribute(
             FaultKind::Write,
             failures_before,
             writer.failures(),

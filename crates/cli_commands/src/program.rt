@@ -1,28 +1,46 @@
-//! From the words of a command line to the end of the program.
-ghost use Rattle.std.specs.Prelude.{◌≡◌, ◌⊎◌, ◌++◌, ◌∷◌, [], ℕ, Bool, true, List, None, Option, map, option_map, string_bytes};
+//! The program, from the words of its command line to its exit status.
+ghost use Rattle.std.specs.Prelude.{◌≡◌, ◌⊎◌, ◌++◌, ◌∷◌, [], ℕ, Bool, true, IfErr, List, None, Option, map, option_map, string_bytes};
 ghost use Rattle.std.specs.Io.KnownBytes.{Appends};
 ghost use Rattle.std.specs.Process.{exit_status as status_of_process};
 ghost use Rattle.clap.specs.Words.{FailsBy, fault_of, kind_of};
 ghost use Rattle.clap.specs.declared.error.kind.ErrorKind.TheVariants.{DisplayHelp, DisplayVersion, OutOfMemory};
 ghost use Rattle.jobs_csv.specs.Fault.{attribute, fault_text};
 ghost use Rattle.jobs_csv.specs.declared.fault.Fault.{Fault as TheFault};
-ghost use Rattle.cli_words.specs.CommandLine.{IsWithinLimits, program_app};
+ghost use Rattle.cli_args.specs.CommandLine.{IsWithinLimits, program_app};
 ghost use Rattle.cli_commands.specs.Answer.{IsMetBeforeWriting};
-ghost use Rattle.cli_commands.specs.Inner.Ending.{EndsAfter, EndsOn, IsShown};
-ghost use Rattle.cli_commands.specs.Program.{AsksForInput, AsksForOutput, AsksForProgress, EndsBy, IsFaultIn, MayWrite, ReportsFile, ShowsProgress, exit_status, file_line, input_of, name_of, names, output_of};
-ghost use Rattle.whole_file.specs.Store.{KeepsFiles, KeepsOthers, begun_by, held_by};
-ghost use Rattle.whole_file.specs.declared.file_fault.FileFault.{FileFault as TheFileFault};
+ghost use Rattle.cli_commands.specs.Inner.Ending.{EndsOn, EndsWith, IsShown};
+ghost use Rattle.cli_commands.specs.Inner.Files.{IsOutcome, StopsBeforeWriting};
+ghost use Rattle.cli_commands.specs.Program.{AsksForInput, AsksForOutput, AsksForProgress, EndsBeforeWriting, EndsBy, IsFaultIn, MayWrite, ReportsFault, ReportsFileFault, ShowsProgress, exit_status, file_line, input_of, name_of, output_of};
+ghost use Rattle.atomic_file.specs.Store.{KeepsFiles, KeepsOthers, begun_by, held_by};
+ghost use Rattle.atomic_file.specs.declared.file_fault.FileFault.{FileFault as TheFileFault};
 
-use crate::filed::{Stop, answer_from};
+use crate::answering::{Task, answer};
+use crate::files::{CommandError, answered, begin_output, open_input, settle_output};
+use atomic_file::{FileFault, FileSide, FileStore};
 use clap::error::ErrorKind;
-use cli_words::{Invocation, Request, parse_args};
+use cli_args::{FileNames, Invocation, Request, parse_args};
+use dispatcher::Plain;
 use jobs_csv::{Device, Fault, FaultKind};
 use std::alloc::Global;
 use std::io::{Read, Write};
 use std::process::ExitCode;
 use std::sync::Wait;
 use std::thread::Threads;
-use whole_file::{FileFault, FileSide, FileStore};
+
+/// The streams of the program.
+#[derive(Drop)]
+pub struct Console<R, W, E, P, Q> {
+    /// Where a request is read that names no file: standard input.
+    pub reader: R,
+    /// Where the rows are written of a request that names no file: standard output.
+    pub writer: W,
+    /// Where errors are reported: standard error.
+    pub errors: E,
+    /// Where the progress of a long run is shown, if anywhere.
+    pub terminal: Option<P>,
+    /// Where the program says what it waits for, if the input is typed.
+    pub prompt: Option<Q>,
+}
 
 /// How a call of the program ends.
 #[derive(Clone, Copy, Debug, PartialEq, Eq)]
@@ -38,7 +56,7 @@ pub enum Ending {
 }
 
 impl Ending {
-    /// The exit status.
+    /// Returns the exit status.
     pub fn status(&self) -> u8
         ensures { result ≡ exit_status self.now }
     {
@@ -51,7 +69,7 @@ impl Ending {
     }
 }
 
-/// The status with which the process ends.
+/// Returns the exit status for the process.
 pub fn exit_code(ending: Ending) -> ExitCode
     ensures { status_of_process result ≡ exit_status ending }
 {
@@ -85,58 +103,23 @@ fn report_file<E: Write>(file: FileFault, name: &Option<String>, errors: &mut E)
     }
 }
 
-// Does what the request asks for, and reports in one line why it could not.
-#[tactic(auto, using(crate::proofs::FiledLemmas::ended_by_fault, crate::proofs::FiledLemmas::ended_by_file))]
-fn carry_out<H, S, R, W, E, P>(
-    rt: &H,
-    alloc: Global,
-    request: &Request,
-    store: &mut S,
-    reader: &mut R,
-    writer: &mut W,
-    errors: &mut E,
-    terminal: &mut Option<P>,
-) -> Ending
-where
-    H: Threads + Wait + Clone + Send + Sync + 'static,
-    S: FileStore,
-    R: Read + Device,
-    W: Write + Device,
-    E: Write,
-    P: Write + Send + Drop + 'static,
-    requires { IsWithinLimits request.now.invocation }
-    ensures ends { EndsAfter request.now.invocation
-        (held_by (S.bytes store.old) (R.remaining reader.old) (input_of request.now))
-        (begun_by S.fresh (W.contents writer.old) (output_of request.now))
-        (held_by (S.bytes store.new) (W.contents writer.new) (output_of request.now))
-        (IsFaultIn (input_of request.now) (output_of request.now)
-        (R.failures reader.old) (R.failures reader.new)
-        (W.failures writer.old) (W.failures writer.new) request.now.invocation)
-        (names (input_of request.now) (output_of request.now)) result }
-    ensures line { (fault : TheFault) → result ≡ Ending.Failed fault true
-        → Appends (E.contents errors.old) (E.contents errors.new) (fault_text fault ++ 10 ∷ []) }
+// Reports in one line why a request was not answered.
+fn report<E: Write>(answer: Result<(), CommandError>, files: &FileNames, errors: &mut E) -> Ending
+    ensures ends { EndsWith answer result }
+    ensures line { ReportsFault result (E.contents errors.old) (E.contents errors.new) }
     ensures file_line { (fault : TheFileFault) → result ≡ Ending.FileFailed fault true
         → Appends (E.contents errors.old) (E.contents errors.new)
-        (file_line (name_of (input_of request.now) (output_of request.now) fault.side) fault) }
+        (file_line (name_of (option_map string_bytes files.now.input)
+        (option_map string_bytes files.now.output) fault.side) fault) }
     ensures quiet { result ≡ Ending.Done → errors.new ≡ errors.old }
-    ensures others { KeepsOthers (output_of request.now) (S.bytes store.old) (S.bytes store.new) }
-    ensures kept { (result ≡ Ending.Done) ⊎ KeepsFiles (S.bytes store.old) (S.bytes store.new) }
-    ensures shown { (terminal.new ≡ terminal.old) ⊎ ShowsProgress request.now.invocation }
-    ensures untouched { (fault : TheFault) (is_reported : Bool)
-        → result ≡ Ending.Failed fault is_reported → IsMetBeforeWriting fault → writer.new ≡ writer.old }
-    ensures no_file { (fault : TheFileFault) (is_reported : Bool)
-        → result ≡ Ending.FileFailed fault is_reported → writer.new ≡ writer.old }
-    ensures aside { (writer.new ≡ writer.old) ⊎ (request.now.files.output ≡ None) }
-    ensures unread { (reader.new ≡ reader.old) ⊎ (request.now.files.input ≡ None) }
 {
-    let stop = match answer_from(rt, alloc, request, store, reader, writer, terminal) {
+    let error = match answer {
         Ok(()) => return Ending::Done,
-        Err(stop) => stop,
+        Err(error) => error,
     };
-    match stop {
-        Stop::Fault(fault) => return report_fault(fault, errors),
-        Stop::File(fault) => {
-            let files = &request.files;
+    match error {
+        CommandError::Fault(fault) => return report_fault(fault, errors),
+        CommandError::File(fault) => {
             let name = match fault.side {
                 FileSide::Input => &files.input,
                 FileSide::Output => &files.output,
@@ -146,7 +129,70 @@ where
     }
 }
 
-// What a request waits for where its input is typed.
+// Answers the request with the files that it names, and the console's streams if it names none.
+fn carry_out<H, S, R, W, E, P, Q>(
+    rt: &H,
+    alloc: Global,
+    request: &Request,
+    store: &mut S,
+    console: &mut Console<R, W, E, P, Q>,
+) -> Result<(), CommandError>
+where
+    H: Threads + Wait + Clone + Send + Sync + 'static,
+    S: FileStore,
+    R: Read + Device,
+    W: Write + Device,
+    P: Write + Send + Drop + 'static,
+    requires { IsWithinLimits request.now.invocation }
+    ensures outcome { IsOutcome S.fresh (S.bytes store.old) (S.bytes store.new)
+        (held_by (S.bytes store.old) (R.remaining console.old.reader) (input_of request.now))
+        (W.contents console.old.writer) (W.contents console.new.writer)
+        (R.failures console.old.reader) (R.failures console.new.reader)
+        (W.failures console.old.writer) (W.failures console.new.writer)
+        (input_of request.now) (output_of request.now) request.now.invocation result }
+    ensures untouched { IfErr result (λ error.
+        StopsBeforeWriting error → console.new.writer ≡ console.old.writer) }
+    ensures aside { (console.new.writer ≡ console.old.writer)
+        ⊎ (request.now.files.output ≡ None) }
+    ensures unread { (console.new.reader ≡ console.old.reader)
+        ⊎ (request.now.files.input ≡ None) }
+    ensures shown { (console.new.terminal ≡ console.old.terminal)
+        ⊎ ShowsProgress request.now.invocation }
+    ensures errors { console.new.errors ≡ console.old.errors }
+    ensures prompt { console.new.prompt ≡ console.old.prompt }
+{
+    let invocation = request.invocation;
+    let task = Task {
+        invocation,
+        runner: &Plain,
+    };
+    let terminal = &mut console.terminal;
+    match (&request.files.input, &request.files.output) {
+        (None, None) => {
+            let (reader, writer) = (&mut console.reader, &mut console.writer);
+            answered(answer(rt, alloc, task, reader, writer, terminal))
+        }
+        (Some(input), None) => {
+            let mut file = open_input(store, input)?;
+            let writer = &mut console.writer;
+            answered(answer(rt, alloc, task, &mut file, writer, terminal))
+        }
+        (None, Some(output)) => {
+            let mut draft = begin_output(store, output)?;
+            let reader = &mut console.reader;
+            let answer = answer(rt, alloc, task, reader, &mut draft, terminal);
+            settle_output(store, draft, output, answer)
+        }
+        (Some(input), Some(output)) => {
+            let mut file = open_input(store, input)?;
+            let mut draft = begin_output(store, output)?;
+            let answer = answer(rt, alloc, task, &mut file, &mut draft, terminal);
+            settle_output(store, draft, output, answer)
+        }
+    }
+}
+
+// Returns what a request waits for, for a reader who types its input.
 fn awaited(invocation: Invocation) -> &'static str {
     match invocation {
         Invocation::Run(_) | Invocation::Report(_) => {
@@ -161,16 +207,15 @@ fn awaited(invocation: Invocation) -> &'static str {
     }
 }
 
-// Says what a request that names no file to read waits for, where somebody is there to type it. A failed
-// write of it is no fault.
+// Says what a request waits for that names no file to read, if there is a prompt. Ignores a failed write.
 fn announce<Q: Write>(request: &Request, prompt: &mut Option<Q>)
     ensures { (prompt.new ≡ prompt.old) ⊎ (request.now.files.input ≡ None) }
 {
     if request.files.input.is_some() {
         return;
     }
-    if let Some(typist) = prompt {
-        let _written = typist.writeln(awaited(request.invocation));
+    if let Some(prompt) = prompt {
+        let _written = prompt.writeln(awaited(request.invocation));
     }
 }
 
@@ -178,8 +223,7 @@ fn announce<Q: Write>(request: &Request, prompt: &mut Option<Q>)
 fn show<W: Write + Device, E: Write>(error: &clap::Error, writer: &mut W, errors: &mut E) -> Ending
     ensures shown { (result ≡ Ending.Done) ⊎ ((is_reported : Bool) × (result ≡ Ending.Failed
         (attribute FaultKind.Write (W.failures writer.old) (W.failures writer.new)) is_reported)) }
-    ensures line { (fault : TheFault) → result ≡ Ending.Failed fault true
-        → Appends (E.contents errors.old) (E.contents errors.new) (fault_text fault ++ 10 ∷ []) }
+    ensures line { ReportsFault result (E.contents errors.old) (E.contents errors.new) }
     ensures quiet { result ≡ Ending.Done → errors.new ≡ errors.old }
 {
     let failures_before = writer.failures();
@@ -202,8 +246,7 @@ fn explain<W: Write + Device, E: Write>(
     ensures untouched { (fault : TheFault) (is_reported : Bool)
         → result ≡ Ending.Failed fault is_reported → IsMetBeforeWriting fault → writer.new ≡ writer.old }
     ensures aside { (writer.new ≡ writer.old) ⊎ IsShown (kind_of error.now) }
-    ensures line { (fault : TheFault) → result ≡ Ending.Failed fault true
-        → Appends (E.contents errors.old) (E.contents errors.new) (fault_text fault ++ 10 ∷ []) }
+    ensures line { ReportsFault result (E.contents errors.old) (E.contents errors.new) }
     ensures quiet { result ≡ Ending.Done → errors.new ≡ errors.old }
     ensures rejected { result ≡ Ending.Rejected → writer.new ≡ writer.old }
 {
@@ -217,25 +260,21 @@ fn explain<W: Write + Device, E: Write>(
     }
 }
 
-/// Does what the words of a command line ask for, of which the first is the program's name.
+/// Does what the words of a command line ask for. The first word is the program's name.
 ///
-/// The reader and the writer stand for the files that the words do not name. A file that is written is
-/// a draft until all of it is there, so it is whole or as it was.
+/// The console's reader and writer are used if the words name no file. A file that is written is a draft until all of
+/// it is there, so it is whole or as it was.
 ///
-/// The line of a fault and what is wrong with a command line go to `errors`. Jobs are answered on
-/// threads of the runtime. The terminal, where there is one, shows how far a long run is while it
-/// works, unless the words ask for none of that. The prompt is there where the input is typed, and is
-/// told what is waited for once the words ask for a command that reads no file.
+/// The line of a fault goes to the console's `errors`, and so does what is wrong with a command line. Jobs run on
+/// threads of the runtime. The terminal, if there is one, shows how far a long run is, unless the words ask for
+/// none of that. The prompt, if there is one, says what is waited for once the words ask for a command that
+/// reads no file.
 pub fn run<H, S, R, W, E, P, Q>(
     rt: &H,
     alloc: Global,
     words: &[String],
     store: &mut S,
-    reader: &mut R,
-    writer: &mut W,
-    errors: &mut E,
-    terminal: &mut Option<P>,
-    prompt: &mut Option<Q>,
+    console: &mut Console<R, W, E, P, Q>,
 ) -> Ending
 where
     H: Threads + Wait + Clone + Send + Sync + 'static,
@@ -246,37 +285,35 @@ where
     P: Write + Send + Drop + 'static,
     Q: Write,
     ensures ends { EndsBy (map string_bytes words.now)
-        (held_by (S.bytes store.old) (R.remaining reader.old))
-        (begun_by S.fresh (W.contents writer.old))
-        (held_by (S.bytes store.new) (W.contents writer.new))
-        (λ input output. IsFaultIn input output (R.failures reader.old) (R.failures reader.new)
-        (W.failures writer.old) (W.failures writer.new)) result }
-    ensures line { (fault : TheFault) → result ≡ Ending.Failed fault true
-        → Appends (E.contents errors.old) (E.contents errors.new) (fault_text fault ++ 10 ∷ []) }
-    ensures file_line { (fault : TheFileFault) → result ≡ Ending.FileFailed fault true
-        → ReportsFile (map string_bytes words.now) fault
-        (E.contents errors.old) (E.contents errors.new) }
-    ensures quiet { result ≡ Ending.Done → errors.new ≡ errors.old }
-    ensures rejected { result ≡ Ending.Rejected
-        → (reader.new ≡ reader.old) × (writer.new ≡ writer.old) }
+        (held_by (S.bytes store.old) (R.remaining console.old.reader))
+        (begun_by S.fresh (W.contents console.old.writer))
+        (held_by (S.bytes store.new) (W.contents console.new.writer))
+        (IsFaultIn (R.failures console.old.reader) (R.failures console.new.reader)
+        (W.failures console.old.writer) (W.failures console.new.writer)) result }
+    ensures line { ReportsFault result
+        (E.contents console.old.errors) (E.contents console.new.errors) }
+    ensures file_line { ReportsFileFault (map string_bytes words.now) result
+        (E.contents console.old.errors) (E.contents console.new.errors) }
+    ensures quiet { result ≡ Ending.Done → console.new.errors ≡ console.old.errors }
+    ensures rejected { result ≡ Ending.Rejected → console.new.reader ≡ console.old.reader }
     ensures others { (name : Option (List ℕ)) × MayWrite (map string_bytes words.now) name
         × KeepsOthers name (S.bytes store.old) (S.bytes store.new) }
     ensures kept { (result ≡ Ending.Done) ⊎ KeepsFiles (S.bytes store.old) (S.bytes store.new) }
-    ensures shown { (terminal.new ≡ terminal.old) ⊎ AsksForProgress (map string_bytes words.now) }
-    ensures prompted { (prompt.new ≡ prompt.old) ⊎ AsksForInput (map string_bytes words.now) }
-    ensures untouched { (fault : TheFault) (is_reported : Bool)
-        → result ≡ Ending.Failed fault is_reported → IsMetBeforeWriting fault → writer.new ≡ writer.old }
-    ensures no_file { (fault : TheFileFault) (is_reported : Bool)
-        → result ≡ Ending.FileFailed fault is_reported → writer.new ≡ writer.old }
-    ensures aside { (writer.new ≡ writer.old) ⊎ AsksForOutput (map string_bytes words.now) }
-    ensures unread { (reader.new ≡ reader.old) ⊎ AsksForInput (map string_bytes words.now) }
+    ensures shown { (console.new.terminal ≡ console.old.terminal)
+        ⊎ AsksForProgress (map string_bytes words.now) }
+    ensures prompted { (console.new.prompt ≡ console.old.prompt)
+        ⊎ AsksForInput (map string_bytes words.now) }
+    ensures untouched { EndsBeforeWriting result → console.new.writer ≡ console.old.writer }
+    ensures aside { (console.new.writer ≡ console.old.writer)
+        ⊎ AsksForOutput (map string_bytes words.now) }
+    ensures unread { (console.new.reader ≡ console.old.reader)
+        ⊎ AsksForInput (map string_bytes words.now) }
 {
-    let error = match parse_args(alloc, words) {
-        Ok(request) => {
-            announce(&request, prompt);
-            return carry_out(rt, alloc, &request, store, reader, writer, errors, terminal);
-        }
-        Err(error) => error,
+    let request = match parse_args(alloc, words) {
+        Ok(request) => request,
+        Err(error) => return explain(&error, &mut console.writer, &mut console.errors),
     };
-    explain(&error, writer, errors)
+    announce(&request, &mut console.prompt);
+    let answer = carry_out(rt, alloc, &request, store, console);
+    report(answer, &request.files, &mut console.errors)
 }

@@ -1,5 +1,5 @@
 // The line of progress of a long run, on a terminal.
-ghost use Rattle.std.specs.Prelude.{◌≡◌};
+ghost use Rattle.std.specs.Prelude.{◌≡◌, ◌⊎◌, false, IsSome};
 
 use dispatcher::Runner;
 use job_types::{Job, JobId, Region, Reply};
@@ -31,9 +31,9 @@ const WIPE: &[u8] = b"\r                               \r";
 
 /// How many records a run has read, and how many replies are done.
 ///
-/// The threads of a run count here, and no contract says what they count.
+/// The threads of a run count here. No contract says what they count.
 #[derive(Drop)]
-pub struct Counts {
+pub(crate) struct Counts {
     records: AtomicU64,
     replies: AtomicU64,
 }
@@ -110,20 +110,20 @@ fn show<H: Wait, W: Write>(rt: &H, board: &Board, mut terminal: W) -> W {
     terminal
 }
 
-/// How many records a run has read and how many replies are done, in one line of a terminal, which is
-/// written anew in place.
+/// The line of progress: how many records a run has read and how many replies are done. It is one line of a
+/// terminal, written anew in place.
 ///
 /// One thread writes it, and no other waits for a write: the reader and the workers of a run only count.
 /// No contract says what it shows.
 #[derive(Drop)]
-pub struct Progress<W> {
+pub(crate) struct Progress<W> {
     board: Arc<Board, Global>,
     thread: JoinHandle<W>,
 }
 
 impl<W: Write + Send + Drop + 'static> Progress<W> {
-    /// Begins to show the progress of a run that has read no record. There is none, and the terminal is
-    /// dropped, where memory or a thread is refused.
+    /// Begins to show the progress of a run that has read no record. Returns `None`, and drops the terminal, if
+    /// memory or a thread is refused.
     pub fn begin<H: Threads + Wait + Clone + Send + 'static>(
         rt: &H,
         alloc: Global,
@@ -142,13 +142,13 @@ impl<W: Write + Send + Drop + 'static> Progress<W> {
         })
     }
 
-    /// Where the threads of the run count.
+    /// Returns where the threads of the run count.
     pub fn counts(&self) -> &Counts {
         &self.board.counts
     }
 
-    /// Wipes the line, and gives the terminal back. Where a write to it still waits after a second it is
-    /// lost to the thread that waits.
+    /// Wipes the line and returns the terminal. Returns `None` if a write to it still waits after a second: the
+    /// thread that waits keeps it.
     pub fn end<H: Threads + Wait>(self, rt: &H) -> Option<W> {
         let Progress { board, thread } = self;
         board.is_over.store(true, Ordering::SeqCst);
@@ -163,16 +163,57 @@ impl<W: Write + Send + Drop + 'static> Progress<W> {
     }
 }
 
-/// An observer that counts the records that are read.
+/// Begins the line of progress, unless the run is quiet or there is no terminal.
+pub(crate) fn begin_progress<H, P>(
+    rt: &H,
+    alloc: Global,
+    is_quiet: bool,
+    terminal: &mut Option<P>,
+) -> Option<Progress<P>>
+where
+    H: Threads + Wait + Clone + Send + 'static,
+    P: Write + Send + Drop + 'static,
+    ensures kept { (terminal.new ≡ terminal.old) ⊎ (is_quiet ≡ false) }
+    ensures shown { IsSome result → is_quiet ≡ false }
+{
+    if is_quiet {
+        return None;
+    }
+    Progress::begin(rt, alloc, terminal.take()?)
+}
+
+/// Ends the line of progress, if there is one, and gives its terminal back.
+pub(crate) fn end_progress<H, P>(rt: &H, progress: Option<Progress<P>>, terminal: &mut Option<P>)
+where
+    H: Threads + Wait,
+    P: Write + Send + Drop + 'static,
+    ensures { (terminal.new ≡ terminal.old) ⊎ IsSome progress }
+{
+    if let Some(progress) = progress {
+        *terminal = progress.end(rt);
+    }
+}
+
+/// Returns where the threads of the run count, if its progress is shown.
+pub(crate) fn counts_of<W: Write + Send + Drop + 'static>(
+    progress: &Option<Progress<W>>,
+) -> Option<&Counts> {
+    match progress {
+        Some(progress) => Some(progress.counts()),
+        None => None,
+    }
+}
+
+/// An observer that counts the records that are read, for the line of progress too if there is one.
 #[derive(Drop)]
-pub struct RecordProgress<'a> {
+pub(crate) struct RecordProgress<'a> {
     seen: u64,
-    counts: &'a Counts,
+    counts: Option<&'a Counts>,
 }
 
 impl<'a> RecordProgress<'a> {
-    /// It has seen no record.
-    pub fn new(counts: &'a Counts) -> Self
+    /// Makes an observer that has seen no record.
+    pub fn new(counts: Option<&'a Counts>) -> Self
         ensures { result.seen ≡ 0 }
     {
         RecordProgress { seen: 0, counts }
@@ -184,23 +225,27 @@ impl Observer for RecordProgress<'_> {
 
     fn see(&mut self) {
         self.seen = self.seen.saturating_add(1);
-        self.counts.records.store(self.seen, Ordering::SeqCst);
+        if let Some(counts) = self.counts {
+            counts.records.store(self.seen, Ordering::SeqCst);
+        }
     }
 }
 
-/// A runner that answers jobs by another one, and counts the replies.
+/// A runner that answers jobs by another one. It counts the replies if there is a line of progress.
 #[derive(Drop)]
-pub struct ReplyProgress<'a, T> {
+pub(crate) struct ReplyProgress<'a, 'b, T> {
     /// The runner that answers the jobs.
     pub runner: &'a T,
     /// Where the replies are counted.
-    pub counts: &'a Counts,
+    pub counts: Option<&'b Counts>,
 }
 
-impl<T: Runner> Runner for ReplyProgress<'_, T> {
+impl<T: Runner> Runner for ReplyProgress<'_, '_, T> {
     fn run<R: Wait>(&self, rt: &R, id: JobId, region: Region, job: Job) -> Reply {
         let reply = self.runner.run(rt, id, region, job);
-        self.counts.replies.fetch_add(1, Ordering::SeqCst);
+        if let Some(counts) = self.counts {
+            counts.replies.fetch_add(1, Ordering::SeqCst);
+        }
         reply
     }
 }

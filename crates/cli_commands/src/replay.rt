@@ -5,7 +5,7 @@ ghost use Rattle.std.specs.List.{flat_map};
 ghost use Rattle.jobs_csv.specs.ReplayRows.{replay_columns, replay_fields};
 ghost use Rattle.jobs_csv.specs.Text.{file_text, line_of};
 ghost use Rattle.jobs_csv.specs.declared.replay_rows.ReplayRow.{ReplayRow as Row};
-ghost use Rattle.cli_words.specs.declared.invocation.Invocation.TheVariants.{Replay};
+ghost use Rattle.cli_args.specs.declared.invocation.Invocation.TheVariants.{Replay};
 ghost use Rattle.cli_commands.specs.Answer.{IsCommandFault, IsMetBeforeWriting};
 ghost use Rattle.cli_commands.specs.Program.{IsAnswerTo};
 ghost use Rattle.cli_commands.specs.Replay.{AreReplayed, final_rows};
@@ -13,7 +13,7 @@ ghost use Rattle.cli_commands.specs.Replay.{AreReplayed, final_rows};
 use crate::play;
 use cube_core::World;
 use cube_shape::{MAX_DIM, MAX_STATIONS};
-use jobs_csv::{Device, Fault, FaultKind, Line, LineBuffer, ReplayRow, WriteStopped};
+use jobs_csv::{Device, Fault, FaultKind, Line, LineBuffer, ReplayRow, WriteError};
 use std::alloc::{AllocError, Global};
 use std::io::{Read, Write};
 
@@ -36,7 +36,7 @@ fn write_end<W: Write>(
     world: &World,
     lines: LineBuffer,
     writer: &mut W,
-) -> Result<(), WriteStopped>
+) -> Result<(), WriteError>
     requires limit { n ≤ MAX_DIM }
     requires dim { world.now.dim ≡ n }
     ensures { OnOk result (Appends (W.contents writer.old) (W.contents writer.new)
@@ -54,7 +54,7 @@ fn play_all<W: Write>(
     stations: u32,
     schedule: Vec<Line>,
     writer: &mut W,
-) -> Result<(), WriteStopped>
+) -> Result<(), WriteError>
     requires dim { n ≤ MAX_DIM }
     requires stations { stations ≤ MAX_STATIONS }
     ensures { OnOk result ((rows : List Row) × AreReplayed n stations schedule.items rows
@@ -97,7 +97,7 @@ pub fn replay_on<R: Read + Device, W: Write + Device>(
     let failures_before = writer.failures();
     match play_all(alloc, n, stations, schedule, writer) {
         Ok(()) => Ok(()),
-        Err(WriteStopped) => Err(Fault::attribute(
+        Err(WriteError) => Err(Fault::attribute(
             FaultKind::Write,
             failures_before,
             writer.failures(),

@@ -13,7 +13,7 @@ use std::alloc::{AllocError, Global};
 
 /// A machine with a name for each station that holds a region.
 #[derive(Drop)]
-pub struct Stations {
+pub(crate) struct Stations {
     bits: AllocBits,
     names: Names,
 }

@@ -23,6 +23,9 @@ pub use collective::{all_reduce, broadcast, exscan, reduce, scan};
 pub use message::Message;
 pub use messages::message_at;
 pub use monoid::Monoid;
-pub use operations::{Add, Affine, And, Max, Min, Or, Xor};
+pub use operations::{
+    Add, Addition, Affine, And, BitwiseAnd, BitwiseOr, BitwiseXor, Max, Maximum, Min, Minimum,
+    Operand, Operator, Or, Xor,
+};
 pub use padding::pad;
 pub use shape::{DIM_LIMIT, Shape, Tally};

@@ -1,162 +1,224 @@
-//! The seven monoids of the crate.
+//! The monoids of the crate: numbers that an operator joins, and affine maps.
 
-ghost use Rattle.std.specs.Prelude.{◌^◌, ◌<◌};
-ghost use Rattle.collectives.specs.Operations.{add_of, add_join, min_of, min_join, max_of, max_join, xor_of, xor_join, and_of, and_join, or_of, or_join, affine, affine_join, IsAffineValue};
+ghost use Rattle.std.specs.Prelude.{◌≡◌, ℕ, ◌+◌, ◌-◌, ◌%◌, ◌^◌, min, max, bit_and, bit_or, bit_xor};
+ghost use Rattle.collectives.specs.Laws.{MonoidLaws};
+ghost use Rattle.collectives.specs.Operations.{IsU64, affine, affine_join, IsAffineValue};
 ghost use Rattle.collectives.specs.Inner.OperationLaws.{add_laws, min_laws, max_laws, xor_laws, and_laws, or_laws, affine_laws};
 
 use crate::monoid::Monoid;
+use std::marker::{Model, PhantomData};
 
-/// The sum modulo `2^64`. Each `u64` is a value.
+/// An operator that joins two numbers into one: associative, and with a unit.
+///
+/// A type that implements it is a name for the operator. Nobody needs a value of that type.
+pub trait Operator: Copy {
+    ghost unit: { ℕ };
+
+    ghost join: { ℕ → ℕ → ℕ };
+
+    /// Returns the number that changes nothing on either side.
+    fn unit() -> u64
+        ensures { result ≡ unit };
+
+    /// Joins two numbers, the first on the left.
+    fn join(left: u64, right: u64) -> u64
+        ensures { result ≡ join left right };
+
+    ghost laws: { MonoidLaws IsU64 unit join };
+}
+
+/// A number that the operator `O` joins with others. Each `u64` is a value.
+///
+/// A contract sees the number.
 #[derive(Clone, Copy, Debug, PartialEq, Eq, Hash)]
-pub struct Add(pub u64);
+pub struct Operand<O> {
+    number: u64,
+    operator: PhantomData<O>,
+}
 
-impl Monoid for Add {
-    ghost unit = { add_of 0 };
+impl<O> Model for Operand<O> {
+    ghost Value = { ℕ };
 
-    ghost join = { add_join };
+    ghost view = { λ operand. operand.number };
 
-    ghost is_value = { λ x. x.0 < 2 ^ 64 };
+    ghost inverse = { λ number. record { number = number; operator = record {} } };
+}
 
-    fn unit() -> Add {
-        Add(0)
+impl<O: Operator> Operand<O> {
+    /// Makes an operand of the number.
+    pub fn new(number: u64) -> Self
+        ensures number { result ≡ number }
+        ensures value { IsU64 result }
+    {
+        Operand {
+            number,
+            operator: PhantomData,
+        }
     }
 
-    fn join(self, right: Add) -> Add {
-        Add(self.0.wrapping_add(right.0))
+    /// Returns the number.
+    pub fn number(self) -> u64
+        ensures { result ≡ self }
+    {
+        self.number
+    }
+}
+
+impl<O: Operator> Monoid for Operand<O> {
+    ghost unit = { O.unit };
+
+    ghost join = { O.join };
+
+    ghost is_value = { IsU64 };
+
+    fn unit() -> Self {
+        Operand::new(O::unit())
+    }
+
+    fn join(self, right: Self) -> Self {
+        Operand::new(O::join(self.number, right.number))
     }
 
     fn is_value(self) -> bool {
         true
+    }
+
+    ghost laws = { O.laws };
+}
+
+/// Adds two numbers, modulo `2^64`.
+#[derive(Clone, Copy, Debug, PartialEq, Eq, Hash)]
+pub struct Addition;
+
+/// A number that `Addition` joins with others.
+pub type Add = Operand<Addition>;
+
+impl Operator for Addition {
+    ghost unit = { 0 };
+
+    ghost join = { λ left right. (left + right) % 2 ^ 64 };
+
+    fn unit() -> u64 {
+        0
+    }
+
+    fn join(left: u64, right: u64) -> u64 {
+        left.wrapping_add(right)
     }
 
     ghost laws = { add_laws };
 }
 
-/// The smaller of two. Each `u64` is a value.
+/// Takes the smaller of two numbers.
 #[derive(Clone, Copy, Debug, PartialEq, Eq, Hash)]
-pub struct Min(pub u64);
+pub struct Minimum;
 
-impl Monoid for Min {
-    ghost unit = { min_of 18446744073709551615 };
+/// A number that `Minimum` joins with others.
+pub type Min = Operand<Minimum>;
 
-    ghost join = { min_join };
+impl Operator for Minimum {
+    ghost unit = { 2 ^ 64 - 1 };
 
-    ghost is_value = { λ x. x.0 < 2 ^ 64 };
+    ghost join = { min };
 
-    fn unit() -> Min {
-        Min(u64::MAX)
+    fn unit() -> u64 {
+        u64::MAX
     }
 
-    fn join(self, right: Min) -> Min {
-        Min(self.0.min(right.0))
-    }
-
-    fn is_value(self) -> bool {
-        true
+    fn join(left: u64, right: u64) -> u64 {
+        left.min(right)
     }
 
     ghost laws = { min_laws };
 }
 
-/// The larger of two. Each `u64` is a value.
+/// Takes the larger of two numbers.
 #[derive(Clone, Copy, Debug, PartialEq, Eq, Hash)]
-pub struct Max(pub u64);
+pub struct Maximum;
 
-impl Monoid for Max {
-    ghost unit = { max_of 0 };
+/// A number that `Maximum` joins with others.
+pub type Max = Operand<Maximum>;
 
-    ghost join = { max_join };
+impl Operator for Maximum {
+    ghost unit = { 0 };
 
-    ghost is_value = { λ x. x.0 < 2 ^ 64 };
+    ghost join = { max };
 
-    fn unit() -> Max {
-        Max(0)
+    fn unit() -> u64 {
+        0
     }
 
-    fn join(self, right: Max) -> Max {
-        Max(self.0.max(right.0))
-    }
-
-    fn is_value(self) -> bool {
-        true
+    fn join(left: u64, right: u64) -> u64 {
+        left.max(right)
     }
 
     ghost laws = { max_laws };
 }
 
-/// The bits in which two differ. Each `u64` is a value.
+/// Takes the bits in which two numbers differ.
 #[derive(Clone, Copy, Debug, PartialEq, Eq, Hash)]
-pub struct Xor(pub u64);
+pub struct BitwiseXor;
 
-impl Monoid for Xor {
-    ghost unit = { xor_of 0 };
+/// A number that `BitwiseXor` joins with others.
+pub type Xor = Operand<BitwiseXor>;
 
-    ghost join = { xor_join };
+impl Operator for BitwiseXor {
+    ghost unit = { 0 };
 
-    ghost is_value = { λ x. x.0 < 2 ^ 64 };
+    ghost join = { bit_xor };
 
-    fn unit() -> Xor {
-        Xor(0)
+    fn unit() -> u64 {
+        0
     }
 
-    fn join(self, right: Xor) -> Xor {
-        Xor(self.0 ^ right.0)
-    }
-
-    fn is_value(self) -> bool {
-        true
+    fn join(left: u64, right: u64) -> u64 {
+        left ^ right
     }
 
     ghost laws = { xor_laws };
 }
 
-/// The bits that both have. Each `u64` is a value.
+/// Takes the bits that two numbers share.
 #[derive(Clone, Copy, Debug, PartialEq, Eq, Hash)]
-pub struct And(pub u64);
+pub struct BitwiseAnd;
 
-impl Monoid for And {
-    ghost unit = { and_of 18446744073709551615 };
+/// A number that `BitwiseAnd` joins with others.
+pub type And = Operand<BitwiseAnd>;
 
-    ghost join = { and_join };
+impl Operator for BitwiseAnd {
+    ghost unit = { 2 ^ 64 - 1 };
 
-    ghost is_value = { λ x. x.0 < 2 ^ 64 };
+    ghost join = { bit_and };
 
-    fn unit() -> And {
-        And(u64::MAX)
+    fn unit() -> u64 {
+        !0
     }
 
-    fn join(self, right: And) -> And {
-        And(self.0 & right.0)
-    }
-
-    fn is_value(self) -> bool {
-        true
+    fn join(left: u64, right: u64) -> u64 {
+        left & right
     }
 
     ghost laws = { and_laws };
 }
 
-/// The bits that one of two has. Each `u64` is a value.
+/// Takes the bits that one of two numbers has, or both.
 #[derive(Clone, Copy, Debug, PartialEq, Eq, Hash)]
-pub struct Or(pub u64);
+pub struct BitwiseOr;
 
-impl Monoid for Or {
-    ghost unit = { or_of 0 };
+/// A number that `BitwiseOr` joins with others.
+pub type Or = Operand<BitwiseOr>;
 
-    ghost join = { or_join };
+impl Operator for BitwiseOr {
+    ghost unit = { 0 };
 
-    ghost is_value = { λ x. x.0 < 2 ^ 64 };
+    ghost join = { bit_or };
 
-    fn unit() -> Or {
-        Or(0)
+    fn unit() -> u64 {
+        0
     }
 
-    fn join(self, right: Or) -> Or {
-        Or(self.0 | right.0)
-    }
-
-    fn is_value(self) -> bool {
-        true
+    fn join(left: u64, right: u64) -> u64 {
+        left | right
     }
 
     ghost laws = { or_laws };

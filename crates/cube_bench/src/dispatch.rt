@@ -5,25 +5,25 @@ ghost use Rattle.std.specs.Prelude.{◌≤◌};
 mod lists;
 mod words;
 
-use crate::outcome::{Measured, Stopped, nanos_since};
-use crew::{RunEnd, run};
-use cube_shape::MAX_LANES;
+use crate::outcome::{MeasureError, Measured, nanos_since};
+use cube_shape::{MAX_DIM, MAX_LANES};
 use dispatcher::{Finished, Plain, ShopRefused};
+use floor_locked::LockedFloor;
+use floor_tree::TreeFloor;
 use floors::Floor;
 use job_queue::JobLine;
 use job_types::Job;
+use line_locked::LockedLine;
+use line_ruled::RuledLine;
 use lists::jobs_of_all;
-use locked_floor::LockedFloor;
-use locked_line::LockedLine;
-use ruled_line::RuledLine;
+use shop_threads::{RunEnd, SharedFloor, SharedLine, run};
 use std::alloc::Global;
 use std::collections::VecDeque;
 use std::rt::Clock;
 use std::sync::Wait;
 use std::thread::Threads;
 use std::time::Instant;
-use tree_floor::TreeFloor;
-use words::{DIM, Invocation, parse_words};
+use words::{Invocation, parse_words};
 
 // How many replies there are.
 fn reply_count<M>(finished: &Finished<M>) -> u64 {
@@ -48,32 +48,17 @@ fn measured_of<M>(
 
 // Runs a new shop over this line and this floor: how many jobs have a reply, and the nanoseconds from
 // the opening of the shop to its end.
-fn run_shop<R: Threads + Wait + Sync + Clock, L: JobLine + Sync, F: Floor + Sync>(
+fn run_shop<R: Threads + Wait + Sync + Clock, L: JobLine + SharedLine, F: Floor + SharedFloor>(
     rt: &R,
     alloc: Global,
     invocation: Invocation,
 ) -> Option<Measured>
-where
-    L::Lane: Send,
-    L::Pass: Send,
-    L::End: Send,
-    L::Closer: Send,
-    L::Note: Send,
-    F::Station: Send,
-    F::Machine: Drop,
-    requires { invocation.lanes ≤ MAX_LANES }
+    requires lanes { invocation.lanes ≤ MAX_LANES }
+    requires dim { invocation.sizes.dim ≤ MAX_DIM }
 {
     let lists = jobs_of_all(alloc, invocation)?;
     let start = Instant::now(rt);
-    let ran = run::<R, L, F, Plain>(
-        rt,
-        alloc,
-        DIM,
-        invocation.dispatchers,
-        invocation.capacity,
-        &Plain,
-        lists,
-    );
+    let ran = run::<R, L, F, Plain>(rt, alloc, invocation.sizes, &Plain, lists);
     let nanos = nanos_since(rt, start);
     measured_of(alloc, &ran, nanos)
 }
@@ -84,7 +69,8 @@ fn measure_shop<R: Threads + Wait + Sync + Clock>(
     alloc: Global,
     invocation: Invocation,
 ) -> Option<Measured>
-    requires { invocation.lanes ≤ MAX_LANES }
+    requires lanes { invocation.lanes ≤ MAX_LANES }
+    requires dim { invocation.sizes.dim ≤ MAX_DIM }
 {
     if invocation.is_free {
         run_shop::<R, RuledLine, TreeFloor>(rt, alloc, invocation)
@@ -94,16 +80,16 @@ fn measure_shop<R: Threads + Wait + Sync + Clock>(
 }
 
 /// Runs the shop that the words ask for, and counts and times it.
-pub fn measure<R: Threads + Wait + Sync + Clock>(
+pub(crate) fn measure<R: Threads + Wait + Sync + Clock>(
     rt: &R,
     alloc: Global,
     words: &[String],
-) -> Result<Measured, Stopped> {
+) -> Result<Measured, MeasureError> {
     let Some(invocation) = parse_words(words) else {
-        return Err(Stopped::BadWords);
+        return Err(MeasureError::BadWords);
     };
     let Some(measured) = measure_shop(rt, alloc, invocation) else {
-        return Err(Stopped::Failed);
+        return Err(MeasureError::Failed);
     };
     Ok(measured)
 }

@@ -19,7 +19,7 @@ fn job(alloc: Global, machine: u32, lane: u32, items: usize) -> Option<Job>
 }
 
 /// The jobs of one lane, each an all-reduce of so many ones.
-pub fn jobs_of(
+pub(crate) fn jobs_of(
     alloc: Global,
     machine: u32,
     lane: u32,

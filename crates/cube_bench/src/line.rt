@@ -7,12 +7,13 @@ mod calls;
 mod words;
 
 use crate::jobs::jobs_of;
-use crate::outcome::{Measured, Stopped, nanos_since};
+use crate::outcome::{MeasureError, Measured, nanos_since};
 use calls::{Feeding, Taking, Timed, room_for_times, submit, take, times_of_all};
 use cube_shape::{MAX_CAPACITY, MAX_LANES, MAX_PASSES};
 use job_queue::{JobLine, Opened, QueuedJob, Refused, Rest, Sizes, Taken};
-use locked_line::LockedLine;
-use ruled_line::RuledLine;
+use line_locked::LockedLine;
+use line_ruled::RuledLine;
+use shop_threads::SharedLine;
 use std::alloc::Global;
 use std::rt::Clock;
 use std::sync::{Mutex, Wait};
@@ -28,6 +29,7 @@ fn jobs_of_all(alloc: Global, invocation: Invocation) -> Option<Vec<Mutex<Feedin
     for lane in 0..invocation.sizes.lanes {
         let feeding = Timed {
             jobs: jobs_of(alloc, MACHINE, lane, 1, invocation.jobs)?,
+            wanted: invocation.jobs,
             times: room_for_times(alloc, invocation.times_calls, invocation.jobs)?,
         };
         all.push(Mutex::new(feeding)).ok()?;
@@ -41,7 +43,11 @@ fn room(alloc: Global, times_calls: bool, count: usize) -> Option<Taking> {
         return None;
     };
     let times = room_for_times(alloc, times_calls, count)?;
-    Some(Timed { jobs, times })
+    Some(Timed {
+        jobs,
+        wanted: count,
+        times,
+    })
 }
 
 // A list with room for `count` jobs for each pass.
@@ -93,18 +99,17 @@ fn feed<R: Wait + Clock, L: JobLine>(rt: &R, line: &L, lane: &mut L::Lane, feedi
     unreachable!()
 }
 
-// Takes the next job, where there is one and the list has fewer than `count`: whether there may be more to do.
+// Takes the next job, where there is one and more are wanted: whether there may be more to do.
 fn drain_next<R: Wait + Clock, L: JobLine>(
     rt: &R,
     line: &L,
     pass: &mut L::Pass,
     taking: &mut Taking,
-    count: usize,
 ) -> bool
     requires { L.is_pass (L.id line.now) pass.old }
     ensures { L.is_pass (L.id line.now) pass.new }
 {
-    if taking.jobs.len() >= count || taking.jobs.reserve(1).is_err() {
+    if taking.jobs.len() >= taking.wanted || taking.jobs.reserve(1).is_err() {
         return false;
     }
     match take(rt, line, pass, &mut taking.times) {
@@ -120,19 +125,13 @@ fn drain_next<R: Wait + Clock, L: JobLine>(
     }
 }
 
-// Takes this many jobs, for which the list has room.
-fn drain<R: Wait + Clock, L: JobLine>(
-    rt: &R,
-    line: &L,
-    pass: &mut L::Pass,
-    taking: &mut Taking,
-    count: usize,
-)
+// Takes as many jobs as are wanted, for which the list has room.
+fn drain<R: Wait + Clock, L: JobLine>(rt: &R, line: &L, pass: &mut L::Pass, taking: &mut Taking)
     requires { L.is_pass (L.id line.now) pass.old }
     ensures { L.is_pass (L.id line.now) pass.new }
 {
     for _ in rt.forever() {
-        if !drain_next(rt, line, pass, taking, count) {
+        if !drain_next(rt, line, pass, taking) {
             return;
         }
     }
@@ -140,15 +139,12 @@ fn drain<R: Wait + Clock, L: JobLine>(
 }
 
 // Feeds by all lanes at once.
-fn feed_all<R: Threads + Wait + Clock + Sync, L: JobLine + Sync>(
+fn feed_all<R: Threads + Wait + Clock + Sync, L: JobLine + SharedLine>(
     rt: &R,
     line: &L,
     lanes: &mut [L::Lane],
     jobs: &[Mutex<Feeding>],
 )
-where
-    L::Lane: Send,
-    L::End: Send,
     requires lanes { All (L.is_lane (L.id line.now)) lanes.old }
     requires machine { (L.id line.now).sizes.machine ≡ MACHINE }
     ensures { All (L.is_lane (L.id line.now)) lanes.new }
@@ -165,17 +161,13 @@ where
     for_each_mut(rt, lanes, MAX_LANES as usize, &feed_one);
 }
 
-// Drains by all passes at once, and each takes this many jobs.
-fn drain_all<R: Threads + Wait + Clock + Sync, L: JobLine + Sync>(
+// Drains by all passes at once.
+fn drain_all<R: Threads + Wait + Clock + Sync, L: JobLine + SharedLine>(
     rt: &R,
     line: &L,
     passes: &mut [L::Pass],
     taken: &[Mutex<Taking>],
-    count: usize,
 )
-where
-    L::Pass: Send,
-    L::End: Send,
     requires { All (L.is_pass (L.id line.now)) passes.old }
     ensures { All (L.is_pass (L.id line.now)) passes.new }
 {
@@ -184,26 +176,21 @@ where
         ensures { L.is_pass (L.id line.entry.now) pass.exit.now }
     {
         if let Some(taken) = taken.get(number) {
-            drain(rt, line, pass, &mut taken.lock(rt), count);
+            drain(rt, line, pass, &mut taken.lock(rt));
         }
     };
     for_each_mut(rt, passes, MAX_PASSES as usize, &drain_one);
 }
 
 // Feeds by all lanes and drains by all passes at once. Where no thread can be made, it feeds first.
-fn run_threads<'a, R: Threads + Wait + Clock + Sync, L: JobLine + Sync>(
+fn run_threads<'a, R: Threads + Wait + Clock + Sync, L: JobLine + SharedLine>(
     rt: &'a R,
     line: &'a L,
     lanes: &'a mut [L::Lane],
     passes: &'a mut [L::Pass],
     jobs: &'a [Mutex<Feeding>],
     taken: &'a [Mutex<Taking>],
-    count: usize,
 )
-where
-    L::Lane: Send,
-    L::Pass: Send,
-    L::End: Send,
     requires lanes { All (L.is_lane (L.id line.now)) lanes.old }
     requires passes { All (L.is_pass (L.id line.now)) passes.old }
     requires machine { (L.id line.now).sizes.machine ≡ MACHINE }
@@ -218,7 +205,7 @@ where
     let mut draining = ||
         requires { All (L.is_pass (L.id line.now)) passes.now }
         ensures { All (L.is_pass (L.id line.entry.now)) passes.exit.now }
-    { drain_all(rt, line, passes, taken, count) };
+    { drain_all(rt, line, passes, taken) };
     join_mut(rt, &mut draining, &mut feeding);
 }
 
@@ -240,22 +227,14 @@ fn share(invocation: Invocation) -> usize
     invocation.jobs * invocation.sizes.lanes as usize / invocation.sizes.passes as usize
 }
 
-// Runs the threads on a new line, where each pass takes `count` jobs: the number of jobs that were taken, and the
-// nanoseconds that it took.
-fn run_line<R: Threads + Wait + Sync + Clock, L: JobLine + Sync>(
+// Runs the threads on a new line: the number of jobs that were taken, and the nanoseconds that it took.
+fn run_line<R: Threads + Wait + Sync + Clock, L: JobLine + SharedLine>(
     rt: &R,
     alloc: Global,
     sizes: Sizes,
     jobs: &[Mutex<Feeding>],
     taken: &[Mutex<Taking>],
-    count: usize,
 ) -> Option<(u64, u128)>
-where
-    L::Lane: Send,
-    L::Pass: Send,
-    L::End: Send,
-    L::Closer: Send,
-    L::Note: Send,
     requires lanes { sizes.lanes ≤ MAX_LANES }
     requires passes { (0 < sizes.passes) × (sizes.passes ≤ MAX_PASSES) }
     requires capacity { (0 < sizes.capacity) × (sizes.capacity ≤ MAX_CAPACITY) }
@@ -271,7 +250,7 @@ where
         closer,
     } = opened;
     let start = Instant::now(rt);
-    run_threads(rt, &line, &mut lanes, &mut passes, jobs, taken, count);
+    run_threads(rt, &line, &mut lanes, &mut passes, jobs, taken);
     let nanos = nanos_since(rt, start);
     let note = line.close(rt, closer);
     let rest = line.into_rest(rt, lanes, passes, note);
@@ -299,17 +278,11 @@ fn measured_of<R: Wait>(
 
 // Runs the threads on a new line: the number of jobs that were taken, the nanoseconds that it took, and
 // those of each call in order, where the calls were timed.
-fn measure_line<R: Threads + Wait + Sync + Clock, L: JobLine + Sync>(
+fn measure_line<R: Threads + Wait + Sync + Clock, L: JobLine + SharedLine>(
     rt: &R,
     alloc: Global,
     invocation: Invocation,
 ) -> Option<Measured>
-where
-    L::Lane: Send,
-    L::Pass: Send,
-    L::End: Send,
-    L::Closer: Send,
-    L::Note: Send,
     requires lanes { invocation.sizes.lanes ≤ MAX_LANES }
     requires passes { (0 < invocation.sizes.passes) × (invocation.sizes.passes ≤ MAX_PASSES) }
     requires capacity { (0 < invocation.sizes.capacity)
@@ -320,18 +293,18 @@ where
     let count = share(invocation);
     let jobs = jobs_of_all(alloc, invocation)?;
     let taken = room_of_all(alloc, invocation, count)?;
-    let ran = run_line::<R, L>(rt, alloc, invocation.sizes, &jobs, &taken, count);
+    let ran = run_line::<R, L>(rt, alloc, invocation.sizes, &jobs, &taken);
     measured_of(rt, alloc, ran, &jobs, &taken)
 }
 
 /// Runs the line that the words ask for, and counts and times the jobs that were taken.
-pub fn measure<R: Threads + Wait + Sync + Clock>(
+pub(crate) fn measure<R: Threads + Wait + Sync + Clock>(
     rt: &R,
     alloc: Global,
     words: &[String],
-) -> Result<Measured, Stopped> {
+) -> Result<Measured, MeasureError> {
     let Some(invocation) = parse_words(words) else {
-        return Err(Stopped::BadWords);
+        return Err(MeasureError::BadWords);
     };
     let measured = if invocation.is_ruled {
         measure_line::<R, RuledLine>(rt, alloc, invocation)
@@ -339,7 +312,7 @@ pub fn measure<R: Threads + Wait + Sync + Clock>(
         measure_line::<R, LockedLine>(rt, alloc, invocation)
     };
     let Some(measured) = measured else {
-        return Err(Stopped::Failed);
+        return Err(MeasureError::Failed);
     };
     Ok(measured)
 }

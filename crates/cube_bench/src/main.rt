@@ -39,7 +39,7 @@ mod outcome;
 mod rounds;
 mod tree;
 
-use outcome::{Measured, Stopped, print};
+use outcome::{MeasureError, Measured, print};
 use std::alloc::Global;
 use std::io;
 use std::process::ExitCode;
@@ -58,9 +58,9 @@ fn measure<R: Threads + Wait + Sync + Clock + Print>(
     rt: &R,
     alloc: Global,
     words: &[String],
-) -> Result<Measured, Stopped> {
+) -> Result<Measured, MeasureError> {
     let Some((name, words)) = words.split_first() else {
-        return Err(Stopped::BadWords);
+        return Err(MeasureError::BadWords);
     };
     match name.as_str() {
         "rounds" => rounds::measure(alloc, words),
@@ -68,7 +68,7 @@ fn measure<R: Threads + Wait + Sync + Clock + Print>(
         "tree" => tree::measure(rt, alloc, words),
         "dispatch" => dispatch::measure(rt, alloc, words),
         "memory" => memory::measure(rt, alloc, words),
-        _ => Err(Stopped::BadWords),
+        _ => Err(MeasureError::BadWords),
     }
 }
 
@@ -77,11 +77,11 @@ fn measure_each<R: Threads + Wait + Sync + Clock + Print + Eprint>(
     rt: &R,
     alloc: Global,
     words: &[String],
-) -> Result<(), Stopped> {
+) -> Result<(), MeasureError> {
     for words in words.split(|word| word.as_str() == "and") {
         let measured = measure(rt, alloc, words)?;
         if print(rt, &measured).is_err() {
-            return Err(Stopped::Failed);
+            return Err(MeasureError::Failed);
         }
     }
     Ok(())
@@ -96,7 +96,7 @@ fn main(rt: HostRuntime) -> ExitCode {
     };
     match measure_each(&rt, rt.alloc(), words) {
         Ok(()) => ExitCode::SUCCESS,
-        Err(Stopped::BadWords) => ExitCode::from(2),
-        Err(Stopped::Failed) => ExitCode::from(3),
+        Err(MeasureError::BadWords) => ExitCode::from(2),
+        Err(MeasureError::Failed) => ExitCode::from(3),
     }
 }

@@ -11,14 +11,14 @@ mod shop;
 mod single;
 mod told;
 
-use crate::outcome::{Measured, Stopped};
-use locked_floor::LockedFloor;
-use locked_line::LockedLine;
-use ruled_line::RuledLine;
+use crate::outcome::{MeasureError, Measured};
+use floor_locked::LockedFloor;
+use floor_tree::TreeFloor;
+use line_locked::LockedLine;
+use line_ruled::RuledLine;
 use std::alloc::Global;
 use std::io;
 use std::sync::Wait;
-use tree_floor::TreeFloor;
 
 // The calls that can be made.
 #[derive(Clone, Copy)]
@@ -71,16 +71,16 @@ fn call_all<R: Wait + Print>(rt: &R, alloc: Global, calls: Calls) -> io::Result<
 }
 
 /// Makes the calls that the words ask for, and counts those that had the memory that they asked for.
-pub fn measure<R: Wait + Print>(
+pub(crate) fn measure<R: Wait + Print>(
     rt: &R,
     alloc: Global,
     words: &[String],
-) -> Result<Measured, Stopped> {
+) -> Result<Measured, MeasureError> {
     let Some(calls) = calls_of(words) else {
-        return Err(Stopped::BadWords);
+        return Err(MeasureError::BadWords);
     };
     let Ok(count) = call_all(rt, alloc, calls) else {
-        return Err(Stopped::Failed);
+        return Err(MeasureError::Failed);
     };
     Ok(Measured::counted(alloc, count))
 }

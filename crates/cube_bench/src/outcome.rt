@@ -6,7 +6,7 @@ use std::time::Instant;
 
 /// What was measured.
 #[derive(Drop)]
-pub struct Measured {
+pub(crate) struct Measured {
     /// What the run counted.
     pub count: u64,
     /// The nanoseconds that it took, where the program timed it.
@@ -40,7 +40,7 @@ impl Measured {
 }
 
 /// Why nothing was measured.
-pub enum Stopped {
+pub(crate) enum MeasureError {
     /// The words ask for no measurement.
     BadWords,
     /// There was no memory or no clock, or the output failed.
@@ -48,7 +48,7 @@ pub enum Stopped {
 }
 
 /// The nanoseconds since a reading of the clock.
-pub fn nanos_since<R: Clock>(rt: &R, start: io::Result<Instant>) -> Option<u128> {
+pub(crate) fn nanos_since<R: Clock>(rt: &R, start: io::Result<Instant>) -> Option<u128> {
     let elapsed = start.ok()?.elapsed(rt).ok()?;
     Some(elapsed.as_nanos())
 }
@@ -72,7 +72,7 @@ fn print_times<R: Eprint>(rt: &R, times: &[u64]) -> io::Result<()> {
 }
 
 /// Prints the count, and on standard error the times.
-pub fn print<R: Print + Eprint>(rt: &R, measured: &Measured) -> io::Result<()> {
+pub(crate) fn print<R: Print + Eprint>(rt: &R, measured: &Measured) -> io::Result<()> {
     rt.println(measured.count)?;
     if let Some(nanos) = measured.nanos {
         rt.eprintln(nanos)?;

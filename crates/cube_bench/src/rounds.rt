@@ -1,8 +1,9 @@
 //! One collective on `2^DIM` places, so many times, so that it can be timed: the words
 //! `COLLECTIVE DIM TIMES`.
 ghost use Rattle.std.specs.Prelude.{◌≡◌, ◌^◌, ◌<◌, ◌≤◌, All, IfSome, length};
+ghost use Rattle.collectives.specs.Operations.{IsU64};
 
-use crate::outcome::{Measured, Stopped};
+use crate::outcome::{MeasureError, Measured};
 use collectives::{Add, all_reduce, broadcast, exscan, reduce, scan};
 use std::alloc::{AllocError, Global};
 
@@ -23,7 +24,7 @@ enum Collective {
 fn digest(items: &[Add]) -> u64 {
     let mut digest: u64 = 0;
     for item in items {
-        digest = digest.wrapping_mul(31).wrapping_add(item.0);
+        digest = digest.wrapping_mul(31).wrapping_add(item.number());
     }
     digest
 }
@@ -33,10 +34,10 @@ fn run(collective: Collective, dim: u32, items: &mut [Add], scratch: &mut [Add])
     requires dim { dim ≤ MAX_DIM }
     requires places { length items.old ≡ 2 ^ dim }
     requires scratch { length scratch.old ≡ 2 ^ dim }
-    requires values { All (λ item. item.0 < 2 ^ 64) items.old }
+    requires values { All IsU64 items.old }
     ensures places { length items.new ≡ 2 ^ dim }
     ensures scratch { length scratch.new ≡ 2 ^ dim }
-    ensures values { All (λ item. item.0 < 2 ^ 64) items.new }
+    ensures values { All IsU64 items.new }
 {
     let root = items.len() - 1;
     let _tally = match collective {
@@ -50,12 +51,12 @@ fn run(collective: Collective, dim: u32, items: &mut [Add], scratch: &mut [Add])
 
 // Puts its rank at each rank's place.
 fn number(items: &mut [Add])
-    requires values { All (λ item. item.0 < 2 ^ 64) items.old }
+    requires values { All IsU64 items.old }
     ensures places { length items.new ≡ length items.old }
-    ensures values { All (λ item. item.0 < 2 ^ 64) items.new }
+    ensures values { All IsU64 items.new }
 {
     for rank in 0..items.len() {
-        items[rank] = Add(rank as u64);
+        items[rank] = Add::new(rank as u64);
     }
 }
 
@@ -64,7 +65,7 @@ fn repeat(collective: Collective, dim: u32, times: u64, items: &mut [Add], scrat
     requires dim { dim ≤ MAX_DIM }
     requires places { length items.old ≡ 2 ^ dim }
     requires scratch { length scratch.old ≡ 2 ^ dim }
-    requires values { All (λ item. item.0 < 2 ^ 64) items.old }
+    requires values { All IsU64 items.old }
 {
     for _ in 0..times {
         run(collective, dim, items, scratch);
@@ -126,8 +127,8 @@ fn digest_after(alloc: Global, invocation: Invocation) -> Result<u64, AllocError
         times,
     } = invocation;
     let places = 1usize << dim;
-    let mut items = vec![in alloc; Add(0); places]?;
-    let mut scratch = vec![in alloc; Add(0); places]?;
+    let mut items = vec![in alloc; Add::new(0); places]?;
+    let mut scratch = vec![in alloc; Add::new(0); places]?;
     number(&mut items);
     repeat(collective, dim, times, &mut items, &mut scratch);
     Ok(digest(&items))
@@ -135,12 +136,12 @@ fn digest_after(alloc: Global, invocation: Invocation) -> Result<u64, AllocError
 
 /// Runs the collective that the words ask for, so many times, and counts a number that all places
 /// determine in the end.
-pub fn measure(alloc: Global, words: &[String]) -> Result<Measured, Stopped> {
+pub(crate) fn measure(alloc: Global, words: &[String]) -> Result<Measured, MeasureError> {
     let Some(invocation) = parse_words(words) else {
-        return Err(Stopped::BadWords);
+        return Err(MeasureError::BadWords);
     };
     let Ok(digest) = digest_after(alloc, invocation) else {
-        return Err(Stopped::Failed);
+        return Err(MeasureError::Failed);
     };
     Ok(Measured::counted(alloc, digest))
 }

@@ -7,7 +7,7 @@ mod lanes;
 mod turns;
 mod words;
 
-use crate::outcome::{Measured, Stopped};
+use crate::outcome::{MeasureError, Measured};
 use alone::{given_by_bits, given_by_solo};
 use lanes::given_in;
 use std::alloc::Global;
@@ -27,16 +27,16 @@ fn given_takes<R: Threads + Wait + Sync>(rt: &R, alloc: Global, run: TreeRun) ->
 }
 
 /// Makes the run that the words ask for, and counts how many takes were given.
-pub fn measure<R: Threads + Wait + Sync>(
+pub(crate) fn measure<R: Threads + Wait + Sync>(
     rt: &R,
     alloc: Global,
     words: &[String],
-) -> Result<Measured, Stopped> {
+) -> Result<Measured, MeasureError> {
     let Some(run) = parse_words(words) else {
-        return Err(Stopped::BadWords);
+        return Err(MeasureError::BadWords);
     };
     let Some(given) = given_takes(rt, alloc, run) else {
-        return Err(Stopped::Failed);
+        return Err(MeasureError::Failed);
     };
     Ok(Measured::counted(alloc, given))
 }

@@ -10,7 +10,7 @@ use status_word::Word;
 
 /// What one event does: the word that it writes, the next phase of its station, and the event.
 #[derive(Clone, Copy)]
-pub struct Effect {
+pub(crate) struct Effect {
     pub word: u64,
     pub next: Phase,
     pub event: Event,
@@ -59,7 +59,7 @@ fn see(word: u64) -> (Seen, Note)
 }
 
 /// A load of the node that a take names.
-pub fn look(station: u64, node: u64, word: u64) -> Effect
+pub(crate) fn look(station: u64, node: u64, word: u64) -> Effect
     ensures { IsEffect (transition station (Phase.Looking node)) word result }
 {
     let (next, note) = if Word(word).is_free() {
@@ -78,7 +78,7 @@ pub fn look(station: u64, node: u64, word: u64) -> Effect
 }
 
 /// One exchange of the word that the Look found for the word of a node that is given out.
-pub fn claim(station: u64, node: u64, seen: u64, word: u64) -> Effect
+pub(crate) fn claim(station: u64, node: u64, seen: u64, word: u64) -> Effect
     requires { 0 < node }
     ensures { IsEffect (transition station (Phase.Looked node seen)) word result }
 {
@@ -103,7 +103,7 @@ pub fn claim(station: u64, node: u64, seen: u64, word: u64) -> Effect
 }
 
 /// All marks of an ancestor go.
-pub fn sweep(station: u64, node: u64, at: u64, word: u64) -> Effect
+pub(crate) fn sweep(station: u64, node: u64, at: u64, word: u64) -> Effect
     ensures { IsEffect (transition station (Phase.Climbing node at)) word result }
 {
     let written = Word(word).without_marks().0;
@@ -124,7 +124,7 @@ pub fn sweep(station: u64, node: u64, at: u64, word: u64) -> Effect
 
 /// The side of the child towards the node is set at an ancestor; where that is occupied, the
 /// station backs out.
-pub fn raise(station: u64, node: u64, at: u64, word: u64) -> Effect
+pub(crate) fn raise(station: u64, node: u64, at: u64, word: u64) -> Effect
     requires above { at < node }
     requires on_path { OnPath at node }
     ensures { IsEffect (transition station (Phase.Swept node at)) word result }
@@ -151,7 +151,7 @@ pub fn raise(station: u64, node: u64, at: u64, word: u64) -> Effect
 }
 
 /// The node is given back: its word becomes 0.
-pub fn zero(station: u64, node: u64) -> Effect
+pub(crate) fn zero(station: u64, node: u64) -> Effect
     requires { 0 < node }
     ensures { (found : ℕ) → IsEffect (zero_event station node) found result }
 {
@@ -172,7 +172,7 @@ pub fn zero(station: u64, node: u64) -> Effect
 }
 
 /// All marks of a node on the way up after a release go.
-pub fn unmark(station: u64, at: u64, word: u64) -> Effect
+pub(crate) fn unmark(station: u64, at: u64, word: u64) -> Effect
     ensures { IsEffect (transition station (Phase.Arriving at)) word result }
 {
     let written = Word(word).without_marks().0;
@@ -192,7 +192,7 @@ pub fn unmark(station: u64, at: u64, word: u64) -> Effect
 }
 
 /// The station's mark is set; where the node is occupied, the station has nothing more to do.
-pub fn mark(station: u64, at: u64, word: u64) -> Effect
+pub(crate) fn mark(station: u64, at: u64, word: u64) -> Effect
     requires { station < MAX_STATIONS }
     ensures { IsEffect (transition station (Phase.Unmarked at)) word result }
 {
@@ -223,7 +223,7 @@ pub fn mark(station: u64, at: u64, word: u64) -> Effect
 }
 
 /// A load of the left child of the node where the station is marked.
-pub fn look_left(station: u64, at: u64, marked: u64, right: Seen, word: u64) -> Effect
+pub(crate) fn look_left(station: u64, at: u64, marked: u64, right: Seen, word: u64) -> Effect
     requires { at < 2 ^ MAX_DIM }
     ensures { IsEffect (transition station (Phase.Marked at marked Seen.NotYet right)) word result }
 {
@@ -245,7 +245,7 @@ pub fn look_left(station: u64, at: u64, marked: u64, right: Seen, word: u64) -> 
 }
 
 /// A load of the right child, once the left one was seen.
-pub fn look_right(station: u64, at: u64, marked: u64, left: Seen, word: u64) -> Effect
+pub(crate) fn look_right(station: u64, at: u64, marked: u64, left: Seen, word: u64) -> Effect
     requires node { at < 2 ^ MAX_DIM }
     requires seen { left ≢ Seen.NotYet }
     ensures { IsEffect (transition station (Phase.Marked at marked left Seen.NotYet)) word result }
@@ -269,7 +269,14 @@ pub fn look_right(station: u64, at: u64, marked: u64, left: Seen, word: u64) -> 
 
 /// One exchange of the word that the station's mark made for the word without its marks and
 /// without each side whose child was seen free.
-pub fn clear(station: u64, at: u64, marked: u64, left: Seen, right: Seen, word: u64) -> Effect
+pub(crate) fn clear(
+    station: u64,
+    at: u64,
+    marked: u64,
+    left: Seen,
+    right: Seen,
+    word: u64,
+) -> Effect
     requires { 0 < at }
     ensures { IsEffect (clear_event station at marked (cleared_as_seen marked left right)) word
         result }
@@ -298,7 +305,7 @@ pub fn clear(station: u64, at: u64, marked: u64, left: Seen, right: Seen, word: 
 }
 
 /// The station's bit in the roll is set.
-pub fn retire(station: u64, word: u64) -> Effect
+pub(crate) fn retire(station: u64, word: u64) -> Effect
     requires { station < MAX_STATIONS }
     ensures { IsEffect (retirement station) word result }
 {

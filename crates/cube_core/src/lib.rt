@@ -1,4 +1,4 @@
-//! The status tree of a hypercube machine as a state machine of single atomic steps.
+//! The lock-free block allocator as a pure state machine: a tree of status words whose events are single atomic steps.
 //!
 //! Each node of the tree of aligned regions has a status word, and each station a phase. A station
 //! takes the region of a node by a Look and a Claim at the node, then a Sweep and a Raise at each

@@ -1,7 +1,7 @@
 -- What the slips of a finished shop weigh: as much as the jobs that its lanes accepted.
 use Rattle.std.proofs.Common.{◌≡◌, ℕ, List, [], ◌∷◌, refl, arith}
 use Rattle.std.specs.List.{AllByRecursion as Each}
-use Rattle.histories.specs.Sums.{total}
+use Rattle.ghost_history.specs.Sums.{total}
 use Rattle.cube_shape.specs.declared.region.Region.{Region}
 use Rattle.job_types.specs.Reply.{ReplyData}
 use Rattle.job_queue.specs.declared.record.QueuedJob.{QueuedJob}

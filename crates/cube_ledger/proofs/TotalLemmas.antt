@@ -5,8 +5,8 @@ use Rattle.std.proofs.lemmas.List.{map_more, take_more}
 use Rattle.job_types.specs.Reply.{ReplyData}
 use Rattle.cube_ledger.specs.declared.slip.Slip.{Slip}
 use Rattle.cube_ledger.specs.Ledger.{HasAllSlips, slip_of}
-use Rattle.histories.specs.Sums.{total, below}
-use Rattle.histories.proofs.SumLemmas.{total-append, total-map, total-push, below-zero, below-plus, below-one_term}
+use Rattle.ghost_history.specs.Sums.{total, below}
+use Rattle.ghost_history.proofs.SumLemmas.{total-append, total-map, total-push, below-zero, below-plus, below-one_term}
 
 -- an element more
 pub total_more : {A : Type 0} (f : A → ℕ) (xs : List A) (i : ℕ) (d : A) → i < length xs → total f (take (i + 1) xs) ≡ total f (take i xs) + f (get_or xs i d)

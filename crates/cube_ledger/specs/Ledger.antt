@@ -1,6 +1,6 @@
 -- Slips of replies, and what they come to.
 use Rattle.std.specs.Prelude.{◌≡◌, ℕ, ◌+◌, ◌-◌, ◌^◌, ◌==◌, Bool, true, cond, List, length}
-use Rattle.histories.specs.Sums.{total}
+use Rattle.ghost_history.specs.Sums.{total}
 use Rattle.job_types.specs.Reply.{ReplyData}
 use Rattle.cube_ledger.specs.declared.slip.Slip.{Slip}
 use Rattle.cube_ledger.specs.declared.ledger.Totals.{Totals}

@@ -1,3 +1,3 @@
 pub mod Ledger
 pub mod Inner
-pub use Rattle.histories.specs.Sums.{below}
+pub use Rattle.ghost_history.specs.Sums.{below}

@@ -1,7 +1,7 @@
 //! The totals of a finished shop.
 ghost use Rattle.std.specs.Prelude.{◌≡◌, ℕ, ◌+◌, ◌<◌, ◌≤◌, ◌++◌, ◌^◌, [], ◌∷◌, IfOk, OnOk, cond, map};
 ghost use Rattle.std.specs.List.{All};
-ghost use Rattle.histories.specs.Sums.{below};
+ghost use Rattle.ghost_history.specs.Sums.{below};
 ghost use Rattle.job_types.specs.Reply.{ReplyData};
 ghost use Rattle.cube_ledger.specs.Ledger.{HasAllSlips, is_any, is_of_dim, is_of_lane, processors_of, slip_of, totals_of};
 ghost use Rattle.cube_ledger.specs.Inner.Group.{HasSmallDim, is_in};

@@ -1,4 +1,4 @@
-//! What the replies of a shop come to.
+//! The totals of a finished shop's replies, by lane, by dimension and in all.
 //!
 //! A `Slip` is what a reply adds to the totals, and a `Ledger` has the slips of all replies of a
 //! finished shop: its totals by lane, by dimension and in all are sums over these. `occupancy` of

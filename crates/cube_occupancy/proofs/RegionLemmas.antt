@@ -5,8 +5,8 @@ use Rattle.std.proofs.Math.Nat.{mul-le-mul_right, one-le-pow, pow-le-pow_right}
 use Rattle.std.proofs.lemmas.Nat.{pow-add}
 use Rattle.std.specs.Int.{bit_at}
 use Rattle.cube_occupancy.specs.declared.regions.Occupancy.{Occupancy}
-use Rattle.histories.specs.Sums.{below}
-use Rattle.histories.proofs.SumLemmas.{below-same, below-zero, below-ones}
+use Rattle.ghost_history.specs.Sums.{below}
+use Rattle.ghost_history.proofs.SumLemmas.{below-same, below-zero, below-ones}
 use Rattle.status_word.specs.Word.{use_of}
 use Rattle.std.proofs.lemmas.List.{get_or_past, get_or-set_other, get_or-set_same}
 use Rattle.cube_occupancy.specs.Inner.Largest.{IsLargestBelow}

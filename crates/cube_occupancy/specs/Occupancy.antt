@@ -3,7 +3,7 @@
 use Rattle.std.specs.Prelude.{◌≡◌, ◌≢◌, ℕ, zero, suc, ◌+◌, ◌-◌, ◌*◌, ◌/◌, ◌^◌, ◌<◌, ◌≤◌, ◌==◌, Bool, false, not, ◌&&◌, ◌||◌, cond, List, Option, Some, None, slice_index}
 use Rattle.std.specs.Int.{bit_at}
 use Rattle.cube_shape.specs.Node.{OnPath}
-use Rattle.histories.specs.Sums.{below}
+use Rattle.ghost_history.specs.Sums.{below}
 use Rattle.status_word.specs.Word.{IsOccupied, use_of}
 use Rattle.cube_occupancy.specs.declared.regions.Occupancy.{Occupancy}
 

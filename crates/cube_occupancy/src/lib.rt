@@ -1,4 +1,4 @@
-//! What the words of a machine say of its regions.
+//! Which blocks of a machine are free, and how many processors are held, read from the allocator's status words.
 //!
 //! `occupancy` counts the free regions of a machine and the processors that are given out, from its
 //! status words, whoever wrote them.

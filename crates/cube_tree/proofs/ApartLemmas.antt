@@ -33,10 +33,10 @@ same_dim n k count first second =
 
 pub regions_apart : (a b : Subcube) → a.seat.table_id ≡ b.seat.table_id → AreOffPath (subcube_entry a) (subcube_entry b) → AreApart (held_region a) (held_region b)
 regions_apart a b same off =
-    subst (λ r. AreApart r (held_region b)) (sym a.named) (subst (AreApart (region_at a.dim a.node)) (sym (b.named ∙ ap (λ n. region_at n b.node) (sym dims)))
-    ((AreApart-paths a.dim a.node b.node (region_at a.dim a.node) (region_at a.dim b.node)
-    (region_named a.dim a.node (a.positive, a.in_cube))
-    (region_named a.dim b.node (b.positive, subst (λ n. b.node < 2 ^ (n + 1)) (sym dims) b.in_cube))).1 (off a.node b.node a.holds.phase_is b.holds.phase_is)))
+    subst (λ r. AreApart r (held_region b)) (sym a.named) (subst (AreApart (region_at a.dim a.node.0)) (sym (b.named ∙ ap (λ n. region_at n b.node.0) (sym dims)))
+    ((AreApart-paths a.dim a.node.0 b.node.0 (region_at a.dim a.node.0) (region_at a.dim b.node.0)
+    (region_named a.dim a.node.0 (a.positive, a.in_cube))
+    (region_named a.dim b.node.0 (b.positive, subst (λ n. b.node.0 < 2 ^ (n + 1)) (sym dims) b.in_cube))).1 (off a.node.0 b.node.0 a.holds.phase_is b.holds.phase_is)))
   where
     dims : a.dim ≡ b.dim
     dims = same_dim a.dim b.dim a.seat.table_id.words a.words (ap (λ (id : TableId). id.words) same ∙ b.words)

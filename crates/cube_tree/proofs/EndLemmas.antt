@@ -7,8 +7,8 @@ use Rattle.std.proofs.lemmas.Nat.Bits.{bit_at-lt, bit_at_and, bit_at_ones, bit_a
 use Rattle.std.proofs.lemmas.List.Elements.{All-nil, All-cons, All-head, All-tail, All-append}
 use Rattle.status_word.specs.Word.{IsSet}
 use Rattle.std.specs.List.{AllByRecursion}
-use Rattle.histories.specs.Sums.{total, is_at}
-use Rattle.histories.proofs.SumLemmas.{everyone}
+use Rattle.ghost_history.specs.Sums.{total, is_at}
+use Rattle.ghost_history.proofs.SumLemmas.{everyone}
 use Rattle.cube_shape.specs.declared.limits.TheConstants.{MAX_STATIONS}
 use Rattle.cube_core.specs.declared.phase.Phase.TheVariants.{Idle}
 use Rattle.tree_steps.specs.declared.view.Entry.{Entry}

@@ -11,9 +11,9 @@ use Rattle.cube_core.specs.declared.phase.Phase.TheVariants.{Idle, Retired}
 use Rattle.cube_core.specs.Event.{retirement}
 use Rattle.tree_steps.specs.declared.view.Entry.{Entry}
 use Rattle.tree_steps.specs.Rule.{others}
-use Rattle.tree_steps.specs.Steps.{Known, first_of, put_first, begin, entry_in, entry_after, glance_at, retire_at, IsAt, Walks, Makes}
+use Rattle.tree_steps.specs.Steps.{Known, first_of, put_first, begin, entry_in, entry_after, peek_at, retire_at, IsAt, Walks, Makes}
 use Rattle.tree_steps.proofs.EventLemmas.{by_parts}
-use Rattle.tree_steps.proofs.GlanceLemmas.{glance_leaves, at_after_glance}
+use Rattle.tree_steps.proofs.PeekLemmas.{peek_leaves, at_after_peek}
 use Rattle.tree_steps.proofs.WalkLemmas.{LeavesRest, leaves_on, begin_leaves, walk_leaves, makes_of}
 use Rattle.atomic_table.specs.Seated.{TableId}
 use Rattle.cube_tree.specs.Seats.{IsSeatOf}
@@ -38,9 +38,9 @@ seat_after {new = new} seat leaves at = record {
 pub begun_after : {number : ℕ} {p q : Phase} {m new : Known} → IsSeatOf number p m → (begun : Phase) → Walks (begin begun m) new → IsAt new q → IsSeatOf number q new
 begun_after {m = m} seat begun walk at = seat_after seat (leaves_on (begin_leaves m begun) (walk_leaves walk)) at
 
--- a seat after a glance of its station
-pub seat_glanced : {number : ℕ} {p : Phase} {m new : Known} → IsSeatOf number p m → (node found : ℕ) → new ≡ glance_at node found m → IsSeatOf number p new
-seat_glanced seat node found is = seat_after seat (glance_leaves node found is) (at_after_glance (at_of seat) node found is)
+-- a seat after a peek of its station
+pub seat_peeked : {number : ℕ} {p : Phase} {m new : Known} → IsSeatOf number p m → (node found : ℕ) → new ≡ peek_at node found m → IsSeatOf number p new
+seat_peeked seat node found is = seat_after seat (peek_leaves node found is) (at_after_peek (at_of seat) node found is)
 
 -- what the station made
 pub makes_after : {number : ℕ} {p : Phase} {m new : Known} → IsSeatOf number p m → (begun : Phase) → Walks (begin begun m) new → Makes (entry_in begun (first_of m)) (first_of new)

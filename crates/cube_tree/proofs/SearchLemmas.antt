@@ -1,5 +1,5 @@
 -- Which nodes a search tries, and for which a refusal stands.
-use Rattle.std.proofs.Common.{◌≡◌, ℕ, zero, suc, ◌+◌, ◌-◌, ◌*◌, ◌/◌, ◌%◌, ◌^◌, ◌<◌, ◌≤◌, ◌⊎◌, inl, inr, List, [], ◌∷◌, length, refl, sym, ◌∙◌, ap, subst, arith, suc-mul}
+use Rattle.std.proofs.Common.{◌≡◌, ℕ, zero, suc, ◌+◌, ◌-◌, ◌*◌, ◌/◌, ◌%◌, ◌^◌, ◌<◌, ◌≤◌, ◌⊎◌, inl, inr, Option, Some, None, List, [], ◌∷◌, length, refl, sym, ◌∙◌, ap, subst, arith, suc-mul}
 use Rattle.std.specs.Prelude.{All, Any, nat_eq}
 use Rattle.std.proofs.lemmas.Bool.{cases_eq, cases_lt}
 use Rattle.std.proofs.lemmas.Nat.{pow-add, pow_pos, shr_split, mod_below, mul-le, div-mul-add}
@@ -15,17 +15,17 @@ use Rattle.cube_core.proofs.RunningLemmas.{region_named}
 use Rattle.tree_steps.specs.declared.why.Why.{Why}
 use Rattle.tree_steps.specs.declared.why.Why.TheVariants.{InUse, Lost, Under}
 use Rattle.tree_steps.specs.declared.view.Entry.{Entry}
-use Rattle.tree_steps.specs.declared.view.Glance.{Glance}
-use Rattle.tree_steps.specs.Steps.{with_glances}
+use Rattle.tree_steps.specs.declared.view.Peek.{Peek}
+use Rattle.tree_steps.specs.Steps.{with_peeks}
 use Rattle.cube_tree.specs.declared.refusal.Refusal.{Refusal}
 use Rattle.cube_tree.specs.declared.handles.Cube.{Cube}
 use Rattle.cube_tree.specs.declared.handles.Subcube.{Subcube}
 use Rattle.cube_tree.specs.declared.handles.TreeStation.{TreeStation}
 use Rattle.cube_tree.specs.Handles.{cube_dim, station_entry, subcube_entry, held_node, IsRefusedTry, TakesNode}
 use Rattle.cube_tree.specs.Tries.{counted, no_refusal, refusal_sum, refusals_in, added}
-use Rattle.cube_tree.specs.Search.{RefusedTry, StandsFor, IsPassedFor, IsGlancedOver, AreRefused, Searches, TakesNext, IsRefusedEach}
+use Rattle.cube_tree.specs.Search.{RefusedTry, StandsFor, IsPassedFor, IsSeenOccupied, AreRefused, Searches, TakesNext, IsRefusedEach}
 use Rattle.tree_steps.specs.Answer.{ancestor_of}
-use Rattle.cube_tree.specs.Remembered.{remembered, remembered_with, remembered_by, remembered_after, IsAbove, GlancesBack, Remembers, RemembersRefused, RemembersTaken}
+use Rattle.cube_tree.specs.Hint.{hint_of, hint_with, hint_after_refusal, hint_after, IsAbove, IsHintAbove, PeeksAtHint, Remembers, RemembersRefused, RemembersTaken}
 use Rattle.cube_tree.specs.InnerSearch.{NamesAncestor, IsUnder, IsNodeAfter, Begins, counts_of}
 use Rattle.cube_tree.proofs.TryLemmas.{on_level, sum_counted}
 use Rattle.cube_tree.proofs.RefusalLemmas.{no_events, more_events}
@@ -121,7 +121,7 @@ is_beyond (Under at) v w next j low high (s, is, end) names from below on =
     let product : (at.0 + 1) * 2 ^ s ≡ (at.0 + 1) * 2 ^ on.1.0 = ap (λ e. (at.0 + 1) * 2 ^ e) same in
     omega (arith, from, end, before, product)
 
--- ---- lists of tries and of glances
+-- ---- lists of tries and of peeks
 
 both_all : {X : Type 0} (P Q R : X → Type 0) (xs : List X) → ((x : X) → P x → Q x → R x) → All P xs → All Q xs → All R xs
 both_all P Q R xs both ps qs k d within = both _ (ps k d within) (qs k d within)
@@ -154,51 +154,51 @@ module _ (j first : ℕ) (is : first ≡ 2 ^ j) where
   ancestor_in_cube n a le above =
       let level = (on_level n j first le first_low first_high).0 in (above.0.0, omega (arith, level.1, above.1))
 
-  -- a search begins there where nothing is remembered
-  pub begins_first : (had : ℕ) (e : Entry) → (IsAbove had first → ⊥) → Begins j first had had e e
+  -- a search begins there without a hint
+  pub begins_first : (had : Option ℕ) (e : Entry) → (IsHintAbove had first → ⊥) → Begins j first had had e e
   begins_first had e not_above = record {
-    glances = [];
+    peeks = [];
     few = omega arith;
     entry = refl;
     low = first_low;
     high = omega (arith, first_high);
     each = λ v low before. absurd (omega (arith, low, before, is));
-    beyond = λ v from high over. any_none (λ (g : Glance). OnPath g.node v × IsOccupied g.word) over;
-    glanced = (λ above. not_above (subst (IsAbove had) (sym is) above), refl);
+    beyond = λ v from high over. any_none (λ (g : Peek). OnPath g.node v × IsOccupied g.word) over;
+    peeked = (λ above. not_above (subst (IsHintAbove had) (sym is) above), refl);
   }
 
-  -- after one glance
-  module _ (a word had : ℕ) (old new : Entry) (noted : new ≡ with_glances (record { node = a; word = word } ∷ []) old) (here : a ≡ had) (above : IsAbove a first) where
-    found : (v : ℕ) → IsGlancedOver v (record { node = a; word = word } ∷ []) → OnPath a v × IsOccupied word
-    found v over = any_single (λ (g : Glance). OnPath g.node v × IsOccupied g.word) (record { node = a; word = word }) over
+  -- after one peek
+  module _ (a word : ℕ) (had : Option ℕ) (old new : Entry) (noted : new ≡ with_peeks (record { node = a; word = word } ∷ []) old) (here : had ≡ Some a) (above : IsAbove a first) where
+    found : (v : ℕ) → IsSeenOccupied v (record { node = a; word = word } ∷ []) → OnPath a v × IsOccupied word
+    found v over = any_single (λ (g : Peek). OnPath g.node v × IsOccupied g.word) (record { node = a; word = word }) over
 
-    had_above : IsAbove had (2 ^ j)
-    had_above = subst (λ x. IsAbove x (2 ^ j)) here (subst (IsAbove a) is above)
+    had_above : IsHintAbove had (2 ^ j)
+    had_above = subst (λ hint. IsHintAbove hint (2 ^ j)) (sym here) (subst (IsAbove a) is above)
 
     -- that did not find its node occupied, it begins there too
-    pub begins_free : (kept : ℕ) → (IsOccupied word → ⊥) → kept ≡ 0 → Begins j first had kept old new
+    pub begins_free : (kept : Option ℕ) → (IsOccupied word → ⊥) → kept ≡ None → Begins j first had kept old new
     begins_free kept free forgotten = record {
-      glances = record { node = a; word = word } ∷ [];
+      peeks = record { node = a; word = word } ∷ [];
       few = omega arith;
       entry = noted;
       low = first_low;
       high = omega (arith, first_high);
       each = λ v low before. absurd (omega (arith, low, before, is));
       beyond = λ v from high over. free (found v over).1;
-      glanced = (had_above, here, λ occupied. absurd (free occupied), λ _. forgotten);
+      peeked = (had_above, here, λ occupied. absurd (free occupied), λ _. forgotten);
     }
 
     -- and after one that found an ancestor occupied, behind the nodes under this
-    pub begins_behind : (at : Node) (next kept : ℕ) → at.0 ≡ a → IsOccupied word → kept ≡ a → NamesAncestor (Under at) first → IsNodeAfter (Under at) first next → Begins j next had kept old new
-    begins_behind at next kept same occupied still names after = record {
-      glances = record { node = a; word = word } ∷ [];
+    pub begins_after : (at : Node) (next : ℕ) (kept : Option ℕ) → at.0 ≡ a → IsOccupied word → kept ≡ Some a → NamesAncestor (Under at) first → IsNodeAfter (Under at) first next → Begins j next had kept old new
+    begins_after at next kept same occupied still names after = record {
+      peeks = record { node = a; word = word } ∷ [];
       few = omega arith;
       entry = noted;
       low = let onward = is_onward (Under at) first next after in omega (arith, onward, is);
       high = is_within (Under at) first next j first_low first_high after names;
-      each = λ v low before. any_first (λ (g : Glance). OnPath g.node v × IsOccupied g.word) (record { node = a; word = word }) [] (subst (λ x. OnPath x v) same (over v low before), occupied);
+      each = λ v low before. any_first (λ (g : Peek). OnPath g.node v × IsOccupied g.word) (record { node = a; word = word }) [] (subst (λ x. OnPath x v) same (over v low before), occupied);
       beyond = λ v from high over_it. is_beyond (Under at) first v next j first_low first_high after names from high (subst (λ x. OnPath x v) (sym same) (found v over_it).0);
-      glanced = (had_above, here, λ _. still ∙ here, λ free. absurd (free occupied));
+      peeked = (had_above, here, λ _. still ∙ sym here, λ free. absurd (free occupied));
     }
       where
         over : (v : ℕ) → 2 ^ j ≤ v → v < next → OnPath at.0 v
@@ -218,57 +218,57 @@ abbrev IsBefore : ℕ → ℕ → RefusedTry → Type 0
 IsBefore j end t = (2 ^ j ≤ t.node) × (t.node < end)
 
 -- a search that has come to the node `end`
-pub record IsSearch (n j end : ℕ) (refusal : Refusal) (had now : ℕ) (old new : Entry) : Type 0 where
-  pub glances : List Glance
+pub record IsSearch (n j end : ℕ) (refusal : Refusal) (had now : Option ℕ) (old new : Entry) : Type 0 where
+  pub peeks : List Peek
   pub tries : List RefusedTry
-  pub searches : Searches n j end glances tries old new
+  pub searches : Searches n j end peeks tries old new
   pub leaves : All (LeavesFrom j end) tries
-  pub beyond : (v : ℕ) → end ≤ v → v < 2 * 2 ^ j → IsGlancedOver v glances → ⊥
+  pub beyond : (v : ℕ) → end ≤ v → v < 2 * 2 ^ j → IsSeenOccupied v peeks → ⊥
   pub counts : refusal ≡ counts_of tries
-  pub kept : ℕ
-  pub glanced : GlancesBack (2 ^ j) had glances kept
-  pub after : now ≡ remembered_after (2 ^ j) kept tries
+  pub kept : Option ℕ
+  pub peeked : PeeksAtHint (2 ^ j) had peeks kept
+  pub after : now ≡ hint_after (2 ^ j) kept tries
   pub low : 2 ^ j ≤ end
   pub high : end ≤ 2 * 2 ^ j
 
-pub search_begun : (n j start had now : ℕ) (old new : Entry) → Begins j start had now old new → IsSearch n j start no_refusal had now old new
+pub search_begun : (n j start : ℕ) (had now : Option ℕ) (old new : Entry) → Begins j start had now old new → IsSearch n j start no_refusal had now old new
 search_begun n j start had now old new begins = record {
-  glances = begins.glances;
+  peeks = begins.peeks;
   tries = [];
   searches = record {
     one = begins.few;
     refused = begins.entry;
     level = All-nil (IsBefore j start);
-    beside = All-nil (λ (t : RefusedTry). IsGlancedOver t.node begins.glances → ⊥);
+    beside = All-nil (λ (t : RefusedTry). IsSeenOccupied t.node begins.peeks → ⊥);
     each = λ v low before. inr (begins.each v low before);
   };
   leaves = All-nil (LeavesFrom j start);
   beyond = begins.beyond;
   counts = refl;
   kept = now;
-  glanced = begins.glanced;
+  peeked = begins.peeked;
   after = refl;
   low = begins.low;
   high = begins.high;
 }
 
 -- no refusal stands for the node that is next
-passed_for : {n j v : ℕ} {r : Refusal} {was now : ℕ} {old new : Entry} → (had : IsSearch n j v r was now old new) → v < 2 * 2 ^ j → All (IsPassedFor v) had.tries
+passed_for : {n j v : ℕ} {r : Refusal} {was now : Option ℕ} {old new : Entry} → (had : IsSearch n j v r was now old new) → v < 2 * 2 ^ j → All (IsPassedFor v) had.tries
 passed_for {j = j} {v = v} had below =
     both_all (IsBefore j v) (LeavesFrom j v) (IsPassedFor v) had.tries (λ t before leaves. (before.1, leaves v (omega arith) below)) had.searches.level had.leaves
 
 -- one try more
-pub search_more : {n j v next : ℕ} {r s : Refusal} {was then now : ℕ} {old between new : Entry} {why : Why} → IsSearch n j v r was then old between → v < 2 * 2 ^ j → IsRefusedTry n v between new why → s ≡ counted why r → IsNodeAfter why v next
-    → now ≡ remembered_by (nat_eq v (2 ^ j)) (ancestor_of why) then → IsSearch n j next s was now old new
+pub search_more : {n j v next : ℕ} {r s : Refusal} {was then now : Option ℕ} {old between new : Entry} {why : Why} → IsSearch n j v r was then old between → v < 2 * 2 ^ j → IsRefusedTry n v between new why → s ≡ counted why r → IsNodeAfter why v next
+    → now ≡ hint_after_refusal (nat_eq v (2 ^ j)) (ancestor_of why) then → IsSearch n j next s was now old new
 search_more {j = j} {v = v} {next = next} {between = between} {why = why} had below refused counts after remembers = record {
-  glances = had.glances;
+  peeks = had.peeks;
   tries = own ∷ had.tries;
   searches = record {
     one = had.searches.one;
     refused = (between, had.searches.refused, refused, passed_for had below);
     level = All-cons (IsBefore j next) own had.tries (had.low, onward)
         (All-weaker (IsBefore j v) (IsBefore j next) (λ t before. (before.0, later t before.1)) had.tries had.searches.level);
-    beside = All-cons (λ (t : RefusedTry). IsGlancedOver t.node had.glances → ⊥) own had.tries (had.beyond v (omega arith) below) had.searches.beside;
+    beside = All-cons (λ (t : RefusedTry). IsSeenOccupied t.node had.peeks → ⊥) own had.tries (had.beyond v (omega arith) below) had.searches.beside;
     each = each;
   };
   beyond = λ w from high. had.beyond w (omega (arith, from, onward)) high;
@@ -276,8 +276,8 @@ search_more {j = j} {v = v} {next = next} {between = between} {why = why} had be
       (All-weaker (LeavesFrom j v) (LeavesFrom j next) (λ t leaves w from. leaves w (omega (arith, from, onward))) had.tries had.leaves);
   counts = counts ∙ ap (counted why) had.counts;
   kept = had.kept;
-  glanced = had.glanced;
-  after = remembers ∙ ap (remembered_by (nat_eq v (2 ^ j)) (ancestor_of why)) had.after;
+  peeked = had.peeked;
+  after = remembers ∙ ap (hint_after_refusal (nat_eq v (2 ^ j)) (ancestor_of why)) had.after;
   low = let low = had.low in omega (arith, low, onward);
   high = is_within why v next j had.low below after refused.names;
 }
@@ -291,10 +291,10 @@ search_more {j = j} {v = v} {next = next} {between = between} {why = why} had be
     later : (t : RefusedTry) → t.node < v → t.node < next
     later t before = omega (arith, before, onward)
 
-    own_stands : (w : ℕ) → StandsFor w own → Any (StandsFor w) (own ∷ had.tries) ⊎ IsGlancedOver w had.glances
+    own_stands : (w : ℕ) → StandsFor w own → Any (StandsFor w) (own ∷ had.tries) ⊎ IsSeenOccupied w had.peeks
     own_stands w stands = inl (any_first (StandsFor w) own had.tries stands)
 
-    each : (w : ℕ) → 2 ^ j ≤ w → w < next → Any (StandsFor w) (own ∷ had.tries) ⊎ IsGlancedOver w had.glances
+    each : (w : ℕ) → 2 ^ j ≤ w → w < next → Any (StandsFor w) (own ∷ had.tries) ⊎ IsSeenOccupied w had.peeks
     each w low before = elim (cases_lt w v) [
       | inl less ↦ elim (had.searches.each w low less) [
         | inl earlier ↦ inl (any_later (StandsFor w) own had.tries earlier)
@@ -345,9 +345,9 @@ bound_of n j (t ∷ tries) old new le level (between, earlier, refused, passed) 
 
 -- ---- the end of a search
 
-pub refused_each : (n j end : ℕ) (r : Refusal) (was now : ℕ) (old new : Entry) → j ≤ n → end ≡ 2 * 2 ^ j → IsSearch n j end r was now old new → IsRefusedEach n j old new r
+pub refused_each : (n j end : ℕ) (r : Refusal) (was now : Option ℕ) (old new : Entry) → j ≤ n → end ≡ 2 * 2 ^ j → IsSearch n j end r was now old new → IsRefusedEach n j old new r
 refused_each n j end r was now old new le is had = record {
-  glances = whole.glances;
+  peeks = whole.peeks;
   tries = whole.tries;
   searches = whole.searches;
   few = let count = few_tries n j (2 * 2 ^ j) whole.tries first new whole.low whole.searches.level whole.searches.refused in omega (arith, count);
@@ -360,11 +360,11 @@ refused_each n j end r was now old new le is had = record {
     whole = subst (λ e. IsSearch n j e r was now old new) is had
 
     first : Entry
-    first = with_glances whole.glances old
+    first = with_peeks whole.peeks old
 
-pub takes_next : (cube : Cube) (j node : ℕ) (r : Refusal) (was now : ℕ) (old between : Entry) (subcube : Subcube) → j ≤ cube_dim cube → node < 2 * 2 ^ j → IsSearch (cube_dim cube) j node r was now old between → TakesNode cube node between subcube → TakesNext cube j old subcube
+pub takes_next : (cube : Cube) (j node : ℕ) (r : Refusal) (was now : Option ℕ) (old between : Entry) (subcube : Subcube) → j ≤ cube_dim cube → node < 2 * 2 ^ j → IsSearch (cube_dim cube) j node r was now old between → TakesNode cube node between subcube → TakesNext cube j old subcube
 takes_next cube j node r was now old between subcube le below had_node taken_node = record {
-  glances = had.glances;
+  peeks = had.peeks;
   tries = had.tries;
   between = between;
   searches = had.searches;
@@ -374,8 +374,8 @@ takes_next cube j node r was now old between subcube le below had_node taken_nod
   high = high;
   taken = taken;
   bound =
-      let count = few_tries (cube_dim cube) j v had.tries (with_glances had.glances old) between had.low had.searches.level had.searches.refused in
-      let earlier : length between.trail ≤ length old.trail + length had.tries * (3 + 7 * j) = bound_of (cube_dim cube) j had.tries (with_glances had.glances old) between le
+      let count = few_tries (cube_dim cube) j v had.tries (with_peeks had.peeks old) between had.low had.searches.level had.searches.refused in
+      let earlier : length between.trail ≤ length old.trail + length had.tries * (3 + 7 * j) = bound_of (cube_dim cube) j had.tries (with_peeks had.peeks old) between le
       (All-weaker (IsBefore j v) (IsBefore j (2 * 2 ^ j)) (λ t before. (before.0, later t before.1)) had.tries had.searches.level) had.searches.refused in
       let last : length (subcube_entry subcube).trail ≤ length between.trail + (3 + 7 * j) = subst (λ d. length (subcube_entry subcube).trail ≤ length between.trail + (3 + 7 * d)) (on_level (cube_dim cube) j v le had.low high).1 taken.bound in
       let sum = suc-mul (length had.tries) (3 + 7 * j) in
@@ -398,35 +398,35 @@ takes_next cube j node r was now old between subcube le below had_node taken_nod
     later : (t : RefusedTry) → t.node < v → t.node < 2 * 2 ^ j
     later t before = omega (arith, before, high)
 
--- what is remembered after it
-pub remembers : {n j end : ℕ} {r : Refusal} {was now : ℕ} {old new : Entry} → IsSearch n j end r was now old new → Remembers n j end was now old new
+-- the hint after it
+pub remembers : {n j end : ℕ} {r : Refusal} {was now : Option ℕ} {old new : Entry} → IsSearch n j end r was now old new → Remembers n j end was now old new
 remembers had = record {
-  glances = had.glances;
+  peeks = had.peeks;
   tries = had.tries;
   searches = had.searches;
   kept = had.kept;
-  glanced = had.glanced;
+  peeked = had.peeked;
   after = had.after;
 }
 
 pub remembers_refused : (n j end : ℕ) (r : Refusal) (old new : TreeStation) → end ≡ 2 * 2 ^ j
-    → IsSearch n j end r (remembered old) (remembered new) (station_entry old) (station_entry new) → RemembersRefused n j old new
+    → IsSearch n j end r (hint_of old) (hint_of new) (station_entry old) (station_entry new) → RemembersRefused n j old new
 remembers_refused n j end r old new is had =
-    subst (λ e. Remembers n j e (remembered old) (remembered new) (station_entry old) (station_entry new)) is (remembers had)
+    subst (λ e. Remembers n j e (hint_of old) (hint_of new) (station_entry old) (station_entry new)) is (remembers had)
 
 pub remembers_taken : (cube : Cube) (j node : ℕ) (r : Refusal) (old between : TreeStation) (subcube : Subcube)
-    → IsSearch (cube_dim cube) j node r (remembered old) (remembered between) (station_entry old) (station_entry between)
-    → TakesNode cube node (station_entry between) subcube → remembered_with subcube ≡ remembered between → RemembersTaken cube j old subcube
+    → IsSearch (cube_dim cube) j node r (hint_of old) (hint_of between) (station_entry old) (station_entry between)
+    → TakesNode cube node (station_entry between) subcube → hint_with subcube ≡ hint_of between → RemembersTaken cube j old subcube
 remembers_taken cube j node r old between subcube had taken same = record {
   between = station_entry between;
-  search = subst (λ v. Remembers (cube_dim cube) j v (remembered old) (remembered_with subcube) (station_entry old) (station_entry between)) (sym taken.node_is)
-      (subst (λ now. Remembers (cube_dim cube) j node (remembered old) now (station_entry old) (station_entry between)) (sym same) (remembers had));
+  search = subst (λ v. Remembers (cube_dim cube) j v (hint_of old) (hint_with subcube) (station_entry old) (station_entry between)) (sym taken.node_is)
+      (subst (λ now. Remembers (cube_dim cube) j node (hint_of old) now (station_entry old) (station_entry between)) (sym same) (remembers had));
   taken = subst (λ v. TakesNode cube v (station_entry between) subcube) (sym taken.node_is) taken;
 }
 
 -- as many refusals as tries, and so no more than the level has nodes
-pub search_sum : {n j end : ℕ} {r : Refusal} {was now : ℕ} {old new : Entry} → IsSearch n j end r was now old new → refusal_sum r + 2 ^ j ≤ end
+pub search_sum : {n j end : ℕ} {r : Refusal} {was now : Option ℕ} {old new : Entry} → IsSearch n j end r was now old new → refusal_sum r + 2 ^ j ≤ end
 search_sum {n = n} {j = j} {end = end} {old = old} {new = new} had =
-    let count = few_tries n j end had.tries (with_glances had.glances old) new had.low had.searches.level had.searches.refused in
+    let count = few_tries n j end had.tries (with_peeks had.peeks old) new had.low had.searches.level had.searches.refused in
     let same = ap refusal_sum had.counts ∙ sum_of had.tries in
     omega (arith, count, same)

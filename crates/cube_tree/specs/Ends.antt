@@ -6,7 +6,7 @@ use Rattle.cube_tree.specs.declared.handles.TreeStation.{TreeStation}
 use Rattle.tree_steps.specs.Tree.{id_of}
 use Rattle.cube_tree.specs.declared.handles.Cube.{Cube}
 use Rattle.cube_tree.specs.declared.handles.FreeMachine.{FreeMachine}
-use Rattle.cube_tree.specs.declared.handles.RollReader.{RollReader}
+use Rattle.cube_tree.specs.declared.handles.RetirementReader.{RetirementReader}
 use Rattle.cube_tree.specs.Handles.{station_entry}
 
 -- each station below the count is in the list
@@ -26,14 +26,14 @@ abbrev pub IsWhole : ℕ → ℕ → Type 0
 IsWhole count roll = (s : ℕ) → s < count → IsSet roll s
 
 -- who loads the roll of this cube, and what these loads found, the newest first
-abbrev pub IsReaderOf : Cube → RollReader → Type 0
+abbrev pub IsReaderOf : Cube → RetirementReader → Type 0
 IsReaderOf cube reader = reader.seat.table_id ≡ id_of cube.tree
 
-abbrev pub reader_loads : RollReader → List ℕ
+abbrev pub reader_loads : RetirementReader → List ℕ
 reader_loads reader = reader.seat.me.0.loads
 
 -- its last load found that no station below the count is missing
-pub record FindsAllRetired (count : ℕ) (reader : RollReader) : Type 0 where
+pub record FindsAllRetired (count : ℕ) (reader : RetirementReader) : Type 0 where
   pub roll : ℕ
   pub earlier : List ℕ
   pub loads : reader_loads reader ≡ roll ∷ earlier

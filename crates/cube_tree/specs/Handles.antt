@@ -62,7 +62,7 @@ IsSubcubeOf cube subcube = subcube.seat.table_id ≡ id_of cube.tree
 
 -- the node that a station holds, and its region
 abbrev pub held_node : Subcube → ℕ
-held_node subcube = subcube.node
+held_node subcube = subcube.node.0
 
 abbrev pub held_region : Subcube → Region
 held_region subcube = subcube.region
@@ -109,10 +109,10 @@ pub record Retires (cube : Cube) (old : Entry) (retired : RetiredStation) : Type
   pub kind_is : event.kind ≡ Retire
   pub trail : (retired_entry retired).trail ≡ event ∷ old.trail
 
--- the same subcube: its station, its record, what it remembers, its node and its region
+-- the same subcube: its station, its record, its hint, its node and its region
 pub record IsSameSubcube (old new : Subcube) : Type 0 where
   pub table : new.seat.table_id ≡ old.seat.table_id
   pub entry : subcube_entry new ≡ subcube_entry old
-  pub remembered_is : new.remembered ≡ old.remembered
+  pub hint_is : new.hint ≡ old.hint
   pub node_is : held_node new ≡ held_node old
   pub region_is : held_region new ≡ held_region old

@@ -1,17 +1,17 @@
 -- No public contract cites these: which node a search tries next, and what the refusals before it say.
-use Rattle.std.specs.Prelude.{◌≡◌, ℕ, ◌+◌, ◌*◌, ◌/◌, ◌^◌, ◌<◌, ◌≤◌, ◌↔◌, Bool, IsTrue, List, [], ◌∷◌, length, IfSome, MatchOption}
+use Rattle.std.specs.Prelude.{◌≡◌, ℕ, ◌+◌, ◌*◌, ◌/◌, ◌^◌, ◌<◌, ◌≤◌, ◌↔◌, Bool, IsTrue, List, [], ◌∷◌, length, Option, IfSome, MatchOption}
 use Rattle.cube_shape.specs.Node.{OnPath}
 use Rattle.status_word.specs.Word.{IsOccupied}
 use Rattle.tree_steps.specs.declared.view.Entry.{Entry}
-use Rattle.tree_steps.specs.declared.view.Glance.{Glance}
+use Rattle.tree_steps.specs.declared.view.Peek.{Peek}
 use Rattle.tree_steps.specs.declared.why.Why.{Why}
 use Rattle.tree_steps.specs.declared.why.Why.TheVariants.{InUse, Lost, Under}
 use Rattle.tree_steps.specs.Answer.{ancestor_of}
-use Rattle.tree_steps.specs.Steps.{with_glances}
+use Rattle.tree_steps.specs.Steps.{with_peeks}
 use Rattle.cube_tree.specs.declared.refusal.Refusal.{Refusal}
 use Rattle.cube_tree.specs.Tries.{counted, no_refusal}
-use Rattle.cube_tree.specs.Search.{RefusedTry, IsGlancedOver}
-use Rattle.cube_tree.specs.Remembered.{GlancesBack}
+use Rattle.cube_tree.specs.Search.{RefusedTry, IsSeenOccupied}
+use Rattle.cube_tree.specs.Hint.{PeeksAtHint}
 
 -- the ancestor that a refusal names is one of node v
 abbrev pub NamesAncestor : Why → ℕ → Type 0
@@ -27,23 +27,24 @@ IsNodeAfter InUse v next = next ≡ v + 1
 IsNodeAfter Lost v next = next ≡ v + 1
 IsNodeAfter (Under at) v next = (steps : ℕ) × (v / 2 ^ steps ≡ at.0) × (next ≡ (at.0 + 1) * 2 ^ steps)
 
--- a glance at a node is noted; the answer is whether the word that it found is occupied
+-- a peek at a node is noted; the answer is whether the word that it found is occupied
 pub record Finds (node : ℕ) (is_occupied : Bool) (old new : Entry) : Type 0 where
   pub word : ℕ
-  pub entry : new ≡ with_glances (record { node = node; word = word } ∷ []) old
+  pub entry : new ≡ with_peeks (record { node = node; word = word } ∷ []) old
   pub answer : IsTrue is_occupied ↔ IsOccupied word
 
--- a search of the level that is j levels below the root begins at the node `start`, after one glance at most:
--- each node of the level before that one is glanced over, and none from there on; its station remembered `had`, and now `kept`
-pub record Begins (j start had kept : ℕ) (old new : Entry) : Type 0 where
-  pub glances : List Glance
-  pub few : length glances ≤ 1
-  pub entry : new ≡ with_glances glances old
+-- a search of the level that is j levels below the root begins at the node `start`, after one peek at
+-- most. The peek found each node of the level before that one, or an ancestor of it, occupied, and none
+-- from there on. The hint was `had`, and is `kept`
+pub record Begins (j start : ℕ) (had kept : Option ℕ) (old new : Entry) : Type 0 where
+  pub peeks : List Peek
+  pub few : length peeks ≤ 1
+  pub entry : new ≡ with_peeks peeks old
   pub low : 2 ^ j ≤ start
   pub high : start ≤ 2 * 2 ^ j
-  pub each : (v : ℕ) → 2 ^ j ≤ v → v < start → IsGlancedOver v glances
-  pub beyond : (v : ℕ) → start ≤ v → v < 2 * 2 ^ j → IsGlancedOver v glances → ⊥
-  pub glanced : GlancesBack (2 ^ j) had glances kept
+  pub each : (v : ℕ) → 2 ^ j ≤ v → v < start → IsSeenOccupied v peeks
+  pub beyond : (v : ℕ) → start ≤ v → v < 2 * 2 ^ j → IsSeenOccupied v peeks → ⊥
+  pub peeked : PeeksAtHint (2 ^ j) had peeks kept
 
 -- the counts of these refusals
 abbrev pub counts_of : List RefusedTry → Refusal

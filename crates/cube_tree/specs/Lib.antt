@@ -4,7 +4,7 @@ pub mod Ends
 pub mod InnerEnds
 pub mod Tries
 pub mod Search
-pub mod Remembered
+pub mod Hint
 pub mod InnerSearch
 pub mod Slots
 pub mod InnerSolo

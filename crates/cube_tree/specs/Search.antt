@@ -1,12 +1,12 @@
--- A search of one level of nodes that passes over those under an ancestor which a try or a glance found occupied.
+-- A search of one level of nodes, which skips those under an ancestor that a try or a peek found occupied.
 use Rattle.std.specs.Prelude.{◌≡◌, ℕ, ◌+◌, ◌*◌, ◌^◌, ◌<◌, ◌≤◌, ◌⊎◌, List, [], ◌∷◌, All, Any, length, MatchOption}
 use Rattle.cube_shape.specs.Node.{OnPath}
 use Rattle.status_word.specs.Word.{IsOccupied}
 use Rattle.tree_steps.specs.declared.why.Why.{Why}
 use Rattle.tree_steps.specs.declared.view.Entry.{Entry}
-use Rattle.tree_steps.specs.declared.view.Glance.{Glance}
+use Rattle.tree_steps.specs.declared.view.Peek.{Peek}
 use Rattle.tree_steps.specs.Answer.{ancestor_of}
-use Rattle.tree_steps.specs.Steps.{with_glances}
+use Rattle.tree_steps.specs.Steps.{with_peeks}
 use Rattle.cube_tree.specs.declared.refusal.Refusal.{Refusal}
 use Rattle.cube_tree.specs.declared.handles.Cube.{Cube}
 use Rattle.cube_tree.specs.declared.handles.Subcube.{Subcube}
@@ -32,27 +32,29 @@ abbrev pub AreRefused : ℕ → List RefusedTry → Entry → Entry → Type 0
 AreRefused n [] old new = new ≡ old
 AreRefused n (t ∷ earlier) old new = (between : Entry) × AreRefused n earlier old between × IsRefusedTry n t.node between new t.why × All (IsPassedFor t.node) earlier
 
--- a glance found node v or an ancestor of it occupied
-abbrev pub IsGlancedOver : ℕ → List Glance → Type 0
-IsGlancedOver v glances = Any (λ g. OnPath g.node v × IsOccupied g.word) glances
+-- a peek found node v or an ancestor of it occupied
+abbrev pub IsSeenOccupied : ℕ → List Peek → Type 0
+IsSeenOccupied v peeks = Any (λ g. OnPath g.node v × IsOccupied g.word) peeks
 
--- by one glance at most, and then these tries, a station searched the level that is j levels below the root up to
--- the node `end`: for each node of the level before that one some refusal stands, or it is glanced over
-pub record Searches (n j end : ℕ) (glances : List Glance) (tries : List RefusedTry) (old new : Entry) : Type 0 where
-  pub one : length glances ≤ 1
-  pub refused : AreRefused n tries (with_glances glances old) new
+-- by one peek at most, and then these tries, a station searched the level that is j levels below the root
+-- up to the node `end`: for each node of the level before that one some refusal stands, or the peek found
+-- it or an ancestor of it occupied
+pub record Searches (n j end : ℕ) (peeks : List Peek) (tries : List RefusedTry) (old new : Entry) : Type 0 where
+  pub one : length peeks ≤ 1
+  pub refused : AreRefused n tries (with_peeks peeks old) new
   pub level : All (λ t. (2 ^ j ≤ t.node) × (t.node < end)) tries
-  pub beside : All (λ t. IsGlancedOver t.node glances → ⊥) tries
-  pub each : (v : ℕ) → 2 ^ j ≤ v → v < end → Any (StandsFor v) tries ⊎ IsGlancedOver v glances
+  pub beside : All (λ t. IsSeenOccupied t.node peeks → ⊥) tries
+  pub each : (v : ℕ) → 2 ^ j ≤ v → v < end → Any (StandsFor v) tries ⊎ IsSeenOccupied v peeks
 
--- after a search up to its node, for which no refusal stands and which is not glanced over, it took this node
+-- after a search up to its node, for which no refusal stands and which no peek found occupied, it took
+-- this node
 pub record TakesNext (cube : Cube) (j : ℕ) (old : Entry) (subcube : Subcube) : Type 0 where
-  pub glances : List Glance
+  pub peeks : List Peek
   pub tries : List RefusedTry
   pub between : Entry
-  pub searches : Searches (cube_dim cube) j (held_node subcube) glances tries old between
+  pub searches : Searches (cube_dim cube) j (held_node subcube) peeks tries old between
   pub order : All (IsPassedFor (held_node subcube)) tries
-  pub beside : IsGlancedOver (held_node subcube) glances → ⊥
+  pub beside : IsSeenOccupied (held_node subcube) peeks → ⊥
   pub low : 2 ^ j ≤ held_node subcube
   pub high : held_node subcube < 2 * 2 ^ j
   pub taken : TakesNode cube (held_node subcube) between subcube
@@ -60,9 +62,9 @@ pub record TakesNext (cube : Cube) (j : ℕ) (old : Entry) (subcube : Subcube) :
 
 -- it searched the whole level; there is one refusal for each try, and the counts are those of the events
 pub record IsRefusedEach (n j : ℕ) (old new : Entry) (refusal : Refusal) : Type 0 where
-  pub glances : List Glance
+  pub peeks : List Peek
   pub tries : List RefusedTry
-  pub searches : Searches n j (2 * 2 ^ j) glances tries old new
+  pub searches : Searches n j (2 * 2 ^ j) peeks tries old new
   pub few : length tries ≤ 2 ^ j
   pub sum : refusal_sum refusal ≡ length tries
   pub events : refusals_in new.trail ≡ added refusal (refusals_in old.trail)

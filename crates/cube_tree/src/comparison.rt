@@ -18,7 +18,7 @@ pub fn apart(a: Subcube, b: Subcube, cube: &Cube) -> (Subcube, Subcube)
         node,
         region,
         dim,
-        remembered,
+        hint,
         mut seat,
     } = a;
     let Subcube {
@@ -26,7 +26,7 @@ pub fn apart(a: Subcube, b: Subcube, cube: &Cube) -> (Subcube, Subcube)
         node: other_node,
         region: other_region,
         dim: other_dim,
-        remembered: other_remembered,
+        hint: other_hint,
         seat: other_seat,
     } = b;
     cube.tree.merge(&mut seat, other_seat);
@@ -37,7 +37,7 @@ pub fn apart(a: Subcube, b: Subcube, cube: &Cube) -> (Subcube, Subcube)
         node,
         region,
         dim,
-        remembered,
+        hint,
         seat: own,
     };
     let second = Subcube {
@@ -45,7 +45,7 @@ pub fn apart(a: Subcube, b: Subcube, cube: &Cube) -> (Subcube, Subcube)
         node: other_node,
         region: other_region,
         dim: other_dim,
-        remembered: other_remembered,
+        hint: other_hint,
         seat,
     };
     (first, second)

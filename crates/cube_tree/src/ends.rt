@@ -30,7 +30,7 @@ impl TreeStation {
     {
         let TreeStation {
             number,
-            remembered: _,
+            hint: _,
             mut seat,
         } = self;
         tree.retire(&mut seat, number);

@@ -6,7 +6,7 @@ ghost use Rattle.cube_shape.specs.declared.limits.TheConstants.{MAX_DIM, MAX_STA
 ghost use Rattle.tree_steps.specs.Tree.{id_of, read_words};
 ghost use Rattle.cube_tree.specs.Seats.{IsSeatOf, IsBare};
 
-use cube_shape::Region;
+use cube_shape::{Node, Region};
 use tree_steps::{Seat, Tree};
 
 /// The status tree of a machine, shared by its stations. It cannot be dropped.
@@ -23,9 +23,9 @@ pub struct Cube {
 /// be dropped.
 pub struct TreeStation {
     pub(crate) number: u32,
-    // The ancestor for which the first node of a level was refused, or 0. A search glances at it before it
+    // The ancestor that last refused the first node of a level. A search peeks at it before it
     // tries what lies under it.
-    pub(crate) remembered: u64,
+    pub(crate) hint: Option<Node>,
     pub(crate) seat: Seat,
     ghost idle: { IsSeatOf number Idle seat.me },
     ghost limit: { number < MAX_STATIONS },
@@ -34,19 +34,19 @@ pub struct TreeStation {
 /// The region that a station holds, with its station. It cannot be dropped.
 pub struct Subcube {
     pub(crate) number: u32,
-    pub(crate) node: u64,
+    pub(crate) node: Node,
     pub(crate) region: Region,
     pub(crate) dim: u32,
-    // What its station remembers.
-    pub(crate) remembered: u64,
+    // The hint of its station.
+    pub(crate) hint: Option<Node>,
     pub(crate) seat: Seat,
-    ghost holds: { IsSeatOf number (Holding node) seat.me },
+    ghost holds: { IsSeatOf number (Holding node.0) seat.me },
     ghost limit: { number < MAX_STATIONS },
-    ghost positive: { 0 < node },
-    ghost in_cube: { node < 2 ^ (dim + 1) },
+    ghost positive: { 0 < node.0 },
+    ghost in_cube: { node.0 < 2 ^ (dim + 1) },
     ghost words: { seat.table_id.words ≡ 2 ^ (dim + 1) },
     ghost dim_in_limits: { dim ≤ MAX_DIM },
-    ghost named: { region ≡ region_at dim node },
+    ghost named: { region ≡ region_at dim node.0 },
 }
 
 /// A station that has retired. It makes no event any more, and is known by what it did.
@@ -64,9 +64,10 @@ pub struct FreeMachine {
     pub(crate) seat: Seat,
 }
 
-/// One who loads the roll of a cube, to see who has retired. It is no station, and may be let go.
+/// A reader of the roll of a cube, which says which stations have retired. It is no station, and can
+/// be dropped.
 #[derive(Drop)]
-pub struct RollReader {
+pub struct RetirementReader {
     pub(crate) seat: Seat,
     ghost own: { IsBare seat.me },
 }

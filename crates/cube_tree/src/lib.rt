@@ -1,4 +1,4 @@
-//! A lock-free buddy allocator of subcubes, which any number of threads use at once.
+//! A lock-free buddy allocator of aligned power-of-two blocks (subcubes) for any number of threads at once.
 //!
 //! A `Cube` is the status tree of a machine as shared words, and each of its stations takes and gives
 //! back the region of one node at a time. Every atomic step of a call is an event of the tree as a
@@ -22,7 +22,9 @@ mod takes;
 mod tries;
 
 pub use comparison::apart;
-pub use handles::{Cube, FreeMachine, RetiredStation, RollReader, StillOut, Subcube, TreeStation};
+pub use handles::{
+    Cube, FreeMachine, RetiredStation, RetirementReader, StillOut, Subcube, TreeStation,
+};
 pub use refusal::Refusal;
 pub use refused::{CubeRefused, SoloRefused};
 pub use solo::Solo;

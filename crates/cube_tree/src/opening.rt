@@ -4,7 +4,7 @@ ghost use Rattle.tree_steps.specs.Rule.{first_view, idle_entries};
 ghost use Rattle.tree_steps.specs.Tree.{id_of, size_of, station_count};
 ghost use Rattle.cube_tree.specs.Seats.{IsBare};
 ghost use Rattle.cube_tree.specs.Ends.{HasAll};
-ghost use Rattle.cube_tree.specs.Remembered.{RemembersNothing};
+ghost use Rattle.cube_tree.specs.Hint.{HasNoHint};
 ghost use Rattle.cube_tree.specs.Handles.{cube_dim, cube_size, loads_of, station_entry, size_with, IsStationOf, HasTable};
 
 use crate::handles::{Cube, TreeStation};
@@ -31,7 +31,7 @@ impl Cube {
             ≡ idle_entries 0 stations) }
         ensures all { IfOk result (λ made. HasAll stations made.1.items) }
         ensures of_cube { IfOk result (λ made. All (IsStationOf made.0) made.1.items) }
-        ensures nothing { IfOk result (λ made. All RemembersNothing made.1.items) }
+        ensures nothing { IfOk result (λ made. All HasNoHint made.1.items) }
     {
         if !Dim(n).fits(MAX_DIM) {
             return Err(CubeRefused::BadDimension);
@@ -88,13 +88,13 @@ fn deal(tree: &Tree, seat: &mut Seat, list: &mut Vec<TreeStation>, stations: u32
     ensures idle { map station_entry list.new.items ≡ idle_entries 0 stations }
     ensures all { HasAll stations list.new.items }
     ensures of_tree { All (HasTable (id_of tree.now)) list.new.items }
-    ensures nothing { All RemembersNothing list.new.items }
+    ensures nothing { All HasNoHint list.new.items }
 {
     for number in 0..stations {
         let own = tree.cut_first(seat);
         list.push_reserved(TreeStation {
             number,
-            remembered: 0,
+            hint: None,
             seat: own,
         });
     }

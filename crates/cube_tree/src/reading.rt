@@ -4,18 +4,19 @@ ghost use Rattle.cube_tree.specs.Handles.{cube_dim, cube_size, loads_of, IsSameC
 ghost use Rattle.cube_tree.specs.Ends.{reader_loads, ClosedByRoll, FindsAllRetired, IsMissing, IsReaderOf, IsWhollyFree};
 
 use crate::ends::{finish, missing_in};
-use crate::handles::{Cube, FreeMachine, RollReader};
+use crate::handles::{Cube, FreeMachine, RetirementReader};
 use cube_shape::MAX_STATIONS;
 
 impl Cube {
-    /// One who loads the roll beside the cube, and knows what its loads have found so far.
-    pub fn roll_reader(&mut self) -> RollReader
+    /// Returns a reader of the roll, for use beside the cube. It knows what the loads of the cube
+    /// found.
+    pub fn retirement_reader(&mut self) -> RetirementReader
         ensures reader { IsReaderOf self.new result }
         ensures loads { reader_loads result ≡ loads_of self.old }
         ensures loads_stay { loads_of self.new ≡ loads_of self.old }
         ensures same { IsSameCube self.old self.new }
     {
-        RollReader {
+        RetirementReader {
             seat: self.tree.copy_loads(&mut self.seat),
         }
     }
@@ -25,11 +26,11 @@ impl Cube {
     pub fn word(&self, word: u64) -> u64
         requires { word < 2 ^ (cube_dim self.now + 1) }
     {
-        self.tree.peek(word)
+        self.tree.word(word)
     }
 
     /// Closes the cube by the last load that a reader of its roll made, which found the bit of each station.
-    pub fn close_by(self, reader: RollReader) -> FreeMachine
+    pub fn close_by(self, reader: RetirementReader) -> FreeMachine
         requires reader { IsReaderOf self reader }
         requires retired { FindsAllRetired (cube_size self).stations reader }
         ensures free { IsWhollyFree (cube_dim self) result }
@@ -51,7 +52,7 @@ impl Cube {
     }
 }
 
-impl RollReader {
+impl RetirementReader {
     /// Loads the roll: the stations below the count whose bit it finds clear, which have not retired.
     pub fn missing(&mut self, cube: &Cube, count: u32) -> u64
         requires reader { IsReaderOf cube.now self.old }

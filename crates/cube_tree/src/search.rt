@@ -1,11 +1,11 @@
-//! Takes of any region of a dimension that pass over what lies under an occupied ancestor.
-ghost use Rattle.std.specs.Prelude.{◌≡◌, ◌+◌, ◌-◌, ◌^◌, ◌<◌, ◌≤◌, if◌then◌else◌, IfOk, IfErr, IfSome, IsNone};
+//! Searches for a free region of a dimension, which skip what lies under an occupied ancestor.
+ghost use Rattle.std.specs.Prelude.{◌≡◌, ◌+◌, ◌-◌, ◌^◌, ◌<◌, ◌≤◌, if◌then◌else◌, None, Some, IfOk, IfErr, IfSome, IsNone};
 ghost use Rattle.tree_steps.specs.Answer.{ancestor_of};
 ghost use Rattle.cube_shape.specs.Node.{IsInCube};
 ghost use Rattle.cube_shape.specs.Region.{IsAligned};
 ghost use Rattle.cube_tree.specs.Handles.{cube_dim, held_region, station_entry, IsStationOf};
 ghost use Rattle.cube_tree.specs.Search.{TakesNext, IsRefusedEach};
-ghost use Rattle.cube_tree.specs.Remembered.{remembered, remembered_by, IsAbove, RemembersRefused, RemembersTaken};
+ghost use Rattle.cube_tree.specs.Hint.{hint_of, hint_after_refusal, node_of_hint, IsAbove, IsHintAbove, RemembersRefused, RemembersTaken};
 ghost use Rattle.cube_tree.specs.InnerSearch.{NamesAncestor, IsNodeAfter, Finds, Begins};
 
 use crate::handles::{Cube, Subcube, TreeStation};
@@ -15,80 +15,71 @@ use cube_shape::{MAX_DIM, Node, on_path};
 use status_word::Word;
 use tree_steps::Why;
 
-// The node of the same level to be tried after one that was refused: where an ancestor was occupied,
-// the first one that is not under it.
-pub(crate) fn node_after(node: u64, why: Why) -> u64
-    requires limit { node < 2 ^ (MAX_DIM + 1) }
-    requires positive { 0 < node }
-    requires names { NamesAncestor why node }
-    ensures { IsNodeAfter why node result }
+// The next node of the same level to try after a refused one: where an ancestor was occupied, the
+// first node that is not under it.
+pub(crate) fn node_after(node: Node, why: Why) -> Node
+    requires limit { node.0 < 2 ^ (MAX_DIM + 1) }
+    requires positive { 0 < node.0 }
+    requires names { NamesAncestor why node.0 }
+    ensures { IsNodeAfter why node.0 result.0 }
 {
     let Why::Under(at) = why else {
-        return node + 1;
+        return Node(node.0 + 1);
     };
-    let levels = node.ilog2() - at.0.ilog2();
-    (at.0 + 1) << levels
+    let levels = node.0.ilog2() - at.0.ilog2();
+    Node((at.0 + 1) << levels)
 }
 
-// The node of the number `a`, where it is an ancestor of the other one.
-fn ancestor_of_node(a: u64, node: u64) -> Option<Node>
-    requires { 0 < node }
-    ensures same { IfSome result (λ at. at.0 ≡ a) }
-    ensures above { IfSome result (λ at. IsAbove at.0 node) }
-    ensures none { IsNone result → IsAbove a node → ⊥ }
+// Returns the hint, where it is an ancestor of the node.
+fn hint_above(hint: Option<Node>, node: Node) -> Option<Node>
+    requires { 0 < node.0 }
+    ensures same { IfSome result (λ at. hint ≡ Some at) }
+    ensures above { IfSome result (λ at. IsAbove at.0 node.0) }
+    ensures none { IsNone result → IsHintAbove (node_of_hint hint) node.0 → ⊥ }
 {
-    if a == 0 || a >= node {
+    let at = hint?;
+    if at.0 == 0 || at.0 >= node.0 {
         return None;
     }
-    let at = Node(a);
-    if on_path(at, Node(node)) {
-        Some(at)
-    } else {
-        None
-    }
+    if on_path(at, node) { Some(at) } else { None }
 }
 
 impl TreeStation {
-    // A glance at a node, which the station remembers where it is occupied, and forgets else: whether it is.
-    fn glance(self, cube: &Cube, at: Node) -> (TreeStation, bool)
+    // Peeks at a node: whether it is occupied. The hint is this node afterwards, or none where it
+    // is not occupied.
+    fn peek(self, cube: &Cube, at: Node) -> (TreeStation, bool)
         requires cube { IsStationOf cube.now self }
         requires node { IsInCube (cube_dim cube.now) at.0 }
         ensures cube { IsStationOf cube.now result.0 }
         ensures finds { Finds at.0 result.1 (station_entry self) (station_entry result.0) }
-        ensures remembers { remembered result.0 ≡ (if result.1 then at.0 else 0) }
+        ensures remembers { hint_of result.0 ≡ node_of_hint (if result.1 then Some at else None) }
     {
         let TreeStation {
             number,
-            remembered: _,
+            hint: _,
             mut seat,
         } = self;
-        let word = cube.tree.glance(&mut seat, at.0);
+        let word = cube.tree.peek(&mut seat, at);
         let is_occupied = Word(word).is_occupied();
-        let remembered = if is_occupied { at.0 } else { 0 };
-        (
-            TreeStation {
-                number,
-                remembered,
-                seat,
-            },
-            is_occupied,
-        )
+        let hint = if is_occupied { Some(at) } else { None };
+        (TreeStation { number, hint, seat }, is_occupied)
     }
 
-    // The node at which a search of the regions of dimension `k` begins: the first one, or where a glance
-    // finds an ancestor of it occupied that the station remembers, the one behind those under this.
-    fn begin_search(self, cube: &Cube, k: u32) -> (TreeStation, u64)
+    // Returns the node at which a search for a region of dimension `k` begins. It is the first one.
+    // But where the hint is an ancestor of it, and a peek finds it occupied, it is the node after
+    // those under the hint.
+    fn begin_search(self, cube: &Cube, k: u32) -> (TreeStation, Node)
         requires cube { IsStationOf cube.now self }
         requires dim { k ≤ cube_dim cube.now }
         ensures cube { IsStationOf cube.now result.0 }
-        ensures begins { Begins (cube_dim cube.now - k) result.1 (remembered self)
-            (remembered result.0) (station_entry self) (station_entry result.0) }
+        ensures begins { Begins (cube_dim cube.now - k) result.1.0 (hint_of self)
+            (hint_of result.0) (station_entry self) (station_entry result.0) }
     {
-        let first = region_count(&cube.tree, k);
-        let Some(at) = ancestor_of_node(self.remembered, first) else {
+        let first = Node(region_count(&cube.tree, k));
+        let Some(at) = hint_above(self.hint, first) else {
             return (self, first);
         };
-        let (station, is_occupied) = self.glance(cube, at);
+        let (station, is_occupied) = self.peek(cube, at);
         if is_occupied {
             (station, node_after(first, Why::Under(at)))
         } else {
@@ -96,12 +87,12 @@ impl TreeStation {
         }
     }
 
-    // Where the first node of a level is refused for an ancestor, the station remembers this.
+    // Takes the ancestor that refused the first node of a level as the hint.
     fn remember(self, is_first: bool, why: Why) -> TreeStation
         ensures table { result.seat.table_id ≡ self.seat.table_id }
         ensures entry { station_entry result ≡ station_entry self }
-        ensures remembers { remembered result
-            ≡ remembered_by is_first (ancestor_of why) (remembered self) }
+        ensures remembers { hint_of result
+            ≡ hint_after_refusal is_first (ancestor_of why) (hint_of self) }
     {
         let Why::Under(at) = why else {
             return self;
@@ -111,23 +102,24 @@ impl TreeStation {
         }
         let TreeStation {
             number,
-            remembered: _,
+            hint: _,
             seat,
         } = self;
         TreeStation {
             number,
-            remembered: at.0,
+            hint: Some(at),
             seat,
         }
     }
 
-    /// Tries the regions of dimension `k` one after another, from the first one on, until one is
-    /// taken, but for those under an ancestor that this call found occupied, by a try or by a glance:
-    /// these are passed over. The call glances at the node that the station remembers, if this is an ancestor of
-    /// the first region's node, and forgets it where it is not occupied. Then the station remembers the
-    /// ancestor that the try of the first region found occupied, if one was. For `j = n - k` the call makes at most `2^j * (3 + 7 * j)`
-    /// events; the three counts are those of its tries.
-    pub fn try_take_skipping(self, cube: &Cube, k: u32) -> Result<Subcube, (TreeStation, Refusal)>
+    /// Tries the regions of dimension `k` in order, from the first one on, until one is taken.
+    ///
+    /// It skips each region under an ancestor that this call found occupied, by a try or by a peek.
+    /// The call peeks at the station's hint, if this is an ancestor of the first region's node, and
+    /// drops the hint where it is not occupied. Where the try of the first region finds an ancestor
+    /// occupied, this becomes the hint. For `j = n - k` the call makes at most `2^j * (3 + 7 * j)`
+    /// events. The three counts of a refusal are those of its tries.
+    pub fn search(self, cube: &Cube, k: u32) -> Result<Subcube, (TreeStation, Refusal)>
         requires cube { IsStationOf cube.now self }
         requires dim { k ≤ cube_dim cube.now }
         ensures taken { IfOk result (TakesNext cube.now (cube_dim cube.now - k)
@@ -146,11 +138,11 @@ impl TreeStation {
         let first = region_count(&cube.tree, k);
         let (mut station, mut node) = self.begin_search(cube, k);
         let mut refusal = Refusal::NONE;
-        while node < 2 * first {
-            match station.try_node(cube, Node(node)) {
+        while node.0 < 2 * first {
+            match station.try_node(cube, node) {
                 Ok(subcube) => return Ok(subcube),
                 Err((back, why)) => {
-                    station = back.remember(node == first, why);
+                    station = back.remember(node.0 == first, why);
                     refusal = count(refusal, why);
                     node = node_after(node, why);
                 }

@@ -44,7 +44,7 @@ impl Solo {
         ensures { result ≡ held_by self.now station }
     {
         let node = node_at(&self.nodes, station)?;
-        Some(region_at_node(self.tree.size().dim, node.0))
+        Some(region_at_node(self.tree.size().dim, node))
     }
 
     /// The words of the tree: word `0` is the roll, and word `v` that of node `v`. They tell what is
@@ -84,7 +84,7 @@ impl Solo {
         let Some(node) = take_first(&mut self.tree, &mut self.seat, station as u32, k) else {
             return Err(SoloRefused::NoSubcube);
         };
-        self.nodes[station] = Some(Node(node));
+        self.nodes[station] = Some(node);
         Ok(station)
     }
 
@@ -96,7 +96,7 @@ impl Solo {
         ensures size { solo_size self.new ≡ solo_size self.old }
     {
         if let Some(node) = self.nodes[station] {
-            give_back(&mut self.tree, &mut self.seat, station as u32, node.0);
+            give_back(&mut self.tree, &mut self.seat, station as u32, node);
             self.nodes[station] = None;
         }
     }
@@ -119,7 +119,7 @@ fn first_idle(nodes: &[Option<Node>]) -> Option<usize>
 }
 
 // A station, which is idle, takes the first node of the level of dimension `k` that is not blocked.
-fn take_first(tree: &mut Tree, seat: &mut Seat, station: u32, k: u32) -> Option<u64>
+fn take_first(tree: &mut Tree, seat: &mut Seat, station: u32, k: u32) -> Option<Node>
     requires table { seat.old.table_id ≡ id_of tree.old }
     requires all { AreAllAtRest (station_count tree.old) seat.old.me }
     requires there { station < station_count tree.old }
@@ -129,17 +129,17 @@ fn take_first(tree: &mut Tree, seat: &mut Seat, station: u32, k: u32) -> Option<
     ensures same { (id_of tree.new ≡ id_of tree.old) × (size_of tree.new ≡ size_of tree.old) }
     ensures table { seat.new.table_id ≡ seat.old.table_id }
     ensures moved { MatchOption result (IsMoved station Phase.Idle seat.old.me seat.new.me)
-        (λ node. IsMoved station (Phase.Holding node) seat.old.me seat.new.me) }
+        (λ node. IsMoved station (Phase.Holding node.0) seat.old.me seat.new.me) }
     ensures first { IfSome result (λ node.
-        TakesFirst station (dim_of tree.old - k) node seat.old.me seat.new.me) }
+        TakesFirst station (dim_of tree.old - k) node.0 seat.old.me seat.new.me) }
     ensures none { IfNone result (AreBlocked (dim_of tree.old - k) (2 ^ (dim_of tree.old - k))
         (unpicked station seat.old.me.0.stations)) }
     ensures told { IsTold (dim_of tree.new) (read_words tree.new) seat.new.me.0.stations }
 {
     tree.turn(seat, station);
     let first = region_count(tree, k);
-    let mut node = first;
-    while node < 2 * first {
+    let mut node = Node(first);
+    while node.0 < 2 * first {
         match take_alone(tree, seat, station, node) {
             Ok(()) => return Some(node),
             Err(why) => node = node_after(node, why),
@@ -150,22 +150,22 @@ fn take_first(tree: &mut Tree, seat: &mut Seat, station: u32, k: u32) -> Option<
 
 // One take of a node by the first station of a seat that has all stations, after which the words on
 // its path are read.
-fn take_alone(tree: &mut Tree, seat: &mut Seat, station: u32, node: u64) -> Result<(), Why>
+fn take_alone(tree: &mut Tree, seat: &mut Seat, station: u32, node: Node) -> Result<(), Why>
     requires table { seat.old.table_id ≡ id_of tree.old }
     requires phase { IsAt seat.old.me Phase.Idle }
     requires station { (first_of seat.old.me).station ≡ station }
     requires there { station < station_count tree.old }
     requires alone { IsAlone seat.old.me }
-    requires node { IsInCube (dim_of tree.old) node }
+    requires node { IsInCube (dim_of tree.old) node.0 }
     requires told { IsTold (dim_of tree.old) (read_words tree.old) seat.old.me.0.stations }
     ensures same { (id_of tree.new ≡ id_of tree.old) × (size_of tree.new ≡ size_of tree.old) }
     ensures table { seat.new.table_id ≡ seat.old.table_id }
-    ensures walks { Walks (begin (Phase.Looking node) seat.old.me) seat.new.me }
-    ensures phase { MatchResult result (λ _. IsAt seat.new.me (Phase.Holding node)) (λ _.
+    ensures walks { Walks (begin (Phase.Looking node.0) seat.old.me) seat.new.me }
+    ensures phase { MatchResult result (λ _. IsAt seat.new.me (Phase.Holding node.0)) (λ _.
         IsAt seat.new.me Phase.Idle) }
-    ensures names { IfErr result (λ why. NamesAncestor why node) }
+    ensures names { IfErr result (λ why. NamesAncestor why node.0) }
     ensures off { OnOk result (IsOffAll seat.new.me.0.stations) }
-    ensures exact { OnErr result (IsBlocked node (others seat.old.me.0.stations)) }
+    ensures exact { OnErr result (IsBlocked node.0 (others seat.old.me.0.stations)) }
     ensures holder { IfErr result (λ why.
         IfSome (ancestor_of why) (λ at. HasHolder at (others seat.old.me.0.stations))) }
     ensures told { IsTold (dim_of tree.new) (read_words tree.new) seat.new.me.0.stations }
@@ -185,12 +185,12 @@ fn take_alone(tree: &mut Tree, seat: &mut Seat, station: u32, node: u64) -> Resu
 }
 
 // A station, which holds a node, gives it back.
-fn give_back(tree: &mut Tree, seat: &mut Seat, station: u32, node: u64)
+fn give_back(tree: &mut Tree, seat: &mut Seat, station: u32, node: Node)
     requires table { seat.old.table_id ≡ id_of tree.old }
     requires all { AreAllAtRest (station_count tree.old) seat.old.me }
     requires there { station < station_count tree.old }
-    requires holds { HasPhase station (Phase.Holding node) seat.old.me }
-    requires node { IsInCube (dim_of tree.old) node }
+    requires holds { HasPhase station (Phase.Holding node.0) seat.old.me }
+    requires node { IsInCube (dim_of tree.old) node.0 }
     requires told { IsTold (dim_of tree.old) (read_words tree.old) seat.old.me.0.stations }
     ensures same { (id_of tree.new ≡ id_of tree.old) × (size_of tree.new ≡ size_of tree.old) }
     ensures table { seat.new.table_id ≡ seat.old.table_id }

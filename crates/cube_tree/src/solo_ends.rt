@@ -87,7 +87,7 @@ fn gather(tree: &Tree, seat: &mut Seat, list: &mut Vec<TreeStation>)
     while let Some(station) = list.pop() {
         let TreeStation {
             number: _,
-            remembered: _,
+            hint: _,
             seat: own,
         } = station;
         tree.merge(seat, own);

@@ -2,7 +2,7 @@
 ghost use Rattle.std.specs.Prelude.{◌≡◌, ◌<◌, ◌≤◌, ◌+◌, ◌^◌, IfOk, IfErr};
 ghost use Rattle.cube_shape.specs.Node.{IsInCube};
 ghost use Rattle.cube_core.specs.Held.{region_at};
-ghost use Rattle.cube_tree.specs.Remembered.{remembered, remembered_with};
+ghost use Rattle.cube_tree.specs.Hint.{hint_of, hint_with};
 ghost use Rattle.cube_tree.specs.Handles.{cube_dim, station_entry, subcube_entry, held_node, held_region, IsStationOf, IsSubcubeOf, TakesNode, IsRefusedTry, GivesBack};
 
 use crate::handles::{Cube, Subcube, TreeStation};
@@ -10,12 +10,12 @@ use cube_shape::{MAX_DIM, Node, Region, region_of};
 use tree_steps::Why;
 
 // The region of a node.
-pub(crate) fn region_at_node(dim: u32, node: u64) -> Region
+pub(crate) fn region_at_node(dim: u32, node: Node) -> Region
     requires dim { dim ≤ MAX_DIM }
-    requires node { IsInCube dim node }
-    ensures { result ≡ region_at dim node }
+    requires node { IsInCube dim node.0 }
+    ensures { result ≡ region_at dim node.0 }
 {
-    region_of(dim, Node(node))
+    region_of(dim, node)
 }
 
 impl TreeStation {
@@ -33,35 +33,29 @@ impl TreeStation {
         ensures taken { IfOk result (TakesNode cube.now node.0 (station_entry self)) }
         ensures back { IfErr result (λ refused. IsStationOf cube.now refused.0) }
         ensures refused { IfErr result (λ refused.
-            IsRefusedTry (cube_dim cube.now) node.0 (station_entry self) (station_entry refused.0) refused.1) }
-        ensures remembers { IfOk result (λ subcube. remembered_with subcube ≡ remembered self) }
-        ensures still_remembers { IfErr result (λ refused. remembered refused.0 ≡ remembered self) }
+            IsRefusedTry (cube_dim cube.now) node.0 (station_entry self)
+            (station_entry refused.0) refused.1) }
+        ensures remembers { IfOk result (λ subcube. hint_with subcube ≡ hint_of self) }
+        ensures still_remembers { IfErr result (λ refused. hint_of refused.0 ≡ hint_of self) }
     {
         let TreeStation {
             number,
-            remembered,
+            hint,
             mut seat,
         } = self;
-        match cube.tree.take(&mut seat, number, node.0) {
+        match cube.tree.take(&mut seat, number, node) {
             Ok(()) => {
                 let dim = cube.tree.size().dim;
                 Ok(Subcube {
                     number,
-                    node: node.0,
-                    region: region_at_node(dim, node.0),
+                    node,
+                    region: region_at_node(dim, node),
                     dim,
-                    remembered,
+                    hint,
                     seat,
                 })
             }
-            Err(why) => Err((
-                TreeStation {
-                    number,
-                    remembered,
-                    seat,
-                },
-                why,
-            )),
+            Err(why) => Err((TreeStation { number, hint, seat }, why)),
         }
     }
 }
@@ -78,21 +72,17 @@ impl Subcube {
     pub fn release(self, cube: &Cube) -> TreeStation
         requires { IsSubcubeOf cube.now self }
         ensures back { GivesBack cube.now (held_node self) (subcube_entry self) result }
-        ensures remembers { remembered result ≡ remembered_with self }
+        ensures remembers { hint_of result ≡ hint_with self }
     {
         let Subcube {
             number,
             node,
             region: _,
             dim: _,
-            remembered,
+            hint,
             mut seat,
         } = self;
         cube.tree.give_back(&mut seat, number, node);
-        TreeStation {
-            number,
-            remembered,
-            seat,
-        }
+        TreeStation { number, hint, seat }
     }
 }

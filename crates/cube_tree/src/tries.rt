@@ -3,7 +3,7 @@ ghost use Rattle.std.specs.Prelude.{◌≡◌, ◌-◌, ◌^◌, ◌≤◌, IfOk
 ghost use Rattle.tree_steps.specs.Tree.{dim_of};
 ghost use Rattle.cube_shape.specs.Region.{IsAligned};
 ghost use Rattle.cube_tree.specs.Handles.{cube_dim, held_region, station_entry, IsStationOf};
-ghost use Rattle.cube_tree.specs.Remembered.{remembered, remembered_with};
+ghost use Rattle.cube_tree.specs.Hint.{hint_of, hint_with};
 ghost use Rattle.cube_tree.specs.Tries.{TakesOne, IsRefusedAll};
 
 use crate::handles::{Cube, Subcube, TreeStation};
@@ -32,12 +32,12 @@ impl TreeStation {
         ensures aligned { IfOk result (λ subcube.
             IsAligned (cube_dim cube.now) (held_region subcube)) }
         ensures dimension { IfOk result (λ subcube. (held_region subcube).dim ≡ k) }
-        ensures remembers { IfOk result (λ subcube. remembered_with subcube ≡ remembered self) }
+        ensures remembers { IfOk result (λ subcube. hint_with subcube ≡ hint_of self) }
         ensures back { IfErr result (λ refused. IsStationOf cube.now refused.0) }
         ensures refused { IfErr result (λ refused.
             IsRefusedAll (cube_dim cube.now) (cube_dim cube.now - k)
             (station_entry self) (station_entry refused.0) refused.1) }
-        ensures still_remembers { IfErr result (λ refused. remembered refused.0 ≡ remembered self) }
+        ensures still_remembers { IfErr result (λ refused. hint_of refused.0 ≡ hint_of self) }
     {
         let nodes = region_count(&cube.tree, k);
         let mut station = self;

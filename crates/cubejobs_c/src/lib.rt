@@ -1,4 +1,4 @@
-//! The exact allocator for callers in C and Rust: first fit over aligned subcubes, as a static
+//! The exact block allocator for callers in C and Rust: first fit over aligned power-of-two blocks, as a static
 //! library that takes no memory.
 //!
 //! The caller keeps the machine, one struct of a fixed size, and passes it to each call. A bad

@@ -44,7 +44,7 @@ impl Slot {
 }
 
 /// The region that a station holds, if it holds one.
-pub fn region_at(slots: &[Slot], station: u32) -> Option<Region>
+pub(crate) fn region_at(slots: &[Slot], station: u32) -> Option<Region>
     requires { station < length slots.now }
     ensures { result ≡ holdings slots.now station }
 {
@@ -52,7 +52,7 @@ pub fn region_at(slots: &[Slot], station: u32) -> Option<Region>
 }
 
 /// Gives a station a region, or takes its region away.
-pub fn set_slot(slots: &mut [Slot], station: u32, region: Option<Region>)
+pub(crate) fn set_slot(slots: &mut [Slot], station: u32, region: Option<Region>)
     requires { station < length slots.old }
     ensures len { length slots.new ≡ length slots.old }
     ensures own { holdings slots.new station ≡ region }
@@ -63,7 +63,7 @@ pub fn set_slot(slots: &mut [Slot], station: u32, region: Option<Region>)
 
 /// Takes the regions of all stations away.
 #[tactic(auto, using(std::proofs::lemmas::List::get_or_past))]
-pub fn clear_slots(slots: &mut [Slot])
+pub(crate) fn clear_slots(slots: &mut [Slot])
     ensures len { length slots.new ≡ length slots.old }
     ensures free { (s : ℕ) → holdings slots.new s ≡ None }
 {
@@ -72,14 +72,14 @@ pub fn clear_slots(slots: &mut [Slot])
 
 /// Whether no station holds a region.
 #[tactic(auto, using(std::proofs::lemmas::List::get_or_past))]
-pub fn all_empty(slots: &[Slot]) -> bool
+pub(crate) fn all_empty(slots: &[Slot]) -> bool
     ensures { IsTrue result ↔ ((s : ℕ) → holdings slots.now s ≡ None) }
 {
     slots.iter().all(|slot| !slot.held)
 }
 
 /// Returns the first station that holds no region, if there is one.
-pub fn first_idle(slots: &[Slot]) -> Option<u32>
+pub(crate) fn first_idle(slots: &[Slot]) -> Option<u32>
     requires { length slots.now < 2 ^ 32 }
     ensures idle { IfSome result (λ s. (s < length slots.now) × (holdings slots.now s ≡ None)) }
     ensures least { IfSome result (λ s. (t : ℕ) → t < s → IsSome (holdings slots.now t)) }
@@ -94,7 +94,7 @@ pub fn first_idle(slots: &[Slot]) -> Option<u32>
 }
 
 /// The station whose region has a processor, the first if there are several.
-pub fn holder_of(slots: &[Slot], processor: u64) -> Option<u32>
+pub(crate) fn holder_of(slots: &[Slot], processor: u64) -> Option<u32>
     requires count { length slots.now < 2 ^ 32 }
     requires limits { (s : ℕ) (a : HeldRegion) → holdings slots.now s ≡ Some a → a.dim ≤ MAX_BITS_DIM }
     ensures held { IfSome result (λ s. (a : HeldRegion) × (holdings slots.now s ≡ Some a)

@@ -6,16 +6,16 @@ use Rattle.std_alloc.proofs.BoxSteps.Form.{Bx}
 use Rattle.std_heap.specs.contracts.Global as Heap
 use Rattle.std_heap.specs.contracts.GlobalAllocator.TheImpl.{ghosts, dict}
 use Rattle.std_heap.proofs.Global.TheLaws as heap
-use Rattle.cubejobs_tree.specs.contracts.content.Content as Content
-use Rattle.cubejobs_tree.proofs.content.Content.TheLaws as content
+use Rattle.cubejobs_tree.specs.contracts.state.State as State
+use Rattle.cubejobs_tree.proofs.state.State.TheLaws as content
 use Rattle.cubejobs_tree.specs.contracts.parts.Parts as Parts
-use Rattle.cubejobs_tree.specs.contracts.hidden.Hidden as Hidden
+use Rattle.cubejobs_tree.specs.contracts.opaque_ptr.OpaquePtr as OpaquePtr
 
 abbrev pub E : Bx
-E = record { row = Content.the_row; laws = content.the_row_laws; al = record { row = Heap.the_row; laws = heap.the_row_laws; g = ghosts; d = dict; drops = impl [] tnil dnil } }
+E = record { row = State.the_row; laws = content.the_row_laws; al = record { row = Heap.the_row; laws = heap.the_row_laws; g = ghosts; d = dict; drops = impl [] tnil dnil } }
 
 abbrev pub FromParts : Slot 0
-FromParts = plain (λ _. Parts.the_row Content.the_row Heap.the_row ghosts)
+FromParts = plain (λ _. Parts.the_row State.the_row Heap.the_row ghosts)
 
-abbrev pub FromHidden : Slot 0
-FromHidden = plain (λ _. Hidden.the_row)
+abbrev pub FromOpaquePtr : Slot 0
+FromOpaquePtr = plain (λ _. OpaquePtr.the_row)

@@ -3,21 +3,21 @@ use Rattle.std.proofs.Common.{◌≡◌, ℕ, ◌-◌, ◌∷◌, [], ◌∙◌,
 use Rattle.std.specs.Prelude.{Result, Ok, Err, IfOk, IfErr}
 use Rattle.cube_tree.specs.declared.handles.Cube.{Cube}
 use Rattle.cube_tree.specs.declared.handles.FreeMachine.{FreeMachine}
-use Rattle.cube_tree.specs.declared.handles.RollReader.{RollReader}
+use Rattle.cube_tree.specs.declared.handles.RetirementReader.{RetirementReader}
 use Rattle.cube_tree.specs.Handles.{cube_dim, cube_size}
 use Rattle.cube_tree.specs.Ends.{reader_loads, ClosedByRoll, IsMissing, IsWhollyFree}
 use Rattle.cubejobs_tree.specs.declared.machine.Machine.{Machine}
-use Rattle.cubejobs_tree.specs.Share.{cube_of}
+use Rattle.cubejobs_tree.specs.Ownership.{cube_of}
 use Rattle.cubejobs_tree.specs.Ends.{machine_cube, seated, station_count, Closes, Looks, LooksTwice, NotClosed}
 use Rattle.cubejobs_tree.specs.InnerEnds.{FindsMissing}
 
 -- the cube and the reader of a machine after one load, which found no station missing
-pub record IsLeft (before between : Machine) (cube : Cube) (reader : RollReader) : Type 0 where
+pub record IsLeft (before between : Machine) (cube : Cube) (reader : RetirementReader) : Type 0 where
   pub looks : Looks before between 0
   pub cube_is : cube ≡ machine_cube between
   pub reader_is : reader ≡ between.reader
 
-module _ (before between : Machine) (cube : Cube) (reader : RollReader) (left : IsLeft before between cube reader) where
+module _ (before between : Machine) (cube : Cube) (reader : RetirementReader) (left : IsLeft before between cube reader) where
   same_cube : cube ≡ machine_cube before
   same_cube = left.cube_is ∙ ap cube_of left.looks.same
 
@@ -59,7 +59,7 @@ module _ (before between : Machine) (cube : Cube) (reader : RollReader) (left : 
   open_later (Err out) finds room = inr (twice out.0 out.1 finds room)
 
 -- where a station is missing, nothing is said of who shares the cube
-pub some_missing : (P : Type 0) (cube : Cube) (reader : RollReader) (r : Result FreeMachine (Machine × ℕ)) → IfErr r (λ out. FindsMissing cube reader out.0 out.1) → IfErr r (λ out. out.1 ≡ 0 → P)
+pub some_missing : (P : Type 0) (cube : Cube) (reader : RetirementReader) (r : Result FreeMachine (Machine × ℕ)) → IfErr r (λ out. FindsMissing cube reader out.0 out.1) → IfErr r (λ out. out.1 ≡ 0 → P)
 some_missing P cube reader (Ok free) finds = tt
 some_missing P cube reader (Err out) finds = λ none. absurd (finds.some none)
 

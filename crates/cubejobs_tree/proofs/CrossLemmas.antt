@@ -6,11 +6,13 @@ use Rattle.atomic_table.proofs.shared.Seat.TheSendSync as seat_sent
 use Rattle.atomic_table.specs.contracts.shared.Seat as seat
 use Rattle.tree_steps.proofs.tree.Tree.TheSendSync as tree_sent
 use Rattle.tree_steps.specs.contracts.view.View as view
+use Rattle.std.specs.contracts.option.Option as option
+use Rattle.cube_shape.specs.contracts.node.Node as node
 use Rattle.cube_tree.specs.contracts.handles.Cube as cube
 use Rattle.cube_tree.specs.contracts.handles.TreeStation as station
 use Rattle.cube_tree.specs.contracts.handles.Subcube as subcube
 use Rattle.std.proofs.Crossing.{crosses}
-use Rattle.cubejobs_tree.specs.contracts.content.Content as content
+use Rattle.cubejobs_tree.specs.contracts.state.State as content
 use Rattle.cubejobs_tree.specs.contracts.station.Idle as idle
 
 -- a seat that is only looked at
@@ -29,11 +31,17 @@ cube_sync = search (sendable, tree_sent.the_field_sync, own_seat_sync) depth 30
 cube_send : IsSend cube.the_row
 cube_send = search (sendable, tree_sent.the_field_send, own_seat_send) depth 30
 
+node_send : IsSend node.the_row
+node_send = search sendable
+
+hint_send : IsSend (option.the_row node.the_row)
+hint_send = search (sendable, node_send) depth 20
+
 station_send : IsSend station.the_row
-station_send = search (sendable, own_seat_send) depth 30
+station_send = search (sendable, hint_send, own_seat_send) depth 30
 
 subcube_send : IsSend subcube.the_row
-subcube_send = search (sendable, own_seat_send) depth 30
+subcube_send = search (sendable, node_send, hint_send, own_seat_send) depth 30
 
 pub idle_send : IsSend idle.the_row
 idle_send = search (sendable, crosses, cube_send, cube_sync, own_seat_send) depth 30

@@ -7,27 +7,27 @@ use Rattle.cube_tree.specs.declared.handles.FreeMachine.{FreeMachine}
 use Rattle.cube_tree.specs.Handles.{cube_dim, cube_size, size_with, station_entry}
 use Rattle.cube_tree.specs.Ends.{reader_loads, ClosedByRoll, IsMissing, IsWhollyFree}
 use Rattle.cubejobs_tree.specs.declared.codes.TheConstants.{NOT_OPEN, OTHER_KIND, DONE}
-use Rattle.cubejobs_tree.specs.declared.content.Content.{Content}
-use Rattle.cubejobs_tree.specs.declared.content.Content.TheVariants.{Owner, Free, Closed}
+use Rattle.cubejobs_tree.specs.declared.state.State.{State}
+use Rattle.cubejobs_tree.specs.declared.state.State.TheVariants as state
 use Rattle.cubejobs_tree.specs.declared.machine.Machine.{Machine}
 use Rattle.cubejobs_tree.specs.declared.station.Idle.{Idle}
-use Rattle.cubejobs_tree.specs.Share.{cube_of}
+use Rattle.cubejobs_tree.specs.Ownership.{cube_of}
 
 -- why a call that wants an open machine is refused at once, or DONE
-abbrev pub bar_to_machine : Option Content → ℕ
-bar_to_machine None = NOT_OPEN
-bar_to_machine (Some (Owner (Some machine))) = DONE
-bar_to_machine (Some other) = OTHER_KIND
+abbrev pub refusal_of_machine_call : Option State → ℕ
+refusal_of_machine_call None = NOT_OPEN
+refusal_of_machine_call (Some (state.Machine (Some machine))) = DONE
+refusal_of_machine_call (Some other) = OTHER_KIND
 
 -- and why one that wants a closed machine is
-abbrev pub bar_to_free : Option Content → ℕ
-bar_to_free None = NOT_OPEN
-bar_to_free (Some (Closed free)) = DONE
-bar_to_free (Some other) = OTHER_KIND
+abbrev pub refusal_of_free : Option State → ℕ
+refusal_of_free None = NOT_OPEN
+refusal_of_free (Some (state.Closed free)) = DONE
+refusal_of_free (Some other) = OTHER_KIND
 
 -- an open machine that has this property
-abbrev pub OnMachine : (Machine → Type 0) → Option Content → Type 0
-OnMachine P (Some (Owner (Some machine))) = P machine
+abbrev pub OnMachine : (Machine → Type 0) → Option State → Type 0
+OnMachine P (Some (state.Machine (Some machine))) = P machine
 OnMachine P other = ⊥
 
 -- its cube, and its dimension
@@ -48,21 +48,21 @@ abbrev pub seated : Machine → ℕ
 seated machine = station_count machine - waiting machine
 
 -- a machine of this size; no station has a handle, and all wait: each idle, with the numbers from 0 on
-pub record IsNew (n count : ℕ) (new : Option Content) : Type 0 where
+pub record IsNew (n count : ℕ) (new : Option State) : Type 0 where
   pub machine : Machine
-  pub is : new ≡ Some (Owner (Some machine))
+  pub is : new ≡ Some (state.Machine (Some machine))
   pub size : cube_size (machine_cube machine) ≡ size_with n count
   pub all : map station_entry machine.stations.items ≡ idle_entries 0 count
   pub no_loads : reader_loads machine.reader ≡ []
 
 -- the first of the machine's stations that wait has got a handle, and the answer is its number
-pub record Seats (old new station : Option Content) (number : ℕ) : Type 0 where
+pub record Seats (old new station : Option State) (number : ℕ) : Type 0 where
   pub before : Machine
   pub after : Machine
   pub idle : Idle
-  pub was : old ≡ Some (Owner (Some before))
-  pub is : new ≡ Some (Owner (Some after))
-  pub seat : station ≡ Some (Free idle)
+  pub was : old ≡ Some (state.Machine (Some before))
+  pub is : new ≡ Some (state.Machine (Some after))
+  pub seat : station ≡ Some (state.Idle idle)
   pub same : machine_cube after ≡ machine_cube before
   pub of_cube : arc_value idle.cube ≡ machine_cube before
   pub list : before.stations.items ≡ idle.station ∷ after.stations.items
@@ -103,16 +103,16 @@ pub record Closes (before : Machine) (after : FreeMachine) : Type 0 where
   pub roll : ClosedByRoll (station_count before) (more ++ reader_loads before.reader) after
 
 -- the same, of what stands behind a handle
-pub record IsStillOpen (old new : Option Content) (missing : ℕ) : Type 0 where
+pub record IsStillOpen (old new : Option State) (missing : ℕ) : Type 0 where
   pub before : Machine
   pub after : Machine
-  pub was : old ≡ Some (Owner (Some before))
-  pub is : new ≡ Some (Owner (Some after))
+  pub was : old ≡ Some (state.Machine (Some before))
+  pub is : new ≡ Some (state.Machine (Some after))
   pub not_closed : NotClosed before after missing
 
-pub record IsClosed (old new : Option Content) : Type 0 where
+pub record IsClosed (old new : Option State) : Type 0 where
   pub before : Machine
   pub after : FreeMachine
-  pub was : old ≡ Some (Owner (Some before))
-  pub is : new ≡ Some (Closed after)
+  pub was : old ≡ Some (state.Machine (Some before))
+  pub is : new ≡ Some (state.Closed after)
   pub closes : Closes before after

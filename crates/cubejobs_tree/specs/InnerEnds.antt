@@ -1,7 +1,7 @@
 -- What the parts of an open and of a close do.
 use Rattle.std.specs.Prelude.{◌≡◌, ◌≢◌, ℕ, [], ◌∷◌}
 use Rattle.cube_tree.specs.declared.handles.Cube.{Cube}
-use Rattle.cube_tree.specs.declared.handles.RollReader.{RollReader}
+use Rattle.cube_tree.specs.declared.handles.RetirementReader.{RetirementReader}
 use Rattle.cube_tree.specs.Ends.{reader_loads, IsMissing}
 use Rattle.cube_tree.specs.Handles.{cube_size}
 use Rattle.cube_tree.specs.declared.refused.CubeRefused.{CubeRefused}
@@ -11,7 +11,7 @@ use Rattle.cubejobs_tree.specs.declared.machine.Machine.{Machine}
 use Rattle.cubejobs_tree.specs.Ends.{machine_cube}
 
 -- a machine of this cube, none of whose stations waits, after one load of the roll more, which found stations missing
-pub record FindsMissing (cube : Cube) (reader : RollReader) (after : Machine) (missing : ℕ) : Type 0 where
+pub record FindsMissing (cube : Cube) (reader : RetirementReader) (after : Machine) (missing : ℕ) : Type 0 where
   pub same : machine_cube after ≡ cube
   pub none_waits : after.stations.items ≡ []
   pub roll : ℕ

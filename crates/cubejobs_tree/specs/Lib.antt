@@ -1,10 +1,10 @@
-pub mod InnerBoxed
-pub mod InnerHidden
+pub mod InnerOwnedMachine
+pub mod InnerOpaquePtr
 pub mod Handle
 pub mod Answers
-pub mod Ask
-pub mod InnerAsk
-pub mod Share
+pub mod TakeRequest
+pub mod InnerTakeRequest
+pub mod Ownership
 pub mod Calls
 pub mod Ends
 pub mod InnerEnds

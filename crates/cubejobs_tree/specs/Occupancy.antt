@@ -2,8 +2,8 @@
 use Rattle.std.specs.Prelude.{◌≡◌, ℕ, ◌-◌, ◌<◌, ◌≤◌, if◌then◌else◌, false, List, Option, Some, None, slice_index}
 use Rattle.cube_occupancy.specs.Occupancy.{IsLargestFree, free_regions, held_processors}
 use Rattle.cubejobs_tree.specs.declared.answer.OccupancyAnswer.{OccupancyAnswer}
-use Rattle.cubejobs_tree.specs.declared.content.Content.{Content}
-use Rattle.cubejobs_tree.specs.declared.content.Content.TheVariants.{Owner}
+use Rattle.cubejobs_tree.specs.declared.state.State.{State}
+use Rattle.cubejobs_tree.specs.declared.state.State.TheVariants as state
 use Rattle.cubejobs_tree.specs.declared.machine.Machine.{Machine}
 use Rattle.cubejobs_tree.specs.Ends.{dim_of_machine, machine_cube}
 
@@ -30,11 +30,11 @@ pub record CountsNone (answer : OccupancyAnswer) : Type 0 where
   pub free : (k : ℕ) → slice_index answer.free k ≡ 0
 
 -- the words of the machine were read, and counted; else it is as before
-pub record IsCounted (old new : Option Content) (answer : OccupancyAnswer) : Type 0 where
+pub record IsCounted (old new : Option State) (answer : OccupancyAnswer) : Type 0 where
   pub before : Machine
   pub after : Machine
-  pub was : old ≡ Some (Owner (Some before))
-  pub is : new ≡ Some (Owner (Some after))
+  pub was : old ≡ Some (state.Machine (Some before))
+  pub is : new ≡ Some (state.Machine (Some after))
   pub same : machine_cube after ≡ machine_cube before
   pub list : after.stations ≡ before.stations
   pub reader : after.reader ≡ before.reader

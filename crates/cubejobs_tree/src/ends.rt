@@ -1,19 +1,18 @@
 //! A machine is opened, its stations get handles, and it is closed.
 ghost use Rattle.std.specs.Prelude.{◌≡◌, ◌+◌, ◌^◌, ◌<◌, ◌≤◌, Some, IfOk, IfErr, IfSome, IsErrOf, ◌↔◌, ◌⊎◌, [], All, vec_len};
-ghost use Rattle.cubejobs_tree.specs.declared.content.Content.TheVariants.{Owner};
 ghost use Rattle.cube_tree.specs.Handles.{cube_dim, cube_size, IsStationOf};
 ghost use Rattle.cube_tree.specs.Ends.{reader_loads, ClosedByRoll, IsReaderOf, IsWhollyFree};
-ghost use Rattle.cubejobs_tree.specs.Share.{cube_of, IsShared};
+ghost use Rattle.cubejobs_tree.specs.Ownership.{cube_of, IsShared};
 ghost use Rattle.cubejobs_tree.specs.Ends.{machine_cube, seated, Closes, IsNew, Looks, NotClosed, Seats};
 ghost use Rattle.cubejobs_tree.specs.InnerEnds.{code_for, FindsMissing};
 
 use crate::codes::{BAD_DIMENSION, BAD_STATIONS, NO_STATION, OUT_OF_MEMORY};
-use crate::content::Content;
 use crate::machine::{Machine, retire_all};
-use crate::share::Share;
+use crate::ownership::Ownership;
+use crate::state::State;
 use crate::station::Idle;
 use cube_shape::{MAX_DIM, MAX_STATIONS};
-use cube_tree::{Cube, CubeRefused, FreeMachine, RollReader, TreeStation};
+use cube_tree::{Cube, CubeRefused, FreeMachine, RetirementReader, TreeStation};
 use std::alloc::{AllocFailed, Global};
 use std::collections::VecDeque;
 use std::sync::Arc;
@@ -33,7 +32,7 @@ fn share(
     alloc: Global,
     cube: Cube,
     stations: VecDeque<TreeStation>,
-    reader: RollReader,
+    reader: RetirementReader,
 ) -> Option<Machine>
     requires of_cube { All (IsStationOf cube) stations.items }
     requires reads { IsReaderOf cube reader }
@@ -47,7 +46,7 @@ fn share(
     };
     match Arc::new(alloc, cube) {
         Ok(cube) => Some(Machine {
-            cube: Share::Many(cube),
+            cube: Ownership::Shared(cube),
             stations,
             reader,
             room,
@@ -65,10 +64,10 @@ pub(crate) fn machine_of(alloc: Global, n: u32, stations: u32) -> Result<Machine
     ensures dimension { IsErrOf result CubeRefused.BadDimension ↔ (MAX_DIM < n) }
     ensures stations { IsErrOf result CubeRefused.BadStations
         ↔ ((n ≤ MAX_DIM) × ((stations ≡ 0) ⊎ (MAX_STATIONS < stations))) }
-    ensures made { IfOk result (λ machine. IsNew n stations (Some (Owner (Some machine)))) }
+    ensures made { IfOk result (λ machine. IsNew n stations (Some (State.Machine (Some machine)))) }
 {
     let (mut cube, list) = Cube::open(alloc, n, stations)?;
-    let reader = cube.roll_reader();
+    let reader = cube.retirement_reader();
     let Some(machine) = share(alloc, cube, VecDeque::from(list), reader) else {
         return Err(CubeRefused::OutOfMemory);
     };
@@ -88,9 +87,9 @@ pub(crate) fn code_of(why: CubeRefused) -> u32
 
 impl Machine {
     /// The first station that waits, behind a handle of its own, and its number.
-    pub fn seat(self, alloc: Global) -> (Machine, Result<(Box<Content>, u32), u32>)
-        ensures seated { IfOk result.1 (λ seat. Seats (Some (Owner (Some self)))
-            (Some (Owner (Some result.0))) (Some seat.0.value) seat.1) }
+    pub fn seat(self, alloc: Global) -> (Machine, Result<(Box<State>, u32), u32>)
+        ensures seated { IfOk result.1 (λ seat. Seats (Some (State.Machine (Some self)))
+            (Some (State.Machine (Some result.0))) (Some seat.0.value) seat.1) }
         ensures same { IfErr result.1 (λ code. result.0 ≡ self) }
         ensures refused { IfErr result.1 (λ code. (code ≡ NO_STATION) ⊎ (code ≡ OUT_OF_MEMORY)) }
         ensures no_station { IsErrOf result.1 NO_STATION ↔ (self.stations.items ≡ []) }
@@ -98,7 +97,7 @@ impl Machine {
         if self.stations.is_empty() {
             return (self, Err(NO_STATION));
         }
-        let Ok(mut place) = Box::new(alloc, Content::Away) else {
+        let Ok(mut place) = Box::new(alloc, State::Taken) else {
             return (self, Err(OUT_OF_MEMORY));
         };
         let Some(shared) = self.cube.another() else {
@@ -111,7 +110,7 @@ impl Machine {
             cube: shared,
             station,
         };
-        drop(Box::replace(&mut place, Content::Free(idle)));
+        drop(Box::replace(&mut place, State::Idle(idle)));
         let machine = Machine {
             cube,
             stations,
@@ -158,8 +157,8 @@ impl Machine {
         if missing != 0 {
             return Err((machine, missing));
         }
-        let (share, stations, reader, room) = machine.into_parts();
-        match share.into_cube() {
+        let (ownership, stations, reader, room) = machine.into_parts();
+        match ownership.into_cube() {
             Ok(cube) => close_rest(cube, stations, reader, room),
             Err(cube) => {
                 let machine = Machine {
@@ -178,7 +177,7 @@ impl Machine {
 fn close_rest(
     cube: Cube,
     stations: VecDeque<TreeStation>,
-    reader: RollReader,
+    reader: RetirementReader,
     room: Vec<u64>,
 ) -> Result<FreeMachine, (Machine, u64)>
     requires of_cube { All (IsStationOf cube) stations.items }
@@ -198,7 +197,7 @@ fn close_rest(
         return Ok(cube.close_by(reader));
     }
     let machine = Machine {
-        cube: Share::One(cube),
+        cube: Ownership::Sole(cube),
         stations,
         reader,
         room,

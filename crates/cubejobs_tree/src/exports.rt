@@ -1,37 +1,36 @@
 //! The functions of the library, under the names that C declares.
 ghost use Rattle.std.specs.Prelude.{◌≡◌, ◌≢◌, ◌<◌, ◌≤◌, ◌⊎◌, None, Some, IfSome, IsSome, []};
-ghost use Rattle.cubejobs_tree.specs.declared.content.Content.TheVariants.{Away, Owner};
 ghost use Rattle.cube_shape.specs.declared.limits.TheConstants.{MAX_DIM, MAX_STATIONS};
 ghost use Rattle.cube_shape.specs.Node.{IsInCube};
 ghost use Rattle.cubejobs_tree.specs.Handle.{content_of};
-ghost use Rattle.cubejobs_tree.specs.Share.{IsShared};
+ghost use Rattle.cubejobs_tree.specs.Ownership.{IsShared};
 ghost use Rattle.cube_tree.specs.Tries.{no_refusal};
-ghost use Rattle.cubejobs_tree.specs.declared.ask.Ask.TheVariants.{Dim, Node};
+ghost use Rattle.cubejobs_tree.specs.declared.take_request.TakeRequest.TheVariants.{Dim, Node};
 ghost use Rattle.cubejobs_tree.specs.Answers.{counts_of, NamesNone};
-ghost use Rattle.cubejobs_tree.specs.InnerAsk.{code_of_misfit, HasRegionFor};
-ghost use Rattle.cubejobs_tree.specs.Ends.{bar_to_free, bar_to_machine, IsClosed, IsNew, IsStillOpen, OnMachine, Seats};
-ghost use Rattle.cubejobs_tree.specs.Calls.{bar_to_release, bar_to_take, FreeOn, Gives, Refuses, TakesBack};
+ghost use Rattle.cubejobs_tree.specs.InnerTakeRequest.{code_of_misfit, HasRegionFor};
+ghost use Rattle.cubejobs_tree.specs.Ends.{refusal_of_free, refusal_of_machine_call, IsClosed, IsNew, IsStillOpen, OnMachine, Seats};
+ghost use Rattle.cubejobs_tree.specs.Calls.{refusal_of_release, refusal_of_take, FreeOn, Gives, Refuses, TakesBack};
 
 use crate::answer::{Answer, Seated, refused};
-use crate::ask::Ask;
-use crate::boxed::Boxed;
 use crate::codes::{
     ALREADY_OPEN, BAD_DIMENSION, BAD_NODE, BAD_STATIONS, BAD_VERSION, DONE, NO_STATION, NO_SUBCUBE,
     NOT_OPEN, OTHER_KIND, OUT_OF_MEMORY, RETIRING, STATION_HOLDS, STILL_OUT, VERSION,
 };
-use crate::content::Content;
 use crate::handle::Handle;
 use crate::machine::Machine;
-use crate::places::{put_back, take_out};
+use crate::owned_machine::OwnedMachine;
+use crate::places::{borrow_content, restore_content};
+use crate::state::State;
+use crate::take_request::TakeRequest;
 use crate::{calls, ends};
 use std::alloc::Global;
 
 // A machine in a box of its own goes into a place, unless memory is refused.
-fn place_of(alloc: Global, machine: Machine) -> Option<Box<Content>>
-    ensures { IfSome result (λ place. place.value ≡ Owner (Some machine)) }
+fn place_of(alloc: Global, machine: Machine) -> Option<Box<State>>
+    ensures { IfSome result (λ place. place.value ≡ State.Machine (Some machine)) }
 {
-    let boxed = Boxed::of(alloc, machine)?;
-    match Box::new(alloc, Content::Owner(boxed)) {
+    let owned = OwnedMachine::of(alloc, machine)?;
+    match Box::new(alloc, State::Machine(owned)) {
         Ok(place) => Some(place),
         Err(failed) => {
             drop(failed);
@@ -100,8 +99,9 @@ pub extern "C" fn cubejobs_tree_seat(
     station: &mut Handle,
 ) -> Seated
     ensures already { IsSome (content_of station.old) → result.code ≡ ALREADY_OPEN }
-    ensures barred { content_of station.old ≡ None → bar_to_machine (content_of cube.old) ≢ DONE
-        → result.code ≡ bar_to_machine (content_of cube.old) }
+    ensures barred { content_of station.old ≡ None
+        → refusal_of_machine_call (content_of cube.old) ≢ DONE
+        → result.code ≡ refusal_of_machine_call (content_of cube.old) }
     ensures no_station { content_of station.old ≡ None
         → OnMachine (λ machine. machine.stations.items ≡ []) (content_of cube.old)
         → result.code ≡ NO_STATION }
@@ -119,14 +119,14 @@ pub extern "C" fn cubejobs_tree_seat(
     if station.is_open() {
         return Seated::refused(ALREADY_OPEN);
     }
-    let Some((content, room)) = take_out(cube, alloc) else {
+    let Some((content, room)) = borrow_content(cube, alloc) else {
         return Seated::refused(NOT_OPEN);
     };
     match content {
-        Content::Owner(boxed) => {
-            let (owner, place) = boxed.open();
+        State::Machine(owned) => {
+            let (owner, place) = owned.open();
             let (owner, seated) = owner.seat(alloc);
-            put_back(cube, room, Content::Owner(Boxed::fill(place, owner)));
+            restore_content(cube, room, State::Machine(OwnedMachine::fill(place, owner)));
             match seated {
                 Ok((seat, number)) => {
                     *station = Handle::of(seat);
@@ -136,7 +136,7 @@ pub extern "C" fn cubejobs_tree_seat(
             }
         }
         other => {
-            put_back(cube, room, other);
+            restore_content(cube, room, other);
             Seated::refused(OTHER_KIND)
         }
     }
@@ -144,35 +144,35 @@ pub extern "C" fn cubejobs_tree_seat(
 
 // The station of a handle is asked to take a region.
 #[inline(always)]
-fn take_as(alloc: Global, station: &mut Handle, ask: Ask) -> Answer
-    ensures barred { bar_to_take (content_of station.old) ≢ DONE
-        → result.code ≡ bar_to_take (content_of station.old) }
-    ensures misfit { FreeOn (λ n. HasRegionFor n ask → ⊥) (content_of station.old)
-        → result.code ≡ code_of_misfit ask }
-    ensures tried { FreeOn (λ n. HasRegionFor n ask) (content_of station.old)
+fn take_as(alloc: Global, station: &mut Handle, request: TakeRequest) -> Answer
+    ensures barred { refusal_of_take (content_of station.old) ≢ DONE
+        → result.code ≡ refusal_of_take (content_of station.old) }
+    ensures misfit { FreeOn (λ n. HasRegionFor n request → ⊥) (content_of station.old)
+        → result.code ≡ code_of_misfit request }
+    ensures tried { FreeOn (λ n. HasRegionFor n request) (content_of station.old)
         → result.code ≤ NO_SUBCUBE }
     ensures given { result.code ≡ DONE
-        → Gives ask (content_of station.old) (content_of station.new) result }
+        → Gives request (content_of station.old) (content_of station.new) result }
     ensures refused { result.code ≡ NO_SUBCUBE
-        → Refuses ask (content_of station.old) (content_of station.new) result }
+        → Refuses request (content_of station.old) (content_of station.new) result }
     ensures unchanged { NO_SUBCUBE < result.code
         → content_of station.new ≡ content_of station.old }
     ensures names_none { result.code ≢ DONE → NamesNone result }
     ensures counts_none { result.code ≢ NO_SUBCUBE → counts_of result ≡ no_refusal }
 {
-    let Some((content, room)) = take_out(station, alloc) else {
+    let Some((content, room)) = borrow_content(station, alloc) else {
         return refused(NOT_OPEN);
     };
-    let (content, answer) = calls::take(content, ask);
-    put_back(station, room, content);
+    let (content, answer) = calls::take(content, request);
+    restore_content(station, room, content);
     answer
 }
 
 /// Searches the regions of dimension `k` for one that can be taken, from the first one on.
 #[unsafe(no_mangle)]
 pub extern "C" fn cubejobs_tree_take(alloc: Global, station: &mut Handle, k: u32) -> Answer
-    ensures barred { bar_to_take (content_of station.old) ≢ DONE
-        → result.code ≡ bar_to_take (content_of station.old) }
+    ensures barred { refusal_of_take (content_of station.old) ≢ DONE
+        → result.code ≡ refusal_of_take (content_of station.old) }
     ensures bad_dimension { FreeOn (λ n. k ≤ n → ⊥) (content_of station.old)
         → result.code ≡ BAD_DIMENSION }
     ensures tried { FreeOn (λ n. k ≤ n) (content_of station.old)
@@ -186,14 +186,14 @@ pub extern "C" fn cubejobs_tree_take(alloc: Global, station: &mut Handle, k: u32
     ensures names_none { result.code ≢ DONE → NamesNone result }
     ensures counts_none { result.code ≢ NO_SUBCUBE → counts_of result ≡ no_refusal }
 {
-    take_as(alloc, station, Ask::Dim(k))
+    take_as(alloc, station, TakeRequest::Dim(k))
 }
 
 /// Tries the region of one node.
 #[unsafe(no_mangle)]
 pub extern "C" fn cubejobs_tree_try_node(alloc: Global, station: &mut Handle, node: u64) -> Answer
-    ensures barred { bar_to_take (content_of station.old) ≢ DONE
-        → result.code ≡ bar_to_take (content_of station.old) }
+    ensures barred { refusal_of_take (content_of station.old) ≢ DONE
+        → result.code ≡ refusal_of_take (content_of station.old) }
     ensures bad_node { FreeOn (λ n. IsInCube n node → ⊥) (content_of station.old)
         → result.code ≡ BAD_NODE }
     ensures tried { FreeOn (λ n. IsInCube n node) (content_of station.old)
@@ -207,53 +207,53 @@ pub extern "C" fn cubejobs_tree_try_node(alloc: Global, station: &mut Handle, no
     ensures names_none { result.code ≢ DONE → NamesNone result }
     ensures counts_none { result.code ≢ NO_SUBCUBE → counts_of result ≡ no_refusal }
 {
-    take_as(alloc, station, Ask::Node(node))
+    take_as(alloc, station, TakeRequest::Node(node))
 }
 
 /// Gives the station's region back, and answers which it was.
 #[unsafe(no_mangle)]
 pub extern "C" fn cubejobs_tree_release(alloc: Global, station: &mut Handle) -> Answer
-    ensures barred { bar_to_release (content_of station.old) ≢ DONE
-        → result.code ≡ bar_to_release (content_of station.old) }
-    ensures done { bar_to_release (content_of station.old) ≡ DONE → result.code ≡ DONE }
+    ensures barred { refusal_of_release (content_of station.old) ≢ DONE
+        → result.code ≡ refusal_of_release (content_of station.old) }
+    ensures done { refusal_of_release (content_of station.old) ≡ DONE → result.code ≡ DONE }
     ensures released { result.code ≡ DONE
         → TakesBack (content_of station.old) (content_of station.new) result }
     ensures unchanged { result.code ≢ DONE → content_of station.new ≡ content_of station.old }
     ensures names_none { result.code ≢ DONE → NamesNone result }
     ensures counts_none { counts_of result ≡ no_refusal }
 {
-    let Some((content, room)) = take_out(station, alloc) else {
+    let Some((content, room)) = borrow_content(station, alloc) else {
         return refused(NOT_OPEN);
     };
     let (content, answer) = calls::release(content);
-    put_back(station, room, content);
+    restore_content(station, room, content);
     answer
 }
 
 /// The station, which holds nothing, retires, and its handle is shut.
 #[unsafe(no_mangle)]
 pub extern "C" fn cubejobs_tree_retire(alloc: Global, station: &mut Handle) -> u32
-    ensures barred { bar_to_take (content_of station.old) ≢ DONE
-        → result ≡ bar_to_take (content_of station.old) }
-    ensures done { bar_to_take (content_of station.old) ≡ DONE → result ≡ DONE }
+    ensures barred { refusal_of_take (content_of station.old) ≢ DONE
+        → result ≡ refusal_of_take (content_of station.old) }
+    ensures done { refusal_of_take (content_of station.old) ≡ DONE → result ≡ DONE }
     ensures shut { result ≡ DONE → content_of station.new ≡ None }
     ensures unchanged { result ≢ DONE → content_of station.new ≡ content_of station.old }
 {
-    let Some((content, room)) = take_out(station, alloc) else {
+    let Some((content, room)) = borrow_content(station, alloc) else {
         return NOT_OPEN;
     };
     match content {
-        Content::Free(idle) => {
+        State::Idle(idle) => {
             idle.retire();
             drop(room);
             DONE
         }
-        Content::Busy(held) => {
-            put_back(station, room, Content::Busy(held));
+        State::Holding(held) => {
+            restore_content(station, room, State::Holding(held));
             STATION_HOLDS
         }
         other => {
-            put_back(station, room, other);
+            restore_content(station, room, other);
             OTHER_KIND
         }
     }
@@ -263,9 +263,9 @@ pub extern "C" fn cubejobs_tree_retire(alloc: Global, station: &mut Handle) -> u
 /// words, which are to be freed. Otherwise bit `s` of `missing` is set for each station `s` that has not.
 #[unsafe(no_mangle)]
 pub extern "C" fn cubejobs_tree_close(alloc: Global, cube: &mut Handle, missing: &mut u64) -> u32
-    ensures barred { bar_to_machine (content_of cube.old) ≢ DONE
-        → result ≡ bar_to_machine (content_of cube.old) }
-    ensures tried { bar_to_machine (content_of cube.old) ≡ DONE
+    ensures barred { refusal_of_machine_call (content_of cube.old) ≢ DONE
+        → result ≡ refusal_of_machine_call (content_of cube.old) }
+    ensures tried { refusal_of_machine_call (content_of cube.old) ≡ DONE
         → (result ≡ DONE) ⊎ (result ≡ STILL_OUT) ⊎ (result ≡ RETIRING) }
     ensures closed { result ≡ DONE → IsClosed (content_of cube.old) (content_of cube.new) }
     ensures still_out { result ≡ STILL_OUT → (missing.new ≢ 0)
@@ -274,45 +274,45 @@ pub extern "C" fn cubejobs_tree_close(alloc: Global, cube: &mut Handle, missing:
         → IsStillOpen (content_of cube.old) (content_of cube.new) 0 }
     ensures shared { result ≡ RETIRING
         → OnMachine (λ machine. IsShared machine.cube) (content_of cube.old) }
-    ensures unchanged { bar_to_machine (content_of cube.old) ≢ DONE
+    ensures unchanged { refusal_of_machine_call (content_of cube.old) ≢ DONE
         → content_of cube.new ≡ content_of cube.old }
     ensures same_missing { result ≢ STILL_OUT → missing.new ≡ missing.old }
 {
-    let Some((content, room)) = take_out(cube, alloc) else {
+    let Some((content, room)) = borrow_content(cube, alloc) else {
         return NOT_OPEN;
     };
     match content {
-        Content::Owner(boxed) => close_boxed(cube, room, boxed, missing),
+        State::Machine(owned) => close_owned(cube, room, owned, missing),
         other => {
-            put_back(cube, room, other);
+            restore_content(cube, room, other);
             OTHER_KIND
         }
     }
 }
 
 // The machine is closed, or comes back behind its handle.
-fn close_boxed(cube: &mut Handle, room: Box<Content>, boxed: Boxed, missing: &mut u64) -> u32
-    requires away { room.value ≡ Away }
+fn close_owned(cube: &mut Handle, room: Box<State>, owned: OwnedMachine, missing: &mut u64) -> u32
+    requires away { room.value ≡ State.Taken }
     ensures tried { (result ≡ DONE) ⊎ (result ≡ STILL_OUT) ⊎ (result ≡ RETIRING) }
-    ensures closed { result ≡ DONE → IsClosed (Some (Owner boxed)) (content_of cube.new) }
+    ensures closed { result ≡ DONE → IsClosed (Some (State.Machine owned)) (content_of cube.new) }
     ensures still_out { result ≡ STILL_OUT → (missing.new ≢ 0)
-        × IsStillOpen (Some (Owner boxed)) (content_of cube.new) missing.new }
+        × IsStillOpen (Some (State.Machine owned)) (content_of cube.new) missing.new }
     ensures retiring { result ≡ RETIRING
-        → IsStillOpen (Some (Owner boxed)) (content_of cube.new) 0 }
+        → IsStillOpen (Some (State.Machine owned)) (content_of cube.new) 0 }
     ensures shared { result ≡ RETIRING
-        → OnMachine (λ machine. IsShared machine.cube) (Some (Owner boxed)) }
-    ensures is_machine { bar_to_machine (Some (Owner boxed)) ≡ DONE }
+        → OnMachine (λ machine. IsShared machine.cube) (Some (State.Machine owned)) }
+    ensures is_machine { refusal_of_machine_call (Some (State.Machine owned)) ≡ DONE }
     ensures same_missing { result ≢ STILL_OUT → missing.new ≡ missing.old }
 {
-    let (owner, place) = boxed.open();
+    let (owner, place) = owned.open();
     match owner.close() {
         Ok(free) => {
             drop(place);
-            put_back(cube, room, Content::Closed(free));
+            restore_content(cube, room, State::Closed(free));
             DONE
         }
         Err((owner, found)) => {
-            put_back(cube, room, Content::Owner(Boxed::fill(place, owner)));
+            restore_content(cube, room, State::Machine(OwnedMachine::fill(place, owner)));
             if found == 0 {
                 RETIRING
             } else {
@@ -326,23 +326,23 @@ fn close_boxed(cube: &mut Handle, room: Box<Content>, boxed: Boxed, missing: &mu
 /// Frees the words of a machine that is closed, and its handle is shut.
 #[unsafe(no_mangle)]
 pub extern "C" fn cubejobs_tree_free(alloc: Global, cube: &mut Handle) -> u32
-    ensures barred { bar_to_free (content_of cube.old) ≢ DONE
-        → result ≡ bar_to_free (content_of cube.old) }
-    ensures done { bar_to_free (content_of cube.old) ≡ DONE → result ≡ DONE }
+    ensures barred { refusal_of_free (content_of cube.old) ≢ DONE
+        → result ≡ refusal_of_free (content_of cube.old) }
+    ensures done { refusal_of_free (content_of cube.old) ≡ DONE → result ≡ DONE }
     ensures shut { result ≡ DONE → content_of cube.new ≡ None }
     ensures unchanged { result ≢ DONE → content_of cube.new ≡ content_of cube.old }
 {
-    let Some((content, room)) = take_out(cube, alloc) else {
+    let Some((content, room)) = borrow_content(cube, alloc) else {
         return NOT_OPEN;
     };
     match content {
-        Content::Closed(free) => {
+        State::Closed(free) => {
             drop(free);
             drop(room);
             DONE
         }
         other => {
-            put_back(cube, room, other);
+            restore_content(cube, room, other);
             OTHER_KIND
         }
     }

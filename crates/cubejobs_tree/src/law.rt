@@ -4,13 +4,13 @@ ghost use Rattle.std.specs.Arc.{arc_value};
 ghost use Rattle.cube_shape.specs.Region.{AreApart};
 ghost use Rattle.cube_tree.specs.Handles.{held_region, IsSameSubcube};
 ghost use Rattle.cubejobs_tree.specs.Apart.{AreOnOneMachine, HoldApart};
-ghost use Rattle.cubejobs_tree.specs.Calls.{bar_to_release};
+ghost use Rattle.cubejobs_tree.specs.Calls.{refusal_of_release};
 ghost use Rattle.cubejobs_tree.specs.Handle.{content_of};
 
 use crate::codes::DONE;
-use crate::content::Content;
 use crate::handle::Handle;
-use crate::places::{put_back, take_out};
+use crate::places::{borrow_content, restore_content};
+use crate::state::State;
 use crate::station::Holding;
 use std::alloc::Global;
 
@@ -41,30 +41,30 @@ fn compare(a: Holding, b: Holding) -> (Holding, Holding)
 /// any two handles, and no function for C.
 pub fn apart(alloc: Global, a: &mut Handle, b: &mut Handle) -> bool
     requires one_machine { AreOnOneMachine (content_of a.old) (content_of b.old) }
-    ensures told { bar_to_release (content_of a.old) ≡ DONE
-        → bar_to_release (content_of b.old) ≡ DONE → result ≡ true }
+    ensures told { refusal_of_release (content_of a.old) ≡ DONE
+        → refusal_of_release (content_of b.old) ≡ DONE → result ≡ true }
     ensures apart { IsTrue result → HoldApart (content_of a.old) (content_of b.old)
         (content_of a.new) (content_of b.new) }
     ensures unchanged { result ≡ false → (content_of a.new ≡ content_of a.old)
         × (content_of b.new ≡ content_of b.old) }
 {
-    let Some((first, first_room)) = take_out(a, alloc) else {
+    let Some((first, first_room)) = borrow_content(a, alloc) else {
         return false;
     };
-    let Some((second, second_room)) = take_out(b, alloc) else {
-        put_back(a, first_room, first);
+    let Some((second, second_room)) = borrow_content(b, alloc) else {
+        restore_content(a, first_room, first);
         return false;
     };
     match (first, second) {
-        (Content::Busy(first), Content::Busy(second)) => {
+        (State::Holding(first), State::Holding(second)) => {
             let (first, second) = compare(first, second);
-            put_back(a, first_room, Content::Busy(first));
-            put_back(b, second_room, Content::Busy(second));
+            restore_content(a, first_room, State::Holding(first));
+            restore_content(b, second_room, State::Holding(second));
             true
         }
         (first, second) => {
-            put_back(a, first_room, first);
-            put_back(b, second_room, second);
+            restore_content(a, first_room, first);
+            restore_content(b, second_room, second);
             false
         }
     }

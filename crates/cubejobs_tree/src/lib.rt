@@ -1,4 +1,4 @@
-//! The running tree for callers in C, C++ and Rust: subcubes for many threads at once, with no lock.
+//! The lock-free block allocator for callers in C, C++ and Rust, as a static library: many threads take blocks at once.
 //!
 //! A caller keeps handles of 16 bytes, of a machine and of its stations, and passes one to each call. What
 //! stands behind a handle is a box that only this library follows; so the clauses of each call say what
@@ -8,26 +8,25 @@
 #![tactic(auto)]
 
 mod answer;
-mod ask;
-mod boxed;
 mod calls;
 mod codes;
-mod content;
 mod ends;
 mod exports;
 mod handle;
-mod hidden;
 mod law;
 mod machine;
 mod occupancy;
+mod opaque_ptr;
+mod owned_machine;
+mod ownership;
 mod parts;
 mod places;
 mod readouts;
-mod share;
+mod state;
 mod station;
+mod take_request;
 
 pub use answer::{Answer, OccupancyAnswer, Seated, SizeAnswer, WordAnswer};
-pub use ask::Ask;
 pub use codes::{
     ALREADY_OPEN, BAD_DIMENSION, BAD_NODE, BAD_STATIONS, BAD_VERSION, DONE, NO_STATION, NO_SUBCUBE,
     NOT_OPEN, NOTHING_HELD, OPEN, OTHER_KIND, OUT_OF_MEMORY, RETIRING, STATION_HOLDS, STILL_OUT,
@@ -41,3 +40,4 @@ pub use handle::Handle;
 pub use law::apart;
 pub use occupancy::cubejobs_tree_occupancy;
 pub use readouts::{cubejobs_tree_region, cubejobs_tree_size, cubejobs_tree_word};
+pub use take_request::TakeRequest;

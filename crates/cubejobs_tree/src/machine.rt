@@ -3,17 +3,17 @@ ghost use Rattle.std.specs.Prelude.{◌≡◌, ◌+◌, ◌^◌, [], vec_len};
 ghost use Rattle.std.specs.List.{All};
 ghost use Rattle.cube_tree.specs.Handles.{cube_dim, IsStationOf};
 ghost use Rattle.cube_tree.specs.Ends.{IsReaderOf};
-ghost use Rattle.cubejobs_tree.specs.Share.{cube_of};
+ghost use Rattle.cubejobs_tree.specs.Ownership.{cube_of};
 
-use crate::share::Share;
-use cube_tree::{Cube, RollReader, TreeStation};
+use crate::ownership::Ownership;
+use cube_tree::{Cube, RetirementReader, TreeStation};
 use std::collections::VecDeque;
 
 /// A machine, with its stations that have no handle yet, the first of them in front.
-pub struct Machine {
-    pub(crate) cube: Share,
+pub(crate) struct Machine {
+    pub(crate) cube: Ownership,
     pub(crate) stations: VecDeque<TreeStation>,
-    pub(crate) reader: RollReader,
+    pub(crate) reader: RetirementReader,
     // Its words as they were last read, for a count.
     pub(crate) room: Vec<u64>,
     ghost of_cube: { All (IsStationOf (cube_of cube)) stations.items },
@@ -33,7 +33,7 @@ pub(crate) fn retire_all(stations: &mut VecDeque<TreeStation>, cube: &Cube)
 
 impl Machine {
     // The cube, the stations that have no handle, the reader of the roll, and the room.
-    pub(crate) fn into_parts(self) -> (Share, VecDeque<TreeStation>, RollReader, Vec<u64>)
+    pub(crate) fn into_parts(self) -> (Ownership, VecDeque<TreeStation>, RetirementReader, Vec<u64>)
         ensures cube { result.0 ≡ self.cube }
         ensures stations { result.1 ≡ self.stations }
         ensures reader { result.2 ≡ self.reader }

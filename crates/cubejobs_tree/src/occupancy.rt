@@ -1,16 +1,16 @@
 //! The read-out of how much of a machine is free.
 ghost use Rattle.std.specs.Prelude.{◌≡◌, ◌≢◌, ℕ, ◌+◌, ◌^◌, ◌≤◌, length};
 ghost use Rattle.cubejobs_tree.specs.Handle.{content_of};
-ghost use Rattle.cubejobs_tree.specs.Ends.{bar_to_machine, machine_cube};
+ghost use Rattle.cubejobs_tree.specs.Ends.{refusal_of_machine_call, machine_cube};
 ghost use Rattle.cubejobs_tree.specs.Occupancy.{Counts, CountsNone, IsCounted};
 
 use crate::answer::OccupancyAnswer;
-use crate::boxed::Boxed;
 use crate::codes::{DONE, NOT_OPEN, OTHER_KIND};
-use crate::content::Content;
 use crate::handle::Handle;
 use crate::machine::Machine;
-use crate::places::{put_back, take_out};
+use crate::owned_machine::OwnedMachine;
+use crate::places::{borrow_content, restore_content};
+use crate::state::State;
 use cube_occupancy::occupancy;
 use cube_shape::MAX_DIM;
 use std::alloc::Global;
@@ -56,27 +56,31 @@ fn count(n: u32, words: &[u64]) -> OccupancyAnswer
 /// dimension, by the words as each is at some moment of the call.
 #[unsafe(no_mangle)]
 pub extern "C" fn cubejobs_tree_occupancy(alloc: Global, cube: &mut Handle) -> OccupancyAnswer
-    ensures barred { bar_to_machine (content_of cube.old) ≢ DONE
-        → result.code ≡ bar_to_machine (content_of cube.old) }
-    ensures done { bar_to_machine (content_of cube.old) ≡ DONE → result.code ≡ DONE }
+    ensures barred { refusal_of_machine_call (content_of cube.old) ≢ DONE
+        → result.code ≡ refusal_of_machine_call (content_of cube.old) }
+    ensures done { refusal_of_machine_call (content_of cube.old) ≡ DONE → result.code ≡ DONE }
     ensures counted { result.code ≡ DONE
         → IsCounted (content_of cube.old) (content_of cube.new) result }
     ensures nothing { result.code ≢ DONE → CountsNone result }
     ensures unchanged { result.code ≢ DONE → content_of cube.new ≡ content_of cube.old }
 {
-    let Some((content, place)) = take_out(cube, alloc) else {
+    let Some((content, place)) = borrow_content(cube, alloc) else {
         return OccupancyAnswer::refused(NOT_OPEN);
     };
     match content {
-        Content::Owner(boxed) => {
-            let (machine, empty) = boxed.open();
+        State::Machine(owned) => {
+            let (machine, empty) = owned.open();
             let machine = machine.read_words();
             let answer = count(machine.cube.get().dim(), &machine.room);
-            put_back(cube, place, Content::Owner(Boxed::fill(empty, machine)));
+            restore_content(
+                cube,
+                place,
+                State::Machine(OwnedMachine::fill(empty, machine)),
+            );
             answer
         }
         other => {
-            put_back(cube, place, other);
+            restore_content(cube, place, other);
             OccupancyAnswer::refused(OTHER_KIND)
         }
     }

@@ -1,12 +1,11 @@
-//! A content goes behind a handle, and comes out again.
+//! A call borrows the content of a handle, and restores it.
 ghost use Rattle.std.specs.Prelude.{◌≡◌, ◌↔◌, None, Some, IfSome, IfNone, IsSome, IsTrue};
-ghost use Rattle.cubejobs_tree.specs.declared.content.Content.TheVariants.{Away};
 ghost use Rattle.cubejobs_tree.specs.Handle.{content_of};
 
 use crate::codes::OPEN;
-use crate::content::Content;
 use crate::handle::Handle;
-use crate::hidden::Hidden;
+use crate::opaque_ptr::OpaquePtr;
+use crate::state::State;
 use std::alloc::Global;
 use std::mem::replace;
 
@@ -18,18 +17,18 @@ impl Handle {
     {
         Handle {
             tag: 0,
-            hidden: Hidden::nothing(alloc),
+            ptr: OpaquePtr::nothing(alloc),
         }
     }
 
     // The handle of a content.
     #[inline(always)]
-    pub(crate) fn of(content: Box<Content>) -> Handle
+    pub(crate) fn of(content: Box<State>) -> Handle
         ensures { content_of result ≡ Some content.value }
     {
         Handle {
             tag: OPEN,
-            hidden: Hidden::of(content),
+            ptr: OpaquePtr::of(content),
         }
     }
 
@@ -43,23 +42,24 @@ impl Handle {
 
     // The content, if it is open.
     #[inline(always)]
-    fn into_box(self) -> Option<Box<Content>>
+    fn into_box(self) -> Option<Box<State>>
         ensures some { IfSome result (λ b. content_of self ≡ Some b.value) }
         ensures none { IfNone result (content_of self ≡ None) }
     {
-        let Handle { tag, hidden } = self;
+        let Handle { tag, ptr } = self;
         if tag == OPEN {
-            Some(hidden.into_box())
+            Some(ptr.into_box())
         } else {
             None
         }
     }
 }
 
-// Takes the content out of its place, and the place away from the handle, which is shut.
+// Takes the content and its place from the handle, which is shut until the content is restored.
 #[inline(always)]
-pub(crate) fn take_out(handle: &mut Handle, alloc: Global) -> Option<(Content, Box<Content>)>
-    ensures some { IfSome result (λ r. (content_of handle.old ≡ Some r.0) × (r.1.value ≡ Away)) }
+pub(crate) fn borrow_content(handle: &mut Handle, alloc: Global) -> Option<(State, Box<State>)>
+    ensures some { IfSome result (λ r.
+        (content_of handle.old ≡ Some r.0) × (r.1.value ≡ State.Taken)) }
     ensures none { IfNone result (content_of handle.old ≡ None) }
     ensures shut { content_of handle.new ≡ None }
 {
@@ -68,18 +68,18 @@ pub(crate) fn take_out(handle: &mut Handle, alloc: Global) -> Option<(Content, B
         return None;
     }
     let mut room = replace(handle, Handle::shut(alloc)).into_box()?;
-    let content = Box::replace(&mut room, Content::Away);
+    let content = Box::replace(&mut room, State::Taken);
     Some((content, room))
 }
 
-// Puts a content into its place, and the place behind the handle.
+// Puts a content back into its place, and opens the handle.
 #[inline(always)]
-pub(crate) fn put_back(handle: &mut Handle, room: Box<Content>, content: Content)
-    requires away { room.value ≡ Away }
+pub(crate) fn restore_content(handle: &mut Handle, room: Box<State>, content: State)
+    requires away { room.value ≡ State.Taken }
     ensures { content_of handle.new ≡ Some content }
 {
     let mut room = room;
-    let Content::Away = Box::replace(&mut room, content) else {
+    let State::Taken = Box::replace(&mut room, content) else {
         unreachable!()
     };
     *handle = Handle::of(room);

@@ -3,34 +3,34 @@ ghost use Rattle.std.specs.Prelude.{◌≡◌, ◌≢◌, ◌<◌, ◌≤◌, �
 ghost use Rattle.cube_tree.specs.Tries.{no_refusal};
 ghost use Rattle.cubejobs_tree.specs.Answers.{counts_of, NamesNone};
 ghost use Rattle.cubejobs_tree.specs.Handle.{content_of};
-ghost use Rattle.cubejobs_tree.specs.Ends.{bar_to_machine, dim_of_machine, seated, station_count, OnMachine};
-ghost use Rattle.cubejobs_tree.specs.Calls.{bar_to_release, Names};
+ghost use Rattle.cubejobs_tree.specs.Ends.{refusal_of_machine_call, dim_of_machine, seated, station_count, OnMachine};
+ghost use Rattle.cubejobs_tree.specs.Calls.{refusal_of_release, Names};
 
 use crate::answer::{Answer, SizeAnswer, WordAnswer, refused};
 use crate::calls;
 use crate::codes::{BAD_NODE, DONE, NOT_OPEN, OTHER_KIND};
-use crate::content::Content;
 use crate::handle::Handle;
 use crate::machine::Machine;
-use crate::places::{put_back, take_out};
+use crate::places::{borrow_content, restore_content};
+use crate::state::State;
 use std::alloc::Global;
 
 /// The region that the station holds.
 #[unsafe(no_mangle)]
 pub extern "C" fn cubejobs_tree_region(alloc: Global, station: &mut Handle) -> Answer
-    ensures barred { bar_to_release (content_of station.old) ≢ DONE
-        → result.code ≡ bar_to_release (content_of station.old) }
-    ensures done { bar_to_release (content_of station.old) ≡ DONE → result.code ≡ DONE }
+    ensures barred { refusal_of_release (content_of station.old) ≢ DONE
+        → result.code ≡ refusal_of_release (content_of station.old) }
+    ensures done { refusal_of_release (content_of station.old) ≡ DONE → result.code ≡ DONE }
     ensures named { result.code ≡ DONE → Names (content_of station.old) result }
     ensures names_none { result.code ≢ DONE → NamesNone result }
     ensures counts_none { counts_of result ≡ no_refusal }
     ensures unchanged { content_of station.new ≡ content_of station.old }
 {
-    let Some((content, room)) = take_out(station, alloc) else {
+    let Some((content, room)) = borrow_content(station, alloc) else {
         return refused(NOT_OPEN);
     };
     let answer = calls::region(&content);
-    put_back(station, room, content);
+    restore_content(station, room, content);
     answer
 }
 
@@ -52,9 +52,9 @@ fn size_of(machine: &Machine) -> SizeAnswer
 /// The dimension of the machine, the number of its stations, and how many of them have got a handle.
 #[unsafe(no_mangle)]
 pub extern "C" fn cubejobs_tree_size(alloc: Global, cube: &mut Handle) -> SizeAnswer
-    ensures barred { bar_to_machine (content_of cube.old) ≢ DONE
-        → result.code ≡ bar_to_machine (content_of cube.old) }
-    ensures done { bar_to_machine (content_of cube.old) ≡ DONE → result.code ≡ DONE }
+    ensures barred { refusal_of_machine_call (content_of cube.old) ≢ DONE
+        → result.code ≡ refusal_of_machine_call (content_of cube.old) }
+    ensures done { refusal_of_machine_call (content_of cube.old) ≡ DONE → result.code ≡ DONE }
     ensures dim { result.code ≡ DONE
         → OnMachine (λ machine. result.dim ≡ dim_of_machine machine) (content_of cube.old) }
     ensures stations { result.code ≡ DONE
@@ -65,14 +65,14 @@ pub extern "C" fn cubejobs_tree_size(alloc: Global, cube: &mut Handle) -> SizeAn
         → (result.dim ≡ 0) × (result.stations ≡ 0) × (result.seated ≡ 0) }
     ensures unchanged { content_of cube.new ≡ content_of cube.old }
 {
-    let Some((content, room)) = take_out(cube, alloc) else {
+    let Some((content, room)) = borrow_content(cube, alloc) else {
         return SizeAnswer::refused(NOT_OPEN);
     };
     let answer = match &content {
-        Content::Owner(boxed) => size_of(boxed.get()),
+        State::Machine(owned) => size_of(owned.get()),
         _ => SizeAnswer::refused(OTHER_KIND),
     };
-    put_back(cube, room, content);
+    restore_content(cube, room, content);
     answer
 }
 
@@ -98,8 +98,8 @@ fn word_of(machine: &Machine, node: u64) -> WordAnswer
 /// clause says what it is, since stations may work.
 #[unsafe(no_mangle)]
 pub extern "C" fn cubejobs_tree_word(alloc: Global, cube: &mut Handle, node: u64) -> WordAnswer
-    ensures barred { bar_to_machine (content_of cube.old) ≢ DONE
-        → result.code ≡ bar_to_machine (content_of cube.old) }
+    ensures barred { refusal_of_machine_call (content_of cube.old) ≢ DONE
+        → result.code ≡ refusal_of_machine_call (content_of cube.old) }
     ensures bad_node { OnMachine (λ machine. 2 ^ (dim_of_machine machine + 1) ≤ node)
         (content_of cube.old) → result.code ≡ BAD_NODE }
     ensures no_word { result.code ≢ DONE → result.word ≡ 0 }
@@ -107,19 +107,19 @@ pub extern "C" fn cubejobs_tree_word(alloc: Global, cube: &mut Handle, node: u64
         (content_of cube.old) → result.code ≡ DONE }
     ensures unchanged { content_of cube.new ≡ content_of cube.old }
 {
-    let Some((content, room)) = take_out(cube, alloc) else {
+    let Some((content, room)) = borrow_content(cube, alloc) else {
         return WordAnswer {
             code: NOT_OPEN,
             word: 0,
         };
     };
     let answer = match &content {
-        Content::Owner(boxed) => word_of(boxed.get(), node),
+        State::Machine(owned) => word_of(owned.get(), node),
         _ => WordAnswer {
             code: OTHER_KIND,
             word: 0,
         },
     };
-    put_back(cube, room, content);
+    restore_content(cube, room, content);
     answer
 }

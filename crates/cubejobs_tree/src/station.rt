@@ -10,14 +10,14 @@ use cube_tree::{Cube, Refusal, RetiredStation, Subcube, TreeStation, Why};
 use std::sync::Arc;
 
 /// A station that holds nothing.
-pub struct Idle {
+pub(crate) struct Idle {
     pub(crate) cube: Arc<Cube>,
     pub(crate) station: TreeStation,
     ghost of_cube: { IsStationOf (arc_value cube) station },
 }
 
 /// A station that holds a region.
-pub struct Holding {
+pub(crate) struct Holding {
     pub(crate) cube: Arc<Cube>,
     pub(crate) subcube: Subcube,
     ghost of_cube: { IsSubcubeOf (arc_value cube) subcube },
@@ -64,7 +64,7 @@ impl Idle {
             (station_entry self.station) (station_entry refused.0.station) refused.1) }
     {
         let Idle { cube, station } = self;
-        match station.try_take_skipping(&cube, k) {
+        match station.search(&cube, k) {
             Ok(subcube) => Ok(Holding { cube, subcube }),
             Err((station, refusal)) => Err((Idle { cube, station }, refusal)),
         }

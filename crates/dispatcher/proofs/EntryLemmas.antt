@@ -3,8 +3,8 @@ use Rattle.std.proofs.Common.{rules, ◌≡◌, ℕ, ◌+◌, ◌-◌, ◌^◌, 
 use Rattle.std.specs.Option.{IfSome}
 use Rattle.std.proofs.lemmas.Bool.{cases_lt}
 use Rattle.std.proofs.lemmas.List.{append-nil, drop_at, drop_all, map-append}
-use Rattle.histories.specs.Sums.{total}
-use Rattle.histories.proofs.SumLemmas.{total-append}
+use Rattle.ghost_history.specs.Sums.{total}
+use Rattle.ghost_history.proofs.SumLemmas.{total-append}
 use Rattle.cube_shape.specs.declared.limits.TheConstants.{MAX_ENTRIES}
 use Rattle.job_types.specs.Job.{JobData}
 use Rattle.job_queue.specs.declared.record.QueuedJob.{QueuedJob}

@@ -5,9 +5,9 @@ use Rattle.std.proofs.lemmas.List.{map-append}
 use Rattle.std.proofs.lemmas.List.Elements.{All-head, All-tail}
 use Rattle.floors.specs.Floor.{IsWhollyFree}
 use Rattle.cube_shape.specs.declared.region.Region.{Region}
-use Rattle.histories.specs.Sums.{total, below, times}
-use Rattle.histories.proofs.SumLemmas.{total-map, total-same, below-ones}
-use Rattle.histories.proofs.ViewLemmas.{all_weaker}
+use Rattle.ghost_history.specs.Sums.{total, below, times}
+use Rattle.ghost_history.proofs.SumLemmas.{total-map, total-same, below-ones}
+use Rattle.ghost_history.proofs.ViewLemmas.{all_weaker}
 use Rattle.job_types.specs.Reply.{ReplyData}
 use Rattle.job_queue.specs.declared.record.QueuedJob.{QueuedJob}
 use Rattle.job_queue.specs.declared.record.LaneRecord.{LaneRecord}

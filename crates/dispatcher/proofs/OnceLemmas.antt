@@ -5,8 +5,8 @@ use Rattle.std.proofs.lemmas.Bool.{cases_lt}
 use Rattle.std.proofs.lemmas.List.{get_or_past}
 use mathlib.Core.Logic.{dite}
 use native.Mathlib.Decide.{ℕ_discrete}
-use Rattle.histories.specs.Sums.{total, is_at, times}
-use Rattle.histories.proofs.SumLemmas.{is_at-same, is_at-other, total-map}
+use Rattle.ghost_history.specs.Sums.{total, is_at, times}
+use Rattle.ghost_history.proofs.SumLemmas.{is_at-same, is_at-other, total-map}
 use Rattle.job_types.specs.Reply.{ReplyData}
 use Rattle.job_types.specs.declared.reply.JobId.{JobId}
 use Rattle.job_queue.specs.declared.record.QueuedJob.{QueuedJob}

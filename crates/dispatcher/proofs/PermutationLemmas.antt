@@ -5,8 +5,8 @@ use Rattle.std.specs.List.Sorted.{IsPermutation}
 use Rattle.std.proofs.lemmas.List.Sorted.{IsPermutation-cons, IsPermutation-middle, IsPermutation-refl, IsPermutation-sym, IsPermutation-trans, sum_by-IsPermutation}
 use mathlib.Core.HLevel.{Discrete}
 use mathlib.Core.Logic.{dite}
-use Rattle.histories.specs.Sums.{total}
-use Rattle.histories.proofs.SumLemmas.{total-append}
+use Rattle.ghost_history.specs.Sums.{total}
+use Rattle.ghost_history.proofs.SumLemmas.{total-append}
 
 -- 1 for what holds, and 0 for what does not
 one_if : {P : Type 0} → Dec P → ℕ

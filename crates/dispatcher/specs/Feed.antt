@@ -1,10 +1,13 @@
 -- What a feed does to the record of its lane.
-use Rattle.std.specs.Prelude.{◌≡◌, ℕ, List, [], ◌∷◌, ◌++◌, map, length, drop, is_some, cond}
-use Rattle.histories.specs.Sums.{total}
+use Rattle.std.specs.Prelude.{◌≡◌, ◌≤◌, ℕ, List, [], ◌∷◌, ◌++◌, map, length, drop, is_some, cond}
+use Rattle.ghost_history.specs.Sums.{total}
+use Rattle.cube_shape.specs.declared.limits.TheConstants.{MAX_ENTRIES}
 use Rattle.job_types.specs.Job.{JobData}
 use Rattle.job_queue.specs.declared.record.Entry.{Entry}
 use Rattle.job_queue.specs.declared.record.LaneRecord.{LaneRecord}
 use Rattle.job_queue.specs.Record.{accepted, job_of}
+use Rattle.dispatcher.specs.Stop.{given_back, EndsWith}
+use Rattle.dispatcher.specs.declared.feeding.FeedEnd.{FeedEnd}
 use Rattle.dispatcher.specs.declared.feeding.FeedStop.{FeedStop}
 use Rattle.dispatcher.specs.declared.feeding.FeedStop.TheVariants.{Done, Closed, LaneSpent, Turns}
 
@@ -29,3 +32,10 @@ pub record HandsIn (jobs left : List JobData) (stop : FeedStop) (before after : 
   pub gains : after ≡ record before { entries = before.entries ++ entries_since before after; seen = before.seen ++ seen_at stop }
   -- the jobs that the new entries brought in are the accepted ones, in order
   pub brings : map job_of (accepted (entries_since before after)) ++ left ≡ jobs
+
+-- The stop of a feed is borne out by the record of its lane. Done has no job left. Closed saw this count last. A lane
+-- that is spent has made as many entries as a lane may.
+pub record IsStopFor (lane : LaneRecord) (end : FeedEnd) : Type 0 where
+  pub done : end.stop ≡ Done → given_back end.back ++ end.left.items ≡ []
+  pub closed : (seen : ℕ) → end.stop ≡ Closed seen → EndsWith lane.seen seen
+  pub spent : end.stop ≡ LaneSpent → MAX_ENTRIES ≤ length lane.entries

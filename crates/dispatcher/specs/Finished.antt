@@ -1,7 +1,7 @@
 -- What a shop says once it has finished: the theorem on all of its jobs, replies and words.
 use Rattle.std.specs.Prelude.{◌≡◌, ℕ, ◌+◌, ◌*◌, ◌<◌, ◌≤◌, List, [], ◌∷◌, ◌++◌, map, length, slice_index}
 use Rattle.std.specs.List.{AllByRecursion as Each}
-use Rattle.histories.specs.Sums.{total, is_at}
+use Rattle.ghost_history.specs.Sums.{total, is_at}
 use Rattle.cube_shape.specs.declared.region.Region.{Region}
 use Rattle.job_types.specs.Reply.{ReplyData}
 use Rattle.job_queue.specs.declared.record.QueuedJob.{QueuedJob}

@@ -10,7 +10,7 @@ pub mod InnerShop
 pub mod InnerFeed
 pub mod Members
 pub use Rattle.cube_shape.specs.Region.{IsAligned}
-pub use Rattle.histories.specs.Sums.{times}
+pub use Rattle.ghost_history.specs.Sums.{times}
 pub use Rattle.job_types.specs.Dim.{dim_of}
 pub use Rattle.job_types.specs.Job.{JobData}
 pub use Rattle.job_queue.specs.Line.{GainsEntry, GainsRefusal, IsFor, next_id}

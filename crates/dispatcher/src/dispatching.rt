@@ -1,5 +1,5 @@
 //! What a worker does.
-ghost use Rattle.std.specs.Prelude.{◌≡◌, ◌≢◌, ℕ, ◌+◌, ◌<◌, ◌≤◌, ◌⊎◌, Some, None, IfSome, IsSome, length};
+ghost use Rattle.std.specs.Prelude.{◌≡◌, ◌≢◌, ℕ, ◌+◌, ◌<◌, ◌≤◌, ◌⊎◌, [], Some, None, IfSome, IsSome, length};
 ghost use Rattle.std.specs.Vec.{vec_capacity};
 ghost use Rattle.dispatcher.specs.Members.{IsWorkerOf, IsEndOf, worker_record, stop_of, replies_of, end_record};
 ghost use Rattle.dispatcher.specs.Stop.{FindsTheEnd};
@@ -11,10 +11,10 @@ use crate::serving::serve;
 use crate::shop::Shop;
 use crate::stop::Stop;
 use crate::worker::{Worker, WorkerEnd};
+use backoff::Pause;
 use floors::Floor;
 use job_queue::{JobLine, Taken};
 use job_types::Reply;
-use pause::Pause;
 use std::alloc::Global;
 use std::sync::Wait;
 use std::thread::yield_now;
@@ -53,104 +53,157 @@ fn wait_for_job<R: Wait, L: JobLine>(rt: &R, line: &L, pass: &mut L::Pass, pause
     }
 }
 
-// Takes a job and answers it, and gives the station back. Where the line is empty it waits for the length of
-// a pause, and where it has ended it says so.
-fn serve_next<R: Wait, L: JobLine, F: Floor, T: Runner>(
-    rt: &R,
-    line: &L,
-    floor: &F,
-    runner: &T,
-    pass: &mut L::Pass,
+// A worker at work.
+struct Shift<L: JobLine, F: Floor> {
+    pass: L::Pass,
     station: F::Station,
-    replies: &mut Vec<Reply>,
-    pause: &mut Pause,
-) -> (F::Station, Option<Stop>)
-    requires one_machine { IsOneMachine (L.id line.now) (F.id floor.now) }
-    requires pass { L.is_pass (L.id line.now) pass.old }
-    requires station { F.is_station (F.id floor.now) station }
-    requires room { length replies.old.items < vec_capacity replies.old }
-    ensures pass { L.is_pass (L.id line.now) pass.new }
-    ensures station { F.is_station (F.id floor.now) result.0 }
-    ensures served { HasServed (F.id floor.now).dim (L.pass_record pass.old).taken
-        (F.grants station) replies.old.items
-        → HasServed (F.id floor.now).dim (L.pass_record pass.new).taken (F.grants result.0)
-        replies.new.items }
-    ensures one_more { length replies.new.items ≤ length replies.old.items + 1 }
-    ensures stop { IfSome result.1 (λ stop. stop ≡ Stop.Ended) }
-    ensures ended { IsSome result.1 →
-        FindsTheEnd (L.pass_record pass.old) (L.pass_record pass.new) }
-    ensures stays { IsSome result.1 → replies.new.items ≡ replies.old.items }
-{
-    match line.take(rt, pass) {
-        Taken::Job(id, job) => {
-            let (back, reply) = serve(rt, floor, runner, station, id, job);
-            replies.push_reserved(reply);
-            pause.reset();
-            return (back, None);
-        }
-        Taken::EmptyNow => wait_for_job(rt, line, pass, pause),
-        Taken::Ended(_) => return (station, Some(Stop::Ended)),
-    }
-    (station, None)
+    // The replies so far.
+    replies: Vec<Reply>,
+    // The pause between two takes that find no job.
+    pause: Pause,
 }
 
-// Takes jobs and answers each, until the line has ended or there are as many replies as the limit says.
-fn work<R: Wait, L: JobLine, F: Floor, T: Runner>(
-    rt: &R,
-    alloc: Global,
-    line: &L,
-    floor: &F,
-    worker: Worker<L, F>,
-    runner: &T,
-    limit: Option<u32>,
-) -> WorkerEnd<L, F>
-    requires one_machine { IsOneMachine (L.id line.now) (F.id floor.now) }
-    requires worker { IsWorkerOf (shop_of (L.id line.now) (F.id floor.now)) worker }
-    ensures of_shop { IsEndOf (shop_of (L.id line.now) (F.id floor.now)) result }
-    ensures ended { stop_of result ≡ Stop.Ended → (before : L.Pass) ×
-        L.is_pass (L.id line.now) before × FindsTheEnd (L.pass_record before) (end_record result) }
-    ensures has_run { stop_of result ≢ Stop.NotRun }
-    ensures enough { stop_of result ≡ Stop.Enough → limit ≡ Some (length (replies_of result)) }
-    ensures fewer { (most : ℕ) → limit ≡ Some most → stop_of result ≢ Stop.Enough →
-        length (replies_of result) < most }
-    ensures at_once { limit ≡ Some 0 → end_record result ≡ worker_record worker }
-{
-    let Worker {
-        mut pass,
-        mut station,
-    } = worker;
-    let mut replies = Vec::new(alloc);
-    let mut pause = Pause::new();
-    for _ in rt.forever() {
-        if let Some(stop) = make_room(&mut replies, limit) {
-            return WorkerEnd {
-                pass,
-                station,
-                replies,
-                stop,
-            };
-        }
-        let (back, stop) = serve_next(
-            rt,
-            line,
-            floor,
-            runner,
-            &mut pass,
+impl<L: JobLine, F: Floor> Shift<L, F> {
+    // Begins the work of a worker.
+    fn begin(alloc: Global, worker: Worker<L, F>) -> Self
+        ensures pass { result.pass ≡ worker.pass }
+        ensures station { result.station ≡ worker.station }
+        ensures replies { result.replies.items ≡ [] }
+    {
+        let Worker { pass, station } = worker;
+        Shift {
+            pass,
             station,
-            &mut replies,
-            &mut pause,
-        );
-        station = back;
-        if let Some(stop) = stop {
-            return WorkerEnd {
-                pass,
-                station,
-                replies,
-                stop,
-            };
+            replies: Vec::new(alloc),
+            pause: Pause::new(),
         }
     }
-    unreachable!()
+
+    // Takes a job and answers it. Where the line is empty it waits for the length of a pause. Returns a stop
+    // where the line has ended.
+    fn serve_next<R: Wait, T: Runner>(
+        self,
+        rt: &R,
+        line: &L,
+        floor: &F,
+        runner: &T,
+    ) -> (Self, Option<Stop>)
+        requires one_machine { IsOneMachine (L.id line.now) (F.id floor.now) }
+        requires pass { L.is_pass (L.id line.now) self.pass }
+        requires station { F.is_station (F.id floor.now) self.station }
+        requires room { length self.replies.items < vec_capacity self.replies }
+        ensures pass { L.is_pass (L.id line.now) result.0.pass }
+        ensures station { F.is_station (F.id floor.now) result.0.station }
+        ensures served { HasServed (F.id floor.now).dim (L.pass_record self.pass).taken
+            (F.grants self.station) self.replies.items
+            → HasServed (F.id floor.now).dim (L.pass_record result.0.pass).taken
+            (F.grants result.0.station) result.0.replies.items }
+        ensures one_more { length result.0.replies.items ≤ length self.replies.items + 1 }
+        ensures stop { IfSome result.1 (λ stop. stop ≡ Stop.Ended) }
+        ensures ended { IsSome result.1 →
+            FindsTheEnd (L.pass_record self.pass) (L.pass_record result.0.pass) }
+        ensures stays { IsSome result.1 → result.0.replies.items ≡ self.replies.items }
+    {
+        let Shift {
+            mut pass,
+            station,
+            mut replies,
+            mut pause,
+        } = self;
+        match line.take(rt, &mut pass) {
+            Taken::Job(id, job) => {
+                let (back, reply) = serve(rt, floor, runner, station, id, job);
+                replies.push_reserved(reply);
+                pause.reset();
+                let shift = Shift {
+                    pass,
+                    station: back,
+                    replies,
+                    pause,
+                };
+                return (shift, None);
+            }
+            Taken::EmptyNow => wait_for_job(rt, line, &mut pass, &mut pause),
+            Taken::Ended(_) => {
+                let shift = Shift {
+                    pass,
+                    station,
+                    replies,
+                    pause,
+                };
+                return (shift, Some(Stop::Ended));
+            }
+        }
+        let shift = Shift {
+            pass,
+            station,
+            replies,
+            pause,
+        };
+        (shift, None)
+    }
+
+    // Takes jobs and answers each, until the line has ended or there are as many replies as the limit says.
+    fn work<R: Wait, T: Runner>(
+        self,
+        rt: &R,
+        line: &L,
+        floor: &F,
+        runner: &T,
+        limit: Option<u32>,
+    ) -> WorkerEnd<L, F>
+        requires one_machine { IsOneMachine (L.id line.now) (F.id floor.now) }
+        requires pass { L.is_pass (L.id line.now) self.pass }
+        requires station { F.is_station (F.id floor.now) self.station }
+        requires served { HasServed (F.id floor.now).dim (L.pass_record self.pass).taken
+            (F.grants self.station) self.replies.items }
+        requires no_replies { self.replies.items ≡ [] }
+        ensures of_shop { IsEndOf (shop_of (L.id line.now) (F.id floor.now)) result }
+        ensures ended { stop_of result ≡ Stop.Ended → (before : L.Pass) ×
+            L.is_pass (L.id line.now) before
+            × FindsTheEnd (L.pass_record before) (end_record result) }
+        ensures has_run { stop_of result ≢ Stop.NotRun }
+        ensures enough { stop_of result ≡ Stop.Enough →
+            limit ≡ Some (length (replies_of result)) }
+        ensures fewer { (most : ℕ) → limit ≡ Some most → stop_of result ≢ Stop.Enough →
+            length (replies_of result) < most }
+        ensures at_once { limit ≡ Some 0 → end_record result ≡ L.pass_record self.pass }
+    {
+        let mut shift = self;
+        for _ in rt.forever() {
+            if let Some(stop) = make_room(&mut shift.replies, limit) {
+                let Shift {
+                    pass,
+                    station,
+                    replies,
+                    pause: _,
+                } = shift;
+                return WorkerEnd {
+                    pass,
+                    station,
+                    replies,
+                    stop,
+                };
+            }
+            let (next, stop) = shift.serve_next(rt, line, floor, runner);
+            shift = next;
+            if let Some(stop) = stop {
+                let Shift {
+                    pass,
+                    station,
+                    replies,
+                    pause: _,
+                } = shift;
+                return WorkerEnd {
+                    pass,
+                    station,
+                    replies,
+                    stop,
+                };
+            }
+        }
+        unreachable!()
+    }
 }
 
 /// Takes jobs and answers each on a subcube of its own, until the line has ended.
@@ -173,7 +226,7 @@ pub fn dispatch<R: Wait, L: JobLine, F: Floor, T: Runner>(
     ensures no_limit { stop_of result ≢ Stop.Enough }
 {
     let Shop { line, floor } = shop;
-    work(rt, alloc, line, floor, worker, runner, None)
+    Shift::begin(alloc, worker).work(rt, line, floor, runner, None)
 }
 
 /// Takes jobs and answers them as `dispatch` does, and stops with `Enough` once there are `most` replies.
@@ -197,5 +250,5 @@ pub fn dispatch_some<R: Wait, L: JobLine, F: Floor, T: Runner>(
     ensures at_once { most ≡ 0 → end_record result ≡ worker_record worker }
 {
     let Shop { line, floor } = shop;
-    work(rt, alloc, line, floor, worker, runner, Some(most))
+    Shift::begin(alloc, worker).work(rt, line, floor, runner, Some(most))
 }

@@ -4,17 +4,16 @@ ghost use Rattle.std.specs.Option.{IsSome};
 ghost use Rattle.std.specs.List.{All};
 ghost use Rattle.job_queue.specs.Record.{accepted_jobs};
 ghost use Rattle.job_queue.specs.Line.{IsFor};
-ghost use Rattle.dispatcher.specs.Stop.{given_back, EndsWith};
-ghost use Rattle.dispatcher.specs.Feed.{HandsIn, full_since};
+ghost use Rattle.dispatcher.specs.Stop.{given_back};
+ghost use Rattle.dispatcher.specs.Feed.{HandsIn, IsStopFor, full_since};
 ghost use Rattle.dispatcher.specs.InnerFeed.{stop_at};
 
 use crate::limit::is_reached;
 use crate::shop::Shop;
-use cube_shape::MAX_ENTRIES;
+use backoff::Pause;
 use floors::Floor;
 use job_queue::{JobLine, Refused};
 use job_types::Job;
-use pause::Pause;
 use std::collections::VecDeque;
 use std::sync::Wait;
 use std::thread::yield_now;
@@ -115,12 +114,8 @@ fn hand_in<R: Wait, L: JobLine>(
         (given_back result.back ++ result.left.items) }
     ensures entries { HandsIn jobs.items (given_back result.back ++ result.left.items)
         result.stop (L.lane_record lane.old) (L.lane_record lane.new) }
-    ensures done { result.stop ≡ FeedStop.Done → given_back result.back ++ result.left.items ≡ [] }
+    ensures stopped { IsStopFor (L.lane_record lane.new) result }
     ensures refused { result.stop ≢ FeedStop.Done → IsSome result.back }
-    ensures closed { (seen : ℕ) → result.stop ≡ FeedStop.Closed seen →
-        EndsWith (L.lane_record lane.new).seen seen }
-    ensures spent { result.stop ≡ FeedStop.LaneSpent →
-        MAX_ENTRIES ≤ length (L.lane_record lane.new).entries }
     ensures turns { result.stop ≡ FeedStop.Turns →
         limit ≡ Some (full_since (L.lane_record lane.old) (L.lane_record lane.new)) }
     ensures fewer { (turns : ℕ) → limit ≡ Some turns → result.stop ≢ FeedStop.Turns →
@@ -176,12 +171,8 @@ pub fn feed<R: Wait, L: JobLine, F: Floor>(
         (given_back result.back ++ result.left.items) }
     ensures entries { HandsIn jobs.items (given_back result.back ++ result.left.items)
         result.stop (L.lane_record lane.old) (L.lane_record lane.new) }
-    ensures done { result.stop ≡ FeedStop.Done → given_back result.back ++ result.left.items ≡ [] }
+    ensures stopped { IsStopFor (L.lane_record lane.new) result }
     ensures refused { result.stop ≢ FeedStop.Done → IsSome result.back }
-    ensures closed { (seen : ℕ) → result.stop ≡ FeedStop.Closed seen →
-        EndsWith (L.lane_record lane.new).seen seen }
-    ensures spent { result.stop ≡ FeedStop.LaneSpent →
-        MAX_ENTRIES ≤ length (L.lane_record lane.new).entries }
     ensures no_limit { result.stop ≢ FeedStop.Turns }
 {
     hand_in(rt, &shop.line, lane, jobs, None)
@@ -213,17 +204,13 @@ pub fn feed_for<R: Wait, L: JobLine, F: Floor>(
         full_since (L.lane_record lane.old) (L.lane_record lane.new) ≡ turns }
     ensures fewer { result.stop ≢ FeedStop.Turns →
         full_since (L.lane_record lane.old) (L.lane_record lane.new) < turns }
-    ensures done { result.stop ≡ FeedStop.Done → given_back result.back ++ result.left.items ≡ [] }
+    ensures stopped { IsStopFor (L.lane_record lane.new) result }
     ensures refused { result.stop ≢ FeedStop.Done → result.stop ≢ FeedStop.Turns →
         IsSome result.back }
     ensures last_try { result.stop ≡ FeedStop.Turns → 0 < turns → IsSome result.back }
     ensures at_once { turns ≡ 0 →
         result ≡ record { back = None; left = jobs; stop = FeedStop.Turns } }
     ensures untouched { turns ≡ 0 → lane.new ≡ lane.old }
-    ensures closed { (seen : ℕ) → result.stop ≡ FeedStop.Closed seen →
-        EndsWith (L.lane_record lane.new).seen seen }
-    ensures spent { result.stop ≡ FeedStop.LaneSpent →
-        MAX_ENTRIES ≤ length (L.lane_record lane.new).entries }
 {
     if turns == 0 {
         return FeedEnd {

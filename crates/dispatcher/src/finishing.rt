@@ -2,7 +2,7 @@
 ghost use Rattle.std.specs.Prelude.{◌≡◌, ℕ, ◌<◌, ◌≤◌, ◌++◌, List, [], map, length};
 ghost use Rattle.std.specs.List.{All};
 ghost use Rattle.std.specs.Vec.{vec_capacity};
-ghost use Rattle.histories.specs.Sums.{times};
+ghost use Rattle.ghost_history.specs.Sums.{times};
 ghost use Rattle.job_queue.specs.Line.{IsMadeFor};
 ghost use Rattle.dispatcher.specs.Reply.{answered, region_of, IsRight};
 ghost use Rattle.dispatcher.specs.Members.{IsEndOf, IsNoteOf, replies_of, close_number_of};

@@ -2,7 +2,7 @@
 ghost use Rattle.std.specs.Prelude.{◌≡◌, ◌<◌, ◌^◌, ◌↔◌, IsTrue, IfSome, Some};
 
 // Whether the count is the limit.
-pub fn is_reached(limit: Option<u32>, count: usize) -> bool
+pub(crate) fn is_reached(limit: Option<u32>, count: usize) -> bool
     ensures reached { IsTrue result ↔ limit ≡ Some count }
     ensures word { IfSome limit (λ most. most < 2 ^ 32) }
 {

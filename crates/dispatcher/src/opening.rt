@@ -39,6 +39,17 @@ pub enum ShopRefused {
     OutOfMemory,
 }
 
+/// The sizes of a shop that is run on threads. Its lanes are as many as the lists of jobs that it is given.
+#[derive(Clone, Copy, Debug, PartialEq, Eq, Hash)]
+pub struct ShopSizes {
+    /// The dimension of the machine, which has `2^dim` processors: at most `MAX_DIM`.
+    pub dim: u32,
+    /// The number of workers: from 1 to `MAX_DISPATCHERS`.
+    pub dispatchers: u32,
+    /// The number of jobs that the line holds at most: from 1 to `MAX_CAPACITY`.
+    pub capacity: usize,
+}
+
 /// A new shop, with all that its callers need.
 pub struct Opened<L: JobLine, F: Floor> {
     /// The shop.
@@ -97,13 +108,10 @@ fn pair_up<L: JobLine, F: Floor>(
     workers
 }
 
-// The floor and the line of these sizes. Where there is no memory for the line, the floor is ended again.
+// Opens the floor and the line of these sizes. Where there is no memory for the line, it ends the floor again.
 fn open_both<L: JobLine, F: Floor>(
     alloc: Global,
-    n: u32,
-    lanes: u32,
-    dispatchers: u32,
-    capacity: usize,
+    sizes: Sizes,
 ) -> Result<
     (
         F,
@@ -114,28 +122,23 @@ fn open_both<L: JobLine, F: Floor>(
 >
 where
     F::Machine: Drop,
-    requires { refusal_of n lanes dispatchers capacity ≡ None }
+    requires { refusal_of sizes.machine sizes.lanes sizes.passes sizes.capacity ≡ None }
     ensures one_machine { IfOk result (λ made. IsOneMachine (L.id made.2.line) (F.id made.0)) }
     ensures sizes { IfOk result (λ made.
-        HasSizes n lanes dispatchers capacity (shop_of (L.id made.2.line) (F.id made.0))) }
+        HasSizes sizes.machine sizes.lanes sizes.passes sizes.capacity
+        (shop_of (L.id made.2.line) (F.id made.0))) }
     ensures stations { IfOk result (λ made. All (F.is_station (F.id made.0)) made.1.items) }
-    ensures count { IfOk result (λ made. length made.1.items ≡ dispatchers) }
+    ensures count { IfOk result (λ made. length made.1.items ≡ sizes.passes) }
     ensures none_granted { IfOk result (λ made. All (λ s. F.grants s ≡ []) made.1.items) }
     ensures lanes { IfOk result (λ made. All (L.is_lane (L.id made.2.line)) made.2.lanes.items) }
     ensures passes { IfOk result (λ made. All (L.is_pass (L.id made.2.line)) made.2.passes.items) }
     ensures closer { IfOk result (λ made. L.is_closer (L.id made.2.line) made.2.closer) }
     ensures fresh_lanes { IfOk result (λ made.
-        map L.lane_record made.2.lanes.items ≡ fresh_lanes lanes) }
+        map L.lane_record made.2.lanes.items ≡ fresh_lanes sizes.lanes) }
     ensures fresh_passes { IfOk result (λ made.
-        map L.pass_record made.2.passes.items ≡ fresh_passes dispatchers) }
+        map L.pass_record made.2.passes.items ≡ fresh_passes sizes.passes) }
 {
-    let (floor, stations) = F::open(alloc, n, dispatchers)?;
-    let sizes = Sizes {
-        machine: n,
-        lanes,
-        passes: dispatchers,
-        capacity,
-    };
+    let (floor, stations) = F::open(alloc, sizes.machine, sizes.passes)?;
     let Ok(opened) = L::open(alloc, sizes) else {
         let _machine = floor.close(stations);
         return Err(AllocError);
@@ -143,33 +146,31 @@ where
     Ok((floor, stations, opened))
 }
 
-// A shop of these sizes, with this room for its end.
+// Opens a shop of these sizes, with this room for its end.
 fn open_all<L: JobLine, F: Floor>(
     alloc: Global,
-    n: u32,
-    lanes: u32,
-    dispatchers: u32,
-    capacity: usize,
+    sizes: Sizes,
     room: Room<L, F>,
 ) -> Result<Opened<L, F>, AllocError>
 where
     F::Machine: Drop,
-    requires { refusal_of n lanes dispatchers capacity ≡ None }
-    ensures sizes { IfOk result (λ made. HasSizes n lanes dispatchers capacity made.shop) }
+    requires { refusal_of sizes.machine sizes.lanes sizes.passes sizes.capacity ≡ None }
+    ensures sizes { IfOk result (λ made.
+        HasSizes sizes.machine sizes.lanes sizes.passes sizes.capacity made.shop) }
     ensures lanes { IfOk result (λ made. All (L.is_lane made.shop.line) made.lanes.items) }
     ensures fresh_lanes { IfOk result (λ made.
-        map L.lane_record made.lanes.items ≡ fresh_lanes lanes) }
+        map L.lane_record made.lanes.items ≡ fresh_lanes sizes.lanes) }
     ensures workers { IfOk result (λ made. All (IsWorkerOf made.shop) made.workers.items) }
     ensures fresh_passes { IfOk result (λ made.
-        map worker_record made.workers.items ≡ fresh_passes dispatchers) }
+        map worker_record made.workers.items ≡ fresh_passes sizes.passes) }
     ensures closes { IfOk result (λ made. L.is_closer made.shop.line made.closer.line) }
     ensures room { IfOk result (λ made. made.closer.room ≡ room) }
 {
-    let Ok(workers) = Vec::with_capacity(alloc, dispatchers as usize) else {
+    let Ok(workers) = Vec::with_capacity(alloc, sizes.passes as usize) else {
         room.let_go();
         return Err(AllocError);
     };
-    let Ok((floor, stations, opened)) = open_both(alloc, n, lanes, dispatchers, capacity) else {
+    let Ok((floor, stations, opened)) = open_both(alloc, sizes) else {
         room.let_go();
         workers.destroy_empty();
         return Err(AllocError);
@@ -224,7 +225,13 @@ impl<L: JobLine, F: Floor> Shop<L, F> {
         let Ok(room) = Room::new(alloc, dispatchers, capacity) else {
             return Err(ShopRefused::OutOfMemory);
         };
-        let Ok(opened) = open_all(alloc, n, lanes, dispatchers, capacity, room) else {
+        let sizes = Sizes {
+            machine: n,
+            lanes,
+            passes: dispatchers,
+            capacity,
+        };
+        let Ok(opened) = open_all(alloc, sizes, room) else {
             return Err(ShopRefused::OutOfMemory);
         };
         Ok(opened)

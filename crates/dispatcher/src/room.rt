@@ -11,7 +11,7 @@ use std::collections::VecDeque;
 use std::marker::Model;
 
 /// Room for the members of all workers, for their replies, and for those to a full line of jobs.
-pub struct Room<L: JobLine, F: Floor> {
+pub(crate) struct Room<L: JobLine, F: Floor> {
     workers: u32,
     jobs: usize,
     passes: Vec<L::Pass>,

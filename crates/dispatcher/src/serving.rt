@@ -9,7 +9,7 @@ use job_types::{Job, JobId, Reply};
 use std::sync::Wait;
 
 // Takes a subcube of the job's dimension, answers the job on it, and gives the subcube back.
-pub fn serve<R: Wait, F: Floor, T: Runner>(
+pub(crate) fn serve<R: Wait, F: Floor, T: Runner>(
     rt: &R,
     floor: &F,
     runner: &T,

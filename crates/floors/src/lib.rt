@@ -1,4 +1,4 @@
-//! Floors: machines whose stations take subcubes and give them back, from many threads at once.
+//! The contract of a block allocator that many threads use at once (`Floor`).
 //!
 //! `Floor` is the contract of every floor: the regions that its stations hold at one moment are
 //! aligned and apart, each station has a record of the regions that it was given, and once all

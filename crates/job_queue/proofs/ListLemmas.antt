@@ -2,12 +2,12 @@
 use Rattle.std.proofs.Common.{◌≡◌, ℕ, ◌+◌, ◌<◌, ◌⊎◌, inl, inr, cond, eqb, eq-eqb, ne_eqb, Option, Some, None, List, [], ◌∷◌, ◌++◌, append_assoc, sym, refl, ap, ◌∙◌, arith}
 use Rattle.std.proofs.lemmas.List.{append-nil}
 use Rattle.std.specs.List.{AllByRecursion}
-use Rattle.histories.specs.History.{Legal}
-use Rattle.histories.proofs.ViewLemmas.{all_append}
+use Rattle.ghost_history.specs.History.{Legal}
+use Rattle.ghost_history.proofs.ViewLemmas.{all_append}
 use Rattle.job_queue.specs.declared.record.QueuedJob.{QueuedJob}
 use Rattle.job_queue.specs.declared.record.Entry.{Entry}
 use Rattle.job_queue.specs.Record.{entry, Ascend}
-use Rattle.histories.specs.Lists.{rest_of}
+use Rattle.ghost_history.specs.Lists.{rest_of}
 use Rattle.job_queue.specs.History.{Deed, comes_out, closed_at, waiting, with_job, entries_by, taken_in, left_in, AwaitsJob, May}
 
 -- ---- entries

@@ -1,8 +1,8 @@
 -- The history of a line: what its lanes, its passes and its closer did, in one order, newest first.
 use Rattle.std.specs.Prelude.{◌≡◌, ℕ, ◌+◌, ◌<◌, ◌⊎◌, Option, Some, None, List, [], ◌∷◌, ◌++◌, length, cond, ◌==◌}
 use Rattle.std.specs.List.{AllByRecursion as Each}
-use Rattle.histories.specs.History.{Legal}
-use Rattle.histories.specs.Lists.{rest_of}
+use Rattle.ghost_history.specs.History.{Legal}
+use Rattle.ghost_history.specs.Lists.{rest_of}
 use Rattle.job_queue.specs.declared.record.QueuedJob.{QueuedJob}
 use Rattle.job_queue.specs.declared.record.Entry.{Entry}
 use Rattle.job_queue.specs.declared.record.LaneRecord.{LaneRecord}

@@ -2,4 +2,4 @@ pub mod Record
 pub mod Line
 pub mod History
 pub mod Run
-pub use Rattle.histories.specs.Sums.{times}
+pub use Rattle.ghost_history.specs.Sums.{times}

@@ -1,7 +1,7 @@
 -- What the records of all lanes and passes of a line say together, once it has come to its end.
 use Rattle.std.specs.Prelude.{◌≡◌, ℕ, ◌+◌, ◌<◌, ◌≤◌, List, ◌++◌, map}
 use Rattle.std.specs.List.{AllByRecursion as Each}
-use Rattle.histories.specs.Sums.{total, below}
+use Rattle.ghost_history.specs.Sums.{total, below}
 use Rattle.job_queue.specs.declared.record.QueuedJob.{QueuedJob}
 use Rattle.job_queue.specs.declared.record.LaneRecord.{LaneRecord}
 use Rattle.job_queue.specs.declared.record.PassRecord.{PassRecord}

@@ -1,7 +1,7 @@
 // The contract of a line of jobs.
 ghost use Rattle.std.specs.Prelude.{◌≡◌, ◌≢◌, ℕ, ◌<◌, ◌≤◌, List, Ok, Err, Some, None, IfOk, IfErr, OnErr, map, length, slice_index, ◌++◌};
 ghost use Rattle.std.specs.List.{All};
-ghost use Rattle.histories.specs.Sums.{times};
+ghost use Rattle.ghost_history.specs.Sums.{times};
 ghost use Rattle.job_queue.specs.Record.{queued, fresh_lanes, fresh_passes, accepted, IsSettled};
 ghost use Rattle.job_queue.specs.Line.{LineId, next_id, GainsEntry, GainsRefusal, GainsReading, taken_by, IsMadeFor, TakesMadeFor};
 ghost use Rattle.job_queue.specs.Run.{WholeRun};

@@ -1,4 +1,4 @@
-//! The line of jobs: many threads hand in jobs, and many take them.
+//! The contract of a bounded queue of jobs with many producers and many consumers, which can be closed (`JobLine`).
 //!
 //! A line has lanes, by which jobs come in, and passes, by which they are taken. An accepted job is
 //! taken at most once and in the order of its lane, and no job enters after the close. `JobLine` is

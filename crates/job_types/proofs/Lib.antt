@@ -1,4 +1,4 @@
 pub mod DimLemmas
-pub mod NumberLemmas
 pub mod PlaceLemmas
 pub mod RefusalLemmas
+pub mod ResultLemmas

@@ -2,5 +2,4 @@
 pub mod Collective
 pub mod Job
 pub mod Kept
-pub mod Operation
 pub mod Reply

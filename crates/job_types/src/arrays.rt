@@ -1,14 +1,16 @@
 //! The arrays that the rounds of a job work on, which stand on the stack.
 
 ghost use Rattle.std.specs.Prelude.{◌≡◌, ◌^◌, ◌≤◌};
-ghost use Rattle.job_types.specs.declared.kind.Op.{Op};
+ghost use Rattle.job_types.specs.Collective.{join, unit_of};
 ghost use Rattle.job_types.specs.Inner.Collective.{operation_of};
 ghost use Rattle.job_types.specs.Inner.Kept.{CanRun, IsShown};
 
 use crate::kept::Kept;
 use crate::kind::{Kind, Op};
 use crate::rounds::on_front;
-use collectives::{Add, And, Max, Min, Monoid, Or, Xor};
+use collectives::{
+    Addition, BitwiseAnd, BitwiseOr, BitwiseXor, Maximum, Minimum, Monoid, Operand, Operator,
+};
 use cube_shape::MAX_DIM;
 
 // The dimensions up to which a job works on arrays of the smallest size and of the next ones. Each size is
@@ -35,90 +37,25 @@ pub(crate) fn answer_on<const N: usize>(items: &[u64], kind: Kind, k: u32, kept:
     ensures { IsShown kind items.now kept.new }
 {
     match kind.operation() {
-        Op::Add => add_on::<N>(items, kind, k, kept),
-        Op::Min => min_on::<N>(items, kind, k, kept),
-        Op::Max => max_on::<N>(items, kind, k, kept),
-        Op::Xor => xor_on::<N>(items, kind, k, kept),
-        Op::And => and_on::<N>(items, kind, k, kept),
-        Op::Or => or_on::<N>(items, kind, k, kept),
+        Op::Add => answer_by::<Addition, N>(items, kind, k, kept),
+        Op::Min => answer_by::<Minimum, N>(items, kind, k, kept),
+        Op::Max => answer_by::<Maximum, N>(items, kind, k, kept),
+        Op::Xor => answer_by::<BitwiseXor, N>(items, kind, k, kept),
+        Op::And => answer_by::<BitwiseAnd, N>(items, kind, k, kept),
+        Op::Or => answer_by::<BitwiseOr, N>(items, kind, k, kept),
     }
 }
 
-// The same of a job with the operation. The size of an array is known only where its type is, so each
-// operation makes them itself.
-fn add_on<const N: usize>(items: &[u64], kind: Kind, k: u32, kept: &mut Kept)
-    requires operation { operation_of kind ≡ Op.Add }
+// Does the same by the operator `O`, which joins as the job's operation does.
+fn answer_by<O: Operator, const N: usize>(items: &[u64], kind: Kind, k: u32, kept: &mut Kept)
+    requires unit { O.unit ≡ unit_of (operation_of kind) }
+    requires join { O.join ≡ join (operation_of kind) }
     requires job { CanRun kind k items.now kept.old }
     requires enough { 2 ^ k ≤ N }
     requires stack { N ≤ MOST_PLACES }
     ensures { IsShown kind items.now kept.new }
 {
-    let mut places = [Add::unit(); N];
-    let mut scratch = [Add::unit(); N];
-    on_front(items, kind, k, &mut places, &mut scratch, kept);
-}
-
-// See `add_on`.
-fn min_on<const N: usize>(items: &[u64], kind: Kind, k: u32, kept: &mut Kept)
-    requires operation { operation_of kind ≡ Op.Min }
-    requires job { CanRun kind k items.now kept.old }
-    requires enough { 2 ^ k ≤ N }
-    requires stack { N ≤ MOST_PLACES }
-    ensures { IsShown kind items.now kept.new }
-{
-    let mut places = [Min::unit(); N];
-    let mut scratch = [Min::unit(); N];
-    on_front(items, kind, k, &mut places, &mut scratch, kept);
-}
-
-// See `add_on`.
-fn max_on<const N: usize>(items: &[u64], kind: Kind, k: u32, kept: &mut Kept)
-    requires operation { operation_of kind ≡ Op.Max }
-    requires job { CanRun kind k items.now kept.old }
-    requires enough { 2 ^ k ≤ N }
-    requires stack { N ≤ MOST_PLACES }
-    ensures { IsShown kind items.now kept.new }
-{
-    let mut places = [Max::unit(); N];
-    let mut scratch = [Max::unit(); N];
-    on_front(items, kind, k, &mut places, &mut scratch, kept);
-}
-
-// See `add_on`.
-fn xor_on<const N: usize>(items: &[u64], kind: Kind, k: u32, kept: &mut Kept)
-    requires operation { operation_of kind ≡ Op.Xor }
-    requires job { CanRun kind k items.now kept.old }
-    requires enough { 2 ^ k ≤ N }
-    requires stack { N ≤ MOST_PLACES }
-    ensures { IsShown kind items.now kept.new }
-{
-    let mut places = [Xor::unit(); N];
-    let mut scratch = [Xor::unit(); N];
-    on_front(items, kind, k, &mut places, &mut scratch, kept);
-}
-
-// See `add_on`.
-fn and_on<const N: usize>(items: &[u64], kind: Kind, k: u32, kept: &mut Kept)
-    requires operation { operation_of kind ≡ Op.And }
-    requires job { CanRun kind k items.now kept.old }
-    requires enough { 2 ^ k ≤ N }
-    requires stack { N ≤ MOST_PLACES }
-    ensures { IsShown kind items.now kept.new }
-{
-    let mut places = [And::unit(); N];
-    let mut scratch = [And::unit(); N];
-    on_front(items, kind, k, &mut places, &mut scratch, kept);
-}
-
-// See `add_on`.
-fn or_on<const N: usize>(items: &[u64], kind: Kind, k: u32, kept: &mut Kept)
-    requires operation { operation_of kind ≡ Op.Or }
-    requires job { CanRun kind k items.now kept.old }
-    requires enough { 2 ^ k ≤ N }
-    requires stack { N ≤ MOST_PLACES }
-    ensures { IsShown kind items.now kept.new }
-{
-    let mut places = [Or::unit(); N];
-    let mut scratch = [Or::unit(); N];
+    let mut places = [Operand::<O>::unit(); N];
+    let mut scratch = [Operand::<O>::unit(); N];
     on_front(items, kind, k, &mut places, &mut scratch, kept);
 }

@@ -1,4 +1,4 @@
-//! Parallel jobs for a subcube and their replies.
+//! Jobs and replies: a collective operation over a list of numbers, and its result.
 //!
 //! A job asks for one collective over its items, from 1 to as many as its machine has processors. It
 //! runs on a region of dimension `k`, the least that holds them, with one item on each of the first
@@ -13,7 +13,6 @@ mod arrays;
 mod job;
 mod kept;
 mod kind;
-mod operation;
 mod reply;
 mod request;
 mod rounds;

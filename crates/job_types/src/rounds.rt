@@ -1,8 +1,9 @@
 //! The rounds of a job. They work on the stack, on a place for each rank of its region.
 
-ghost use Rattle.std.specs.Prelude.{◌≡◌, ◌^◌, ◌<◌, ◌≤◌, false, length, map, replicate, take, All};
+ghost use Rattle.std.specs.Prelude.{◌≡◌, ◌^◌, ◌<◌, ◌≤◌, false, length, replicate, take, All};
+ghost use Rattle.collectives.specs.Operations.{IsU64};
 ghost use Rattle.collectives.specs.Places.{padded};
-ghost use Rattle.job_types.specs.Collective.{unit_of};
+ghost use Rattle.job_types.specs.Collective.{join, unit_of};
 ghost use Rattle.job_types.specs.Job.{has_bad_root};
 ghost use Rattle.job_types.specs.Inner.Collective.{IsResult, MakesResult, operation_of};
 ghost use Rattle.job_types.specs.Inner.Kept.{CanRun, HasRoomFor, IsShown};
@@ -13,8 +14,7 @@ use crate::arrays::{
 };
 use crate::kept::Kept;
 use crate::kind::Kind;
-use crate::operation::Operation;
-use collectives::{all_reduce, broadcast, exscan, reduce, scan};
+use collectives::{Operand, Operator, all_reduce, broadcast, exscan, reduce, scan};
 use cube_shape::MAX_DIM;
 
 // Runs the collective on `2^k` places, with the items and then the unit, and keeps its result. It takes
@@ -36,18 +36,19 @@ pub(crate) fn answer(items: &[u64], kind: Kind, k: u32, kept: &mut Kept)
 }
 
 // The same on the first `2^k` of places that hold the unit, and as many for scratch.
-pub(crate) fn on_front<M: Operation>(
+pub(crate) fn on_front<O: Operator>(
     items: &[u64],
     kind: Kind,
     k: u32,
-    places: &mut [M],
-    scratch: &mut [M],
+    places: &mut [Operand<O>],
+    scratch: &mut [Operand<O>],
     kept: &mut Kept,
 )
-    requires units { places.old ≡ replicate (length places.old) M.unit }
+    requires units { places.old ≡ replicate (length places.old) O.unit }
     requires places { 2 ^ k ≤ length places.old }
     requires scratch { 2 ^ k ≤ length scratch.old }
-    requires operation { M.op ≡ operation_of kind }
+    requires unit { O.unit ≡ unit_of (operation_of kind) }
+    requires join { O.join ≡ join (operation_of kind) }
     requires job { CanRun kind k items.now kept.old }
     ensures { IsShown kind items.now kept.new }
 {
@@ -62,17 +63,18 @@ pub(crate) fn on_front<M: Operation>(
 }
 
 // The same on places that hold the unit, with as many for scratch.
-fn on_places<M: Operation>(
+fn on_places<O: Operator>(
     items: &[u64],
     kind: Kind,
     k: u32,
-    places: &mut [M],
-    scratch: &mut [M],
+    places: &mut [Operand<O>],
+    scratch: &mut [Operand<O>],
     kept: &mut Kept,
 )
-    requires units { places.old ≡ replicate (2 ^ k) M.unit }
+    requires units { places.old ≡ replicate (2 ^ k) O.unit }
     requires scratch { length scratch.old ≡ 2 ^ k }
-    requires operation { M.op ≡ operation_of kind }
+    requires unit { O.unit ≡ unit_of (operation_of kind) }
+    requires join { O.join ≡ join (operation_of kind) }
     requires job { CanRun kind k items.now kept.old }
     ensures { IsShown kind items.now kept.new }
 {
@@ -82,26 +84,32 @@ fn on_places<M: Operation>(
 }
 
 // Puts the items at the first places, of which there are `2^k` with the unit.
-fn put_items<M: Operation>(items: &[u64], k: u32, places: &mut [M])
-    requires units { places.old ≡ replicate (2 ^ k) M.unit }
+fn put_items<O: Operator>(items: &[u64], k: u32, places: &mut [Operand<O>])
+    requires units { places.old ≡ replicate (2 ^ k) O.unit }
     requires fits { length items.now ≤ 2 ^ k }
-    ensures numbers { map M.number places.new ≡ padded (unit_of M.op) k items.now }
-    ensures values { All M.is_value places.new }
+    ensures numbers { places.new ≡ padded O.unit k items.now }
+    ensures values { All IsU64 places.new }
 {
     for rank in 0..items.len() {
-        places[rank] = M::wrap(items[rank]);
+        places[rank] = Operand::new(items[rank]);
     }
 }
 
 // Runs the collective on its `2^k` places. They may hold the items of a job, and the unit past these.
-fn run_rounds<M: Operation>(places: &mut [M], scratch: &mut [M], kind: Kind, k: u32)
+fn run_rounds<O: Operator>(
+    places: &mut [Operand<O>],
+    scratch: &mut [Operand<O>],
+    kind: Kind,
+    k: u32,
+)
     requires dim { k ≤ MAX_DIM }
-    requires operation { M.op ≡ operation_of kind }
+    requires unit { O.unit ≡ unit_of (operation_of kind) }
+    requires join { O.join ≡ join (operation_of kind) }
     requires places { length places.old ≡ 2 ^ k }
     requires scratch { length scratch.old ≡ 2 ^ k }
     requires root { has_bad_root kind (2 ^ k) ≡ false }
-    requires values { All M.is_value places.old }
-    ensures result { MakesResult kind k (map M.number places.old) (map M.number places.new) }
+    requires values { All IsU64 places.old }
+    ensures result { MakesResult kind k places.old places.new }
     ensures length { length places.new ≡ length places.old }
 {
     let _tally = match kind {
@@ -114,12 +122,12 @@ fn run_rounds<M: Operation>(places: &mut [M], scratch: &mut [M], kind: Kind, k: 
 }
 
 // Keeps of the places what is kept of the collective's result.
-fn show<M: Operation>(items: &[u64], kind: Kind, places: &[M], kept: &mut Kept)
+fn show<O: Operator>(items: &[u64], kind: Kind, places: &[Operand<O>], kept: &mut Kept)
     requires rooted { has_bad_root kind (length items.now) ≡ false }
     requires some { 0 < length items.now }
     requires room { HasRoomFor kind (length items.now) kept.old }
     requires fits { length items.now ≤ length places.now }
-    requires result { IsResult kind items.now (map M.number places.now) }
+    requires result { IsResult kind items.now places.now }
     ensures { IsShown kind items.now kept.new }
 {
     match kept {
@@ -129,9 +137,9 @@ fn show<M: Operation>(items: &[u64], kind: Kind, places: &[M], kept: &mut Kept)
 }
 
 // Copies the numbers of the first places.
-fn copy_numbers<M: Operation>(places: &[M], numbers: &mut [u64])
+fn copy_numbers<O: Operator>(places: &[Operand<O>], numbers: &mut [u64])
     requires { length numbers.old ≤ length places.now }
-    ensures { numbers.new ≡ take (length numbers.old) (map M.number places.now) }
+    ensures { numbers.new ≡ take (length numbers.old) places.now }
 {
     for place in 0..numbers.len() {
         numbers[place] = places[place].number();

@@ -11,14 +11,14 @@
 //! ties them to the process, which ends by `program::exit_code`.
 #![tactic(auto)]
 
+use atomic_file::SystemFiles;
 use cli_commands::program;
-use cli_commands::program::Ending;
+use cli_commands::program::{Console, Ending};
 use jobs_csv::{Counted, Fault};
 use std::io::IsTerminal;
 use std::process::ExitCode;
 use std::rt::Env;
 use std::{io, process};
-use whole_file::SystemFiles;
 
 // The words of the command line, from the program's name on.
 fn words<R: Env + AllocGlobal>(rt: &R) -> io::Result<Vec<String>> {
@@ -49,7 +49,7 @@ fn main(rt: HostRuntime) -> ExitCode {
         Err(error) => return program::exit_code(report_words(&rt, &error)),
     };
     let input = rt.stdin();
-    let mut prompt = if input.is_terminal() {
+    let prompt = if input.is_terminal() {
         Some(rt.stderr())
     } else {
         None
@@ -58,25 +58,20 @@ fn main(rt: HostRuntime) -> ExitCode {
         rt: &rt,
         process_id: process::id(rt.process()),
     };
-    let mut reader = Counted::new(input);
-    let mut writer = Counted::new(rt.stdout());
-    let mut errors = rt.stderr();
-    let mut terminal = if errors.is_terminal() && !is_dumb(&rt) {
+    let errors = rt.stderr();
+    let terminal = if errors.is_terminal() && !is_dumb(&rt) {
         Some(rt.stderr())
     } else {
         None
     };
-    let ending = program::run(
-        &rt,
-        rt.alloc(),
-        &words,
-        &mut store,
-        &mut reader,
-        &mut writer,
-        &mut errors,
-        &mut terminal,
-        &mut prompt,
-    );
+    let mut console = Console {
+        reader: Counted::new(input),
+        writer: Counted::new(rt.stdout()),
+        errors,
+        terminal,
+        prompt,
+    };
+    let ending = program::run(&rt, rt.alloc(), &words, &mut store, &mut console);
     // The store holds nothing that has to end.
     let SystemFiles {
         rt: _,

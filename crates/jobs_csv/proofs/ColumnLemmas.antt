@@ -1,5 +1,5 @@
 -- Records of three fields, and others.
-use Rattle.std.proofs.Common.{◌≡◌, ◌≢◌, ℕ, zero, suc, ◌<◌, ◌==◌, List, [], ◌∷◌, length, Some, is_some, true, false, Ok, Err, if◌then◌else◌, refl, ap, arith}
+use Rattle.std.proofs.Common.{◌≡◌, ◌≢◌, ℕ, zero, suc, ◌<◌, ◌==◌, Bool, List, [], ◌∷◌, length, Some, is_some, true, false, Ok, Err, if◌then◌else◌, refl, sym, ap, ◌∙◌, arith}
 use Rattle.std.proofs.lemmas.Bool.Decides.{nat_tests}
 use Rattle.std.specs.Cmp.Lexicographic.{pointwise}
 use Rattle.std.specs.Str.{bytes_eq}
@@ -29,3 +29,13 @@ unfolding header_of
 no_header columns fields n =
     let other : (length fields == length columns) ≡ false = grind (arith, nat_tests) in
     ap (λ same. if same then (if pointwise bytes_eq fields columns then Ok tt else Err what.Word) else Err what.Fields) other
+
+-- a record of as many fields is one where the fields have these texts
+pub header_by_texts : (columns fields : List (List ℕ)) (are : Bool)
+    → length fields ≡ length columns → are ≡ pointwise bytes_eq fields columns
+    → header_of columns fields ≡ (if are then Ok tt else Err what.Word)
+unfolding header_of
+header_by_texts columns fields are n texts =
+    let same : (length fields == length columns) ≡ true = grind (arith, nat_tests) in
+    ap (λ same. if same then (if pointwise bytes_eq fields columns then Ok tt else Err what.Word) else Err what.Fields) same
+    ∙ ap (λ good. if good then Ok tt else Err what.Word) (sym texts)

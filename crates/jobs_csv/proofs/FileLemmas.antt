@@ -111,8 +111,8 @@ in_range row_of number fields within =
     ap (λ (over : Bool). if over then Err (record { row = number; what = what.TooMany }) else at_row number (row_of fields)) inside
 
 -- the end of the file
-whole_file : {R Row : Type 0} (header_of : Headers) (row_of : Rows Row) (rem : R → Option (List ℕ)) (bytes : List ℕ) (number : ℕ) (rows : List Row) (reader : Reader R) → (k : HasRead header_of row_of rem (Some bytes) number rows reader) → AreAll (Some bytes) (k.header ∷ k.front) → parse_file header_of row_of bytes ≡ Ok rows
-whole_file header_of row_of rem bytes number rows reader k all =
+atomic_file : {R Row : Type 0} (header_of : Headers) (row_of : Rows Row) (rem : R → Option (List ℕ)) (bytes : List ℕ) (number : ℕ) (rows : List Row) (reader : Reader R) → (k : HasRead header_of row_of rem (Some bytes) number rows reader) → AreAll (Some bytes) (k.header ∷ k.front) → parse_file header_of row_of bytes ≡ Ok rows
+atomic_file header_of row_of rem bytes number rows reader k all =
     ap (file_of header_of row_of) (whole_records (strip_bom bytes) (k.header ∷ k.front) all)
     ∙ file_rows header_of row_of k.header k.front k.good
     ∙ ap (rows_from row_of 1) (sym (append-nil k.front))
@@ -123,7 +123,7 @@ whole_file header_of row_of rem bytes number rows reader k all =
 -- its rows are pushed
 pub all_gathered : {R Row G : Type 0} (contents : G → List Row → Type 0) (header_of : Headers) (row_of : Rows Row) (rem : R → Option (List ℕ)) (bytes : Option (List ℕ)) (number : ℕ) (rows : List Row) (gathered : G) (reader : Reader R) → contents gathered rows → (k : HasRead header_of row_of rem bytes number rows reader) → AreAll bytes (k.header ∷ k.front) → IfSome bytes (λ b. ReturnsRows contents (parse_file header_of row_of b) (Ok gathered))
 all_gathered contents header_of row_of rem None number rows gathered reader held k all = tt
-all_gathered contents header_of row_of rem (Some bytes) number rows gathered reader held k all = (rows, whole_file header_of row_of rem bytes number rows reader k all, held)
+all_gathered contents header_of row_of rem (Some bytes) number rows gathered reader held k all = (rows, atomic_file header_of row_of rem bytes number rows reader k all, held)
 
 -- the parse from the next record on
 from_next : {R Row : Type 0} (header_of : Headers) (row_of : Rows Row) (rem : R → Option (List ℕ)) (bytes : List ℕ) (number : ℕ) (rows : List Row) (reader next : Reader R) (fields : Record) → (k : HasRead header_of row_of rem (Some bytes) number rows reader) → HasGiven rem (Some bytes) ((k.header ∷ k.front) ++ fields ∷ []) next → (more : List Record) × (parse_file header_of row_of bytes ≡ with_front rows (rows_from row_of number (fields ∷ more)))

@@ -14,4 +14,3 @@ pub mod PlaceTextLemmas
 pub mod SentLemmas
 pub mod LaneLemmas
 pub mod ReportLemmas
-pub mod PartLemmas

@@ -8,7 +8,7 @@ use Rattle.job_types.specs.declared.kind.Op.{Op}
 use Rattle.job_types.specs.declared.kind.Op.TheVariants as op
 use Rattle.jobs_csv.specs.declared.fault.FaultKind.{FaultKind}
 use Rattle.jobs_csv.specs.declared.fault.FaultKind.TheVariants as what
-use Rattle.jobs_csv.specs.Fields.{among, dash_of, number_of}
+use Rattle.jobs_csv.specs.Fields.{among, any_number, dash_of, number_of}
 use Rattle.jobs_csv.specs.Outcome.{or_refuse, ◌>>=◌}
 
 -- the operation
@@ -16,22 +16,27 @@ unfoldable pub op_of : List ℕ → Result Op FaultKind
 op_of field = among ((codes "add", op.Add) ∷ (codes "min", op.Min) ∷ (codes "max", op.Max)
     ∷ (codes "xor", op.Xor) ∷ (codes "and", op.And) ∷ (codes "or", op.Or) ∷ []) field
 
--- the collective of two fields, which is given its root later; a broadcast has no operation, and an
--- all-reduce, a scan and an exclusive scan have no root
-unfoldable pub collective_of : List ℕ → List ℕ → Result (ℕ → Kind) FaultKind
-collective_of word join =
-    if bytes_eq word (codes "broadcast") then (dash_of join >>= (λ nothing. Ok (λ root. kind.Broadcast root)))
-    else if bytes_eq word (codes "reduce") then (op_of join >>= (λ op. Ok (λ root. kind.Reduce op root)))
-    else if bytes_eq word (codes "allreduce") then (op_of join >>= (λ op. Ok (λ root. kind.AllReduce op)))
-    else if bytes_eq word (codes "scan") then (op_of join >>= (λ op. Ok (λ root. kind.Scan op)))
-    else if bytes_eq word (codes "exscan") then (op_of join >>= (λ op. Ok (λ root. kind.ExScan op)))
+-- the collective of three fields; a broadcast has no operation, and an all-reduce, a scan and an exclusive
+-- scan do not keep the root, which is a number all the same
+unfoldable pub collective_of : List ℕ → List ℕ → List ℕ → Result Kind FaultKind
+collective_of word join root =
+    if bytes_eq word (codes "broadcast")
+    then (dash_of join >>= (λ nothing. any_number root >>= (λ r. Ok (kind.Broadcast r))))
+    else if bytes_eq word (codes "reduce")
+    then (op_of join >>= (λ op. any_number root >>= (λ r. Ok (kind.Reduce op r))))
+    else if bytes_eq word (codes "allreduce")
+    then (op_of join >>= (λ op. any_number root >>= (λ r. Ok (kind.AllReduce op))))
+    else if bytes_eq word (codes "scan")
+    then (op_of join >>= (λ op. any_number root >>= (λ r. Ok (kind.Scan op))))
+    else if bytes_eq word (codes "exscan")
+    then (op_of join >>= (λ op. any_number root >>= (λ r. Ok (kind.ExScan op))))
     else Err what.Word
 
--- the collective has no root, and the root is not 0
-abbrev pub has_superfluous_root : ℕ → Kind → Bool
-has_superfluous_root root (kind.Broadcast own) = false
-has_superfluous_root root (kind.Reduce op own) = false
-has_superfluous_root root _ = not (root == 0)
+-- the collective has no root, and the field of its root is not `0`
+abbrev pub has_superfluous_root : Kind → List ℕ → Bool
+has_superfluous_root (kind.Broadcast own) root = false
+has_superfluous_root (kind.Reduce op own) root = false
+has_superfluous_root _ root = not (bytes_eq root (codes "0"))
 
 -- the numbers of all pieces, if each has one
 unfoldable pub all_numbers : List (List ℕ) → Option (List ℕ)

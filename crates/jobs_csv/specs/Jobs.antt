@@ -8,7 +8,7 @@ use Rattle.jobs_csv.specs.declared.fault.Fault.{Fault}
 use Rattle.jobs_csv.specs.declared.fault.FaultKind.{FaultKind}
 use Rattle.jobs_csv.specs.declared.fault.FaultKind.TheVariants as what
 use Rattle.jobs_csv.specs.Columns.{header_of}
-use Rattle.jobs_csv.specs.Fields.{any_number, number_within}
+use Rattle.jobs_csv.specs.Fields.{number_within}
 use Rattle.jobs_csv.specs.Files.{Record, parse_file}
 use Rattle.jobs_csv.specs.JobFields.{collective_of, has_superfluous_root, items_of}
 use Rattle.jobs_csv.specs.Outcome.{◌>>=◌}
@@ -26,10 +26,9 @@ accept_job job has_superfluous = refuse (refusal_of job.machine job.kind job.ite
 unfoldable pub job_of : ℕ → Record → Result JobData FaultKind
 job_of n (lane ∷ kind ∷ op ∷ root ∷ items ∷ []) = do
   l ← number_within 0 (MAX_LANES - 1) lane
-  collective ← collective_of kind op
-  r ← any_number root
+  k ← collective_of kind op root
   xs ← items_of items
-  accept_job (record { machine = n; lane = l; kind = collective r; items = xs }) (has_superfluous_root r (collective r))
+  accept_job (record { machine = n; lane = l; kind = k; items = xs }) (has_superfluous_root k root)
 job_of n _ = Err what.Fields
 
 -- the parse of a file of jobs, for a machine of dimension n

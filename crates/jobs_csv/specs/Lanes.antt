@@ -2,6 +2,7 @@
 use Rattle.std.specs.Prelude.{◌≡◌, ℕ, ◌<◌, ◌==◌, List, All, length, slice_index_or, Vec, Result}
 use Rattle.std.specs.List.{filter}
 use Rattle.std.specs.Global.{Global}
+use Rattle.std.specs.declared.collections.VecDeque.{VecDeque}
 use Rattle.job_types.specs.Job.{JobData}
 use Rattle.cube_shape.specs.declared.limits.TheConstants.{MAX_LANES}
 use Rattle.jobs_csv.specs.declared.fault.Fault.{Fault}
@@ -11,12 +12,14 @@ use Rattle.jobs_csv.specs.Outcome.{ReturnsRows}
 abbrev pub in_lane : ℕ → List JobData → List JobData
 in_lane lane jobs = filter (λ job. job.lane == lane) jobs
 
--- the lists are the lanes of these jobs
-pub record AreLanes (lanes : List (Vec JobData Global)) (jobs : List JobData) : Type 0 where
+-- the queues are the lanes of these jobs
+pub record AreLanes (lanes : List (VecDeque JobData Global)) (jobs : List JobData) : Type 0 where
   pub count : length lanes ≡ MAX_LANES
   pub below : All (λ job. job.lane < MAX_LANES) jobs
-  pub each : (lane : ℕ) (none : Vec JobData Global) → lane < MAX_LANES → (slice_index_or lanes lane none).items ≡ in_lane lane jobs
+  pub each : (lane : ℕ) (none : VecDeque JobData Global) → lane < MAX_LANES
+      → (slice_index_or lanes lane none).items ≡ in_lane lane jobs
 
--- the lists are the lanes of the parsed jobs, and a refusal is the parse's error
-abbrev pub ReturnsLanes : Result (List JobData) Fault → Result (Vec (Vec JobData Global) Global) Fault → Type 0
+-- the queues are the lanes of the parsed jobs, and a refusal is the parse's error
+abbrev pub ReturnsLanes : Result (List JobData) Fault
+    → Result (Vec (VecDeque JobData Global) Global) Fault → Type 0
 ReturnsLanes parse result = ReturnsRows (λ lanes jobs. AreLanes lanes.items jobs) parse result

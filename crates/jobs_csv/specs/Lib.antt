@@ -1,4 +1,3 @@
-pub mod Device
 pub mod Fault
 pub mod Outcome
 pub mod Files
@@ -16,6 +15,7 @@ pub mod Jobs
 pub mod Replies
 pub mod Lanes
 pub mod Inner
+pub use Rattle.devices.specs.Device
 pub use Rattle.job_types.specs.Job
 pub use Rattle.job_types.specs.Reply
 pub use Rattle.job_types.specs.Collective

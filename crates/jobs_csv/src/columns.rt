@@ -11,14 +11,14 @@ use csv::ByteRecord;
 
 /// The fields of a record that has three.
 #[derive(Drop)]
-pub struct ThreeFields<'a> {
+pub(crate) struct ThreeFields<'a> {
     pub first: &'a [u8],
     pub second: &'a [u8],
     pub third: &'a [u8],
 }
 
 /// The field at an index.
-pub fn field(row: &ByteRecord, index: usize) -> &[u8]
+pub(crate) fn field(row: &ByteRecord, index: usize) -> &[u8]
     requires { index < length (fields_of row.now) }
     ensures { field_at (fields_of row.now) index ≡ Some result.now }
 {
@@ -26,7 +26,7 @@ pub fn field(row: &ByteRecord, index: usize) -> &[u8]
 }
 
 /// The fields of a record, if there are three.
-pub fn three_fields(row: &ByteRecord) -> Option<ThreeFields<'_>>
+pub(crate) fn three_fields(row: &ByteRecord) -> Option<ThreeFields<'_>>
     ensures some { IfSome result (λ three.
         fields_of row.now ≡ three.first.now ∷ three.second.now ∷ three.third.now ∷ []) }
     ensures none { IfNone result (length (fields_of row.now) ≢ 3) }
@@ -51,7 +51,7 @@ fn are_texts(fields: &ThreeFields<'_>, first: &[u8], second: &[u8], third: &[u8]
 }
 
 /// Checks a header of three fields: their number, and then their texts.
-pub fn three_header(
+pub(crate) fn three_header(
     row: &ByteRecord,
     first: &[u8],
     second: &[u8],

@@ -41,7 +41,7 @@ pub struct Fault {
 
 /// Writing stopped: the writer failed, or a request for memory was refused.
 #[derive(Clone, Copy, Debug, PartialEq, Eq)]
-pub struct WriteStopped;
+pub struct WriteError;
 
 impl FaultKind {
     /// Whether the input is at fault, and not a device, memory or a spent lane.
@@ -161,8 +161,8 @@ impl From<AllocError> for Fault {
     }
 }
 
-impl From<AllocError> for WriteStopped {
-    fn from(_error: AllocError) -> WriteStopped {
-        WriteStopped
+impl From<AllocError> for WriteError {
+    fn from(_error: AllocError) -> WriteError {
+        WriteError
     }
 }

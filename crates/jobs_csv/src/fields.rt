@@ -31,7 +31,7 @@ fn digits(field: &[u8]) -> Option<u64>
 
 /// The number of a field: `0`, or digits of which the first is not `0`, below 2^64.
 #[tactic(auto, unfolding(crate::specs::Fields::number_of))]
-pub fn number(field: &[u8]) -> Option<u64>
+pub(crate) fn number(field: &[u8]) -> Option<u64>
     ensures { result ≡ number_of field.now }
 {
     if field.is_empty() || (field.len() > 1 && field[0] == b'0') {
@@ -42,7 +42,7 @@ pub fn number(field: &[u8]) -> Option<u64>
 
 /// A field that is a number.
 #[tactic(auto, unfolding(crate::specs::Fields::any_number))]
-pub fn any_number(field: &[u8]) -> Result<u64, FaultKind>
+pub(crate) fn any_number(field: &[u8]) -> Result<u64, FaultKind>
     ensures { ReturnsParse (λ number. number) (any_number field.now) result }
 {
     number(field).ok_or(FaultKind::Number)
@@ -50,7 +50,7 @@ pub fn any_number(field: &[u8]) -> Result<u64, FaultKind>
 
 /// A field that is a number from `low` to `high`.
 #[tactic(auto, unfolding(crate::specs::Fields::number_within))]
-pub fn number_within(field: &[u8], low: u64, high: u64) -> Result<u64, FaultKind>
+pub(crate) fn number_within(field: &[u8], low: u64, high: u64) -> Result<u64, FaultKind>
     ensures parse { ReturnsParse (λ number. number) (number_within low high field.now) result }
     ensures low { IfOk result (λ number. low ≤ number) }
     ensures high { IfOk result (λ number. number ≤ high) }
@@ -63,7 +63,7 @@ pub fn number_within(field: &[u8], low: u64, high: u64) -> Result<u64, FaultKind
 
 /// A field that is a dash, which stands for nothing.
 #[tactic(auto, unfolding(crate::specs::Fields::dash_of))]
-pub fn dash(field: &[u8]) -> Result<(), FaultKind>
+pub(crate) fn dash(field: &[u8]) -> Result<(), FaultKind>
     ensures { ReturnsParse (λ good. good) (dash_of field.now) result }
 {
     if field == b"-".as_slice() {

@@ -8,15 +8,15 @@ ghost use Rattle.jobs_csv.specs.Inner.Parse.{ReturnsParse};
 ghost use Rattle.jobs_csv.specs.Outcome.{ReturnsFile, ReturnsRows};
 ghost use Rattle.jobs_csv.specs.declared.fault.FaultKind.{FaultKind};
 
-use crate::device::Device;
 use crate::fault::{Fault, FaultKind};
 use crate::input::{self, MAX_RECORDS};
 use csv::{ByteRecord, Reader};
+use devices::Device;
 use std::alloc::{AllocError, Global};
 use std::io::Read;
 
 /// A format of files: its header, and the rows of the records after it.
-pub trait Format {
+pub(crate) trait Format {
     /// The row of a record.
     type Row: Drop;
 
@@ -40,7 +40,7 @@ pub trait Format {
 }
 
 /// A collection that rows are pushed into.
-pub trait RowSink<Row>: Drop {
+pub(crate) trait RowSink<Row>: Drop {
     // It holds these rows, in this order.
     ghost contents: { Self → List Row → Type 0 };
 
@@ -128,7 +128,7 @@ fn read_rows<F: Format, G: RowSink<F::Row>, R: Read>(
 /// Reads a whole file and pushes its rows into `rows`, which must be empty.
 ///
 /// A refusal is the first fault of the file. Any other fault is `Read` or `OutOfMemory`.
-pub fn read_records<F: Format, G: RowSink<F::Row>, R: Read + Drop>(
+pub(crate) fn read_records<F: Format, G: RowSink<F::Row>, R: Read + Drop>(
     alloc: Global,
     format: &F,
     rows: G,
@@ -154,7 +154,7 @@ pub fn read_records<F: Format, G: RowSink<F::Row>, R: Read + Drop>(
 ///
 /// A failure is the reader's exactly where its count of failed calls rose in this call, or stood at
 /// `u64::MAX`, and is out of memory otherwise.
-pub fn read_file<F: Format, G: RowSink<F::Row>, R: Read + Device>(
+pub(crate) fn read_file<F: Format, G: RowSink<F::Row>, R: Read + Device>(
     alloc: Global,
     format: &F,
     rows: G,
@@ -180,7 +180,7 @@ pub fn read_file<F: Format, G: RowSink<F::Row>, R: Read + Device>(
 }
 
 /// Reads the rows of a whole file as a list, as `read_file` does.
-pub fn read_list<F: Format, R: Read + Device>(
+pub(crate) fn read_list<F: Format, R: Read + Device>(
     alloc: Global,
     format: &F,
     reader: &mut R,

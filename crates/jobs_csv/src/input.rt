@@ -15,7 +15,7 @@ use std::io::Read;
 pub const MAX_RECORDS: u64 = 1_000_000;
 
 /// The fault of a record, or of memory, which has no record.
-pub fn fault_at(row: u64, what: FaultKind) -> Fault
+pub(crate) fn fault_at(row: u64, what: FaultKind) -> Fault
     ensures { result ≡ record { row = (if is_refusal what then row else 0); what = what } }
 {
     let row = if what.is_refusal() { row } else { 0 };
@@ -35,7 +35,7 @@ fn stopped_for(error: &csv::Error) -> FaultKind
 }
 
 /// A reader of the records of a text, which has read none of it.
-pub fn open_reader<R: Read>(alloc: Global, text: R) -> Reader<R>
+pub(crate) fn open_reader<R: Read>(alloc: Global, text: R) -> Reader<R>
     ensures plain { IsPlain result }
     ensures none { HasGiven R.remaining (R.remaining text) [] result }
 {
@@ -46,7 +46,10 @@ pub fn open_reader<R: Read>(alloc: Global, text: R) -> Reader<R>
 }
 
 /// Reads the next record into `row`, and returns whether there was one.
-pub fn next_record<R: Read>(reader: &mut Reader<R>, row: &mut ByteRecord) -> Result<bool, Fault>
+pub(crate) fn next_record<R: Read>(
+    reader: &mut Reader<R>,
+    row: &mut ByteRecord,
+) -> Result<bool, Fault>
     requires { IsPlain reader.old }
     ensures plain { OnOk result (IsPlain reader.new) }
     ensures more { IfOk result (λ found. found ≡ true

@@ -2,7 +2,6 @@
 ghost use Rattle.std.specs.Prelude.{◌≡◌, ◌-◌, ◌<◌, IfOk};
 ghost use Rattle.jobs_csv.specs.JobFields.{collective_of, has_superfluous_root, items_of, op_of};
 ghost use Rattle.jobs_csv.specs.Fields.{number_within};
-ghost use Rattle.jobs_csv.specs.Inner.JobFields.{with_root};
 ghost use Rattle.jobs_csv.specs.Inner.Parse.{ReturnsParse};
 
 use crate::fault::FaultKind;
@@ -11,44 +10,8 @@ use cube_shape::MAX_LANES;
 use job_types::{Kind, Op};
 use std::alloc::Global;
 
-/// A collective without its root.
-#[derive(Clone, Copy)]
-pub enum Collective {
-    Broadcast,
-    Reduce { op: Op },
-    AllReduce { op: Op },
-    Scan { op: Op },
-    ExScan { op: Op },
-}
-
-impl Collective {
-    /// The collective with its root, if it has one.
-    pub fn with_root(self, root: u64) -> Kind
-        ensures { result ≡ with_root root self }
-    {
-        match self {
-            Collective::Broadcast => Kind::Broadcast { root },
-            Collective::Reduce { op } => Kind::Reduce { op, root },
-            Collective::AllReduce { op } => Kind::AllReduce { op },
-            Collective::Scan { op } => Kind::Scan { op },
-            Collective::ExScan { op } => Kind::ExScan { op },
-        }
-    }
-
-    /// Whether it has no root, and the root is not 0.
-    pub fn has_superfluous_root(self, root: u64) -> bool
-        ensures { result ≡ has_superfluous_root root (with_root root self) }
-    {
-        match self {
-            Collective::Broadcast | Collective::Reduce { .. } => false,
-            Collective::AllReduce { .. } | Collective::Scan { .. } | Collective::ExScan { .. } =>
-                root != 0,
-        }
-    }
-}
-
 /// The lane of a field: a number below `MAX_LANES`.
-pub fn lane(field: &[u8]) -> Result<u32, FaultKind>
+pub(crate) fn lane(field: &[u8]) -> Result<u32, FaultKind>
     ensures parse { ReturnsParse (λ lane. lane) (number_within 0 (MAX_LANES - 1) field.now) result }
     ensures below { IfOk result (λ lane. lane < MAX_LANES) }
 {
@@ -78,37 +41,53 @@ fn read_op(field: &[u8]) -> Result<Op, FaultKind>
     }
 }
 
-/// Reads the collective of two fields, `kind` and `op`.
+/// Reads the collective of three fields, `kind`, `op` and `root`.
+///
+/// The root is a number in every record. A collective with no root does not keep it.
 #[tactic(auto, unfolding(crate::specs::JobFields::collective_of))]
-pub fn read_collective(kind: &[u8], op: &[u8]) -> Result<Collective, FaultKind>
-    ensures { ReturnsParse (λ collective root. with_root root collective)
-        (collective_of kind.now op.now) result }
+pub(crate) fn read_collective(kind: &[u8], op: &[u8], root: &[u8]) -> Result<Kind, FaultKind>
+    ensures { ReturnsParse (λ kind. kind) (collective_of kind.now op.now root.now) result }
 {
     if kind == b"broadcast".as_slice() {
         fields::dash(op)?;
-        return Ok(Collective::Broadcast);
+        let root = fields::any_number(root)?;
+        return Ok(Kind::Broadcast { root });
     }
     if kind == b"reduce".as_slice() {
         let op = read_op(op)?;
-        return Ok(Collective::Reduce { op });
+        let root = fields::any_number(root)?;
+        return Ok(Kind::Reduce { op, root });
     }
     if kind == b"allreduce".as_slice() {
         let op = read_op(op)?;
-        return Ok(Collective::AllReduce { op });
+        fields::any_number(root)?;
+        return Ok(Kind::AllReduce { op });
     }
     if kind == b"scan".as_slice() {
         let op = read_op(op)?;
-        return Ok(Collective::Scan { op });
+        fields::any_number(root)?;
+        return Ok(Kind::Scan { op });
     }
     if kind == b"exscan".as_slice() {
         let op = read_op(op)?;
-        return Ok(Collective::ExScan { op });
+        fields::any_number(root)?;
+        return Ok(Kind::ExScan { op });
     }
     Err(FaultKind::Word)
 }
 
+/// Returns whether a collective has no root and the field of its root is not `0`.
+pub(crate) fn has_superfluous_root(kind: Kind, root: &[u8]) -> bool
+    ensures { result ≡ has_superfluous_root kind root.now }
+{
+    match kind {
+        Kind::Broadcast { .. } | Kind::Reduce { .. } => false,
+        Kind::AllReduce { .. } | Kind::Scan { .. } | Kind::ExScan { .. } => root != b"0".as_slice(),
+    }
+}
+
 /// The items of a field: numbers with one space between two, or nothing at all.
-pub fn items(alloc: Global, field: &[u8]) -> Result<Vec<u64>, FaultKind>
+pub(crate) fn items(alloc: Global, field: &[u8]) -> Result<Vec<u64>, FaultKind>
     ensures { ReturnsParse (λ items. items.items) (items_of field.now) result }
 {
     if field.is_empty() {

@@ -13,16 +13,17 @@ ghost use Rattle.jobs_csv.specs.Inner.Columns.{job_columns};
 ghost use Rattle.jobs_csv.specs.Inner.Parse.{ReturnsParse};
 ghost use Rattle.jobs_csv.specs.Outcome.{ReturnsFile, ReturnsRows};
 
-use crate::device::Device;
 use crate::fault::{Fault, FaultKind};
 use crate::format::{self, Format};
 use crate::lanes::Lanes;
 use crate::observer::{Observed, Observer, RecordCount};
-use crate::{columns, fields, job_fields};
+use crate::{columns, job_fields};
 use csv::ByteRecord;
 use cube_shape::{MAX_DIM, MAX_LANES};
+use devices::Device;
 use job_types::{Job, JobRefused, Kind};
 use std::alloc::Global;
+use std::collections::VecDeque;
 use std::io::Read;
 
 // The format of jobs, for a machine of this dimension.
@@ -32,67 +33,45 @@ struct Jobs {
     ghost limit: { n ≤ MAX_DIM },
 }
 
-// The fields of a record of five.
-#[derive(Drop)]
-struct FiveFields<'a> {
-    lane: &'a [u8],
-    kind: &'a [u8],
-    op: &'a [u8],
-    root: &'a [u8],
-    items: &'a [u8],
-}
+// How many fields a record of jobs has.
+const COLUMNS: usize = 5;
 
-// The fields of a record, if there are five.
-fn five_fields(row: &ByteRecord) -> Option<FiveFields<'_>>
-    ensures some { IfSome result (λ five. fields_of row.now
-        ≡ five.lane.now ∷ five.kind.now ∷ five.op.now ∷ five.root.now ∷ five.items.now ∷ []) }
-    ensures none { IfNone result (length (fields_of row.now) ≢ 5) }
+// Whether the five fields of a record are those of a header.
+#[tactic(auto, using(crate::proofs::JobLemmas::five))]
+fn are_job_columns(row: &ByteRecord) -> bool
+    requires { length (fields_of row.now) ≡ 5 }
+    ensures { result ≡ pointwise bytes_eq (fields_of row.now) job_columns }
 {
-    if row.len() != 5 {
-        return None;
-    }
-    Some(FiveFields {
-        lane: columns::field(row, 0),
-        kind: columns::field(row, 1),
-        op: columns::field(row, 2),
-        root: columns::field(row, 3),
-        items: columns::field(row, 4),
-    })
+    let lane = columns::field(row, 0);
+    let kind = columns::field(row, 1);
+    let op = columns::field(row, 2);
+    let root = columns::field(row, 3);
+    let items = columns::field(row, 4);
+    lane == b"lane".as_slice()
+        && kind == b"kind".as_slice()
+        && op == b"op".as_slice()
+        && root == b"root".as_slice()
+        && items == b"items".as_slice()
 }
 
-// Whether the fields are those of a header.
-fn is_header(five: &FiveFields<'_>) -> bool
-    ensures { result ≡ pointwise bytes_eq (five.now.lane.now ∷ five.now.kind.now
-        ∷ five.now.op.now ∷ five.now.root.now ∷ five.now.items.now ∷ []) job_columns }
-{
-    five.lane == b"lane".as_slice()
-        && five.kind == b"kind".as_slice()
-        && five.op == b"op".as_slice()
-        && five.root == b"root".as_slice()
-        && five.items == b"items".as_slice()
-}
-
-// The job of five fields. They are read from left to right, and the first bad one is the error.
-#[tactic(auto, unfolding(crate::specs::Jobs::job_of))]
-fn read_fields(alloc: Global, n: u32, five: &FiveFields<'_>) -> Result<Job, FaultKind>
-    requires { n ≤ MAX_DIM }
+// Reads the job of a record of five fields, from left to right. The first bad field is the error.
+#[tactic(auto, using(crate::proofs::JobLemmas::five), unfolding(crate::specs::Jobs::job_of))]
+fn read_fields(alloc: Global, n: u32, row: &ByteRecord) -> Result<Job, FaultKind>
+    requires five { length (fields_of row.now) ≡ 5 }
+    requires limit { n ≤ MAX_DIM }
     ensures machine { IfOk result (λ job. job.machine ≡ n) }
-    ensures parse { ReturnsParse (λ job. job) (job_of n (five.now.lane.now ∷ five.now.kind.now
-        ∷ five.now.op.now ∷ five.now.root.now ∷ five.now.items.now ∷ [])) result }
+    ensures parse { ReturnsParse (λ job. job) (job_of n (fields_of row.now)) result }
 {
-    let lane = job_fields::lane(five.lane)?;
-    let collective = job_fields::read_collective(five.kind, five.op)?;
-    let root = fields::any_number(five.root)?;
-    let items = job_fields::items(alloc, five.items)?;
-    let has_superfluous = collective.has_superfluous_root(root);
-    accept(
-        alloc,
-        n,
-        lane,
-        collective.with_root(root),
-        items,
-        has_superfluous,
-    )
+    let lane = columns::field(row, 0);
+    let kind = columns::field(row, 1);
+    let op = columns::field(row, 2);
+    let root = columns::field(row, 3);
+    let items = columns::field(row, 4);
+    let lane = job_fields::lane(lane)?;
+    let kind = job_fields::read_collective(kind, op, root)?;
+    let items = job_fields::items(alloc, items)?;
+    let has_superfluous = job_fields::has_superfluous_root(kind, root);
+    accept(alloc, n, lane, kind, items, has_superfluous)
 }
 
 // The job, unless a rule refuses it. The rules of every job come first, and then the one that a
@@ -139,23 +118,24 @@ impl Format for Jobs {
 
     ghost is_row = { λ jobs job. job.machine ≡ jobs.n };
 
+    #[tactic(auto, using(crate::proofs::ColumnLemmas::no_header, crate::proofs::ColumnLemmas::header_by_texts))]
     fn header(&self, row: &ByteRecord) -> Result<(), FaultKind> {
-        let five = match five_fields(row) {
-            Some(five) => five,
-            None => return Err(FaultKind::Fields),
-        };
-        if is_header(&five) {
+        if row.len() != COLUMNS {
+            return Err(FaultKind::Fields);
+        }
+        if are_job_columns(row) {
             Ok(())
         } else {
             Err(FaultKind::Word)
         }
     }
 
+    #[tactic(auto, using(crate::proofs::JobLemmas::no_job))]
     fn row(&self, alloc: Global, row: &ByteRecord) -> Result<Job, FaultKind> {
-        match five_fields(row) {
-            Some(five) => read_fields(alloc, self.n, &five),
-            None => return Err(FaultKind::Fields),
+        if row.len() != COLUMNS {
+            return Err(FaultKind::Fields);
         }
+        read_fields(alloc, self.n, row)
     }
 }
 
@@ -174,13 +154,13 @@ pub fn read_jobs<R: Read + Device>(alloc: Global, n: u32, reader: &mut R) -> Res
     format::read_list(alloc, &Jobs { n }, reader)
 }
 
-/// Reads the jobs of a whole file, as `read_jobs` does, into a list for each lane, in which the
+/// Reads the jobs of a whole file, as `read_jobs` does, into a queue for each lane, in which the
 /// lane's jobs are in the order of the file.
 pub fn read_lanes<R: Read + Device>(
     alloc: Global,
     n: u32,
     reader: &mut R,
-) -> Result<Vec<Vec<Job>>, Fault>
+) -> Result<Vec<VecDeque<Job>>, Fault>
     requires { n ≤ MAX_DIM }
     ensures parse { IfSome (R.remaining reader.old) (λ bytes.
         ReturnsLanes (parse_jobs n bytes) result) }
@@ -199,7 +179,7 @@ pub fn read_lanes_with<O: Observer, R: Read + Device>(
     n: u32,
     observer: O,
     reader: &mut R,
-) -> Result<(Vec<Vec<Job>>, O), Fault>
+) -> Result<(Vec<VecDeque<Job>>, O), Fault>
     requires limit { n ≤ MAX_DIM }
     requires fresh { O.seen observer ≡ 0 }
     ensures parse { IfSome (R.remaining reader.old) (λ bytes.

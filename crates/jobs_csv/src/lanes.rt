@@ -6,21 +6,22 @@ use crate::format::RowSink;
 use cube_shape::MAX_LANES;
 use job_types::Job;
 use std::alloc::{AllocError, Global};
+use std::collections::VecDeque;
 
-/// The jobs by lane, those of each lane in the order in which they were pushed.
+/// A queue of jobs for each lane, those of a lane in the order in which they were pushed.
 #[derive(Drop)]
-pub struct Lanes {
-    pub jobs: Vec<Vec<Job>>,
+pub(crate) struct Lanes {
+    pub jobs: Vec<VecDeque<Job>>,
 }
 
 impl Lanes {
-    /// A list for each lane, with no job.
+    /// Returns a queue with no job for each lane.
     pub fn new(alloc: Global) -> Result<Self, AllocError>
         ensures { IfOk result (λ lanes. AreLanes lanes.jobs.items []) }
     {
         let mut jobs = Vec::with_capacity(alloc, MAX_LANES as usize)?;
         for _lane in 0..MAX_LANES {
-            jobs.push(Vec::new(alloc))?;
+            jobs.push(VecDeque::new(alloc))?;
         }
         Ok(Lanes { jobs })
     }
@@ -33,7 +34,7 @@ impl RowSink<Job> for Lanes {
 
     fn push(&mut self, job: Job) -> Result<(), AllocError> {
         let lane = job.lane() as usize;
-        self.jobs[lane].push(job)?;
+        self.jobs[lane].push_back(job)?;
         Ok(())
     }
 }

@@ -1,15 +1,14 @@
-//! The CSV files of the machine: their parse, and the rows that answer them.
+//! CSV files of jobs, commands and schedules: their parsers, and the writers of the rows that answer them.
 //!
 //! `read_jobs`, `read_place` and `read_schedule` read a whole file and return its rows or its first
 //! fault; `read_lanes` returns the jobs lane by lane. One loop reads every format: a format checks
 //! a header and reads a record. One buffer writes every row: a `Row` has columns and fields, and
-//! `LineBuffer` writes their lines to a writer that is lent. A reader or writer is a `Device`,
-//! which counts its failed calls, and `Counted` makes one of any; a fault is the device's exactly
-//! where that count rose.
+//! `LineBuffer` writes their lines to a writer that is lent. A reader or writer is a `Device` of the
+//! crate `devices`, which counts its failed calls; a fault is the device's exactly where that count
+//! rose.
 #![tactic(auto)]
 
 mod columns;
-mod device;
 mod fault;
 mod fields;
 mod format;
@@ -30,8 +29,8 @@ mod schedule;
 mod writing;
 
 pub use cube_core::{Event, Refused};
-pub use device::{Counted, Device};
-pub use fault::{Fault, FaultKind, WriteStopped};
+pub use devices::{Counted, Device};
+pub use fault::{Fault, FaultKind, WriteError};
 pub use input::MAX_RECORDS;
 pub use job_types::{Job, JobRefused, Reply};
 pub use jobs::{read_jobs, read_lanes, read_lanes_with};

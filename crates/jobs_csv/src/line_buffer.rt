@@ -1,10 +1,9 @@
 // The lines of a file, buffered on their way to a writer that is lent.
 ghost use Rattle.std.specs.Prelude.{◌≡◌, [], ◌++◌, ℕ, List, IfOk, OnOk};
 ghost use Rattle.std.specs.Io.KnownBytes.{Appends, Keeps};
-ghost use Rattle.jobs_csv.specs.Inner.Output.{HasText, buffered, items_held};
 ghost use Rattle.jobs_csv.specs.Text.{line_of};
 
-use crate::fault::WriteStopped;
+use crate::fault::WriteError;
 use crate::row::{Row, RowFields};
 use csv::Writer;
 use std::alloc::{AllocError, Global};
@@ -37,34 +36,23 @@ impl Model for LineBuffer {
 }
 
 // Writes out all of a text.
-pub(crate) fn write_out<W: Write>(text: &[u8], writer: &mut W) -> Result<(), WriteStopped>
+fn write_out<W: Write>(text: &[u8], writer: &mut W) -> Result<(), WriteError>
     ensures { OnOk result (Appends (W.contents writer.old) (W.contents writer.new) text.now) }
 {
     if writer.write_all(text).is_err() {
-        return Err(WriteStopped);
+        return Err(WriteError);
     }
     Ok(())
 }
 
 // Flushes the writer.
-pub(crate) fn flush_writer<W: Write>(writer: &mut W) -> Result<(), WriteStopped>
+fn flush_writer<W: Write>(writer: &mut W) -> Result<(), WriteError>
     ensures { OnOk result (Keeps (W.contents writer.old) (W.contents writer.new)) }
 {
     if writer.flush().is_err() {
-        return Err(WriteStopped);
+        return Err(WriteError);
     }
     Ok(())
-}
-
-// The text that is buffered.
-fn text_of(buffer: Box<Writer<Vec<u8>>>) -> Result<Vec<u8>, AllocError>
-    requires { HasText items_held buffer.value (buffered buffer.value) }
-    ensures { IfOk result (λ text. text.items ≡ buffered buffer.value) }
-{
-    let Ok(text) = Box::into_inner(buffer).into_inner() else {
-        return Err(AllocError);
-    };
-    Ok(text)
 }
 
 impl LineBuffer {
@@ -104,7 +92,7 @@ impl LineBuffer {
         self,
         row: T,
         writer: &mut W,
-    ) -> Result<Self, WriteStopped>
+    ) -> Result<Self, WriteError>
         ensures { IfOk result (λ lines. (out : List ℕ)
             × Appends (W.contents writer.old) (W.contents writer.new) out
             × (out ++ lines ≡ self ++ line_of (T.fields row))) }
@@ -115,7 +103,7 @@ impl LineBuffer {
     }
 
     /// Writes out the buffered lines and empties the buffer.
-    pub fn flush<W: Write>(self, writer: &mut W) -> Result<Self, WriteStopped>
+    pub fn flush<W: Write>(self, writer: &mut W) -> Result<Self, WriteError>
         ensures written { OnOk result
             (Appends (W.contents writer.old) (W.contents writer.new) self) }
         ensures empty { IfOk result (λ lines. lines ≡ []) }
@@ -125,11 +113,13 @@ impl LineBuffer {
             fields,
             alloc,
         } = self;
-        let mut text = text_of(buffer)?;
+        let Ok(mut text) = Box::into_inner(buffer).into_inner() else {
+            return Err(WriteError);
+        };
         write_out(&text, writer)?;
         text.clear();
         let Ok(writer) = Box::new(alloc, Writer::from_writer(text)) else {
-            return Err(WriteStopped);
+            return Err(WriteError);
         };
         Ok(LineBuffer {
             writer,
@@ -138,15 +128,8 @@ impl LineBuffer {
         })
     }
 
-    /// The buffered lines.
-    pub fn into_text(self) -> Result<Vec<u8>, AllocError>
-        ensures { IfOk result (λ text. text.items ≡ self) }
-    {
-        text_of(self.writer)
-    }
-
     /// Writes out the buffered lines, as `flush` does, if the buffer is full.
-    pub fn flush_if_full<W: Write>(self, writer: &mut W) -> Result<Self, WriteStopped>
+    pub fn flush_if_full<W: Write>(self, writer: &mut W) -> Result<Self, WriteError>
         ensures { IfOk result (λ lines. (out : List ℕ)
             × Appends (W.contents writer.old) (W.contents writer.new) out
             × (out ++ lines ≡ self)) }
@@ -159,7 +142,7 @@ impl LineBuffer {
     }
 
     /// Writes out the last lines and flushes the writer.
-    pub fn finish<W: Write>(self, writer: &mut W) -> Result<(), WriteStopped>
+    pub fn finish<W: Write>(self, writer: &mut W) -> Result<(), WriteError>
         ensures { OnOk result (Appends (W.contents writer.old) (W.contents writer.new) self) }
     {
         let _empty = self.flush(writer)?;

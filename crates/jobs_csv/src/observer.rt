@@ -39,7 +39,7 @@ impl Observer for RecordCount {
 
 /// A collection of rows, and an observer that sees each row that is pushed.
 #[derive(Drop)]
-pub struct Observed<G, O> {
+pub(crate) struct Observed<G, O> {
     pub rows: G,
     pub observer: O,
 }

@@ -9,12 +9,12 @@ ghost use Rattle.jobs_csv.specs.Outcome.{ReturnsFile};
 ghost use Rattle.jobs_csv.specs.Place.{Fits, command_of, parse_commands, name_of};
 
 use crate::columns::{self, ThreeFields};
-use crate::device::Device;
 use crate::fault::{Fault, FaultKind};
 use crate::fields;
 use crate::format::{self, Format};
 use crate::name::Name;
 use csv::ByteRecord;
+use devices::Device;
 use std::alloc::Global;
 use std::io::Read;
 

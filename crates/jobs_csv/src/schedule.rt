@@ -9,11 +9,11 @@ ghost use Rattle.jobs_csv.specs.Outcome.{ReturnsFile};
 ghost use Rattle.jobs_csv.specs.Schedule.{HasValidCount, keyword_line, parse_schedule, schedule_line};
 
 use crate::columns::{self, ThreeFields};
-use crate::device::Device;
 use crate::fault::{Fault, FaultKind};
 use crate::fields;
 use crate::format::{self, Format};
 use csv::ByteRecord;
+use devices::Device;
 use std::alloc::Global;
 use std::io::Read;
 

@@ -1,9 +1,9 @@
 -- Views are dealt out when a gate is made, and come together when it ends.
 use Rattle.std.proofs.Common.{◌≡◌, ℕ, ◌≤◌, None, [], ◌∷◌, refl, arith}
 use Rattle.atomic_table.specs.Table.{opening, Splits, Joins}
-use Rattle.histories.specs.Sums.{is_at}
-use Rattle.histories.proofs.DealLemmas.{cut-all, cut-total, first-tied, one-tied}
-use Rattle.histories.proofs.ViewLemmas.{True, splits, joins}
+use Rattle.ghost_history.specs.Sums.{is_at}
+use Rattle.ghost_history.proofs.DealLemmas.{cut-all, cut-total, first-tied, one-tied}
+use Rattle.ghost_history.proofs.ViewLemmas.{True, splits, joins}
 use Rattle.cube_shape.specs.declared.limits.TheConstants.{MAX_LANES}
 use Rattle.line_gate.specs.declared.gate.Counts.{Counts}
 use Rattle.line_gate.specs.declared.view.View.{View}

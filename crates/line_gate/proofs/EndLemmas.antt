@@ -6,9 +6,9 @@ use native.Mathlib.Decide.{dec_le}
 use mathlib.Core.Option.{some}
 use lib.ListN.{get_elem?}
 use Rattle.atomic_table.specs.Table.{Seen, Final}
-use Rattle.histories.specs.Sums.{total, below, is_at}
-use Rattle.histories.proofs.SumLemmas.{total-below, is_at-same, is_at-other, below-same, below-zero}
-use Rattle.histories.proofs.ViewLemmas.{True, all_weaker, has_everyone}
+use Rattle.ghost_history.specs.Sums.{total, below, is_at}
+use Rattle.ghost_history.proofs.SumLemmas.{total-below, is_at-same, is_at-other, below-same, below-zero}
+use Rattle.ghost_history.proofs.ViewLemmas.{True, all_weaker, has_everyone}
 use Rattle.line_gate.specs.declared.gate.Counts.{Counts}
 use Rattle.line_gate.specs.declared.record.SettledEntry.{SettledEntry}
 use Rattle.line_gate.specs.declared.record.LaneEntries.{LaneEntries}

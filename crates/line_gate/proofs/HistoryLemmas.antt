@@ -4,9 +4,9 @@ use Rattle.std.proofs.lemmas.Bool.{true≢false}
 use Rattle.std.specs.List.{AllByRecursion}
 use mathlib.Core.Logic.{dite}
 use native.Mathlib.Decide.{ℕ_discrete}
-use Rattle.histories.specs.Sums.{total, below}
-use Rattle.histories.proofs.SumLemmas.{total-push, below-grows, below-same, below-zero, below-ones, below-plus, below-bounded}
-use Rattle.histories.proofs.ViewLemmas.{all_weaker, all_append}
+use Rattle.ghost_history.specs.Sums.{total, below}
+use Rattle.ghost_history.proofs.SumLemmas.{total-push, below-grows, below-same, below-zero, below-ones, below-plus, below-bounded}
+use Rattle.ghost_history.proofs.ViewLemmas.{all_weaker, all_append}
 use Rattle.cube_shape.specs.declared.limits.TheConstants.{MAX_ENTRIES}
 use Rattle.line_gate.specs.declared.gate.Counts.{Counts}
 use Rattle.line_gate.specs.declared.record.SettledEntry.{SettledEntry}

@@ -5,7 +5,7 @@ use Rattle.std.proofs.lemmas.Nat.{or_comm, or_shifted}
 use mathlib.Core.Option.{some, none}
 use lib.ListN.{get_elem?}
 use Rattle.atomic_table.specs.Table.{State, keeps, step, stepped, Allows}
-use Rattle.histories.proofs.ViewLemmas.{stays, steps}
+use Rattle.ghost_history.proofs.ViewLemmas.{stays, steps}
 use Rattle.line_gate.specs.declared.gate.TheConstants.{CLOSED}
 use Rattle.cube_shape.specs.declared.limits.TheConstants.{MAX_ENTRIES}
 use Rattle.line_gate.specs.declared.gate.Counts.{Counts}

@@ -1,6 +1,6 @@
 -- The entries of a gate and its close in one list, newest first.
 use Rattle.std.specs.Prelude.{◌≡◌, ℕ, ◌+◌, ◌<◌, Option, Some, None, List, [], ◌∷◌, ◌++◌, cond, ◌==◌}
-use Rattle.histories.specs.History.{Legal}
+use Rattle.ghost_history.specs.History.{Legal}
 
 pub data Entering : Type 0 where
   -- the lane made the entry of this number

@@ -1,6 +1,6 @@
 -- The records of lanes and passes at a gate, and what each step makes of them.
 use Rattle.std.specs.Prelude.{◌≡◌, ℕ, Bool, true, false, Some, None, List, [], ◌∷◌, ◌++◌}
-use Rattle.histories.specs.Lists.{numbered_from}
+use Rattle.ghost_history.specs.Lists.{numbered_from}
 use Rattle.line_gate.specs.declared.record.SettledEntry.{SettledEntry}
 use Rattle.line_gate.specs.declared.record.LaneEntries.{LaneEntries}
 use Rattle.line_gate.specs.declared.record.Reading.{Reading}

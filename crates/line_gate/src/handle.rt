@@ -3,7 +3,7 @@
 use crate::view::View;
 use std::marker::Model;
 
-pub type Seat = atomic_table::Seat<(), View>;
+pub(crate) type Seat = atomic_table::Seat<(), View>;
 
 /// The lanes and passes of a new gate that are not dealt out yet, and its closer.
 #[derive(Drop)]

@@ -1,5 +1,5 @@
-//! The gate of a line of jobs: two words, by which lanes enter and by which passes learn that the
-//! line has come to its end.
+//! The gate of a lock-free queue: two words, by which producers enter and by which consumers learn that the queue
+//! has ended.
 //!
 //! A lane enters by one step on the first word, which counts entries and has the closed mark, and
 //! settles its entry by one step on the second. Between the two the entry is a value of its own,

@@ -8,7 +8,7 @@ use crate::gate::Counts;
 use crate::view::View;
 use atomic_table::{Join, Play, Split, TableRule};
 
-pub struct GateRule;
+pub(crate) struct GateRule;
 
 impl TableRule<(), View, Counts> for GateRule {
     ghost holds = { Keeps };
@@ -16,58 +16,58 @@ impl TableRule<(), View, Counts> for GateRule {
     ghost first = { first_view };
 }
 
-pub struct Look;
+pub(crate) struct Look;
 
 impl Play<(), View> for Look {
     ghost then = { looks_at };
 }
 
-pub struct Enter;
+pub(crate) struct Enter;
 
 impl Play<(), View> for Enter {
     ghost then = { enters_at };
 }
 
-pub struct Undo;
+pub(crate) struct Undo;
 
 impl Play<(), View> for Undo {
     ghost then = { undoes_at };
 }
 
 // The entry is settled, and its job was accepted.
-pub struct SettleAccepted;
+pub(crate) struct SettleAccepted;
 
 impl Play<(), View> for SettleAccepted {
     ghost then = { settles_at true };
 }
 
 // The entry is settled, and the line was full.
-pub struct SettleFull;
+pub(crate) struct SettleFull;
 
 impl Play<(), View> for SettleFull {
     ghost then = { settles_at false };
 }
 
-pub struct Close;
+pub(crate) struct Close;
 
 impl Play<(), View> for Close {
     ghost then = { closes_at };
 }
 
-pub struct ReadSettled;
+pub(crate) struct ReadSettled;
 
 impl Play<(), View> for ReadSettled {
     ghost then = { reads_settled_at };
 }
 
-pub struct ReadGate;
+pub(crate) struct ReadGate;
 
 impl Play<(), View> for ReadGate {
     ghost then = { reads_gate_at };
 }
 
 // One lane's record is dealt out.
-pub struct DealLane;
+pub(crate) struct DealLane;
 
 impl Split<View> for DealLane {
     ghost left = { without_lane };
@@ -76,7 +76,7 @@ impl Split<View> for DealLane {
 }
 
 // One pass's record is dealt out.
-pub struct DealPass;
+pub(crate) struct DealPass;
 
 impl Split<View> for DealPass {
     ghost left = { without_pass };
@@ -85,7 +85,7 @@ impl Split<View> for DealPass {
 }
 
 // The records of two seats come together.
-pub struct Gather;
+pub(crate) struct Gather;
 
 impl Join<View> for Gather {
     ghost both = { joined };

@@ -3,12 +3,12 @@ use crate::record::{LaneEntries, PassReadings};
 use std::collections::LinkedList;
 
 // What the closer is known to have done.
-pub struct CloserRecord {
+pub(crate) struct CloserRecord {
     pub closed_at: Option<u64>,
 }
 
 // The records that the seat carries.
-pub struct View {
+pub(crate) struct View {
     pub lanes: LinkedList<LaneEntries>,
     pub passes: LinkedList<PassReadings>,
     pub closers: LinkedList<CloserRecord>,

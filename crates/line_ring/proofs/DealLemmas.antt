@@ -6,10 +6,10 @@ use mathlib.Core.Option.{some}
 use lib.ListN.{get_elem?}
 use Rattle.atomic_table.proofs.Lists.{at_set, at_snoc}
 use Rattle.crossbeam_queue.specs.Fifo.{Forks, Merges}
-use Rattle.histories.specs.Lists.{first_of, rest_of}
-use Rattle.histories.specs.Sums.{total, is_at}
-use Rattle.histories.proofs.DealLemmas.{only_view, in_cut, in_joined, first-tied, one-tied}
-use Rattle.histories.proofs.ViewLemmas.{True, splits, joins, nobody_else}
+use Rattle.ghost_history.specs.Lists.{first_of, rest_of}
+use Rattle.ghost_history.specs.Sums.{total, is_at}
+use Rattle.ghost_history.proofs.DealLemmas.{only_view, in_cut, in_joined, first-tied, one-tied}
+use Rattle.ghost_history.proofs.ViewLemmas.{True, splits, joins, nobody_else}
 use Rattle.cube_shape.specs.declared.limits.TheConstants.{MAX_LANES, MAX_PASSES}
 use Rattle.line_ring.specs.declared.record.LaneRecord.{LaneRecord}
 use Rattle.line_ring.specs.declared.record.PassRecord.{PassRecord}

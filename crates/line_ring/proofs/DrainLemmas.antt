@@ -5,10 +5,10 @@ use Rattle.std.specs.List.{AllByRecursion}
 use mathlib.Core.Logic.{dite}
 use native.Mathlib.Decide.{ℕ_discrete, dec_le}
 use Rattle.crossbeam_queue.specs.Fifo.{Held}
-use Rattle.histories.specs.Sums.{total, is_at}
-use Rattle.histories.proofs.SumLemmas.{total-append}
-use Rattle.histories.proofs.DealLemmas.{fresh-count, fresh-once}
-use Rattle.histories.proofs.ViewLemmas.{all_append, all_weaker}
+use Rattle.ghost_history.specs.Sums.{total, is_at}
+use Rattle.ghost_history.proofs.SumLemmas.{total-append}
+use Rattle.ghost_history.proofs.DealLemmas.{fresh-count, fresh-once}
+use Rattle.ghost_history.proofs.ViewLemmas.{all_append, all_weaker}
 use Rattle.cube_shape.specs.declared.limits.TheConstants.{MAX_LANES, MAX_PASSES}
 use Rattle.line_ring.specs.declared.record.LaneRecord.{LaneRecord}
 use Rattle.line_ring.specs.declared.record.PassRecord.{PassRecord}

@@ -4,16 +4,16 @@ use Rattle.std.specs.List.{AllByRecursion}
 use mathlib.Core.Option.{some}
 use lib.ListN.{get_elem?}
 use Rattle.crossbeam_queue.specs.Fifo.{Pops, Learns}
-use Rattle.histories.specs.Sums.{total, below}
-use Rattle.histories.proofs.SumLemmas.{total-below}
-use Rattle.histories.proofs.ViewLemmas.{True, all_weaker, has_everyone, steps, stays}
+use Rattle.ghost_history.specs.Sums.{total, below}
+use Rattle.ghost_history.proofs.SumLemmas.{total-below}
+use Rattle.ghost_history.proofs.ViewLemmas.{True, all_weaker, has_everyone, steps, stays}
 use Rattle.cube_shape.specs.declared.limits.TheConstants.{MAX_LANES, MAX_PASSES}
 use Rattle.line_ring.specs.declared.record.LaneRecord.{LaneRecord}
 use Rattle.line_ring.specs.declared.record.PassRecord.{PassRecord}
 use Rattle.line_ring.specs.declared.record.RestRecord.{RestRecord}
 use Rattle.line_ring.specs.declared.rule.View.{View}
 use Rattle.line_ring.specs.Record.{AreSeqs, Rises}
-use Rattle.histories.specs.Lists.{rest_of}
+use Rattle.ghost_history.specs.Lists.{rest_of}
 use Rattle.line_ring.specs.History.{drains, waiting, lane_part, pass_part, rest_part}
 use Rattle.line_ring.specs.Inner.View.{view, rest_record, lanes_in, passes_in, rests_in, lane_number, pass_number, rest_number, members}
 use Rattle.line_ring.specs.Inner.Rule.{Keeps}

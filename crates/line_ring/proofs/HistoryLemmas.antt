@@ -3,14 +3,14 @@ use Rattle.std.proofs.Common.{◌≡◌, ◌≢◌, ℕ, ◌+◌, ◌<◌, Bool,
 use Rattle.std.specs.List.{AllByRecursion}
 use mathlib.Core.Logic.{dite}
 use native.Mathlib.Decide.{ℕ_discrete}
-use Rattle.histories.specs.Sums.{total, below}
-use Rattle.histories.proofs.SumLemmas.{total-push, below-grows, below-zero}
-use Rattle.histories.proofs.ViewLemmas.{all_weaker, all_append}
+use Rattle.ghost_history.specs.Sums.{total, below}
+use Rattle.ghost_history.proofs.SumLemmas.{total-push, below-grows, below-zero}
+use Rattle.ghost_history.proofs.ViewLemmas.{all_weaker, all_append}
 use Rattle.cube_shape.specs.declared.limits.TheConstants.{MAX_LANES, MAX_PASSES}
 use Rattle.line_ring.specs.declared.record.LaneRecord.{LaneRecord}
 use Rattle.line_ring.specs.declared.record.PassRecord.{PassRecord}
 use Rattle.line_ring.specs.Record.{AreSeqs, Rises}
-use Rattle.histories.specs.Lists.{rest_of}
+use Rattle.ghost_history.specs.Lists.{rest_of}
 use Rattle.line_ring.specs.History.{Deed, accepts, takes_piece, drains, waiting, lane_after, lane_part, pass_after, pass_part, IsLegal, rest_part}
 use Rattle.line_ring.proofs.ListLemmas.{all-middle, leaves, seqs-push, Before, rises-push, rises-middle}
 

@@ -2,13 +2,13 @@
 use Rattle.std.proofs.Common.{◌≡◌, ℕ, ◌<◌, List, [], ◌∷◌, ◌++◌, length, set, sym, refl, ap, ◌∙◌, subst, arith}
 use mathlib.Core.Option.{some}
 use lib.ListN.{get_elem?}
-use Rattle.histories.proofs.DealLemmas.{in_changed}
-use Rattle.histories.proofs.ViewLemmas.{all_append, steps, stays}
+use Rattle.ghost_history.proofs.DealLemmas.{in_changed}
+use Rattle.ghost_history.proofs.ViewLemmas.{all_append, steps, stays}
 use Rattle.crossbeam_queue.specs.Fifo.{Pushes, Pops, Learns}
 use Rattle.line_ring.specs.declared.record.LaneRecord.{LaneRecord}
 use Rattle.line_ring.specs.declared.record.PassRecord.{PassRecord}
 use Rattle.line_ring.specs.declared.rule.View.{View}
-use Rattle.histories.specs.Lists.{rest_of}
+use Rattle.ghost_history.specs.Lists.{rest_of}
 use Rattle.line_ring.specs.History.{accepts, takes_piece, waiting, lane_part, pass_part, rest_part}
 use Rattle.line_ring.specs.Inner.View.{lane_in, pass_in, lane_view, pass_view, lanes_in, passes_in, rests_in, lane_number, pass_number, rest_number, members}
 use Rattle.line_ring.specs.Inner.Rule.{Keeps}

@@ -1,10 +1,10 @@
 -- Lists of pieces: a lane's seqs, and that they rise.
 use Rattle.std.proofs.Common.{◌≡◌, ℕ, ◌+◌, ◌<◌, Bool, true, false, cond, List, [], ◌∷◌, ◌++◌, length, append_assoc, sym, subst, arith}
 use Rattle.std.specs.List.{AllByRecursion}
-use Rattle.histories.specs.Sums.{total}
-use Rattle.histories.proofs.ViewLemmas.{all_append}
+use Rattle.ghost_history.specs.Sums.{total}
+use Rattle.ghost_history.proofs.ViewLemmas.{all_append}
 use Rattle.line_ring.specs.Record.{AreSeqs, Rises}
-use Rattle.histories.specs.Lists.{rest_of}
+use Rattle.ghost_history.specs.Lists.{rest_of}
 
 module _ {T : Type 0} where
   pub all-middle : (P : T → Type 0) (xs : List T) (y : T) (ys : List T) → AllByRecursion P (xs ++ y ∷ ys) → AllByRecursion P (xs ++ ys)

@@ -1,8 +1,8 @@
 -- The history of a ring: what was put in and taken out, newest first, and what it makes of each
 -- record.
 use Rattle.std.specs.Prelude.{◌≡◌, ℕ, ◌<◌, Bool, false, List, [], ◌∷◌, ◌++◌, length, ◌==◌}
-use Rattle.histories.specs.History.{part, Legal}
-use Rattle.histories.specs.Lists.{rest_of}
+use Rattle.ghost_history.specs.History.{part, Legal}
+use Rattle.ghost_history.specs.Lists.{rest_of}
 use Rattle.cube_shape.specs.declared.limits.TheConstants.{MAX_LANES, MAX_PASSES}
 use Rattle.line_ring.specs.declared.record.LaneRecord.{LaneRecord}
 use Rattle.line_ring.specs.declared.record.PassRecord.{PassRecord}

@@ -3,4 +3,4 @@ pub mod Ring
 pub mod History
 pub mod Run
 pub mod Inner
-pub use Rattle.histories.specs.Sums.{is_at, total}
+pub use Rattle.ghost_history.specs.Sums.{is_at, total}

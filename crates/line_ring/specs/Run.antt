@@ -1,7 +1,7 @@
 -- What the records of all lanes and passes of a ring say together, once it has come to its end.
 use Rattle.std.specs.Prelude.{◌≡◌, ℕ, ◌+◌, ◌≤◌, List, [], ◌++◌, length}
 use Rattle.std.specs.List.{AllByRecursion as Each}
-use Rattle.histories.specs.Sums.{total}
+use Rattle.ghost_history.specs.Sums.{total}
 use Rattle.line_ring.specs.declared.record.LaneRecord.{LaneRecord}
 use Rattle.line_ring.specs.declared.record.PassRecord.{PassRecord}
 use Rattle.line_ring.specs.Record.{fresh_lane, fresh_pass, AreSeqs, Rises}

@@ -1,7 +1,7 @@
 // The end of a ring.
 ghost use Rattle.std.specs.Prelude.{◌≡◌, ℕ, ◌<◌, ◌≤◌, length};
 ghost use Rattle.std.specs.List.{All};
-ghost use Rattle.histories.specs.Sums.{total, is_at};
+ghost use Rattle.ghost_history.specs.Sums.{total, is_at};
 ghost use Rattle.line_ring.specs.Run.{RingRun};
 
 use crate::handle::RingEnd;

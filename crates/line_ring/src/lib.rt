@@ -1,4 +1,4 @@
-//! The ring of a line: pieces of work wait in it, first in and first out, with no lock.
+//! The ring buffer of a lock-free queue: a bounded first-in first-out queue for many producers and many consumers.
 //!
 //! Pieces come in by lanes and are taken by passes. Each lane and each pass has a record of what it
 //! has put in or taken, which only its own calls change. Once all of them have come back, the ring

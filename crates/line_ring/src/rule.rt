@@ -10,7 +10,7 @@ use std::collections::LinkedList;
 use std::marker::PhantomData;
 
 // What a seat of a ring knows. No value of it is made.
-pub struct View<T> {
+pub(crate) struct View<T> {
     // The dimension of the machine that the pieces are for.
     pub machine: u32,
     // The records of lanes that were not dealt, and of those that were.
@@ -23,7 +23,7 @@ pub struct View<T> {
     pub rests: LinkedList<RestRecord<T>>,
 }
 
-pub struct RingRule<T> {
+pub(crate) struct RingRule<T> {
     piece: PhantomData<T>,
 }
 
@@ -37,7 +37,7 @@ impl<T: Piece> Protocol<T, View<T>> for RingRule<T> {
 }
 
 // A lane puts a piece in, or learns that the ring is full.
-pub struct Put;
+pub(crate) struct Put;
 
 impl<T: Piece> Outcome<T, View<T>> for Put {
     ghost then = { λ before piece after. after ≡ after_push before piece };
@@ -48,7 +48,7 @@ impl<T: Piece> Lesson<T, View<T>> for Put {
 }
 
 // A pass takes a piece, or learns that there is none.
-pub struct Take;
+pub(crate) struct Take;
 
 impl<T: Piece> Outcome<T, View<T>> for Take {
     ghost then = { Takes T.is_for };
@@ -59,7 +59,7 @@ impl<T: Piece> Lesson<T, View<T>> for Take {
 }
 
 // A piece comes out at the end, or all have come out.
-pub struct Drain;
+pub(crate) struct Drain;
 
 impl<T: Piece> Outcome<T, View<T>> for Drain {
     ghost then = { Drains T.lane T.seq T.is_for };
@@ -70,7 +70,7 @@ impl<T: Piece> Lesson<T, View<T>> for Drain {
 }
 
 // The pieces to come are for the machine of the next dimension.
-pub struct NextMachine;
+pub(crate) struct NextMachine;
 
 impl<T> Split<View<T>> for NextMachine {
     ghost left = { for_next_machine };
@@ -79,7 +79,7 @@ impl<T> Split<View<T>> for NextMachine {
 }
 
 // One lane's record is dealt out.
-pub struct DealLane;
+pub(crate) struct DealLane;
 
 impl<T> Split<View<T>> for DealLane {
     ghost left = { without_lane };
@@ -88,7 +88,7 @@ impl<T> Split<View<T>> for DealLane {
 }
 
 // One pass's record is dealt out.
-pub struct DealPass;
+pub(crate) struct DealPass;
 
 impl<T> Split<View<T>> for DealPass {
     ghost left = { without_pass };
@@ -97,7 +97,7 @@ impl<T> Split<View<T>> for DealPass {
 }
 
 // The records of two seats come together.
-pub struct Gather;
+pub(crate) struct Gather;
 
 impl<T> Join<View<T>> for Gather {
     ghost both = { joined };

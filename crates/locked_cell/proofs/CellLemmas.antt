@@ -7,9 +7,9 @@ use lib.ListN.{get_elem?}
 use lib.Seq.{set-get_or}
 use Rattle.atomic_table.specs.Table.{State, Me, Act, keeps, takes, gives, Valid, carried_after, step, stepped, opening}
 use Rattle.atomic_table.proofs.Lists.{set_here, set_again, exchanged}
-use Rattle.histories.specs.Sums.{total}
-use Rattle.histories.proofs.SumLemmas.{total-set, total-push, term_le, positive_term}
-use Rattle.histories.proofs.DealLemmas.{only_view, in_changed, in_cut, in_joined}
+use Rattle.ghost_history.specs.Sums.{total}
+use Rattle.ghost_history.proofs.SumLemmas.{total-set, total-push, term_le, positive_term}
+use Rattle.ghost_history.proofs.DealLemmas.{only_view, in_changed, in_cut, in_joined}
 use Rattle.locked_cell.specs.Cell.{out_of, is_out, IsCell, takes_at_0, MayTry}
 
 -- a step that leaves the word and the view as they are changes nothing

@@ -4,7 +4,7 @@ use mathlib.Core.Option.{some, none}
 use lib.ListN.{get_elem?}
 use prog.Atomic.{either}
 use Rattle.atomic_table.specs.Table.{State, Me, Step, step, Allows, Seen}
-use Rattle.histories.specs.Sums.{total}
+use Rattle.ghost_history.specs.Sums.{total}
 
 -- 1 where there is a value
 abbrev pub out_of : {S : Type 0} → Option S → ℕ

@@ -6,7 +6,7 @@ ghost use Rattle.locked_cell.specs.Cell.{Took, MayTry, Leaves};
 
 use crate::rule::{CellRule, Enter};
 use atomic_table::{Join, Play, Refused, Seat, Split, Table};
-use pause::Pause;
+use backoff::Pause;
 use std::alloc::{AllocError, Global};
 use std::hint::spin_loop;
 use std::sync::{Mutex, Wait};

@@ -12,7 +12,7 @@ pub trait CellRule<S, V, K>: TableRule<S, V, K> {
 }
 
 // A seat tries to take the value.
-pub struct Enter<K, R> {
+pub(crate) struct Enter<K, R> {
     rule: PhantomData<(K, R)>,
 }
 

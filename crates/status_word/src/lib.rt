@@ -1,4 +1,4 @@
-//! The status words of the tree of aligned regions.
+//! The status words of the block allocator's tree: their bits, tests and text.
 //!
 //! Each node of the tree has a word of 64 bits. Bit 0 (OCC) says that the node's own region is
 //! given out, bits 1 and 2 (LEFT and RIGHT) that something in the left or the right half may be,

@@ -4,7 +4,7 @@ pub mod WalkLemmas
 mod ClosedLemmas
 pub mod SeatLemmas
 pub mod BoundLemmas
-pub mod GlanceLemmas
+pub mod PeekLemmas
 pub mod OnceLemmas
 pub mod AloneLemmas
 mod ReadLemmas

@@ -11,7 +11,7 @@ use Rattle.cube_core.specs.Event.{Transition}
 use Rattle.cube_core.specs.Schedule.{Record, State, AreOneEvent, record_of, word_of, initial, apply_event}
 use Rattle.cube_core.proofs.RunningLemmas.{apply_all-append, apply_all_dim, initial_stations}
 use Rattle.tree_steps.specs.declared.view.Entry.{Entry}
-use Rattle.tree_steps.specs.declared.view.Glance.{Glance}
+use Rattle.tree_steps.specs.declared.view.Peek.{Peek}
 use Rattle.tree_steps.specs.declared.view.View.{View}
 use Rattle.tree_steps.specs.declared.view.Size.{Size}
 use Rattle.tree_steps.specs.Rule.{record_in, others, times, times_in, world_after, IsEntryOf, WasSeen, WasWord, IsView, IsRuled}
@@ -67,14 +67,14 @@ module _ (k : Size) (news acts : List Act) (s : ℕ) (r : Record) (d : Transitio
       append_again [] ys zs = refl
       append_again (x ∷ xs) ys zs = ap (λ l. x ∷ l) (append_again xs ys zs)
 
-  glances_kept : (glances : List Glance) → All (WasSeen k acts) glances → All (WasSeen k (news ++ acts)) glances
-  glances_kept glances had = All-weaker (WasSeen k acts) (WasSeen k (news ++ acts)) (λ g. word_kept g.node g.word) glances had
+  peeks_kept : (peeks : List Peek) → All (WasSeen k acts) peeks → All (WasSeen k (news ++ acts)) peeks
+  peeks_kept peeks had = All-weaker (WasSeen k acts) (WasSeen k (news ++ acts)) (λ g. word_kept g.node g.word) peeks had
 
   loads_kept : (loads : List ℕ) → All (WasWord k acts 0) loads → All (WasWord k (news ++ acts) 0) loads
   loads_kept loads had = All-weaker (WasWord k acts 0) (WasWord k (news ++ acts) 0) (word_kept 0) loads had
 
   entry_else : (e : Entry) → e.station ≢ s → IsEntryOf k acts e → IsEntryOf k (news ++ acts) e
-  entry_else e other had = (had.0, record_else e.station other ∙ had.1, glances_kept e.glances had.2)
+  entry_else e other had = (had.0, record_else e.station other ∙ had.1, peeks_kept e.peeks had.2)
 
   entries_else : (entries : List Entry) → times s entries ≡ 0 → All (IsEntryOf k acts) entries → All (IsEntryOf k (news ++ acts)) entries
   entries_else [] none had = All-nil (IsEntryOf k (news ++ acts))
@@ -157,7 +157,7 @@ plays_reading k slots id v c e rest news d node f then is one at writes told = s
           stations = All-cons (IsEntryOf k (news ++ acts)) (entry_after d found e) rest (
             mine.0,
             subst (λ x. record_of (world_after k (news ++ acts)) e.station ≡ record { phase = d.next x; trail = d.events x ++ e.trail }) word (record_next k news acts e.station (record_in e) d one mine.0 mine.1),
-            glances_kept k news acts e.station (record_in e) d one mine.0 mine.1 e.glances mine.2,
+            peeks_kept k news acts e.station (record_in e) d one mine.0 mine.1 e.peeks mine.2,
           )
               (entries_else k news acts e.station (record_in e) d one mine.0 mine.1 rest only (All-tail (IsEntryOf k acts) e rest entries));
           loads = loads_kept k news acts e.station (record_in e) d one mine.0 mine.1 v.loads had.loads;

@@ -1,5 +1,5 @@
 -- What holds between any two steps: some schedule of the tree as a pure machine leads to these words and
--- phases, the trail of each station is its events in that schedule, and its glances found words of it.
+-- phases, the trail of each station is its events in that schedule, and its peeks found words of it.
 use Rattle.std.specs.Prelude.{◌≡◌, ℕ, zero, suc, ◌+◌, ◌<◌, ◌≤◌, ◌==◌, if◌then◌else◌, true, false, List, [], ◌∷◌, ◌++◌, All}
 use Rattle.atomic_table.specs.Table.{State as Table}
 use Rattle.cube_core.specs.declared.act.Act.{Act}
@@ -7,7 +7,7 @@ use Rattle.cube_core.specs.declared.phase.Phase.TheVariants.{Idle, Retired}
 use Rattle.cube_core.specs.Phase.{IsAtRest}
 use Rattle.cube_core.specs.Schedule.{Record, State, record_of, word_of, initial, apply_all}
 use Rattle.tree_steps.specs.declared.view.Entry.{Entry}
-use Rattle.tree_steps.specs.declared.view.Glance.{Glance}
+use Rattle.tree_steps.specs.declared.view.Peek.{Peek}
 use Rattle.tree_steps.specs.declared.view.View.{View}
 use Rattle.tree_steps.specs.declared.view.Size.{Size}
 
@@ -17,7 +17,7 @@ record_in e = record { phase = e.phase; trail = e.trail }
 
 -- the first entry, and the others
 abbrev pub first : List Entry → Entry
-first [] = record { station = 0; phase = Retired; trail = []; glances = [] }
+first [] = record { station = 0; phase = Retired; trail = []; peeks = [] }
 first (e ∷ rest) = e
 
 abbrev pub others : List Entry → List Entry
@@ -44,13 +44,15 @@ pub record WasWord (k : Size) (acts : List Act) (v x : ℕ) : Type 0 where
   pub split : acts ≡ later ++ earlier
   pub found : word_of (world_after k earlier) v ≡ x
 
--- the glance found the word of its node as it was then
-abbrev pub WasSeen : Size → List Act → Glance → Type 0
+-- the peek found the word of its node as it was then
+abbrev pub WasSeen : Size → List Act → Peek → Type 0
 WasSeen k acts g = WasWord k acts g.node g.word
 
--- the entry is the record of its station, whose glances found words of the schedule
+-- the entry is the record of its station, whose peeks found words of the schedule
 abbrev pub IsEntryOf : Size → List Act → Entry → Type 0
-IsEntryOf k acts e = (e.station < k.stations) × (record_of (world_after k acts) e.station ≡ record_in e) × All (WasSeen k acts) e.glances
+IsEntryOf k acts e =
+    (e.station < k.stations) × (record_of (world_after k acts) e.station ≡ record_in e)
+    × All (WasSeen k acts) e.peeks
 
 -- all stations below the count are here, each once, and all but the first are at rest
 pub record AreAll (count : ℕ) (entries : List Entry) : Type 0 where
@@ -73,7 +75,7 @@ pub record IsRuled (k : Size) (t : Table (Unit {0}) View) : Type 0 where
 
 -- the view of the first seat: all stations are with it, idle and with no event
 abbrev pub idle_entry : ℕ → Entry
-idle_entry s = record { station = s; phase = Idle; trail = []; glances = [] }
+idle_entry s = record { station = s; phase = Idle; trail = []; peeks = [] }
 
 abbrev pub idle_entries : ℕ → ℕ → List Entry
 idle_entries s zero = []

@@ -10,7 +10,7 @@ use Rattle.cube_core.specs.declared.event.Note.{Note}
 use Rattle.cube_core.specs.Event.{Transition, transition, retirement}
 use Rattle.status_word.specs.Word.{IsSet}
 use Rattle.tree_steps.specs.declared.view.Entry.{Entry}
-use Rattle.tree_steps.specs.declared.view.Glance.{Glance}
+use Rattle.tree_steps.specs.declared.view.Peek.{Peek}
 use Rattle.tree_steps.specs.declared.view.View.{View}
 use Rattle.tree_steps.specs.Rule.{first, others}
 
@@ -32,14 +32,20 @@ with_first e m = (record m.0 { stations = put_first e m.0.stations }, m.1)
 
 -- an entry after an event of its station, and after the beginning of something
 abbrev pub entry_after : Transition → ℕ → Entry → Entry
-entry_after d found e = record { station = e.station; phase = d.next found; trail = d.events found ++ e.trail; glances = e.glances }
+entry_after d found e = record {
+  station = e.station;
+  phase = d.next found;
+  trail = d.events found ++ e.trail;
+  peeks = e.peeks;
+}
 
 abbrev pub entry_in : Phase → Entry → Entry
-entry_in p e = record { station = e.station; phase = p; trail = e.trail; glances = e.glances }
+entry_in p e = record { station = e.station; phase = p; trail = e.trail; peeks = e.peeks }
 
--- an entry after these glances, the newest first
-abbrev pub with_glances : List Glance → Entry → Entry
-with_glances new e = record { station = e.station; phase = e.phase; trail = e.trail; glances = new ++ e.glances }
+-- an entry after these peeks, the newest first
+abbrev pub with_peeks : List Peek → Entry → Entry
+with_peeks new e =
+    record { station = e.station; phase = e.phase; trail = e.trail; peeks = new ++ e.peeks }
 
 -- the first station begins something, and makes the event of its phase, and retires
 abbrev pub begin : Phase → Known → Known
@@ -51,9 +57,10 @@ step_at found m = with_first (entry_after (transition (first_of m).station (firs
 abbrev pub retire_at : ℕ → Known → Known
 retire_at found m = with_first (entry_after (retirement (first_of m).station) found (first_of m)) m
 
--- the first station notes that a glance at a node found this word
-abbrev pub glance_at : ℕ → ℕ → Known → Known
-glance_at node found m = with_first (with_glances (record { node = node; word = found } ∷ []) (first_of m)) m
+-- the first station notes that a peek at a node found this word
+abbrev pub peek_at : ℕ → ℕ → Known → Known
+peek_at node found m =
+    with_first (with_peeks (record { node = node; word = found } ∷ []) (first_of m)) m
 
 -- the seat after the events of the first station that find these words, the newest first
 abbrev pub steps_at : List ℕ → Known → Known
@@ -120,8 +127,8 @@ abbrev pub keeps_load : Telling
 keeps_load step before found after = step.word ≡ 0 → KeepsLoad before found after
 
 -- what a load of a node's word found is noted
-abbrev pub notes_glance : Telling
-notes_glance step before found after = after ≡ glance_at step.word found before
+abbrev pub notes_peek : Telling
+notes_peek step before found after = after ≡ peek_at step.word found before
 
 -- two stations that hold regions are not on one path
 abbrev pub AreOffPath : Entry → Entry → Type 0

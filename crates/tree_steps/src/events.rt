@@ -27,20 +27,20 @@ fn bit_of_retirement(station: u32) -> u64
 
 impl Tree {
     /// A load of the node that a take is about: its word, if it is free.
-    pub fn look(&self, seat: &mut Seat, node: u64) -> Option<u64>
+    pub fn look(&self, seat: &mut Seat, node: Node) -> Option<u64>
         requires seat { seat.old.table_id ≡ id_of self.now }
         requires phase { IsAt seat.old.me Phase.Idle }
-        requires node { IsInCube (dim_of self.now) node }
+        requires node { IsInCube (dim_of self.now) node.0 }
         ensures seat { seat.new.table_id ≡ seat.old.table_id }
-        ensures walks { Walks (begin (Phase.Looking node) seat.old.me) seat.new.me }
+        ensures walks { Walks (begin (Phase.Looking node.0) seat.old.me) seat.new.me }
         ensures phase { MatchOption result (IsAt seat.new.me Phase.Idle)
-            (λ word. IsAt seat.new.me (Phase.Looked node word)) }
-        ensures refused { IfNone result (Answered Kind.Look node Note.InUse (first_of seat.old.me)
+            (λ word. IsAt seat.new.me (Phase.Looked node.0 word)) }
+        ensures refused { IfNone result (Answered Kind.Look node.0 Note.InUse (first_of seat.old.me)
             (first_of seat.new.me)) }
         ensures exact { IsAlone seat.old.me → MatchOption result
-            (IsBlocked node (others seat.old.me.0.stations)) (λ word. word ≡ 0) }
+            (IsBlocked node.0 (others seat.old.me.0.stations)) (λ word. word ≡ 0) }
     {
-        let word = self.table.shared.load::<Look>(seat, node as usize);
+        let word = self.table.shared.load::<Look>(seat, node.0 as usize);
         if Word(word).is_free() {
             Some(word)
         } else {
@@ -49,114 +49,119 @@ impl Tree {
     }
 
     /// One exchange of the word that the look found: whether it was won.
-    pub fn claim(&self, seat: &mut Seat, node: u64, word: u64) -> bool
+    pub fn claim(&self, seat: &mut Seat, node: Node, word: u64) -> bool
         requires seat { seat.old.table_id ≡ id_of self.now }
-        requires phase { IsAt seat.old.me (Phase.Looked node word) }
-        requires node { IsInCube (dim_of self.now) node }
+        requires phase { IsAt seat.old.me (Phase.Looked node.0 word) }
+        requires node { IsInCube (dim_of self.now) node.0 }
         ensures seat { seat.new.table_id ≡ seat.old.table_id }
         ensures walks { Walks seat.old.me seat.new.me }
-        ensures phase { MatchBool result (IsAt seat.new.me (phase_after_raise node node))
+        ensures phase { MatchBool result (IsAt seat.new.me (phase_after_raise node.0 node.0))
             (IsAt seat.new.me Phase.Idle) }
-        ensures refused { OnFalse result (Answered Kind.Claim node Note.Lost (first_of seat.old.me)
-            (first_of seat.new.me)) }
+        ensures refused { OnFalse result (
+            Answered Kind.Claim node.0 Note.Lost (first_of seat.old.me) (first_of seat.new.me)) }
         ensures exact { IsAlone seat.old.me → word ≡ 0
-            → OnFalse result (IsBlocked node (others seat.old.me.0.stations)) }
+            → OnFalse result (IsBlocked node.0 (others seat.old.me.0.stations)) }
     {
         self.table
             .shared
-            .compare_exchange::<Learn>(seat, node as usize, word, Word::BUSY.0)
+            .compare_exchange::<Learn>(seat, node.0 as usize, word, Word::BUSY.0)
             == word
     }
 
     /// All marks of an ancestor go, before the side is raised there.
-    pub fn sweep(&self, seat: &mut Seat, _node: u64, at: u64)
+    pub fn sweep(&self, seat: &mut Seat, _node: Node, at: Node)
         requires seat { seat.old.table_id ≡ id_of self.now }
-        requires phase { IsAt seat.old.me (Phase.Climbing _node at) }
-        requires node { IsInCube (dim_of self.now) at }
+        requires phase { IsAt seat.old.me (Phase.Climbing _node.0 at.0) }
+        requires node { IsInCube (dim_of self.now) at.0 }
         ensures seat { seat.new.table_id ≡ seat.old.table_id }
         ensures walks { Walks seat.old.me seat.new.me }
-        ensures phase { IsAt seat.new.me (Phase.Swept _node at) }
+        ensures phase { IsAt seat.new.me (Phase.Swept _node.0 at.0) }
     {
         self.table
             .shared
-            .fetch_and::<Next>(seat, at as usize, USE_BITS);
+            .fetch_and::<Next>(seat, at.0 as usize, USE_BITS);
     }
 
     /// The side towards the node is set at an ancestor: whether that was not occupied.
-    pub fn raise(&self, seat: &mut Seat, node: u64, at: u64) -> bool
+    pub fn raise(&self, seat: &mut Seat, node: Node, at: Node) -> bool
         requires seat { seat.old.table_id ≡ id_of self.now }
-        requires phase { IsAt seat.old.me (Phase.Swept node at) }
-        requires node { IsInCube (dim_of self.now) at }
-        requires above { at < node }
-        requires on_path { OnPath at node }
+        requires phase { IsAt seat.old.me (Phase.Swept node.0 at.0) }
+        requires node { IsInCube (dim_of self.now) at.0 }
+        requires above { at.0 < node.0 }
+        requires on_path { OnPath at.0 node.0 }
         ensures seat { seat.new.table_id ≡ seat.old.table_id }
         ensures walks { Walks seat.old.me seat.new.me }
-        ensures phase { MatchBool result (IsAt seat.new.me (phase_after_raise node at))
-            (IsAt seat.new.me (Phase.Backing node at)) }
-        ensures refused { OnFalse result (Answered Kind.Raise at Note.Under (first_of seat.old.me)
+        ensures phase { MatchBool result (IsAt seat.new.me (phase_after_raise node.0 at.0))
+            (IsAt seat.new.me (Phase.Backing node.0 at.0)) }
+        ensures refused { OnFalse result (Answered Kind.Raise at.0 Note.Under (first_of seat.old.me)
             (first_of seat.new.me)) }
         ensures holder { IsAlone seat.old.me
-            → OnFalse result (HasHolder at (others seat.old.me.0.stations)) }
+            → OnFalse result (HasHolder at.0 (others seat.old.me.0.stations)) }
     {
-        let bit = Word::side_mask(side(child_towards(Node(at), Node(node))));
+        let bit = Word::side_mask(side(child_towards(at, node)));
         let found = self
             .table
             .shared
-            .fetch_or::<Learn>(seat, at as usize, bit.0);
+            .fetch_or::<Learn>(seat, at.0 as usize, bit.0);
         !Word(found).is_occupied()
     }
 
     /// The node of a region that is held is given back.
-    pub fn zero_held(&self, seat: &mut Seat, node: u64)
+    pub fn zero_held(&self, seat: &mut Seat, node: Node)
         requires seat { seat.old.table_id ≡ id_of self.now }
-        requires phase { IsAt seat.old.me (Phase.Holding node) }
-        requires node { IsInCube (dim_of self.now) node }
+        requires phase { IsAt seat.old.me (Phase.Holding node.0) }
+        requires node { IsInCube (dim_of self.now) node.0 }
         ensures seat { seat.new.table_id ≡ seat.old.table_id }
-        ensures walks { Walks (begin (Phase.Leaving node) seat.old.me) seat.new.me }
-        ensures phase { IsAt seat.new.me (phase_after_zero node) }
+        ensures walks { Walks (begin (Phase.Leaving node.0) seat.old.me) seat.new.me }
+        ensures phase { IsAt seat.new.me (phase_after_zero node.0) }
     {
-        self.table.shared.store::<Zero>(seat, node as usize, 0);
+        self.table.shared.store::<Zero>(seat, node.0 as usize, 0);
     }
 
     /// A node is given back that an occupied ancestor stands above.
-    pub fn zero_back(&self, seat: &mut Seat, node: u64, _at: u64)
+    pub fn zero_back(&self, seat: &mut Seat, node: Node, _at: Node)
         requires seat { seat.old.table_id ≡ id_of self.now }
-        requires phase { IsAt seat.old.me (Phase.Backing node _at) }
-        requires node { IsInCube (dim_of self.now) node }
+        requires phase { IsAt seat.old.me (Phase.Backing node.0 _at.0) }
+        requires node { IsInCube (dim_of self.now) node.0 }
         ensures seat { seat.new.table_id ≡ seat.old.table_id }
         ensures walks { Walks seat.old.me seat.new.me }
-        ensures phase { IsAt seat.new.me (phase_after_zero node) }
+        ensures phase { IsAt seat.new.me (phase_after_zero node.0) }
     {
-        self.table.shared.store::<Next>(seat, node as usize, 0);
+        self.table.shared.store::<Next>(seat, node.0 as usize, 0);
     }
 
     /// All marks of a node on the way up after a node was given back go.
-    pub fn unmark(&self, seat: &mut Seat, at: u64)
+    pub fn unmark(&self, seat: &mut Seat, at: Node)
         requires seat { seat.old.table_id ≡ id_of self.now }
-        requires phase { IsAt seat.old.me (Phase.Arriving at) }
-        requires node { IsInCube (dim_of self.now) at }
+        requires phase { IsAt seat.old.me (Phase.Arriving at.0) }
+        requires node { IsInCube (dim_of self.now) at.0 }
         ensures seat { seat.new.table_id ≡ seat.old.table_id }
         ensures walks { Walks seat.old.me seat.new.me }
-        ensures phase { IsAt seat.new.me (Phase.Unmarked at) }
+        ensures phase { IsAt seat.new.me (Phase.Unmarked at.0) }
     {
         let kept = USE_BITS;
-        self.table.shared.fetch_and::<Next>(seat, at as usize, kept);
+        self.table
+            .shared
+            .fetch_and::<Next>(seat, at.0 as usize, kept);
     }
 
     /// The station's mark is set: the word that it made, unless the node is occupied.
-    pub fn mark(&self, seat: &mut Seat, station: u32, at: u64) -> Option<u64>
+    pub fn mark(&self, seat: &mut Seat, station: u32, at: Node) -> Option<u64>
         requires seat { seat.old.table_id ≡ id_of self.now }
-        requires phase { IsAt seat.old.me (Phase.Unmarked at) }
+        requires phase { IsAt seat.old.me (Phase.Unmarked at.0) }
         requires station { (first_of seat.old.me).station ≡ station }
         requires limit { station < MAX_STATIONS }
-        requires node { IsInCube (dim_of self.now) at }
+        requires node { IsInCube (dim_of self.now) at.0 }
         ensures seat { seat.new.table_id ≡ seat.old.table_id }
         ensures walks { Walks seat.old.me seat.new.me }
         ensures phase { MatchOption result (IsAt seat.new.me Phase.Idle)
-            (λ word. IsAt seat.new.me (Phase.Marked at word Seen.NotYet Seen.NotYet)) }
+            (λ word. IsAt seat.new.me (Phase.Marked at.0 word Seen.NotYet Seen.NotYet)) }
     {
         let bit = Word::mark_mask(station);
-        let found = self.table.shared.fetch_or::<Next>(seat, at as usize, bit.0);
+        let found = self
+            .table
+            .shared
+            .fetch_or::<Next>(seat, at.0 as usize, bit.0);
         if Word(found).is_occupied() {
             None
         } else {
@@ -165,50 +170,50 @@ impl Tree {
     }
 
     /// A load of the left child of the node where the station is marked.
-    pub fn look_left(&self, seat: &mut Seat, at: u64, _word: u64) -> Seen
+    pub fn look_left(&self, seat: &mut Seat, at: Node, _word: u64) -> Seen
         requires seat { seat.old.table_id ≡ id_of self.now }
-        requires phase { IsAt seat.old.me (Phase.Marked at _word Seen.NotYet Seen.NotYet) }
-        requires node { 2 * at + 1 < 2 ^ (dim_of self.now + 1) }
+        requires phase { IsAt seat.old.me (Phase.Marked at.0 _word Seen.NotYet Seen.NotYet) }
+        requires node { 2 * at.0 + 1 < 2 ^ (dim_of self.now + 1) }
         ensures seat { seat.new.table_id ≡ seat.old.table_id }
         ensures walks { Walks seat.old.me seat.new.me }
-        ensures phase { IsAt seat.new.me (Phase.Marked at _word result Seen.NotYet) }
+        ensures phase { IsAt seat.new.me (Phase.Marked at.0 _word result Seen.NotYet) }
         ensures seen { result ≢ Seen.NotYet }
     {
-        Seen::of(Word(self.table.shared.load::<Next>(seat, 2 * at as usize)))
+        Seen::of(Word(self.table.shared.load::<Next>(seat, 2 * at.0 as usize)))
     }
 
     /// A load of the right child, once the left one was seen.
-    pub fn look_right(&self, seat: &mut Seat, at: u64, _word: u64, _left: Seen) -> Seen
+    pub fn look_right(&self, seat: &mut Seat, at: Node, _word: u64, _left: Seen) -> Seen
         requires seat { seat.old.table_id ≡ id_of self.now }
-        requires phase { IsAt seat.old.me (Phase.Marked at _word _left Seen.NotYet) }
+        requires phase { IsAt seat.old.me (Phase.Marked at.0 _word _left Seen.NotYet) }
         requires left { _left ≢ Seen.NotYet }
-        requires node { 2 * at + 1 < 2 ^ (dim_of self.now + 1) }
+        requires node { 2 * at.0 + 1 < 2 ^ (dim_of self.now + 1) }
         ensures seat { seat.new.table_id ≡ seat.old.table_id }
         ensures walks { Walks seat.old.me seat.new.me }
-        ensures phase { IsAt seat.new.me (Phase.Marked at _word _left result) }
+        ensures phase { IsAt seat.new.me (Phase.Marked at.0 _word _left result) }
         ensures seen { result ≢ Seen.NotYet }
     {
-        Seen::of(Word(self.table.shared.load::<Next>(seat, 2 * at as usize + 1)))
+        Seen::of(Word(self.table.shared.load::<Next>(seat, 2 * at.0 as usize + 1)))
     }
 
     /// One exchange of the word that the mark made for the word without its marks and without each
     /// side whose child was seen free: whether the node has become free by it.
-    pub fn clear(&self, seat: &mut Seat, at: u64, word: u64, left: Seen, right: Seen) -> bool
+    pub fn clear(&self, seat: &mut Seat, at: Node, word: u64, left: Seen, right: Seen) -> bool
         requires seat { seat.old.table_id ≡ id_of self.now }
-        requires phase { IsAt seat.old.me (Phase.Marked at word left right) }
+        requires phase { IsAt seat.old.me (Phase.Marked at.0 word left right) }
         requires left { left ≢ Seen.NotYet }
         requires right { right ≢ Seen.NotYet }
-        requires node { IsInCube (dim_of self.now) at }
+        requires node { IsInCube (dim_of self.now) at.0 }
         ensures seat { seat.new.table_id ≡ seat.old.table_id }
         ensures walks { Walks seat.old.me seat.new.me }
-        ensures phase { MatchBool result (IsAt seat.new.me (phase_after_zero at))
+        ensures phase { MatchBool result (IsAt seat.new.me (phase_after_zero at.0))
             (IsAt seat.new.me Phase.Idle) }
     {
         let cleared = Word(word).cleared(left.is_free(), right.is_free());
         let found = self
             .table
             .shared
-            .compare_exchange::<Next>(seat, at as usize, word, cleared.0);
+            .compare_exchange::<Next>(seat, at.0 as usize, word, cleared.0);
         let won = found == word;
         let free = cleared.is_free();
         won & free

@@ -1,4 +1,4 @@
-//! The atomic steps of stations on the shared words of a status tree.
+//! The atomic steps of the lock-free block allocator: each is one load, store, exchange or fetch on one shared word.
 #![tactic(auto)]
 
 mod events;
@@ -12,5 +12,5 @@ mod why;
 
 pub use rule::TreeRule;
 pub use tree::{Seat, Tree};
-pub use view::{Entry, Glance, Size, View};
+pub use view::{Entry, Peek, Size, View};
 pub use why::Why;

@@ -8,7 +8,7 @@ use crate::view::View;
 use atomic_table::Play;
 
 /// A load that tells that no station steps with a seat twice.
-pub struct Recount;
+pub(crate) struct Recount;
 
 impl Play<(), View> for Recount {
     ghost then = { tells_once };

@@ -1,17 +1,17 @@
 //! Seats are made, cut and joined, words are loaded by what is no event, and the tree is closed.
 ghost use Rattle.std.specs.Prelude.{◌≡◌, ℕ, ◌+◌, ◌^◌, ◌<◌, ◌≤◌, List, [], ◌∷◌, length, slice_index, vec_len, IfOk};
 ghost use Rattle.tree_steps.specs.Rule.{first_view};
-ghost use Rattle.tree_steps.specs.Steps.{KeepsLoad, IsOffAll, first_of, glance_at, HasWholeRoll, joined, only_first, without_first, without_stations};
+ghost use Rattle.tree_steps.specs.Steps.{KeepsLoad, IsOffAll, first_of, peek_at, HasWholeRoll, joined, only_first, without_first, without_stations};
 ghost use Rattle.cube_core.specs.Phase.{IsAtRest};
 ghost use Rattle.tree_steps.specs.Alone.{AreAllAtRest, IsAlone, TellsWord, Turns};
 ghost use Rattle.tree_steps.specs.Tree.{id_of, dim_of, size_of, read_words, station_count};
 ghost use Rattle.cube_shape.specs.Node.{IsInCube, OnPath};
 
-use crate::rule::{Compare, CopyLoads, CutFirst, LoadGlance, LoadRoll, Merge, Tell, Turn};
+use crate::rule::{Compare, CopyLoads, CutFirst, LoadPeek, LoadRoll, Merge, Tell, Turn};
 use crate::tree::{Seat, Tree};
 use crate::view::Size;
 use atomic_table::Table;
-use cube_shape::{MAX_DIM, MAX_STATIONS};
+use cube_shape::{MAX_DIM, MAX_STATIONS, Node};
 use std::alloc::{AllocError, Global};
 
 impl Tree {
@@ -31,7 +31,7 @@ impl Tree {
 
     /// A word as it is at some moment of the call: word `0` is the roll, and word `v` that of node `v`. It
     /// tells nothing to a proof.
-    pub fn peek(&self, word: u64) -> u64
+    pub fn word(&self, word: u64) -> u64
         requires { word < 2 ^ (dim_of self.now + 1) }
     {
         self.table.shared.peek(word as usize)
@@ -136,20 +136,20 @@ impl Tree {
 
     /// Reads the words of a node and of its ancestors, and no other. A seat that has all stations, all
     /// of them at rest, learns what these words say of them.
-    pub fn read_path(&mut self, seat: &mut Seat, node: u64)
+    pub fn read_path(&mut self, seat: &mut Seat, node: Node)
         requires seat { seat.old.table_id ≡ id_of self.old }
-        requires node { IsInCube (dim_of self.old) node }
+        requires node { IsInCube (dim_of self.old) node.0 }
         ensures table { id_of self.new ≡ id_of self.old }
         ensures size { size_of self.new ≡ size_of self.old }
         ensures seat { seat.new.table_id ≡ seat.old.table_id }
         ensures same { seat.new.me ≡ seat.old.me }
         ensures path { IsAlone seat.old.me → IsAtRest (first_of seat.old.me).phase
-            → (v : ℕ) → OnPath v node
+            → (v : ℕ) → OnPath v node.0
             → TellsWord v (slice_index (read_words self.new) v) seat.old.me.0.stations }
-        ensures others { (v : ℕ) → (OnPath v node → ⊥)
+        ensures others { (v : ℕ) → (OnPath v node.0 → ⊥)
             → slice_index (read_words self.new) v ≡ slice_index (read_words self.old) v }
     {
-        let mut at = node;
+        let mut at = node.0;
         while at > 0 {
             let word = self.read(seat, at);
             self.room[at as usize] = word;
@@ -166,15 +166,15 @@ impl Tree {
         self.table.shared.load::<LoadRoll>(seat, 0)
     }
 
-    /// A glance at a node: a load of its word, which is no event and changes no word. The first station of
-    /// the seat notes what it found.
-    pub fn glance(&self, seat: &mut Seat, node: u64) -> u64
+    /// Peeks at a node. This loads its word, which is no event and changes no word. The first station
+    /// of the seat notes the word.
+    pub fn peek(&self, seat: &mut Seat, node: Node) -> u64
         requires seat { seat.old.table_id ≡ id_of self.now }
-        requires node { IsInCube (dim_of self.now) node }
+        requires node { IsInCube (dim_of self.now) node.0 }
         ensures seat { seat.new.table_id ≡ seat.old.table_id }
-        ensures notes { seat.new.me ≡ glance_at node result seat.old.me }
+        ensures notes { seat.new.me ≡ peek_at node.0 result seat.old.me }
     {
-        self.table.shared.load::<LoadGlance>(seat, node as usize)
+        self.table.shared.load::<LoadPeek>(seat, node.0 as usize)
     }
 
     /// The words at the end, once a load of the roll has found the bit of each station. No word has

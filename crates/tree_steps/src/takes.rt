@@ -12,28 +12,28 @@ ghost use Rattle.tree_steps.specs.Tree.{id_of, dim_of};
 use crate::tree::{Seat, Tree};
 use crate::why::Why;
 use cube_core::{Kind, Note, Phase};
-use cube_shape::{MAX_STATIONS, Node};
+use cube_shape::{MAX_STATIONS, Node, parent};
 
 impl Tree {
     /// One take of a node. Where an ancestor is occupied, the node is given back at once. With a seat
     /// that has all stations it is refused only where another one holds a node above it, at it or
     /// under it; where an ancestor is named, another one holds this ancestor.
-    pub fn take(&self, seat: &mut Seat, station: u32, node: u64) -> Result<(), Why>
+    pub fn take(&self, seat: &mut Seat, station: u32, node: Node) -> Result<(), Why>
         requires seat { seat.old.table_id ≡ id_of self.now }
         requires phase { IsAt seat.old.me Phase.Idle }
         requires station { (first_of seat.old.me).station ≡ station }
         requires limit { station < MAX_STATIONS }
-        requires node { IsInCube (dim_of self.now) node }
+        requires node { IsInCube (dim_of self.now) node.0 }
         ensures seat { seat.new.table_id ≡ seat.old.table_id }
-        ensures walks { Walks (begin (Phase.Looking node) seat.old.me) seat.new.me }
-        ensures phase { MatchResult result (λ _. IsAt seat.new.me (Phase.Holding node)) (λ _.
+        ensures walks { Walks (begin (Phase.Looking node.0) seat.old.me) seat.new.me }
+        ensures phase { MatchResult result (λ _. IsAt seat.new.me (Phase.Holding node.0)) (λ _.
             IsAt seat.new.me Phase.Idle) }
         ensures refused { IfErr result (λ why.
-            IsAnswered why node (first_of seat.old.me) (first_of seat.new.me)) }
+            IsAnswered why node.0 (first_of seat.old.me) (first_of seat.new.me)) }
         ensures names { IfErr result (λ why.
-            IfSome (ancestor_of why) (λ at. OnPath at node × (at < node))) }
+            IfSome (ancestor_of why) (λ at. OnPath at node.0 × (at < node.0))) }
         ensures exact { IsAlone seat.old.me
-            → OnErr result (IsBlocked node (others seat.old.me.0.stations)) }
+            → OnErr result (IsBlocked node.0 (others seat.old.me.0.stations)) }
         ensures holder { IsAlone seat.old.me → IfErr result (λ why.
             IfSome (ancestor_of why) (λ at. HasHolder at (others seat.old.me.0.stations))) }
     {
@@ -43,48 +43,48 @@ impl Tree {
         if !self.claim(seat, node, word) {
             return Err(Why::Lost);
         }
-        let Some(at) = self.climb(seat, node) else {
+        let Some(at) = self.mark_path(seat, node) else {
             return Ok(());
         };
-        self.back_out(seat, station, node, at);
-        Err(Why::Under(Node(at)))
+        self.roll_back(seat, station, node, at);
+        Err(Why::Under(at))
     }
 
     /// Gives back the region of a node that is held.
-    pub fn give_back(&self, seat: &mut Seat, station: u32, node: u64)
+    pub fn give_back(&self, seat: &mut Seat, station: u32, node: Node)
         requires seat { seat.old.table_id ≡ id_of self.now }
-        requires phase { IsAt seat.old.me (Phase.Holding node) }
+        requires phase { IsAt seat.old.me (Phase.Holding node.0) }
         requires station { (first_of seat.old.me).station ≡ station }
         requires limit { station < MAX_STATIONS }
-        requires node { IsInCube (dim_of self.now) node }
+        requires node { IsInCube (dim_of self.now) node.0 }
         ensures seat { seat.new.table_id ≡ seat.old.table_id }
-        ensures walks { Walks (begin (Phase.Leaving node) seat.old.me) seat.new.me }
+        ensures walks { Walks (begin (Phase.Leaving node.0) seat.old.me) seat.new.me }
         ensures phase { IsAt seat.new.me Phase.Idle }
     {
         self.zero_held(seat, node);
-        self.tidy_up(seat, station, node);
+        self.clear_path(seat, station, node);
     }
 
     // Up from a node that was claimed: none where the station holds it, or the ancestor that was
     // occupied.
-    fn climb(&self, seat: &mut Seat, node: u64) -> Option<u64>
+    fn mark_path(&self, seat: &mut Seat, node: Node) -> Option<Node>
         requires seat { seat.old.table_id ≡ id_of self.now }
-        requires phase { IsAt seat.old.me (phase_after_raise node node) }
-        requires node { IsInCube (dim_of self.now) node }
+        requires phase { IsAt seat.old.me (phase_after_raise node.0 node.0) }
+        requires node { IsInCube (dim_of self.now) node.0 }
         ensures seat { seat.new.table_id ≡ seat.old.table_id }
         ensures walks { Walks seat.old.me seat.new.me }
-        ensures phase { MatchOption result (IsAt seat.new.me (Phase.Holding node)) (λ at.
-            IsAt seat.new.me (Phase.Backing node at)) }
+        ensures phase { MatchOption result (IsAt seat.new.me (Phase.Holding node.0)) (λ at.
+            IsAt seat.new.me (Phase.Backing node.0 at.0)) }
         ensures refused { IfSome result (λ at.
-            Answered Kind.Raise at Note.Under (first_of seat.old.me) (first_of seat.new.me)) }
-        ensures names { IfSome result (λ at. OnPath at node × (at < node)) }
+            Answered Kind.Raise at.0 Note.Under (first_of seat.old.me) (first_of seat.new.me)) }
+        ensures names { IfSome result (λ at. OnPath at.0 node.0 × (at.0 < node.0)) }
         ensures holder { IsAlone seat.old.me → IfSome result (λ at.
-            HasHolder at (others seat.old.me.0.stations)) }
+            HasHolder at.0 (others seat.old.me.0.stations)) }
     {
         let mut at = node;
-        while at > 1 {
-            at /= 2;
-            if !self.pass(seat, node, at) {
+        while at.0 > 1 {
+            at = parent(at);
+            if !self.mark_ancestor(seat, node, at) {
                 return Some(at);
             }
         }
@@ -92,71 +92,71 @@ impl Tree {
     }
 
     // A sweep and a raise at one ancestor: whether it was not occupied.
-    fn pass(&self, seat: &mut Seat, node: u64, at: u64) -> bool
+    fn mark_ancestor(&self, seat: &mut Seat, node: Node, at: Node) -> bool
         requires seat { seat.old.table_id ≡ id_of self.now }
-        requires phase { IsAt seat.old.me (Phase.Climbing node at) }
-        requires node { IsInCube (dim_of self.now) at }
-        requires above { at < node }
-        requires on_path { OnPath at node }
+        requires phase { IsAt seat.old.me (Phase.Climbing node.0 at.0) }
+        requires node { IsInCube (dim_of self.now) at.0 }
+        requires above { at.0 < node.0 }
+        requires on_path { OnPath at.0 node.0 }
         ensures seat { seat.new.table_id ≡ seat.old.table_id }
         ensures walks { Walks seat.old.me seat.new.me }
-        ensures phase { MatchBool result (IsAt seat.new.me (phase_after_raise node at))
-            (IsAt seat.new.me (Phase.Backing node at)) }
-        ensures refused { OnFalse result (Answered Kind.Raise at Note.Under (first_of seat.old.me)
+        ensures phase { MatchBool result (IsAt seat.new.me (phase_after_raise node.0 at.0))
+            (IsAt seat.new.me (Phase.Backing node.0 at.0)) }
+        ensures refused { OnFalse result (Answered Kind.Raise at.0 Note.Under (first_of seat.old.me)
             (first_of seat.new.me)) }
         ensures holder { IsAlone seat.old.me
-            → OnFalse result (HasHolder at (others seat.old.me.0.stations)) }
+            → OnFalse result (HasHolder at.0 (others seat.old.me.0.stations)) }
     {
         self.sweep(seat, node, at);
         self.raise(seat, node, at)
     }
 
     // Gives back a node above which an ancestor was occupied.
-    fn back_out(&self, seat: &mut Seat, station: u32, node: u64, at: u64)
+    fn roll_back(&self, seat: &mut Seat, station: u32, node: Node, at: Node)
         requires seat { seat.old.table_id ≡ id_of self.now }
-        requires phase { IsAt seat.old.me (Phase.Backing node at) }
+        requires phase { IsAt seat.old.me (Phase.Backing node.0 at.0) }
         requires station { (first_of seat.old.me).station ≡ station }
         requires limit { station < MAX_STATIONS }
-        requires node { IsInCube (dim_of self.now) node }
+        requires node { IsInCube (dim_of self.now) node.0 }
         ensures seat { seat.new.table_id ≡ seat.old.table_id }
         ensures walks { Walks seat.old.me seat.new.me }
         ensures phase { IsAt seat.new.me Phase.Idle }
     {
         self.zero_back(seat, node, at);
-        self.tidy_up(seat, station, node);
+        self.clear_path(seat, station, node);
     }
 
     // Up from a node that was given back, for as long as the ancestors become free.
-    fn tidy_up(&self, seat: &mut Seat, station: u32, node: u64)
+    fn clear_path(&self, seat: &mut Seat, station: u32, node: Node)
         requires seat { seat.old.table_id ≡ id_of self.now }
-        requires phase { IsAt seat.old.me (phase_after_zero node) }
+        requires phase { IsAt seat.old.me (phase_after_zero node.0) }
         requires station { (first_of seat.old.me).station ≡ station }
         requires limit { station < MAX_STATIONS }
-        requires node { IsInCube (dim_of self.now) node }
+        requires node { IsInCube (dim_of self.now) node.0 }
         ensures seat { seat.new.table_id ≡ seat.old.table_id }
         ensures walks { Walks seat.old.me seat.new.me }
         ensures phase { IsAt seat.new.me Phase.Idle }
     {
         let mut at = node;
-        while at > 1 {
-            at /= 2;
-            if !self.tidy(seat, station, at) {
+        while at.0 > 1 {
+            at = parent(at);
+            if !self.clear_ancestor(seat, station, at) {
                 return;
             }
         }
     }
 
     // Clears one ancestor: whether it became free by that.
-    fn tidy(&self, seat: &mut Seat, station: u32, at: u64) -> bool
+    fn clear_ancestor(&self, seat: &mut Seat, station: u32, at: Node) -> bool
         requires seat { seat.old.table_id ≡ id_of self.now }
-        requires phase { IsAt seat.old.me (Phase.Arriving at) }
+        requires phase { IsAt seat.old.me (Phase.Arriving at.0) }
         requires station { (first_of seat.old.me).station ≡ station }
         requires limit { station < MAX_STATIONS }
-        requires positive { 0 < at }
-        requires node { 2 * at + 1 < 2 ^ (dim_of self.now + 1) }
+        requires positive { 0 < at.0 }
+        requires node { 2 * at.0 + 1 < 2 ^ (dim_of self.now + 1) }
         ensures seat { seat.new.table_id ≡ seat.old.table_id }
         ensures walks { Walks seat.old.me seat.new.me }
-        ensures phase { MatchBool result (IsAt seat.new.me (phase_after_zero at))
+        ensures phase { MatchBool result (IsAt seat.new.me (phase_after_zero at.0))
             (IsAt seat.new.me Phase.Idle) }
     {
         self.unmark(seat, at);

@@ -1,19 +1,19 @@
 use cube_core::{Event, Phase};
 use std::collections::LinkedList;
 
-/// What a glance found: the word of a node, by a load that is no event. No value of it is made.
-pub struct Glance {
+/// What a peek found: the word of a node, by a load that is no event. No value of it is made.
+pub struct Peek {
     pub node: u64,
     pub word: u64,
 }
 
-/// What a seat at the table knows of a station: its phase, and all its events and glances, the newest
+/// What a seat at the table knows of a station: its phase, and all its events and peeks, the newest
 /// first. No value of it is made.
 pub struct Entry {
     pub station: u64,
     pub phase: Phase,
     pub trail: LinkedList<Event>,
-    pub glances: LinkedList<Glance>,
+    pub peeks: LinkedList<Peek>,
 }
 
 /// What a seat at the table knows. No value of it is made.

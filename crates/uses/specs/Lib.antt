@@ -1,4 +1,5 @@
 pub mod Extent
 pub mod InnerLaws
+pub mod InnerNaming
 pub mod Processors
 pub mod TwoFiles

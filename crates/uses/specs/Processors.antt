@@ -1,6 +1,6 @@
 -- The processors of the regions of replies, of the workers and of the rest.
 use Rattle.std.specs.Prelude.{ℕ, ◌+◌, List}
-use Rattle.histories.specs.Sums.{total}
+use Rattle.ghost_history.specs.Sums.{total}
 use Rattle.job_types.specs.Reply.{ReplyData}
 use Rattle.cube_ledger.specs.Ledger.{processors_of, slip_of}
 

@@ -1,24 +1,24 @@
-//! A caller of `crew`, `cube_ledger` and `tree_floor`.
+//! A caller of `shop_threads`, `cube_ledger` and `floor_tree`.
 
 ghost use Rattle.std.specs.Prelude.{◌≡◌, ℕ, ◌^◌, ◌<◌, [], IfSome, map, length, slice_index_or};
 ghost use Rattle.std.specs.List.{All};
 ghost use Rattle.job_queue.specs.Line.{IsFor};
 ghost use Rattle.floors.specs.Floor.{IsWhollyFree};
 ghost use Rattle.cube_tree.specs.Ends.{machine_words};
-ghost use Rattle.tree_floor.specs.Roll.{IsRollWhole};
+ghost use Rattle.floor_tree.specs.Roll.{IsRollWhole};
 ghost use Rattle.dispatcher.specs.Answers.{AnswersAll};
 ghost use Rattle.uses.specs.Processors.{processors_in};
 
-use crew::{RunEnd, answer_all};
 use cube_ledger::Ledger;
-use dispatcher::{Finished, Runner};
+use dispatcher::{Finished, Runner, ShopSizes};
+use floor_tree::{FreeMachine, TreeFloor};
 use job_types::Job;
-use ruled_line::RuledLine;
+use line_ruled::RuledLine;
+use shop_threads::{RunEnd, answer_all};
 use std::alloc::Global;
 use std::collections::VecDeque;
 use std::sync::Wait;
 use std::thread::Threads;
-use tree_floor::{FreeMachine, TreeFloor};
 
 /// Answers the jobs of all lanes on a machine of dimension `n` by the runner, by four workers on
 /// threads of their own, and counts the processors that the jobs had together. There is no answer
@@ -42,7 +42,12 @@ pub fn answer_and_count<R: Threads + Wait + Sync, T: Runner + Sync>(
         ≡ processors_in (map (λ replies. replies.items) answered.0.by_worker.items)
         answered.0.rest.items) }
 {
-    let Ok(end) = answer_all::<R, RuledLine, TreeFloor, T>(rt, alloc, n, 4, 16, runner, jobs) else {
+    let sizes = ShopSizes {
+        dim: n,
+        dispatchers: 4,
+        capacity: 16,
+    };
+    let Ok(end) = answer_all::<R, RuledLine, TreeFloor, T>(rt, alloc, sizes, runner, jobs) else {
         return None;
     };
     let RunEnd { finished, .. } = end;

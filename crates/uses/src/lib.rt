@@ -1,4 +1,4 @@
-//! How a stranger stands on the crates of this repository: one small proved caller of each.
+//! Small proved callers of this repository's crates, one or more for each.
 //!
 //! Each caller is quoted in the `CALLING.md` of the crate that it calls.
 #![tactic(auto)]
@@ -9,6 +9,7 @@ mod count;
 mod counting;
 mod extent;
 mod hoarding;
+pub mod line_run;
 mod room;
 mod schedule;
 mod subcubes;

@@ -27,7 +27,7 @@ pub fn hold_two(
         IsAligned (cube_dim cube.now) held.0 × IsAligned (cube_dim cube.now) held.1) }
     ensures dimensions { IfSome result (λ held. (held.0.dim ≡ k) × (held.1.dim ≡ l)) }
 {
-    let subcube = match first.try_take_skipping(cube, k) {
+    let subcube = match first.search(cube, k) {
         Ok(subcube) => subcube,
         Err((first, _)) => {
             first.retire(cube);
@@ -35,7 +35,7 @@ pub fn hold_two(
             return None;
         }
     };
-    let other = match second.try_take_skipping(cube, l) {
+    let other = match second.search(cube, l) {
         Ok(other) => other,
         Err((second, _)) => {
             subcube.release(cube).retire(cube);

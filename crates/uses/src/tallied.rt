@@ -1,7 +1,7 @@
 //! A caller of `job_queue` that is a line itself, made from the contract of lines alone.
 ghost use Rattle.std.specs.Prelude.{◌≡◌, ℕ, ◌<◌, ◌≤◌, IfOk, map, length, slice_index};
 ghost use Rattle.std.specs.List.{All};
-ghost use Rattle.histories.specs.Sums.{times};
+ghost use Rattle.ghost_history.specs.Sums.{times};
 ghost use Rattle.job_queue.specs.Record.{fresh_lanes, fresh_passes, accepted};
 ghost use Rattle.job_queue.specs.Line.{IsMadeFor};
 ghost use Rattle.job_queue.specs.Run.{WholeRun};

@@ -1,10 +1,10 @@
-//! A caller of `whole_file` that is a store itself: two files in memory, of which the contract says each byte.
+//! A caller of `atomic_file` that is a store itself: two files in memory, of which the contract says each byte.
 ghost use Rattle.std.specs.Prelude.{◌≡◌};
 
+use atomic_file::{FileReason, FileStore};
 use jobs_csv::Counted;
 use std::alloc::Global;
 use std::marker::Model;
-use whole_file::{FileReason, FileStore};
 
 /// A file in memory that is read, and one that is written. The first cannot be written, the second cannot
 /// be read, and there is no other.

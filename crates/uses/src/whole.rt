@@ -4,7 +4,7 @@ ghost use Rattle.std.specs.Prelude.{ℕ, ◌^◌, ◌<◌, [], IfSome, map, leng
 ghost use Rattle.std.specs.List.{All};
 ghost use Rattle.cubejobs.specs.{AreInOrder, IsFor};
 
-use cubejobs::{Job, Plain, Reply, RunEnd, answer_all, sorted_replies};
+use cubejobs::{Job, Plain, Reply, RunEnd, ShopSizes, answer_all, sorted_replies};
 use std::alloc::Global;
 use std::collections::VecDeque;
 use std::sync::Wait;
@@ -24,7 +24,12 @@ pub fn answer_in_order<R: Threads + Wait + Sync>(
     ensures in_order { IfSome result (λ replies.
         AreInOrder n (map (λ js. js.items) jobs.items) replies.items) }
 {
-    let Ok(end) = answer_all(rt, alloc, n, 4, 16, &Plain, jobs) else {
+    let sizes = ShopSizes {
+        dim: n,
+        dispatchers: 4,
+        capacity: 16,
+    };
+    let Ok(end) = answer_all(rt, alloc, sizes, &Plain, jobs) else {
         return None;
     };
     let RunEnd { finished, .. } = end;

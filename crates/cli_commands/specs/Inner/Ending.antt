@@ -1,15 +1,17 @@
 -- How a call of the program ends, by the request of its words or by the error that `clap` gives for them.
-use Rattle.std.specs.Prelude.{◌≡◌, ◌≢◌, ◌⊎◌, ℕ, Bool, true, false, List, Option, Ok, Err, IfSome}
+use Rattle.std.specs.Prelude.{◌≡◌, ◌≢◌, ◌⊎◌, ℕ, Bool, true, false, List, Option, Result, Ok, Err, IfSome}
 use Rattle.clap.specs.declared.error.kind.ErrorKind.{ErrorKind}
 use Rattle.clap.specs.declared.error.kind.ErrorKind.TheVariants.{DisplayHelp, DisplayVersion, OutOfMemory}
 use Rattle.jobs_csv.specs.Fault.{is_refusal}
 use Rattle.jobs_csv.specs.declared.fault.Fault.{Fault}
 use Rattle.jobs_csv.specs.declared.fault.FaultKind.TheVariants as what
-use Rattle.cli_words.specs.declared.invocation.Invocation.{Invocation}
+use Rattle.cli_args.specs.declared.invocation.Invocation.{Invocation}
+use Rattle.cli_commands.specs.declared.files.CommandError.{CommandError}
+use Rattle.cli_commands.specs.declared.files.CommandError.TheVariants as error
 use Rattle.cli_commands.specs.declared.program.Ending.{Ending}
 use Rattle.cli_commands.specs.declared.program.Ending.TheVariants.{Done, Rejected, Failed, FileFailed}
 use Rattle.cli_commands.specs.Program.{IsAnswerTo}
-use Rattle.whole_file.specs.declared.file_fault.FileSide.{FileSide}
+use Rattle.atomic_file.specs.declared.file_fault.FileSide.{FileSide}
 
 -- the request is answered, or it failed for one of the reasons that are given, which is its answer too, or a file of
 -- one of these sides could not be had
@@ -19,6 +21,12 @@ EndsAfter invocation bytes old new may_fail names Rejected = ⊥
 EndsAfter invocation bytes old new may_fail names (Failed fault is_reported) =
     IfSome bytes (λ b. IsAnswerTo invocation b old new (Err fault)) × may_fail fault
 EndsAfter invocation bytes old new may_fail names (FileFailed fault is_reported) = names fault.side ≡ true
+
+-- how a call ends, by the result of its request
+abbrev pub EndsWith : Result (Unit {0}) CommandError → Ending → Type 0
+EndsWith (Ok done) end = end ≡ Done
+EndsWith (Err (error.Fault fault)) end = (is_reported : Bool) × (end ≡ Failed fault is_reported)
+EndsWith (Err (error.File fault)) end = (is_reported : Bool) × (end ≡ FileFailed fault is_reported)
 
 -- an error of this kind shows the help or the version
 abbrev pub IsShown : ErrorKind → Type 0

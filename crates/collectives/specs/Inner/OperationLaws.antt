@@ -1,36 +1,36 @@
--- The laws of the seven monoids of the crate.
-use Rattle.std.specs.Prelude.{◌≡◌, ℕ, ◌+◌, ◌*◌, ◌%◌, ◌^◌, ◌<◌, bit_and, bit_or, bit_xor}
+-- The laws of the monoids of the crate.
+use Rattle.std.specs.Prelude.{◌≡◌, ℕ, ◌+◌, ◌*◌, ◌%◌, ◌-◌, ◌^◌, ◌<◌, min, max, bit_and, bit_or, bit_xor}
 use Rattle.std.proofs.Common.{arith, ap, sym, ◌∙◌}
 use Rattle.std.proofs.lemmas.Nat.{and_mask, and_le_l, and_comm, or_comm, xor_comm, or_lt, xor_lt, and_assoc, mul-mod_first, mul-mod_second}
 use Rattle.std.proofs.lemmas.Nat.Bits.{bit_at_or, bit_at_xor, bit_at-zero, same_from_bits, bit_at-lt}
 use Rattle.collectives.specs.Laws.{MonoidLaws}
-use Rattle.collectives.specs.Operations.{add_of, add_join, min_of, min_join, max_of, max_join, xor_of, xor_join, and_of, and_join, or_of, or_join, affine, affine_join, IsAffineValue}
+use Rattle.collectives.specs.Operations.{IsU64, affine, affine_join, IsAffineValue}
 
-pub add_laws : MonoidLaws (λ x. x.0 < 2 ^ 64) (add_of 0) add_join
+pub add_laws : MonoidLaws IsU64 0 (λ x y. (x + y) % 2 ^ 64)
 add_laws = record {
   unit_value = omega arith;
   join_value = λ x y x_value y_value. omega arith;
-  left_unit = λ x x_value. ap add_of (omega arith);
-  right_unit = λ x x_value. ap add_of (omega arith);
-  assoc = λ x y z x_value y_value z_value. ap add_of (omega arith);
+  left_unit = λ x x_value. omega arith;
+  right_unit = λ x x_value. omega arith;
+  assoc = λ x y z x_value y_value z_value. omega arith;
 }
 
-pub min_laws : MonoidLaws (λ x. x.0 < 2 ^ 64) (min_of 18446744073709551615) min_join
+pub min_laws : MonoidLaws IsU64 (2 ^ 64 - 1) min
 min_laws = record {
   unit_value = omega arith;
   join_value = λ x y x_value y_value. omega arith;
-  left_unit = λ x x_value. ap min_of (omega arith);
-  right_unit = λ x x_value. ap min_of (omega arith);
-  assoc = λ x y z x_value y_value z_value. ap min_of (omega arith);
+  left_unit = λ x x_value. omega arith;
+  right_unit = λ x x_value. omega arith;
+  assoc = λ x y z x_value y_value z_value. omega arith;
 }
 
-pub max_laws : MonoidLaws (λ x. x.0 < 2 ^ 64) (max_of 0) max_join
+pub max_laws : MonoidLaws IsU64 0 max
 max_laws = record {
   unit_value = omega arith;
   join_value = λ x y x_value y_value. omega arith;
-  left_unit = λ x x_value. ap max_of (omega arith);
-  right_unit = λ x x_value. ap max_of (omega arith);
-  assoc = λ x y z x_value y_value z_value. ap max_of (omega arith);
+  left_unit = λ x x_value. omega arith;
+  right_unit = λ x x_value. omega arith;
+  assoc = λ x y z x_value y_value z_value. omega arith;
 }
 
 xor_zero : (x : ℕ) → bit_xor x 0 ≡ x
@@ -44,25 +44,25 @@ xor_assoc x y z = same_from_bits (bit_xor (bit_xor x y) z) (bit_xor x (bit_xor y
     let yz = bit_at_xor y z i in
     omega arith)
 
-pub xor_laws : MonoidLaws (λ x. x.0 < 2 ^ 64) (xor_of 0) xor_join
+pub xor_laws : MonoidLaws IsU64 0 bit_xor
 xor_laws = record {
   unit_value = omega arith;
-  join_value = λ x y x_value y_value. xor_lt 64 x.0 y.0 x_value y_value;
-  left_unit = λ x x_value. ap xor_of (xor_comm 0 x.0 ∙ xor_zero x.0);
-  right_unit = λ x x_value. ap xor_of (xor_zero x.0);
-  assoc = λ x y z x_value y_value z_value. ap xor_of (xor_assoc x.0 y.0 z.0);
+  join_value = λ x y x_value y_value. xor_lt 64 x y x_value y_value;
+  left_unit = λ x x_value. xor_comm 0 x ∙ xor_zero x;
+  right_unit = λ x x_value. xor_zero x;
+  assoc = λ x y z x_value y_value z_value. xor_assoc x y z;
 }
 
-and_ones : (x : ℕ) → x < 2 ^ 64 → bit_and x 18446744073709551615 ≡ x
+and_ones : (x : ℕ) → x < 2 ^ 64 → bit_and x (2 ^ 64 - 1) ≡ x
 and_ones x small = and_mask x 64 ∙ (let same : x % 2 ^ 64 ≡ x = omega arith in same)
 
-pub and_laws : MonoidLaws (λ x. x.0 < 2 ^ 64) (and_of 18446744073709551615) and_join
+pub and_laws : MonoidLaws IsU64 (2 ^ 64 - 1) bit_and
 and_laws = record {
   unit_value = omega arith;
-  join_value = λ x y x_value y_value. (let less = and_le_l x.0 y.0 in omega arith);
-  left_unit = λ x x_value. ap and_of (and_comm 18446744073709551615 x.0 ∙ and_ones x.0 x_value);
-  right_unit = λ x x_value. ap and_of (and_ones x.0 x_value);
-  assoc = λ x y z x_value y_value z_value. ap and_of (and_assoc z.0 x.0 y.0);
+  join_value = λ x y x_value y_value. (let less = and_le_l x y in omega arith);
+  left_unit = λ x x_value. and_comm (2 ^ 64 - 1) x ∙ and_ones x x_value;
+  right_unit = λ x x_value. and_ones x x_value;
+  assoc = λ x y z x_value y_value z_value. and_assoc z x y;
 }
 
 or_zero : (x : ℕ) → bit_or x 0 ≡ x
@@ -76,13 +76,13 @@ or_assoc x y z = same_from_bits (bit_or (bit_or x y) z) (bit_or x (bit_or y z)) 
     let yz = bit_at_or y z i in
     omega arith)
 
-pub or_laws : MonoidLaws (λ x. x.0 < 2 ^ 64) (or_of 0) or_join
+pub or_laws : MonoidLaws IsU64 0 bit_or
 or_laws = record {
   unit_value = omega arith;
-  join_value = λ x y x_value y_value. or_lt 64 x.0 y.0 x_value y_value;
-  left_unit = λ x x_value. ap or_of (or_comm 0 x.0 ∙ or_zero x.0);
-  right_unit = λ x x_value. ap or_of (or_zero x.0);
-  assoc = λ x y z x_value y_value z_value. ap or_of (or_assoc x.0 y.0 z.0);
+  join_value = λ x y x_value y_value. or_lt 64 x y x_value y_value;
+  left_unit = λ x x_value. or_comm 0 x ∙ or_zero x;
+  right_unit = λ x x_value. or_zero x;
+  assoc = λ x y z x_value y_value z_value. or_assoc x y z;
 }
 
 factor_assoc : (x y z : ℕ) → (z * ((y * x) % 2 ^ 32)) % 2 ^ 32 ≡ ((z * y) % 2 ^ 32 * x) % 2 ^ 32

@@ -1,22 +1,21 @@
 //! The words of a measurement of a dispatcher.
 ghost use Rattle.std.specs.Prelude.{◌≤◌, IfSome};
 
-use cube_shape::MAX_LANES;
-use dispatcher::refusal;
+use cube_shape::{MAX_DIM, MAX_LANES};
+use dispatcher::{ShopSizes, refusal};
 
-/// The dimension of the machine.
-pub const DIM: u32 = 10;
+// The dimension of the machine.
+const DIM: u32 = 10;
 
 /// The run that is to be measured.
 #[derive(Clone, Copy)]
-pub struct Invocation {
+pub(crate) struct Invocation {
     /// Whether the shop is the one with no lock.
     pub is_free: bool,
     /// The numbers of each job: one for each processor at most.
     pub items: usize,
     pub lanes: u32,
-    pub dispatchers: u32,
-    pub capacity: usize,
+    pub sizes: ShopSizes,
     /// The jobs of each lane.
     pub jobs: usize,
 }
@@ -31,7 +30,9 @@ fn is_free(name: &str) -> Option<bool> {
 }
 
 // The run that the words ask for, whatever its sizes are.
-fn asked_for(words: &[String]) -> Option<Invocation> {
+fn asked_for(words: &[String]) -> Option<Invocation>
+    ensures { IfSome result (λ it. it.sizes.dim ≤ MAX_DIM) }
+{
     let [shop, items, lanes, dispatchers, capacity, jobs] = words else {
         return None;
     };
@@ -52,22 +53,31 @@ fn asked_for(words: &[String]) -> Option<Invocation> {
         is_free,
         items,
         lanes,
-        dispatchers,
-        capacity,
+        sizes: ShopSizes {
+            dim: DIM,
+            dispatchers,
+            capacity,
+        },
         jobs,
     })
 }
 
 // Whether a shop of these sizes can be opened, and its machine has a processor for each number of a job.
 fn can_run(run: &Invocation) -> bool {
+    let ShopSizes {
+        dim,
+        dispatchers,
+        capacity,
+    } = run.sizes;
     run.items > 0
         && run.items <= 1 << DIM
-        && refusal(DIM, run.lanes, run.dispatchers, run.capacity).is_none()
+        && refusal(dim, run.lanes, dispatchers, capacity).is_none()
 }
 
 /// The run that the words ask for, if they are well formed and a shop of these sizes can be opened.
-pub fn parse_words(words: &[String]) -> Option<Invocation>
-    ensures { IfSome result (λ it. it.lanes ≤ MAX_LANES) }
+pub(crate) fn parse_words(words: &[String]) -> Option<Invocation>
+    ensures lanes { IfSome result (λ it. it.lanes ≤ MAX_LANES) }
+    ensures dim { IfSome result (λ it. it.sizes.dim ≤ MAX_DIM) }
 {
     if words.len() != 6 {
         return None;

@@ -14,19 +14,25 @@ use std::time::Instant;
 /// The jobs of a feeder or of a taker, and the nanoseconds of its calls that had success, where they
 /// are timed.
 #[derive(Drop)]
-pub struct Timed<T> {
+pub(crate) struct Timed<T> {
     pub jobs: T,
+    /// The number of calls that are to have success.
+    pub wanted: usize,
     pub times: Option<Vec<u64>>,
 }
 
 /// What a feeder hands in.
-pub type Feeding = Timed<VecDeque<Job>>;
+pub(crate) type Feeding = Timed<VecDeque<Job>>;
 
 /// What a taker has taken.
-pub type Taking = Timed<Vec<QueuedJob>>;
+pub(crate) type Taking = Timed<Vec<QueuedJob>>;
 
 /// Room for the times of so many calls, where they are timed.
-pub fn room_for_times(alloc: Global, is_timed: bool, count: usize) -> Option<Option<Vec<u64>>> {
+pub(crate) fn room_for_times(
+    alloc: Global,
+    is_timed: bool,
+    count: usize,
+) -> Option<Option<Vec<u64>>> {
     if is_timed {
         Some(Some(Vec::with_capacity(alloc, count).ok()?))
     } else {
@@ -50,7 +56,7 @@ fn keep(times: &mut Vec<u64>, nanos: u64) {
 }
 
 /// Hands in one job, and keeps its time where it was accepted.
-pub fn submit<R: Wait + Clock, L: JobLine>(
+pub(crate) fn submit<R: Wait + Clock, L: JobLine>(
     rt: &R,
     line: &L,
     lane: &mut L::Lane,
@@ -75,7 +81,7 @@ pub fn submit<R: Wait + Clock, L: JobLine>(
 }
 
 /// Takes one job, and keeps its time where there was one.
-pub fn take<R: Wait + Clock, L: JobLine>(
+pub(crate) fn take<R: Wait + Clock, L: JobLine>(
     rt: &R,
     line: &L,
     pass: &mut L::Pass,
@@ -97,7 +103,7 @@ pub fn take<R: Wait + Clock, L: JobLine>(
 }
 
 /// The times of all feeders, or of all takers, in order.
-pub fn times_of_all<R: Wait, T>(
+pub(crate) fn times_of_all<R: Wait, T>(
     rt: &R,
     alloc: Global,
     all: &[Mutex<Timed<T>>],

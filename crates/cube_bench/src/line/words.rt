@@ -5,14 +5,14 @@ use cube_shape::{MAX_CAPACITY, MAX_LANES, MAX_PASSES};
 use job_queue::Sizes;
 
 /// The dimension of the machine that the jobs are for.
-pub const MACHINE: u32 = 2;
+pub(crate) const MACHINE: u32 = 2;
 
 /// The most jobs of a lane.
-pub const MAX_JOBS: usize = 1_000_000;
+pub(crate) const MAX_JOBS: usize = 1_000_000;
 
 /// The run that the words ask for.
 #[derive(Clone, Copy)]
-pub struct Invocation {
+pub(crate) struct Invocation {
     pub is_ruled: bool,
     pub sizes: Sizes,
     /// The jobs of each lane.
@@ -98,7 +98,7 @@ fn run_of(numbers: Numbers, times_calls: bool) -> Option<Invocation>
 }
 
 /// The run that the words ask for, if they are well formed.
-pub fn parse_words(words: &[String]) -> Option<Invocation>
+pub(crate) fn parse_words(words: &[String]) -> Option<Invocation>
     ensures lanes { IfSome result (λ it. it.sizes.lanes ≤ MAX_LANES) }
     ensures passes { IfSome result (λ it.
         (0 < it.sizes.passes) × (it.sizes.passes ≤ MAX_PASSES)) }

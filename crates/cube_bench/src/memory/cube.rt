@@ -54,7 +54,7 @@ fn call_new<R: Print>(
 }
 
 /// Opens a cube of three stations and makes one machine of it.
-pub fn call_all<R: Print>(rt: &R, alloc: Global) -> io::Result<u64> {
+pub(crate) fn call_all<R: Print>(rt: &R, alloc: Global) -> io::Result<u64> {
     match Cube::open(alloc, DIM, 3) {
         Ok((cube, stations)) => {
             let opened = tell_given(rt, "Cube::open", &numbers(&stations));

@@ -39,7 +39,7 @@ fn tell_count<R: Print, T: Drop>(
 }
 
 /// Reads a file of jobs, one of commands and one of calls, of nine records each.
-pub fn call_all<R: Print>(rt: &R, alloc: Global) -> io::Result<u64> {
+pub(crate) fn call_all<R: Print>(rt: &R, alloc: Global) -> io::Result<u64> {
     let jobs = read_jobs(alloc, MACHINE, &mut Counted::new(JOBS));
     let jobs = tell_count(rt, "read_jobs", jobs)?;
     let commands = read_place(alloc, MACHINE, &mut Counted::new(COMMANDS));

@@ -38,7 +38,7 @@ fn call_new<R: Print>(rt: &R, alloc: Global, kind: Kind) -> io::Result<u64> {
 }
 
 /// Makes the items and a job of each kind, one after the other.
-pub fn call_all<R: Print>(rt: &R, alloc: Global) -> io::Result<u64> {
+pub(crate) fn call_all<R: Print>(rt: &R, alloc: Global) -> io::Result<u64> {
     let mut count = 0u64;
     for kind in KINDS {
         count = count.wrapping_add(call_new(rt, alloc, *kind)?);

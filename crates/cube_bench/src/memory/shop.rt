@@ -167,7 +167,7 @@ where
 }
 
 /// Makes so many jobs, and a shop of this kind that answers them, one call after the other.
-pub fn call_all<R: Wait + Print, L: JobLine, F: Floor>(
+pub(crate) fn call_all<R: Wait + Print, L: JobLine, F: Floor>(
     rt: &R,
     alloc: Global,
     count: usize,

@@ -11,10 +11,10 @@ use job_queue::JobLine;
 use std::alloc::Global;
 use std::marker::Model;
 use std::sync::Wait;
-use test_kit::{only_lane, only_worker, sole};
+use tests_kit::{only_lane, only_worker, sole};
 
 /// A new shop with its lane, its worker and its closer, and room for what its end is given.
-pub struct Single<L: JobLine, F: Floor> {
+pub(crate) struct Single<L: JobLine, F: Floor> {
     pub shop: Shop<L, F>,
     pub lane: L::Lane,
     pub lanes: Vec<L::Lane>,
@@ -79,7 +79,7 @@ impl<L: JobLine, F: Floor> Single<L, F> {
 }
 
 /// The end of such a shop, given its lane and its worker with the emptied lists of each.
-pub fn finish<R: Wait, L: JobLine, F: Floor>(
+pub(crate) fn finish<R: Wait, L: JobLine, F: Floor>(
     rt: &R,
     shop: Shop<L, F>,
     lane: (L::Lane, Vec<L::Lane>),

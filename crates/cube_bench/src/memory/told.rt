@@ -2,19 +2,19 @@
 use std::io;
 
 /// A call to which memory was refused, and the numbers that came back.
-pub fn tell_refused<R: Print>(rt: &R, call: &str, back: &[u64]) -> io::Result<()> {
+pub(crate) fn tell_refused<R: Print>(rt: &R, call: &str, back: &[u64]) -> io::Result<()> {
     print!(rt; "{call} OutOfMemory")?;
     tell_numbers(rt, back)
 }
 
 /// A call that had memory, and the numbers that it gave.
-pub fn tell_given<R: Print>(rt: &R, call: &str, given: &[u64]) -> io::Result<()> {
+pub(crate) fn tell_given<R: Print>(rt: &R, call: &str, given: &[u64]) -> io::Result<()> {
     rt.print(call)?;
     tell_numbers(rt, given)
 }
 
 /// So many calls had memory, if all could be told.
-pub fn counted(told: io::Result<()>, count: u64) -> io::Result<u64> {
+pub(crate) fn counted(told: io::Result<()>, count: u64) -> io::Result<u64> {
     told?;
     Ok(count)
 }

@@ -35,7 +35,7 @@ fn solo_turns(solo: &mut Solo, workload: Workload) -> u64
 }
 
 /// How many takes are given by a tree in one hand.
-pub fn given_by_solo(alloc: Global, workload: Workload) -> Result<u64, CubeRefused> {
+pub(crate) fn given_by_solo(alloc: Global, workload: Workload) -> Result<u64, CubeRefused> {
     let stations = if workload.beside_half { 2 } else { 1 };
     match Cube::open(alloc, DIM, stations) {
         Err(why) => Err(why),
@@ -57,7 +57,7 @@ pub fn given_by_solo(alloc: Global, workload: Workload) -> Result<u64, CubeRefus
 }
 
 /// How many takes are given by the allocation bits.
-pub fn given_by_bits(alloc: Global, workload: Workload) -> Result<u64, AllocError> {
+pub(crate) fn given_by_bits(alloc: Global, workload: Workload) -> Result<u64, AllocError> {
     let mut bits = AllocBits::new(alloc, DIM)?;
     if workload.beside_half {
         let _half = bits.take(1, DIM - 1);

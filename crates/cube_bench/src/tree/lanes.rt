@@ -13,7 +13,7 @@ use std::thread::Threads;
 use std::{mem, thread};
 
 /// The dimension of the machine.
-pub const DIM: u32 = 10;
+pub(crate) const DIM: u32 = 10;
 
 // A station that one thread steps with, and what came of its turns.
 struct Lane {
@@ -109,7 +109,7 @@ fn hold_half(cube: &Cube, station: TreeStation, beside_half: bool) -> Result<Sub
     if !beside_half {
         return Err(station);
     }
-    match station.try_take_skipping(cube, DIM - 1) {
+    match station.search(cube, DIM - 1) {
         Ok(subcube) => Ok(subcube),
         Err((station, _)) => Err(station),
     }
@@ -144,7 +144,7 @@ fn close(rt: &impl Wait, cube: Cube) {
 }
 
 /// How many takes are given in the run that is asked for.
-pub fn given_in<R: Threads + Wait + Sync>(
+pub(crate) fn given_in<R: Threads + Wait + Sync>(
     rt: &R,
     alloc: Global,
     threads: u32,

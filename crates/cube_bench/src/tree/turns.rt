@@ -7,7 +7,7 @@ use cube_tree::{Cube, TreeStation};
 
 /// The dimensions that takes ask for.
 #[derive(Clone, Copy)]
-pub enum Sizes {
+pub(crate) enum Sizes {
     /// 0.
     Leaf,
     /// 0 to 5 in turn.
@@ -17,7 +17,7 @@ pub enum Sizes {
 }
 
 /// The dimension that a station asks for in a turn.
-pub fn dim_of(sizes: Sizes, number: u32, turn: u64) -> u32
+pub(crate) fn dim_of(sizes: Sizes, number: u32, turn: u64) -> u32
     ensures { result ≤ 9 }
 {
     match sizes {
@@ -33,14 +33,19 @@ fn turn(cube: &Cube, station: TreeStation, k: u32) -> (TreeStation, bool)
     requires dim { k ≤ cube_dim cube.now }
     ensures { IsStationOf cube.now result.0 }
 {
-    match station.try_take_skipping(cube, k) {
+    match station.search(cube, k) {
         Ok(subcube) => (subcube.release(cube), true),
         Err((station, _)) => (station, false),
     }
 }
 
 /// So many turns of a station: how many takes were given.
-pub fn turns(cube: &Cube, station: TreeStation, sizes: Sizes, count: u64) -> (TreeStation, u64)
+pub(crate) fn turns(
+    cube: &Cube,
+    station: TreeStation,
+    sizes: Sizes,
+    count: u64,
+) -> (TreeStation, u64)
     requires cube { IsStationOf cube.now station }
     requires dim { cube_dim cube.now ≡ DIM }
     ensures { IsStationOf cube.now result.0 }

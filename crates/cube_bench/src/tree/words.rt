@@ -7,7 +7,7 @@ use cube_shape::MAX_STATIONS;
 
 /// The run that is to be measured.
 #[derive(Clone, Copy)]
-pub enum TreeRun {
+pub(crate) enum TreeRun {
     /// The tree, with a station on each of so many threads.
     Threads(u32, Workload),
     /// The tree in one hand.
@@ -18,7 +18,7 @@ pub enum TreeRun {
 
 /// What each station does.
 #[derive(Clone, Copy)]
-pub struct Workload {
+pub(crate) struct Workload {
     pub sizes: Sizes,
     /// How many turns each station makes.
     pub turns: u64,
@@ -74,7 +74,7 @@ fn workload_of(sizes: &str, turns: &str, rest: &[String]) -> Option<Workload> {
 }
 
 /// The run that the words ask for, if they are well formed.
-pub fn parse_words(words: &[String]) -> Option<TreeRun>
+pub(crate) fn parse_words(words: &[String]) -> Option<TreeRun>
     ensures { IfSome result HasLanes }
 {
     let [sizes, threads, turns, rest @ ..] = words else {

@@ -1,7 +1,6 @@
 -- What a writer of records has written, for the proofs of rows and of the buffer.
-use Rattle.std.specs.Prelude.{◌≡◌, ℕ, false, List, [], ◌++◌, Option, Some, None, Result, IfOk, All, Vec}
+use Rattle.std.specs.Prelude.{◌≡◌, ℕ, false, List, [], ◌++◌, Option, Some, None, All, Vec}
 use Rattle.std.specs.Global.{Global}
-use Rattle.std.specs.List.{flat_map}
 use Rattle.csv.specs.Records.{Row, fields_of, partial_of}
 use Rattle.csv.specs.Writing.{default_writer, fields_written, has_written, text_written, writer_setup}
 use Rattle.csv.specs.declared.writer.Writer.{Writer}
@@ -35,11 +34,3 @@ known None = []
 -- the text that was written into a list of bytes
 abbrev pub buffered : Writer (Vec ℕ Global) → List ℕ
 buffered writer = known (text_written items_held writer)
-
--- the lines of these rows, one after another
-abbrev pub lines_of : {Row : Type 0} → (Row → List (List ℕ)) → List Row → List ℕ
-lines_of fields rows = flat_map (λ row. line_of (fields row)) rows
-
--- the text of a part, where it could be made, has the lines of its rows
-abbrev pub IsTextOf : {Row E : Type 0} → (Row → List (List ℕ)) → Result (Vec ℕ Global) E → Vec Row Global → Type 0
-IsTextOf fields text part = IfOk text (λ it. it.items ≡ lines_of fields part.items)

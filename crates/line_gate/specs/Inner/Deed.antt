@@ -1,6 +1,6 @@
 -- The history of a gate: what its steps did, newest first, and what it makes of each record.
 use Rattle.std.specs.Prelude.{◌≡◌, ℕ, zero, suc, ◌+◌, ◌-◌, ◌<◌, Bool, true, false, cond, Option, Some, None, List, [], ◌∷◌, length, ◌==◌}
-use Rattle.histories.specs.History.{part, Legal}
+use Rattle.ghost_history.specs.History.{part, Legal}
 use Rattle.line_gate.specs.declared.gate.TheConstants.{CLOSED}
 use Rattle.cube_shape.specs.declared.limits.TheConstants.{MAX_ENTRIES}
 use Rattle.line_gate.specs.declared.gate.Counts.{Counts}

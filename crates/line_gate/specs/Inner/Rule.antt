@@ -2,7 +2,7 @@
 -- member's part of it.
 use Rattle.std.specs.Prelude.{◌≡◌, ◌≤◌, List}
 use Rattle.atomic_table.specs.Table.{State}
-use Rattle.histories.specs.Views.{Tied}
+use Rattle.ghost_history.specs.Views.{Tied}
 use Rattle.cube_shape.specs.declared.limits.TheConstants.{MAX_LANES}
 use Rattle.line_gate.specs.declared.gate.Counts.{Counts}
 use Rattle.line_gate.specs.declared.view.View.{View}

@@ -1,6 +1,6 @@
 -- What seats of a gate's table know.
 use Rattle.std.specs.Prelude.{ℕ, Option, None, List, [], ◌∷◌, ◌++◌}
-use Rattle.histories.specs.Lists.{first_of, rest_of}
+use Rattle.ghost_history.specs.Lists.{first_of, rest_of}
 use Rattle.line_gate.specs.declared.gate.Counts.{Counts}
 use Rattle.line_gate.specs.declared.record.LaneEntries.{LaneEntries}
 use Rattle.line_gate.specs.declared.record.PassReadings.{PassReadings}

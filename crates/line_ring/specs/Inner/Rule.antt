@@ -4,7 +4,7 @@ use Rattle.std.specs.Prelude.{◌≡◌, ℕ, ◌<◌, List}
 use Rattle.std.specs.List.{AllByRecursion as Each}
 use mathlib.Core.Option.{some}
 use lib.ListN.{get_elem?}
-use Rattle.histories.specs.Views.{Tied}
+use Rattle.ghost_history.specs.Views.{Tied}
 use Rattle.cube_shape.specs.declared.limits.TheConstants.{MAX_LANES, MAX_PASSES}
 use Rattle.line_ring.specs.declared.rule.View.{View}
 use Rattle.line_ring.specs.History.{Deed, waiting, lane_part, pass_part, IsLegal, rest_part}

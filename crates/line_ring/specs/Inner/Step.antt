@@ -1,7 +1,7 @@
 -- What the steps of a seat of a ring say: of its view before, the piece, and its view after.
 use Rattle.std.specs.Prelude.{◌≡◌, ℕ, ◌+◌, ◌-◌, ◌<◌, ◌≤◌, List, [], ◌∷◌, ◌++◌, length}
 use Rattle.std.specs.List.{AllByRecursion as Each}
-use Rattle.histories.specs.Sums.{total, is_at}
+use Rattle.ghost_history.specs.Sums.{total, is_at}
 use Rattle.cube_shape.specs.declared.limits.TheConstants.{MAX_LANES, MAX_PASSES}
 use Rattle.line_ring.specs.declared.record.RestRecord.{RestRecord}
 use Rattle.line_ring.specs.declared.rule.View.{View}

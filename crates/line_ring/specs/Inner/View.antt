@@ -1,6 +1,6 @@
 -- What the seats of a ring know.
 use Rattle.std.specs.Prelude.{ℕ, ◌+◌, List, [], ◌∷◌, ◌++◌, length}
-use Rattle.histories.specs.Lists.{first_of, rest_of, numbered_from}
+use Rattle.ghost_history.specs.Lists.{first_of, rest_of, numbered_from}
 use Rattle.cube_shape.specs.declared.limits.TheConstants.{MAX_LANES, MAX_PASSES}
 use Rattle.line_ring.specs.declared.record.LaneRecord.{LaneRecord}
 use Rattle.line_ring.specs.declared.record.PassRecord.{PassRecord}

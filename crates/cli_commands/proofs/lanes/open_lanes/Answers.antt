@@ -1,5 +1,5 @@
-use Rattle.std.proofs.Common.{List, Vec, Global, map, take, sym, ap, subst, ◌∙◌, rules}
-use Rattle.std.proofs.lemmas.Result.{IfOk-weaker}
+use Rattle.std.proofs.Common.{Global, List, map, take, sym, ap, subst, rules}
+use Rattle.std.specs.declared.collections.VecDeque.{VecDeque}
 use Rattle.job_types.specs.Job.{JobData}
 use Rattle.cli_commands.specs.OpenLanes.{AreOpenLanes}
 use Rattle.cli_commands.proofs.LaneLemmas.{opened_at}
@@ -8,6 +8,6 @@ use Rattle.cli_commands.proofs.lanes.open_lanes.Goals as goal
 pub returns : goal.returns
 returns c jobs are =
     let found = c.open_count-count.ensures in
-    let opens : AreOpenLanes (map (λ (lane : Vec JobData Global). lane.items) (take c.open_count-count.result c.args.lanes.items)) jobs =
+    let opens : AreOpenLanes (map (λ (lane : VecDeque JobData Global). lane.items) (take c.open_count-count.result c.args.lanes.items)) jobs =
     opened_at c.deref.result.now c.args.lanes.items c.open_count-count.result jobs (search rules) are found.range.0 found.range.1 found.past found.last in
-    IfOk-weaker c.to_queues.result _ _ (λ lists same. subst (λ (ls : List (List JobData)). AreOpenLanes ls jobs) (sym (same ∙ ap (map (λ (lane : Vec JobData Global). lane.items)) c.truncate.ensures.items)) opens) c.to_queues.ensures
+    subst (λ (ls : List (List JobData)). AreOpenLanes ls jobs) (sym (ap (map (λ (lane : VecDeque JobData Global). lane.items)) c.truncate.ensures.items)) opens

@@ -1,5 +1,5 @@
 use denote.Param.Send.{sendable}
-use Rattle.tree_floor.proofs.SharedLemmas.{tree_floor_sync}
+use Rattle.floor_tree.proofs.SharedLemmas.{tree_floor_sync}
 use Rattle.cube_bench.proofs.dispatch.measure_shop.Goals as goal
 
 pub run_shop-requires-sync-F : goal.run_shop-requires-sync-F

@@ -1,5 +1,5 @@
 use Rattle.std.proofs.Common.{◌≡◌, ◌*◌, ◌-◌, ◌^◌, ◌≤◌}
-use Rattle.histories.specs.Sums.{below}
+use Rattle.ghost_history.specs.Sums.{below}
 use Rattle.cube_occupancy.specs.Occupancy.{held_regions}
 use Rattle.cube_occupancy.proofs.counting.held_processors.Given as goal
 

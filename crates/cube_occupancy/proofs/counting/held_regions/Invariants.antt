@@ -1,5 +1,5 @@
 use Rattle.std.proofs.Common.{◌≡◌, ◌+◌, ◌^◌, ◌≤◌, cond}
-use Rattle.histories.specs.Sums.{below}
+use Rattle.ghost_history.specs.Sums.{below}
 use Rattle.cube_occupancy.specs.Occupancy.{is_held_node}
 use Rattle.cube_occupancy.proofs.counting.held_regions.Given as goal
 

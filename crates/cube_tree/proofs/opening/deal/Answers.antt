@@ -4,7 +4,7 @@ use Rattle.std.specs.Prelude.{All}
 use Rattle.tree_steps.specs.Tree.{id_of}
 use Rattle.tree_steps.specs.Rule.{idle_entries}
 use Rattle.cube_tree.specs.Handles.{station_entry, HasTable}
-use Rattle.cube_tree.specs.Remembered.{RemembersNothing}
+use Rattle.cube_tree.specs.Hint.{HasNoHint}
 use Rattle.cube_tree.proofs.OpeningLemmas.{idle_seat, cut_rest, cut_seat, bare_seat, dealt_more, dealt_all}
 use Rattle.cube_tree.proofs.opening.deal.Goals as goal
 
@@ -25,8 +25,8 @@ loop-number-preserved c = record {
       (cut_seat c.loop-number.number c.args.stations _ _ c.loop-number-test.true c.loop-number.invariant.seat c.cut_first-own.ensures.cut).1;
   of_tree = subst (All (HasTable (id_of c.args.tree.now))) (sym c.push_reserved.ensures.items)
       (All-push (HasTable (id_of c.args.tree.now)) c.loop-number.list.items _ c.loop-number.invariant.of_tree (c.cut_first-own.ensures.other ∙ c.loop-number.invariant.same ∙ c.requires.seat));
-  nothing = subst (All RemembersNothing) (sym c.push_reserved.ensures.items)
-      (All-push RemembersNothing c.loop-number.list.items _ c.loop-number.invariant.nothing refl);
+  nothing = subst (All HasNoHint) (sym c.push_reserved.ensures.items)
+      (All-push HasNoHint c.loop-number.list.items _ c.loop-number.invariant.nothing refl);
 }
 
 pub returns : goal.returns

@@ -3,7 +3,7 @@ use Rattle.std.specs.Prelude.{All}
 use Rattle.tree_steps.specs.Rule.{idle_entries}
 use Rattle.tree_steps.specs.Tree.{id_of}
 use Rattle.cube_tree.specs.Handles.{station_entry, HasTable}
-use Rattle.cube_tree.specs.Remembered.{RemembersNothing}
+use Rattle.cube_tree.specs.Hint.{HasNoHint}
 use Rattle.cube_tree.proofs.OpeningLemmas.{idle_seat}
 use Rattle.cube_tree.proofs.opening.deal.Given as goal
 
@@ -15,5 +15,5 @@ invariant-loop-number l = record {
   room : l.stations ≤ vec_capacity l.list;
   idle : map station_entry l.list.items ≡ idle_entries 0 l.number;
   of_tree : All (HasTable (id_of l.tree)) l.list.items;
-  nothing : All RemembersNothing l.list.items;
+  nothing : All HasNoHint l.list.items;
 }

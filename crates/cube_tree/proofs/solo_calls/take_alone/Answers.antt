@@ -5,14 +5,14 @@ use Rattle.cube_tree.proofs.ToldLemmas.{idle_holds, only_holds, told_idle, told_
 use Rattle.cube_tree.proofs.solo_calls.take_alone.Goals as goal
 
 pub returns-in-Ok-clause-told : goal.returns-in-Ok-clause-told
-returns-in-Ok-clause-told c = told_read (Looking c.args.node) c.requires.told c.requires.alone c.requires.phase c.take.ensures.walks c.in-Ok.ensures.phase tt
-    (idle_holds c.args.node) (only_holds c.args.node) c.compare.ensures.same c.read_path.ensures.same (ap (λ (size : Size). size.dim) c.read_path.ensures.size)
+returns-in-Ok-clause-told c = told_read (Looking c.args.node.0) c.requires.told c.requires.alone c.requires.phase c.take.ensures.walks c.in-Ok.ensures.phase tt
+    (idle_holds c.args.node.0) (only_holds c.args.node.0) c.compare.ensures.same c.read_path.ensures.same (ap (λ (size : Size). size.dim) c.read_path.ensures.size)
     c.read_path.ensures.path c.read_path.ensures.others
 
 pub returns-in-Err-InUse-clause-told : goal.returns-in-Err-InUse-clause-told
-returns-in-Err-InUse-clause-told c = told_idle (Looking c.args.node) c.requires.told c.requires.phase c.take.ensures.walks c.in-Err-InUse.ensures.phase
+returns-in-Err-InUse-clause-told c = told_idle (Looking c.args.node.0) c.requires.told c.requires.phase c.take.ensures.walks c.in-Err-InUse.ensures.phase
 
 pub returns-in-Err-clause-told : goal.returns-in-Err-clause-told
-returns-in-Err-clause-told c = told_read (Looking c.args.node) c.requires.told c.requires.alone c.requires.phase c.take.ensures.walks c.in-Err.ensures.phase tt
-    (idle_holds c.args.node) (idle_holds c.args.node) refl c.read_path-in-Err.ensures.same (ap (λ (size : Size). size.dim) c.read_path-in-Err.ensures.size)
+returns-in-Err-clause-told c = told_read (Looking c.args.node.0) c.requires.told c.requires.alone c.requires.phase c.take.ensures.walks c.in-Err.ensures.phase tt
+    (idle_holds c.args.node.0) (idle_holds c.args.node.0) refl c.read_path-in-Err.ensures.same (ap (λ (size : Size). size.dim) c.read_path-in-Err.ensures.size)
     c.read_path-in-Err.ensures.path c.read_path-in-Err.ensures.others

@@ -7,7 +7,7 @@ use Rattle.cube_tree.specs.InnerSolo.{IsMoved}
 use Rattle.cube_tree.proofs.solo_calls.take_first.Given as goal
 
 abbrev pub decreases-loop-node : goal.decreases-loop-node
-decreases-loop-node l = 2 * l.first - l.node
+decreases-loop-node l = 2 * l.first - l.node.0
 
 abbrev pub invariant-loop-node : goal.invariant-loop-node
 invariant-loop-node l = record {
@@ -17,6 +17,6 @@ invariant-loop-node l = record {
   moved : IsMoved l.station Idle l.fn.seat.me l.seat.me;
   alone : IsAlone l.seat.me;
   told : IsTold (dim_of l.tree) (read_words l.tree) l.seat.me.0.stations;
-  low : 2 ^ (dim_of l.fn.tree - l.k) ≤ l.node;
-  blocked : (v : ℕ) → 2 ^ (dim_of l.fn.tree - l.k) ≤ v → v < l.node → IsBlocked v (unpicked l.station l.fn.seat.me.0.stations);
+  low : 2 ^ (dim_of l.fn.tree - l.k) ≤ l.node.0;
+  blocked : (v : ℕ) → 2 ^ (dim_of l.fn.tree - l.k) ≤ v → v < l.node.0 → IsBlocked v (unpicked l.station l.fn.seat.me.0.stations);
 }

@@ -1,5 +1,5 @@
 use denote.Param.Send.{sendable}
-use Rattle.tree_floor.proofs.SharedLemmas.{tree_floor_sync}
+use Rattle.floor_tree.proofs.SharedLemmas.{tree_floor_sync}
 use Rattle.cubejobs.proofs.answering.answer_all.Goals as goal
 
 pub answer_all-requires-sync-F : goal.answer_all-requires-sync-F

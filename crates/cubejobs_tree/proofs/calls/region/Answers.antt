@@ -2,5 +2,5 @@
 use Rattle.std.proofs.Common.{◌∙◌, ap, Some}
 use Rattle.cubejobs_tree.proofs.calls.region.Goals as goal
 
-pub returns-in-Busy-clause-named : goal.returns-in-Busy-clause-named
-returns-in-Busy-clause-named c = λ code. record { held = c.in-Busy.held; is = ap Some c.in-Busy.is; region = c.done.ensures.region ∙ c.region.ensures }
+pub returns-in-Holding-clause-named : goal.returns-in-Holding-clause-named
+returns-in-Holding-clause-named c = λ code. record { held = c.in-Holding.held; is = ap Some c.in-Holding.is; region = c.done.ensures.region ∙ c.region.ensures }

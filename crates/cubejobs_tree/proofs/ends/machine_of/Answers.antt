@@ -10,7 +10,7 @@ returns-clause-made c =
     record {
       machine = c.in-Some.machine;
       is = refl;
-      size = ap cube_size made.cube ∙ c.roll_reader-reader.ensures.same.size ∙ c.in_ok-cube.ensures.size;
+      size = ap cube_size made.cube ∙ c.retirement_reader-reader.ensures.same.size ∙ c.in_ok-cube.ensures.size;
       all = ap (λ q. map station_entry q.items) made.stations ∙ ap (map station_entry) c.from.ensures.0 ∙ c.in_ok-cube.ensures.idle;
-      no_loads = ap reader_loads made.reader ∙ c.roll_reader-reader.ensures.loads ∙ c.in_ok-cube.ensures.loads;
+      no_loads = ap reader_loads made.reader ∙ c.retirement_reader-reader.ensures.loads ∙ c.in_ok-cube.ensures.loads;
     }

@@ -7,11 +7,11 @@ use Rattle.cubejobs_tree.proofs.exports.take_as.Goals as goal
 pub returns-clause-given : goal.returns-clause-given
 returns-clause-given c = λ code.
     let answer = c.take-content.result.1 in
-    subst (λ old. Gives c.args.ask old (content_of c.put_back.new.handle) answer) (sym c.in-Some.ensures.some.0)
-    (subst (λ new. Gives c.args.ask (Some c.in-Some.content) new answer) (sym c.put_back.ensures) (c.take-content.ensures.given code))
+    subst (λ old. Gives c.args.request old (content_of c.restore_content.new.handle) answer) (sym c.in-Some.ensures.some.0)
+    (subst (λ new. Gives c.args.request (Some c.in-Some.content) new answer) (sym c.restore_content.ensures) (c.take-content.ensures.given code))
 
 pub returns-clause-refused : goal.returns-clause-refused
 returns-clause-refused c = λ code.
     let answer = c.take-content.result.1 in
-    subst (λ old. Refuses c.args.ask old (content_of c.put_back.new.handle) answer) (sym c.in-Some.ensures.some.0)
-    (subst (λ new. Refuses c.args.ask (Some c.in-Some.content) new answer) (sym c.put_back.ensures) (c.take-content.ensures.refused code))
+    subst (λ old. Refuses c.args.request old (content_of c.restore_content.new.handle) answer) (sym c.in-Some.ensures.some.0)
+    (subst (λ new. Refuses c.args.request (Some c.in-Some.content) new answer) (sym c.restore_content.ensures) (c.take-content.ensures.refused code))

@@ -22,12 +22,6 @@ returns-clause-entries g c = c.hand_in.ensures.entries
 pub returns-clause-refused : goal.returns-clause-refused
 returns-clause-refused g c = λ done turns. c.hand_in.ensures.refused done
 
-pub returns-clause-closed : goal.returns-clause-closed
-returns-clause-closed g c = c.hand_in.ensures.closed
-
-pub returns-clause-spent : goal.returns-clause-spent
-returns-clause-spent g c = c.hand_in.ensures.spent
-
 pub returns-then-turns-eq0-clause-fed : goal.returns-then-turns-eq0-clause-fed
 returns-then-turns-eq0-clause-fed g c =
     ap (λ (js : List JobData). js ++ c.args.jobs.items) (append-nil (accepted_jobs (g.L.JobLine.lane_record c.args.lane.now)))

@@ -65,18 +65,19 @@ returns-in-Some-stop_for-clause-entries g c =
     at_refusal c.args.jobs.items (c.in-Err.job ∷ rest) before now (line.lane_record c.submit.new.lane) c.in-Err.refused c.in-Some-stop_for.stop
     (subst (λ (js : List JobData). SoFar c.args.jobs.items js before now) (sym items) c.loop.invariant.2) c.in-Err.ensures.refused c.in-Some-stop_for.ensures.stop
 
-pub returns-in-Some-stop_for-clause-done : goal.returns-in-Some-stop_for-clause-done
-returns-in-Some-stop_for-clause-done g c = λ done. absurd (not_done_at c.in-Err.refused c.in-Some-stop_for.stop c.in-Some-stop_for.ensures.stop done)
-
-pub returns-in-Some-stop_for-clause-closed : goal.returns-in-Some-stop_for-clause-closed
-returns-in-Some-stop_for-clause-closed g c = λ seen closed.
+pub returns-in-Some-stop_for-clause-stopped : goal.returns-in-Some-stop_for-clause-stopped
+returns-in-Some-stop_for-clause-stopped g c =
     let line = g.L.JobLine in
-    closed_at (line.lane_record c.loop.lane) (line.lane_record c.submit.new.lane) c.in-Err.refused c.in-Some-stop_for.stop seen c.in-Err.ensures.refused c.in-Some-stop_for.ensures.stop closed
-
-pub returns-in-Some-stop_for-clause-spent : goal.returns-in-Some-stop_for-clause-spent
-returns-in-Some-stop_for-clause-spent g c =
-    let line = g.L.JobLine in
-    spent_at (line.lane_record c.loop.lane) (line.lane_record c.submit.new.lane) c.in-Err.refused c.in-Some-stop_for.stop c.in-Err.ensures.refused c.in-Err.ensures.spent_only c.in-Some-stop_for.ensures.stop
+    let now = line.lane_record c.loop.lane in
+    let next = line.lane_record c.submit.new.lane in
+    let why = c.in-Err.refused in
+    let stop = c.in-Some-stop_for.stop in
+    let is = c.in-Some-stop_for.ensures.stop in
+    record {
+      done = λ done. absurd (not_done_at why stop is done);
+      closed = λ seen closed. closed_at now next why stop seen c.in-Err.ensures.refused is closed;
+      spent = spent_at now next why stop c.in-Err.ensures.refused c.in-Err.ensures.spent_only is;
+    }
 
 pub returns-in-Some-stop_for-clause-turns : goal.returns-in-Some-stop_for-clause-turns
 returns-in-Some-stop_for-clause-turns g c = λ turns.

@@ -1,4 +1,4 @@
-use Rattle.std.proofs.Common.{map, Some}
+use Rattle.std.proofs.Common.{map}
 use Rattle.std.proofs.lemmas.List.Elements.{All-push, All-same, All-pop}
 use Rattle.dispatcher.specs.Reply.{region_of}
 use Rattle.dispatcher.proofs.GrantLemmas.{granted_last}

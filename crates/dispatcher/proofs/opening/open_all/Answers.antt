@@ -9,15 +9,15 @@ use Rattle.dispatcher.proofs.opening.open_all.Goals as goal
 pub pair_up-requires-clause-beside : goal.pair_up-requires-clause-beside
 pair_up-requires-clause-beside g c =
     let both = c.in-Ok-open_both.ensures in
-    sym (length-map c.in-Ok-open_both.opened.passes.items g.L.JobLine.pass_record) ∙ (ap length both.fresh_passes ∙ (passes_count c.args.dispatchers ∙ sym both.count))
+    sym (length-map c.in-Ok-open_both.opened.passes.items g.L.JobLine.pass_record) ∙ (ap length both.fresh_passes ∙ (passes_count c.args.sizes.passes ∙ sym both.count))
 
 pub pair_up-requires-clause-room : goal.pair_up-requires-clause-room
 pair_up-requires-clause-room g c =
-    let count = sym (length-map c.in-Ok-open_both.opened.passes.items g.L.JobLine.pass_record) ∙ (ap length c.in-Ok-open_both.ensures.fresh_passes ∙ passes_count c.args.dispatchers) in
+    let count = sym (length-map c.in-Ok-open_both.opened.passes.items g.L.JobLine.pass_record) ∙ (ap length c.in-Ok-open_both.ensures.fresh_passes ∙ passes_count c.args.sizes.passes) in
     omega (arith, count, c.in-Ok.ensures.exact)
 
 pub pair_up-requires-clause-none_taken : goal.pair_up-requires-clause-none_taken
-pair_up-requires-clause-none_taken g c = of_their_parts (λ (r : PassRecord). r.taken ≡ []) g.L.JobLine.pass_record c.in-Ok-open_both.opened.passes.items _ c.in-Ok-open_both.ensures.fresh_passes (none_taken c.args.dispatchers)
+pair_up-requires-clause-none_taken g c = of_their_parts (λ (r : PassRecord). r.taken ≡ []) g.L.JobLine.pass_record c.in-Ok-open_both.opened.passes.items _ c.in-Ok-open_both.ensures.fresh_passes (none_taken c.args.sizes.passes)
 
 pub returns-clause-workers : goal.returns-clause-workers
 returns-clause-workers g c =

@@ -7,7 +7,7 @@ pub returns-clause-one_machine : goal.returns-clause-one_machine
 returns-clause-one_machine g c = record {
   machine = ap (λ (s : Sizes). s.machine) c.in-Ok.ensures.sizes ∙ sym c.in_ok-floor.ensures.dim;
   stations = ap (λ (s : Sizes). s.passes) c.in-Ok.ensures.sizes ∙ sym c.in_ok-floor.ensures.stations;
-  some = subst (λ (count : ℕ). 0 < count) (sym c.in_ok-floor.ensures.stations) (has_dispatchers c.args.n c.args.lanes c.args.dispatchers c.args.capacity c.requires);
+  some = subst (λ (count : ℕ). 0 < count) (sym c.in_ok-floor.ensures.stations) (has_dispatchers c.args.sizes.machine c.args.sizes.lanes c.args.sizes.passes c.args.sizes.capacity c.requires);
 }
 
 pub returns-clause-sizes : goal.returns-clause-sizes

@@ -1,31 +1,34 @@
-use Rattle.std.proofs.Common.{rules, arith, ◌≡◌, ◌∷◌, ◌++◌, [], ap, length, sym, ◌∙◌}
+use Rattle.std.proofs.Common.{◌≡◌, ◌++◌, rules, refl, sym, subst, ◌∙◌, append-nil}
 use Rattle.std.proofs.lemmas.Result.{on_ok_weaker}
-use Rattle.jobs_csv.proofs.PartLemmas.{end_written, header_made, part_written, rows_of}
+use Rattle.std.proofs.lemmas.Iterator.Adapters.{YieldsList-from_vec}
+use Rattle.std.proofs.lemmas.Iterator.Consumers.{YieldsList-end}
+use Rattle.std.proofs.lemmas.List.{flat_map_more, map-id}
+use Rattle.jobs_csv.specs.Text.{file_text, line_of}
+use Rattle.jobs_csv.proofs.SentLemmas.{IsSentOrBuffered, all_sent, more_buffered, more_sent, nothing_sent}
 use Rattle.jobs_csv.proofs.writing.write_all_rows.Goals as goal
 
-pub loop-first-smaller : goal.loop-first-smaller
-loop-first-smaller g c =
-    let fewer = c.take_parts.ensures.fewer in
-    let next : c.loop-first.left.items ≡ c.in-Some.first ∷ c.pop_front.new.self.items = search rules in
-    let same = ap length next in
-    omega (arith, fewer, same)
+pub loop-row-init : goal.loop-row-init
+loop-row-init g c =
+    let header : c.in_ok-lines.lines ≡ line_of g.R.Row.columns = search rules in
+    nothing_sent _ _ _ (header ∙ sym (append-nil (line_of g.R.Row.columns)))
 
-pub loop-first-init : goal.loop-first-init
-loop-first-init g c = search (header_made, rules)
-
-pub loop-first-preserved : goal.loop-first-preserved
-loop-first-preserved g c =
-    let fields = g.T.Row.fields in
-    let next : c.loop-first.left.items ≡ c.in-Some.first ∷ c.pop_front.new.self.items = search rules in
-    let none : c.clear.new.self.items ≡ [] = search rules in
-    let writes = (rw c.deref.ensures.value at c.in_ok-write_out.ensures) in
-    let taken = rows_of c.in_ok-parts.parts.items in
-    let rest = c.take_parts.new.left.items in
-    let parts : taken ++ rest ≡ c.loop-first.left.items = c.in_ok-parts.ensures.whole ∙ sym next in
-    rw none (part_written fields _ _ _ c.loop-first.text.items _ c.loop-first.left.items taken rest _ c.loop-first.invariant parts c.in_ok-add_parts.ensures writes)
+pub loop-row-preserved : goal.loop-row-preserved
+loop-row-preserved g c =
+    let old = g.W.Write.contents c.args.writer.now in
+    let now = g.W.Write.contents c.loop-row.writer in
+    let next = g.W.Write.contents c.write_row.new.writer in
+    let line = line_of (g.R.Row.fields c.in-Some.row) in
+    let text = file_text g.R.Row.columns g.R.Row.fields c.loop-row.yielded in
+    let (out, writes, all) = c.in_ok-lines-2.ensures in
+    let buffered = more_buffered old now c.loop-row.lines (c.loop-row.lines ++ line) line text c.loop-row.invariant refl in
+    let sent = more_sent old now next (c.loop-row.lines ++ line) c.in_ok-lines-2.lines out (text ++ line) buffered writes all in
+    subst (IsSentOrBuffered old next c.in_ok-lines-2.lines)
+    (flat_map_more (λ row. line_of (g.R.Row.fields row)) (line_of g.R.Row.columns) c.loop-row.yielded c.in-Some.row) sent
 
 pub returns : goal.returns
 returns g c =
-    let none : c.loop-first.left.items ≡ [] = search rules in
-    let last = (rw c.deref-2.ensures.value at c.write_last.ensures) in
-    on_ok_weaker c.write_last.result (λ writes. end_written g.T.Row.fields _ _ _ c.loop-first.text.items c.loop-first.left.items _ c.loop-first.invariant none writes) last
+    let old = g.W.Write.contents c.args.writer.now in
+    let now = g.W.Write.contents c.loop-row.writer in
+    let last = YieldsList-end (YieldsList-from_vec {s = c.into_iter-row-iterator.result} c.args.rows.items (search rules) (search rules)) c.loop-row.yielded c.loop-row.row-iterator c.loop-row.yielded_by c.next.result c.next.new.self c.in-None.is c.next.ensures.steps in
+    let all : c.loop-row.yielded ≡ c.args.rows.items = sym (map-id c.loop-row.yielded) ∙ last.0 in
+    on_ok_weaker c.finish.result (λ writes. rw (← all) (all_sent old now (g.W.Write.contents c.finish.new.writer) c.loop-row.lines (file_text g.R.Row.columns g.R.Row.fields c.loop-row.yielded) c.loop-row.invariant writes)) c.finish.ensures

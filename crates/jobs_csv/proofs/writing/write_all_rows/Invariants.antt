@@ -1,11 +1,7 @@
-use Rattle.std.proofs.Common.{length}
 use Rattle.jobs_csv.specs.Text.{file_text}
-use Rattle.jobs_csv.proofs.PartLemmas.{IsWrittenSoFar}
+use Rattle.jobs_csv.proofs.SentLemmas.{IsSentOrBuffered}
 use Rattle.jobs_csv.proofs.writing.write_all_rows.Given as goal
 
-abbrev pub invariant-loop-first : goal.invariant-loop-first
-invariant-loop-first g l = IsWrittenSoFar g.T.Row.fields (g.W.Write.contents l.fn.writer) (g.W.Write.contents l.writer) l.text.items l.left.items
-    (file_text g.T.Row.columns g.T.Row.fields l.fn.rows.items)
-
-abbrev pub decreases-loop-first : goal.decreases-loop-first
-decreases-loop-first g l = length l.left.items
+-- the lines of the rows so far are written out or buffered
+abbrev pub invariant-loop-row : goal.invariant-loop-row
+invariant-loop-row g l = IsSentOrBuffered (g.W.Write.contents l.fn.writer) (g.W.Write.contents l.writer) l.lines (file_text g.R.Row.columns g.R.Row.fields l.yielded)

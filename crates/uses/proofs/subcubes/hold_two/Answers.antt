@@ -12,11 +12,11 @@ returns-clause-apart c = rw (c.region.ensures, c.region-2.ensures) c.apart-subcu
 pub returns-clause-aligned : goal.returns-clause-aligned
 returns-clause-aligned c = (
   subst (IsAligned (cube_dim c.args.cube.now)) (sym (c.region.ensures ∙ c.apart-subcube.ensures.first.region_is)) c.in-Ok.ensures.aligned,
-  subst (IsAligned (cube_dim c.args.cube.now)) (sym (c.region-2.ensures ∙ c.apart-subcube.ensures.second.region_is)) c.in-Ok-try_take_skipping.ensures.aligned,
+  subst (IsAligned (cube_dim c.args.cube.now)) (sym (c.region-2.ensures ∙ c.apart-subcube.ensures.second.region_is)) c.in-Ok-search.ensures.aligned,
 )
 
 pub returns-clause-dimensions : goal.returns-clause-dimensions
 returns-clause-dimensions c = (
   ap (λ (r : Region). r.dim) (c.region.ensures ∙ c.apart-subcube.ensures.first.region_is) ∙ c.in-Ok.ensures.dimension,
-  ap (λ (r : Region). r.dim) (c.region-2.ensures ∙ c.apart-subcube.ensures.second.region_is) ∙ c.in-Ok-try_take_skipping.ensures.dimension,
+  ap (λ (r : Region). r.dim) (c.region-2.ensures ∙ c.apart-subcube.ensures.second.region_is) ∙ c.in-Ok-search.ensures.dimension,
 )

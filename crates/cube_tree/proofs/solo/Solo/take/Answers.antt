@@ -31,8 +31,8 @@ pub invariant_of-self-2 : goal.invariant_of-self-2
 invariant_of-self-2 c =
     let found = rw c.deref.ensures.value at c.in-Some.ensures.found in let size = c.args.self.now.state.slot_count in let there = found.there in record {
       table = c.take_first.ensures.table ∙ c.args.self.now.table ∙ sym c.take_first.ensures.same.0;
-      state = subst (λ (size : Size). Represents size.dim size.stations (set c.args.self.now.nodes.items c.in-Some.station (Some record { 0 = c.in-Some-take_first.node })) c.take_first.new.seat.me) (sym c.take_first.ensures.same.1)
-          (taken_state c.args.self.now.state c.in-Some.station (omega (arith, there, size)) found.idle c.requires record { 0 = c.in-Some-take_first.node } c.in-Some-take_first.ensures.moved c.in-Some-take_first.ensures.first);
+      state = subst (λ (size : Size). Represents size.dim size.stations (set c.args.self.now.nodes.items c.in-Some.station (Some c.in-Some-take_first.node)) c.take_first.new.seat.me) (sym c.take_first.ensures.same.1)
+          (taken_state c.args.self.now.state c.in-Some.station (omega (arith, there, size)) found.idle c.requires c.in-Some-take_first.node c.in-Some-take_first.ensures.moved c.in-Some-take_first.ensures.first);
       told = c.take_first.ensures.told;
     }
 
@@ -41,10 +41,10 @@ returns-clause-given c =
     let found = rw c.deref.ensures.value at c.in-Some.ensures.found in let size = c.args.self.now.state.slot_count in let there = found.there in
     let moved = c.in-Some-take_first.ensures.moved in let first = c.in-Some-take_first.ensures.first in (
       first.m,
-      taken_fit c.args.self.now.state c.in-Some.station (omega (arith, there, size)) found.idle c.requires record { 0 = c.in-Some-take_first.node } moved first,
-      subst (λ (size : Size). Gives (solo_dim c.args.self.now) c.in-Some.station c.args.k (held_by c.args.self.now) (holdings size.dim (set c.args.self.now.nodes.items c.in-Some.station (Some record { 0 = c.in-Some-take_first.node }))) (block c.args.k first.m))
+      taken_fit c.args.self.now.state c.in-Some.station (omega (arith, there, size)) found.idle c.requires c.in-Some-take_first.node moved first,
+      subst (λ (size : Size). Gives (solo_dim c.args.self.now) c.in-Some.station c.args.k (held_by c.args.self.now) (holdings size.dim (set c.args.self.now.nodes.items c.in-Some.station (Some c.in-Some-take_first.node))) (block c.args.k first.m))
           (sym c.take_first.ensures.same.1)
-          (taken_gives c.args.self.now.state c.in-Some.station (omega (arith, there, size)) found.idle c.requires record { 0 = c.in-Some-take_first.node } moved first),
+          (taken_gives c.args.self.now.state c.in-Some.station (omega (arith, there, size)) found.idle c.requires c.in-Some-take_first.node moved first),
     )
 
 pub returns-clause-no_subcube : goal.returns-clause-no_subcube
@@ -52,5 +52,5 @@ returns-clause-no_subcube c =
     let found = rw c.deref.ensures.value at c.in-Some.ensures.found in let size = c.args.self.now.state.slot_count in let there = found.there in
     let moved = c.in-Some-take_first.ensures.moved in let first = c.in-Some-take_first.ensures.first in (
       λ e. absurd (ok_or_err e),
-      λ (_, none). absurd (IsFirstFit-fits (solo_dim c.args.self.now) c.args.k first.m (held_by c.args.self.now) (taken_fit c.args.self.now.state c.in-Some.station (omega (arith, there, size)) found.idle c.requires record { 0 = c.in-Some-take_first.node } moved first) none),
+      λ (_, none). absurd (IsFirstFit-fits (solo_dim c.args.self.now) c.args.k first.m (held_by c.args.self.now) (taken_fit c.args.self.now.state c.in-Some.station (omega (arith, there, size)) found.idle c.requires c.in-Some-take_first.node moved first) none),
     )

@@ -1,5 +1,5 @@
 use Rattle.std.proofs.Common.{◌≡◌, ◌+◌, ◌^◌, vec_len}
-use Rattle.cubejobs_tree.specs.Share.{cube_of}
+use Rattle.cubejobs_tree.specs.Ownership.{cube_of}
 use Rattle.cube_tree.specs.Handles.{cube_dim}
 use Rattle.cubejobs_tree.proofs.machine.Machine.read_words.Given as goal
 

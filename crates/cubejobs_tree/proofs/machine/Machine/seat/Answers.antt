@@ -1,7 +1,7 @@
 -- The first station that waits gets the handle.
 use Rattle.std.proofs.Common.{ap, sym, subst, refl, Some, rules}
 use Rattle.std.specs.List.{All}
-use Rattle.cubejobs_tree.specs.Share.{cube_of}
+use Rattle.cubejobs_tree.specs.Ownership.{cube_of}
 use Rattle.std.proofs.lemmas.List.Elements.{All-drop}
 use Rattle.cube_tree.specs.Handles.{IsStationOf}
 use Rattle.cubejobs_tree.proofs.machine.Machine.seat.Goals as goal

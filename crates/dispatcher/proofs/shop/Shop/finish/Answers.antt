@@ -3,7 +3,7 @@ use Rattle.std.specs.List.{All, AllByRecursion}
 use Rattle.std.proofs.lemmas.List.Elements.{All-map, All-same, All-weaker}
 use Rattle.std.proofs.lemmas.List.{length-map}
 use Rattle.floors.specs.Floor.{IsWhollyFree}
-use Rattle.histories.specs.Sums.{times}
+use Rattle.ghost_history.specs.Sums.{times}
 use Rattle.job_queue.specs.declared.record.LaneRecord.{LaneRecord}
 use Rattle.job_queue.specs.Record.{accepted}
 use Rattle.job_queue.specs.Line.{IsMadeFor}

@@ -8,9 +8,9 @@ use Rattle.tree_steps.proofs.tree.Tree.clear.Goals as goal
 pub compare_exchange-found-requires : goal.compare_exchange-found-requires
 compare_exchange-found-requires c = (
   search rules,
-  node_word c.args.self.now c.args.at c.requires.node.1,
-  steps _ _ _ _ _ _ _ c.requires.phase refl (ap (λ (d : Transition). d.node) (clears _ c.args.at c.args.word c.args.left c.args.right c.requires.left c.requires.right))
-      (λ w. clear_writes _ c.args.at c.args.word _ w c.args.left c.args.right _ _ c.requires.left c.requires.right c.is_free.ensures c.is_free-2.ensures c.cleared-cleared.ensures.value),
+  node_word c.args.self.now c.args.at.0 c.requires.node.1,
+  steps _ _ _ _ _ _ _ c.requires.phase refl (ap (λ (d : Transition). d.node) (clears _ c.args.at.0 c.args.word c.args.left c.args.right c.requires.left c.requires.right))
+      (λ w. clear_writes _ c.args.at.0 c.args.word _ w c.args.left c.args.right _ _ c.requires.left c.requires.right c.is_free.ensures c.is_free-2.ensures c.cleared-cleared.ensures.value),
 )
 
 pub returns-clause-walks : goal.returns-clause-walks

@@ -6,7 +6,7 @@ use Rattle.tree_steps.proofs.tree.Tree.mark.Goals as goal
 pub fetch_or-found-requires : goal.fetch_or-found-requires
 fetch_or-found-requires c = (
   search rules,
-  node_word c.args.self.now c.args.at c.requires.node.1,
+  node_word c.args.self.now c.args.at.0 c.requires.node.1,
   steps _ _ _ _ _ _ _ c.requires.phase refl refl (λ w. mark_writes _ c.args.station _ w c.requires.station c.mark_mask-bit.ensures.value),
 )
 

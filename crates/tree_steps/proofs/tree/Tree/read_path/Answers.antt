@@ -15,8 +15,8 @@ loop-at-preserved c =
       same = c.read-word.ensures.same ∙ same;
       in_cube = omega (arith, inside);
       on_path = λ positive. OnPath-trans _ _ _ (OnPath-parent c.loop-at.at positive) on;
-      path = λ alone rest. path_read c.loop-at.self.room.items c.loop-at.at c.args.node c.read-word.result c.args.seat.now.me.0.stations (omega (arith, inside, c.loop-at.self.has_room, c.loop-at.self.room.ok.0)) on
+      path = λ alone rest. path_read c.loop-at.self.room.items c.loop-at.at c.args.node.0 c.read-word.result c.args.seat.now.me.0.stations (omega (arith, inside, c.loop-at.self.has_room, c.loop-at.self.room.ok.0)) on
           (subst (λ (m : Known). IsAlone m → IsAtRest (first_of m).phase → TellsWord c.loop-at.at c.read-word.result m.0.stations) same c.read-word.ensures.word alone rest)
           (c.loop-at.invariant.path alone rest);
-      others = λ v off. others_read c.loop-at.self.room.items c.loop-at.at c.args.node c.read-word.result c.args.seat.now.me.0.stations on v off ∙ c.loop-at.invariant.others v off;
+      others = λ v off. others_read c.loop-at.self.room.items c.loop-at.at c.args.node.0 c.read-word.result c.args.seat.now.me.0.stations on v off ∙ c.loop-at.invariant.others v off;
     }

@@ -13,9 +13,9 @@ invariant-loop-at l = record {
   seat : l.seat.table_id ≡ l.initial.seat.table_id;
   same : l.seat.me ≡ l.initial.seat.me;
   in_cube : l.at < 2 ^ (dim_of l.self + 1);
-  on_path : 0 < l.at → OnPath l.at l.node;
-  path : IsAlone l.initial.seat.me → IsAtRest (first_of l.initial.seat.me).phase → (v : ℕ) → OnPath v l.node → l.at < v → TellsWord v (slice_index (read_words l.self) v) l.initial.seat.me.0.stations;
-  others : (v : ℕ) → (OnPath v l.node → ⊥) → slice_index (read_words l.self) v ≡ slice_index (read_words l.initial.self) v;
+  on_path : 0 < l.at → OnPath l.at l.fn.node.0;
+  path : IsAlone l.initial.seat.me → IsAtRest (first_of l.initial.seat.me).phase → (v : ℕ) → OnPath v l.fn.node.0 → l.at < v → TellsWord v (slice_index (read_words l.self) v) l.initial.seat.me.0.stations;
+  others : (v : ℕ) → (OnPath v l.fn.node.0 → ⊥) → slice_index (read_words l.self) v ≡ slice_index (read_words l.initial.self) v;
 }
 
 abbrev pub decreases-loop-at : goal.decreases-loop-at

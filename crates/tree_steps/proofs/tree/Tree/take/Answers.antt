@@ -10,29 +10,29 @@ pub returns-then-not-claim-clause-walks : goal.returns-then-not-claim-clause-wal
 returns-then-not-claim-clause-walks c = walks_on c.look.ensures.walks c.claim.ensures.walks
 
 pub returns-then-not-claim-clause-refused : goal.returns-then-not-claim-clause-refused
-returns-then-not-claim-clause-refused c = answered_begun (Looking c.args.node) c.args.seat.now.me c.look.ensures.walks c.if-not-claim.ensures.refused
+returns-then-not-claim-clause-refused c = answered_begun (Looking c.args.node.0) c.args.seat.now.me c.look.ensures.walks c.if-not-claim.ensures.refused
 
-pub returns-in_default-climb-clause-walks : goal.returns-in_default-climb-clause-walks
-returns-in_default-climb-clause-walks c = walks_on (walks_on c.look.ensures.walks c.claim.ensures.walks) c.climb.ensures.walks
+pub returns-in_default-mark_path-clause-walks : goal.returns-in_default-mark_path-clause-walks
+returns-in_default-mark_path-clause-walks c = walks_on (walks_on c.look.ensures.walks c.claim.ensures.walks) c.mark_path.ensures.walks
 
-pub back_out-requires-clause-station : goal.back_out-requires-clause-station
-back_out-requires-clause-station c = station_of_begun (Looking c.args.node) c.args.seat.now.me (walks_on (walks_on c.look.ensures.walks c.claim.ensures.walks) c.climb.ensures.walks) ∙ c.requires.station
+pub roll_back-requires-clause-station : goal.roll_back-requires-clause-station
+roll_back-requires-clause-station c = station_of_begun (Looking c.args.node.0) c.args.seat.now.me (walks_on (walks_on c.look.ensures.walks c.claim.ensures.walks) c.mark_path.ensures.walks) ∙ c.requires.station
 
 pub returns-clause-walks : goal.returns-clause-walks
-returns-clause-walks c = walks_on (walks_on (walks_on c.look.ensures.walks c.claim.ensures.walks) c.climb.ensures.walks) c.back_out.ensures.walks
+returns-clause-walks c = walks_on (walks_on (walks_on c.look.ensures.walks c.claim.ensures.walks) c.mark_path.ensures.walks) c.roll_back.ensures.walks
 
 pub returns-clause-refused : goal.returns-clause-refused
-returns-clause-refused c = answered_begun (Looking c.args.node) c.args.seat.now.me (walks_on c.look.ensures.walks c.claim.ensures.walks) (answered_after c.in-Some-climb.ensures.refused c.back_out.ensures.walks)
+returns-clause-refused c = answered_begun (Looking c.args.node.0) c.args.seat.now.me (walks_on c.look.ensures.walks c.claim.ensures.walks) (answered_after c.in-Some-mark_path.ensures.refused c.roll_back.ensures.walks)
 
 pub returns-then-not-claim-clause-exact : goal.returns-then-not-claim-clause-exact
-returns-then-not-claim-clause-exact c = λ alone. others_begun (IsBlocked c.args.node) (Looking c.args.node) c.args.seat.now.me c.look.ensures.walks
-    (c.if-not-claim.ensures.exact (alone_begun (Looking c.args.node) c.args.seat.now.me c.look.ensures.walks alone) (c.in-Some.ensures.exact alone))
+returns-then-not-claim-clause-exact c = λ alone. others_begun (IsBlocked c.args.node.0) (Looking c.args.node.0) c.args.seat.now.me c.look.ensures.walks
+    (c.if-not-claim.ensures.exact (alone_begun (Looking c.args.node.0) c.args.seat.now.me c.look.ensures.walks alone) (c.in-Some.ensures.exact alone))
 
 pub returns-clause-exact : goal.returns-clause-exact
 returns-clause-exact c = λ alone. let walks = walks_on c.look.ensures.walks c.claim.ensures.walks in
-    others_begun (IsBlocked c.args.node) (Looking c.args.node) c.args.seat.now.me walks
-    (under_blocked c.in-Some-climb.at c.args.node _ c.in-Some-climb.ensures.names.0 (c.in-Some-climb.ensures.holder (alone_begun (Looking c.args.node) c.args.seat.now.me walks alone)))
+    others_begun (IsBlocked c.args.node.0) (Looking c.args.node.0) c.args.seat.now.me walks
+    (under_blocked c.in-Some-mark_path.at.0 c.args.node.0 _ c.in-Some-mark_path.ensures.names.0 (c.in-Some-mark_path.ensures.holder (alone_begun (Looking c.args.node.0) c.args.seat.now.me walks alone)))
 
 pub returns-clause-holder : goal.returns-clause-holder
 returns-clause-holder c = λ alone. let walks = walks_on c.look.ensures.walks c.claim.ensures.walks in
-    others_begun (HasHolder c.in-Some-climb.at) (Looking c.args.node) c.args.seat.now.me walks (c.in-Some-climb.ensures.holder (alone_begun (Looking c.args.node) c.args.seat.now.me walks alone))
+    others_begun (HasHolder c.in-Some-mark_path.at.0) (Looking c.args.node.0) c.args.seat.now.me walks (c.in-Some-mark_path.ensures.holder (alone_begun (Looking c.args.node.0) c.args.seat.now.me walks alone))

@@ -4,7 +4,7 @@ use Rattle.tree_steps.proofs.TreeLemmas.{node_word}
 use Rattle.tree_steps.proofs.tree.Tree.zero_held.Goals as goal
 
 pub store-requires : goal.store-requires
-store-requires c = (search rules, node_word c.args.self.now c.args.node c.requires.node.1, gives_back _ _ _ _ c.args.node c.requires.phase)
+store-requires c = (search rules, node_word c.args.self.now c.args.node.0 c.requires.node.1, gives_back _ _ _ _ c.args.node.0 c.requires.phase)
 
 pub returns-clause-walks : goal.returns-clause-walks
 returns-clause-walks c = walks_once _ c.store.ensures.2

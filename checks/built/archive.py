@@ -1,0 +1,101 @@
+"""Makes the libraries for C as they are shipped, each one file to link: `checks/run archive FOLDER` writes
+libcubejobs_c.a and libcubejobs_tree.a there, from what stands in the folders `out` of their crates.
+
+A library that asks for memory gets the allocator of the toolchain, three functions round malloc, realloc and free. Of
+what a file defines, the functions of its header alone stay visible, so a program can link it beside another library of
+Rattle and beside names of its own. The linker and the archiver are the toolchain's, so no other tool of the machine has
+a part in the bytes.
+"""
+import os
+import struct
+import subprocess
+import tempfile
+
+from checks.lib.repository import path, read_bytes
+from checks.lib.rows import Wrong, must
+from checks.lib.toolchain import kit
+
+LIBRARIES = ("cubejobs_c", "cubejobs_tree")
+# What the names of the headers' functions begin with.
+OWN = b"cubejobs_"
+SYMBOL = struct.Struct("<IBBHQQ")
+RELOCATION = struct.Struct("<QQq")
+SYMTAB, RELA = 2, 4
+GLOBAL = 1
+
+
+class Object:
+    """A relocatable file of 64 bits, whose symbols can be made local."""
+
+    def __init__(self, data):
+        self.data = bytearray(data)
+        start, = struct.unpack_from("<Q", data, 40)
+        size, count = struct.unpack_from("<HH", data, 58)
+        # Of each section: its place in the table, its kind, where its bytes begin, how many they are, and the section
+        # that it names.
+        self.sections = []
+        for at in range(start, start + size * count, size):
+            kind, = struct.unpack_from("<I", data, at + 4)
+            offset, length, link = struct.unpack_from("<QQI", data, at + 24)
+            self.sections.append((at, kind, offset, length, link))
+        self.table = next(it for it in self.sections if it[1] == SYMTAB)
+
+    def symbols(self):
+        """Yields the symbols as they stand: their names and their fields."""
+        _, _, offset, length, link = self.table
+        names = self.sections[link][2]
+        for at in range(offset, offset + length, SYMBOL.size):
+            fields = list(SYMBOL.unpack_from(self.data, at))
+            start = names + fields[0]
+            yield bytes(self.data[start : self.data.index(0, start)]), fields
+
+    def visible(self):
+        """Returns the names that it defines for others, and those that it asks of others."""
+        symbols = [(name, fields) for name, fields in self.symbols() if fields[1] >> 4 == GLOBAL]
+        return {name for name, fields in symbols if fields[3]}, {name for name, fields in symbols if not fields[3]}
+
+    def hide(self):
+        """Makes local what it defines and no header names. Local symbols come first, so all get new numbers."""
+        symbols = [fields for _, fields in self.symbols()]
+        for (name, _), fields in zip(self.symbols(), symbols):
+            if fields[1] >> 4 == GLOBAL and fields[3] and not name.startswith(OWN):
+                fields[1] &= 15
+        order = sorted(range(len(symbols)), key=lambda it: symbols[it][1] >> 4 != 0)
+        at, _, offset, _, _ = self.table
+        for number, old in enumerate(order):
+            SYMBOL.pack_into(self.data, offset + number * SYMBOL.size, *symbols[old])
+        struct.pack_into("<I", self.data, at + 44, sum(fields[1] >> 4 == 0 for fields in symbols))
+        new = {old: number for number, old in enumerate(order)}
+        for _, kind, begin, length, _ in self.sections:
+            for place in range(begin, begin + length, RELOCATION.size) if kind == RELA else ():
+                where, of, more = RELOCATION.unpack_from(self.data, place)
+                RELOCATION.pack_into(self.data, place, where, new[of >> 32] << 32 | of & 0xFFFFFFFF, more)
+
+
+def make(name, out, room):
+    tools = f"{kit().KIT}/toolchain/bin"
+    archives = [path("crates", name, "out", f"lib{name}.a"), f"{kit().KIT}/c/liblibc_c.a"]
+    whole = f"{room}/{name}.o"
+    link = [f"{tools}/ld.lld", "-r", "-o", whole, "--whole-archive", archives[0], "--no-whole-archive", archives[1]]
+    subprocess.run(link, check=True)
+    made = Object(read_bytes(whole))
+    made.hide()
+    defined, wanted = made.visible()
+    has_others = not all(it.startswith(OWN) for it in defined) or any(it.startswith(b"rattle_") for it in wanted)
+    must(defined and not has_others, f"archive: lib{name}.a defines {sorted(defined)} and asks for {sorted(wanted)}")
+    with open(whole, "wb") as file:
+        file.write(made.data)
+    if os.path.exists(out):
+        os.remove(out)
+    subprocess.run([f"{tools}/llvm-ar", "rcsD", out, whole], check=True)
+    os.chmod(out, 0o644)
+
+
+def main(words):
+    if len(words) != 1:
+        raise Wrong(__doc__)
+    os.makedirs(words[0], exist_ok=True)
+    with tempfile.TemporaryDirectory() as room:
+        for name in LIBRARIES:
+            make(name, os.path.join(words[0], f"lib{name}.a"), room)
+    print(f"archive: {len(LIBRARIES)} libraries, each one file to link")

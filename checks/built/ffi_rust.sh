@@ -1,0 +1,118 @@
+#!/bin/sh
+# Tests the Rust package over the libraries for C of a folder: `checks/run ffi_rust FOLDER`. Each warning of rustc,
+# clippy and rustdoc is an error. The tests, documents and examples are of FOLDER's libraries, and so is a program that
+# names the package by its path. `cargo package` and `cargo vendor` take the libraries of release/: what they make is
+# built with nothing of the repository beside it. A missing library, and a target that has none, are a sentence each.
+set -eu
+lib=$(cd "$1" && pwd)
+cd "$(dirname "$0")/../../rust"
+package=$PWD
+work=$(mktemp -d)
+trap 'rm -rf -- "$work"' EXIT
+export CARGO_TARGET_DIR="$work/target" CARGO_TERM_COLOR=never CUBEJOBS_LIB="$lib"
+export RUSTFLAGS=-Dwarnings RUSTDOCFLAGS=-Dwarnings
+
+# Runs a command. Its output is kept in a log, and shown if it fails.
+quiet() {
+    "$@" > "$work/log" 2>&1 || { echo "ffi: this fails: $*"; cat "$work/log"; exit 1; }
+}
+
+# refused SENTENCE COMMAND..: the command fails, and says this on a line of its own, and no panic.
+refused() {
+    sentence=$1
+    shift
+    if "$@" > "$work/log" 2>&1; then
+        echo "ffi: this succeeds, and should not: $*"
+        exit 1
+    fi
+    if ! grep -q "^ *$sentence\$" "$work/log" || grep -q panicked "$work/log"; then
+        echo "ffi: no '$sentence':"
+        cat "$work/log"
+        exit 1
+    fi
+}
+
+# shows TEXT COMMAND..: the command succeeds, and this is the last line of what it shows.
+shows() {
+    text=$1
+    shift
+    quiet "$@"
+    [ "$(tail -n 1 "$work/log")" = "$text" ] || { echo "ffi: not '$text':"; cat "$work/log"; exit 1; }
+}
+
+# user FOLDER DEPENDENCY: a program of one's own.
+user() {
+    mkdir -p "$1/src"
+    printf '[package]\nname = "user"\nversion = "0.1.0"\nedition = "2021"\n[dependencies]\ncubejobs = %s\n' "$2" \
+        > "$1/Cargo.toml"
+    cp "$package/examples/subcubes.rs" "$1/src/main.rs"
+}
+
+subcubes='0 4, then: no free subcube of this dimension'
+groups='3000 jobs on groups of 16 workers'
+
+quiet cargo test --offline
+quiet cargo check --offline --no-default-features --all-targets
+if cargo clippy --version > "$work/log" 2>&1; then
+    quiet cargo clippy --offline --all-targets
+else
+    echo "ffi: no clippy here"
+fi
+quiet cargo doc --offline --no-deps
+shows "$subcubes" cargo run --quiet --offline --example subcubes
+shows "$groups" cargo run --quiet --offline --example groups
+echo "ffi: the tests, documents and examples of the Rust package pass, with no warning"
+
+user "$work/user" "{ path = \"$package\" }"
+shows "$subcubes" cargo run --quiet --offline --manifest-path "$work/user/Cargo.toml"
+mkdir "$work/some"
+for name in libcubejobs_c.a libcubejobs_tree.a; do
+    sentence="set CUBEJOBS_LIB to the folder of $name, or take a clone whose release/ has it"
+    refused "there is no $work/some/$name: $sentence" \
+        env CUBEJOBS_LIB="$work/some" cargo build --offline --manifest-path "$work/user/Cargo.toml"
+    cp -- "$lib/$name" "$work/some"
+done
+quiet rustc --edition 2021 build.rs -o "$work/script"
+for target in 'linux on aarch64' 'macos on x86_64'; do
+    refused "the libraries of cubejobs are for Linux on x86-64 only, not for $target" \
+        env CARGO_MANIFEST_DIR="$package" CARGO_CFG_TARGET_OS="${target% on *}" \
+        CARGO_CFG_TARGET_ARCH="${target#* on }" "$work/script"
+done
+echo "ffi: a Rust program names the package by its path; a missing library or another target is one sentence"
+
+# A package that could not be made leaves no build script that looks for the libraries in that package. Each of these
+# has a folder of its own: where both have one target folder, cargo takes a copy of the package for the package itself.
+unset CUBEJOBS_LIB
+export CARGO_TARGET_DIR="$work/failed"
+refused "there is no $work/none/.*" env CUBEJOBS_LIB="$work/none" cargo package --offline --allow-dirty
+rm -rf -- "$CARGO_TARGET_DIR"/package/cubejobs-*/lib
+quiet cargo build --offline
+export CARGO_TARGET_DIR="$work/packaged"
+quiet cargo package --offline --allow-dirty
+tar -xzf "$CARGO_TARGET_DIR"/package/cubejobs-*.crate -C "$work"
+for name in libcubejobs_c.a libcubejobs_tree.a; do
+    cmp "$work"/cubejobs-*/lib/$name "../release/linux-x86_64/$name"
+done
+cd "$work"/cubejobs-*
+rm -r -- "$CARGO_TARGET_DIR"
+export CARGO_TARGET_DIR="$work/unpacked"
+shows "$subcubes" cargo run --quiet --offline --example subcubes
+shows "$groups" cargo run --quiet --offline --example groups
+echo "ffi: the package that cargo makes is built on its own"
+
+command -v git > "$work/path" || { echo "ffi: no git here, so no vendored package"; exit 0; }
+mkdir "$work/repository"
+cd "$work/repository"
+tar -C "$package/.." --exclude=rust/target -cf - rust release/linux-x86_64 | tar -xf -
+quiet git init
+quiet git add --all
+quiet git -c user.name=check -c user.email=check@localhost -c commit.gpgsign=false commit -m 'the package'
+user "$work/vendored" "{ git = \"file://$work/repository\" }"
+cd "$work/vendored"
+mkdir .cargo
+export CARGO_HOME="$work/home" CARGO_TARGET_DIR="$work/vendored/target"
+CARGO_NET_OFFLINE=false cargo vendor > "$work/config" 2> "$work/log" || { cat "$work/log"; exit 1; }
+mv "$work/config" .cargo/config.toml
+rm -rf -- "$work/repository" "$CARGO_HOME"
+shows "$subcubes" cargo run --quiet --offline
+echo "ffi: a program that has the package vendored is built with nothing beside it"

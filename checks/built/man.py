@@ -1,0 +1,66 @@
+"""Compares docs/cubejobs.1, the manual page, with the help of the built program, of which it is made.
+
+`checks/run man PROGRAM` fails where the page is another one, and where a line of help is longer than 80 columns.
+`checks/run man --write PROGRAM` writes the page.
+"""
+import re
+
+from checks.lib.repository import read, write
+from checks.lib.rows import answer, must, print_faults
+from checks.lib.toolchain import program
+
+PAGE, MOST_COLUMNS = "docs/cubejobs.1", 80
+# A command in the list of the program's help: two spaces, its name and what it does.
+COMMAND = re.compile(r"^  (\w+) +\S.*$", re.M)
+
+
+def output(built, *words):
+    status, out, err = answer([built, *words], "", text=True)
+    must(status == 0 and not err, f"{' '.join(words)}: status {status}, errors {err[:200]!r}")
+    return out
+
+
+def helps(built):
+    shown = {"": output(built, "--help")}
+    listed = shown[""].partition("Commands:\n")[2].partition("\n\n")[0]
+    shown.update({name: output(built, name, "--help") for name in COMMAND.findall(listed) if name != "help"})
+    must(len(shown) >= 5, f"the help lists {len(shown) - 1} commands")
+    return shown
+
+
+def verbatim(text):
+    """Returns lines that `man` shows as they are: backslashes, hyphens and first letters are kept apart from roff's
+    own."""
+    lines = (line.rstrip().replace("\\", "\\e").replace("-", "\\-") for line in text.strip("\n").split("\n"))
+    shown = (f"\\&{line}" if line[:1] in (".", "'") else line for line in lines)
+    return "\n".join([".in 0", ".nf", *shown, ".fi"])
+
+
+def page(built):
+    name, version = output(built, "--version").split()
+    shown = helps(built)
+    about, _, rest = shown.pop("").partition("\n")
+    parts = [
+        f'.TH {name.upper()} 1 "" "{name} {version}"',
+        ".\\\" Made of the program's help by checks/run man.",
+        f".SH NAME\n{name} \\- {about[0].lower()}{about[1:]}",
+        f".SH PROGRAM\n{verbatim(rest)}",
+        *(f'.SH "{name.upper()} {command.upper()}"\n{verbatim(text)}' for command, text in shown.items()),
+    ]
+    return "\n".join(parts) + "\n"
+
+
+def long_lines(built):
+    for command in helps(built):
+        for words in ([command, "--help"], [command, "-h"]) if command else (["--help"], ["-h"]):
+            for line in output(built, *words).split("\n"):
+                if len(line) > MOST_COLUMNS:
+                    yield f"{' '.join(words)}: {len(line)} columns: {line}"
+
+
+def main(words):
+    built = program(words)
+    if "--write" in words:
+        write(PAGE, page(built))
+    stale = [f"{PAGE} is not made of this program's help; `checks/run man --write PROGRAM` writes it"]
+    return print_faults([*long_lines(built), *(stale if read(PAGE) != page(built) else [])])

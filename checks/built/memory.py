@@ -1,0 +1,165 @@
+"""Refuses each request for memory of `cubejobs` in turn, and each start of a thread, and reads the program's answer.
+
+For each input it runs the program once for each of its requests, with that one refused; for small inputs also with the
+two after it, and with all after it. The answer must be that of ample memory, or status 3 with OutOfMemory on standard
+error and at most the first lines of the output. A file that is named may be named there, and the output must be whole
+or as it was. A run in which a thread and all later ones cannot be started ends with that fault and no output. No run
+may hang. There must be a thread for each dispatcher, and as many that feed as there are lanes or processors, whichever
+are fewer. Where the second thread that feeds cannot be started, the first one must stop feeding at once. `checks/run
+memory FILE` tries the program FILE, with gcc.
+"""
+import os
+import subprocess
+import tempfile
+
+from checks.lib.repository import read_bytes
+from checks.lib.rows import Row, Skipped, Wrong, answer, must, put, run_rows
+from checks.lib.toolchain import program, shim
+
+# A run that takes longer, in seconds, hangs.
+SECONDS = 60
+PROCESSORS = len(os.sched_getaffinity(0))
+# How many jobs each of two long lanes has. The list of LONG replies takes at least REPLY_BYTES for each of them.
+LONG, REPLY_BYTES = 10_000, 16
+# How many requests are refused in a row: one alone; or three, and all from the first one on.
+ONE, EACH_WAY = [1], [1, 3, 0]
+# The names, among the words of a command, of a file with its input and of a file that it writes, which holds OLD
+# before.
+INPUT_FILE, OUTPUT_FILE, OLD = "jobs.csv", "old.csv", b"old\n"
+WANT = b"failed: record 0: OutOfMemory\n"
+WANT_OF_FILE = [b"failed: input: OutOfMemory: jobs.csv\n", b"failed: output: OutOfMemory: old.csv\n"]
+HEADER = "lane,kind,op,root,items\n"
+# A kind, an operation and a root of each collective, and the same for jobs of the largest machine.
+KINDS = (("scan", "add", 0), ("broadcast", "-", 0), ("reduce", "min", 0), ("allreduce", "xor", 0), ("exscan", "min", 0))
+LARGEST = (
+    ("broadcast", "-", 4095), ("reduce", "max", 2048), ("allreduce", "add", 0), ("scan", "or", 0), ("exscan", "and", 0))
+
+
+def row(lane, kind, items):
+    return f"{lane},{kind[0]},{kind[1]},{kind[2]},{' '.join(map(str, items))}\n"
+
+
+def jobs(count, lanes):
+    rows = (row(at % lanes, KINDS[at % len(KINDS)], range(2 ** ((at + at // 5) % 5))) for at in range(count))
+    return (HEADER + "".join(rows)).encode()
+
+
+def example(name):
+    return read_bytes("examples", f"{name}.csv")
+
+
+def inputs():
+    """Returns the words of each command, its input, and how many requests are refused in a row."""
+    # Jobs of two lanes, enough for the list of all replies to grow some times; of all lanes, so that each list does;
+    # and large ones.
+    few, many = jobs(20, 2), jobs(200, 16)
+    rows = (row(at, kind, (it * 2**at for it in range(4096))) for at, kind in enumerate(LARGEST))
+    large = (HEADER + "".join(rows)).encode()
+    alone, four = "--dispatchers 1 --capacity 1", "--dispatchers 4 --capacity 1"
+    return [
+        ("run --dim 3", example("jobs"), EACH_WAY),
+        (f"run --dim 4 {alone}", few, EACH_WAY),
+        ("run --dim 4", many, ONE),
+        (f"run --dim 4 {four}", many, ONE),
+        ("run --dim 12", large, ONE),
+        ("report --dim 3", example("jobs"), EACH_WAY),
+        (f"report --dim 4 {alone}", few, EACH_WAY),
+        (f"report --dim 4 {four}", many, ONE),
+        (f"run --dim 3 {INPUT_FILE} --output {OUTPUT_FILE}", example("jobs"), EACH_WAY),
+        (f"run --dim 4 {four} --output {OUTPUT_FILE}", many, ONE),
+        (f"place --dim 2 {INPUT_FILE}", example("place"), EACH_WAY),
+        ("place --dim 2", example("place"), EACH_WAY),
+        ("replay --dim 2 --stations 3", example("schedule"), EACH_WAY),
+    ]
+
+
+class Command:
+    def __init__(self, built, arguments, text, folder, shims):
+        self.words, self.text, self.folder, self.shims = [built, *arguments.split()], text, folder, shims
+        self.names_input, self.names_output = INPUT_FILE in self.words, OUTPUT_FILE in self.words
+
+    def path(self, name):
+        return os.path.join(self.folder, name)
+
+    def run(self, refused, count=1, thread=0):
+        """Runs the program with `count` requests for memory refused from this one on, or no thread from this one on
+        started: its status, its output, and its errors."""
+        env = {**os.environ, "LD_PRELOAD": self.shims, "COUNT_FILE": self.path("count")}
+        env.update(REFUSE=str(refused), REFUSE_COUNT=str(count), REFUSE_THREAD=str(thread))
+        put(self.path(INPUT_FILE), self.text)
+        put(self.path(OUTPUT_FILE), OLD)
+        how = f"{count or 'all'} from request {refused} on, or no thread from {thread} on"
+        try:
+            got = answer(self.words, b"" if self.names_input else self.text, env=env, timeout=SECONDS, cwd=self.folder)
+        except subprocess.TimeoutExpired:
+            raise Wrong(f"{how}: it hangs") from None
+        left = [name for name in os.listdir(self.folder) if name.startswith(".cubejobs-")]
+        must(not left, f"{how}: {left} is left")
+        return got if not self.names_output else (got[0], got[1] + read_bytes(self.path(OUTPUT_FILE)), got[2])
+
+    def may_fail_by(self, got, wanted):
+        errors = [WANT, *WANT_OF_FILE[:1][: self.names_input], *WANT_OF_FILE[1:][: self.names_output]]
+        is_kept = got[1] == OLD if self.names_output else wanted[1].startswith(got[1])
+        return got[0] == 3 and got[2] in errors and is_kept
+
+    def counted(self):
+        return [int(number) for number in read_bytes(self.path("count")).split()]
+
+    def threads(self):
+        """Returns how many threads it starts: one for each dispatcher, and for the open lanes one each, but no more
+        than there are processors."""
+        if self.words[1] not in ("run", "report"):
+            return 0
+        dispatchers = int(self.words[self.words.index("--dispatchers") + 1]) if "--dispatchers" in self.words else 2
+        lanes = 1 + max(int(line.split(b",")[0]) for line in self.text.splitlines()[1:])
+        return dispatchers + min(lanes, PROCESSORS)
+
+
+def refuse_each(built, shims, arguments, text, counts):
+    with tempfile.TemporaryDirectory() as folder:
+        command = Command(built, arguments, text, folder, shims)
+        wanted = command.run(0)
+        must(wanted[0] == 0, f"status {wanted[0]} with ample memory")
+        total, threads, _ = command.counted()
+        must(total and threads == command.threads(), f"{total} requests, {threads} threads for {command.threads()}")
+        wants = 0
+        for count, refused in ((count, refused) for count in counts for refused in range(1, total + 1)):
+            got = command.run(refused, count)
+            is_fine = got == wanted or command.may_fail_by(got, wanted)
+            must(is_fine, f"{count or 'all'} from request {refused} of {total} on: status {got[0]}, errors {got[2]}")
+            wants += got != wanted
+        for thread in range(1, threads + 1):
+            got = command.run(0, thread=thread)
+            none = OLD if command.names_output else b""
+            must(got == (3, none, WANT), f"no thread from {thread} on: status {got[0]}, errors {got[2]}")
+        must(wants, "no request is answered by OutOfMemory")
+    ways = f"each of {total} requests refused, in {len(counts)} ways"
+    return f"{ways}, {wants} answered by OutOfMemory; so was each of {threads} threads"
+
+
+def must_stop_feeding(built, shims):
+    """Tries two long lanes. A worker keeps its replies in a list that grows, so the bytes that a run asks for show how
+    many jobs were answered: all where nothing is refused, none where the dispatcher is, and few where the second thread
+    that feeds is. If the first thread went on, all jobs of its lane would be."""
+    if PROCESSORS < 2:
+        raise Skipped("on one processor one thread feeds, so a second one is not refused")
+    text, sizes = HEADER.encode() + LONG * b"0,allreduce,add,0,1\n1,allreduce,add,0,1\n", []
+    with tempfile.TemporaryDirectory() as folder:
+        command = Command(built, "run --dim 3 --dispatchers 1 --capacity 1", text, folder, shims)
+        for thread, status in ((0, 0), (1, 3), (3, 3)):
+            got = command.run(0, thread=thread)
+            must(got[0] == status, f"status {got[0]} with no thread from {thread} on")
+            sizes.append(command.counted()[2])
+    whole, none, few = sizes
+    must(whole - none >= 2 * LONG * REPLY_BYTES, f"{whole} bytes do not show the jobs, with {none} for none")
+    must(few - none <= LONG * REPLY_BYTES, f"the first thread goes on: {few} bytes, and {none} for none")
+    return f"{few - none} bytes for replies"
+
+
+def main(words):
+    built = program(words)
+    with tempfile.TemporaryDirectory() as folder:
+        shims = shim("refuse.c", folder)
+        rows = [Row(words, refuse_each, (built, shims, words, *how)) for words, *how in inputs()]
+        rows.append(Row("the second thread that feeds refused", must_stop_feeding, (built, shims)))
+        return run_rows("memory", rows, says_ok=True)

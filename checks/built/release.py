@@ -1,0 +1,235 @@
+"""Compares the files of release/ with what was built from these sources, to the byte.
+
+`checks/run release FOLDER` finds in FOLDER what was just built from nothing. Where release/ is of these sources, each
+of its files must be that very file, and need no symbol of a C library later than 2.34. Where another build of the
+toolchain made release/ and this one makes other bytes, the comparison is skipped. Where the sources have moved on, it
+says how to renew release/, which is no failure: the launcher passes such a release over. The libraries must have no
+instruction that an x86-64 may lack. `checks/run release --renew` proves and builds, and puts files and sums there.
+"""
+import hashlib
+import os
+import re
+import shutil
+import subprocess
+import tempfile
+
+from checks.built import archive
+from checks.lib.repository import path, read, read_bytes, write
+from checks.lib.rows import Skipped, Wrong, must
+from checks.lib.toolchain import FOR_ANY, sum_of_sources
+
+RELEASE = path("release", "linux-x86_64")
+# What is shipped, and where `rt` or the check `archive` puts it.
+FILES = {
+    "cubejobs": "crates/jobs_cli/out/jobs_cli",
+    "libcubejobs_c.a": "out/libcubejobs_c.a",
+    "libcubejobs_tree.a": "out/libcubejobs_tree.a",
+}
+LIBRARIES = [name for name in FILES if name.endswith(".a")]
+NEWEST_GLIBC = (2, 34)
+# Where the Rust package has copies of the libraries: a package holds the files that it links.
+RUST = path("rust", "lib")
+# The instructions of each x86-64, as objdump writes them without a suffix of size: those of whole numbers, of the x87,
+# and of SSE and SSE2. What is not among them is taken for one that a processor may lack.
+CONDITION = "(?:n?[abceglopsz]|n?[abgl]e|p[eo])"
+EVERYWHERE = re.compile(
+    rf"(?:j{CONDITION}|set{CONDITION}"
+    rf"|cmov{CONDITION}|jmp|j[er]?cxz|loop(?:n?e)?|call|ret|leave|enter|push[fq]*"
+    r"|pop[fq]*|nop|endbr64|pause|int3|hlt|ud2|mov|movabs|movzx|movsxd?|lea|xchg|xadd|cmpxchg(?:8b)?|bswap|cbw"
+    r"|cwde|cdqe|cwd|cdq|cqo|cl[cd]|st[cd]|cpuid|rdtsc|syscall|add|adc|sub|sbb|inc|dec|neg|cmp|i?mul|i?div|and"
+    r"|or|xor|not|test|sh[lr]d?|sa[lr]|ro[lr]|rc[lr]|bt[crs]?|bs[fr]|(?:movs|stos|lods|scas|cmps)[bwdq]"
+    r"|f(?!isttp)[a-z0-9]+|emms|mov(?:[au]p|ntp|mskp|hp|lp|s)[sd]|mov(?:hl|lh)ps|movnt(?:i|q|dq)|mov[dq]"
+    r"|movdq[au]|mov(?:q2dq|dq2q)|maskmov(?:q|dqu)|(?:add|sub|mul|div|sqrt|min|max|cmp\w*)[sp][sd]|u?comis[sd]"
+    r"|(?:rcp|rsqrt)[sp]s|(?:andn?|or|xor|shuf|unpck[hl])p[sd]|cvtt?(?:p[sdi]|s[sdi]|dq)2(?:p[sdi]|s[sdi]|dq)"
+    r"|(?:ld|st)mxcsr|(?:s|l|m|cl)f(?:ence|lush)|prefetch(?:nta|t[012])|fx(?:save|rstor)(?:64)?"
+    r"|pack(?:ss(?:wb|dw)|uswb)|p(?:add|sub)(?:[bwdq]|u?s[bw])|pandn?|por|pxor|pcmp(?:eq|gt)[bwd]"
+    r"|pmul(?:[lh]w|huw|udq)|pmaddwd|pavg[bw]|p(?:max|min)(?:ub|sw)|pmovmskb|psadbw|pshuf(?:d|[hl]w|w)|pextrw"
+    r"|pinsrw|ps(?:[lr]l(?:[wdq]|dq)|ra[wd])|punpck[hl](?:bw|wd|dq|qdq))"
+)
+PREFIXES = re.compile(r"(?:(?:lock|repn?z?|repnz|bnd|notrack|data16|addr32|[cdefgs]s|rex(?:\.\w+)?)\s+)*")
+# Some that a processor may lack, of SSE3, SSSE3, SSE4, AVX, BMI and others.
+LACKED = """haddps addsubps lddqu fisttp pshufb palignr pabsd ptest pextrq pextrd extractps pcmpeqq pcmpgtq pmaxsd
+    blendvpd roundsd crc32 popcnt lzcnt tzcnt andn bextr mulx shlx rorx movbe cmpxchg16b lahf vaddps vpxor movntdqa pmuldq
+    packusdw""".split()
+# pcmpeqq of two registers, an instruction of SSE4.1.
+NOT_EVERYWHERE = bytes.fromhex("660f3829c1")
+
+
+def build_here():
+    return subprocess.run(["rt", "version"], stdout=subprocess.PIPE, text=True, check=True).stdout.split()[0]
+
+
+def sum_of(data):
+    return hashlib.sha256(data).hexdigest()
+
+
+class Release:
+    def __init__(self, folder):
+        self.folder, self.sums = folder, os.path.join(folder, "SHA256SUMS")
+
+    def said(self, word):
+        """Returns what SHA256SUMS says of the sources, or what they were built by."""
+        found = re.search(rf"^# {word} (.*)$", read(self.sums), re.M) if os.path.exists(self.sums) else None
+        return found[1] if found else ""
+
+    def bytes_of(self, name):
+        return read_bytes(self.folder, name)
+
+    def take(self, files):
+        os.makedirs(self.folder, exist_ok=True)
+        how = {"stdout": subprocess.PIPE, "text": True, "check": True}
+        version = subprocess.run([files["cubejobs"], "--version"], **how).stdout.split()[1]
+        for name, file in files.items():
+            shutil.copyfile(file, os.path.join(self.folder, name))
+            os.chmod(os.path.join(self.folder, name), 0o755 if name == "cubejobs" else 0o644)
+        self.write_sums(version, build_here())
+
+    def write_sums(self, version, by):
+        """Writes the sums of the files that stand here, and what they were built from and by."""
+        lines = [f"# version {version}", f"# sources {sum_of_sources()}", f"# built by {by}"]
+        write(self.sums, "\n".join([*lines, *(f"{sum_of(self.bytes_of(name))}  {name}" for name in FILES)]) + "\n")
+
+    def faults(self, built):
+        """Yields each file that has a fault, with the fault."""
+        sums = dict(re.findall(r"^(\w{64})  (\S+)$", read(self.sums), re.M)) if os.path.exists(self.sums) else {}
+        sums = {name: total for total, name in sums.items()}
+        if sorted(sums) != sorted(FILES):
+            yield "SHA256SUMS", f"names {', '.join(sorted(sums))}, and not {', '.join(sorted(FILES))}"
+            return
+        for name in FILES:
+            if not os.path.exists(os.path.join(self.folder, name)):
+                yield name, "is not there"
+                continue
+            data, own = self.bytes_of(name), read_bytes(built, name)
+            if sum_of(data) != sums[name]:
+                yield name, "is not the file whose sum SHA256SUMS has"
+            if data != own:
+                at = next((it for it, (a, b) in enumerate(zip(data, own)) if a != b), min(len(data), len(own)))
+                yield name, f"differs from what was built: {len(data)} and {len(own)} bytes, first at byte {at}"
+            if newest_symbol(data) > NEWEST_GLIBC:
+                yield name, f"needs the C library {'.'.join(map(str, newest_symbol(data)))}"
+
+    def differences(self, built):
+        """Returns what is wrong with a release of these sources, and what is not compared since another build made
+        other bytes."""
+        wrong, skipped = [], []
+        is_other = self.said("built by") not in ("", build_here())
+        for name, fault in self.faults(built):
+            (skipped if is_other and fault.startswith("differs") else wrong).append(f"{name} {fault}")
+        return wrong + [*lacking(self.folder)], skipped
+
+    def change(self, name, at, new):
+        data = bytearray(self.bytes_of(name))
+        data[at : at + len(new)] = new
+        with open(os.path.join(self.folder, name), "wb") as file:
+            file.write(data)
+
+
+def newest_symbol(data):
+    return max([(int(a), int(b)) for a, b in re.findall(rb"GLIBC_(\d+)\.(\d+)", data)], default=(0, 0))
+
+
+def is_everywhere(line):
+    """Answers whether each x86-64 has an instruction. A pextrw into memory is of SSE4.1, and one into a register is
+    not."""
+    line = line[PREFIXES.match(line).end() :]
+    return not line or bool(EVERYWHERE.fullmatch(line.split()[0])) and not line.startswith("pextrw WORD")
+
+
+def lacking(folder):
+    """Yields a sentence on each library of a folder that has an instruction which a processor may lack."""
+    for name in LIBRARIES if shutil.which("objdump") else ():
+        words = ["objdump", "-d", "-M", "intel", "--no-show-raw-insn", os.path.join(folder, name)]
+        text = subprocess.run(words, stdout=subprocess.PIPE, text=True, check=True).stdout
+        lines = re.findall(r"^\s*[0-9a-f]+:\t(.*)$", text, re.M)
+        found = {line for line in lines if not is_everywhere(line)}
+        if found or len(lines) < 100:
+            some = ", ".join(sorted(found)[:3])
+            yield f"{name} has {len(found)} instructions that an x86-64 may lack, of {len(lines)}: {some}"
+
+
+def stale_copies():
+    """Yields each library of which the Rust package has another copy, or none."""
+    for name in LIBRARIES:
+        twin = os.path.join(RUST, name)
+        if not os.path.exists(twin) or read_bytes(twin) != read_bytes(RELEASE, name):
+            yield f"rust/lib/{name} is not the file of release/"
+
+
+def renew():
+    subprocess.run([path("cubejobs"), "--prove"], check=True)
+    for crate in archive.LIBRARIES:
+        subprocess.run(["rt", "lib", *FOR_ANY], cwd=path("crates", crate), check=True, stdout=subprocess.DEVNULL)
+    archive.main([path("out")])
+    Release(RELEASE).take({name: path(file) for name, file in FILES.items()})
+    os.makedirs(RUST, exist_ok=True)
+    for name in LIBRARIES:
+        shutil.copyfile(os.path.join(RELEASE, name), os.path.join(RUST, name))
+
+
+def not_seen(built):
+    """Yields what this check does not see, tried on what was built, in a folder of its own."""
+    with tempfile.TemporaryDirectory() as folder:
+        release = Release(folder)
+        release.take({name: os.path.join(built, name) for name in FILES})
+        yield from not_seen_of_bytes(release, built)
+        yield from not_seen_of_instructions(release, built)
+
+
+def not_seen_of_bytes(release, built):
+    """Yields what is not seen where a byte of each file has changed, by the same build and by another one."""
+    if release.differences(built) != ([], []):
+        yield "that nothing has changed"
+    release.write_sums("0", "another-build")
+    if release.differences(built) != ([], []):
+        yield "that another build has made the same bytes"
+    for name in FILES:
+        release.change(name, 1000, bytes([release.bytes_of(name)[1000] ^ 1]))
+    wrong, skipped = release.differences(built)
+    if skipped + wrong == [] or not all(any(it.startswith(f"{name} is not") for it in wrong) for name in FILES):
+        yield "files whose sums are others"
+    for by in ("another-build", build_here()):
+        release.write_sums("0", by)
+        wrong, skipped = release.differences(built)
+        seen, rest = (skipped, wrong) if by == "another-build" else (wrong, skipped)
+        rest = [it for it in rest if "may lack" not in it]
+        if rest or not all(any(it.startswith(f"{name} differs") for it in seen) for name in FILES):
+            yield f"a changed byte where {by} has made it"
+
+
+def not_seen_of_instructions(release, built):
+    """Yields what is not seen where an instruction that a processor may lack replaces one of SSE2."""
+    yield from (it for it in LACKED if is_everywhere(it))
+    name = LIBRARIES[-1]
+    shutil.copyfile(os.path.join(built, name), os.path.join(release.folder, name))
+    release.change(name, release.bytes_of(name).index(bytes.fromhex("660f6f")), NOT_EVERYWHERE)
+    if shutil.which("objdump") and not any(it.startswith(name) and "pcmpeqq" in it for it in lacking(release.folder)):
+        yield "an instruction of SSE4.1"
+
+
+def compare(built):
+    release, wrong = Release(RELEASE), [*lacking(built), *stale_copies()]
+    if release.said("sources") != sum_of_sources():
+        print("release: the files of release/ are of other sources; to renew them: checks/run release --renew")
+        return wrong
+    more, skipped = release.differences(built)
+    if skipped and not wrong + more:
+        by = f"{release.said('built by')} has made release/ and {build_here()} is here"
+        raise Skipped(f"{by}, so what differs is not compared: {len(skipped)} files")
+    print(f"release: {len(FILES)} files are {'not all ' if wrong + more else ''}what these sources make")
+    return wrong + more
+
+
+def main(words):
+    if words == ["--renew"]:
+        return renew()
+    if len(words) != 1:
+        raise Wrong(__doc__)
+    for it in not_seen(words[0]):
+        must(False, f"release: this check does not see {it}")
+    if not shutil.which("objdump"):
+        print("release: no objdump here, so nothing is said of the instructions of the libraries")
+    wrong = compare(words[0])
+    for it in wrong:
+        print(f"FAILED: release: {it}")
+    return 1 if wrong else 0

@@ -1,0 +1,127 @@
+"""Fails where a source, a definition or a proof writes the number of a limit and not its name.
+
+It reads the limits (src/limits.rt of cube_shape and region_bits), and looks in all crates for each literal that is such
+a number or a power of interest, or one less or more, in whatever form: `1024`, `0x400`, `1 << 10`. Comments do not
+count, nor do tests, whose rows are worked by hand. OTHERS says what else such a number may be; an entry that no literal
+needs fails too, and so does a limit without a sentence. C, Rust, the page and documents cannot name a limit: WRITTEN
+says where they write it out, and each of these numbers must be that of its limit.
+"""
+import re
+
+from checks.lib.rattle_source import uncommented
+from checks.lib.repository import LIMITS, crate_names, files_below, limits, place, read
+from checks.lib.rows import print_faults
+
+# Where, in which words, and what the number is there.
+OTHERS = (
+    (r"jobs_csv/", r"48 \+|- 48|== 48|48 ≤ byte", "the byte of the digit 0"),
+    (r"jobs_csv/proofs/CsvRecords\.antt", r"c == 13", "the byte of a carriage return"),
+    (r"jobs_csv/.*/(name|Name|NameLemmas|PlainLemmas)\.", r"1[67]", "the bytes of a name"),
+    (r"cli_args/src/command_line\.rt", r"1 to 16 bytes", "the bytes of a name"),
+    (r"cli_args/src/command_line\.rt", r"or 16 in a scan", "the bytes of an item in a job"),
+    (r"cli_args/", r'default_value\("16"\)|codes "16"', "the room of a line where no word says it"),
+    (r"uses/src/(answering|whole)\.rt", r"capacity: 16", "the room of this caller's line"),
+    (r"cubejobs_tree/src/codes\.rt", r"[A-Z_]+: u32 = \d+;", "the code of an answer"),
+    (r"\w+/proofs/", r"search \(.*\) depth 20", "how deep a search goes"),
+    (r"cli_commands/src/progress\.rt", r"PAUSE: u64 = 20", "the pause of the line of progress"),
+    (r"cube_bench/src/rounds\.rt", r"MAX_DIM: u32 = 20", "the largest job that is measured"),
+    # Limits that have to be written out: when one is changed, its entry here is one that no literal needs.
+    (r"cli_args/src/command_line\.rt", r"lane is below 16", "MAX_LANES in the help"),
+    (r"cubejobs_c/src/machine\.rt", r"\[bool; 4096\]", "2^MAX_DIM in the struct for C"),
+    (r"cubejobs_c/src/machine\.rt", r"\[Slot; 48\]", "MAX_STATIONS in the struct for C"),
+)
+# Which file writes a limit, in which words, and which limit it is.
+WRITTEN = (
+    ("include/cubejobs.h", r"#define CUBEJOBS_MAX_DIM (\d+)", "MAX_DIM"),
+    ("include/cubejobs.h", r"#define CUBEJOBS_MAX_STATIONS (\d+)", "MAX_STATIONS"),
+    ("include/cubejobs.h", r"A machine has (\d+) stations, so", "MAX_STATIONS"),
+    ("include/cubejobs.h", r"stations, so (\d+) regions at most", "MAX_STATIONS"),
+    ("include/cubejobs.h", r"#define CUBEJOBS_FIT_MAX_DIM (\d+)", "MAX_BITS_DIM"),
+    ("include/cubejobs.h", r"their numbers are 0 to (\d+)", "MAX_STATIONS - 1"),
+    ("include/cubejobs_tree.h", r"#define CUBEJOBS_TREE_MAX_DIM (\d+)", "MAX_DIM"),
+    ("include/cubejobs_tree.h", r"#define CUBEJOBS_TREE_MAX_STATIONS (\d+)", "MAX_STATIONS"),
+    ("include/cubejobs_tree.h", r"up to (\d+) stations", "MAX_STATIONS"),
+    ("include/cubejobs_tree.h", r"has at most (\d+) regions", "MAX_STATIONS"),
+    ("include/cubejobs_tree.h", r"uint64_t free\[(\d+)\];", "MAX_DIM + 1"),
+    ("rust/src/ffi.rs", r"const MAX_DIM: usize = (\d+);", "MAX_DIM"),
+    ("rust/src/ffi.rs", r"const MAX_STATIONS: usize = (\d+);", "MAX_STATIONS"),
+    ("rust/src/fit_ffi.rs", r"const MAX_DIM: u32 = (\d+);", "MAX_BITS_DIM"),
+    ("rust/src/tree_ffi.rs", r"const FREE_PLACES: usize = (\d+);", "MAX_DIM + 1"),
+    ("view/index.html", r"const MAX_DIM = (\d+);", "MAX_DIM"),
+    ("view/index.html", r"const MAX_STATIONS = (\d+);", "MAX_STATIONS"),
+    ("checks/source/wrong-events/unmark_of_ones_own_mark.edit", r"\(u % (\d+)\)", "MAX_STATIONS"),
+    ("checks/source/wrong-events/unmark_of_ones_own_mark.edit", r"\(s % (\d+)\)", "MAX_STATIONS"),
+    ("checks/source/wrong-events/unmark_of_ones_own_mark.edit", r"\(station % (\d+)\)", "MAX_STATIONS"),
+    ("README.md", r"A machine has dimension 0 to (\d+)", "MAX_DIM"),
+    ("README.md", r"A machine has .* and (\d+) stations", "MAX_STATIONS"),
+    ("README.md", r"more than (\d+) regions at once", "MAX_STATIONS"),
+    ("README.md", r"each of up to 2\^(\d+) processors", "MAX_BITS_DIM"),
+    ("docs/HEADLINE.md", r"a machine of dimension 0 to (\d+)", "MAX_DIM"),
+    ("docs/GLOSSARY.md", r"one of at most (\d+) users of the machine", "MAX_STATIONS"),
+)
+SUFFIX = r"(?:[ui](?:8|16|32|64|128|size))?"
+POWER = rf"(?:(?P<base>[12]){SUFFIX}\s*(?P<sign>\^|<<|\.pow\()\s*)?"
+# A number, with the power that it may be the exponent of; no part of a name, and no field such as `pair.0`.
+DIGITS = r"(?P<digits>0[xob][\da-fA-F_]+|\d[\d_]*?)"
+LITERAL = re.compile(rf"(?<![\w\-])(?<!(?<!\.)\.){POWER}{DIGITS}{SUFFIX}(?![\w\-]|\.\d)")
+
+
+def value(match):
+    digits = match["digits"].replace("_", "")
+    number = int(digits) if digits.isdecimal() else int(digits, 0)
+    if match["sign"] is None:
+        return number
+    return int(match["base"]) << number if match["sign"] == "<<" else int(match["base"]) ** number
+
+
+def named_numbers():
+    """Returns what each number of interest is called: each limit, some powers, and one less or more."""
+    named, words = {}, {}
+    for _, _, name, text in limits():
+        named[name] = named[text] if text in named else value(LITERAL.fullmatch(text))
+    named["2^MAX_DIM"] = 2 ** named["MAX_DIM"]
+    named["2^(MAX_DIM + 1)"] = 2 ** (named["MAX_DIM"] + 1)
+    named["2^MAX_BITS_DIM"] = 2 ** named["MAX_BITS_DIM"]
+    for name, number in named.items():
+        for near in (number - 1, number, number + 1):
+            words.setdefault(near, []).append(name + ("", " + 1", " - 1")[near - number])
+    return words
+
+
+def miswritten(words):
+    for file, pattern, name in WRITTEN:
+        found = re.findall(pattern, read(file))
+        if len(found) != 1:
+            yield f"{file}: {name} stands {len(found)} times in the words {pattern!r}, and not once"
+        elif name not in words.get(int(found[0]), []):
+            yield f"{file}: {found[0]} is not {name}"
+
+
+def sources():
+    """Yields the lines that count: place, number and text without a comment."""
+    folders = [f"crates/{crate}/{part}" for crate in crate_names() for part in ("src", "specs", "proofs")]
+    for file in (file for folder in folders for file in files_below(folder, ".rt", ".antt")):
+        if place(file) not in LIMITS and not re.search(r"/tests_[a-z]+/|/tests\.rt$", file):
+            for number, line in enumerate(uncommented(read(file), file.endswith(".antt")).splitlines(), 1):
+                yield place(file), number, line
+
+
+def unnamed(words):
+    """Yields each number that should be a name, and each entry of OTHERS that no number needs."""
+    needed = set()
+    for file, number, line in sources():
+        for match in (found for found in LITERAL.finditer(line) if value(found) in words):
+            meant = {entry for entry in OTHERS if re.match(f"crates/(?:{entry[0]})", file) and any(
+                other.start() <= match.start("digits") < other.end() for other in re.finditer(entry[1], line))}
+            needed |= meant
+            if not meant:
+                yield f"{file}:{number}: {match[0]} is {' or '.join(words[value(match)])}"
+    for entry in OTHERS:
+        if entry not in needed:
+            yield f"limits: no literal needs the entry {entry[1]!r} for {entry[0]!r}"
+
+
+def main(_):
+    words = named_numbers()
+    untold = [f"{home}: no sentence says what {name} is" for home, sentence, name, _ in limits() if not sentence]
+    return print_faults([*untold, *unnamed(words), *miswritten(words)])

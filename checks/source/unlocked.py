@@ -1,0 +1,54 @@
+"""Finds locks in the sources of the queue and of the tree: `line_ruled`, `floor_tree` and all crates below them.
+
+No contract says this of a call that may wait: a lock around it changes neither its result nor what it records. It finds
+
+- a lock, a channel, a once cell or another type of the standard library that makes a thread wait for another one,
+- a crate of the toolchain that is not in ALLOWED, in the crate's line of crates.txt; the queue of `crossbeam_queue` has
+  no lock, but a push or a pop may wait for another one; of `crossbeam_utils` sources may name `Backoff` alone,
+- the repository's `locked_cell`, of which its locked line and floor are made, and
+- a loop with no bound (`forever`), of which a lock made by hand needs one; the floor's `take` alone has such a loop.
+
+`checks/run unlocked [FOLDER]` reads this repository, or a copy of it.
+"""
+import os
+import re
+
+from checks.lib.rattle_source import uncommented
+from checks.lib.repository import ROOT, files_below, read
+from checks.lib.rows import print_faults
+from checks.lib.toolchain import crates
+
+TOPS = ("line_ruled", "floor_tree")
+ALLOWED = {"std", "atomic_table", "bitflags", "crossbeam_queue", "crossbeam_utils", "thiserror"}
+LOCKS = re.compile(
+    r"\b(?:\w*Mutex\w*|\w+Lock|\w+Lock(?:Read|Write)Guard|Condvar|Barrier|OnceCell|mpsc|(?:try_)?lock|locked_\w+)\b"
+    r"|\bsync::(?:\{[^}]*)?\bOnce\b|\bcrossbeam_utils\b(?!::Backoff;)"
+)
+FOREVER = re.compile(r"\bforever\b")
+WAITS = {"crates/floor_tree/src/floor_tree.rt": 1}
+
+
+def faults_of(crate, root):
+    """Yields what is wrong in the sources of a crate, and in its line of crates.txt."""
+    for dep in crate.of_kit:
+        if dep not in ALLOWED:
+            yield f"crates.txt: {crate.name} stands on {dep}"
+    files = files_below(f"{crate.folder}/src", ".rt")
+    if not files:
+        yield f"{crate.name}: no source was found"
+    for file in files:
+        text, name = uncommented(read(file)), os.path.relpath(file, root)
+        yield from (f"{name}: {word}" for word in sorted({it[0] for it in LOCKS.finditer(text)}))
+        loops = len(FOREVER.findall(text))
+        if loops != WAITS.get(name, 0):
+            yield f"{name}: {loops} loops with no bound, and not {WAITS.get(name, 0)}"
+
+
+def main(words):
+    root = os.path.realpath(words[0]) if words else ROOT
+    known = crates(root)
+    names = sorted({below for top in TOPS for below in [top, *(it.name for it in known[top].below())]})
+    status = print_faults(fault for name in names for fault in faults_of(known[name], root))
+    if not status:
+        print(f"unlocked: {len(names)} crates have no lock")
+    return status

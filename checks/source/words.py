@@ -1,0 +1,86 @@
+"""Fails where one word has two senses: a public type whose name stands in two crates, or a word of docs/GLOSSARY.md
+with two entries.
+
+It reads the types that each library makes public and has itself, and the first column of the glossary's tables. ALLOWED
+says which crates may share a name, and why; an entry that is not needed fails too. Bare, the names of NOBODYS belong to
+no crate. `checks/run words [FOLDER]` reads this repository, or a copy of it.
+"""
+import glob
+import os
+import re
+
+from checks.lib.rattle_source import TYPES, all_items, items_in, passed_on
+from checks.lib.repository import ROOT, files_below, read
+from checks.lib.rows import print_faults
+
+NOBODYS = ("Lane", "Pass", "Station")
+# Which crates have a type of this name, and why that misleads nobody.
+ALLOWED = {
+    "Answer": ("cubejobs_c cubejobs_tree", "what a call of a library for C answers; each has a header of its own"),
+    "Entry": ("job_queue tree_steps", "a lane's entry into a line, and a station's member of a seat"),
+    "Finished": ("dispatcher uses", "what is known at the end: of a shop, of a run over a line alone"),
+    "FreeMachine": ("cube_tree floor_locked", "what a close gives; callers of floors see F::Machine"),
+    "Kind": ("cube_core job_types", "of an event, and of a collective; a caller of jobs sees no event"),
+    "LaneRecord": ("job_queue line_ring", "what a lane has done, at a line and at its ring, which line_ruled joins"),
+    "Opened": ("dispatcher job_queue", "a new shop, and a new line, each with all that its callers need"),
+    "PassRecord": ("job_queue line_ring", "what a pass has done, at a line and at its ring, which line_ruled joins"),
+    "Reading": ("job_queue line_gate", "what a pass read of a line, and of its gate, which line_ruled joins"),
+    "Refused": ("cube_core job_queue", "a refused call of the pure machine, and a refused job of a line"),
+    "Request": ("cli_args job_types", "of a command line, and of a job; a caller of either sees one"),
+    "Row": ("jobs_csv tests_kit", "what is written as a line of CSV, and a row of a test"),
+    "Tally": ("collectives uses", "rounds and messages, and what a stranger's line counts"),
+}
+
+
+def types_in(items):
+    return {item.name for item in all_items(items) if item.is_public and item.kind in TYPES}
+
+
+def public_types(source):
+    """Returns the types that the library with the sources in this folder makes public and has itself."""
+    files = {os.path.relpath(file, source): items_in(file, read(file)) for file in files_below(source, ".rt")}
+    root = files["lib.rt"]
+    modules = {item.name: item.is_public for item in root if item.kind == "mod"}
+    own, names = {name for items in files.values() for name in types_in(items)}, types_in(root)
+    for at, listed in passed_on(root):
+        if at.strip(": ").split("::")[0] in modules:
+            names |= own & set(listed)
+    public = tuple(f"{name}{end}" for name, is_public in modules.items() if is_public for end in (".rt", os.sep))
+    return names.union(*(types_in(items) for file, items in files.items() if file.startswith(public)))
+
+
+def homes(root):
+    found = {}
+    for library in sorted(glob.glob(f"{root}/crates/*/src/lib.rt")):
+        source = os.path.dirname(library)
+        for name in public_types(source):
+            found.setdefault(name, []).append(os.path.basename(os.path.dirname(source)))
+    return found
+
+
+def type_faults(found):
+    for name, crates in sorted(found.items()):
+        allowed, _ = ALLOWED.get(name, ("", ""))
+        if (len(crates) > 1 or name in NOBODYS) and " ".join(crates) != allowed:
+            yield f"the public type {name} stands in {', '.join(crates)}"
+    for name, (crates, _) in ALLOWED.items():
+        stands = found.get(name, [])
+        if " ".join(stands) != crates or (len(stands) < 2 and name not in NOBODYS):
+            yield f"words: the entry {name} for {crates} is not needed as it stands"
+    if len(found) < 100:
+        yield f"only {len(found)} public types were found"
+
+
+def glossary_faults(text):
+    """Yields what is wrong with the first column of the tables, whose headings stand above a line of dashes."""
+    rows = re.findall(r"^\| ([^|\n]*) \|.*\n(?!\|---)", text, re.M)
+    entries = [word.strip().lower() for row in rows for word in row.split(",")]
+    for word in sorted({word for word in entries if entries.count(word) > 1}):
+        yield f"docs/GLOSSARY.md has {entries.count(word)} entries of '{word}'"
+    if len(entries) < 50:
+        yield f"docs/GLOSSARY.md has {len(entries)} words alone"
+
+
+def main(words):
+    root = os.path.realpath(words[0]) if words else ROOT
+    return print_faults([*type_faults(homes(root)), *glossary_faults(read(root, "docs", "GLOSSARY.md"))])

@@ -1,0 +1,7 @@
+//! A backoff for callers that try again (`Pause`): a few snoozes, then bursts of yields that grow, then sleeps. Producers,
+//! workers, allocators and locks all wait by it.
+#![tactic(auto)]
+
+mod pause;
+
+pub use pause::{LONGEST_BURST, Pause};

@@ -1,0 +1,86 @@
+// A command, from the bytes that it reads to the bytes that it writes.
+ghost use Rattle.std.specs.Prelude.{◌≡◌, ◌⊎◌, IfErr, IfSome};
+ghost use Rattle.cli_args.specs.CommandLine.{IsWithinLimits};
+ghost use Rattle.cli_commands.specs.Answer.{IsMetBeforeWriting};
+ghost use Rattle.cli_commands.specs.Program.{IsAnswerTo, IsFaultOf, ShowsProgress};
+
+use crate::output::{Replies, Report};
+use crate::place::place_on;
+use crate::replay::replay_on;
+use crate::shop::answer_file;
+use crate::writing::write_output;
+use cli_args::Invocation;
+use dispatcher::Runner;
+use floor_tree::TreeFloor;
+use jobs_csv::{Device, Fault};
+use line_ruled::RuledLine;
+use std::alloc::Global;
+use std::io::{Read, Write};
+use std::sync::Wait;
+use std::thread::Threads;
+
+/// A command, and the runner of its jobs.
+#[derive(Drop)]
+pub struct Task<'a, T> {
+    /// The command.
+    pub invocation: Invocation,
+    /// What answers the jobs of `run` and `report`.
+    pub runner: &'a T,
+}
+
+/// Reads what a command reads, does it, and writes its rows.
+///
+/// The jobs of `run` and `report` run on threads of the runtime. All are read before the first is answered, and all are
+/// answered before the first row is written. The terminal, if there is one, shows how far such a run is, unless its
+/// options are quiet.
+///
+/// # Errors
+///
+/// A fault of the input is the first one in it. `Read` and `Write` come only if that device's count
+/// of failed calls rose in this call or stood at `u64::MAX`, and `Spent` if a lane has no number left. Any
+/// other failure is `OutOfMemory`, also a thread that could not be started. After `Write` the first rows may be
+/// out, and after `OutOfMemory` too, if writing asked for memory. After any other fault nothing is written.
+pub fn answer<H, T, R, W, P>(
+    rt: &H,
+    alloc: Global,
+    task: Task<'_, T>,
+    reader: &mut R,
+    writer: &mut W,
+    terminal: &mut Option<P>,
+) -> Result<(), Fault>
+where
+    H: Threads + Wait + Clone + Send + Sync + 'static,
+    T: Runner + Sync,
+    R: Read + Device,
+    W: Write + Device,
+    P: Write + Send + Drop + 'static,
+    requires { IsWithinLimits task.invocation }
+    ensures answered { IfSome (R.remaining reader.old) (λ bytes.
+        IsAnswerTo task.entry.invocation bytes
+        (W.contents writer.old) (W.contents writer.new) result) }
+    ensures failed { IfErr result
+        (IsFaultOf (R.failures reader.old) (R.failures reader.new)
+        (W.failures writer.old) (W.failures writer.new) task.entry.invocation) }
+    ensures untouched { IfErr result (λ fault. IsMetBeforeWriting fault → writer.new ≡ writer.old) }
+    ensures shown { (terminal.new ≡ terminal.old) ⊎ ShowsProgress task.entry.invocation }
+{
+    let Task { invocation, runner } = task;
+    match invocation {
+        Invocation::Run(options) => {
+            let dim = options.sizes.dim;
+            let ran = answer_file::<H, RuledLine, TreeFloor, T, R, P>(
+                rt, alloc, options, runner, reader, terminal,
+            );
+            write_output::<Replies, TreeFloor, W>(alloc, dim, ran, writer)
+        }
+        Invocation::Report(options) => {
+            let dim = options.sizes.dim;
+            let ran = answer_file::<H, RuledLine, TreeFloor, T, R, P>(
+                rt, alloc, options, runner, reader, terminal,
+            );
+            write_output::<Report, TreeFloor, W>(alloc, dim, ran, writer)
+        }
+        Invocation::Place { n } => place_on(alloc, n, reader, writer),
+        Invocation::Replay { n, stations } => replay_on(alloc, n, stations, reader, writer),
+    }
+}

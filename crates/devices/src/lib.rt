@@ -1,0 +1,9 @@
+//! Readers and writers that count their failed calls.
+//!
+//! A caller lends a `Device` to a function. Where the function fails, the count of failed calls says
+//! whether the device failed. `Counted` makes a device of any reader or writer.
+#![tactic(auto)]
+
+mod device;
+
+pub use device::{Counted, Device};

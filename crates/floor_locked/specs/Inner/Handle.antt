@@ -1,0 +1,62 @@
+-- A locked floor and its handles as plain data.
+use Rattle.std.specs.Prelude.{◌≡◌, ℕ, None, List, [], ◌∷◌}
+use Rattle.std.specs.List.{All}
+use Rattle.atomic_table.specs.Seated.{TableId}
+use Rattle.cube_shape.specs.declared.region.Region.{Region}
+use Rattle.cube_shape.specs.Region.{IsAligned}
+use Rattle.alloc_bits.specs.Allocation.{held_in}
+use Rattle.locked_cell.specs.Handle.{table_of as table_of_cell, key_of}
+use Rattle.floor_locked.specs.declared.view.Size.{Size}
+use Rattle.floor_locked.specs.declared.bits_lock.BitsLock.{BitsLock}
+use Rattle.floor_locked.specs.declared.handle.LockedStation.{LockedStation}
+use Rattle.floor_locked.specs.declared.handle.Held.{Held}
+use Rattle.floor_locked.specs.declared.handle.FreeMachine.{FreeMachine}
+use Rattle.floors.specs.Floor.{FloorId}
+use Rattle.floor_locked.specs.Inner.Step.{Sat, station_in}
+
+abbrev pub table_of : BitsLock → TableId
+table_of lock = table_of_cell lock.cell
+
+abbrev pub size_of : BitsLock → Size
+size_of lock = key_of lock.cell
+
+abbrev pub floor_id : BitsLock → FloorId
+floor_id lock = record { tables = table_of lock ∷ []; dim = (size_of lock).dim; stations = (size_of lock).stations }
+
+-- a seat of this table, whose view is of a machine of this size
+abbrev pub IsOf : FloorId → TableId → Size → Type 0
+IsOf id table about = (id.tables ≡ table ∷ []) × (about.dim ≡ id.dim) × (about.stations ≡ id.stations)
+
+-- the grants of the one station that a seat has a record of
+abbrev pub grants_in : Sat → List Region
+grants_in m = (station_in m.0.stations).grants
+
+abbrev pub grants_of : LockedStation → List Region
+grants_of station = grants_in station.seat.me
+
+abbrev pub held_grants : Held → List Region
+held_grants held = grants_in held.seat.me
+
+-- its seat is of the floor
+abbrev pub is_seated : FloorId → LockedStation → Type 0
+is_seated id station = IsOf id station.seat.table_id station.seat.me.0.about
+
+-- and each region that it was given is aligned
+abbrev pub is_station : FloorId → LockedStation → Type 0
+is_station id station = is_seated id station × All (IsAligned id.dim) (grants_of station)
+
+abbrev pub is_held : FloorId → Held → Type 0
+is_held id held = IsOf id held.seat.table_id held.seat.me.0.about × All (IsAligned id.dim) (held_grants held)
+
+abbrev pub held_region : Held → Region
+held_region held = held.region
+
+abbrev pub machine_dim : FreeMachine → ℕ
+machine_dim machine = machine.bits.dim
+
+abbrev pub machine_words : FreeMachine → List ℕ
+machine_words machine = machine.words.items
+
+-- the allocation bits of the machine say that no station holds a region, however many there are
+abbrev pub AreBitsFree : ℕ → FreeMachine → Type 0
+AreBitsFree count machine = (s : ℕ) → held_in machine.bits s ≡ None

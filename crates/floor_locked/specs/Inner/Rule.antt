@@ -1,0 +1,25 @@
+-- The rule of a locked floor's table. Its one word is 1 while a seat has taken the slot with the bits.
+use Rattle.std.specs.Prelude.{◌≡◌, ℕ, ◌<◌, List}
+use mathlib.Core.Option.{some}
+use lib.ListN.{get_elem?}
+use Rattle.atomic_table.specs.Table.{State}
+use Rattle.ghost_history.specs.Views.{Tied}
+use Rattle.locked_cell.specs.Cell.{IsCell}
+use Rattle.alloc_bits.specs.Allocation.{Allocation, held_in}
+use Rattle.floor_locked.specs.declared.view.Size.{Size}
+use Rattle.floor_locked.specs.declared.view.View.{View}
+use Rattle.floor_locked.specs.Inner.View.{found_in, members}
+use Rattle.floor_locked.specs.Inner.Deed.{Deed, station_part, held_after, IsLegal}
+
+-- the bits are those that the history leaves
+pub record Fits (size : Size) (history : List Deed) (x : Allocation) : Type 0 where
+  pub dim : x.dim ≡ size.dim
+  pub held : (station : ℕ) → held_in x station ≡ held_after history station
+
+pub record Keeps (size : Size) (s : State Allocation View) : Type 0 where
+  pub history : List Deed
+  pub legal : IsLegal size history
+  pub stations : Tied (λ (v : View). v.stations) (λ r. r.number) size.stations (station_part history) s.views
+  pub about : (id : ℕ) (v : View) → get_elem? s.views id ≡ some v → 0 < members v → v.about ≡ size
+  -- the bits that are at home, and those that a seat found, are what the history leaves
+  pub cell : IsCell found_in members (Fits size history) s

@@ -1,0 +1,28 @@
+// What the calls of a locked floor do to the allocation bits.
+ghost use Rattle.std.specs.Prelude.{◌≡◌, ◌<◌, ◌≤◌, None};
+ghost use Rattle.alloc_bits.specs.Allocation.{held_in};
+ghost use Rattle.floor_locked.specs.Inner.View.{Allots, Withdraws, HoldsSome};
+
+use alloc_bits::AllocBits;
+use cube_shape::{MAX_STATIONS, Region};
+
+// Gives a station that holds nothing a region of dimension `k`, if one is free.
+pub(crate) fn allot(bits: &mut AllocBits, station: u32, k: u32) -> Option<Region>
+    requires station { station < MAX_STATIONS }
+    requires idle { held_in bits.old station ≡ None }
+    requires dim { k ≤ bits.old.dim }
+    ensures { Allots bits.old station k result bits.new }
+{
+    bits.take(station, k).ok()
+}
+
+// Takes the region of a station away.
+pub(crate) fn withdraw(bits: &mut AllocBits, station: u32)
+    requires { HoldsSome bits.old station }
+    ensures { Withdraws bits.old station bits.new }
+{
+    match bits.release(station) {
+        Ok(_) => {}
+        Err(_) => unreachable!(),
+    }
+}

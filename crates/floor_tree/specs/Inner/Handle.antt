@@ -1,0 +1,25 @@
+-- A tree floor and its handles as plain data.
+use Rattle.std.specs.Prelude.{◌≡◌, ◌<◌, [], ◌∷◌}
+use Rattle.std.specs.List.{All}
+use Rattle.cube_shape.specs.Region.{IsAligned}
+use Rattle.floors.specs.Floor.{FloorId}
+use Rattle.tree_steps.specs.Tree.{id_of}
+use Rattle.cube_tree.specs.declared.handles.Cube.{Cube}
+use Rattle.cube_tree.specs.declared.handles.TreeStation.{TreeStation}
+use Rattle.cube_tree.specs.declared.handles.Subcube.{Subcube}
+use Rattle.cube_tree.specs.Handles.{cube_dim, cube_size, station_entry, subcube_entry}
+use Rattle.floor_tree.specs.Grants.{station_grants, subcube_grants}
+
+abbrev pub floor_id : Cube → FloorId
+floor_id cube = record { tables = id_of cube.tree ∷ []; dim = cube_dim cube; stations = (cube_size cube).stations }
+
+-- it steps on the floor's table, its number is below the count, and each region that it was given is aligned
+pub record IsStation (id : FloorId) (station : TreeStation) : Type 0 where
+  pub table : id.tables ≡ station.seat.table_id ∷ []
+  pub below : (station_entry station).station < id.stations
+  pub granted : All (IsAligned id.dim) (station_grants station)
+
+pub record IsHeld (id : FloorId) (subcube : Subcube) : Type 0 where
+  pub table : id.tables ≡ subcube.seat.table_id ∷ []
+  pub below : (subcube_entry subcube).station < id.stations
+  pub granted : All (IsAligned id.dim) (subcube_grants subcube)

@@ -1,0 +1,25 @@
+-- What the state of a locked line is once all its members have come together.
+use Rattle.std.specs.Prelude.{◌≡◌, ℕ, ◌<◌, ◌≤◌, Some, None, [], ◌∷◌, length, slice_index}
+use Rattle.std.specs.List.{AllByRecursion as Each}
+use Rattle.ghost_history.specs.Sums.{total, is_at}
+use Rattle.job_queue.specs.declared.job_line.Sizes.{Sizes}
+use Rattle.line_locked.specs.declared.store.Store.{Store}
+use Rattle.line_locked.specs.declared.view.View.{View}
+use Rattle.job_queue.specs.Record.{accepted}
+use Rattle.job_queue.specs.Line.{IsMadeFor}
+use Rattle.job_queue.specs.Run.{WholeRun}
+
+-- the view has as many lanes and passes as the line, and the closer, who closed it at the number
+pub record IsWhole (sizes : Sizes) (v : View) (number : ℕ) : Type 0 where
+  pub lanes : length v.lanes ≡ sizes.lanes
+  pub passes : length v.passes ≡ sizes.passes
+  pub closers : v.closers ≡ record { closed_at = Some number } ∷ []
+  pub found : v.found ≡ None
+
+pub record IsEnd (sizes : Sizes) (v : View) (number : ℕ) (x : Store) : Type 0 where
+  pub run : WholeRun v.lanes v.passes x.jobs.items number
+  pub numbers : (k : ℕ) → k < sizes.lanes → total (λ r. is_at k r.number) v.lanes ≡ 1
+  pub lane_count : length x.accepted.items ≡ sizes.lanes
+  pub accepted_by : Each (λ r. slice_index x.accepted.items r.number ≡ length (accepted r.entries)) v.lanes
+  pub fits : length x.jobs.items ≤ sizes.capacity
+  pub made_for : Each (IsMadeFor sizes.machine) x.jobs.items

@@ -1,0 +1,48 @@
+-- A locked line and its handles as plain data.
+use Rattle.std.specs.Prelude.{◌≡◌, ℕ, [], ◌∷◌}
+use Rattle.atomic_table.specs.Seated.{TableId}
+use Rattle.locked_cell.specs.Handle.{table_of as table_of_cell, key_of}
+use Rattle.job_queue.specs.declared.job_line.Sizes.{Sizes}
+use Rattle.job_queue.specs.declared.record.LaneRecord.{LaneRecord}
+use Rattle.job_queue.specs.declared.record.PassRecord.{PassRecord}
+use Rattle.line_locked.specs.declared.store_lock.StoreLock.{StoreLock}
+use Rattle.line_locked.specs.declared.handle.LockedLane.{LockedLane}
+use Rattle.line_locked.specs.declared.handle.LockedPass.{LockedPass}
+use Rattle.line_locked.specs.declared.handle.LockedCloser.{LockedCloser}
+use Rattle.line_locked.specs.declared.handle.LockedNote.{LockedNote}
+use Rattle.job_queue.specs.Line.{LineId}
+use Rattle.line_locked.specs.Inner.Step.{lane_in, pass_in}
+
+abbrev pub table_of : StoreLock → TableId
+table_of lock = table_of_cell lock.cell
+
+abbrev pub sizes_of : StoreLock → Sizes
+sizes_of lock = key_of lock.cell
+
+abbrev pub line_id : StoreLock → LineId
+line_id lock = record { tables = table_of lock ∷ []; sizes = sizes_of lock }
+
+-- a seat of this table, whose view is of a line of these sizes
+abbrev pub IsOf : LineId → TableId → Sizes → Type 0
+IsOf id table about = (id.tables ≡ table ∷ []) × (about ≡ id.sizes)
+
+abbrev pub is_lane : LineId → LockedLane → Type 0
+is_lane id lane = IsOf id lane.seat.table_id lane.seat.me.0.about
+
+abbrev pub is_pass : LineId → LockedPass → Type 0
+is_pass id pass = IsOf id pass.seat.table_id pass.seat.me.0.about
+
+abbrev pub is_closer : LineId → LockedCloser → Type 0
+is_closer id closer = IsOf id closer.seat.table_id closer.seat.me.0.about
+
+abbrev pub is_note : LineId → LockedNote → Type 0
+is_note id note = IsOf id note.seat.table_id note.seat.me.0.about
+
+abbrev pub lane_record : LockedLane → LaneRecord
+lane_record lane = lane_in lane.seat.me.0.lanes
+
+abbrev pub pass_record : LockedPass → PassRecord
+pass_record pass = pass_in pass.seat.me.0.passes
+
+abbrev pub note_number : LockedNote → ℕ
+note_number note = note.number

@@ -1,0 +1,62 @@
+// What the callers of a locked line hold. None of it has a `Drop`: it is spent in the line's end.
+ghost use Rattle.std.specs.Prelude.{◌≡◌, ℕ, [], ◌∷◌, None, Some, length};
+ghost use Rattle.line_locked.specs.Inner.View.{pass_view, closer_view};
+ghost use Rattle.line_locked.specs.Inner.Step.{IsLaneSeat, pass_in};
+
+use crate::store_lock::Seat;
+
+/// The right to hand in jobs by one lane of a `LockedLine`.
+pub struct LockedLane {
+    pub(crate) seat: Seat,
+    pub(crate) number: u32,
+    pub(crate) entries: u64,
+    ghost known: { IsLaneSeat seat.me number entries },
+}
+
+/// The right to take jobs of a `LockedLine`.
+pub struct LockedPass {
+    pub(crate) seat: Seat,
+    ghost known: { seat.me ≡ (pass_view seat.me.0.about (pass_in seat.me.0.passes), []) },
+}
+
+/// The right to close a `LockedLine`. There is one.
+pub struct LockedCloser {
+    pub(crate) seat: Seat,
+    ghost known: { seat.me ≡ (closer_view seat.me.0.about None, []) },
+}
+
+/// Shows that a `LockedLine` is closed.
+pub struct LockedNote {
+    pub(crate) seat: Seat,
+    pub(crate) number: u64,
+    ghost known: { seat.me ≡ (closer_view seat.me.0.about (Some number), []) },
+}
+
+impl LockedLane {
+    ghost use Rattle.line_locked.specs.Inner.Handle.{lane_record};
+
+    /// The lane's number.
+    pub fn number(&self) -> u32
+        ensures { result ≡ (lane_record self.now).number }
+    {
+        self.number
+    }
+
+    /// How many entries the lane has made.
+    pub fn entry_count(&self) -> u64
+        ensures { result ≡ length (lane_record self.now).entries }
+    {
+        self.entries
+    }
+}
+
+impl LockedNote {
+    ghost use Rattle.line_locked.specs.Inner.Handle.{note_number};
+
+    /// The close number: how many entries came before the close.
+    pub fn number(&self) -> u64
+        ensures { result ≡ note_number self.now }
+    {
+        self.number
+    }
+}

@@ -1,0 +1,223 @@
+// The lock of a line. Its state lies in a cell. A call takes it and gives it back, and as it does so the
+// record of its lane or pass gains what the call did.
+//
+// Only these stores change a record, and those that say that the line was full or empty take the
+// token of the push or pop that found it so.
+ghost use Rattle.std.specs.Prelude.{◌≡◌, ℕ, ◌+◌, ◌<◌, ◌≤◌, ◌^◌, [], ◌∷◌, true, false, IfOk, MatchOption, length, slice_index};
+ghost use Rattle.job_queue.specs.declared.job_line.Sizes.{Sizes as LineSizes};
+ghost use Rattle.line_locked.specs.declared.store.Store.{Store as State};
+ghost use Rattle.job_queue.specs.declared.record.QueuedJob.{QueuedJob as Queued};
+ghost use Rattle.job_queue.specs.declared.record.LaneRecord.{LaneRecord};
+ghost use Rattle.job_queue.specs.declared.record.PassRecord.{PassRecord};
+ghost use Rattle.line_locked.specs.Inner.View.{Pushes, Pops, Shuts, first_view, without_lane, lane_alone, without_pass, pass_alone, joined, members};
+ghost use Rattle.line_locked.specs.Inner.Step.{IsIdle, Took, IsLaneOut, IsPassOut, IsCloserOut, Accepts, Fills, Hands, Same, Closes, after_entry, after_full_entry, after_seen, after_taken, after_reading, after_close};
+ghost use Rattle.line_locked.specs.Inner.End.{IsWhole, IsEnd};
+
+use crate::plays::{Accept, DealLane, DealPass, Fill, Gather, Hand, LineRule, Read, Refuse, Shut};
+use crate::store::{LockedEnd, SawEmpty, SawFull, Store};
+use crate::view::View;
+use cube_shape::MAX_LANES;
+use job_queue::{QueuedJob, Receipt, Sizes};
+use job_types::Job;
+use locked_cell::LockedCell;
+use std::alloc::{AllocError, Global};
+use std::sync::Wait;
+
+pub(crate) type Seat = atomic_table::Seat<Store, View>;
+
+#[derive(Drop)]
+pub(crate) struct StoreLock {
+    cell: LockedCell<Store, View, Sizes, LineRule>,
+}
+
+impl StoreLock {
+    ghost use Rattle.line_locked.specs.Inner.Handle.{table_of, sizes_of};
+
+    // A lock with an empty state, and the seat that has the records of all members.
+    pub fn new(alloc: Global, sizes: Sizes) -> Result<(StoreLock, Seat), AllocError>
+        requires { sizes.lanes ≤ MAX_LANES }
+        ensures sizes { IfOk result (λ made. sizes_of made.0 ≡ sizes) }
+        ensures table { IfOk result (λ made. made.1.table_id ≡ table_of made.0) }
+        ensures seat { IfOk result (λ made. made.1.me ≡ (first_view sizes, [])) }
+    {
+        let store = Store::new(alloc, sizes)?;
+        let (cell, seat) = LockedCell::<Store, View, Sizes, LineRule>::new(alloc, store, &sizes)?;
+        Ok((StoreLock { cell }, seat))
+    }
+
+    // A seat with the record of one lane of those that `seat` has, the first.
+    pub fn deal_lane(&self, seat: &mut Seat) -> Seat
+        requires table { seat.old.table_id ≡ table_of self.now }
+        requires idle { IsIdle seat.old.me }
+        ensures tables { (seat.new.table_id ≡ table_of self.now)
+            × (result.table_id ≡ table_of self.now) }
+        ensures left { seat.new.me ≡ (without_lane seat.old.me.0, []) }
+        ensures dealt { result.me ≡ (lane_alone seat.old.me.0, []) }
+    {
+        self.cell.deal::<DealLane>(seat)
+    }
+
+    // A seat with the record of one pass of those that `seat` has, the first.
+    pub fn deal_pass(&self, seat: &mut Seat) -> Seat
+        requires table { seat.old.table_id ≡ table_of self.now }
+        requires idle { IsIdle seat.old.me }
+        ensures tables { (seat.new.table_id ≡ table_of self.now)
+            × (result.table_id ≡ table_of self.now) }
+        ensures left { seat.new.me ≡ (without_pass seat.old.me.0, []) }
+        ensures dealt { result.me ≡ (pass_alone seat.old.me.0, []) }
+    {
+        self.cell.deal::<DealPass>(seat)
+    }
+
+    // Takes in the records of another seat.
+    pub fn gather(&self, seat: &mut Seat, other: Seat)
+        requires tables { (seat.old.table_id ≡ table_of self.now)
+            × (other.table_id ≡ table_of self.now) }
+        requires idle { IsIdle seat.old.me × IsIdle other.me }
+        ensures table { seat.new.table_id ≡ table_of self.now }
+        ensures both { seat.new.me ≡ (joined seat.old.me.0 other.me.0, []) }
+    {
+        self.cell.gather::<Gather>(seat, other);
+    }
+
+    // Takes the state, and waits while another seat has it.
+    pub fn enter<R: Wait>(&self, rt: &R, seat: &mut Seat)
+        requires table { seat.old.table_id ≡ table_of self.now }
+        requires idle { IsIdle seat.old.me }
+        ensures table { seat.new.table_id ≡ table_of self.now }
+        ensures took { Took seat.old.me seat.new.me }
+    {
+        self.cell.enter(rt, seat);
+    }
+
+    // Work on the state that the seat has taken.
+
+    pub fn closed_at(&self, seat: &mut Seat) -> Option<u64>
+        requires table { seat.old.table_id ≡ table_of self.now }
+        requires held { (x : State) × (seat.old.me.1 ≡ (0, x) ∷ []) }
+        ensures table { seat.new.table_id ≡ table_of self.now }
+        ensures same { seat.new.me ≡ seat.old.me }
+        ensures value { (x : State) → seat.old.me.1 ≡ (0, x) ∷ [] → MatchOption result
+            (x.closed ≡ false) (λ n. (x.closed ≡ true) × (n ≡ x.entries)) }
+    {
+        seat.slot_mut(&self.cell.table.shared, 0).closed_at()
+    }
+
+    pub fn find_end(&self, seat: &mut Seat, saw: &SawEmpty) -> Option<LockedEnd>
+        requires table { seat.old.table_id ≡ table_of self.now }
+        requires held { (x : State) × (seat.old.me.1 ≡ (0, x) ∷ []) }
+        ensures table { seat.new.table_id ≡ table_of self.now }
+        ensures same { seat.new.me ≡ seat.old.me }
+        ensures value { (x : State) → seat.old.me.1 ≡ (0, x) ∷ [] → MatchOption result
+            (x.closed ≡ false) (λ _. x.closed ≡ true) }
+    {
+        seat.slot_mut(&self.cell.table.shared, 0).find_end(saw)
+    }
+
+    pub fn push(&self, seat: &mut Seat, lane: u32, job: Job) -> Result<Receipt, (Job, SawFull)>
+        requires table { seat.old.table_id ≡ table_of self.now }
+        requires held { (x : State) × (seat.old.me.1 ≡ (0, x) ∷ [])
+            × (lane < length x.accepted.items)
+            × (x.entries + 1 < 2 ^ 64) × (slice_index x.accepted.items lane + 1 < 2 ^ 64) }
+        ensures table { seat.new.table_id ≡ table_of self.now }
+        ensures pushed { (x : State) → seat.old.me.1 ≡ (0, x) ∷ [] → (y : State)
+            × (seat.new.me ≡ (seat.old.me.0, (0, y) ∷ [])) × Pushes x lane job result y }
+    {
+        seat.slot_mut(&self.cell.table.shared, 0).push(lane, job)
+    }
+
+    pub fn pop(&self, seat: &mut Seat) -> Result<QueuedJob, SawEmpty>
+        requires table { seat.old.table_id ≡ table_of self.now }
+        requires held { (x : State) × (seat.old.me.1 ≡ (0, x) ∷ []) }
+        ensures table { seat.new.table_id ≡ table_of self.now }
+        ensures popped { (x : State) → seat.old.me.1 ≡ (0, x) ∷ [] → (y : State)
+            × (seat.new.me ≡ (seat.old.me.0, (0, y) ∷ [])) × Pops x result y }
+    {
+        seat.slot_mut(&self.cell.table.shared, 0).pop()
+    }
+
+    pub fn shut(&self, seat: &mut Seat) -> u64
+        requires table { seat.old.table_id ≡ table_of self.now }
+        requires held { (x : State) × (seat.old.me.1 ≡ (0, x) ∷ []) }
+        ensures table { seat.new.table_id ≡ table_of self.now }
+        ensures shut { (x : State) → seat.old.me.1 ≡ (0, x) ∷ [] → (y : State)
+            × (seat.new.me ≡ (seat.old.me.0, (0, y) ∷ [])) × Shuts x result y }
+    {
+        seat.slot_mut(&self.cell.table.shared, 0).shut()
+    }
+
+    // The state is given back, and the record of the seat's member gains what the call did.
+
+    pub fn accept(&self, seat: &mut Seat)
+        requires table { seat.old.table_id ≡ table_of self.now }
+        requires ready { (r : LaneRecord) × (x : State) × (y : State) × (job : Queued)
+            × IsLaneOut seat.old.me r x y × Accepts seat.old.me.0.about r x job y }
+        ensures table { seat.new.table_id ≡ table_of self.now }
+        ensures gained { seat.new.me ≡ after_entry seat.old.me }
+    {
+        self.cell.give_back::<Accept>(seat);
+    }
+
+    pub fn fill(&self, seat: &mut Seat, saw: SawFull)
+        requires table { seat.old.table_id ≡ table_of self.now }
+        requires ready { (r : LaneRecord) × (x : State) × (y : State)
+            × IsLaneOut seat.old.me r x y × Fills r x y }
+        ensures table { seat.new.table_id ≡ table_of self.now }
+        ensures gained { seat.new.me ≡ after_full_entry seat.old.me }
+    {
+        saw.spend();
+        self.cell.give_back::<Fill>(seat);
+    }
+
+    pub fn refuse(&self, seat: &mut Seat)
+        requires table { seat.old.table_id ≡ table_of self.now }
+        requires ready { (r : LaneRecord) × (x : State) × (y : State)
+            × IsLaneOut seat.old.me r x y × (x.closed ≡ true) × Same x y }
+        ensures table { seat.new.table_id ≡ table_of self.now }
+        ensures gained { seat.new.me ≡ after_seen seat.old.me }
+    {
+        self.cell.give_back::<Refuse>(seat);
+    }
+
+    pub fn hand_over(&self, seat: &mut Seat)
+        requires table { seat.old.table_id ≡ table_of self.now }
+        requires ready { (r : PassRecord) × (x : State) × (y : State) × (job : Queued)
+            × IsPassOut seat.old.me r x y × Hands x job y }
+        ensures table { seat.new.table_id ≡ table_of self.now }
+        ensures gained { seat.new.me ≡ after_taken seat.old.me }
+    {
+        self.cell.give_back::<Hand>(seat);
+    }
+
+    pub fn read(&self, seat: &mut Seat, saw: SawEmpty)
+        requires table { seat.old.table_id ≡ table_of self.now }
+        requires ready { (r : PassRecord) × (x : State) × (y : State)
+            × IsPassOut seat.old.me r x y × (x.jobs.items ≡ []) × Same x y }
+        ensures table { seat.new.table_id ≡ table_of self.now }
+        ensures gained { seat.new.me ≡ after_reading seat.old.me }
+    {
+        saw.spend();
+        self.cell.give_back::<Read>(seat);
+    }
+
+    pub fn close(&self, seat: &mut Seat)
+        requires table { seat.old.table_id ≡ table_of self.now }
+        requires ready { (x : State) × (y : State) × IsCloserOut seat.old.me x y × Closes x y }
+        ensures table { seat.new.table_id ≡ table_of self.now }
+        ensures gained { seat.new.me ≡ after_close seat.old.me }
+    {
+        self.cell.give_back::<Shut>(seat);
+    }
+
+    // The state, once one seat has the records of all members.
+    pub fn end(self, seat: Seat) -> Store
+        requires table { seat.table_id ≡ table_of self }
+        requires whole { (number : ℕ) × (seat.me.1 ≡ [])
+            × IsWhole (sizes_of self) seat.me.0 number }
+        ensures { (number : ℕ) → IsWhole (sizes_of self) seat.me.0 number →
+            IsEnd (sizes_of self) seat.me.0 number result }
+    {
+        let StoreLock { cell } = self;
+        cell.end(seat)
+    }
+}

@@ -1,0 +1,77 @@
+-- A ruled line and its handles as plain data.
+use Rattle.std.specs.Prelude.{◌≡◌, ℕ, ◌<◌, List, [], ◌∷◌, map, length, slice_set}
+use Rattle.atomic_table.specs.Seated.{TableId}
+use Rattle.line_gate.specs.Gate.{GateId}
+use Rattle.line_ring.specs.Ring.{RingId, RingOf, EndOf}
+use Rattle.line_gate.specs.declared.record.LaneEntries.{LaneEntries}
+use Rattle.line_gate.specs.declared.record.PassReadings.{PassReadings}
+use Rattle.line_ring.specs.declared.record.LaneRecord.{LaneRecord as RingLaneRecord}
+use Rattle.line_ring.specs.declared.record.PassRecord.{PassRecord as RingPassRecord}
+use Rattle.job_queue.specs.declared.job_line.Sizes.{Sizes}
+use Rattle.job_queue.specs.declared.record.QueuedJob.{QueuedJob}
+use Rattle.job_queue.specs.declared.record.LaneRecord.{LaneRecord}
+use Rattle.job_queue.specs.declared.record.PassRecord.{PassRecord}
+use Rattle.line_ruled.specs.declared.handle.RuledLane.{RuledLane}
+use Rattle.line_ruled.specs.declared.handle.RuledPass.{RuledPass}
+use Rattle.line_ruled.specs.declared.handle.RuledCloser.{RuledCloser}
+use Rattle.line_ruled.specs.declared.handle.RuledNote.{RuledNote}
+use Rattle.line_ruled.specs.declared.line.RuledLine.{RuledLine}
+use Rattle.job_queue.specs.Line.{LineId}
+use Rattle.line_ruled.specs.Inner.Join.{joined_lane, joined_pass}
+
+-- which line it is: the tables of its gate and of its ring
+abbrev pub line_of : GateId → RingOf → LineId
+line_of gate ring = record { tables = gate.table ∷ ring.id.table ∷ []; sizes = record { machine = ring.id.machine; lanes = gate.counts.lanes; passes = gate.counts.passes; capacity = ring.capacity } }
+
+abbrev pub line_id : RuledLine → LineId
+line_id line = line_of line.gate line.ring
+
+-- the gate's table is the first, and the ring's the second
+abbrev pub IsOf : LineId → TableId → RingId → Type 0
+IsOf id gate ring = (id.tables ≡ gate ∷ ring.table ∷ []) × (ring.machine ≡ id.sizes.machine)
+
+abbrev pub is_lane : LineId → RuledLane → Type 0
+is_lane id lane = IsOf id lane.gate.gate lane.ring.ring × (lane.ring.known.number < id.sizes.lanes)
+
+abbrev pub is_pass : LineId → RuledPass → Type 0
+is_pass id pass = IsOf id pass.gate.gate pass.ring.ring
+
+-- all lanes and passes of the ring are dealt, and none has come back
+pub record AllDealt (sizes : Sizes) (end : EndOf QueuedJob) : Type 0 where
+  pub lanes : end.dealt_lanes ≡ sizes.lanes
+  pub passes : end.dealt_passes ≡ sizes.passes
+  pub no_lanes : end.back_lanes ≡ []
+  pub no_passes : end.back_passes ≡ []
+
+abbrev pub is_closer : LineId → RuledCloser → Type 0
+is_closer id closer = IsOf id closer.gate.gate closer.ring.ring × AllDealt id.sizes closer.ring
+
+abbrev pub is_note : LineId → RuledNote → Type 0
+is_note id note = IsOf id note.gate.gate note.ring.ring × AllDealt id.sizes note.ring
+
+abbrev pub lane_record : RuledLane → LaneRecord
+lane_record lane = joined_lane lane.gate.known lane.ring.known
+
+abbrev pub pass_record : RuledPass → PassRecord
+pass_record pass = joined_pass pass.gate.known pass.ring.known
+
+abbrev pub note_number : RuledNote → ℕ
+note_number note = note.gate.number
+
+-- the records of lanes and passes at the gate and in the ring
+abbrev pub gate_lanes : List RuledLane → List LaneEntries
+gate_lanes lanes = map (λ (l : RuledLane). l.gate.known) lanes
+
+abbrev pub ring_lanes : List RuledLane → List (RingLaneRecord QueuedJob)
+ring_lanes lanes = map (λ (l : RuledLane). l.ring.known) lanes
+
+abbrev pub gate_passes : List RuledPass → List PassReadings
+gate_passes passes = map (λ (p : RuledPass). p.gate.known) passes
+
+abbrev pub ring_passes : List RuledPass → List (RingPassRecord QueuedJob)
+ring_passes passes = map (λ (p : RuledPass). p.ring.known) passes
+
+-- the counts, each lane's in its place, once these lanes have given theirs
+abbrev pub counts_after : List ℕ → List RuledLane → List ℕ
+counts_after counts [] = counts
+counts_after counts (l ∷ lanes) = let r = l.ring.known in counts_after (slice_set counts r.number (length r.accepted)) lanes

@@ -1,5 +1,0 @@
-use Rattle.line_run.specs.Inner.Naming.{of_two}
-use Rattle.line_run.proofs.running.run.Given as goal
-
-abbrev pub ghosts-run_named : goal.ghosts-run_named
-ghosts-run_named g a = record { line = g.L.JobLine.id a.opened.line; jobs = of_two a.jobs.0.items a.jobs.1.items }

@@ -1,2 +1,0 @@
--- What no public contract reaches.
-pub mod Naming

@@ -1,5 +1,0 @@
-use Rattle.locked_line.proofs.EndLemmas.{ends}
-use Rattle.locked_line.proofs.store_lock.StoreLock.end.Goals as goal
-
-pub returns : goal.returns
-returns c = λ number whole. ends _ _ _ number _ c.end.ensures whole

@@ -1,5 +1,0 @@
-use Rattle.locked_line.proofs.StepLemmas.{enters}
-use Rattle.locked_line.proofs.store_lock.StoreLock.enter.Goals as goal
-
-pub enter-requires-clause-may : goal.enter-requires-clause-may
-enter-requires-clause-may g c = enters _ _ _ _ c.requires.idle

@@ -1,5 +1,0 @@
-use Rattle.locked_line.proofs.DealLemmas.{opens}
-use Rattle.locked_line.proofs.store_lock.StoreLock.new.Goals as goal
-
-pub new-requires-2 : goal.new-requires-2
-new-requires-2 c = opens _ _ c.requires c.in_ok-store.ensures

@@ -1,6 +1,0 @@
-use denote.Param.Send.{sendable}
-use Rattle.tree_floor.proofs.SharedLemmas.{tree_floor_sync}
-use Rattle.shop_tests.proofs.tests.crowd.crowd_over.Goals as goal
-
-pub crowd_on_floor-requires-sync-F : goal.crowd_on_floor-requires-sync-F
-crowd_on_floor-requires-sync-F g c κs = search (sendable, tree_floor_sync) depth 20

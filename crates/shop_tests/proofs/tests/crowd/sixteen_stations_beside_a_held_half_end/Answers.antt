@@ -1,6 +1,0 @@
-use denote.Param.Send.{sendable}
-use Rattle.tree_floor.proofs.SharedLemmas.{tree_floor_sync}
-use Rattle.shop_tests.proofs.tests.crowd.sixteen_stations_beside_a_held_half_end.Goals as goal
-
-pub crowd_beside_half-requires-sync-F : goal.crowd_beside_half-requires-sync-F
-crowd_beside_half-requires-sync-F c κs = search (sendable, tree_floor_sync) depth 20

@@ -1,6 +1,0 @@
-use denote.Param.Send.{sendable}
-use Rattle.tree_floor.proofs.SharedLemmas.{tree_floor_sync}
-use Rattle.shop_tests.proofs.tests.runs.run_over.Goals as goal
-
-pub run_of-requires-sync-F : goal.run_of-requires-sync-F
-run_of-requires-sync-F g c κs = search (sendable, tree_floor_sync) depth 20

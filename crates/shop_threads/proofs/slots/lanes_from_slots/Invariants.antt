@@ -1,0 +1,15 @@
+use Rattle.std.proofs.Common.{◌≡◌, ◌+◌, ◌≤◌, length}
+use Rattle.std.specs.List.{All}
+use Rattle.std.specs.Vec.{vec_capacity}
+use Rattle.shop_threads.specs.InnerEnd.{HasEnded}
+use Rattle.shop_threads.proofs.slots.lanes_from_slots.Given as goal
+
+abbrev pub invariant-loop-feeder : goal.invariant-loop-feeder
+invariant-loop-feeder g l = let line = g.L.JobLine in let shop = g.J.Naming.shop in
+    All (λ f. line.is_lane shop.line f.0) l.fed.items
+    × All (λ f. HasEnded g.J.Naming.jobs (line.lane_record f.0) f.1) l.fed.items
+    × (length l.feeders.items + length l.fed.items ≡ length l.fn.feeders.items + length l.fn.fed.items)
+    × (length l.fn.feeders.items + length l.fn.fed.items ≤ vec_capacity l.fed)
+
+abbrev pub decreases-loop-feeder : goal.decreases-loop-feeder
+decreases-loop-feeder g l = length l.feeders.items

@@ -1,0 +1,11 @@
+pub mod InnerNaming
+pub mod InnerStop
+pub mod InnerEnd
+pub mod Run
+pub mod Done
+pub mod Members
+pub mod RunError
+pub mod Batch
+pub use Rattle.job_queue.specs.Line.{IsFor}
+pub use Rattle.dispatcher.specs.Answers.{AnswersAll}
+pub use Rattle.dispatcher.specs.Opening.{refusal_of}

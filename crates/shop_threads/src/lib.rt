@@ -1,0 +1,19 @@
+//! A thread pool that runs a shop: lists of jobs in, all of their replies out.
+//!
+//! The lanes are producers, and the workers are consumers. All are at work at once, each worker on a thread
+//! of its own and the lanes on as many as there are processors. Nothing is lost, also where a thread cannot
+//! be started or memory runs out.
+#![tactic(auto)]
+
+mod answering;
+mod member;
+mod members;
+mod ready;
+mod running;
+mod shared;
+mod slots;
+mod threads;
+
+pub use answering::{RunError, StopReason, answer_all};
+pub use running::{LaneEnd, RunEnd, run};
+pub use shared::{SharedFloor, SharedLine};

@@ -1,0 +1,279 @@
+//! A whole run of a shop on threads.
+ghost use Rattle.std.specs.Prelude.{◌≡◌, ◌≢◌, ℕ, ◌^◌, ◌<◌, ◌≤◌, [], List, None, Some, IfOk, IfErr, map, length, slice_index_or};
+ghost use Rattle.std.specs.List.{All};
+ghost use Rattle.std.specs.Vec.{vec_capacity};
+ghost use Rattle.job_types.specs.Job.{JobData};
+ghost use Rattle.job_queue.specs.Line.{IsFor};
+ghost use Rattle.dispatcher.specs.Opening.{refusal_of};
+ghost use Rattle.dispatcher.specs.Members.{IsWorkerOf, IsEndOf, IsCloserOf, IsNoteOf, stop_of};
+ghost use Rattle.shop_threads.specs.InnerNaming.{sizes_of};
+ghost use Rattle.shop_threads.specs.InnerEnd.{HasEnded};
+ghost use Rattle.shop_threads.specs.Run.{IsRun};
+ghost use Rattle.shop_threads.specs.Members.{RanIn};
+
+use crate::member::{CloserSlot, Naming};
+use crate::members::ShopMembers;
+use crate::ready::{EndRoom, MemberRoom, Ready, make_ready};
+use crate::shared::{SharedFloor, SharedLine};
+use crate::slots::{lanes_from_slots, slots_for_lanes, slots_for_workers, workers_from_slots};
+use crate::threads::run_threads;
+use dispatcher::{
+    CloseNote, FeedStop, Finished, Opened, Runner, Shop, ShopRefused, ShopSizes, Stop, WorkerEnd,
+};
+use floors::Floor;
+use job_queue::JobLine;
+use job_types::Job;
+use std::alloc::Global;
+use std::collections::VecDeque;
+use std::marker::Brand;
+use std::sync::{Mutex, Wait};
+use std::thread::{Threads, available_parallelism};
+
+/// The end of a lane in a run.
+#[derive(Debug, Drop)]
+pub struct LaneEnd {
+    /// The lane's number.
+    pub lane: u32,
+    /// How many of its jobs were accepted: the first ones of its list.
+    pub accepted: u64,
+    /// How many entries it has made: one for each accepted job, and one each time the line was full.
+    pub entries: u64,
+    /// The job that the line refused for good, if it did.
+    pub back: Option<Job>,
+    /// The jobs after it, in order.
+    pub left: VecDeque<Job>,
+    /// Why its feed has stopped, or `None` where it was never run.
+    pub stop: Option<FeedStop>,
+}
+
+/// The end of a run.
+#[derive(Drop)]
+pub struct RunEnd<M> {
+    /// All replies, and the machine.
+    pub finished: Finished<M>,
+    /// The end of each lane, in any order.
+    pub lanes: Vec<LaneEnd>,
+    /// The close number: how many entries came before the close.
+    pub close_number: u64,
+    /// Why each worker has stopped, in the order of their replies.
+    pub stops: Vec<Stop>,
+}
+
+// The members of a run, once they have stopped, and room for the lanes.
+struct Members<L: JobLine, F: Floor> {
+    fed: Vec<(L::Lane, LaneEnd)>,
+    ends: Vec<WorkerEnd<L, F>>,
+    note: CloseNote<L, F>,
+    lanes: Vec<L::Lane>,
+}
+
+// Why each worker has stopped.
+fn stops_of<L: JobLine, F: Floor>(ends: &[WorkerEnd<L, F>], stops: Vec<Stop>) -> Vec<Stop>
+    requires empty { stops.items ≡ [] }
+    requires room { length ends.now ≤ vec_capacity stops }
+    ensures { result.items ≡ map stop_of ends.now }
+{
+    let mut stops = stops;
+    for end in ends {
+        stops.push_reserved(end.stop());
+    }
+    stops
+}
+
+// Parts the lanes from their ends.
+fn part<L: JobLine>(
+    fed: Vec<(L::Lane, LaneEnd)>,
+    mut lanes: Vec<L::Lane>,
+    mut ends: Vec<LaneEnd>,
+) -> (Vec<L::Lane>, Vec<LaneEnd>)
+    requires empty { (lanes.items ≡ []) × (ends.items ≡ []) }
+    requires lane_room { length fed.items ≤ vec_capacity lanes }
+    requires room { length fed.items ≤ vec_capacity ends }
+    ensures lanes { result.0.items ≡ map (λ f. f.0) fed.items }
+    ensures ends { result.1.items ≡ map (λ f. f.1) fed.items }
+{
+    let mut fed = VecDeque::from_vec(fed);
+    while let Some(one) = fed.pop_front() {
+        let (lane, end) = one;
+        ends.push_reserved(end);
+        lanes.push_reserved(lane);
+    }
+    fed.destroy_empty();
+    (lanes, ends)
+}
+
+// How many processors there are for threads, or one where the system does not say.
+fn processors<R: Threads>(rt: &R) -> usize {
+    match available_parallelism(rt) {
+        Ok(count) => count.get(),
+        Err(_) => 1,
+    }
+}
+
+// Finishes a shop whose members have stopped, and returns the end of its run.
+fn run_end<J: Naming, R: Wait, L: JobLine, F: Floor, T: Runner>(
+    rt: &R,
+    runner: &T,
+    shop: Shop<L, F>,
+    members: Members<L, F>,
+    room: EndRoom,
+) -> RunEnd<F::Machine>
+    requires shop { shop ≡ J.shop }
+    requires machine { J.shop.line.sizes.machine ≡ J.shop.floor.dim }
+    requires lanes { All (λ f. L.is_lane J.shop.line f.0) members.fed.items }
+    requires all_lanes { length members.fed.items ≡ J.shop.line.sizes.lanes }
+    requires lane_ends { All (λ f. HasEnded J.jobs (L.lane_record f.0) f.1) members.fed.items }
+    requires workers { All (IsEndOf J.shop) members.ends.items }
+    requires all_workers { length members.ends.items ≡ J.shop.line.sizes.passes }
+    requires note { IsNoteOf L.JobLine J.shop members.note }
+    requires lane_room { (members.lanes.items ≡ [])
+        × (J.shop.line.sizes.lanes ≤ vec_capacity members.lanes) }
+    requires end_room { (room.lanes.items ≡ [])
+        × (J.shop.line.sizes.lanes ≤ vec_capacity room.lanes) }
+    requires stops { (room.stops.items ≡ [])
+        × (J.shop.line.sizes.passes ≤ vec_capacity room.stops) }
+    ensures run { (jobs : List (List JobData)) → length jobs ≡ J.shop.line.sizes.lanes →
+        ((k : ℕ) → slice_index_or jobs k [] ≡ J.jobs k) →
+        IsRun F.machine_words J.shop.floor.dim jobs result }
+    ensures ran_in { RanIn L.JobLine F.Floor (sizes_of J.shop) J.shop.line.sizes.lanes result }
+    ensures workers { length result.finished.by_worker.items ≡ J.shop.line.sizes.passes }
+    ensures dim { F.machine_dim result.finished.machine ≡ J.shop.floor.dim }
+    ensures closed { F.is_closed J.shop.line.sizes.passes result.finished.machine }
+{
+    let Members {
+        fed,
+        ends,
+        note,
+        lanes,
+    } = members;
+    let EndRoom {
+        lanes: lane_ends,
+        stops,
+    } = room;
+    let close_number = note.number();
+    let stops = stops_of(&ends, stops);
+    let (lanes, lane_ends) = part::<L>(fed, lanes, lane_ends);
+    let finished = shop.finish(rt, runner, lanes, ends, note);
+    RunEnd {
+        finished,
+        lanes: lane_ends,
+        close_number,
+        stops,
+    }
+}
+
+// The same as `run`, once the shop is open and the run has a name.
+fn run_named<
+    J: Naming + Send + Sync,
+    R: Threads + Wait + Sync,
+    L: JobLine + SharedLine,
+    F: Floor + SharedFloor,
+    T: Runner + Sync,
+>(rt: &R, alloc: Global, runner: &T, ready: Ready<L, F>) -> RunEnd<F::Machine>
+    requires shop { ready.opened.shop ≡ J.shop }
+    requires jobs { (k : ℕ) →
+        slice_index_or (map (λ js. js.items) ready.jobs.items) k [] ≡ J.jobs k }
+    requires lanes { All (L.is_lane ready.opened.shop.line) ready.opened.lanes.items }
+    requires workers { All (IsWorkerOf ready.opened.shop) ready.opened.workers.items }
+    requires closer { IsCloserOf L.JobLine ready.opened.shop ready.opened.closer }
+    ensures run { IsRun F.machine_words J.shop.floor.dim
+        (map (λ js. js.items) ready.jobs.items) result }
+    ensures ran_in { RanIn L.JobLine F.Floor (sizes_of J.shop) J.shop.line.sizes.lanes result }
+    ensures workers { length result.finished.by_worker.items ≡ J.shop.line.sizes.passes }
+    ensures dim { F.machine_dim result.finished.machine ≡ J.shop.floor.dim }
+    ensures closed { F.is_closed J.shop.line.sizes.passes result.finished.machine }
+{
+    let Ready { opened, jobs, room } = ready;
+    let Opened {
+        shop,
+        lanes,
+        workers,
+        closer,
+    } = opened;
+    let MemberRoom {
+        mut ends,
+        mut fed,
+        returned: room,
+    } = room;
+    let posts = slots_for_workers(alloc, workers, &mut ends);
+    let (feeders, lanes) = slots_for_lanes(rt, alloc, &shop, lanes, jobs, &mut fed);
+    let all_have_slots = ends.is_empty() && fed.is_empty();
+    let gang: ShopMembers<J, L, F, T> = ShopMembers {
+        shop: &shop,
+        runner,
+        alloc,
+        posts,
+        feeders,
+        feeder_threads: processors(rt),
+        door: Mutex::new(CloserSlot::new(closer)),
+    };
+    if all_have_slots {
+        run_threads(rt, &gang);
+    }
+    let ShopMembers {
+        shop: _,
+        runner: _,
+        alloc: _,
+        posts,
+        feeders,
+        feeder_threads: _,
+        door,
+    } = gang;
+    workers_from_slots(alloc, posts, &mut ends);
+    let note = door.into_inner().into_note(rt, &shop);
+    lanes_from_slots(rt, &shop, feeders, &mut fed);
+    let members = Members {
+        fed,
+        ends,
+        note,
+        lanes,
+    };
+    run_end::<J, R, L, F, T>(rt, runner, shop, members, room)
+}
+
+/// Runs a shop of these sizes on threads, with a lane for each list of jobs.
+///
+/// Opens the shop, hands in all lists at once while all workers answer jobs, closes the shop and finishes
+/// it. Each worker has a thread of its own. The lanes have as many threads as there are processors, and at
+/// most one each. A thread that has several lanes hands in a job of each in turn.
+///
+/// In the end each accepted job has one right reply. The jobs that a lane has accepted, followed by those
+/// that it did not hand in, are its list. Where a thread cannot be started, or there is no memory for one
+/// more reply, the shop closes early, and some jobs may not be handed in. A worker without a thread has
+/// stopped as `NotRun`, and a lane without one has no stop.
+///
+/// # Errors
+///
+/// The error gives the jobs back. It is the first size that is not within its limits, or `OutOfMemory`.
+pub fn run<
+    R: Threads + Wait + Sync,
+    L: JobLine + SharedLine,
+    F: Floor + SharedFloor,
+    T: Runner + Sync,
+>(
+    rt: &R,
+    alloc: Global,
+    sizes: ShopSizes,
+    runner: &T,
+    jobs: Vec<VecDeque<Job>>,
+) -> Result<RunEnd<F::Machine>, (ShopRefused, Vec<VecDeque<Job>>)>
+    requires lanes { length jobs.items < 2 ^ 32 }
+    requires made_for { (k : ℕ) → k < length jobs.items →
+        All (IsFor sizes.dim k) (slice_index_or (map (λ js. js.items) jobs.items) k []) }
+    ensures run { IfOk result (IsRun F.machine_words sizes.dim (map (λ js. js.items) jobs.items)) }
+    ensures ran_in { IfOk result (RanIn L.JobLine F.Floor sizes (length jobs.items)) }
+    ensures workers { IfOk result (λ end.
+        length end.finished.by_worker.items ≡ sizes.dispatchers) }
+    ensures dim { IfOk result (λ end. F.machine_dim end.finished.machine ≡ sizes.dim) }
+    ensures closed { IfOk result (λ end. F.is_closed sizes.dispatchers end.finished.machine) }
+    ensures accepted { IfOk result (λ end.
+        refusal_of sizes.dim (length jobs.items) sizes.dispatchers sizes.capacity ≡ None) }
+    ensures refused { IfErr result (λ r. r.0 ≢ ShopRefused.OutOfMemory →
+        refusal_of sizes.dim (length jobs.items) sizes.dispatchers sizes.capacity ≡ Some r.0) }
+    ensures memory_last { IfErr result (λ r. r.0 ≡ ShopRefused.OutOfMemory →
+        refusal_of sizes.dim (length jobs.items) sizes.dispatchers sizes.capacity ≡ None) }
+    ensures gives_back { IfErr result (λ r. r.1.items ≡ jobs.items) }
+{
+    let ready = make_ready::<L, F>(alloc, sizes, jobs)?;
+    Ok(run_named::<Brand, R, L, F, T>(rt, alloc, runner, ready))
+}

@@ -1,7 +1,0 @@
-use Rattle.std.proofs.Common.{◌≡◌, ℕ, ◌<◌, [], map, length, slice_index_or}
-use Rattle.std.specs.List.{All}
-use Rattle.job_queue.specs.Line.{IsFor}
-use Rattle.test_kit.proofs.job_lists.lists.Given as goal
-
-abbrev pub invariant-loop-lane : goal.invariant-loop-lane
-invariant-loop-lane l = (length l.lists.items ≡ l.lane) × ((k : ℕ) → k < length l.lists.items → All (IsFor l.machine k) (slice_index_or (map (λ js. js.items) l.lists.items) k []))

@@ -1,0 +1,6 @@
+use denote.Param.Send.{sendable}
+use Rattle.floor_tree.proofs.SharedLemmas.{tree_floor_sync}
+use Rattle.tests_shops.proofs.tests.crowd.crowd_over.Goals as goal
+
+pub crowd_on_floor-requires-sync-F : goal.crowd_on_floor-requires-sync-F
+crowd_on_floor-requires-sync-F g c κs = search (sendable, tree_floor_sync) depth 20

@@ -1,0 +1,34 @@
+//! What a machine says once all of its stations have come back.
+use cube_shape::MAX_DIM;
+use floor_locked::LockedFloor;
+use floor_tree::TreeFloor;
+use floors::Floor;
+
+// A machine that can be asked.
+pub(crate) trait AtRest {
+    // Whether it has this dimension and is wholly free.
+    fn is_at_rest(&self, dim: u32) -> bool;
+}
+
+// Whether the machine has this dimension and a word for each node, and all of these are 0.
+fn is_wholly_free<F: Floor>(machine: &F::Machine, dim: u32) -> bool {
+    let words = F::words(machine);
+    F::dim(machine) == dim
+        && words.len() == 2 << dim.min(MAX_DIM)
+        && words.iter().skip(1).all(|word| *word == 0)
+}
+
+impl AtRest for floor_tree::FreeMachine {
+    fn is_at_rest(&self, dim: u32) -> bool {
+        is_wholly_free::<TreeFloor>(self, dim)
+    }
+}
+
+// Its bits say so too, and word 0 is 0.
+impl AtRest for floor_locked::FreeMachine {
+    fn is_at_rest(&self, dim: u32) -> bool {
+        is_wholly_free::<LockedFloor>(self, dim)
+            && self.bits().is_wholly_free()
+            && matches!(LockedFloor::words(self).first(), Some(0))
+    }
+}

@@ -1,8 +1,0 @@
-use Rattle.tree_floor.proofs.HandleLemmas.{comes_back}
-use Rattle.tree_floor.proofs.tree_floor.TreeFloorFloor.release.Goals as goal
-
-pub returns-clause-of_floor : goal.returns-clause-of_floor
-returns-clause-of_floor g c = (comes_back c.args.self.now.cube c.args.held c.release.result c.requires c.release.ensures.back).0
-
-pub returns-clause-grants : goal.returns-clause-grants
-returns-clause-grants g c = (comes_back c.args.self.now.cube c.args.held c.release.result c.requires c.release.ensures.back).1
