@@ -31,10 +31,10 @@ PLANTED = {
     "region_bits/stale": (BITS, "bits.fill(no_such_text);", "bits.fill(true);", "BAD"),
     "region_bits/wrong_definition": (MEANING, MEANS, MEANS.replace("true", "false"), "refused", "regions::set_region"),
     "region_bits/definition_not_read": (MEANING, MEANS, MEANS.replace("true", "false"), "PROVED", "bits::none_set"),
-    "pause/wrong_body": ("src/pause.rt", "if burst <= LONGEST_BURST {", "if burst <= 2 * LONGEST_BURST {", "refused"),
-    "pause/unchanged": ("src/pause.rt", "burst: FIRST_BURST,", "burst: FIRST_BURST,", "PROVED"),
+    "backoff/wrong_body": ("src/pause.rt", "if burst <= LONGEST_BURST {", "if burst <= 2 * LONGEST_BURST {", "refused"),
+    "backoff/unchanged": ("src/pause.rt", "burst: FIRST_BURST,", "burst: FIRST_BURST,", "PROVED"),
 }
-WRONG = "pause/wrong_body"
+WRONG = "backoff/wrong_body"
 # A missing name, as a check reports it in one line and, where it lists names that are near, in two.
 MISSING = (
     "./proofs/a/Answers.antt:1:2: error: `returns`: record `A` has no field `b` (nearest: .c)\n",
