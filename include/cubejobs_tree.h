@@ -11,7 +11,7 @@
  *
  * A handle is 16 bytes in the caller's memory. cubejobs_tree_open makes that of a machine, and
  * cubejobs_tree_seat that of one of its stations. Memory is taken by malloc in these two calls, and in no other:
- * 48 * 2^dim + 16 * stations + 345 bytes in 8 blocks for a machine, until it is freed, and 64 bytes in one block for a
+ * 48 * 2^dim + 24 * stations + 353 bytes in 8 blocks for a machine, until it is freed, and 72 bytes in one block for a
  * station, until it retires. What malloc adds to a block is not counted.
  *
  * A station holds one region at most, so a machine has at most 48 regions held at once. A station that has retired is
