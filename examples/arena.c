@@ -1,8 +1,8 @@
-// A region allocator for threads, with no lock: an arena of 2^n pages, whose blocks are aligned regions of pages.
+// A memory allocator for threads, without locks: an arena of 2^DIM pages, in aligned blocks.
 //
-// Each thread has a few stations of the machine, and so holds that many blocks at most. arena_alloc takes a region of
-// enough pages with one of them, and arena_free gives it back. Blocks that are held at one moment never overlap.
-// Its output is examples/arena.out.
+// Each thread has BLOCKS stations (allocator handles) of a machine, so it holds at most BLOCKS
+// blocks. arena_alloc takes a block of enough pages with one of them, and arena_free releases it.
+// Blocks that are held at the same time never overlap. The output is examples/arena.out.
 #include <pthread.h>
 #include <stdio.h>
 #include <stdlib.h>
@@ -12,13 +12,13 @@
 
 enum { PAGE = 4096, DIM = 8, PAGES = 1 << DIM, THREADS = 8, BLOCKS = 4, TURNS = 2000 };
 
-// The pages, and the machine whose processors they are.
+// The pages, and a machine with a processor for each page.
 struct arena {
     unsigned char *pages;
     struct cubejobs_cube cube;
 };
 
-// What one thread uses the arena with: a station for each block that it may hold.
+// The part of one thread: a station for each block that it may hold.
 struct user {
     struct arena *arena;
     struct cubejobs_station stations[BLOCKS];
@@ -28,7 +28,7 @@ struct user {
 
 static int arena_open(struct arena *arena) {
     memset(arena, 0, sizeof *arena);
-    // Aligned to its whole size, so that each block is aligned to its own.
+    // The whole is aligned to its size, so each block is aligned to its own.
     arena->pages = aligned_alloc((size_t)PAGES * PAGE, (size_t)PAGES * PAGE);
     return arena->pages && !cubejobs_tree_open(&arena->cube, DIM, THREADS * BLOCKS);
 }
@@ -42,8 +42,9 @@ static int arena_join(struct arena *arena, struct user *user, int own) {
     return 1;
 }
 
-// A block of at least `size` bytes, aligned to its own size rounded up to pages and a power of two; or null where none
-// was found, the arena is smaller, or the user holds BLOCKS blocks already.
+// Returns a block of at least `size` bytes: `size` rounded up to pages and to a power of two. It is
+// aligned to its own size. Returns null if none was found, if the arena is smaller, or if the user
+// holds BLOCKS blocks already.
 static void *arena_alloc(struct user *user, size_t size) {
     uint32_t k = 0;
     if (size > (size_t)PAGES * PAGE) return NULL;
@@ -56,7 +57,7 @@ static void *arena_alloc(struct user *user, size_t size) {
     return NULL;
 }
 
-// Gives back a block that this user holds.
+// Releases a block that this user holds.
 static void arena_free(struct user *user, void *block) {
     for (int i = 0; i < BLOCKS; i++) {
         struct cubejobs_tree_answer held = cubejobs_tree_region(&user->stations[i]);
@@ -72,7 +73,7 @@ static void arena_leave(struct user *user) {
     for (int i = 0; i < BLOCKS; i++) cubejobs_tree_retire(&user->stations[i]);
 }
 
-// Closes the arena, which everybody has left.
+// Closes the arena after all users have left.
 static int arena_close(struct arena *arena) {
     uint64_t missing = 0;
     if (cubejobs_tree_close(&arena->cube, &missing)) return 0;
@@ -81,7 +82,7 @@ static int arena_close(struct arena *arena) {
     return 1;
 }
 
-// Fills blocks with a byte of its own, and looks whether it stands when it gives them back.
+// Fills blocks with a byte of its own, and checks that byte before it releases them.
 static void *work(void *argument) {
     struct user *user = argument;
     unsigned char own = (unsigned char)user->own;

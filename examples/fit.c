@@ -1,5 +1,7 @@
-// An allocator of pages: any number of blocks of 1, 2, 4 .. pages of one range, by first fit. A block lies at a multiple of its
-// size, and who frees it names its size, as with sized deallocation. Its output is examples/fit.out.
+// An allocator of pages, by first fit: any number of blocks of 1, 2, 4 .. pages of one range.
+//
+// A block begins at a multiple of its size. To free it, you name its size, as in sized
+// deallocation. The output is examples/fit.out.
 #include <stdio.h>
 
 #include "cubejobs.h"
@@ -7,10 +9,10 @@
 enum { DIM = 10, PAGES = 1 << DIM, PAGE_BYTES = 4096 };
 
 static unsigned char range[PAGES][PAGE_BYTES];
-static unsigned char held[PAGES]; // one byte for each page; it may as well lie in shared memory
+static unsigned char held[PAGES]; // a byte for each page; it may be in shared memory
 static struct cubejobs_fit fit;
 
-// The dimension of the smallest block of at least this many bytes.
+// Returns the dimension of the smallest block of at least this number of bytes.
 static uint32_t dimension_of(size_t bytes) {
     uint32_t k = 0;
     while (k <= DIM && ((size_t)PAGE_BYTES << k) < bytes) k++;
@@ -22,7 +24,7 @@ static void *take_block(size_t bytes) {
     return block.code == CUBEJOBS_DONE ? range[block.base] : NULL;
 }
 
-// Gives a block back. Answers false, and changes nothing, where a page of it is free already.
+// Releases a block. Returns false, and changes nothing, if a page of it is free.
 static bool free_block(void *block, size_t bytes) {
     size_t page = (size_t)((unsigned char *)block - range[0]) / PAGE_BYTES;
     return cubejobs_fit_release(&fit, page, dimension_of(bytes)) == CUBEJOBS_DONE;

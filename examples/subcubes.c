@@ -1,9 +1,10 @@
-// Two stations of a machine of 8 processors take subcubes. Its output is examples/subcubes.out.
+// Two stations (allocator handles) of a machine of 8 processors take blocks. The output is
+// examples/subcubes.out.
 #include <stdio.h>
 
 #include "cubejobs.h"
 
-static struct cubejobs_machine machine; // of zeros, as it must be before it is opened
+static struct cubejobs_machine machine; // a machine starts as zeros
 
 int main(void) {
     cubejobs_open(&machine, 3);

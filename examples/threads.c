@@ -1,4 +1,4 @@
-// Two threads take regions of one machine and give them back. Its output is examples/threads.out.
+// Two threads take and release blocks of one machine. The output is examples/threads.out.
 #include <pthread.h>
 #include <stdio.h>
 
@@ -6,7 +6,7 @@
 
 static void *work(void *station) {
     for (int given = 0; given < 1000;)
-        if (cubejobs_tree_take(station, 2).code == CUBEJOBS_TREE_DONE) { // the region is this thread's own now
+        if (cubejobs_tree_take(station, 2).code == CUBEJOBS_TREE_DONE) { // the block is ours
             given++;
             cubejobs_tree_release(station);
         }
@@ -14,7 +14,7 @@ static void *work(void *station) {
 }
 
 int main(void) {
-    static struct cubejobs_cube cube; // of zeros, as handles must be before they are opened
+    static struct cubejobs_cube cube; // a handle starts as zeros
     static struct cubejobs_station stations[2];
     pthread_t threads[2];
     uint64_t missing;

@@ -1,5 +1,6 @@
-//! Links the proved libraries: `libcubejobs_c.a`, and with the feature `tree` also `libcubejobs_tree.a`. They stand in the folder that
-//! `CUBEJOBS_LIB` names, or else in `lib/`. They are copies of the files of release/.
+//! Links the proved libraries: `libcubejobs_c.a`, and with the feature `tree` also
+//! `libcubejobs_tree.a`. They are in the folder that `CUBEJOBS_LIB` names, or else in `lib/`,
+//! which has copies of the files of `release/`.
 
 use std::env;
 use std::path::PathBuf;

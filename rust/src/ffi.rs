@@ -1,7 +1,7 @@
-//! The functions of the library for a machine with stations, as `include/cubejobs.h` declares them.
+//! The functions of `include/cubejobs.h` for a machine with stations.
 //!
-//! A [`Machine`] is made by [`open`] alone, its fields are private to this module, and here only the library
-//! writes to them: so each call gets what the library's proof asks of the memory.
+//! Only [`open`] makes a [`Machine`], its fields are private to this module, and here only the
+//! library writes to them. So each call gets what the library's proof asks of the memory.
 
 use core::mem::{align_of, size_of};
 
@@ -57,7 +57,7 @@ pub struct Holder {
     pub found: bool,
 }
 
-// The sizes that the library has compiled in.
+// The sizes that the library was compiled with.
 const _: () = assert!(size_of::<Machine>() == 4872 && align_of::<Machine>() == 8);
 const _: () = assert!(size_of::<Answer>() == 16 && size_of::<StationAnswer>() == 24);
 
@@ -74,14 +74,14 @@ unsafe extern "C" {
     fn cubejobs_is_wholly_free(machine: &Machine) -> bool;
 }
 
-/// A machine of this dimension whose stations hold nothing, or nothing where it is past `MAX_DIM`.
+/// Opens a machine of this dimension whose stations hold nothing. Returns `None` above `MAX_DIM`.
 pub fn open(dim: u32) -> Option<Machine> {
     let mut machine = Machine {
         dim: 0,
         bits: [false; 1 << MAX_DIM],
         slots: [Slot { base: 0, dim: 0, held: false }; MAX_STATIONS],
     };
-    // SAFETY: the reference is to a whole machine of valid fields, and lasts for the call.
+    // SAFETY: the reference is to a whole machine with valid fields, and lasts for the call.
     let code = unsafe { cubejobs_open_sized(&mut machine, size_of::<Machine>() as u64, dim) };
     (code == DONE).then_some(machine)
 }

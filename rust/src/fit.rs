@@ -1,7 +1,7 @@
-//! Exact first fit for any number of regions, without stations: the caller keeps the regions that it was given.
+//! Exact first fit without stations, for any number of blocks: you keep the blocks that you took.
 //!
-//! A [`FirstFit`] needs one `bool` of memory for each processor, and keeps nothing else. The memory may be an array, a `Vec`,
-//! a `Box` or a borrowed slice.
+//! A [`FirstFit`] needs one `bool` of memory for each processor, and keeps nothing else. The memory
+//! may be an array, a `Vec`, a `Box` or a borrowed slice.
 //!
 //! ```
 //! use cubejobs::fit::{FirstFit, ReleaseError, TakeError};
@@ -24,76 +24,76 @@ use crate::{fit_ffi, Region};
 use core::error::Error;
 use core::fmt;
 
-/// The largest dimension of a [`FirstFit`]: it has at most `2^MAX_DIM` processors.
+/// The largest dimension of a [`FirstFit`], which has at most `2^MAX_DIM` processors.
 pub const MAX_DIM: u32 = fit_ffi::MAX_DIM;
 
 /// A machine with first fit over memory of type `B`. A processor is held if its `bool` is `true`.
 ///
-/// `B` returns the same slice each time, as the types of the standard library do. With a type that returns a shorter slice
-/// later, a call may panic.
+/// `B` must return the same slice each time, as the types of the standard library do. If it returns
+/// a shorter slice later, a call may panic.
 #[derive(Clone)]
 pub struct FirstFit<B> {
     bits: B,
     dim: u32,
 }
 
-/// Why no machine was made.
+/// The reason why no machine was made.
 #[derive(Clone, Copy, Debug, PartialEq, Eq)]
 pub enum OpenError {
-    /// The dimension is past [`MAX_DIM`].
+    /// The dimension is above [`MAX_DIM`].
     BadDimension,
     /// The memory has fewer than `2^dim` places.
     TooSmall,
 }
 
-/// Why a take was refused. A refusal changes nothing.
+/// The reason of a refused take. A refusal changes nothing.
 #[derive(Clone, Copy, Debug, PartialEq, Eq)]
 pub enum TakeError {
-    /// The dimension is past that of the machine.
+    /// The dimension is above that of the machine.
     BadDimension,
-    /// No aligned region of this dimension begins at this processor.
+    /// No block of this dimension begins at this processor.
     BadBase,
-    /// No region of this dimension is free, or a processor of the one asked for is held.
+    /// No block of this dimension is free, or a processor of the given one is held.
     NoSubcube,
 }
 
-/// Why a release was refused. A refusal changes nothing.
+/// The reason of a refused release. A refusal changes nothing.
 #[derive(Clone, Copy, Debug, PartialEq, Eq)]
 pub enum ReleaseError {
-    /// The dimension is past that of the machine.
+    /// The dimension is above that of the machine.
     BadDimension,
-    /// No aligned region of this dimension begins at this processor.
+    /// No block of this dimension begins at this processor.
     BadBase,
-    /// A processor of the region is free already.
+    /// A processor of the block is free.
     NothingHeld,
 }
 
 impl<B: AsRef<[bool]> + AsMut<[bool]>> FirstFit<B> {
-    /// Makes a machine of dimension `dim` with each processor free. It sets the first `2^dim` places of `bits` to `false`,
-    /// and never uses the others.
+    /// Makes a machine of dimension `dim` with each processor free. Sets the first `2^dim` places
+    /// of `bits` to `false`, and never uses the others.
     pub fn new(mut bits: B, dim: u32) -> Result<Self, OpenError> {
         opened(fit_ffi::open(bits.as_mut(), dim))?;
         Ok(FirstFit { bits, dim })
     }
 
-    /// Makes a machine of dimension `dim` that holds the processors whose places in `bits` are `true`.
+    /// Makes a machine of dimension `dim`. A processor is held if its place in `bits` is `true`.
     pub fn resume(bits: B, dim: u32) -> Result<Self, OpenError> {
         opened(fit_ffi::check(bits.as_ref(), dim))?;
         Ok(FirstFit { bits, dim })
     }
 
-    /// Takes the first fit of dimension `k`: the free aligned region with the least base.
+    /// Takes the first fit of dimension `k`: the free block with the least base.
     pub fn take(&mut self, k: u32) -> Result<Region, TakeError> {
         taken(fit_ffi::take(self.bits.as_mut(), self.dim, k))
     }
 
-    /// Takes the region of dimension `k` that begins at the processor `base`.
+    /// Takes the block of dimension `k` that begins at the processor `base`.
     pub fn take_at(&mut self, base: u64, k: u32) -> Result<Region, TakeError> {
         taken(fit_ffi::take_region(self.bits.as_mut(), self.dim, base, k))
     }
 
-    /// Gives a region back. Each of its processors must be held: it may be a region that was taken, an aligned part of one,
-    /// or several together.
+    /// Releases a block. Each of its processors must be held. It may be a block that you took, an
+    /// aligned part of one, or several together.
     pub fn release(&mut self, region: Region) -> Result<(), ReleaseError> {
         match fit_ffi::release(self.bits.as_mut(), self.dim, region.base, region.dim) {
             ffi::DONE => Ok(()),
@@ -104,18 +104,19 @@ impl<B: AsRef<[bool]> + AsMut<[bool]>> FirstFit<B> {
         }
     }
 
-    /// Returns whether this is an aligned region of the machine, and each of its processors is free.
+    /// Returns whether this is an aligned block of the machine whose processors are all free.
     pub fn is_free(&self, region: Region) -> bool {
         fit_ffi::is_free(self.bits.as_ref(), self.dim, region.base, region.dim)
     }
 
-    /// Counts the aligned regions of dimension `k` that are free. The count is 0 if `k` is past the machine's dimension.
+    /// Returns how many blocks of dimension `k` are free: 0 if `k` is above the machine's
+    /// dimension.
     pub fn free_regions(&self, k: u32) -> u64 {
         fit_ffi::free_regions(self.bits.as_ref(), self.dim, k)
     }
 
-    /// Returns the first fit of the largest dimension that has a free region, or nothing if each processor is held. The region
-    /// is not taken.
+    /// Returns the first free block of the largest dimension that has one, or `None` if each
+    /// processor is held. Takes nothing.
     pub fn largest_free(&self) -> Option<Region> {
         let answer = fit_ffi::largest(self.bits.as_ref(), self.dim);
         (answer.code == ffi::DONE).then(|| answer.region())
@@ -128,13 +129,13 @@ impl<B> FirstFit<B> {
         self.dim
     }
 
-    /// Returns the machine's memory. [`FirstFit::resume`] makes the machine of it again.
+    /// Returns the machine's memory. [`FirstFit::resume`] makes a machine of it again.
     pub fn into_bits(self) -> B {
         self.bits
     }
 }
 
-/// What an open has answered.
+/// Returns nothing if an open succeeded, or why it was refused.
 fn opened(code: u32) -> Result<(), OpenError> {
     match code {
         ffi::DONE => Ok(()),
@@ -144,7 +145,7 @@ fn opened(code: u32) -> Result<(), OpenError> {
     }
 }
 
-/// What a take has answered.
+/// Returns the block that a take got, or why it was refused.
 fn taken(answer: Answer) -> Result<Region, TakeError> {
     match answer.code {
         ffi::DONE => Ok(answer.region()),

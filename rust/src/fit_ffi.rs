@@ -1,5 +1,7 @@
-//! The functions of the library for a machine of the caller's bits, as `include/cubejobs.h` declares them. Each takes the bits as a
-//! slice, and so gets what the library asks of them: they are there, each is `true` or `false`, and nobody else writes to them.
+//! The functions of `include/cubejobs.h` for a machine in the caller's memory.
+//!
+//! Each function here takes the bits as a slice. So the library gets what it asks for: the bits
+//! exist, each is `true` or `false`, and nothing else writes to them.
 
 use crate::ffi::Answer;
 
@@ -20,7 +22,8 @@ unsafe extern "C" {
 }
 
 pub fn open(bits: &mut [bool], dim: u32) -> u32 {
-    // SAFETY: the pointer and the count are of a slice that is borrowed for the call. The bytes that are written are 0.
+    // SAFETY: the pointer and the count are of a slice that is borrowed for the call. The call
+    // writes only zeros.
     unsafe { cubejobs_bits_open(bits.as_mut_ptr().cast(), bits.len(), dim) }
 }
 

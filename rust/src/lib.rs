@@ -1,15 +1,17 @@
-//! Exact first fit over the aligned subcubes of a hypercube machine: safe Rust over the proved library
-//! `cubejobs_c`. It takes no memory and has no dependencies.
+//! Allocators of aligned blocks: safe Rust over the proved libraries of cubejobs.
 //!
-//! A machine of dimension `n` has the processors `0` to `2^n - 1`. A station takes a region of dimension
-//! `k`: the `2^k` processors from `m * 2^k` on, for the least `m` such that the region is apart from every
-//! region that is held. Each station holds one region at most, and it alone gives it back.
+//! A machine of dimension `n` has the processors `0` to `2^n - 1`. A block (a [`Region`]) of
+//! dimension `k` is `2^k` processors in a row, from a multiple of `2^k` on.
 //!
-//! | who | takes |
+//! | You have | Use |
 //! |---|---|
-//! | one thread, or threads under a lock of their own; up to [`MAX_STATIONS`] regions | [`Machine`] |
-//! | the same, with any number of regions, and a dimension of up to [`fit::MAX_DIM`] | [`fit::FirstFit`] |
-//! | many threads at once, with no lock | `tree::Cube`, in the feature `tree`, which is on by default |
+//! | one thread, or threads under your lock; up to [`MAX_STATIONS`] blocks | [`Machine`] |
+//! | the same, with any number of blocks, in your own memory | [`fit::FirstFit`] |
+//! | threads that must not wait for a stopped one | `tree::Cube`, in the default feature `tree` |
+//!
+//! A [`Machine`] is exact first fit for stations (allocator handles; here numbers). A take gets the
+//! first fit: the block with the least base that overlaps no held block. A station holds at most
+//! one block, and only its own release frees it.
 //!
 //! ```
 //! use cubejobs::{Machine, Region, TakeError};
@@ -25,8 +27,9 @@
 //! # Ok::<(), Box<dyn std::error::Error>>(())
 //! ```
 //!
-//! What the library's proof asks of its callers is kept by these types: a [`Machine`] is opened before it
-//! can be used, its memory is private, and `&mut` lets one call in at a time.
+//! The proof of the library assumes that its callers keep some rules. These types keep them: a
+//! [`Machine`] is opened before any other call, its memory is private, and `&mut` allows one call
+//! at a time. The crate has no dependencies. [`Machine`] and [`fit::FirstFit`] allocate no memory.
 #![no_std]
 #![warn(missing_docs)]
 
@@ -46,54 +49,54 @@ mod tree_ffi;
 use core::error::Error;
 use core::fmt;
 
-/// The largest dimension of a machine: it has at most `2^MAX_DIM` processors.
+/// The largest dimension of a machine, which has at most `2^MAX_DIM` processors.
 pub const MAX_DIM: u32 = ffi::MAX_DIM as u32;
 
-/// How many stations a machine has. Their numbers are `0` to `MAX_STATIONS - 1`.
+/// The number of stations of a machine. They are `0` to `MAX_STATIONS - 1`.
 pub const MAX_STATIONS: u32 = ffi::MAX_STATIONS as u32;
 
-/// An aligned region: the `2^dim` processors from `base` on.
+/// An aligned block: the `2^dim` processors from `base` on.
 #[derive(Clone, Copy, Debug, PartialEq, Eq, Hash)]
 pub struct Region {
-    /// The least of its processors.
+    /// The first processor of the block.
     pub base: u64,
-    /// Its dimension.
+    /// The dimension of the block.
     pub dim: u32,
 }
 
-/// A machine with first fit, and its stations. It is about 5 KB, and a clone of it is another machine.
+/// A machine with exact first fit, and its stations. It is about 5 KB. A clone is another machine.
 #[derive(Clone)]
 pub struct Machine {
     inner: ffi::Machine,
 }
 
-/// The dimension is past [`MAX_DIM`].
+/// The error of a dimension above [`MAX_DIM`].
 #[derive(Clone, Copy, Debug, PartialEq, Eq)]
 pub struct BadDimension;
 
-/// Why a take was refused. A refusal changes nothing.
+/// The reason of a refused take. A refusal changes nothing.
 #[derive(Clone, Copy, Debug, PartialEq, Eq)]
 pub enum TakeError {
     /// The station is not below [`MAX_STATIONS`].
     BadStation,
-    /// The dimension is past that of the machine.
+    /// The dimension is above that of the machine.
     BadDimension,
-    /// The station holds a region, and a station holds one at most.
+    /// The station holds a block already. It holds at most one.
     StationHolds,
-    /// No aligned region of this dimension is apart from every held region, or the one that was asked for is not.
+    /// No block of this dimension is free, or the given one is not.
     NoSubcube,
-    /// No aligned region of this dimension begins at this processor.
+    /// No block of this dimension begins at this processor.
     BadBase,
-    /// Each station holds a region. Only [`Machine::take_any`] says so.
+    /// Each station holds a block. Only [`Machine::take_any`] returns this.
     NoStation,
 }
 
-/// Why a release was refused. A refusal changes nothing.
+/// The reason of a refused release. A refusal changes nothing.
 #[derive(Clone, Copy, Debug, PartialEq, Eq)]
 pub enum ReleaseError {
     /// The station is not below [`MAX_STATIONS`].
     BadStation,
-    /// The station holds no region.
+    /// The station holds no block.
     NothingHeld,
 }
 
@@ -111,46 +114,47 @@ impl Machine {
         self.inner.dim()
     }
 
-    /// Gives a station that holds nothing the first fit of dimension `k`: of all aligned regions of this
-    /// dimension that are apart from every held region, the one with the least base.
+    /// Takes the first fit of dimension `k` for a station that holds nothing. That is the block
+    /// with the least base among those that overlap no held block.
     ///
-    /// The error is the first of these that is so: `BadStation`, `BadDimension`, `StationHolds`,
+    /// The error is the first of these that applies: `BadStation`, `BadDimension`, `StationHolds`,
     /// `NoSubcube`.
     pub fn take(&mut self, station: u32, k: u32) -> Result<Region, TakeError> {
         self.inner.take(station, k).taken()
     }
 
-    /// Gives the first fit of dimension `k` to the station of the least number that holds nothing. Returns the station and
-    /// the region.
+    /// Takes the first fit of dimension `k` for the first station, by number, that holds nothing.
+    /// Returns the station and the block.
     ///
-    /// The error is the first of these that is so: `BadDimension`, `NoStation`, `NoSubcube`.
+    /// The error is the first of these that applies: `BadDimension`, `NoStation`, `NoSubcube`.
     pub fn take_any(&mut self, k: u32) -> Result<(u32, Region), TakeError> {
         let ffi::StationAnswer { code, station, dim, base } = self.inner.take_any(k);
         let region = ffi::Answer { code, dim, base }.taken()?;
         Ok((station, region))
     }
 
-    /// Gives a station that holds nothing the region of dimension `k` that begins at the processor `base`.
+    /// Takes the block of dimension `k` that begins at the processor `base`, for a station that
+    /// holds nothing.
     ///
-    /// The error is the first of these that is so: `BadStation`, `BadDimension`, `BadBase`, `StationHolds`,
-    /// `NoSubcube`.
+    /// The error is the first of these that applies: `BadStation`, `BadDimension`, `BadBase`,
+    /// `StationHolds`, `NoSubcube`.
     pub fn take_region(&mut self, station: u32, base: u64, k: u32) -> Result<Region, TakeError> {
         self.inner.take_region(station, base, k).taken()
     }
 
-    /// Returns the region that a station holds, if there is such a station and it holds one.
+    /// Returns the block that a station holds, if there is such a station and it holds one.
     pub fn region(&self, station: u32) -> Option<Region> {
         let answer = self.inner.region(station);
         (answer.code == ffi::DONE).then(|| answer.region())
     }
 
-    /// Counts the regions of dimension `k` that are apart from every held region. The count is 0 if `k` is past the machine's
-    /// dimension.
+    /// Returns how many blocks of dimension `k` overlap no held block. It is 0 if `k` is above the
+    /// machine's dimension.
     pub fn free_regions(&self, k: u32) -> u64 {
         self.inner.free_regions(k)
     }
 
-    /// Gives the region of a station back, and returns it.
+    /// Releases the block of a station, and returns it.
     pub fn release(&mut self, station: u32) -> Result<Region, ReleaseError> {
         let answer = self.inner.release(station);
         match answer.code {
@@ -161,14 +165,14 @@ impl Machine {
         }
     }
 
-    /// Returns the station whose region has a processor, if there is one. A number past the processors of the
-    /// machine is in no region.
+    /// Returns the station whose block has this processor, if there is one. A number above those of
+    /// the machine's processors is in no block.
     pub fn holder(&self, processor: u64) -> Option<u32> {
         let holder = self.inner.holder(processor);
         holder.found.then_some(holder.station)
     }
 
-    /// Returns whether no station holds a region.
+    /// Returns whether no station holds a block.
     pub fn is_wholly_free(&self) -> bool {
         self.inner.is_wholly_free()
     }
@@ -179,7 +183,7 @@ impl ffi::Answer {
         Region { base: self.base, dim: self.dim }
     }
 
-    // What a take has answered.
+    // Returns the block that a take got, or why it was refused.
     fn taken(self) -> Result<Region, TakeError> {
         match self.code {
             ffi::DONE => Ok(self.region()),

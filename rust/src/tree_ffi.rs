@@ -1,6 +1,8 @@
-//! The functions of the library with no lock, as `include/cubejobs_tree.h` declares them. Each takes its handles by
-//! `&mut`, and a [`Handle`] is shut when it is made and has private fields: so the calls with one handle come one at a
-//! time, and only the library writes to it.
+//! The functions of `include/cubejobs_tree.h`, the lock-free library.
+//!
+//! Each function here takes its handles by `&mut`. A [`Handle`] is shut when it is made, and its
+//! fields are private. So the calls with one handle come one at a time, and only the library writes
+//! to it.
 
 use core::mem::size_of;
 use core::ptr;
@@ -17,7 +19,7 @@ pub const BAD_NODE: u32 = 6;
 pub const OUT_OF_MEMORY: u32 = 10;
 pub const NO_STATION: u32 = 11;
 
-/// A handle of a machine or of a station. It is neither cloned nor copied.
+/// A handle of a machine or of a station. It cannot be cloned or copied.
 #[repr(C)]
 pub struct Handle {
     tag: u64,
@@ -28,9 +30,9 @@ impl Handle {
     pub const SHUT: Handle = Handle { tag: 0, at: ptr::null_mut() };
 }
 
-// SAFETY: what a handle owns may go to another thread: that is proved of the library's own type.
+// SAFETY: what a handle owns may go to another thread. This is proved of the library's own type.
 unsafe impl Send for Handle {}
-// SAFETY: nothing is done with a shared handle.
+// SAFETY: a shared handle has no use.
 unsafe impl Sync for Handle {}
 
 #[repr(C)]
@@ -68,7 +70,7 @@ pub struct Occupancy {
     pub free: [u64; FREE_PLACES],
 }
 
-// The size that the library has compiled in.
+// The size that the library was compiled with.
 const _: () = assert!(size_of::<Handle>() == 16);
 
 #[link(name = "cubejobs_tree", kind = "static")]
@@ -86,12 +88,13 @@ unsafe extern "C" {
 }
 
 pub fn open(cube: &mut Handle, dim: u32, stations: u32) -> u32 {
-    // SAFETY: the reference is to a whole handle, which only the library has written to since it was made.
+    // SAFETY: the reference is to a whole handle. Only the library has written to it since it was
+    // made.
     unsafe { cubejobs_tree_open_version(cube, VERSION, dim, stations) }
 }
 
 pub fn seat(cube: &mut Handle, station: &mut Handle) -> Seated {
-    // SAFETY: as for an open; the two references are to two handles.
+    // SAFETY: as for an open. The two references are to two handles.
     unsafe { cubejobs_tree_seat(cube, station) }
 }
 

@@ -1,19 +1,19 @@
-//! First fit without stations, beside a plain model: random calls on machines of each dimension to 12 and of 20, bad arguments
-//! among them.
+//! First fit without stations beside a plain model: random calls, bad arguments among them, on
+//! machines of dimension 0 to 12 and of dimension 20.
 
 use cubejobs::fit::{FirstFit, OpenError, ReleaseError, TakeError, MAX_DIM};
 use cubejobs::Region;
 use std::sync::Mutex;
 use std::thread;
 
-/// Which processors are held.
+/// A plain model: which processors are held.
 struct Model {
     dim: u32,
     held: Vec<bool>,
 }
 
 impl Model {
-    /// The places of an aligned region, if there is such a one.
+    /// Returns the places of an aligned block, if there is one.
     fn places(&mut self, base: u64, k: u32) -> Result<&mut [bool], TakeError> {
         if k > self.dim {
             return Err(TakeError::BadDimension);
@@ -89,7 +89,7 @@ impl Random {
 type Machine = FirstFit<Vec<bool>>;
 
 fn call_once(machine: &mut Machine, model: &mut Model, taken: &mut Vec<Region>, random: &mut Random) {
-    // Small regions most of the time, and now and then one past the machine.
+    // Small blocks most of the time, and sometimes one that is larger than the machine.
     let most = if random.below(4) == 0 { model.dim + 2 } else { model.dim / 2 + 1 };
     let k = random.below(u64::from(most)) as u32;
     let base = random.below((1 << model.dim) + 2) >> (k * random.below(2) as u32) << k;
@@ -111,7 +111,8 @@ fn call_once(machine: &mut Machine, model: &mut Model, taken: &mut Vec<Region>, 
     }
 }
 
-/// Makes random calls on a machine of this dimension, and compares each answer, and every few calls each processor.
+/// Makes random calls on a machine of this dimension. Compares each result, and every few calls
+/// each processor.
 fn run(dim: u32, calls: u32, few: u32) {
     let mut random = Random(88_172_645_463_325_252 + u64::from(dim));
     let (mut machine, mut taken) = (FirstFit::new(vec![true; 1 << dim], dim).unwrap(), Vec::new());
@@ -146,7 +147,7 @@ fn any_memory_will_do() {
     assert_eq!(FirstFit::new(vec![true; 4], 2).unwrap().take(0), Ok(one));
     let boxed: Box<[bool]> = Box::new([true; 4]);
     assert_eq!(FirstFit::new(boxed, 2).unwrap().take(0), Ok(one));
-    // A part of an array: the places beside it, and those past the processors, stay as they are.
+    // A part of an array: all places outside it, and those after the processors, stay as they are.
     let mut places = [true; 8];
     let mut machine = FirstFit::new(&mut places[2..7], 2).unwrap();
     assert_eq!(machine.take(1), Ok(Region { base: 0, dim: 1 }));
@@ -192,7 +193,7 @@ fn refuses_bad_arguments() {
     assert_eq!(FirstFit::resume([true; 4], u32::MAX).unwrap_err(), OpenError::BadDimension);
     assert_eq!(FirstFit::resume([true; 7], 3).unwrap_err(), OpenError::TooSmall);
     assert_eq!(FirstFit::new([true; 0], 0).unwrap_err(), OpenError::TooSmall);
-    // What is refused writes nothing.
+    // A refused call writes nothing.
     let mut places = [true; 7];
     assert_eq!(FirstFit::new(&mut places, 3).unwrap_err(), OpenError::TooSmall);
     assert_eq!(places, [true; 7]);
@@ -226,7 +227,7 @@ fn threads_share_it_under_a_lock() {
             let machine = &machine;
             scope.spawn(move || {
                 for _ in 0..1000 {
-                    // Of 64 processors the others hold at most 14, so one of the eights is free.
+                    // The others hold at most 14 of 64 processors, so a block of 8 is free.
                     let region = machine.lock().unwrap().take(k).unwrap();
                     thread::yield_now();
                     machine.lock().unwrap().release(region).unwrap();

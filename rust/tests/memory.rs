@@ -1,5 +1,7 @@
-//! Memory of the tree: machines that are dropped in any order leave no block behind, and each request that is refused in turn is
-//! an error that leaves none behind. The program's `malloc` and `free` are those below, for Rust and for the library alike.
+//! Memory of the tree. Machines that are dropped in any order leave no block of memory behind. Each
+//! request for memory is refused in turn, which is an error and leaves none behind.
+//!
+//! `malloc` and `free` of this program are those below, for Rust and for the library alike.
 
 use cubejobs::tree::{Cube, OpenError, SeatError, Station};
 use std::cell::Cell;
@@ -13,16 +15,17 @@ extern "C" {
     fn __libc_free(block: *mut c_void);
 }
 
-/// How many blocks that were asked for in a `counting` call, by any thread, have not been freed in one.
+/// The number of blocks that were allocated in a `counting` call and not freed in one, by any
+/// thread.
 static LIVE: AtomicI64 = AtomicI64::new(0);
 
 thread_local! {
     static IS_COUNTING: Cell<bool> = const { Cell::new(false) };
-    /// How many more requests of this thread are granted.
+    /// The number of further requests of this thread that are granted.
     static LEFT: Cell<u64> = const { Cell::new(u64::MAX) };
 }
 
-/// Calls `act`, and counts what this thread asks for and frees meanwhile.
+/// Calls `act`, and counts what this thread allocates and frees meanwhile.
 fn counting<T>(act: impl FnOnce() -> T) -> T {
     IS_COUNTING.set(true);
     let result = act();
@@ -30,7 +33,7 @@ fn counting<T>(act: impl FnOnce() -> T) -> T {
     result
 }
 
-/// Calls `act`, of which the first `left` requests for memory are granted.
+/// Calls `act`, and grants its first `left` requests for memory.
 fn with_requests<T>(left: u64, act: impl FnOnce() -> T) -> T {
     LEFT.set(left);
     let result = counting(act);
@@ -57,18 +60,20 @@ extern "C" fn malloc(size: usize) -> *mut c_void {
     if is_refused() {
         return std::ptr::null_mut();
     }
-    // SAFETY: any size may be asked for.
+    // SAFETY: any size is allowed.
     let block = unsafe { __libc_malloc(size) };
     count(block, 1);
     block
 }
 
+/// Frees a block.
+///
 /// # Safety
-/// The block is one of the C library, which is not freed yet, or null.
+/// The block is null, or comes from the C library and is not freed yet.
 #[no_mangle]
 unsafe extern "C" fn free(block: *mut c_void) {
     count(block, -1);
-    // SAFETY: the caller's.
+    // SAFETY: as the caller promises.
     unsafe { __libc_free(block) };
 }
 
@@ -111,7 +116,7 @@ fn machines_leave_no_memory_behind() {
     }
     for round in 0..200 {
         let (cube, one, other) = counting(open);
-        // The last owner is one of the three threads, as it comes.
+        // Any of the three threads may be the last owner.
         thread::scope(|scope| {
             scope.spawn(|| counting(|| drop(cube)));
             scope.spawn(|| counting(|| drop(one)));
@@ -121,7 +126,8 @@ fn machines_leave_no_memory_behind() {
     }
 }
 
-/// Calls `make` with each request for memory refused in turn. Returns what it makes once none is, and how many were.
+/// Calls `make` with each request for memory refused in turn. Returns what it makes when none is
+/// refused, and the number of its requests.
 fn refuse_each<T, E: Copy + PartialEq + Debug>(
     refusal: E,
     mut make: impl FnMut() -> Result<T, E>,
@@ -142,7 +148,7 @@ fn refused_requests_are_errors() {
     let (mut cube, of_open) = refuse_each(OpenError::OutOfMemory, || Cube::new(4, 2));
     let (mut one, of_seat) = refuse_each(SeatError::OutOfMemory, || cube.seat());
     let (other, _) = refuse_each(SeatError::OutOfMemory, || cube.seat());
-    // At least the count of owners and the words of the tree; and what a station's handle leads to.
+    // An open needs the count of owners and the words of the tree. A seat needs the station.
     assert!(of_open >= 2 && of_seat >= 1, "{of_open} and {of_seat} requests");
     with_requests(0, || {
         drop(one.take(1).unwrap());
@@ -155,7 +161,7 @@ fn refused_requests_are_errors() {
     assert_eq!(LIVE.load(SeqCst), 0);
 }
 
-// One test, since the count is of all threads.
+// One test, since the count is for all threads.
 #[test]
 fn memory() {
     machines_leave_no_memory_behind();

@@ -1,5 +1,5 @@
-//! Who owns what in the tree: cubes and stations in either order, regions that panic, are sent or stored, and threads that wait
-//! for a region.
+//! Ownership in the tree. Cubes and stations are dropped in either order. Blocks are held during a
+//! panic, sent, or stored. Threads wait for a block.
 
 use cubejobs::tree::{Cube, Held, NotHeld, Refusals, SeatError, Station, StillOut, Subcube, TakeError};
 use cubejobs::Region;
@@ -26,7 +26,7 @@ fn owners_go_to_other_threads() {
     is_sent::<Subcube<'static>>();
 }
 
-/// Its fields are dropped in this order: the cube first.
+/// An owner of both, whose fields are dropped in this order: the cube first.
 struct CubeFirst {
     cube: Cube,
     station: Station,
@@ -159,10 +159,10 @@ fn a_take_waits_as_often_as_it_is_refused() {
         true
     });
     assert_eq!(whole.unwrap().region(), WHOLE);
-    // The root was in use each time: nothing was claimed.
+    // The root was in use each time, so nothing was claimed.
     assert_eq!(refusals, [Refusals { in_use: 1, lost: 0, under: 0 }; 3]);
     assert!(!refusals[0].gave_back());
-    // The errors of bad input, and of a refusal that the caller does not wait for.
+    // Bad input is an error at once. So is a refusal if the caller does not want to wait.
     let waits = |_| panic!("bad input is not waited for");
     assert_eq!(other.take_or_wait(4, waits).unwrap_err(), TakeError::BadDimension);
     let mut cube = Cube::new(3, 2).unwrap();
@@ -176,7 +176,7 @@ fn a_take_waits_as_often_as_it_is_refused() {
     drop(whole);
 }
 
-/// A count of the events after which a take may succeed that was refused.
+/// A count of the events after which a refused take may succeed.
 #[derive(Default)]
 struct Events {
     count: Mutex<u64>,
@@ -193,7 +193,8 @@ impl Events {
         self.changed.notify_all();
     }
 
-    /// Waits until the count has changed since it was `seen`, and returns it. What the caller gave back counts for others.
+    /// Waits until another thread has added to the count since it was `seen`, and returns the
+    /// count. If the caller gave something back, this is an event for others.
     fn wait(&self, seen: u64, refusals: Refusals) -> u64 {
         let mut count = self.count.lock().unwrap();
         let is_news = *count != seen;

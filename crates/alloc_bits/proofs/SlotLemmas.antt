@@ -1,4 +1,4 @@
--- The slots of the stations, and the finite set of pairs that they stand for.
+-- The slots of the stations, and the finite set of pairs that they represent.
 use Rattle.std.proofs.Common.{◌≡◌, ◌≢◌, ℕ, zero, suc, ◌+◌, ◌<◌, true, false, cond, List, [], ◌∷◌, Option, Some, None, refl, sym, ◌∙◌, ap, arith, add-zero}
 use Rattle.std.proofs.lemmas.Bool.{eq-eqb, ne_eqb}
 use Rattle.std.specs.Ordering.{nat_cmp, eq_by_cmp}
@@ -16,7 +16,9 @@ other_key : (a b : ℕ) → a ≢ b → eq_by_cmp nat_cmp a b ≡ false
 other_key a b other = unsigned_tied a b ∙ ne_eqb a b other
 
 -- the pairs of the slots from a station on have no station before it
-find-before : (first station : ℕ) (slots : List (Option Region)) → station < first → find nat_cmp station (pairs_from first slots) ≡ None
+find-before : (first station : ℕ) (slots : List (Option Region))
+    → station < first
+    → find nat_cmp station (pairs_from first slots) ≡ None
 find-before first station [] before = refl
 find-before first station (None ∷ slots) before = find-before (suc first) station slots (omega arith)
 find-before first station (Some r ∷ slots) before =
@@ -25,7 +27,8 @@ find-before first station (Some r ∷ slots) before =
     ∙ find-before (suc first) station slots (omega arith)
 
 -- and have each station that has a region, with it
-find-pairs_from : (first station : ℕ) (slots : List (Option Region)) → find nat_cmp (first + station) (pairs_from first slots) ≡ slot_of slots station
+find-pairs_from : (first station : ℕ) (slots : List (Option Region))
+    → find nat_cmp (first + station) (pairs_from first slots) ≡ slot_of slots station
 find-pairs_from first station [] = refl
 find-pairs_from first zero (None ∷ slots) = find-before (suc first) (first + 0) slots (omega arith)
 find-pairs_from first (suc station) (None ∷ slots) =
@@ -39,8 +42,9 @@ find-pairs_from first (suc station) (Some r ∷ slots) =
     ap (λ b. cond b (Some r) (find nat_cmp (first + suc station) (pairs_from (suc first) slots))) (other_key (first + suc station) first other)
     ∙ ap (λ s. find nat_cmp s (pairs_from (suc first) slots)) next ∙ find-pairs_from (suc first) station slots
 
--- the finite set of pairs answers what the slots hold
-pub get-pairs_of : (slots : List (Option Region)) (station : ℕ) → get (pairs_of slots) station ≡ slot_of slots station
+-- the finite set of pairs gives what the slots hold
+pub get-pairs_of : (slots : List (Option Region)) (station : ℕ)
+    → get (pairs_of slots) station ≡ slot_of slots station
 unfolding pairs_of
 get-pairs_of slots station =
     let from_zero : 0 + station ≡ station = omega arith in

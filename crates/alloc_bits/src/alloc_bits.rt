@@ -12,19 +12,19 @@ use std::alloc::{AllocError, Global};
 use std::marker::Model;
 use thiserror::Error;
 
-/// No aligned region of the dimension asked is apart from every held region.
+/// No aligned block of this dimension is free: each overlaps a held block.
 #[derive(Clone, Copy, Debug, PartialEq, Eq, Error)]
 #[error("no free subcube of this dimension")]
 pub struct NoSubcube;
 
-/// The station holds no region.
+/// The station holds no block.
 #[derive(Clone, Copy, Debug, PartialEq, Eq, Error)]
 #[error("the station holds nothing")]
 pub struct NothingHeld;
 
-/// The machine as a set of pairs of a station and the region that it holds.
+/// A machine for one thread: which station holds which aligned block.
 ///
-/// A station is a number below `MAX_STATIONS`, and holds one region at most. Only `new` takes
+/// A station is a number below `MAX_STATIONS` and holds at most one block. Only `new` allocates
 /// memory.
 #[derive(Debug, Drop)]
 pub struct AllocBits {
@@ -47,7 +47,7 @@ impl Model for AllocBits {
 }
 
 impl AllocBits {
-    /// A machine of dimension `n` whose stations hold nothing.
+    /// Creates a machine of dimension `n` whose stations hold nothing.
     pub fn new(alloc: Global, n: u32) -> Result<Self, AllocError>
         requires { n ≤ MAX_DIM }
         ensures dim { IfOk result (λ made. made.dim ≡ n) }
@@ -60,14 +60,14 @@ impl AllocBits {
         })
     }
 
-    /// The dimension of the machine.
+    /// Returns the dimension of the machine.
     pub fn dim(&self) -> u32
         ensures { result ≡ self.now.dim }
     {
         self.dim
     }
 
-    /// Whether a station holds a region.
+    /// Returns whether a station holds a block.
     pub fn holds(&self, station: u32) -> bool
         ensures held { IsTrue result ↔ IsSome (held_in self.now station) }
         ensures lawful { IsLawful self.now.dim (held_in self.now) }
@@ -75,16 +75,16 @@ impl AllocBits {
         slots::region_of(&self.slots, station).is_some()
     }
 
-    /// The region that a station holds, if it holds one.
+    /// Returns the block that a station holds, if it holds one.
     pub fn region(&self, station: u32) -> Option<Region>
         ensures { result ≡ held_in self.now station }
     {
         slots::region_of(&self.slots, station)
     }
 
-    /// The station whose region has a processor, if there is one.
+    /// Returns the station whose block has the processor, if there is one.
     ///
-    /// A number past the processors of the machine is in no region.
+    /// A number that is no processor of the machine is in no block.
     pub fn holder(&self, processor: u64) -> Option<u32>
         ensures held { IfSome result (λ s. (a : HeldRegion) × (held_in self.now s ≡ Some a)
             × Covers a processor) }
@@ -94,17 +94,17 @@ impl AllocBits {
         slots::holder_of(&self.slots, processor)
     }
 
-    /// Whether no station holds a region.
+    /// Returns whether no station holds a block.
     pub fn is_wholly_free(&self) -> bool
         ensures { IsTrue result ↔ ((s : ℕ) → held_in self.now s ≡ None) }
     {
         slots::all_empty(&self.slots)
     }
 
-    /// Gives a station that holds nothing the first fit: the region `(m, k)` for the least `m`
-    /// such that it is apart from every held region.
+    /// Gives a station that holds nothing the first fit: block `(m, k)` for the least `m` such that
+    /// it overlaps no held block.
     ///
-    /// `NoSubcube` comes only where there is no such `m`, and changes nothing.
+    /// Returns `NoSubcube` only if there is no such `m`; then nothing changes.
     pub fn take(&mut self, station: u32, k: u32) -> Result<Region, NoSubcube>
         requires station { station < MAX_STATIONS }
         requires idle { held_in self.old station ≡ None }
@@ -125,9 +125,9 @@ impl AllocBits {
         Ok(region)
     }
 
-    /// Takes the region of a station away from it.
+    /// Releases the block of a station.
     ///
-    /// `NothingHeld` comes only where the station holds nothing, and changes nothing.
+    /// Returns `NothingHeld` only if the station holds nothing; then nothing changes.
     pub fn release(&mut self, station: u32) -> Result<Region, NothingHeld>
         ensures released { IfOk result (λ r.
             TakesBack station (held_in self.old) (held_in self.new) r) }

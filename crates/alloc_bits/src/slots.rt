@@ -1,4 +1,4 @@
-//! The regions of the stations: a slot for each station, by its number.
+//! What each station holds: one slot for each station, by its number.
 
 ghost use Rattle.std.specs.Prelude.{◌≡◌, ◌≢◌, ℕ, ◌^◌, ◌<◌, ◌≤◌, ◌↔◌, None, Some, length, IsTrue, IfNone, IfSome};
 ghost use Rattle.cube_shape.specs.declared.region.Region.{Region as HeldRegion};
@@ -8,14 +8,14 @@ ghost use Rattle.alloc_bits.specs.Inner.{slot_of};
 use cube_shape::Region;
 use region_bits::MAX_BITS_DIM;
 
-/// The region of a station, if it holds one.
+/// Returns the block of a station, if it holds one.
 pub(crate) fn region_of(slots: &[Option<Region>], station: u32) -> Option<Region>
     ensures { result ≡ slot_of slots.now station }
 {
     slots.get(station as usize).copied().flatten()
 }
 
-/// Whether no station holds a region.
+/// Returns whether no station holds a block.
 #[tactic(auto, using(std::proofs::lemmas::List::get_or_past))]
 pub(crate) fn all_empty(slots: &[Option<Region>]) -> bool
     ensures { IsTrue result ↔ ((s : ℕ) → slot_of slots.now s ≡ None) }
@@ -23,7 +23,7 @@ pub(crate) fn all_empty(slots: &[Option<Region>]) -> bool
     slots.iter().all(|slot| slot.is_none())
 }
 
-/// The station whose region has a processor, the first if there are several.
+/// Returns the station whose block has the processor, the first one if there are several.
 pub(crate) fn holder_of(slots: &[Option<Region>], processor: u64) -> Option<u32>
     requires count { length slots.now < 2 ^ 32 }
     requires limits { (s : ℕ) (a : HeldRegion) → slot_of slots.now s ≡ Some a → a.dim ≤ MAX_BITS_DIM }
@@ -42,7 +42,7 @@ pub(crate) fn holder_of(slots: &[Option<Region>], processor: u64) -> Option<u32>
     None
 }
 
-// Whether a region has a processor.
+// Returns whether a block has the processor.
 fn covers(region: Region, processor: u64) -> bool
     requires { region.dim ≤ MAX_BITS_DIM }
     ensures { IsTrue result ↔ Covers region processor }
@@ -50,7 +50,7 @@ fn covers(region: Region, processor: u64) -> bool
     region.base <= processor && processor - region.base < 1 << region.dim
 }
 
-/// Gives a station a region, or takes its region away.
+/// Stores the block of a station, or `None` if it holds nothing.
 pub(crate) fn set_slot(slots: &mut [Option<Region>], station: u32, region: Option<Region>)
     requires { station < length slots.old }
     ensures len { length slots.new ≡ length slots.old }

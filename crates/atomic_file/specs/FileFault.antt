@@ -1,4 +1,4 @@
--- What the reason for an error of the system is, and how a file's fault is reported.
+-- The reasons for errors of the system, and the error message of a file's fault.
 use Rattle.std.specs.Prelude.{ℕ, ◌++◌, List, codes}
 use Rattle.std_io.specs.declared.io.kind.ErrorKind.{ErrorKind}
 use Rattle.std_io.specs.declared.io.kind.ErrorKind.TheVariants as kind
@@ -8,7 +8,7 @@ use Rattle.atomic_file.specs.declared.file_fault.FileReason.TheVariants as why
 use Rattle.atomic_file.specs.declared.file_fault.FileSide.{FileSide}
 use Rattle.atomic_file.specs.declared.file_fault.FileSide.TheVariants as side
 
--- the reason for an error of the system
+-- The reason for an error of the system, by the kind of the error.
 abbrev pub reason_of : ErrorKind → FileReason
 reason_of kind.NotFound = why.Missing
 reason_of kind.NotADirectory = why.Missing
@@ -18,7 +18,7 @@ reason_of kind.ReadOnlyFilesystem = why.Denied
 reason_of kind.OutOfMemory = why.OutOfMemory
 reason_of _ = why.Other
 
--- the name of a reason
+-- The name of a reason, as in an error message.
 abbrev pub reason_text : FileReason → List ℕ
 reason_text why.Missing = codes "Missing"
 reason_text why.Folder = codes "Folder"
@@ -27,11 +27,12 @@ reason_text why.Special = codes "Special"
 reason_text why.OutOfMemory = codes "OutOfMemory"
 reason_text why.Other = codes "Other"
 
--- the name of a side
+-- The name of a side, as in an error message.
 abbrev pub side_text : FileSide → List ℕ
 side_text side.Input = codes "input"
 side_text side.Output = codes "output"
 
--- the error message, without the line feed
+-- The error message of a file's fault, without the line feed: `failed`, the side and the reason.
 abbrev pub file_fault_text : FileFault → List ℕ
-file_fault_text fault = codes "failed: " ++ side_text fault.side ++ codes ": " ++ reason_text fault.reason
+file_fault_text fault =
+    codes "failed: " ++ side_text fault.side ++ codes ": " ++ reason_text fault.reason

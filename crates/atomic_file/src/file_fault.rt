@@ -1,47 +1,45 @@
-// Why a file could not be opened, or not be put in its place, and how that is reported.
+// Why a file could not be opened or replaced, and how that is reported.
 ghost use Rattle.std.specs.Prelude.{◌≡◌};
 ghost use Rattle.atomic_file.specs.FileFault.{reason_of, reason_text, side_text};
 
 use std::fmt;
 use std::io::ErrorKind;
 
-/// Why a file could not be opened, or not be put in its place.
+/// Why a file could not be opened or replaced.
 #[derive(Clone, Copy, Debug, PartialEq, Eq)]
 pub enum FileReason {
     /// There is no such file to read, or no such folder to write to.
     Missing,
-    /// It is a folder.
+    /// The name is that of a folder.
     Folder,
-    /// It may not be read, or not be written.
+    /// The file may not be read, or not be written.
     Denied,
-    /// It is to be written, and is neither a file nor a folder.
+    /// The output is neither a file nor a folder, or it is itself a mount.
     Special,
-    /// A request for memory was refused.
+    /// Memory ran out.
     OutOfMemory,
-    /// The system gave another reason.
+    /// Any other reason.
     Other,
 }
 
-/// Which file of a command it is.
+/// The file that a command reads, or the file that it writes.
 #[derive(Clone, Copy, Debug, PartialEq, Eq)]
 pub enum FileSide {
-    /// The one that is read.
+    /// The file that is read.
     Input,
-    /// The one that is written.
+    /// The file that is written.
     Output,
 }
 
-/// Which file of a command could not be had, and why.
+/// A file of a command that could not be opened or replaced, and why.
 #[derive(Clone, Copy, Debug, PartialEq, Eq)]
 pub struct FileFault {
-    /// Which file.
     pub side: FileSide,
-    /// Why.
     pub reason: FileReason,
 }
 
 impl FileReason {
-    /// The reason for an error of the system.
+    /// Returns the reason for an error of the system.
     pub fn of(kind: ErrorKind) -> Self
         ensures { result ≡ reason_of kind }
     {
@@ -54,7 +52,7 @@ impl FileReason {
         }
     }
 
-    // Its name.
+    // Returns the name of the reason, as in an error message.
     fn text(&self) -> &'static str
         ensures { result.now ≡ reason_text self.now }
     {
@@ -70,7 +68,7 @@ impl FileReason {
 }
 
 impl FileSide {
-    // Its name.
+    // Returns the name of the side, as in an error message.
     fn text(&self) -> &'static str
         ensures { result.now ≡ side_text self.now }
     {

@@ -6,52 +6,54 @@ use crate::file_fault::FileReason;
 use devices::Device;
 use std::io::{Read, Write};
 
-/// Files by name. Each is read from its beginning, and is written as a draft, which takes the file's
-/// place as a whole or not at all.
+/// Files by name. Each is read from its beginning. Each is written as a temporary file, which then
+/// replaces the file as a whole or not at all.
 ///
-/// A draft cannot be dropped: it is put in the place of a file, or discarded. Until then no file has
-/// changed. Of the bytes of a file a store says what it knows, and so does a draft; `None` claims
-/// nothing.
+/// A temporary file cannot be dropped: the caller persists it or discards it. Until then no file
+/// has changed. A store says what it knows of the bytes of a file; `None` claims nothing.
 pub trait FileStore {
     ghost use Rattle.std.specs.Prelude.{ℕ, List, Option};
 
-    /// A file that is open to be read.
+    /// A file that is open for reading.
     type Reader: Read + Device + Drop;
-    /// What is written, before it is the file.
-    type Draft: Write + Device;
+    /// A file that is being written, before it replaces another.
+    type TempFile: Write + Device;
 
     // What is known of the bytes of the file of this name.
     ghost bytes: { Self → List ℕ → Option (List ℕ) };
 
-    // What is known of the bytes of a draft that nothing was written to.
+    // What is known of the bytes of a temporary file before its first write.
     ghost fresh: { Option (List ℕ) };
 
-    /// Opens the file of this name to be read.
+    /// Opens the file of this name for reading.
     ///
     /// # Errors
     ///
-    /// Where there is no such file, where it is a folder, and where the system refuses it.
+    /// The file does not exist, it is a folder, or the system refuses it.
     fn open(&self, name: &str) -> Result<Self::Reader, FileReason>
         ensures { IfOk result (λ reader.
             Self.Reader.remaining reader ≡ bytes self.now name.now) };
 
-    /// Begins a draft of the file of this name, which need not be there. No file changes.
+    /// Begins a temporary file for the file of this name, which need not exist. No file changes.
     ///
     /// # Errors
     ///
-    /// Where its folder is missing, where it is a folder or no file, and where it may not be written.
-    fn draft(&mut self, name: &str) -> Result<Self::Draft, FileReason>
-        ensures fresh { IfOk result (λ draft. Self.Draft.contents draft ≡ fresh) }
+    /// The folder is missing, the name is of a folder or of a device, or it may not be written.
+    fn temp_file(&mut self, name: &str) -> Result<Self::TempFile, FileReason>
+        ensures fresh { IfOk result (λ temp_file. Self.TempFile.contents temp_file ≡ fresh) }
         ensures kept { KeepsFiles (bytes self.old) (bytes self.new) };
 
-    /// Puts the draft in the place of the file of this name. Where that fails the draft is gone, and
-    /// each file is as it was.
-    fn publish(&mut self, draft: Self::Draft, name: &str) -> Result<(), FileReason>
-        ensures put { OnOk result (bytes self.new name.now ≡ Self.Draft.contents draft) }
+    /// Replaces the file of this name by the temporary file.
+    ///
+    /// # Errors
+    ///
+    /// The system refuses it. Then the temporary file is gone, and each file is as it was.
+    fn persist(&mut self, temp_file: Self::TempFile, name: &str) -> Result<(), FileReason>
+        ensures put { OnOk result (bytes self.new name.now ≡ Self.TempFile.contents temp_file) }
         ensures others { KeepsOthers (Some name.now) (bytes self.old) (bytes self.new) }
         ensures kept { IfErr result (λ reason. KeepsFiles (bytes self.old) (bytes self.new)) };
 
-    /// Throws the draft away. Each file is as it was.
-    fn discard(&mut self, draft: Self::Draft)
+    /// Discards the temporary file. Each file is as it was.
+    fn discard(&mut self, temp_file: Self::TempFile)
         ensures { KeepsFiles (bytes self.old) (bytes self.new) };
 }

@@ -1,15 +1,17 @@
-//! Files that are written whole or not at all, by name: a store of files (`FileStore`), and the system's files as one
-//! (`SystemFiles`).
+//! Atomic replacement of files: each file is written whole or not at all.
+//!
+//! `FileStore` is the contract of a store of files. `SystemFiles` implements it for the files of
+//! the system.
 #![tactic(auto)]
 
 mod file_fault;
 mod file_store;
-mod system_draft;
+mod named_temp_file;
 mod system_files;
+mod system_temp_file;
 mod target;
-mod temporary_file;
 
 pub use file_fault::{FileFault, FileReason, FileSide};
 pub use file_store::FileStore;
-pub use system_draft::{SystemDraft, SystemReader};
 pub use system_files::SystemFiles;
+pub use system_temp_file::{SystemReader, SystemTempFile};

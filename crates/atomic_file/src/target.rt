@@ -1,4 +1,4 @@
-// The file that an output is to be, found by its name before any work is done.
+// The file that an output will be, found by its name before any work is done.
 use crate::file_fault::FileReason;
 use std::fs;
 use std::fs::{Files, Metadata, OpenOptions};
@@ -7,11 +7,11 @@ use std::os::fd::{AsFd, AsRawFd};
 use std::os::unix::fs::MetadataExt;
 use std::path::PathBuf;
 
-// A name leads to a file by at most this many symbolic links, as in Linux.
+// The most symbolic links that a name may lead through, as in Linux.
 const MOST_LINKS: u32 = 40;
 
-/// The file that an output is to be: its path, which is no symbolic link, and what is known of the file
-/// that is there.
+/// The file that an output will be. It has the path, which is no symbolic link, and the metadata of
+/// the file that is there now, if there is one.
 #[derive(Drop)]
 pub(crate) struct Target {
     pub(crate) path: PathBuf,
@@ -19,8 +19,8 @@ pub(crate) struct Target {
 }
 
 impl Target {
-    /// Finds the file that a name leads to. A name with no file is that of a new one, also where it is a
-    /// symbolic link to nothing.
+    /// Finds the file that a name leads to. If there is none, the output will be a new file. That
+    /// holds also for a symbolic link to nothing.
     pub(crate) fn of<H: Files + AllocGlobal>(rt: &H, name: &str) -> Result<Self, FileReason> {
         let path = followed(rt, name)?;
         // The system follows the name by its own rules, which protect links in shared folders.
@@ -31,16 +31,17 @@ impl Target {
             None if is_folder_name(name) => return Err(FileReason::Missing),
             _ => {}
         }
-        // A link that was changed between the two calls is not followed.
+        // A link that has changed between the two calls is not followed.
         if !are_same(&replaced, &existing(rt, path.as_str())?) {
             return Err(FileReason::Other);
         }
         Ok(Target { path, replaced })
     }
 
-    /// Succeeds where the file that is there, if there is one, can be replaced: it may be written under its
-    /// name, and it is on the mount of `beside`, a file of the same folder. A rename cannot replace a file
-    /// that is itself a mount.
+    /// Returns an error if there is a file and it cannot be replaced.
+    ///
+    /// The file must be writable under its name and be on the mount of `beside`, a file of the same
+    /// folder. A rename cannot replace a file that is itself a mount.
     pub(crate) fn may_be_replaced<H: Files<File: AsFd> + AllocGlobal>(
         &self,
         rt: &H,
@@ -54,7 +55,7 @@ impl Target {
             Ok(file) => file,
             Err(error) => return Err(FileReason::of(error.kind())),
         };
-        // Where the system does not name both mounts, the rename decides at the end.
+        // If the system does not name both mounts, the rename decides at the end.
         let mount = mount_of(rt, &file);
         let folder_mount = mount_of(rt, beside);
         if mount.is_some() && folder_mount.is_some() && mount != folder_mount {
@@ -64,8 +65,8 @@ impl Target {
     }
 }
 
-// Follows a name while it is a symbolic link. Of a link alone the last part is followed, so what stands
-// above it need not be readable.
+// Follows a name while it is a symbolic link. Only the last part of the name is followed, so the
+// folders above it need not be readable.
 pub(crate) fn followed<H: Files + AllocGlobal>(rt: &H, name: &str) -> Result<PathBuf, FileReason> {
     let Ok(mut path) = PathBuf::from_str(rt.alloc(), name) else {
         return Err(FileReason::OutOfMemory);
@@ -89,7 +90,7 @@ pub(crate) fn followed<H: Files + AllocGlobal>(rt: &H, name: &str) -> Result<Pat
     Err(FileReason::Other)
 }
 
-// Returns what is known of the file that the system finds by a name, or `None` where there is none.
+// Returns the metadata of the file that the system finds by a name, or `None` if there is none.
 fn existing<H: Files>(rt: &H, name: &str) -> Result<Option<Metadata>, FileReason> {
     match fs::metadata(rt, name) {
         Ok(metadata) => Ok(Some(metadata)),
@@ -98,7 +99,7 @@ fn existing<H: Files>(rt: &H, name: &str) -> Result<Option<Metadata>, FileReason
     }
 }
 
-// Whether both are of one file, or there is none.
+// Returns whether both are of one file, or both are `None`.
 fn are_same(one: &Option<Metadata>, other: &Option<Metadata>) -> bool {
     match (one, other) {
         (Some(one), Some(other)) => one.dev() == other.dev() && one.ino() == other.ino(),
@@ -107,12 +108,12 @@ fn are_same(one: &Option<Metadata>, other: &Option<Metadata>) -> bool {
     }
 }
 
-// Whether a name can only be that of a folder, or is empty.
+// Returns whether a name can only be that of a folder, or is empty.
 fn is_folder_name(name: &str) -> bool {
     name.is_empty() || name.ends_with('/') || name.ends_with("/.")
 }
 
-// Returns the line in which the system names the mount of an open file, where it says so.
+// Returns the line in which the system names the mount of an open file, if it does.
 fn mount_of<H: Files + AllocGlobal, F: AsFd>(rt: &H, file: &F) -> Option<String> {
     let number = file.as_fd().as_raw_fd();
     let Ok(path) = format!(in rt.alloc(); "/proc/self/fdinfo/{number}") else {

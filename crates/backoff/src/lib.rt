@@ -1,5 +1,5 @@
-//! A backoff for callers that try again (`Pause`): a few snoozes, then bursts of yields that grow, then sleeps. Producers,
-//! workers, allocators and locks all wait by it.
+//! A back-off for callers that try again (`Pause`): first snoozes, then bursts of yields that grow,
+//! then sleeps. Producers, workers, allocators and locks all wait by it.
 #![tactic(auto)]
 
 mod pause;

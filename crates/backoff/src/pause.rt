@@ -6,39 +6,41 @@ use std::sync::Wait;
 use std::thread::{Parker, yield_now};
 use std::time::Duration;
 
-// How many of the first pauses are snoozes. A try follows each of them, and a try at a full queue slows others.
+// The number of first pauses that are snoozes. A try follows each of them, and a try at a full
+// queue slows others.
 const SNOOZES: u32 = 3;
 
-// How often a caller yields before its next try. Each burst of yields is twice as long as the one before.
+// The number of yields in the first burst. Each burst is twice as long as the one before.
 const FIRST_BURST: u32 = 2;
 
-/// How often a caller yields in the last burst before it sleeps. All bursts together are meant to take
-/// about as long as one sleep costs.
+/// The largest number of yields in a burst. Then the caller sleeps. All bursts together are meant
+/// to take about as long as one sleep costs.
 pub const LONGEST_BURST: u32 = 64;
 
-// The first sleep and the longest one, in microseconds.
+// The first sleep, in microseconds.
 const FIRST_SLEEP: u64 = 50;
 
+// The longest sleep, in microseconds.
 const LONGEST_SLEEP: u64 = 800;
 
-/// Pauses that grow until a try has success: a few snoozes of a `Backoff`, then bursts of yields, and then sleeps. Nothing
-/// wakes a caller that sleeps, and none sleeps for long.
+/// A back-off that grows until a try succeeds: a few snoozes of a `Backoff`, then bursts of yields,
+/// and then sleeps. Nothing wakes a caller that sleeps, but no sleep is long.
 #[derive(Drop)]
 pub struct Pause {
-    // It spins for some nanoseconds in each of the first pauses.
+    // The spinner of the snoozes, each of which takes some nanoseconds.
     backoff: Backoff,
-    // How many of these are left.
+    // The number of snoozes that are left.
     snoozes: u32,
-    // How often the caller yields in the next burst. There is none after the longest.
+    // The number of yields in the next burst. There is none after the longest.
     burst: u32,
     // The next sleep, in microseconds.
     sleep: u64,
-    // Nobody wakes it, so each sleep takes its time.
+    // The parker on which the caller sleeps. Nothing wakes it, so each sleep takes its time.
     sleeper: Parker,
 }
 
 impl Pause {
-    /// The pauses of a caller that has not tried yet.
+    /// Creates the back-off of a caller that has not tried yet.
     pub fn new() -> Self {
         Pause {
             backoff: Backoff::new(),
@@ -49,7 +51,7 @@ impl Pause {
         }
     }
 
-    /// Begins anew, since a try had success.
+    /// Begins anew, since a try succeeded.
     pub fn reset(&mut self) {
         self.backoff.reset();
         self.snoozes = SNOOZES;
@@ -57,9 +59,9 @@ impl Pause {
         self.sleep = FIRST_SLEEP;
     }
 
-    /// Returns how often the caller has to yield before its next try. It returns 0 where the pause is over: the first
-    /// pauses are snoozes, and the last are sleeps, which are taken here. A caller may stop yielding as soon as it sees
-    /// that a try may have success.
+    /// Returns how often the caller has to yield before its next try. Returns 0 if the pause is
+    /// over: the first pauses are snoozes and the last are sleeps, which this call makes itself. A
+    /// caller may stop yielding as soon as it sees that a try may succeed.
     pub fn next_burst<R: Wait>(&mut self, rt: &R) -> u32
         ensures { result ≤ LONGEST_BURST }
     {
@@ -79,7 +81,7 @@ impl Pause {
         0
     }
 
-    /// Waits for the length of a pause.
+    /// Waits for the length of one pause.
     pub fn wait<R: Wait>(&mut self, rt: &R) {
         for _ in 0..self.next_burst(rt) {
             yield_now();

@@ -14,111 +14,167 @@ use Rattle.cli_args.specs.declared.invocation.Request.{Request}
 use Rattle.cli_args.specs.declared.invocation.ShopOptions.{ShopOptions}
 use Rattle.cli_args.specs.declared.invocation.Invocation.TheVariants.{Run, Report, Place, Replay}
 
--- the machine's dimension is at most MAX_DIM; there are 1 to MAX_DISPATCHERS dispatchers; the queue holds 1 to MAX_CAPACITY jobs
+-- The sizes are within their limits. The dimension is at most `MAX_DIM`, there are 1 to
+-- `MAX_DISPATCHERS` workers, and the capacity of the queue is from 1 to `MAX_CAPACITY`.
 abbrev pub AreShopSizes : ShopSizes → Type 0
-AreShopSizes sizes = (sizes.dim ≤ MAX_DIM) × (1 ≤ sizes.dispatchers) × (sizes.dispatchers ≤ MAX_DISPATCHERS) × (1 ≤ sizes.capacity) × (sizes.capacity ≤ MAX_CAPACITY)
+AreShopSizes sizes =
+    (sizes.dim ≤ MAX_DIM) × (1 ≤ sizes.dispatchers) × (sizes.dispatchers ≤ MAX_DISPATCHERS)
+    × (1 ≤ sizes.capacity) × (sizes.capacity ≤ MAX_CAPACITY)
 
--- the dimension is at most MAX_DIM; the number of stations is from 1 to MAX_STATIONS
+-- The sizes of the command are within their limits. The dimension is at most `MAX_DIM`, and the
+-- number of stations is from 1 to `MAX_STATIONS`.
 abbrev pub IsWithinLimits : Invocation → Type 0
 IsWithinLimits (Run shop) = AreShopSizes shop.sizes
 IsWithinLimits (Report shop) = AreShopSizes shop.sizes
 IsWithinLimits (Place n) = n ≤ MAX_DIM
 IsWithinLimits (Replay n stations) = (n ≤ MAX_DIM) × (1 ≤ stations) × (stations ≤ MAX_STATIONS)
 
--- the required option `--dim N`, a number from 0 to MAX_DIM
+-- The required option `--dim N`, a number from 0 to `MAX_DIM`.
 abbrev pub dim_rule : Rule
-dim_rule = record (new_rule (codes "dim")) { long = Some (codes "dim"); value_names = 1; required = true; parser = Some (Signed (pos 0) (pos MAX_DIM)) }
+dim_rule =
+    record (new_rule (codes "dim")) {
+      long = Some (codes "dim");
+      value_names = 1;
+      required = true;
+      parser = Some (Signed (pos 0) (pos MAX_DIM));
+    }
 
--- the required option `--stations S`, a number from 1 to MAX_STATIONS
+-- The required option `--stations S`, a number from 1 to `MAX_STATIONS`.
 abbrev pub stations_rule : Rule
-stations_rule = record (new_rule (codes "stations")) { long = Some (codes "stations"); value_names = 1; required = true; parser = Some (Signed (pos 1) (pos MAX_STATIONS)) }
+stations_rule =
+    record (new_rule (codes "stations")) {
+      long = Some (codes "stations");
+      value_names = 1;
+      required = true;
+      parser = Some
+          (Signed (pos 1) (pos MAX_STATIONS));
+    }
 
--- the option `--dispatchers D`, a number from 1 to MAX_DISPATCHERS, which is 2 where it is not given
+-- The option `--dispatchers D`, a number from 1 to `MAX_DISPATCHERS`. The default is 2.
 abbrev pub dispatchers_rule : Rule
-dispatchers_rule = record (new_rule (codes "dispatchers")) { long = Some (codes "dispatchers"); value_names = 1; defaults = codes "2" ∷ []; parser = Some (Signed (pos 1) (pos MAX_DISPATCHERS)) }
+dispatchers_rule =
+    record (new_rule (codes "dispatchers")) {
+      long = Some (codes "dispatchers");
+      value_names = 1;
+      defaults = codes "2" ∷ [];
+      parser = Some
+          (Signed (pos 1) (pos MAX_DISPATCHERS));
+    }
 
--- the option `--capacity C`, a number from 1 to MAX_CAPACITY, which is 16 where it is not given
+-- The option `--capacity C`, a number from 1 to `MAX_CAPACITY`. The default is 16.
 abbrev pub capacity_rule : Rule
-capacity_rule = record (new_rule (codes "capacity")) { long = Some (codes "capacity"); value_names = 1; defaults = codes "16" ∷ []; parser = Some (Signed (pos 1) (pos MAX_CAPACITY)) }
+capacity_rule =
+    record (new_rule (codes "capacity")) {
+      long = Some (codes "capacity");
+      value_names = 1;
+      defaults = codes "16" ∷ [];
+      parser = Some
+          (Signed (pos 1) (pos MAX_CAPACITY));
+    }
 
--- the operand `FILE`
+-- The operand `FILE`.
 abbrev pub file_rule : Rule
 file_rule = record (new_rule (codes "file")) { value_names = 1 }
 
--- the option `--output FILE`
+-- The option `--output FILE`.
 abbrev pub output_rule : Rule
 output_rule = record (new_rule (codes "output")) { long = Some (codes "output"); value_names = 1 }
 
--- the flag `--quiet`
+-- The flag `--quiet`.
 abbrev pub quiet_rule : Rule
-quiet_rule = record (new_rule (codes "quiet")) { long = Some (codes "quiet"); action = Some SetTrue }
+quiet_rule =
+    record (new_rule (codes "quiet")) { long = Some (codes "quiet"); action = Some SetTrue }
 
--- a command that has a version
+-- A command that has a version.
 abbrev pub versioned_app : Text → App
 versioned_app name = record { top = record (new_app name).top { has_version = true }; subs = [] }
 
--- a command on a machine of some dimension, which reads a file and writes one
+-- A command on a machine of some dimension, which reads a file and writes one.
 abbrev pub command_app : Text → App
-command_app name = with_rule (with_rule (with_rule (versioned_app name) dim_rule) file_rule) output_rule
+command_app name =
+    with_rule (with_rule (with_rule (versioned_app name) dim_rule) file_rule) output_rule
 
--- a command that runs a shop
+-- A command that runs jobs. It has the number of workers, the capacity of the queue, and the flag
+-- for no progress.
 abbrev pub shop_app : Text → App
-shop_app name = with_rule (with_rule (with_rule (command_app name) dispatchers_rule) capacity_rule) quiet_rule
+shop_app name =
+    with_rule (with_rule (with_rule (command_app name) dispatchers_rule) capacity_rule) quiet_rule
 
--- the program: it has a version, and one of its commands is required
+-- The program without its commands. It has a version, and requires one of its commands.
 abbrev pub bare_program : Shape
-bare_program = record (new_app (codes "cubejobs")).top { subcommand_required = true; has_version = true }
+bare_program =
+    record (new_app (codes "cubejobs")).top { subcommand_required = true; has_version = true }
 
+-- The program as `clap` sees it: its four commands with their options.
 abbrev pub program_app : App
-program_app = with_subcommand (with_subcommand (with_subcommand (with_subcommand (record { top = bare_program; subs = [] })
-    (shop_app (codes "run")).top) (shop_app (codes "report")).top) (command_app (codes "place")).top) (with_rule (command_app (codes "replay")) stations_rule).top
+program_app =
+    with_subcommand (with_subcommand (with_subcommand
+    (with_subcommand (record { top = bare_program; subs = [] })
+    (shop_app (codes "run")).top) (shop_app (codes "report")).top)
+    (command_app (codes "place")).top) (with_rule (command_app (codes "replay")) stations_rule).top
 
--- the option has this number, in digits, by the words or by its default
+-- The option has this number, in digits, by the words or by its default.
 abbrev pub HasOptionValue : List Row → Text → ℕ → Type 0
-HasOptionValue options name n = (text : Text) × (one_of name options ≡ Some text) × (n ≡ digits_value 10 (without_leading_plus text))
+HasOptionValue options name n =
+    (text : Text) × (one_of name options ≡ Some text)
+    × (n ≡ digits_value 10 (without_leading_plus text))
 
--- the flag is set, or it is not; where it is not given `clap` finds the text "false"
+-- The flag is set, or it is not. If it is not given, `clap` finds the text `false`.
 abbrev pub HasFlag : List Row → Text → Bool → Type 0
-HasFlag options name is_set = one_of name options ≡ Some (if is_set then codes "true" else codes "false")
+HasFlag options name is_set =
+    one_of name options ≡ Some (if is_set then codes "true" else codes "false")
 
--- the numbers and the flag of a command that runs a shop are those of the options
+-- The numbers and the flag of a command that runs jobs are those of the options.
 abbrev pub HasShopOptions : List Row → ShopOptions → Type 0
 HasShopOptions options shop =
-    HasOptionValue options (codes "dim") shop.sizes.dim × HasOptionValue options (codes "dispatchers") shop.sizes.dispatchers × HasOptionValue options (codes "capacity") shop.sizes.capacity × HasFlag options (codes "quiet") shop.is_quiet
+    HasOptionValue options (codes "dim") shop.sizes.dim
+    × HasOptionValue options (codes "dispatchers") shop.sizes.dispatchers
+    × HasOptionValue options (codes "capacity") shop.sizes.capacity
+    × HasFlag options (codes "quiet") shop.is_quiet
 
--- the numbers of the request are those of the options
+-- The numbers of the request are those of the options.
 abbrev pub HasOptionValues : List Row → Invocation → Type 0
 HasOptionValues options (Run shop) = HasShopOptions options shop
 HasOptionValues options (Report shop) = HasShopOptions options shop
 HasOptionValues options (Place n) = HasOptionValue options (codes "dim") n
-HasOptionValues options (Replay n stations) = HasOptionValue options (codes "dim") n × HasOptionValue options (codes "stations") stations
+HasOptionValues options (Replay n stations) =
+    HasOptionValue options (codes "dim") n × HasOptionValue options (codes "stations") stations
 
--- the file that a word names: none where it is `-`, or where there is no word
+-- The file that a word names. There is none if the word is `-`, or if there is no word.
 abbrev pub file_named : Option Text → Option Text
 file_named None = None
 file_named (Some word) = if bytes_eq word (codes "-") then None else Some word
 
--- the files are those that the operand and the option name
+-- The files are those that the operand and the option `--output` name.
 abbrev pub HasFileNames : List Row → FileNames → Type 0
 HasFileNames options files =
-    (option_map string_bytes files.input ≡ file_named (first_of (codes "file") options)) × (option_map string_bytes files.output ≡ file_named (first_of (codes "output") options))
+    (option_map string_bytes files.input ≡ file_named (first_of (codes "file") options))
+    × (option_map string_bytes files.output ≡ file_named (first_of (codes "output") options))
 
--- the command of a request
+-- The word for the command of a request.
 abbrev pub command_of : Invocation → Text
 command_of (Run shop) = codes "run"
 command_of (Report shop) = codes "report"
 command_of (Place n) = codes "place"
 command_of (Replay n stations) = codes "replay"
 
--- these words ask for this: `clap` finds nothing wrong with them, they name the command, its
--- options have the numbers, and its files are named by the operand and by `--output`
+-- The words ask for this request. `clap` finds nothing wrong with them. They name the command, its
+-- options have the numbers, and the operand and `--output` name its files.
 abbrev pub AsksFor : List Text → Request → Type 0
-AsksFor words request = (fault_of program_app words ≡ []) × ((options : List Row) × (subcommand_of program_app words ≡ Some (command_of request.invocation, options)) × HasOptionValues options request.invocation × HasFileNames options request.files)
+AsksFor words request =
+    (fault_of program_app words ≡ []) ×
+    ((options : List Row) × (subcommand_of program_app words
+    ≡ Some (command_of request.invocation, options)) × HasOptionValues options request.invocation
+    × HasFileNames options request.files)
 
--- these words ask for help or for the version
+-- The words ask for the help or the version.
 abbrev pub AsksForHelp : List Text → Type 0
-AsksForHelp words = IsAmong DisplayHelp (fault_of program_app words) ⊎ IsAmong DisplayVersion (fault_of program_app words)
+AsksForHelp words =
+    IsAmong DisplayHelp (fault_of program_app words)
+    ⊎ IsAmong DisplayVersion (fault_of program_app words)
 
--- `clap` finds something wrong with these words
+-- The words are a bad command line: `clap` finds something wrong with them.
 abbrev pub IsBadCommandLine : List Text → Type 0
-IsBadCommandLine words = (kind : ErrorKind) × IsAmong kind (fault_of program_app words) × (kind ≢ DisplayHelp) × (kind ≢ DisplayVersion)
+IsBadCommandLine words =
+    (kind : ErrorKind) × IsAmong kind (fault_of program_app words) × (kind ≢ DisplayHelp)
+    × (kind ≢ DisplayVersion)

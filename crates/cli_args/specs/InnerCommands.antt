@@ -3,10 +3,12 @@ use Rattle.std.specs.Prelude.{[], codes}
 use Rattle.clap.specs.Words.{App, with_subcommand}
 use Rattle.cli_args.specs.CommandLine.{bare_program, shop_app}
 
--- with no command
+-- The program with no command.
 abbrev pub bare_app : App
 bare_app = record { top = bare_program; subs = [] }
 
--- with the commands that run a shop
+-- The program with the commands that run jobs.
 abbrev pub shops_app : App
-shops_app = with_subcommand (with_subcommand bare_app (shop_app (codes "run")).top) (shop_app (codes "report")).top
+shops_app =
+    with_subcommand (with_subcommand bare_app (shop_app (codes "run")).top)
+    (shop_app (codes "report")).top

@@ -1,4 +1,4 @@
-// The command line.
+// The parser of the command line, and the texts of its help.
 ghost use Rattle.std.specs.Prelude.{◌≡◌, ◌≤◌, false, IfOk, IfSome, List, Some, codes, map, option_map, string_bytes};
 ghost use Rattle.clap.specs.Words.{FailsBy, Row, app_of, fault_of, first_of, found_of, rows_of, rule_of, subcommand_rows_of, with_rule};
 ghost use Rattle.clap.specs.declared.builder.command.Command.TheViews.{out-Command};
@@ -12,75 +12,75 @@ use dispatcher::ShopSizes;
 use jobs_csv::MAX_RECORDS;
 use std::alloc::{AllocError, Global};
 
-// The version of the program.
 const VERSION: &str = "0.1.0";
 
-// Its name.
+// The name of the program.
 const PROGRAM: &str = "cubejobs";
 
 const ABOUT: &str = "Dispatches jobs to the subcubes of a hypercube machine";
 
-const ABOUT_RUN: &str = "Answers a file of jobs";
+const ABOUT_RUN: &str = "Runs a file of jobs";
 
 const LONG_ABOUT_RUN: &str =
-    "Reads a file of jobs, answers each job on a subcube of the machine, and writes
+    "Reads a file of jobs, runs each job on a subcube of the machine, and writes
 the replies. It reads FILE or standard input, and writes the file of --output or
 standard output.
 
 The input is CSV with the header lane,kind,op,root,items.
   lane   the job's lane is below 16
   kind   broadcast, reduce, allreduce, scan or exscan
-  op     add, min, max, xor, and or or; of a broadcast it is -
+  op     add, min, max, xor, and, or; for a broadcast it is -
   root   the rank of one of the items, and 0 for allreduce, scan and exscan
   items  numbers below 2^64 with one space between each two; there are 1 to
          2^N of them
 
-In a scan each place receives the items up to and with its own, joined, and in
-an exscan those before its own.
+In a scan, each place receives the items up to and with its own, combined by
+op. In an exscan, it receives those before its own.
 
-A job runs on the smallest subcube that has a processor for each of its items,
-of dimension dim. The first item is on its first processor, and so on;
-processors past the last item stand idle, and do not change the result.
+A job runs on the smallest subcube that has a processor for each of its items.
+The subcube has dimension dim. The first item is on its first processor, and so
+on; processors after the last item are idle, and do not change the result.
 
-The output is CSV with the header lane,seq,kind,dim,result,rounds,messages, and
-has a line for each job, by lane and in a lane in the order of the file. Its
-result has a number, or - for nothing, for each item. Its rounds and messages
-are those of all processors of the subcube.
+The output is CSV with the header lane,seq,kind,dim,result,rounds,messages. It
+has a line for each job, sorted by lane; the jobs of a lane keep the order of
+the file. The result has a number for each item, or - for nothing. The rounds
+and messages are those of all processors of the subcube.
 
-The jobs are answered on threads: some hand in the jobs of the lanes by one
-line, and the dispatchers answer them. The output is the same whatever their
-number and the line's capacity. Large jobs want a dispatcher for each core of
-the computer; for small ones two are enough, and a larger capacity is quicker.
+The jobs run on threads: some put the jobs of the lanes into one queue, and the
+dispatchers take them from it and run them. The output does not depend on the
+number of dispatchers or the capacity of the queue. For large jobs, use a
+dispatcher for each core of the computer. For small jobs two are enough, and a
+larger capacity is faster.
 
-Where standard error is a terminal, a line of it shows how far a long run is,
-unless --quiet is given.
+If standard error is a terminal, one line of it shows the progress of a long
+run, unless --quiet is given.
 
 Example: cubejobs run --dim 3 jobs.csv";
 
-const ABOUT_REPORT: &str = "Answers a file of jobs, and writes totals of them";
+const ABOUT_REPORT: &str = "Runs a file of jobs, and writes totals of them";
 
 const LONG_ABOUT_REPORT: &str =
-    "Reads a file of jobs, answers each job on a subcube of the machine, and writes
+    "Reads a file of jobs, runs each job on a subcube of the machine, and writes
 totals of the jobs and of the free subcubes. It reads FILE or standard input,
 and writes the file of --output or standard output.
 
 The input is a file of jobs as `cubejobs run` reads it, CSV with the header
 lane,kind,op,root,items, and is refused for the same faults;
-`cubejobs run --help` describes it. The jobs are answered on threads as there,
-with the same line of progress on a terminal, and the output is the same
-whatever the number of dispatchers and the line's capacity.
+`cubejobs run --help` describes it. The jobs run on threads in the same way,
+with the same line of progress on a terminal. The output does not depend on the
+number of dispatchers or the capacity of the queue.
 
 The output is CSV with the header group,key,count,processors,idle, and has
 these lines:
   lane   one for each lane from 0 to the largest one of a job, with the number
          of its jobs, the sum of the processors of their subcubes, and how many
-         of these stood idle, with no item of their job
-  dim    one for each dimension from 0 to N, with the same of the jobs of that
+         of these were idle, with no item of their job
+  dim    one for each dimension from 0 to N, with the same for the jobs of that
          dimension
   free   one for each dimension from 0 to N, with the number of aligned
-         subcubes of it that are free once all jobs are answered, the
-         processors that these have together, and 0
-  total  one with the key -, of all jobs
+         subcubes of it that are free once all jobs are done, the processors
+         that these have together, and 0
+  total  one with the key -, for all jobs
 
 Example: cubejobs report --dim 3 jobs.csv --output totals.csv";
 
@@ -88,35 +88,35 @@ const ABOUT_PLACE: &str = "Takes and frees subcubes under names";
 
 const LONG_ABOUT_PLACE: &str =
     "Reads commands, takes and frees subcubes of the machine under names, and writes
-what became of each command. It reads FILE or standard input, and writes the
+the outcome of each command. It reads FILE or standard input, and writes the
 file of --output or standard output.
 
 The input is CSV with the header command,name,dim. The command take asks for a
 subcube of dimension dim, from 0 to N, to be held under the name. The command
-free gives the name's subcube back, and has the dim -. A name has 1 to 16 bytes,
+free releases the name's subcube, and has the dim -. A name has 1 to 16 bytes,
 each of them a to z or a digit.
 
 The output is CSV with the header command,name,dim,base,outcome, and has a line
-for each command in the order of the file. A take is given the first aligned
-subcube that is free, whose processors are base and those after it. Otherwise it
-is held, where the name holds a subcube already; or nostation, where each
-station holds one; or nosubcube, where none of its dimension is free. A free is
-freed, or nothingheld where the name holds nothing.
+for each command in the order of the file. A take gets the first aligned subcube
+that is free, whose processors are base and those after it; its outcome is
+given. Otherwise the outcome is held, if the name holds a subcube already; or
+nostation, if each station holds one; or nosubcube, if none of its dimension is
+free. The outcome of a free is freed, or nothingheld if the name holds nothing.
 
 Example: cubejobs place --dim 2 place.csv";
 
 const ABOUT_REPLAY: &str = "Plays a schedule of stations, event by event";
 
 const LONG_ABOUT_REPLAY: &str =
-    "Reads a schedule, plays it on the tree by which stations take and release
-subcubes with no lock, and writes each event. It reads FILE or standard input,
+    "Reads a schedule, plays it on the tree on which stations take and release
+subcubes without a lock, and writes each event. It reads FILE or standard input,
 and writes the file of --output or standard output.
 
 The input is CSV with the header station,call,arg. The call take has a node of
 the tree as arg, where 1 is the whole machine and the halves of node v are 2v
 and 2v+1; step has the number of steps, from 1 to 100; release, run and retire
-have -. A take and a release only begin; each step makes one atomic event, and
-run makes steps until the station rests.
+have -. The calls take and release only begin; each step makes one atomic event,
+and run makes steps until the station is at rest.
 
 The output is CSV with the header station,event,node,word,note. An event shows
 the word that it left at its node: O for occupied, L and R for a side in use,
@@ -128,15 +128,15 @@ Example: cubejobs replay --dim 2 --stations 3 schedule.csv";
 
 // How the records of a file are counted, at the end of each command's help.
 const RECORDS: &str = "Records:
-  The header is record 0, and each record after it counts one. A blank line is
-  no record, and a line end within quotes ends none.
+  The header is record 0, and the next one is record 1. A blank line is no
+  record, and a line end within quotes does not end a record.
 
 ";
 
-// What a run and a report take of memory, and the faults of a file of jobs.
+// The memory that `run` and `report` need, and the faults of a file of jobs.
 const OF_JOBS: &str = "Memory:
-  All jobs and replies are kept until the last job is answered. A job takes
-  about 200 bytes, and 8 for each of its items, or 16 in a scan.
+  All jobs and replies are kept until the last job is done. A job takes up to
+  180 bytes, and 8 for each processor of its subcube, or 16 in a scan.
 
 Faults of the input:
   Fields         a record has too few or too many fields, or there is no header
@@ -144,12 +144,12 @@ Faults of the input:
   Word           a field is none of its keywords, or the header is another one
   Job Empty      a job has no items
   Job TooLarge   a job has more items than the machine has processors
-  Job BadRoot    a job's root is not the rank of an item, or not 0 where it must
+  Job BadRoot    a job's root is not the rank of an item, or not 0 as it must be
 ";
 
-// What a command that writes as it goes takes of memory, and the faults of its file.
+// The memory that `place` needs, and the faults of a file of commands.
 const OF_PLACE: &str = "Memory:
-  All commands are read before the first one is answered: about 30 bytes each.
+  All commands are read before the first one is done: about 24 bytes each.
 
 Faults of the input:
   Fields         a record has too few or too many fields, or there is no header
@@ -158,9 +158,9 @@ Faults of the input:
                  another one
 ";
 
-// The same of a schedule.
+// The memory that `replay` needs, and the faults of a schedule.
 const OF_REPLAY: &str = "Memory:
-  All calls are read before the first one is played: about 40 bytes each.
+  All calls are read before the first one is played: about 24 bytes each.
 
 Faults of the input:
   Fields         a record has too few or too many fields, or there is no header
@@ -168,10 +168,10 @@ Faults of the input:
   Word           a field is no call or no -, or the header is another one
 ";
 
-// The last fault of an input, up to the number of records that a file may have.
+// The last fault of an input, up to the most records that a file may have.
 const TOO_MANY: &str = "  TooMany        there are more records after the header than ";
 
-// The other faults of a command that runs a shop.
+// The other faults of a command that runs jobs.
 const SHOP_FAILURES: &str = "
 Other faults:
   Read, Write    the input or the output failed
@@ -183,11 +183,11 @@ Exit status:
   1  the input is refused, and nothing is written; standard error names the
      record and the fault
   2  bad command line
-  3  the input or output failed, a file could not be had, there was no memory or
-     no thread, or a lane has no number left
+  3  the input or output failed, a file could not be used, memory or a thread
+     was refused, or a lane has no number left
 ";
 
-// The other faults of a command that answers by itself.
+// The other faults of a command that runs no jobs.
 const FAILURES: &str = "
 Other faults:
   Read, Write    the input or the output failed
@@ -198,24 +198,23 @@ Exit status:
   1  the input is refused, and nothing is written; standard error names the
      record and the fault
   2  bad command line
-  3  the input or output failed, a file could not be had, or there was no memory
+  3  the input or output failed, a file could not be used, or memory was refused
 ";
 
-// What is read and written in place of the standard streams, and why that may fail.
+// What is read and written instead of the standard streams, and why that may fail.
 const NAMED_FILES: &str = "
 Files:
-  FILE is read in place of standard input, and the file of --output is written
-  in place of standard output; - stands for the standard one. An output is whole
-  or not there: it takes the file's place once all of it is on the disk. Where
-  the command fails the file is as it was. It may be the file that is read.
+  FILE is read instead of standard input, and the file of --output is written
+  instead of standard output; - is the standard one. An output is written whole
+  or not at all: it replaces the file once all of it is on the disk. If the
+  command fails, the file is as it was. It may be the file that is read.
 
   A replaced file keeps its owner, its group and its permissions, as far as the
   system allows it. If the group cannot be kept, its permissions are dropped.
 
   Rows are written to a temporary file .cubejobs-PROCESS-NUMBER.part in the
-  folder of the output, which is created with the first row. A signal that ends
-  the command while it writes rows, as Ctrl-C does, can leave this file. Remove
-  it then.
+  folder of the output. The first row creates it. A signal that ends the command
+  while it writes rows, as Ctrl-C does, can leave this file. Remove it then.
 
 Faults of a file, as in `failed: output: Missing: results/new.csv`:
   Missing        there is no such file, or no such folder
@@ -229,11 +228,12 @@ Faults of a file, as in `failed: output: Missing: results/new.csv`:
 
 // The end of each command's help.
 const STREAMS: &str = "
-Where standard input is read and is a terminal, one line of standard error says
-what is waited for; Ctrl-D ends the input. Where the reader of standard output
-closes it early, standard error says `failed: record 0: Write`, with status 3.";
+If standard input is read and is a terminal, one line of standard error says
+what the command waits for; Ctrl-D ends the input. If the reader of standard
+output closes it early, standard error says `failed: record 0: Write`, and the
+status is 3.";
 
-// The end of a command's help: how records are counted, what it takes of memory, and its faults.
+// Returns the end of a command's help: how records are counted, the memory it needs, the faults.
 fn end_of_help(alloc: Global, of_input: &str, of_others: &str) -> Result<String, AllocError> {
     format!(in alloc;
         "{RECORDS}{of_input}{TOO_MANY}{MAX_RECORDS}\n{of_others}{NAMED_FILES}{STREAMS}"
@@ -253,12 +253,12 @@ struct Limits {
 }
 
 impl Limits {
-    // The texts.
+    // Makes the texts.
     fn new(alloc: Global) -> Result<Self, AllocError> {
         Ok(Limits {
             dim: format!(in alloc; "Dimension of the machine, of 2^N processors: 0 to {MAX_DIM}")?,
-            dispatchers: format!(in alloc; "Dispatchers that answer jobs: 1 to {MAX_DISPATCHERS}")?,
-            capacity: format!(in alloc; "Jobs that may wait in line: 1 to {MAX_CAPACITY}")?,
+            dispatchers: format!(in alloc; "Dispatchers that run jobs: 1 to {MAX_DISPATCHERS}")?,
+            capacity: format!(in alloc; "Jobs that may wait in the queue: 1 to {MAX_CAPACITY}")?,
             stations: format!(in alloc;
                 "Number of stations, the first being 0: 1 to {MAX_STATIONS}"
             )?,
@@ -269,7 +269,7 @@ impl Limits {
     }
 }
 
-// The option for the dimension of the machine.
+// Returns the option for the dimension of the machine.
 fn dim_option<'a>(alloc: Global, limits: &'a Limits) -> Arg<'a>
     ensures rule { rule_of result ≡ dim_rule }
     ensures local { result.global ≡ false }
@@ -282,17 +282,17 @@ fn dim_option<'a>(alloc: Global, limits: &'a Limits) -> Arg<'a>
         .value_parser(value_parser!(u32).range(0..=i64::from(MAX_DIM)))
 }
 
-// The file that is read.
+// Returns the operand for the file to read.
 fn file_argument<'a>(alloc: Global) -> Arg<'a>
     ensures rule { rule_of result ≡ file_rule }
     ensures local { result.global ≡ false }
 {
     Arg::new(alloc, "file").value_name("FILE").help(
-        "File to read in place of standard input, which is also read for -",
+        "File to read instead of standard input; - is standard input",
     )
 }
 
-// The option for the file that is written.
+// Returns the option for the file to write.
 fn output_option<'a>(alloc: Global) -> Arg<'a>
     ensures rule { rule_of result ≡ output_rule }
     ensures local { result.global ≡ false }
@@ -303,7 +303,7 @@ fn output_option<'a>(alloc: Global) -> Arg<'a>
         .help("File to write, whole or not at all")
 }
 
-// The option for the number of dispatchers.
+// Returns the option for the number of workers.
 fn dispatchers_option<'a>(alloc: Global, limits: &'a Limits) -> Arg<'a>
     ensures rule { rule_of result ≡ dispatchers_rule }
     ensures local { result.global ≡ false }
@@ -316,7 +316,7 @@ fn dispatchers_option<'a>(alloc: Global, limits: &'a Limits) -> Arg<'a>
         .value_parser(value_parser!(u32).range(1..=i64::from(MAX_DISPATCHERS)))
 }
 
-// The option for the capacity of the line of jobs.
+// Returns the option for the capacity of the queue.
 fn capacity_option<'a>(alloc: Global, limits: &'a Limits) -> Arg<'a>
     ensures rule { rule_of result ≡ capacity_rule }
     ensures local { result.global ≡ false }
@@ -329,7 +329,7 @@ fn capacity_option<'a>(alloc: Global, limits: &'a Limits) -> Arg<'a>
         .value_parser(value_parser!(u32).range(1..=MAX_CAPACITY as i64))
 }
 
-// The flag that turns off the line of progress.
+// Returns the flag that turns off the line of progress.
 fn quiet_option<'a>(alloc: Global) -> Arg<'a>
     ensures rule { rule_of result ≡ quiet_rule }
     ensures local { result.global ≡ false }
@@ -340,7 +340,7 @@ fn quiet_option<'a>(alloc: Global) -> Arg<'a>
         .action(ArgAction::SetTrue)
 }
 
-// The option for the number of stations.
+// Returns the option for the number of stations.
 fn stations_option<'a>(alloc: Global, limits: &'a Limits) -> Arg<'a>
     ensures rule { rule_of result ≡ stations_rule }
     ensures local { result.global ≡ false }
@@ -353,7 +353,7 @@ fn stations_option<'a>(alloc: Global, limits: &'a Limits) -> Arg<'a>
         .value_parser(value_parser!(u32).range(1..=i64::from(MAX_STATIONS)))
 }
 
-// A command that shows the version of the program, under the program's name.
+// Returns a command that shows the version of the program, under the program's name.
 fn versioned<'a>(alloc: Global, name: &'a str) -> Result<Command<'a>, AllocError>
     ensures app { IfOk result (λ command. app_of command ≡ versioned_app name.entry.now) }
     ensures local { IfOk result (λ command. (out-Command command).has_globals ≡ false) }
@@ -363,7 +363,7 @@ fn versioned<'a>(alloc: Global, name: &'a str) -> Result<Command<'a>, AllocError
         .display_name(PROGRAM)
 }
 
-// A command on a machine of some dimension.
+// Returns a command on a machine of some dimension.
 fn command<'a>(
     alloc: Global,
     name: &'a str,
@@ -384,7 +384,7 @@ fn command<'a>(
         .arg(output_option(alloc))
 }
 
-// A command that runs a shop, which has dispatchers and a line too.
+// Returns a command that runs jobs. It also has the options of workers and of the queue.
 fn shop_command<'a>(
     alloc: Global,
     name: &'a str,
@@ -401,7 +401,7 @@ fn shop_command<'a>(
         .arg(quiet_option(alloc))
 }
 
-// The command `replay`, which has stations too.
+// Returns the command `replay`, which also has stations.
 fn replay_command<'a>(alloc: Global, limits: &'a Limits) -> Result<Command<'a>, AllocError>
     ensures app { IfOk result (λ command.
         app_of command ≡ with_rule (command_app (codes "replay")) stations_rule) }
@@ -418,7 +418,7 @@ fn replay_command<'a>(alloc: Global, limits: &'a Limits) -> Result<Command<'a>, 
     replay.arg(stations_option(alloc, limits))
 }
 
-// The program, which has no command yet.
+// Returns the program with no command.
 fn bare_program<'a>(alloc: Global) -> Command<'a>
     ensures { app_of result ≡ bare_app }
 {
@@ -428,7 +428,7 @@ fn bare_program<'a>(alloc: Global) -> Command<'a>
         .subcommand_required(true)
 }
 
-// The program with the commands that run a shop.
+// Returns the program with the commands that run jobs.
 fn with_shops<'a>(alloc: Global, limits: &'a Limits) -> Result<Command<'a>, AllocError>
     ensures { IfOk result (λ program. app_of program ≡ shops_app) }
 {
@@ -438,7 +438,7 @@ fn with_shops<'a>(alloc: Global, limits: &'a Limits) -> Result<Command<'a>, Allo
     program.subcommand(report)
 }
 
-// The program with all its commands.
+// Returns the program with all its commands.
 fn program<'a>(alloc: Global, limits: &'a Limits) -> Result<Command<'a>, AllocError>
     ensures { IfOk result (λ program. app_of program ≡ program_app) }
 {
@@ -456,7 +456,7 @@ fn program<'a>(alloc: Global, limits: &'a Limits) -> Result<Command<'a>, AllocEr
     program.subcommand(replay)
 }
 
-// The dimension that a command was given.
+// Returns the dimension that a command was given.
 fn dim_in(matches: &ArgMatches<'_>) -> Option<u32>
     ensures limit { IfSome result (λ n. n ≤ MAX_DIM) }
     ensures value { IfSome result (λ n.
@@ -466,7 +466,7 @@ fn dim_in(matches: &ArgMatches<'_>) -> Option<u32>
     if Dim(n).fits(MAX_DIM) { Some(n) } else { None }
 }
 
-// The number of dispatchers that a command was given, or the default.
+// Returns the number of workers that a command was given, or the default.
 fn dispatchers_in(matches: &ArgMatches<'_>) -> Option<u32>
     ensures limits { IfSome result (λ dispatchers.
         (1 ≤ dispatchers) × (dispatchers ≤ MAX_DISPATCHERS)) }
@@ -481,7 +481,7 @@ fn dispatchers_in(matches: &ArgMatches<'_>) -> Option<u32>
     }
 }
 
-// The capacity that a command was given, or the default.
+// Returns the capacity that a command was given, or the default.
 fn capacity_in(matches: &ArgMatches<'_>) -> Option<usize>
     ensures limits { IfSome result (λ capacity. (1 ≤ capacity) × (capacity ≤ MAX_CAPACITY)) }
     ensures value { IfSome result (λ capacity.
@@ -495,7 +495,7 @@ fn capacity_in(matches: &ArgMatches<'_>) -> Option<usize>
     }
 }
 
-// The number of stations that a command was given.
+// Returns the number of stations that a command was given.
 fn stations_in(matches: &ArgMatches<'_>) -> Option<u32>
     ensures limits { IfSome result (λ stations. (1 ≤ stations) × (stations ≤ MAX_STATIONS)) }
     ensures value { IfSome result (λ stations.
@@ -509,7 +509,7 @@ fn stations_in(matches: &ArgMatches<'_>) -> Option<u32>
     }
 }
 
-// Whether the line of progress is turned off.
+// Returns whether the line of progress is turned off.
 fn is_quiet_in(matches: &ArgMatches<'_>) -> Option<bool>
     ensures { IfSome result (λ is_quiet.
         HasFlag (rows_of (found_of matches.now)) (codes "quiet") is_quiet) }
@@ -517,7 +517,7 @@ fn is_quiet_in(matches: &ArgMatches<'_>) -> Option<bool>
     matches.get_one::<bool>("quiet")
 }
 
-// The options that a command that runs a shop was given, or their defaults.
+// Returns the options that a command that runs jobs was given, or their defaults.
 fn shop_in(matches: &ArgMatches<'_>) -> Option<ShopOptions>
     ensures limits { IfSome result (λ shop. AreShopSizes shop.sizes) }
     ensures options { IfSome result (λ shop.
@@ -532,7 +532,7 @@ fn shop_in(matches: &ArgMatches<'_>) -> Option<ShopOptions>
     Some(ShopOptions { sizes, is_quiet })
 }
 
-// The name of a file that a command was given by this argument, where it was given one.
+// Returns the name of the file that a command was given by this argument, if it was given one.
 fn file_in(
     alloc: Global,
     matches: &ArgMatches<'_>,
@@ -551,7 +551,7 @@ fn file_in(
     Ok(Some(name))
 }
 
-// The files that a command was given.
+// Returns the names of the files that a command was given.
 fn files_in(alloc: Global, matches: &ArgMatches<'_>) -> Option<FileNames>
     ensures { IfSome result (λ files. HasFileNames (rows_of (found_of matches.now)) files) }
 {
@@ -564,7 +564,7 @@ fn files_in(alloc: Global, matches: &ArgMatches<'_>) -> Option<FileNames>
     Some(FileNames { input, output })
 }
 
-// The request of a parsed command line, where there is memory for it.
+// Returns the request of a parsed command line, if there is memory for it.
 fn request_in(alloc: Global, matches: &ArgMatches<'_>) -> Option<Request>
     ensures limits { IfSome result (λ request. IsWithinLimits request.invocation) }
     ensures asked { IfSome result (λ request. (options : List Row)
@@ -598,10 +598,11 @@ fn request_in(alloc: Global, matches: &ArgMatches<'_>) -> Option<Request>
     Some(Request { invocation, files })
 }
 
-/// The request of a command line, whose first word is the program's name.
+/// Returns the request of a command line, whose first word is the program's name.
 ///
-/// An error is the help or the version, where they are asked for, a bad command line, or out of
-/// memory.
+/// # Errors
+///
+/// The help or the version was asked for, the command line is bad, or memory ran out.
 pub fn parse_args(alloc: Global, words: &[String]) -> Result<Request, Error>
     ensures limits { IfOk result (λ request. IsWithinLimits request.invocation) }
     ensures asked { IfOk result (λ request. AsksFor (map string_bytes words.now) request) }

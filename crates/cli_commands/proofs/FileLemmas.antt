@@ -1,4 +1,4 @@
--- What became of a request, with the files that it names.
+-- The result of a request, with the files that it names.
 use Rattle.std.proofs.Common.{◌≡◌, ℕ, Bool, true, false, List, Option, None, Some, Result, Ok, Err, IfErr, IfSome, OnOk, String, Global, is_some, option_map, string_bytes, refl, sym, ap, subst, ◌∙◌}
 use Rattle.clap.specs.Words.{Text}
 use Rattle.jobs_csv.specs.declared.fault.Fault.{Fault}
@@ -20,7 +20,10 @@ use Rattle.atomic_file.specs.declared.file_fault.FileSide.TheVariants.{Input, Ou
 -- ---- the names of files
 
 -- a file that is named
-pub a_name : (file : Option (String Global)) (name : String Global) (text : Text) → file ≡ Some name → text ≡ string_bytes name → option_map string_bytes file ≡ Some text
+pub a_name : (file : Option (String Global)) (name : String Global) (text : Text)
+    → file ≡ Some name
+    → text ≡ string_bytes name
+    → option_map string_bytes file ≡ Some text
 a_name file name text is same = ap (option_map string_bytes) is ∙ ap Some (sym same)
 
 -- no file is named
@@ -33,7 +36,9 @@ some_is_there x is = cc
 -- ---- the faults of a request
 
 -- a fault says nothing of what is written
-same_fault : (invocation : Invocation) (read old new begun held : Option (List ℕ)) (fault : Fault) → IfSome read (λ b. IsAnswerTo invocation b old new (Err fault)) → IfSome read (λ b. IsAnswerTo invocation b begun held (Err fault))
+same_fault : (invocation : Invocation) (read old new begun held : Option (List ℕ)) (fault : Fault)
+    → IfSome read (λ b. IsAnswerTo invocation b old new (Err fault))
+    → IfSome read (λ b. IsAnswerTo invocation b begun held (Err fault))
 same_fault invocation None old new begun held fault is = tt
 same_fault (Run shop) (Some b) old new begun held fault is = is
 same_fault (Report shop) (Some b) old new begun held fault is = is
@@ -41,7 +46,10 @@ same_fault (Place n) (Some b) old new begun held fault is = is
 same_fault (Replay n stations) (Some b) old new begun held fault is = is
 
 -- the counts are those of the file that is read, not the reader's
-of_file : (name : Text) (output : Option Text) (file_before file_after rb ra wb wa : ℕ) (invocation : Invocation) (result : Result (Unit {0}) CommandError) → IfErr result (λ s. IfFault s (IsFaultIn file_before file_after wb wa None output invocation)) → IfErr result (λ s. IfFault s (IsFaultIn rb ra wb wa (Some name) output invocation))
+of_file : (name : Text) (output : Option Text) (file_before file_after rb ra wb wa : ℕ)
+    (invocation : Invocation) (result : Result (Unit {0}) CommandError)
+    → IfErr result (λ s. IfFault s (IsFaultIn file_before file_after wb wa None output invocation))
+    → IfErr result (λ s. IfFault s (IsFaultIn rb ra wb wa (Some name) output invocation))
 of_file name output file_before file_after rb ra wb wa invocation (Ok done) is = tt
 of_file name output file_before file_after rb ra wb wa invocation (Err (error.File fault)) is = tt
 of_file name output file_before file_after rb ra wb wa invocation (Err (error.Fault fault)) is = record {
@@ -52,25 +60,37 @@ of_file name output file_before file_after rb ra wb wa invocation (Err (error.Fa
   is = is.is;
 }
 
-names_more : (name : Text) (output : Option Text) (side : FileSide) → names None output side ≡ true → names (Some name) output side ≡ true
+names_more : (name : Text) (output : Option Text) (side : FileSide)
+    → names None output side ≡ true
+    → names (Some name) output side ≡ true
 names_more name output Input is = refl
 names_more name output Output is = is
 
-still_named : (name : Text) (output : Option Text) (result : Result (Unit {0}) CommandError) → IfErr result (λ s. IfFile s (λ file. names None output file.side ≡ true)) → IfErr result (λ s. IfFile s (λ file. names (Some name) output file.side ≡ true))
+still_named : (name : Text) (output : Option Text) (result : Result (Unit {0}) CommandError)
+    → IfErr result (λ s. IfFile s (λ file. names None output file.side ≡ true))
+    → IfErr result (λ s. IfFile s (λ file. names (Some name) output file.side ≡ true))
 still_named name output (Ok done) is = tt
 still_named name output (Err (error.Fault fault)) is = tt
 still_named name output (Err (error.File fault)) is = names_more name output fault.side is
 
--- each file is as it was, so each other one is
-none_changed : (output : Option Text) (old new : List ℕ → Option (List ℕ)) → KeepsFiles old new → KeepsOthers output old new
+-- if no file changed, no other file changed
+none_changed : (output : Option Text) (old new : List ℕ → Option (List ℕ))
+    → KeepsFiles old new
+    → KeepsOthers output old new
 none_changed None old new kept = kept
 none_changed (Some name) old new kept = λ file differs. kept file
 
 -- ---- a request whose output is a file
 
-module _ (fresh : Option (List ℕ)) (store_old store_new : List ℕ → Option (List ℕ)) (read writer_old writer_new : Option (List ℕ)) (rb ra wb wa : ℕ) (name : Text) (invocation : Invocation) where
-  -- no draft could be begun
-  pub not_begun : (fault : FileFault) → fault.side ≡ Output → KeepsFiles store_old store_new → IsOutcome fresh store_old store_new read writer_old writer_new rb ra wb wa None (Some name) invocation (Err (error.File fault))
+module _ (fresh : Option (List ℕ)) (store_old store_new : List ℕ → Option (List ℕ))
+    (read writer_old writer_new : Option (List ℕ)) (rb ra wb wa : ℕ) (name : Text)
+    (invocation : Invocation) where
+  -- no temporary file could be begun
+  pub not_begun : (fault : FileFault)
+      → fault.side ≡ Output
+      → KeepsFiles store_old store_new
+      → IsOutcome fresh store_old store_new read writer_old writer_new rb ra wb wa None (Some name)
+      invocation (Err (error.File fault))
   not_begun fault side kept = record {
     answered = tt;
     failed = tt;
@@ -79,11 +99,17 @@ module _ (fresh : Option (List ℕ)) (store_old store_new : List ℕ → Option 
     kept = kept;
   }
 
-  module _ (store_between : List ℕ → Option (List ℕ)) (begun : KeepsFiles store_old store_between) where
-    -- the request failed, and the draft was thrown away
-    pub thrown_away : (draft_old draft_new : Option (List ℕ)) (before after : ℕ) (fault : Fault) → IfSome read (λ b. IsAnswerTo invocation b draft_old draft_new (Err fault)) → IsFaultOf rb ra before after invocation fault → KeepsFiles store_between store_new → IsOutcome fresh store_old store_new read writer_old writer_new rb ra wb wa None (Some name) invocation (Err (error.Fault fault))
-    thrown_away draft_old draft_new before after fault answered is kept = record {
-      answered = same_fault invocation read draft_old draft_new fresh (store_new name) fault answered;
+  module _ (store_between : List ℕ → Option (List ℕ))
+      (begun : KeepsFiles store_old store_between) where
+    -- the request failed, and the temporary file was discarded
+    pub thrown_away : (temp_old temp_new : Option (List ℕ)) (before after : ℕ) (fault : Fault)
+        → IfSome read (λ b. IsAnswerTo invocation b temp_old temp_new (Err fault))
+        → IsFaultOf rb ra before after invocation fault
+        → KeepsFiles store_between store_new
+        → IsOutcome fresh store_old store_new read writer_old writer_new rb ra wb wa None
+        (Some name) invocation (Err (error.Fault fault))
+    thrown_away temp_old temp_new before after fault answered is kept = record {
+      answered = same_fault invocation read temp_old temp_new fresh (store_new name) fault answered;
       failed = record {
         reads = (rb, ra);
         writes = (before, after);
@@ -96,33 +122,54 @@ module _ (fresh : Option (List ℕ)) (store_old store_new : List ℕ → Option 
       kept = λ file. kept file ∙ begun file;
     }
 
-    -- the request was done, and the draft could not be put in the file's place
-    pub not_put : (fault : FileFault) → fault.side ≡ Output → KeepsFiles store_between store_new → IsOutcome fresh store_old store_new read writer_old writer_new rb ra wb wa None (Some name) invocation (Err (error.File fault))
+    -- the request was done, but the temporary file could not replace the file
+    pub not_put : (fault : FileFault)
+        → fault.side ≡ Output
+        → KeepsFiles store_between store_new
+        → IsOutcome fresh store_old store_new read writer_old writer_new rb ra wb wa None
+        (Some name) invocation (Err (error.File fault))
     not_put fault side kept = not_begun fault side (λ file. kept file ∙ begun file)
 
-    -- the request was done, and the draft is the file
-    pub put_there : (draft_old draft_new : Option (List ℕ)) → draft_old ≡ fresh → store_new name ≡ draft_new → IfSome read (λ b. IsAnswerTo invocation b draft_old draft_new (Ok tt)) → KeepsOthers (Some name) store_between store_new → IsOutcome fresh store_old store_new read writer_old writer_new rb ra wb wa None (Some name) invocation (Ok tt)
-    put_there draft_old draft_new is_fresh is_put answered others = record {
+    -- the request was done, and the temporary file replaced the file
+    pub put_there : (temp_old temp_new : Option (List ℕ))
+        → temp_old ≡ fresh
+        → store_new name ≡ temp_new
+        → IfSome read (λ b. IsAnswerTo invocation b temp_old temp_new (Ok tt))
+        → KeepsOthers (Some name) store_between store_new
+        → IsOutcome fresh store_old store_new read writer_old writer_new rb ra wb wa None
+        (Some name) invocation (Ok tt)
+    put_there temp_old temp_new is_fresh is_put answered others = record {
       answered = subst (λ (held : Option (List ℕ)). IfSome read (λ b. IsAnswerTo invocation b fresh held (Ok tt))) (sym is_put)
-          (subst (λ (begins : Option (List ℕ)). IfSome read (λ b. IsAnswerTo invocation b begins draft_new (Ok tt))) is_fresh answered);
+          (subst (λ (begins : Option (List ℕ)). IfSome read (λ b. IsAnswerTo invocation b begins temp_new (Ok tt))) is_fresh answered);
       failed = tt;
       side = tt;
       others = λ file differs. others file differs ∙ begun file;
       kept = tt;
     }
 
-    -- the draft was put there or thrown away, by the answer of the command
-    pub settled : (draft_old draft_new : Option (List ℕ)) (before after : ℕ) (answer : Result (Unit {0}) Fault) (result : Result (Unit {0}) CommandError) → draft_old ≡ fresh → IfSome read (λ b. IsAnswerTo invocation b draft_old draft_new answer) → IfErr answer (IsFaultOf rb ra before after invocation) → IsSettled draft_new store_between store_new name answer result → IsOutcome fresh store_old store_new read writer_old writer_new rb ra wb wa None (Some name) invocation result
-    settled draft_old draft_new before after (Err fault) result is_fresh answered failed (is, kept) = subst (IsOutcome fresh store_old store_new read writer_old writer_new rb ra wb wa None (Some name) invocation) (sym is) (thrown_away draft_old draft_new before after fault answered failed kept)
-    settled draft_old draft_new before after (Ok done) (Ok put) is_fresh answered failed (is_put, others) = put_there draft_old draft_new is_fresh is_put answered others
-    settled draft_old draft_new before after (Ok done) (Err (error.Fault fault)) is_fresh answered failed is = absurd is
-    settled draft_old draft_new before after (Ok done) (Err (error.File fault)) is_fresh answered failed (side, kept) = not_put fault side kept
+    -- the temporary file replaced the file or was discarded, by the answer of the command
+    pub settled : (temp_old temp_new : Option (List ℕ)) (before after : ℕ)
+        (answer : Result (Unit {0}) Fault) (result : Result (Unit {0}) CommandError)
+        → temp_old ≡ fresh
+        → IfSome read (λ b. IsAnswerTo invocation b temp_old temp_new answer)
+        → IfErr answer (IsFaultOf rb ra before after invocation)
+        → IsSettled temp_new store_between store_new name answer result
+        → IsOutcome fresh store_old store_new read writer_old writer_new rb ra wb wa None
+        (Some name) invocation result
+    settled temp_old temp_new before after (Err fault) result is_fresh answered failed (is, kept) = subst (IsOutcome fresh store_old store_new read writer_old writer_new rb ra wb wa None (Some name) invocation) (sym is) (thrown_away temp_old temp_new before after fault answered failed kept)
+    settled temp_old temp_new before after (Ok done) (Ok put) is_fresh answered failed (is_put, others) = put_there temp_old temp_new is_fresh is_put answered others
+    settled temp_old temp_new before after (Ok done) (Err (error.Fault fault)) is_fresh answered failed is = absurd is
+    settled temp_old temp_new before after (Ok done) (Err (error.File fault)) is_fresh answered failed (side, kept) = not_put fault side kept
 
 -- ---- a request whose output is a file or the writer
 
-module _ (fresh : Option (List ℕ)) (store : List ℕ → Option (List ℕ)) (read writer_old writer_new : Option (List ℕ)) (rb ra wb wa : ℕ) (output : Option Text) (none : output ≡ None) (invocation : Invocation) where
+module _ (fresh : Option (List ℕ)) (store : List ℕ → Option (List ℕ))
+    (read writer_old writer_new : Option (List ℕ)) (rb ra wb wa : ℕ) (output : Option Text)
+    (none : output ≡ None) (invocation : Invocation) where
   -- the request was done
-  pub to_writer : IfSome read (λ b. IsAnswerTo invocation b writer_old writer_new (Ok tt)) → IsOutcome fresh store store read writer_old writer_new rb ra wb wa None output invocation (Ok tt)
+  pub to_writer : IfSome read (λ b. IsAnswerTo invocation b writer_old writer_new (Ok tt))
+      → IsOutcome fresh store store read writer_old writer_new rb ra wb wa None output invocation
+      (Ok tt)
   to_writer answered = subst (λ (o : Option Text). IsOutcome fresh store store read writer_old writer_new rb ra wb wa None o invocation (Ok tt)) (sym none) (record {
     answered = answered;
     failed = tt;
@@ -132,7 +179,11 @@ module _ (fresh : Option (List ℕ)) (store : List ℕ → Option (List ℕ)) (r
   })
 
   -- it failed
-  pub not_to_writer : (fault : Fault) → IfSome read (λ b. IsAnswerTo invocation b writer_old writer_new (Err fault)) → IsFaultOf rb ra wb wa invocation fault → IsOutcome fresh store store read writer_old writer_new rb ra wb wa None output invocation (Err (error.Fault fault))
+  pub not_to_writer : (fault : Fault)
+      → IfSome read (λ b. IsAnswerTo invocation b writer_old writer_new (Err fault))
+      → IsFaultOf rb ra wb wa invocation fault
+      → IsOutcome fresh store store read writer_old writer_new rb ra wb wa None output invocation
+      (Err (error.Fault fault))
   not_to_writer fault answered is = subst (λ (o : Option Text). IsOutcome fresh store store read writer_old writer_new rb ra wb wa None o invocation (Err (error.Fault fault))) (sym none) (record {
     answered = answered;
     failed = record {
@@ -147,22 +198,47 @@ module _ (fresh : Option (List ℕ)) (store : List ℕ → Option (List ℕ)) (r
     kept = λ file. refl;
   })
 
-  -- whichever it was
-  pub by_writer : (answer : Result (Unit {0}) Fault) (result : Result (Unit {0}) CommandError) → OnOk answer (result ≡ Ok tt) → IfErr answer (λ fault. result ≡ Err (error.Fault fault)) → IfSome read (λ b. IsAnswerTo invocation b writer_old writer_new answer) → IfErr answer (IsFaultOf rb ra wb wa invocation) → IsOutcome fresh store store read writer_old writer_new rb ra wb wa None output invocation result
+  -- the request was done or failed
+  pub by_writer : (answer : Result (Unit {0}) Fault) (result : Result (Unit {0}) CommandError)
+      → OnOk answer (result ≡ Ok tt)
+      → IfErr answer (λ fault. result ≡ Err (error.Fault fault))
+      → IfSome read (λ b. IsAnswerTo invocation b writer_old writer_new answer)
+      → IfErr answer (IsFaultOf rb ra wb wa invocation)
+      → IsOutcome fresh store store read writer_old writer_new rb ra wb wa None output invocation
+      result
   by_writer (Ok done) result is none answered failed = subst (IsOutcome fresh store store read writer_old writer_new rb ra wb wa None output invocation) (sym is) (to_writer answered)
   by_writer (Err fault) result none is answered failed = subst (IsOutcome fresh store store read writer_old writer_new rb ra wb wa None output invocation) (sym is) (not_to_writer fault answered failed)
 
-module _ (fresh : Option (List ℕ)) (store_old store_new : List ℕ → Option (List ℕ)) (read writer_old writer_new : Option (List ℕ)) (rb ra wb wa : ℕ) (invocation : Invocation) (result : Result (Unit {0}) CommandError) where
+module _ (fresh : Option (List ℕ)) (store_old store_new : List ℕ → Option (List ℕ))
+    (read writer_old writer_new : Option (List ℕ)) (rb ra wb wa : ℕ) (invocation : Invocation)
+    (result : Result (Unit {0}) CommandError) where
   -- the output is the file of this name
-  pub to_file : (output : Option Text) (name : Text) → output ≡ Some name → IsOutcome fresh store_old store_new read writer_old writer_new rb ra wb wa None (Some name) invocation result → IsOutcome fresh store_old store_new read writer_old writer_new rb ra wb wa None output invocation result
+  pub to_file : (output : Option Text) (name : Text)
+      → output ≡ Some name
+      → IsOutcome fresh store_old store_new read writer_old writer_new rb ra wb wa None (Some name)
+      invocation result
+      → IsOutcome fresh store_old store_new read writer_old writer_new rb ra wb wa None output
+      invocation result
   to_file output name is outcome = subst (λ (o : Option Text). IsOutcome fresh store_old store_new read writer_old writer_new rb ra wb wa None o invocation result) (sym is) outcome
 
   -- the input is the reader
-  pub from_reader : (input output : Option Text) → input ≡ None → IsOutcome fresh store_old store_new read writer_old writer_new rb ra wb wa None output invocation result → IsOutcome fresh store_old store_new (held_by store_old read input) writer_old writer_new rb ra wb wa input output invocation result
+  pub from_reader : (input output : Option Text)
+      → input ≡ None
+      → IsOutcome fresh store_old store_new read writer_old writer_new rb ra wb wa None output
+      invocation result
+      → IsOutcome fresh store_old store_new (held_by store_old read input) writer_old writer_new rb
+      ra wb wa input output invocation result
   from_reader input output is outcome = subst (λ (i : Option Text). IsOutcome fresh store_old store_new (held_by store_old read i) writer_old writer_new rb ra wb wa i output invocation result) (sym is) outcome
 
   -- the input is the file of this name
-  pub from_file : (input output : Option Text) (name : Text) (file : Option (List ℕ)) (before after : ℕ) → input ≡ Some name → file ≡ store_old name → IsOutcome fresh store_old store_new file writer_old writer_new before after wb wa None output invocation result → IsOutcome fresh store_old store_new (held_by store_old read input) writer_old writer_new rb ra wb wa input output invocation result
+  pub from_file : (input output : Option Text) (name : Text) (file : Option (List ℕ))
+      (before after : ℕ)
+      → input ≡ Some name
+      → file ≡ store_old name
+      → IsOutcome fresh store_old store_new file writer_old writer_new before after wb wa None
+      output invocation result
+      → IsOutcome fresh store_old store_new (held_by store_old read input) writer_old writer_new rb
+      ra wb wa input output invocation result
   from_file input output name file before after is held outcome = subst (λ (i : Option Text). IsOutcome fresh store_old store_new (held_by store_old read i) writer_old writer_new rb ra wb wa i output invocation result) (sym is) (record {
     answered = subst (λ (r : Option (List ℕ)). EndsIn invocation r (begun_by fresh writer_old output) (held_by store_new writer_new output) result) held outcome.answered;
     failed = of_file name output before after rb ra wb wa invocation result outcome.failed;
@@ -172,7 +248,13 @@ module _ (fresh : Option (List ℕ)) (store_old store_new : List ℕ → Option 
   })
 
 -- the file that is to be read could not be opened
-pub not_opened : (fresh : Option (List ℕ)) (store : List ℕ → Option (List ℕ)) (read writer_old writer_new : Option (List ℕ)) (rb ra wb wa : ℕ) (input output : Option Text) (name : Text) (invocation : Invocation) (fault : FileFault) → input ≡ Some name → fault.side ≡ Input → IsOutcome fresh store store read writer_old writer_new rb ra wb wa input output invocation (Err (error.File fault))
+pub not_opened : (fresh : Option (List ℕ)) (store : List ℕ → Option (List ℕ))
+    (read writer_old writer_new : Option (List ℕ)) (rb ra wb wa : ℕ) (input output : Option Text)
+    (name : Text) (invocation : Invocation) (fault : FileFault)
+    → input ≡ Some name
+    → fault.side ≡ Input
+    → IsOutcome fresh store store read writer_old writer_new rb ra wb wa input output invocation
+    (Err (error.File fault))
 not_opened fresh store read writer_old writer_new rb ra wb wa input output name invocation fault is side = subst (λ (i : Option Text). IsOutcome fresh store store read writer_old writer_new rb ra wb wa i output invocation (Err (error.File fault))) (sym is) (record {
   answered = tt;
   failed = tt;
@@ -184,13 +266,25 @@ not_opened fresh store read writer_old writer_new rb ra wb wa input output name 
 -- ---- how a call ends after it
 
 -- by the result of its request, which is reported
-pub ended : (fresh : Option (List ℕ)) (store_old store_new : List ℕ → Option (List ℕ)) (read writer_old writer_new : Option (List ℕ)) (rb ra wb wa : ℕ) (input output : Option Text) (invocation : Invocation) (result : Result (Unit {0}) CommandError) (end : Ending) → EndsWith result end → IsOutcome fresh store_old store_new read writer_old writer_new rb ra wb wa input output invocation result → EndsAfter invocation read (begun_by fresh writer_old output) (held_by store_new writer_new output) (IsFaultIn rb ra wb wa input output invocation) (names input output) end
+pub ended : (fresh : Option (List ℕ)) (store_old store_new : List ℕ → Option (List ℕ))
+    (read writer_old writer_new : Option (List ℕ)) (rb ra wb wa : ℕ) (input output : Option Text)
+    (invocation : Invocation) (result : Result (Unit {0}) CommandError) (end : Ending)
+    → EndsWith result end
+    → IsOutcome fresh store_old store_new read writer_old writer_new rb ra wb wa input output
+    invocation result
+    → EndsAfter invocation read (begun_by fresh writer_old output)
+    (held_by store_new writer_new output) (IsFaultIn rb ra wb wa input output invocation)
+    (names input output) end
 ended fresh store_old store_new read writer_old writer_new rb ra wb wa input output invocation (Ok done) end is outcome = subst (EndsAfter invocation read (begun_by fresh writer_old output) (held_by store_new writer_new output) (IsFaultIn rb ra wb wa input output invocation) (names input output)) (sym is) outcome.answered
 ended fresh store_old store_new read writer_old writer_new rb ra wb wa input output invocation (Err (error.Fault fault)) end (is_reported, is) outcome = subst (EndsAfter invocation read (begun_by fresh writer_old output) (held_by store_new writer_new output) (IsFaultIn rb ra wb wa input output invocation) (names input output)) (sym is) (outcome.answered, outcome.failed)
 ended fresh store_old store_new read writer_old writer_new rb ra wb wa input output invocation (Err (error.File fault)) end (is_reported, is) outcome = subst (EndsAfter invocation read (begun_by fresh writer_old output) (held_by store_new writer_new output) (IsFaultIn rb ra wb wa input output invocation) (names input output)) (sym is) outcome.side
 
--- and where it ends before it writes, so does its request
-pub ended_before : (P : Type 0) (result : Result (Unit {0}) CommandError) (end : Ending) → EndsWith result end → IfErr result (λ s. StopsBeforeWriting s → P) → EndsBeforeWriting end → P
+-- and if the call ends before it writes, so does its request
+pub ended_before : (P : Type 0) (result : Result (Unit {0}) CommandError) (end : Ending)
+    → EndsWith result end
+    → IfErr result (λ s. StopsBeforeWriting s → P)
+    → EndsBeforeWriting end
+    → P
 ended_before P (Ok done) end is stops before = absurd (subst EndsBeforeWriting is before)
 ended_before P (Err (error.Fault fault)) end (is_reported, is) stops before = stops (subst EndsBeforeWriting is before)
 ended_before P (Err (error.File fault)) end (is_reported, is) stops before = stops tt

@@ -15,13 +15,17 @@ use Rattle.cli_commands.specs.OpenLanes.{AreOpenLanes}
 -- ---- one job more in front
 
 -- it is in its own lane
-pub lane_front : (lane : ℕ) (job : JobData) (jobs : List JobData) → job.lane ≡ lane → in_lane lane (job ∷ jobs) ≡ job ∷ in_lane lane jobs
+pub lane_front : (lane : ℕ) (job : JobData) (jobs : List JobData)
+    → job.lane ≡ lane
+    → in_lane lane (job ∷ jobs) ≡ job ∷ in_lane lane jobs
 lane_front lane job jobs same =
     let here : (job.lane == lane) ≡ true = grind (arith, nat_tests) in
     ap (λ (b : Bool). if b then job ∷ in_lane lane jobs else in_lane lane jobs) here
 
 -- and in no other
-pub other_front : (lane : ℕ) (job : JobData) (jobs : List JobData) → lane ≢ job.lane → in_lane lane (job ∷ jobs) ≡ in_lane lane jobs
+pub other_front : (lane : ℕ) (job : JobData) (jobs : List JobData)
+    → lane ≢ job.lane
+    → in_lane lane (job ∷ jobs) ≡ in_lane lane jobs
 other_front lane job jobs other =
     let apart : (job.lane == lane) ≡ false = grind (arith, nat_tests) in
     ap (λ (b : Bool). if b then job ∷ in_lane lane jobs else in_lane lane jobs) apart
@@ -31,15 +35,21 @@ other_front lane job jobs other =
 cons_is_empty : (job : JobData) (jobs : List JobData) → job ∷ jobs ≡ [] → ⊥
 cons_is_empty job jobs e = let bad : suc (length jobs) ≡ 0 = ap length e in absurd (omega (arith, bad))
 
--- no job is in a lane that is past those of all jobs
-pub past_all : (fewer lane : ℕ) (jobs : List JobData) → fewer ≤ lane → All (λ job. job.lane < fewer) jobs → in_lane lane jobs ≡ []
+-- a lane past those of all jobs has no job
+pub past_all : (fewer lane : ℕ) (jobs : List JobData)
+    → fewer ≤ lane
+    → All (λ job. job.lane < fewer) jobs
+    → in_lane lane jobs ≡ []
 past_all fewer lane [] le below = refl
 past_all fewer lane (job ∷ jobs) le below =
     let first : job.lane < fewer = below 0 job (omega arith) in
     other_front lane job jobs (λ same. absurd (omega (arith, first, le, same))) ∙ past_all fewer lane jobs le (λ k d lt. below (suc k) d (omega (arith, lt)))
 
--- where the lanes from a count on have no job, all jobs are in those below it
-below_count : (count : ℕ) (jobs : List JobData) → ((lane : ℕ) → count ≤ lane → lane < MAX_LANES → in_lane lane jobs ≡ []) → All (λ job. job.lane < MAX_LANES) jobs → All (λ job. job.lane < count) jobs
+-- if the lanes from a count on have no job, all jobs are in lanes below it
+below_count : (count : ℕ) (jobs : List JobData)
+    → ((lane : ℕ) → count ≤ lane → lane < MAX_LANES → in_lane lane jobs ≡ [])
+    → All (λ job. job.lane < MAX_LANES) jobs
+    → All (λ job. job.lane < count) jobs
 below_count count [] none below = λ k d lt. absurd (omega (arith, lt))
 below_count count (job ∷ jobs) none below =
     All-cons (λ (j : JobData). j.lane < count) job jobs first (below_count count jobs later (λ k d lt. below (suc k) d (omega (arith, lt))))
@@ -55,16 +65,20 @@ below_count count (job ∷ jobs) none below =
 
 -- ---- the open lanes
 
-module _ (lanes : List (VecDeque JobData Global)) (count : ℕ) (jobs : List JobData) (none : VecDeque JobData Global) (are : AreLanes lanes jobs) where
+module _ (lanes : List (VecDeque JobData Global)) (count : ℕ) (jobs : List JobData)
+    (none : VecDeque JobData Global) (are : AreLanes lanes jobs) where
   lists : List (List JobData)
   lists = map (λ lane. lane.items) (take count lanes)
 
-  -- there are as many lists
+  -- there are as many lists as the count
   listed : count ≤ length lanes → length lists ≡ count
   unfolding lists
   listed le = length-map (take count lanes) (λ (lane : VecDeque JobData Global). lane.items) ∙ length-take-le count lanes le
 
-  same_lane : count ≤ length lanes → (lane : ℕ) → lane < count → slice_index_or lists lane [] ≡ in_lane lane jobs
+  same_lane : count ≤ length lanes
+      → (lane : ℕ)
+      → lane < count
+      → slice_index_or lists lane [] ≡ in_lane lane jobs
   unfolding lists
   same_lane le lane lt =
       let within : lane < length (take count lanes) = omega (arith, lt, length-take-le count lanes le) in
@@ -72,7 +86,13 @@ module _ (lanes : List (VecDeque JobData Global)) (count : ℕ) (jobs : List Job
       ∙ ap (λ (l : VecDeque JobData Global). l.items) (get_or-take count lanes lane none lt)
       ∙ are.each lane none (omega (arith, lt, le, are.count))
 
-  lane_count_is : 1 ≤ count → count ≤ length lanes → ((lane : ℕ) (d : VecDeque JobData Global) → count ≤ lane → lane < length lanes → (slice_index_or lanes lane d).items ≡ []) → (count ≡ 1) ⊎ ((d : VecDeque JobData Global) → (slice_index_or lanes (count - 1) d).items ≢ []) → IsLaneCount jobs count
+  lane_count_is : 1 ≤ count
+      → count ≤ length lanes
+      → ((lane : ℕ) (d : VecDeque JobData Global) → count ≤ lane → lane < length lanes
+      → (slice_index_or lanes lane d).items ≡ [])
+      → (count ≡ 1) ⊎ ((d : VecDeque JobData Global)
+      → (slice_index_or lanes (count - 1) d).items ≢ [])
+      → IsLaneCount jobs count
   lane_count_is some le past last = record {
     some = some;
     all = below_count count jobs (λ lane from lt. sym (are.each lane none lt) ∙ past lane none from (omega (arith, lt, are.count))) are.below;
@@ -89,30 +109,58 @@ module _ (lanes : List (VecDeque JobData Global)) (count : ℕ) (jobs : List Job
       ]
 
   -- the lists of the first lanes are the open ones
-  opened_by : 1 ≤ count → count ≤ length lanes → ((lane : ℕ) (d : VecDeque JobData Global) → count ≤ lane → lane < length lanes → (slice_index_or lanes lane d).items ≡ []) → (count ≡ 1) ⊎ ((d : VecDeque JobData Global) → (slice_index_or lanes (count - 1) d).items ≢ []) → AreOpenLanes lists jobs
+  opened_by : 1 ≤ count
+      → count ≤ length lanes
+      → ((lane : ℕ) (d : VecDeque JobData Global) → count ≤ lane → lane < length lanes
+      → (slice_index_or lanes lane d).items ≡ [])
+      → (count ≡ 1) ⊎ ((d : VecDeque JobData Global)
+      → (slice_index_or lanes (count - 1) d).items ≢ [])
+      → AreOpenLanes lists jobs
   opened_by some le past last = record {
     count = subst (IsLaneCount jobs) (sym (listed le)) (lane_count_is some le past last);
     each = λ lane lt. same_lane le lane (subst (λ (all : ℕ). lane < all) (listed le) lt);
   }
 
-pub opened : (lanes : List (VecDeque JobData Global)) (count : ℕ) (jobs : List JobData) → AreLanes lanes jobs → 1 ≤ count → count ≤ length lanes → ((lane : ℕ) (d : VecDeque JobData Global) → count ≤ lane → lane < length lanes → (slice_index_or lanes lane d).items ≡ []) → (count ≡ 1) ⊎ ((d : VecDeque JobData Global) → (slice_index_or lanes (count - 1) d).items ≢ []) → AreOpenLanes (map (λ lane. lane.items) (take count lanes)) jobs
+pub opened : (lanes : List (VecDeque JobData Global)) (count : ℕ) (jobs : List JobData)
+    → AreLanes lanes jobs
+    → 1 ≤ count
+    → count ≤ length lanes
+    → ((lane : ℕ) (d : VecDeque JobData Global) → count ≤ lane → lane < length lanes
+    → (slice_index_or lanes lane d).items ≡ [])
+    → (count ≡ 1) ⊎ ((d : VecDeque JobData Global)
+    → (slice_index_or lanes (count - 1) d).items ≢ [])
+    → AreOpenLanes (map (λ lane. lane.items) (take count lanes)) jobs
 unfolding lists
 opened [] count jobs are some le past last = absurd (omega (arith, some, le))
 opened (first ∷ rest) count jobs are some le past last = opened_by (first ∷ rest) count jobs first are some le past last
 
 -- the same, of lanes that are seen through a reference
-pub opened_at : (seen lanes : List (VecDeque JobData Global)) (count : ℕ) (jobs : List JobData) → seen ≡ lanes → AreLanes lanes jobs → 1 ≤ count → count ≤ length seen → ((lane : ℕ) (d : VecDeque JobData Global) → count ≤ lane → lane < length seen → (slice_index_or seen lane d).items ≡ []) → (count ≡ 1) ⊎ ((d : VecDeque JobData Global) → (slice_index_or seen (count - 1) d).items ≢ []) → AreOpenLanes (map (λ lane. lane.items) (take count lanes)) jobs
+pub opened_at : (seen lanes : List (VecDeque JobData Global)) (count : ℕ) (jobs : List JobData)
+    → seen ≡ lanes
+    → AreLanes lanes jobs
+    → 1 ≤ count
+    → count ≤ length seen
+    → ((lane : ℕ) (d : VecDeque JobData Global) → count ≤ lane → lane < length seen
+    → (slice_index_or seen lane d).items ≡ [])
+    → (count ≡ 1) ⊎ ((d : VecDeque JobData Global) → (slice_index_or seen (count - 1) d).items ≢ [])
+    → AreOpenLanes (map (λ lane. lane.items) (take count lanes)) jobs
 opened_at seen lanes count jobs same are some le past last =
     subst (λ (ls : List (VecDeque JobData Global)). AreOpenLanes (map (λ lane. lane.items) (take count ls)) jobs) same (opened seen count jobs (subst (λ (ls : List (VecDeque JobData Global)). AreLanes ls jobs) (sym same) are) some le past last)
 
 -- ---- what the open lanes hold
 
 -- there are no more of them than there may be
-pub few_lanes : (lanes : List (VecDeque JobData Global)) (lists : List (List JobData)) (jobs : List JobData) → AreLanes lanes jobs → AreOpenLanes lists jobs → length lists ≤ MAX_LANES
+pub few_lanes : (lanes : List (VecDeque JobData Global)) (lists : List (List JobData))
+    (jobs : List JobData)
+    → AreLanes lanes jobs
+    → AreOpenLanes lists jobs
+    → length lists ≤ MAX_LANES
 few_lanes lanes lists jobs are opens = opens.count.least MAX_LANES (omega arith) are.below
 
 -- the jobs of a lane are for that lane
-for_lane : (n lane : ℕ) (jobs : List JobData) → All (λ job. job.machine ≡ n) jobs → All (IsFor n lane) (in_lane lane jobs)
+for_lane : (n lane : ℕ) (jobs : List JobData)
+    → All (λ job. job.machine ≡ n) jobs
+    → All (IsFor n lane) (in_lane lane jobs)
 for_lane n lane [] all = λ k d within. absurd (omega (arith, within))
 for_lane n lane (job ∷ jobs) all =
     let later : All (IsFor n lane) (in_lane lane jobs) = for_lane n lane jobs (λ k d lt. all (suc k) d (omega (arith, lt))) in
@@ -121,5 +169,10 @@ for_lane n lane (job ∷ jobs) all =
       | inr other ↦ subst (All (IsFor n lane)) (sym (other_front lane job jobs other)) later
     ]
 
-pub made_for : (n : ℕ) (lists : List (List JobData)) (jobs : List JobData) → AreOpenLanes lists jobs → All (λ job. job.machine ≡ n) jobs → (lane : ℕ) → lane < length lists → All (IsFor n lane) (slice_index_or lists lane [])
+pub made_for : (n : ℕ) (lists : List (List JobData)) (jobs : List JobData)
+    → AreOpenLanes lists jobs
+    → All (λ job. job.machine ≡ n) jobs
+    → (lane : ℕ)
+    → lane < length lists
+    → All (IsFor n lane) (slice_index_or lists lane [])
 made_for n held jobs opens all lane lt = subst (All (IsFor n lane)) (sym (opens.each lane lt)) (for_lane n lane jobs all)

@@ -14,19 +14,32 @@ use Rattle.cli_commands.specs.Inner.Ending.{EndsAfter, EndsOn, IsShown}
 use Rattle.cli_commands.specs.Program.{AsksForInput, AsksForOutput, AsksForProgress, EndsBeforeWriting, EndsBy, MayWrite, ShowsProgress, input_of, names, output_of}
 
 -- a request that the words ask for, carried out
-pub carried_out : (words : List Text) (request : Request) (read old new : Option Text → Option (List ℕ)) (may_fail : Option Text → Option Text → Invocation → Fault → Type 0) (ending : Ending) → AsksFor words request → EndsAfter request.invocation (read (input_of request)) (old (output_of request)) (new (output_of request)) (may_fail (input_of request) (output_of request) request.invocation) (names (input_of request) (output_of request)) ending → EndsBy words read old new may_fail ending
+pub carried_out : (words : List Text) (request : Request)
+    (read old new : Option Text → Option (List ℕ))
+    (may_fail : Option Text → Option Text → Invocation → Fault → Type 0) (ending : Ending)
+    → AsksFor words request
+    → EndsAfter request.invocation (read (input_of request)) (old (output_of request))
+    (new (output_of request)) (may_fail (input_of request) (output_of request)
+    request.invocation) (names (input_of request) (output_of request)) ending
+    → EndsBy words read old new may_fail ending
 carried_out words request read old new may_fail Done asks is = inl (request, asks, is)
 carried_out words request read old new may_fail Rejected asks is = absurd is
 carried_out words request read old new may_fail (Failed fault is_reported) asks is = inl (request, asks, is.0, is.1)
 carried_out words request read old new may_fail (FileFailed fault is_reported) asks is = (request, asks, is)
 
--- a request writes the file that it names at most
-pub may_write : (words : List Text) (request : Request) (name : Option Text) → AsksFor words request → output_of request ≡ name → MayWrite words name
+-- a request writes at most the file that it names
+pub may_write : (words : List Text) (request : Request) (name : Option Text)
+    → AsksFor words request
+    → output_of request ≡ name
+    → MayWrite words name
 may_write words request None asks is = tt
 may_write words request (Some name) asks is = (request, asks, is)
 
 -- a request may show a line of progress
-pub shows : {A : Type 0} (words : List Text) (request : Request) → AsksFor words request → A ⊎ ShowsProgress request.invocation → A ⊎ AsksForProgress words
+pub shows : {A : Type 0} (words : List Text) (request : Request)
+    → AsksFor words request
+    → A ⊎ ShowsProgress request.invocation
+    → A ⊎ AsksForProgress words
 shows words request asks (inl same) = inl same
 shows words request asks (inr is) = inr (request, asks, is)
 
@@ -36,15 +49,23 @@ no_help kind memory help = cc
 no_version : (kind : ErrorKind) → kind ≡ OutOfMemory → kind ≡ DisplayVersion → ⊥
 no_version kind memory version = cc
 
--- words whose error is shown ask for that
-shown : (words : List Text) (kind : ErrorKind) → (kind ≡ OutOfMemory) ⊎ IsAmong kind (fault_of program_app words) → IsShown kind → AsksForHelp words
+-- words whose error is shown ask for the help or the version
+shown : (words : List Text) (kind : ErrorKind)
+    → (kind ≡ OutOfMemory) ⊎ IsAmong kind (fault_of program_app words)
+    → IsShown kind
+    → AsksForHelp words
 shown words kind (inl memory) (inl help) = absurd (no_help kind memory help)
 shown words kind (inl memory) (inr version) = absurd (no_version kind memory version)
 shown words kind (inr among) (inl help) = inl (subst (λ k. IsAmong k (fault_of program_app words)) help among)
 shown words kind (inr among) (inr version) = inr (subst (λ k. IsAmong k (fault_of program_app words)) version among)
 
 -- words that have an error, explained
-pub explained : (words : List Text) (kind : ErrorKind) (read old new : Option Text → Option (List ℕ)) (may_fail : Option Text → Option Text → Invocation → Fault → Type 0) (ending : Ending) → (kind ≡ OutOfMemory) ⊎ IsAmong kind (fault_of program_app words) → EndsOn kind ending → EndsBy words read old new may_fail ending
+pub explained : (words : List Text) (kind : ErrorKind)
+    (read old new : Option Text → Option (List ℕ))
+    (may_fail : Option Text → Option Text → Invocation → Fault → Type 0) (ending : Ending)
+    → (kind ≡ OutOfMemory) ⊎ IsAmong kind (fault_of program_app words)
+    → EndsOn kind ending
+    → EndsBy words read old new may_fail ending
 explained words kind read old new may_fail Done has is = inr (shown words kind has is)
 explained words kind read old new may_fail Rejected (inl memory) is = absurd (is.2 memory)
 explained words kind read old new may_fail Rejected (inr among) is = (kind, among, is.0, is.1)
@@ -52,24 +73,38 @@ explained words kind read old new may_fail (Failed fault is_reported) has (is, i
 explained words kind read old new may_fail (Failed fault is_reported) has (is, inr shows) = inr (is, inr (shown words kind has shows))
 explained words kind read old new may_fail (FileFailed fault is_reported) has is = absurd is
 
--- a request writes standard output only where it names no file
-pub writes_output : {A : Type 0} (words : List Text) (request : Request) → AsksFor words request → A ⊎ (request.files.output ≡ None) → A ⊎ AsksForOutput words
+-- a request writes standard output only if it names no file
+pub writes_output : {A : Type 0} (words : List Text) (request : Request)
+    → AsksFor words request
+    → A ⊎ (request.files.output ≡ None)
+    → A ⊎ AsksForOutput words
 writes_output words request asks (inl same) = inl same
 writes_output words request asks (inr is) = inr (inr (request, asks, is))
 
--- and reads standard input only where it names none
-pub reads_input : {A : Type 0} (words : List Text) (request : Request) → AsksFor words request → A ⊎ (request.files.input ≡ None) → A ⊎ AsksForInput words
+-- and reads standard input only if it names none
+pub reads_input : {A : Type 0} (words : List Text) (request : Request)
+    → AsksFor words request
+    → A ⊎ (request.files.input ≡ None)
+    → A ⊎ AsksForInput words
 reads_input words request asks (inl same) = inl same
 reads_input words request asks (inr is) = inr (request, asks, is)
 
--- an error is shown on standard output only where the words ask for that
-pub shows_help : {A : Type 0} (words : List Text) (kind : ErrorKind) → (kind ≡ OutOfMemory) ⊎ IsAmong kind (fault_of program_app words) → A ⊎ IsShown kind → A ⊎ AsksForOutput words
+-- an error is shown on standard output only if the words ask for it
+pub shows_help : {A : Type 0} (words : List Text) (kind : ErrorKind)
+    → (kind ≡ OutOfMemory) ⊎ IsAmong kind (fault_of program_app words)
+    → A ⊎ IsShown kind
+    → A ⊎ AsksForOutput words
 shows_help words kind has (inl same) = inl same
 shows_help words kind has (inr is) = inr (inl (shown words kind has is))
 
--- words that have an error: where the call ends before it writes, nothing is written
-pub explained_before : (P : Type 0) (kind : ErrorKind) (end : Ending) → EndsOn kind end → (end ≡ Rejected → P)
-    → ((fault : Fault) (is_reported : Bool) → end ≡ Failed fault is_reported → IsMetBeforeWriting fault → P) → EndsBeforeWriting end → P
+-- words that have an error: if the call ends before it writes, nothing is written
+pub explained_before : (P : Type 0) (kind : ErrorKind) (end : Ending)
+    → EndsOn kind end
+    → (end ≡ Rejected → P)
+    → ((fault : Fault) (is_reported : Bool) → end ≡ Failed fault is_reported
+    → IsMetBeforeWriting fault → P)
+    → EndsBeforeWriting end
+    → P
 explained_before P kind Done is rejected failed before = absurd before
 explained_before P kind Rejected is rejected failed before = rejected refl
 explained_before P kind (Failed fault is_reported) is rejected failed before = failed fault is_reported refl before

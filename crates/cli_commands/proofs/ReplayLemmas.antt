@@ -21,10 +21,17 @@ use Rattle.cli_commands.specs.Replay.{ActStep, ActStepUnless, AreRows, IsPlayed,
 use Rattle.cli_commands.proofs.TraceLemmas.{one_more}
 
 -- a refused act has its row, and changes nothing
-pub is_refused : (a : Act) (old new : State) (why : Refused) → refusal a old ≡ Some why → new ≡ old → ActStep a old new (refused_row a why ∷ [])
+pub is_refused : (a : Act) (old new : State) (why : Refused)
+    → refusal a old ≡ Some why
+    → new ≡ old
+    → ActStep a old new (refused_row a why ∷ [])
 is_refused a old new why is same = subst (λ r. ActStepUnless r a old new (refused_row a why ∷ [])) (sym is) (same, refl)
 
-pub is_accepted : (a : Act) (old new : State) (rows : List ReplayRow) → refusal a old ≡ None → new ≡ without_trails (apply a old) → AreRows a old rows → ActStep a old new rows
+pub is_accepted : (a : Act) (old new : State) (rows : List ReplayRow)
+    → refusal a old ≡ None
+    → new ≡ without_trails (apply a old)
+    → AreRows a old rows
+    → ActStep a old new rows
 is_accepted a old new rows is made told = subst (λ r. ActStepUnless r a old new rows) (sym is) (made, told)
 
 not_refused : (why : Refused) → ◌≡◌ {A = Option Refused} None (Some why) → ⊥
@@ -45,25 +52,37 @@ resting (Unmarked a) why e = absurd (not_refused why e)
 resting (Marked a w left right) why e = absurd (not_refused why e)
 resting Retired why e = tt
 
--- so a station that is there rests where its step is refused
-pub is_at_rest : (s : ℕ) (w : State) (why : Refused) → s < length w.records → refusal (act.Step s) w ≡ Some why → IsAtRest (phase_of w s)
+-- so a station of the world is at rest if its step is refused
+pub is_at_rest : (s : ℕ) (w : State) (why : Refused)
+    → s < length w.records
+    → refusal (act.Step s) w ≡ Some why
+    → IsAtRest (phase_of w s)
 is_at_rest s w why there e =
     let found : nat_lt s (length w.records) ≡ true = grind (arith, nat_tests) in
     resting (phase_of w s) why (sym (ap (λ b. cond b (step_refusal (phase_of w s)) (Some NoStation)) found) ∙ e)
 
--- one act more of the same
-pub once_more : (A : Act → State → State → List ReplayRow → Type 0) (a : Act) (times : ℕ) (first now last : State) (rows told : List ReplayRow)
-    → IsTrace A (replicate times a) first now rows → A a now last told → IsTrace A (replicate (times + 1) a) first last (rows ++ told)
+-- one more act of the same kind
+pub once_more : (A : Act → State → State → List ReplayRow → Type 0) (a : Act) (times : ℕ)
+    (first now last : State) (rows told : List ReplayRow)
+    → IsTrace A (replicate times a) first now rows
+    → A a now last told
+    → IsTrace A (replicate (times + 1) a) first last (rows ++ told)
 once_more A a times first now last rows told before behind =
     subst (λ acts. IsTrace A acts first last (rows ++ told)) (replicate_more times a) (one_more A (replicate times a) a first now last rows told before behind)
 
--- a run of a station that is there, and a run of one that is not
-pub run_there : (s : ℕ) (old new : State) (rows : List ReplayRow) → s < length old.records → RestsAfter s old new rows → IsPlayed (line.Run s) old new rows
+-- a run of a station of the world, and a run of any other
+pub run_there : (s : ℕ) (old new : State) (rows : List ReplayRow)
+    → s < length old.records
+    → RestsAfter s old new rows
+    → IsPlayed (line.Run s) old new rows
 run_there s old new rows there rests =
     let found : nat_lt s (length old.records) ≡ true = grind (arith, nat_tests) in
     subst (λ there. RunSteps there s old new rows) (sym found) rests
 
-pub run_nowhere : (s : ℕ) (old new : State) (rows : List ReplayRow) → length old.records ≤ s → ActStep (act.Step s) old new rows → IsPlayed (line.Run s) old new rows
+pub run_nowhere : (s : ℕ) (old new : State) (rows : List ReplayRow)
+    → length old.records ≤ s
+    → ActStep (act.Step s) old new rows
+    → IsPlayed (line.Run s) old new rows
 run_nowhere s old new rows nowhere acts =
     let found : nat_lt s (length old.records) ≡ false = grind (arith, nat_tests) in
     subst (λ there. RunSteps there s old new rows) (sym found) acts
@@ -79,7 +98,9 @@ abbrev pub rows_before : State → ℕ → List ReplayRow
 rows_before w node = flat_map (word_row w) (range_with_len 1 (node - 1))
 
 -- one node more
-pub next_word : (w : State) (node : ℕ) → 1 ≤ node → rows_before w (node + 1) ≡ rows_before w node ++ word_row w node
+pub next_word : (w : State) (node : ℕ)
+    → 1 ≤ node
+    → rows_before w (node + 1) ≡ rows_before w node ++ word_row w node
 next_word w zero lt = absurd (omega (arith, lt))
 next_word w (suc before) lt =
     let count : suc before + 1 - 1 ≡ suc before = omega arith in
@@ -93,27 +114,45 @@ next_word w (suc before) lt =
     ∙ ap (λ k. flat_map (word_row w) (range_with_len 1 k) ++ word_row w (suc before)) (sym same)
 
 -- a node whose word is not 0 has a row, and another one has none
-pub word_added : (w : State) (node word : ℕ) (rows next : List ReplayRow) → 1 ≤ node → word ≡ word_of w node → word ≢ 0
-    → rows ≡ rows_before w node → next ≡ rows ++ row.Word node word ∷ [] → next ≡ rows_before w (node + 1)
+pub word_added : (w : State) (node word : ℕ) (rows next : List ReplayRow)
+    → 1 ≤ node
+    → word ≡ word_of w node
+    → word ≢ 0
+    → rows ≡ rows_before w node
+    → next ≡ rows ++ row.Word node word ∷ []
+    → next ≡ rows_before w (node + 1)
 word_added w node word rows next from is other same pushed =
     let found : (word_of w node == 0) ≡ false = rw (← is) (grind (arith, nat_tests)) in
     let here : word_row w node ≡ row.Word node word ∷ [] = rw found (ap (λ (v : ℕ). row.Word node v ∷ []) (sym is)) in
     pushed ∙ ap (λ r. r ++ row.Word node word ∷ []) same ∙ ap (λ r. rows_before w node ++ r) (sym here) ∙ sym (next_word w node from)
 
-pub word_skipped : (w : State) (node word : ℕ) (rows next : List ReplayRow) → 1 ≤ node → word ≡ word_of w node → word ≡ 0
-    → rows ≡ rows_before w node → next ≡ rows → next ≡ rows_before w (node + 1)
+pub word_skipped : (w : State) (node word : ℕ) (rows next : List ReplayRow)
+    → 1 ≤ node
+    → word ≡ word_of w node
+    → word ≡ 0
+    → rows ≡ rows_before w node
+    → next ≡ rows
+    → next ≡ rows_before w (node + 1)
 word_skipped w node word rows next from is none same kept =
     let here : word_row w node ≡ [] = rw (← is, none) refl in
     kept ∙ same ∙ sym (append-nil (rows_before w node)) ∙ ap (λ r. rows_before w node ++ r) (sym here) ∙ sym (next_word w node from)
 
 -- the rows of all words, and then their number
-pub all_ended : (w : State) (n node past : ℕ) (rows next : List ReplayRow) → w.dim ≡ n → past ≡ 2 ^ (n + 1) → node ≡ past
-    → rows ≡ rows_before w node → next ≡ rows ++ row.End (length rows) ∷ [] → next ≡ final_rows w
+pub all_ended : (w : State) (n node past : ℕ) (rows next : List ReplayRow)
+    → w.dim ≡ n
+    → past ≡ 2 ^ (n + 1)
+    → node ≡ past
+    → rows ≡ rows_before w node
+    → next ≡ rows ++ row.End (length rows) ∷ []
+    → next ≡ final_rows w
 all_ended w n node past rows next dim is last same pushed =
     let stop : node ≡ 2 ^ (w.dim + 1) = last ∙ is ∙ ap (λ d. 2 ^ (d + 1)) (sym dim) in
     let all : rows ≡ words_left w = same ∙ ap (rows_before w) stop in
     pushed ∙ ap (λ r. r ++ row.End (length r) ∷ []) all
 
 -- a shape that was kept twice
-pub kept_twice : (first now last : State) → HasShapeOf first now → HasShapeOf now last → HasShapeOf first last
+pub kept_twice : (first now last : State)
+    → HasShapeOf first now
+    → HasShapeOf now last
+    → HasShapeOf first last
 kept_twice first now last a b = record { dim = b.dim ∙ a.dim; stations = b.stations ∙ a.stations }

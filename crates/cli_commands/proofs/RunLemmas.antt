@@ -42,28 +42,39 @@ use Rattle.cli_commands.specs.Replies.{AnswersJobs, AreReplies, replies_in}
 use Rattle.cli_commands.proofs.OrderLemmas.{all_jobs}
 
 -- as many counts as lists
-pub as_many : {A : Type 0} (f : A → ℕ) (g : A → List JobData) (counts : List ℕ) (xs : List A) → counts ≡ map f xs → length counts ≡ length (map g xs)
+pub as_many : {A : Type 0} (f : A → ℕ) (g : A → List JobData) (counts : List ℕ) (xs : List A)
+    → counts ≡ map f xs
+    → length counts ≡ length (map g xs)
 as_many f g counts xs same = ap length same ∙ length-map xs f ∙ sym (length-map xs g)
 
--- what is so of the bytes that are read, where they are known
-pub where_known : (read : Option (List ℕ)) (P Q : List ℕ → Type 0) → ((bytes : List ℕ) → P bytes → Q bytes) → IfSome read P → IfSome read Q
+-- what holds for the bytes that are read, if they are known
+pub where_known : (read : Option (List ℕ)) (P Q : List ℕ → Type 0)
+    → ((bytes : List ℕ) → P bytes → Q bytes)
+    → IfSome read P
+    → IfSome read Q
 where_known None P Q gives is = tt
 where_known (Some bytes) P Q gives is = gives bytes is
 
 -- ---- what is returned for a file
 
--- a fault of the file in place of a run
-pub fault_unanswered : {M : Type 0} (words_of : M → List ℕ) (n : ℕ) (read : Option (List ℕ)) (fault : Fault)
+-- a fault of the file instead of a run
+pub fault_unanswered : {M : Type 0} (words_of : M → List ℕ) (n : ℕ) (read : Option (List ℕ))
+    (fault : Fault)
     → IfSome read (λ bytes. ReturnsLanes (parse_jobs n bytes) (Err fault))
-    → IfSome read (λ bytes. ReturnsRun words_of n (parse_jobs n bytes) (Err (record { fault = fault; end = None })))
+    → IfSome read (λ bytes. ReturnsRun words_of n (parse_jobs n bytes)
+    (Err (record { fault = fault; end = None })))
 fault_unanswered words_of n None fault parsed = tt
 fault_unanswered words_of n (Some bytes) fault parsed = (parsed, tt)
 
--- where the open lanes of a good file were run and answered, so was the file
-pub file_answered : {M : Type 0} (words_of : M → List ℕ) (n : ℕ) (parse : Result (List JobData) Fault)
-    (lanes : Vec (VecDeque JobData Global) Global) (lists : List (List JobData)) (end : RunEnd M) → ReturnsLanes parse (Ok lanes)
-    → ((jobs : List JobData) → AreLanes lanes.items jobs → AreOpenLanes lists jobs) → IsRun words_of n lists end
-    → AnswersAll n lists (by_worker_of end) end.finished.rest.items → length end.finished.accepted.items ≡ length lists
+-- if the open lanes of a good file were run and answered, so was the file
+pub file_answered : {M : Type 0} (words_of : M → List ℕ) (n : ℕ)
+    (parse : Result (List JobData) Fault) (lanes : Vec (VecDeque JobData Global) Global)
+    (lists : List (List JobData)) (end : RunEnd M)
+    → ReturnsLanes parse (Ok lanes)
+    → ((jobs : List JobData) → AreLanes lanes.items jobs → AreOpenLanes lists jobs)
+    → IsRun words_of n lists end
+    → AnswersAll n lists (by_worker_of end) end.finished.rest.items
+    → length end.finished.accepted.items ≡ length lists
     → ReturnsRun words_of n parse (Ok end)
 file_answered words_of n parse lanes lists end (jobs, good, are) opens run all count = (
   jobs,
@@ -80,11 +91,15 @@ reason_refuses_nothing : (why : StopReason) → is_refusal (kind_of_reason why) 
 reason_refuses_nothing why.OutOfMemory refused = true≢false (sym refused)
 reason_refuses_nothing why.Spent refused = true≢false (sym refused)
 
--- where the run of a good file was not whole
-pub file_unanswered : {M : Type 0} (words_of : M → List ℕ) (sizes : ShopSizes) (parse : Result (List JobData) Fault)
-    (lanes lists : Vec (VecDeque JobData Global) Global) (s : RunError M) → ReturnsLanes parse (Ok lanes)
-    → ((jobs : List JobData) → AreLanes lanes.items jobs → AreOpenLanes (map (λ list. list.items) lists.items) jobs)
-    → MatchRunError s (λ why back. ⊤) (IsUnfinishedBatch words_of sizes lists.items) → ReturnsRun words_of sizes.dim parse (Err (error_of s))
+-- a run of a good file that was not finished
+pub file_unanswered : {M : Type 0} (words_of : M → List ℕ) (sizes : ShopSizes)
+    (parse : Result (List JobData) Fault) (lanes lists : Vec (VecDeque JobData Global) Global)
+    (s : RunError M)
+    → ReturnsLanes parse (Ok lanes)
+    → ((jobs : List JobData) → AreLanes lanes.items jobs
+    → AreOpenLanes (map (λ list. list.items) lists.items) jobs)
+    → MatchRunError s (λ why back. ⊤) (IsUnfinishedBatch words_of sizes lists.items)
+    → ReturnsRun words_of sizes.dim parse (Err (error_of s))
 file_unanswered words_of sizes parse lanes lists (stopped.Refused why back) parsed opens unfinished = (λ refused. absurd (true≢false (sym refused)), tt)
 file_unanswered words_of sizes parse lanes lists (stopped.Unfinished why end) (jobs, good, are) opens unfinished = (
   λ refused. absurd (reason_refuses_nothing why refused),
@@ -93,27 +108,39 @@ file_unanswered words_of sizes parse lanes lists (stopped.Unfinished why end) (j
 
 -- ---- a lane that is spent
 
-spent_first : (a b c : Bool) → why.Spent ≡ (if a && not b && not c then why.Spent else why.OutOfMemory) → a ≡ true
+spent_first : (a b c : Bool)
+    → why.Spent ≡ (if a && not b && not c then why.Spent else why.OutOfMemory)
+    → a ≡ true
 spent_first true b c is = refl
 spent_first false b c is = cc
 
-entries_of_spent : (close_number : ℕ) (end : LaneEnd) (stop : Option FeedStop) → is_spent stop ≡ true → IsStopOf close_number end stop → MAX_ENTRIES ≤ end.entries
+entries_of_spent : (close_number : ℕ) (end : LaneEnd) (stop : Option FeedStop)
+    → is_spent stop ≡ true
+    → IsStopOf close_number end stop
+    → MAX_ENTRIES ≤ end.entries
 entries_of_spent close_number end None spent is = absurd (true≢false (sym spent))
 entries_of_spent close_number end (Some Done) spent is = absurd (true≢false (sym spent))
 entries_of_spent close_number end (Some (Closed seen)) spent is = absurd (true≢false (sym spent))
 entries_of_spent close_number end (Some LaneSpent) spent is = is.1
 entries_of_spent close_number end (Some Turns) spent is = absurd (true≢false (sym spent))
 
-some_spent : {M : Type 0} (words_of : M → List ℕ) (n : ℕ) (lists : List (List JobData)) (end : RunEnd M) → why.Spent ≡ reason_of end → IsRun words_of n lists end → HasSpentLane (Some end)
+some_spent : {M : Type 0} (words_of : M → List ℕ) (n : ℕ) (lists : List (List JobData))
+    (end : RunEnd M)
+    → why.Spent ≡ reason_of end
+    → IsRun words_of n lists end
+    → HasSpentLane (Some end)
 some_spent words_of n lists end is run =
     let any : Any (λ (l : LaneEnd). is_spent l.stop ≡ true) end.lanes.items = Any-from_list_any (λ (l : LaneEnd). is_spent l.stop) end.lanes.items (spent_first _ _ _ is) in
     let (k, l, within, at, spent) = any in
     let is_end : IsLaneEnd lists end.finished.accepted.items end.close_number l = subst (IsLaneEnd lists end.finished.accepted.items end.close_number) at (run.ends k l within) in
     (k, l, within, at, entries_of_spent end.close_number l l.stop spent is_end.stopped)
 
--- a shop that was spent has a spent lane
-pub spent_lane : {M : Type 0} (words_of : M → List ℕ) (sizes : ShopSizes) (lists : Vec (VecDeque JobData Global) Global) (s : RunError M)
-    → MatchRunError s (λ why back. ⊤) (IsUnfinishedBatch words_of sizes lists.items) → (error_of s).fault.what ≡ what.Spent → HasSpentLane (error_of s).end
+-- a dispatcher that stopped for a spent lane has one
+pub spent_lane : {M : Type 0} (words_of : M → List ℕ) (sizes : ShopSizes)
+    (lists : Vec (VecDeque JobData Global) Global) (s : RunError M)
+    → MatchRunError s (λ why back. ⊤) (IsUnfinishedBatch words_of sizes lists.items)
+    → (error_of s).fault.what ≡ what.Spent
+    → HasSpentLane (error_of s).end
 spent_lane words_of sizes lists (stopped.Refused why back) unfinished is = absurd (cc)
 spent_lane words_of sizes lists (stopped.Unfinished why.OutOfMemory end) unfinished is = absurd (cc)
 spent_lane words_of sizes lists (stopped.Unfinished why.Spent end) unfinished is = some_spent words_of sizes.dim (map (λ list. list.items) lists.items) end unfinished.reason unfinished.run
@@ -121,15 +148,25 @@ spent_lane words_of sizes lists (stopped.Unfinished why.Spent end) unfinished is
 -- ---- what is made of a run, and written
 
 -- a fault of writing refuses no input
-no_refusal : (failed : Bool) → is_refusal (if failed then what.Write else what.OutOfMemory) ≡ true → ⊥
+no_refusal : (failed : Bool)
+    → is_refusal (if failed then what.Write else what.OutOfMemory) ≡ true
+    → ⊥
 no_refusal true e = cc
 no_refusal false e = cc
 
-pub write_refuses_nothing : (fault : Fault) (before after : ℕ) → fault ≡ attribute what.Write before after → is_refusal fault.what ≡ true → ⊥
+pub write_refuses_nothing : (fault : Fault) (before after : ℕ)
+    → fault ≡ attribute what.Write before after
+    → is_refusal fault.what ≡ true
+    → ⊥
 write_refuses_nothing fault before after is refused = no_refusal (has_failed before after) (ap (λ (f : Fault). is_refusal f.what) (sym is) ∙ refused)
 
 -- the sorted replies of a run of a file are the replies to it
-pub are_replies : {M : Type 0} (n : ℕ) (jobs : List JobData) (finished : Finished M) (replies : List ReplyData) → AnswersJobs n jobs finished → IsPermutation (replies_in finished) replies → AreSorted replies → AreReplies n jobs replies
+pub are_replies : {M : Type 0} (n : ℕ) (jobs : List JobData) (finished : Finished M)
+    (replies : List ReplyData)
+    → AnswersJobs n jobs finished
+    → IsPermutation (replies_in finished) replies
+    → AreSorted replies
+    → AreReplies n jobs replies
 are_replies n jobs finished replies answers same sorted = record {
   same = IsPermutation-trans _ _ _ answers.same (IsPermutation-map answered _ _ same);
   right = All-permutation (IsRight n) _ _ same answers.right;
@@ -139,38 +176,50 @@ are_replies n jobs finished replies answers same sorted = record {
 -- a fault of writing, or of making what is written
 pub write_failed : (before after : ℕ) (result : Result (Unit {0}) Fault)
     → IfErr result (λ fault. fault ≡ attribute what.Write before after)
-    → IfErr result (λ fault. (fault ≡ attribute what.Write before after) ⊎ (fault ≡ record { row = 0; what = what.OutOfMemory }))
+    → IfErr result (λ fault. (fault ≡ attribute what.Write before after)
+    ⊎ (fault ≡ record { row = 0; what = what.OutOfMemory }))
 write_failed before after (Ok done) failed = tt
 write_failed before after (Err fault) failed = inl failed
 
--- or the one that came in place of a run
+-- or the one that was returned instead of a run
 pub output_failed : (told : Option Fault) (before after : ℕ) (result : Result (Unit {0}) Fault)
-    → IfErr result (λ fault. (fault ≡ attribute what.Write before after) ⊎ (fault ≡ record { row = 0; what = what.OutOfMemory }))
-    → IfErr result (λ fault. (told ≡ Some fault) ⊎ (fault ≡ attribute what.Write before after) ⊎ (fault ≡ record { row = 0; what = what.OutOfMemory }))
+    → IfErr result (λ fault. (fault ≡ attribute what.Write before after)
+    ⊎ (fault ≡ record { row = 0; what = what.OutOfMemory }))
+    → IfErr result (λ fault. (told ≡ Some fault) ⊎ (fault ≡ attribute what.Write before after)
+    ⊎ (fault ≡ record { row = 0; what = what.OutOfMemory }))
 output_failed told before after (Ok done) failed = tt
 output_failed told before after (Err fault) failed = inr failed
 
 not_refused : (fault : Fault) (before after : ℕ)
-    → (fault ≡ attribute what.Write before after) ⊎ (fault ≡ record { row = 0; what = what.OutOfMemory }) → is_refusal fault.what ≡ true
+    → (fault ≡ attribute what.Write before after)
+    ⊎ (fault ≡ record { row = 0; what = what.OutOfMemory })
+    → is_refusal fault.what ≡ true
     → ⊥
 not_refused fault before after (inl is) refused = write_refuses_nothing fault before after is refused
 not_refused fault before after (inr is) refused = absurd (true≢false (sym (ap (λ (f : Fault). is_refusal f.what) (sym is) ∙ refused)))
 
--- a fault in place of a run is passed on
-pub fault_passed : {M Row : Type 0} (words_of : M → List ℕ) (n : ℕ) (parse : Result (List JobData) Fault)
-    (answers : List JobData → List Row → Type 0) (text : List Row → List ℕ) (old new : Option (List ℕ))
-    (answer : Result (RunEnd M) (AnswerError M)) (fault : Fault) → fault_in answer ≡ Some fault → ReturnsRun words_of n parse answer
+-- a fault instead of a run is returned
+pub fault_passed : {M Row : Type 0} (words_of : M → List ℕ) (n : ℕ)
+    (parse : Result (List JobData) Fault) (answers : List JobData → List Row → Type 0)
+    (text : List Row → List ℕ) (old new : Option (List ℕ))
+    (answer : Result (RunEnd M) (AnswerError M)) (fault : Fault)
+    → fault_in answer ≡ Some fault
+    → ReturnsRun words_of n parse answer
     → IsAnswer parse answers text old new (Err fault)
 fault_passed words_of n parse answers text old new (Ok end) fault none is = cc
 fault_passed words_of n parse answers text old new (Err error) fault same is = subst (λ (f : Fault). is_refusal f.what ≡ true → parse ≡ Err f) (cc) is.0
 
 -- what is made of the run of a file, written or not
-pub output_answered : {M Row : Type 0} (words_of : M → List ℕ) (n : ℕ) (parse : Result (List JobData) Fault)
-    (answers : List JobData → List Row → Type 0) (text : List Row → List ℕ) (old new : Option (List ℕ)) (before after : ℕ)
-    (answer : Result (RunEnd M) (AnswerError M)) (end : RunEnd M) (result : Result (Unit {0}) Fault) → answer ≡ Ok end
+pub output_answered : {M Row : Type 0} (words_of : M → List ℕ) (n : ℕ)
+    (parse : Result (List JobData) Fault) (answers : List JobData → List Row → Type 0)
+    (text : List Row → List ℕ) (old new : Option (List ℕ)) (before after : ℕ)
+    (answer : Result (RunEnd M) (AnswerError M)) (end : RunEnd M) (result : Result (Unit {0}) Fault)
+    → answer ≡ Ok end
     → ReturnsRun words_of n parse answer
-    → ((jobs : List JobData) → AnswersJobs n jobs end.finished → OnOk result ((rows : List Row) × answers jobs rows × Appends old new (text rows)))
-    → IfErr result (λ fault. (fault ≡ attribute what.Write before after) ⊎ (fault ≡ record { row = 0; what = what.OutOfMemory }))
+    → ((jobs : List JobData) → AnswersJobs n jobs end.finished
+    → OnOk result ((rows : List Row) × answers jobs rows × Appends old new (text rows)))
+    → IfErr result (λ fault. (fault ≡ attribute what.Write before after)
+    ⊎ (fault ≡ record { row = 0; what = what.OutOfMemory }))
     → IsAnswer parse answers text old new result
 output_answered words_of n parse answers text old new before after answer end (Ok done) ran is written failed =
     let (jobs, good, run, all) = subst (ReturnsRun words_of n parse) ran is in

@@ -1,4 +1,5 @@
--- What no public contract reaches: how names, stations, lanes, shops, rows and endings are tied to the definitions above.
+-- How names, stations, files, dispatchers, rows and endings are tied to the other definitions. No
+-- public contract cites these.
 pub mod Ending
 pub mod Files
 pub mod Names

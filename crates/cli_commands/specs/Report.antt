@@ -6,8 +6,8 @@ use Rattle.cli_commands.specs.ReportRows.{rows_of}
 use Rattle.cli_commands.specs.JobIds.{with_ids}
 use Rattle.cli_commands.specs.OpenLanes.{IsLaneCount}
 
--- these are the rows of the report on the jobs of a file: those of the open lanes and of the dimensions, and
--- those of a machine that is wholly free
+-- The rows of the report on the jobs of a file: `rows_of` its open lanes and its jobs with their
+-- ids.
 pub record AreReportRows (n : ℕ) (jobs : List JobData) (rows : List ReportRow) : Type 0 where
   pub lanes : ℕ
   pub open_lanes : IsLaneCount jobs lanes

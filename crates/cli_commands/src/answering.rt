@@ -24,22 +24,24 @@ use std::thread::Threads;
 pub struct Task<'a, T> {
     /// The command.
     pub invocation: Invocation,
-    /// What answers the jobs of `run` and `report`.
+    /// The runner of the jobs of `run` and `report`.
     pub runner: &'a T,
 }
 
-/// Reads what a command reads, does it, and writes its rows.
+/// Reads the input of a command, carries it out, and writes its rows.
 ///
-/// The jobs of `run` and `report` run on threads of the runtime. All are read before the first is answered, and all are
-/// answered before the first row is written. The terminal, if there is one, shows how far such a run is, unless its
-/// options are quiet.
+/// The jobs of `run` and `report` run on threads of the runtime. All are read before the first one
+/// runs, and all have run before the first row is written. The terminal, if there is one, shows the
+/// progress of such a run, unless its options are quiet.
 ///
 /// # Errors
 ///
-/// A fault of the input is the first one in it. `Read` and `Write` come only if that device's count
-/// of failed calls rose in this call or stood at `u64::MAX`, and `Spent` if a lane has no number left. Any
-/// other failure is `OutOfMemory`, also a thread that could not be started. After `Write` the first rows may be
-/// out, and after `OutOfMemory` too, if writing asked for memory. After any other fault nothing is written.
+/// A fault of the input is the first one in it. Returns `Read` or `Write` only if that device's
+/// count of failed calls rose in this call, or was `u64::MAX` before it. Returns `Spent` if a lane
+/// has no number left. Any other failure is `OutOfMemory`, also a thread that could not be started.
+///
+/// After `Write` the first rows may have been written; after `OutOfMemory` too, if writing needed
+/// memory. After any other fault nothing is written.
 pub fn answer<H, T, R, W, P>(
     rt: &H,
     alloc: Global,

@@ -9,16 +9,16 @@ ghost use Rattle.atomic_file.specs.declared.file_fault.FileSide.TheVariants.{Inp
 use atomic_file::{FileFault, FileSide, FileStore};
 use jobs_csv::Fault;
 
-/// Why a request was not answered.
+/// The reason why a request failed.
 #[derive(Clone, Copy, Debug, PartialEq, Eq)]
 pub(crate) enum CommandError {
-    /// A fault of what was read, of a device or of memory.
+    /// A fault of the input, of a device, of memory or of a lane.
     Fault(Fault),
-    /// A file could not be had.
+    /// A file could not be opened or replaced.
     File(FileFault),
 }
 
-// Returns the answer of a command as that of its request.
+// Returns the result of a command as that of its request.
 pub(crate) fn answered(answer: Result<(), Fault>) -> Result<(), CommandError>
     ensures done { OnOk answer (result ≡ Ok tt) }
     ensures failed { IfErr answer (λ fault. result ≡ Err (OfFault fault)) }
@@ -29,7 +29,7 @@ pub(crate) fn answered(answer: Result<(), Fault>) -> Result<(), CommandError>
     }
 }
 
-// Opens the file that is read.
+// Opens the input file.
 pub(crate) fn open_input<S: FileStore>(store: &S, name: &str) -> Result<S::Reader, CommandError>
     ensures opened { IfOk result (λ file. S.Reader.remaining file ≡ S.bytes store.now name.now) }
     ensures failed { IfErr result (λ error. (fault : TheFileFault)
@@ -42,41 +42,41 @@ pub(crate) fn open_input<S: FileStore>(store: &S, name: &str) -> Result<S::Reade
     }
 }
 
-// Begins a draft of the file that is written.
+// Begins a temporary file for the output file.
 pub(crate) fn begin_output<S: FileStore>(
     store: &mut S,
     name: &str,
-) -> Result<S::Draft, CommandError>
-    ensures fresh { IfOk result (λ draft. S.Draft.contents draft ≡ S.fresh) }
+) -> Result<S::TempFile, CommandError>
+    ensures fresh { IfOk result (λ temp_file. S.TempFile.contents temp_file ≡ S.fresh) }
     ensures kept { KeepsFiles (S.bytes store.old) (S.bytes store.new) }
     ensures failed { IfErr result (λ error. (fault : TheFileFault)
         × (error ≡ OfFile fault) × (fault.side ≡ Output)) }
 {
     let side = FileSide::Output;
-    match store.draft(name) {
-        Ok(draft) => Ok(draft),
+    match store.temp_file(name) {
+        Ok(temp_file) => Ok(temp_file),
         Err(reason) => Err(CommandError::File(FileFault { side, reason })),
     }
 }
 
-// Makes the draft the file of this name if the command is done, and else throws it away.
+// Persists the temporary file if the command is done, and otherwise discards it.
 pub(crate) fn settle_output<S: FileStore>(
     store: &mut S,
-    draft: S::Draft,
+    temp_file: S::TempFile,
     name: &str,
     answer: Result<(), Fault>,
 ) -> Result<(), CommandError>
-    ensures { IsSettled (S.Draft.contents draft) (S.bytes store.old) (S.bytes store.new)
+    ensures { IsSettled (S.TempFile.contents temp_file) (S.bytes store.old) (S.bytes store.new)
         name.now answer result }
 {
     match answer {
         Ok(()) => {}
         Err(fault) => {
-            store.discard(draft);
+            store.discard(temp_file);
             return Err(CommandError::Fault(fault));
         }
     }
-    match store.publish(draft, name) {
+    match store.persist(temp_file, name) {
         Ok(()) => Ok(()),
         Err(reason) => Err(CommandError::File(FileFault {
             side: FileSide::Output,

@@ -1,5 +1,7 @@
-//! The commands of `cubejobs`, from the bytes that they read to the bytes that they write. The whole program is
-//! `program::run`, over any words, files and streams.
+//! The commands of the program `cubejobs`, from the bytes that each reads to the bytes that it
+//! writes.
+//!
+//! The whole program is `program::run`, over any words, files and streams.
 #![tactic(auto)]
 
 mod answering;

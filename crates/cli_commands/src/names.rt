@@ -9,7 +9,7 @@ use std::marker::Model;
 
 /// A name, or none, for each station.
 ///
-/// A contract sees the list of these. A name is looked for up to the last station that has one.
+/// Contracts see the list of these. A search for a name ends at the last station that has one.
 #[derive(Drop)]
 pub(crate) struct Names {
     list: Vec<Option<Name>>,
@@ -28,7 +28,7 @@ impl Model for Names {
     ghost invariant = { λ n. AreNamedBelow n.used n.list.items };
 }
 
-// Whether a station has this name.
+// Returns whether a station has this name.
 fn is_name(held: Option<Name>, name: Name) -> bool
     ensures { IsTrue result ↔ (held ≡ Some name) }
 {
@@ -38,7 +38,7 @@ fn is_name(held: Option<Name>, name: Name) -> bool
     }
 }
 
-// The station of this name.
+// Returns the station that has this name, if there is one.
 #[tactic(auto, using(std::proofs::lemmas::List::get_or_past))]
 fn station_of(names: &[Option<Name>], name: Name) -> Option<u32>
     requires { length names.now ≤ MAX_STATIONS }
@@ -49,7 +49,7 @@ fn station_of(names: &[Option<Name>], name: Name) -> Option<u32>
     Some(index as u32)
 }
 
-// The first station that has no name.
+// Returns the first station that has no name, if there is one.
 fn first_idle(names: &[Option<Name>]) -> Option<u32>
     requires { length names.now ≡ MAX_STATIONS }
     ensures some { IfSome result (λ s. (s < MAX_STATIONS) × (name_at names.now s ≡ None)
@@ -60,7 +60,7 @@ fn first_idle(names: &[Option<Name>]) -> Option<u32>
     Some(index as u32)
 }
 
-// The number after the last station that has a name.
+// Returns the number after the last station that has a name.
 fn used_in(names: &[Option<Name>]) -> usize
     ensures below { AreNamedBelow result names.now }
     ensures last { result ≢ 0 → name_at names.now (result - 1) ≢ None }
@@ -73,7 +73,7 @@ fn used_in(names: &[Option<Name>]) -> usize
 }
 
 impl Names {
-    /// No station has a name.
+    /// Creates a list in which no station has a name.
     pub(crate) fn new(alloc: Global) -> Result<Self, AllocError>
         ensures { IfOk result (λ names. names ≡ replicate MAX_STATIONS None) }
     {
@@ -83,7 +83,7 @@ impl Names {
         })
     }
 
-    /// The station of this name.
+    /// Returns the station that has this name, if there is one.
     #[inline(always)]
     pub(crate) fn station_of(&self, name: Name) -> Option<u32>
         requires { length self.now ≡ MAX_STATIONS }
@@ -93,7 +93,7 @@ impl Names {
         station_of(&self.list[..self.used], name)
     }
 
-    /// The first station that has no name.
+    /// Returns the first station that has no name, if there is one.
     pub(crate) fn first_idle(&self) -> Option<u32>
         requires { length self.now ≡ MAX_STATIONS }
         ensures some { IfSome result (λ s. (s < MAX_STATIONS) × (name_at self.now s ≡ None)
@@ -103,7 +103,7 @@ impl Names {
         first_idle(&self.list)
     }
 
-    /// Gives a station a name, or takes its name away.
+    /// Sets the name of a station, or removes it.
     pub(crate) fn set(&mut self, station: u32, name: Option<Name>)
         requires { station < length self.old }
         ensures { self.new ≡ slice_set self.old station name }

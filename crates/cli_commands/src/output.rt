@@ -13,19 +13,19 @@ use job_types::Reply;
 use jobs_csv::{ReportRow, Row};
 use std::alloc::{AllocError, Global};
 
-/// What is written once all jobs of a file are answered: rows that are made of the finished run.
+/// The output of a command once all jobs of a file have run: rows made of the finished run.
 pub trait Output {
-    /// What is written as one line.
+    /// A row, which is written as one line.
     type Row: Row + Send + Drop;
 
-    // The rows are those of these jobs, on a machine of dimension n.
+    // The rows are those of these jobs, on a machine of dimension `n`.
     ghost are_rows: { ℕ → List JobData → List Self.Row → Type 0 };
 
-    /// Makes the rows of a run on a machine of dimension `n`.
+    /// Makes the rows of a finished run on a machine of dimension `n`.
     ///
     /// # Errors
     ///
-    /// Where there is no memory for them.
+    /// Memory ran out.
     fn rows<F: Floor>(
         alloc: Global,
         n: u32,
@@ -65,7 +65,7 @@ impl Output for Replies {
     }
 }
 
-/// The totals of all jobs, by lane, by dimension and in all, and the free regions of the machine.
+/// The totals of all jobs, by lane, by dimension and in all, and the free blocks of the machine.
 pub struct Report;
 
 impl Output for Report {

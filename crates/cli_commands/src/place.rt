@@ -1,4 +1,4 @@
-// The command `place`: a region allocator over names.
+// The command `place`: an allocator of blocks over names.
 ghost use Rattle.std.specs.Prelude.{◌≡◌, ◌≤◌, ◌++◌, ℕ, All, IfErr, IfOk, IfSome, OnOk, List};
 ghost use Rattle.jobs_csv.specs.Place.{Fits};
 ghost use Rattle.jobs_csv.specs.PlaceRows.{place_columns, place_fields};
@@ -17,7 +17,7 @@ use jobs_csv::{Command, Device, Fault, FaultKind, LineBuffer, PlaceRow, WriteErr
 use std::alloc::{AllocError, Global};
 use std::io::{Read, Write};
 
-// Answers a command, and buffers the line of its row.
+// Carries out a command, and buffers the line of its row.
 fn answer_next(
     stations: &mut Stations,
     command: Command,
@@ -35,7 +35,8 @@ fn answer_next(
     lines.push(&row)
 }
 
-// Answers the commands one after the other, and writes each row under the header as it comes.
+// Carries out the commands one after the other. Writes the row of each under the header as it is
+// made.
 fn answer_all<W: Write>(
     alloc: Global,
     n: u32,
@@ -56,16 +57,20 @@ fn answer_all<W: Write>(
     lines.finish(writer)
 }
 
-/// Reads a file of commands for a machine of dimension `n`, answers them one after the other, and
-/// writes a row for each.
+/// Reads a file of commands for a machine of dimension `n`, carries them out one after the other,
+/// and writes a row for each.
 ///
-/// A name that holds a region has a station of its own, the first that had none. A region that is
-/// taken is the first fit for those that are held.
+/// A name that holds a block has a station of its own, the first that had none. The block that is
+/// taken is the first fit: the one with the least base that overlaps no held block.
 ///
-/// All commands are read before any of them is answered. A fault of the input is the first one in
-/// it, and then nothing is written. `Read` and `Write` come only where that device's count of
-/// failed calls rose in this call, or stood at `u64::MAX`; any other failure is `OutOfMemory`.
-/// After `Write` or `OutOfMemory` the first rows may be out.
+/// All commands are read before the first one is carried out.
+///
+/// # Errors
+///
+/// A fault of the input is the first one in it, and then nothing is written. Returns `Read` or
+/// `Write` only if that device's count of failed calls rose in this call, or was `u64::MAX` before
+/// it. Any other failure is `OutOfMemory`. After `Write` or `OutOfMemory` the first rows may have
+/// been written.
 pub fn place_on<R: Read + Device, W: Write + Device>(
     alloc: Global,
     n: u32,

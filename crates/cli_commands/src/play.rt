@@ -11,7 +11,7 @@ use cube_shape::MAX_DIM;
 use jobs_csv::{Line, ReplayRow};
 use std::alloc::{AllocError, Global};
 
-// At most one row, as a list.
+// Returns a list of the row, if there is one.
 fn to_list(alloc: Global, row: Option<ReplayRow>) -> Result<Vec<ReplayRow>, AllocError>
     ensures { IfOk result (λ rows. rows.items ≡ rows_in row) }
 {
@@ -22,7 +22,7 @@ fn to_list(alloc: Global, row: Option<ReplayRow>) -> Result<Vec<ReplayRow>, Allo
     Ok(rows)
 }
 
-// A station begins to take the region of a node. A refusal has a row.
+// Begins the take of a node's block by a station. Returns a row if the call is refused.
 #[tactic(auto, using(crate::proofs::ReplayLemmas::is_accepted, crate::proofs::ReplayLemmas::is_refused))]
 fn take(world: &mut World, station: u64, node: u64) -> Option<ReplayRow>
     ensures acts { ActStep (act.Take station node) world.old world.new (rows_in result) }
@@ -35,7 +35,7 @@ fn take(world: &mut World, station: u64, node: u64) -> Option<ReplayRow>
     Some(ReplayRow::Refused { station, node, why })
 }
 
-// A station begins to give its region back. A refusal has a row.
+// Begins the release of a station's block. Returns a row if the call is refused.
 #[tactic(auto, using(crate::proofs::ReplayLemmas::is_accepted, crate::proofs::ReplayLemmas::is_refused))]
 fn release(world: &mut World, station: u64) -> Option<ReplayRow>
     ensures acts { ActStep (act.Release station) world.old world.new (rows_in result) }
@@ -48,7 +48,7 @@ fn release(world: &mut World, station: u64) -> Option<ReplayRow>
     Some(ReplayRow::Refused { station, node, why })
 }
 
-// A station makes a step.
+// Makes a step of a station, and returns its row.
 #[tactic(auto, using(crate::proofs::ReplayLemmas::is_accepted, crate::proofs::ReplayLemmas::is_refused))]
 fn step(world: &mut World, station: u64) -> ReplayRow
     ensures acts { ActStep (act.Step station) world.old world.new (result ∷ []) }
@@ -61,7 +61,7 @@ fn step(world: &mut World, station: u64) -> ReplayRow
     }
 }
 
-// A station retires.
+// Retires a station, and returns its row.
 #[tactic(auto, using(crate::proofs::ReplayLemmas::is_accepted, crate::proofs::ReplayLemmas::is_refused))]
 fn retire(world: &mut World, station: u64) -> ReplayRow
     ensures acts { ActStep (act.Retire station) world.old world.new (result ∷ []) }
@@ -74,7 +74,7 @@ fn retire(world: &mut World, station: u64) -> ReplayRow
     }
 }
 
-// A station makes `times` steps.
+// Makes `times` steps of a station, and returns their rows.
 fn steps(
     alloc: Global,
     world: &mut World,
@@ -92,7 +92,7 @@ fn steps(
     Ok(rows)
 }
 
-// A station makes steps until it is at rest.
+// Makes steps of a station until it is at rest, and returns their rows.
 fn run(alloc: Global, world: &mut World, station: u64) -> Result<Vec<ReplayRow>, AllocError>
     requires { station < length world.old.records }
     ensures rests { IfOk result (λ rows. RestsAfter station world.old world.new rows.items) }
@@ -109,7 +109,7 @@ fn run(alloc: Global, world: &mut World, station: u64) -> Result<Vec<ReplayRow>,
 
 /// Plays a line of a schedule in a world of `stations` stations, and returns its rows.
 ///
-/// Where memory is refused, the world has changed and the rows are lost.
+/// If memory runs out, the world has changed and the rows are lost.
 pub(crate) fn play(
     alloc: Global,
     stations: u32,
@@ -134,7 +134,7 @@ pub(crate) fn play(
     }
 }
 
-// The number after that of the last node.
+// Returns the number after that of the last node.
 fn node_limit(n: u32) -> u64
     requires { n ≤ MAX_DIM }
     ensures { result ≡ 2 ^ (n + 1) }
@@ -142,7 +142,7 @@ fn node_limit(n: u32) -> u64
     1 << (n + 1)
 }
 
-/// The rows of the end, for a world of dimension `n`.
+/// Returns the rows of the end, for a world of dimension `n`.
 pub(crate) fn final_rows(alloc: Global, n: u32, world: &World) -> Result<Vec<ReplayRow>, AllocError>
     requires limit { n ≤ MAX_DIM }
     requires dim { world.now.dim ≡ n }

@@ -30,13 +30,13 @@ use std::thread::Threads;
 /// The streams of the program.
 #[derive(Drop)]
 pub struct Console<R, W, E, P, Q> {
-    /// Where a request is read that names no file: standard input.
+    /// Standard input. A request reads it if it names no file to read.
     pub reader: R,
-    /// Where the rows are written of a request that names no file: standard output.
+    /// Standard output. A request writes its rows there if it names no file to write.
     pub writer: W,
-    /// Where errors are reported: standard error.
+    /// Standard error. Errors are reported there.
     pub errors: E,
-    /// Where the progress of a long run is shown, if anywhere.
+    /// The terminal that shows the progress of a long run, if there is one.
     pub terminal: Option<P>,
     /// Where the program says what it waits for, if the input is typed.
     pub prompt: Option<Q>,
@@ -51,7 +51,8 @@ pub enum Ending {
     Rejected,
     /// The command failed. `is_reported` says whether the error line was written.
     Failed { fault: Fault, is_reported: bool },
-    /// A file of the command could not be had. `is_reported` says whether the error line was written.
+    /// A file of the command could not be opened or replaced. `is_reported` says whether the error
+    /// line was written.
     FileFailed { fault: FileFault, is_reported: bool },
 }
 
@@ -86,7 +87,7 @@ fn report_fault<E: Write>(fault: Fault, errors: &mut E) -> Ending
     Ending::Failed { fault, is_reported }
 }
 
-// Reports in one line that the file of this name could not be had.
+// Reports in one line that the file of this name could not be opened or replaced.
 fn report_file<E: Write>(file: FileFault, name: &Option<String>, errors: &mut E) -> Ending
     ensures failed { (is_reported : Bool) × (result ≡ Ending.FileFailed file is_reported) }
     ensures line { result ≡ Ending.FileFailed file true → Appends
@@ -103,7 +104,7 @@ fn report_file<E: Write>(file: FileFault, name: &Option<String>, errors: &mut E)
     }
 }
 
-// Reports in one line why a request was not answered.
+// Reports in one line why a request failed, if it did.
 fn report<E: Write>(answer: Result<(), CommandError>, files: &FileNames, errors: &mut E) -> Ending
     ensures ends { EndsWith answer result }
     ensures line { ReportsFault result (E.contents errors.old) (E.contents errors.new) }
@@ -129,7 +130,8 @@ fn report<E: Write>(answer: Result<(), CommandError>, files: &FileNames, errors:
     }
 }
 
-// Answers the request with the files that it names, and the console's streams if it names none.
+// Carries out the request on the files that it names. Uses a stream of the console if it names no
+// file.
 fn carry_out<H, S, R, W, E, P, Q>(
     rt: &H,
     alloc: Global,
@@ -178,21 +180,21 @@ where
             answered(answer(rt, alloc, task, &mut file, writer, terminal))
         }
         (None, Some(output)) => {
-            let mut draft = begin_output(store, output)?;
+            let mut temp_file = begin_output(store, output)?;
             let reader = &mut console.reader;
-            let answer = answer(rt, alloc, task, reader, &mut draft, terminal);
-            settle_output(store, draft, output, answer)
+            let answer = answer(rt, alloc, task, reader, &mut temp_file, terminal);
+            settle_output(store, temp_file, output, answer)
         }
         (Some(input), Some(output)) => {
             let mut file = open_input(store, input)?;
-            let mut draft = begin_output(store, output)?;
-            let answer = answer(rt, alloc, task, &mut file, &mut draft, terminal);
-            settle_output(store, draft, output, answer)
+            let mut temp_file = begin_output(store, output)?;
+            let answer = answer(rt, alloc, task, &mut file, &mut temp_file, terminal);
+            settle_output(store, temp_file, output, answer)
         }
     }
 }
 
-// Returns what a request waits for, for a reader who types its input.
+// Returns the line that says what a request waits for if its input is typed.
 fn awaited(invocation: Invocation) -> &'static str {
     match invocation {
         Invocation::Run(_) | Invocation::Report(_) => {
@@ -207,7 +209,8 @@ fn awaited(invocation: Invocation) -> &'static str {
     }
 }
 
-// Says what a request waits for that names no file to read, if there is a prompt. Ignores a failed write.
+// Says what a request waits for, if it names no file to read and there is a prompt. Ignores a
+// failed write.
 fn announce<Q: Write>(request: &Request, prompt: &mut Option<Q>)
     ensures { (prompt.new ≡ prompt.old) ⊎ (request.now.files.input ≡ None) }
 {
@@ -219,7 +222,7 @@ fn announce<Q: Write>(request: &Request, prompt: &mut Option<Q>)
     }
 }
 
-// Writes the help or the version, which were asked for.
+// Writes the help or the version, which was asked for.
 fn show<W: Write + Device, E: Write>(error: &clap::Error, writer: &mut W, errors: &mut E) -> Ending
     ensures shown { (result ≡ Ending.Done) ⊎ ((is_reported : Bool) × (result ≡ Ending.Failed
         (attribute FaultKind.Write (W.failures writer.old) (W.failures writer.new)) is_reported)) }
@@ -236,7 +239,7 @@ fn show<W: Write + Device, E: Write>(error: &clap::Error, writer: &mut W, errors
     )
 }
 
-// Shows the help or the version where they were asked for, or says what is wrong with the words.
+// Shows the help or the version if it was asked for, or reports what is wrong with the words.
 fn explain<W: Write + Device, E: Write>(
     error: &clap::Error,
     writer: &mut W,
@@ -260,15 +263,15 @@ fn explain<W: Write + Device, E: Write>(
     }
 }
 
-/// Does what the words of a command line ask for. The first word is the program's name.
+/// Carries out what the words of a command line ask for. The first word is the program's name.
 ///
-/// The console's reader and writer are used if the words name no file. A file that is written is a draft until all of
-/// it is there, so it is whole or as it was.
+/// Uses the console's reader and writer if the words name no file. An output file is a temporary
+/// file until all of it is there, so it is whole or as it was before.
 ///
-/// The line of a fault goes to the console's `errors`, and so does what is wrong with a command line. Jobs run on
-/// threads of the runtime. The terminal, if there is one, shows how far a long run is, unless the words ask for
-/// none of that. The prompt, if there is one, says what is waited for once the words ask for a command that
-/// reads no file.
+/// Each fault is reported in one line to the console's `errors`, which also gets what is wrong with
+/// a command line. Jobs run on threads of the runtime. The terminal, if there is one, shows the
+/// progress of a long run, unless the words ask for none. The prompt, if there is one, says what a
+/// command waits for that reads no file.
 pub fn run<H, S, R, W, E, P, Q>(
     rt: &H,
     alloc: Global,

@@ -11,25 +11,26 @@ use std::sync::{Arc, Wait};
 use std::thread::{Builder, JoinHandle, Parker, Threads};
 use std::time::Duration;
 
-// Nothing is shown of a run with fewer records than these.
+// A run with fewer records than this shows nothing.
 const LONG: u64 = 1_000;
 
 // How long the thread that shows the counts sleeps between two looks at them, in milliseconds.
 const PERIOD: u64 = 100;
 
-// How often a run that has ended looks whether the line is wiped, and how long it sleeps between two looks,
-// in milliseconds. So a terminal that nobody reads costs it a second.
+// How often a run that has ended looks whether the line is wiped. With the pauses this takes a
+// second, so a terminal that takes no bytes costs the run no more.
 const LOOKS: u32 = 50;
 
+// How long it sleeps between two of these looks, in milliseconds.
 const PAUSE: u64 = 20;
 
 // The stack of the thread that shows the counts, in bytes.
 const STACK: usize = 1 << 18;
 
-// Wipes the line, whose longest text has two numbers of seven digits.
+// The bytes that wipe the line. Its longest text has two numbers of seven digits.
 const WIPE: &[u8] = b"\r                               \r";
 
-/// How many records a run has read, and how many replies are done.
+/// The number of records that a run has read, and of replies that are done.
 ///
 /// The threads of a run count here. No contract says what they count.
 #[derive(Drop)]
@@ -39,7 +40,7 @@ pub(crate) struct Counts {
 }
 
 impl Counts {
-    // Nothing is counted.
+    // Creates counts of 0.
     fn new() -> Self {
         Counts {
             records: AtomicU64::new(0),
@@ -47,22 +48,22 @@ impl Counts {
         }
     }
 
-    // The records, and the replies, which are no more.
+    // Returns the number of records, and that of replies, which is not larger.
     fn read(&self) -> (u64, u64) {
         let replies = self.replies.load(Ordering::SeqCst);
         (self.records.load(Ordering::SeqCst), replies)
     }
 }
 
-// What a run shares with the one thread that shows its counts.
+// The data that a run shares with the one thread that shows its counts.
 #[derive(Drop)]
 struct Board {
     counts: Counts,
-    // The run is over, and the line is to be wiped.
+    // Whether the run is over, and the line must be wiped.
     is_over: AtomicBool,
-    // The line is wiped, and nothing more is written.
+    // Whether the line is wiped, and nothing more is written.
     is_wiped: AtomicBool,
-    // Where the thread that shows sleeps, and where the run waits for its end.
+    // Where the thread that shows the counts sleeps, and where the run waits for its end.
     looker: Parker,
     waiter: Parker,
 }
@@ -79,7 +80,7 @@ impl Board {
     }
 }
 
-// Writes the counts in place of what the line shows. A failed write is ignored.
+// Writes the counts over what the line shows. Ignores a failed write.
 fn write_line<W: Write>(terminal: &mut W, (records, replies): (u64, u64)) {
     let _shown = if replies == 0 {
         write!(terminal, "\r{records} records read")
@@ -88,7 +89,7 @@ fn write_line<W: Write>(terminal: &mut W, (records, replies): (u64, u64)) {
     };
 }
 
-// Shows the counts while the run works, and wipes the line in the end. Returns the terminal.
+// Shows the counts while the run works, and wipes the line at the end. Returns the terminal.
 fn show<H: Wait, W: Write>(rt: &H, board: &Board, mut terminal: W) -> W {
     let mut shown = (0, 0);
     for _ in rt.forever() {
@@ -110,11 +111,11 @@ fn show<H: Wait, W: Write>(rt: &H, board: &Board, mut terminal: W) -> W {
     terminal
 }
 
-/// The line of progress: how many records a run has read and how many replies are done. It is one line of a
-/// terminal, written anew in place.
+/// The line of progress: how many records a run has read and how many replies are done. It is one
+/// line of a terminal, which each write replaces.
 ///
-/// One thread writes it, and no other waits for a write: the reader and the workers of a run only count.
-/// No contract says what it shows.
+/// One thread writes it, and no other waits for a write: the reader and the workers of a run only
+/// count. No contract says what it shows.
 #[derive(Drop)]
 pub(crate) struct Progress<W> {
     board: Arc<Board, Global>,
@@ -122,8 +123,8 @@ pub(crate) struct Progress<W> {
 }
 
 impl<W: Write + Send + Drop + 'static> Progress<W> {
-    /// Begins to show the progress of a run that has read no record. Returns `None`, and drops the terminal, if
-    /// memory or a thread is refused.
+    /// Begins to show the progress of a run that has read no record. Returns `None`, and drops the
+    /// terminal, if memory ran out or the thread could not be started.
     pub fn begin<H: Threads + Wait + Clone + Send + 'static>(
         rt: &H,
         alloc: Global,
@@ -142,13 +143,13 @@ impl<W: Write + Send + Drop + 'static> Progress<W> {
         })
     }
 
-    /// Returns where the threads of the run count.
+    /// Returns the counts that the threads of the run update.
     pub fn counts(&self) -> &Counts {
         &self.board.counts
     }
 
-    /// Wipes the line and returns the terminal. Returns `None` if a write to it still waits after a second: the
-    /// thread that waits keeps it.
+    /// Wipes the line and returns the terminal. Returns `None` if a write to it still waits after a
+    /// second. Then the waiting thread keeps the terminal.
     pub fn end<H: Threads + Wait>(self, rt: &H) -> Option<W> {
         let Progress { board, thread } = self;
         board.is_over.store(true, Ordering::SeqCst);
@@ -194,7 +195,7 @@ where
     }
 }
 
-/// Returns where the threads of the run count, if its progress is shown.
+/// Returns the counts that the threads of the run update, if its progress is shown.
 pub(crate) fn counts_of<W: Write + Send + Drop + 'static>(
     progress: &Option<Progress<W>>,
 ) -> Option<&Counts> {
@@ -204,7 +205,8 @@ pub(crate) fn counts_of<W: Write + Send + Drop + 'static>(
     }
 }
 
-/// An observer that counts the records that are read, for the line of progress too if there is one.
+/// An observer that counts the records that are read, also for the line of progress if there is
+/// one.
 #[derive(Drop)]
 pub(crate) struct RecordProgress<'a> {
     seen: u64,
@@ -212,7 +214,7 @@ pub(crate) struct RecordProgress<'a> {
 }
 
 impl<'a> RecordProgress<'a> {
-    /// Makes an observer that has seen no record.
+    /// Creates an observer that has seen no record.
     pub fn new(counts: Option<&'a Counts>) -> Self
         ensures { result.seen ≡ 0 }
     {
@@ -231,10 +233,10 @@ impl Observer for RecordProgress<'_> {
     }
 }
 
-/// A runner that answers jobs by another one. It counts the replies if there is a line of progress.
+/// A runner that runs jobs by another one. It counts the replies if there is a line of progress.
 #[derive(Drop)]
 pub(crate) struct ReplyProgress<'a, 'b, T> {
-    /// The runner that answers the jobs.
+    /// The runner that runs the jobs.
     pub runner: &'a T,
     /// Where the replies are counted.
     pub counts: Option<&'b Counts>,

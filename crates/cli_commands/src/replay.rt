@@ -17,7 +17,7 @@ use jobs_csv::{Device, Fault, FaultKind, Line, LineBuffer, ReplayRow, WriteError
 use std::alloc::{AllocError, Global};
 use std::io::{Read, Write};
 
-// Buffers the lines of more rows.
+// Buffers the lines of these rows.
 fn push_rows(lines: LineBuffer, rows: Vec<ReplayRow>) -> Result<LineBuffer, AllocError>
     ensures { IfOk result (λ more. more ≡ lines
         ++ flat_map (λ row. line_of (replay_fields row)) rows.items) }
@@ -29,7 +29,7 @@ fn push_rows(lines: LineBuffer, rows: Vec<ReplayRow>) -> Result<LineBuffer, Allo
     Ok(lines)
 }
 
-// Buffers the lines of the rows of the end, and writes out all that is buffered.
+// Buffers the lines of the rows of the end, and writes all that is buffered.
 fn write_end<W: Write>(
     alloc: Global,
     n: u32,
@@ -46,8 +46,8 @@ fn write_end<W: Write>(
     push_rows(lines, rows)?.finish(writer)
 }
 
-// Plays the lines of a schedule one after the other, and writes the rows of each under the header
-// as they come, and then the rows of the end.
+// Plays the lines of a schedule one after the other. Writes the rows of each under the header as
+// they are made, and then the rows of the end.
 fn play_all<W: Write>(
     alloc: Global,
     n: u32,
@@ -70,13 +70,17 @@ fn play_all<W: Write>(
     write_end(alloc, n, &world, lines, writer)
 }
 
-/// Reads a schedule for a machine of dimension `n` with this many stations, plays it, and writes
-/// its events, the calls that were refused, and the words that are not 0 in the end.
+/// Reads a schedule for a machine of dimension `n` with this many stations, and plays it. Writes
+/// its events, the calls that were refused, and the words that are not 0 at the end.
 ///
-/// The whole schedule is read before any of it is played. A fault of the input is the first one in
-/// it, and then nothing is written. `Read` and `Write` come only where that device's count of
-/// failed calls rose in this call, or stood at `u64::MAX`; any other failure is `OutOfMemory`.
-/// After `Write` or `OutOfMemory` the first rows may be out.
+/// The whole schedule is read before any of it is played.
+///
+/// # Errors
+///
+/// A fault of the input is the first one in it, and then nothing is written. Returns `Read` or
+/// `Write` only if that device's count of failed calls rose in this call, or was `u64::MAX` before
+/// it. Any other failure is `OutOfMemory`. After `Write` or `OutOfMemory` the first rows may have
+/// been written.
 pub fn replay_on<R: Read + Device, W: Write + Device>(
     alloc: Global,
     n: u32,

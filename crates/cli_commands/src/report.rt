@@ -60,7 +60,7 @@ fn push_dims(ledger: &Ledger, dims: u32, rows: &mut Vec<ReportRow>) -> Result<()
     Ok(())
 }
 
-// The row of the free regions of a dimension, of a machine in which every region is free.
+// Returns the row of the free blocks of a dimension, for a machine in which every block is free.
 fn free_row(n: u32, occupancy: &Occupancy, dim: u32) -> ReportRow
     requires limit { n ≤ MAX_DIM }
     requires dim { dim ≤ n }
@@ -75,7 +75,7 @@ fn free_row(n: u32, occupancy: &Occupancy, dim: u32) -> ReportRow
     }
 }
 
-// Adds a row for the free regions of each of the first dimensions.
+// Adds a row for the free blocks of each of the first dimensions.
 fn push_free(
     n: u32,
     occupancy: &Occupancy,
@@ -112,15 +112,14 @@ fn push_total(ledger: &Ledger, rows: &mut Vec<ReportRow>) -> Result<(), AllocErr
     Ok(())
 }
 
-/// The rows of the report of a finished shop, over a machine of dimension `n`: one for each lane that
-/// the shop had, one for each dimension, one for the free regions of each dimension, and one for all
-/// jobs.
+/// Makes the report of a finished dispatcher, over a machine of dimension `n`. It has a row for
+/// each lane, for each dimension, for the free blocks of each dimension, and for all jobs.
 ///
-/// The rows count the jobs that the replies answer, and the machine is wholly free.
+/// The rows count the jobs that the replies answer. The machine is wholly free.
 ///
 /// # Errors
 ///
-/// Where there is no memory for the rows.
+/// Memory ran out.
 pub fn report_rows<F: Floor>(
     alloc: Global,
     n: u32,

@@ -1,4 +1,4 @@
-// The commands `run` and `report` with no terminal, by loose sizes.
+// The commands `run` and `report` without a terminal, with the sizes as separate arguments.
 ghost use Rattle.std.specs.Prelude.{◌≡◌, true, IfErr, IfSome};
 ghost use Rattle.cli_args.specs.CommandLine.{AreShopSizes};
 ghost use Rattle.cli_args.specs.declared.invocation.Invocation.TheVariants.{Run, Report as TheReport};
@@ -14,10 +14,10 @@ use std::io::{Read, Write};
 use std::sync::Wait;
 use std::thread::Threads;
 
-// What a run with no terminal shows nothing on.
+// The type of the terminal of a run that has none.
 type NoTerminal = Vec<u8>;
 
-// The options of a run that shows no progress.
+// Returns the options of a run that shows no progress.
 fn quiet_options(dim: u32, dispatchers: u32, capacity: usize) -> ShopOptions
     ensures { result ≡ record {
       sizes = record { dim = dim; dispatchers = dispatchers; capacity = capacity };
@@ -35,17 +35,19 @@ fn quiet_options(dim: u32, dispatchers: u32, capacity: usize) -> ShopOptions
     }
 }
 
-/// Answers a file of jobs and writes a reply to each, sorted by id: the command `run`, with no terminal.
+/// Runs a file of jobs and writes a reply to each, sorted by id: the command `run`, without a
+/// terminal.
 ///
-/// All jobs are read before the first of them is answered, and all are answered before the first row is written.
+/// All jobs are read before the first one runs, and all have run before the first row is written.
 ///
 /// # Errors
 ///
-/// A fault of the input is the first one in it. `Read` and `Write` come only if that device's count
-/// of failed calls rose in this call or stood at `u64::MAX`, and `Spent` if a lane has no number left. Any
-/// other failure is `OutOfMemory`, also a thread that could not be started. Nothing is written
-/// before all jobs are answered. After `Write` the first rows may be out, and after `OutOfMemory`
-/// too, if writing asked for memory.
+/// A fault of the input is the first one in it. Returns `Read` or `Write` only if that device's
+/// count of failed calls rose in this call, or was `u64::MAX` before it. Returns `Spent` if a lane
+/// has no number left. Any other failure is `OutOfMemory`, also a thread that could not be started.
+///
+/// After `Write` the first rows may have been written; after `OutOfMemory` too, if writing needed
+/// memory. After any other fault nothing is written.
 pub fn run_on<H, T, R, W>(
     rt: &H,
     alloc: Global,
@@ -79,11 +81,11 @@ where
     answer(rt, alloc, task, reader, writer, &mut None::<NoTerminal>)
 }
 
-/// Answers a file of jobs and writes totals: the command `report`, with no terminal. The rows have the jobs of each
-/// open lane, those of each dimension, the free regions of each dimension, and all jobs.
+/// Runs a file of jobs and writes totals: the command `report`, without a terminal. There is a row
+/// for each open lane, for each dimension, for the free blocks of each dimension, and for all jobs.
 ///
-/// The open lanes are 0 to the largest one of a job, or lane 0 alone. The machine is wholly free once
-/// all jobs are answered. The errors are those of [`run_on`].
+/// The open lanes are 0 to the largest one of a job, or lane 0 alone. The machine is wholly free
+/// once all jobs have run. The errors are those of [`run_on`].
 pub fn report_on<H, T, R, W>(
     rt: &H,
     alloc: Global,

@@ -1,4 +1,4 @@
-//! Runs the jobs of a file.
+//! Running the jobs of a file.
 ghost use Rattle.std.specs.Prelude.{◌≡◌, ◌⊎◌, false, None, Ok, All, IfErr, IfOk, IfSome, List, Result};
 ghost use Rattle.cli_args.specs.CommandLine.{AreShopSizes};
 ghost use Rattle.jobs_csv.specs.Fault.{IsInputFault};
@@ -25,16 +25,17 @@ use std::io::{Read, Write};
 use std::sync::Wait;
 use std::thread::Threads;
 
-/// Why the jobs of a file were not all answered.
+/// The error of a file whose jobs have not all run.
 #[derive(Drop)]
 pub struct AnswerError<M> {
     /// The first fault of the file, or what failed.
     pub fault: Fault,
-    /// The run as far as it got, if there was one: the replies, and what each lane did not hand in.
+    /// The run as far as it got, if there was one: the replies, and the jobs that each lane did not
+    /// submit.
     pub end: Option<RunEnd<M>>,
 }
 
-// Returns the fault of a shop that has not answered all jobs, with its run if there was one.
+// Returns the error of a dispatcher that has not run all jobs, with its run if there was one.
 fn to_error<M: Drop>(stopped: RunError<M>) -> AnswerError<M>
     ensures { result ≡ error_of stopped }
 {
@@ -57,7 +58,7 @@ fn to_error<M: Drop>(stopped: RunError<M>) -> AnswerError<M>
     }
 }
 
-// Answers the jobs of these lanes: a feeder hands in those of each open lane.
+// Runs the jobs of these lanes. Each open lane has a producer that submits its jobs.
 fn answer_lanes<H, L, F, T>(
     rt: &H,
     alloc: Global,
@@ -86,24 +87,26 @@ where
     }
 }
 
-/// Reads a file of jobs and answers all of them on threads. A feeder for each open lane hands in its jobs by the
-/// queue `L`; the dispatchers of these sizes answer them by the runner, each job on a subcube of the allocator
-/// `F`.
+/// Reads a file of jobs and runs all of them on threads. Each open lane has a producer, which
+/// submits its jobs to the queue `L`. The workers run each job by the runner, on a block of the
+/// allocator `F`.
 ///
-/// All jobs are read before the first of them is answered. The open lanes are 0 to the largest one of a
-/// job, or lane 0 alone. Returns the finished run: one right reply to each job under its id, the end
-/// of each lane and of each worker, and the machine, which is wholly free and closed.
+/// All jobs are read before the first one runs. The open lanes are 0 to the largest one of a job,
+/// or lane 0 alone. Returns the finished run. It has one right reply to each job under its id, the
+/// end of each lane and of each worker, and the machine. The machine is wholly free and closed.
 ///
-/// The terminal, if there is one, shows how many records are read and how many replies are done, unless the options
-/// are quiet. A thread of its own writes that line, and has wiped it when this function returns. If a write to
-/// the terminal still waits after a second, the thread that waits keeps the terminal.
+/// The terminal, if there is one, shows how many records are read and how many replies are done,
+/// unless the options are quiet. A thread of its own writes that line, and has wiped it when this
+/// function returns. If a write to the terminal still waits after a second, the waiting thread
+/// keeps the terminal.
 ///
 /// # Errors
 ///
-/// The fault is the first one of the file, or `Read` if the reader's count of failed calls rose in this
-/// call or stood at `u64::MAX`; nothing was run then. It is `Spent` if a lane has made as many entries as
-/// a lane may, and `OutOfMemory` if memory or a thread was refused. The run as far as it got, if there was
-/// one, comes with it.
+/// The fault is the first one of the file, and then nothing ran. It is `Read` only if the reader's
+/// count of failed calls rose in this call, or was `u64::MAX` before it. Then nothing ran either.
+/// It is `Spent` if a lane has made as many entries as a lane may. It is `OutOfMemory` if memory
+/// ran out or a thread could not be started. The error has the run as far as it got, if there was
+/// one.
 pub fn answer_file<H, L, F, T, R, P>(
     rt: &H,
     alloc: Global,

@@ -1,4 +1,4 @@
-// The stations of a machine, each of which holds a region under a name or nothing.
+// The stations of a machine, each of which holds a block under a name or nothing.
 ghost use Rattle.std.specs.Prelude.{◌≡◌, ℕ, ◌≤◌, IfOk};
 ghost use Rattle.jobs_csv.specs.declared.place.Command.TheVariants as command;
 ghost use Rattle.jobs_csv.specs.Place.{Fits};
@@ -11,7 +11,7 @@ use cube_shape::MAX_DIM;
 use jobs_csv::{Command, Name, PlaceRow};
 use std::alloc::{AllocError, Global};
 
-/// A machine with a name for each station that holds a region.
+/// A machine with a name for each station that holds a block.
 #[derive(Drop)]
 pub(crate) struct Stations {
     bits: AllocBits,
@@ -19,7 +19,7 @@ pub(crate) struct Stations {
 }
 
 impl Stations {
-    /// A machine of dimension `n` whose stations hold nothing.
+    /// Creates a machine of dimension `n` whose stations hold nothing.
     pub(crate) fn new(alloc: Global, n: u32) -> Result<Self, AllocError>
         requires { n ≤ MAX_DIM }
         ensures made { IfOk result (λ made. AreStations made) }
@@ -32,7 +32,7 @@ impl Stations {
         })
     }
 
-    // Takes a region for a name, unless the name holds one.
+    // Takes a block for a name, unless the name holds one.
     fn take(&mut self, name: Name, dim: u32) -> PlaceRow
         requires made { AreStations self.old }
         requires fits { dim ≤ dim_of self.old }
@@ -56,7 +56,7 @@ impl Stations {
         PlaceRow::Given { name, dim, base }
     }
 
-    // Gives the region of a name back, if it holds one.
+    // Releases the block of a name, if it holds one.
     fn free(&mut self, name: Name) -> PlaceRow
         requires made { AreStations self.old }
         ensures made { AreStations self.new }

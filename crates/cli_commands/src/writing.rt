@@ -1,4 +1,4 @@
-// What is written of a finished run.
+// Writing the rows of a finished run.
 ghost use Rattle.std.specs.Prelude.{◌≡◌, ◌⊎◌, ◌≤◌, ℕ, Some, IfErr, IfOk, OnOk, List, length};
 ghost use Rattle.std.specs.Io.KnownBytes.{Appends};
 ghost use Rattle.cube_shape.specs.declared.limits.TheConstants.{MAX_LANES};
@@ -48,7 +48,7 @@ where
     jobs_csv::write_rows(alloc, rows, writer)
 }
 
-// Writes the rows of an answered file, or returns the fault of an error one.
+// Writes the rows of a finished run, or returns the fault of one that failed.
 pub(crate) fn write_output<O: Output, F: Floor, W: Write + Device>(
     alloc: Global,
     n: u32,

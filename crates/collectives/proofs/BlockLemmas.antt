@@ -1,5 +1,5 @@
--- What the blocks of ranks hold from round to round. A block of 2 * h ranks is a block of h ranks, its
--- lower half, and the next block of h ranks.
+-- What the blocks of ranks hold from round to round. A block of 2 * h ranks is a block of h ranks,
+-- its lower half, and the next block of h ranks.
 use Rattle.std.proofs.Common.{◌≡◌, ℕ, ◌+◌, ◌-◌, ◌*◌, ◌/◌, ◌%◌, ◌^◌, ◌<◌, ◌≤◌, ◌≢◌, inl, inr, List, length, sym, ◌∙◌, ap, subst, arith}
 use Rattle.std.specs.Prelude.{All, Some, ◌==◌, if◌then◌else◌}
 use Rattle.std.proofs.lemmas.Nat.{div-add-mod', mod-mul-add, mod_below, mul-le, pow-add, pow_pos}
@@ -14,23 +14,31 @@ use Rattle.collectives.specs.Inner.Rounds.{item_at, TurnsPairs, reduced_low, red
 use Rattle.collectives.proofs.PairLemmas.{low_of_block, pair_fits}
 use Rattle.collectives.proofs.FoldLemmas.{range_total, range_total-add, range_total-one, range_total-value}
 
--- each rank of each block of `size` ranks holds `held first offset`, where first is the block's first
--- rank and offset the rank's distance from it
+-- each rank of each block of `size` ranks holds `held first offset`. Here first is the block's
+-- first rank, and offset is the rank's distance from it
 abbrev pub EachInBlock : {M : Type 0} → M → ℕ → (ℕ → ℕ → M) → List M → Type 0
 EachInBlock unit size held items = (block offset : ℕ) → offset < size → block * size + offset < length items
     → item_at unit items (block * size + offset) ≡ held (block * size) offset
 
 -- ---- the ranks of a block
 
--- an item of a block, read at any spelling of its rank and its block's first rank
-pub block_item : {M : Type 0} (unit : M) (size : ℕ) (held : ℕ → ℕ → M) (items : List M) → EachInBlock unit size held items
-    → (block offset rank first : ℕ) → offset < size → rank < length items → rank ≡ block * size + offset → first ≡ block * size
+-- an item of a block, for any terms that are equal to its rank and its block's first rank
+pub block_item : {M : Type 0} (unit : M) (size : ℕ) (held : ℕ → ℕ → M) (items : List M)
+    → EachInBlock unit size held items
+    → (block offset rank first : ℕ)
+    → offset < size
+    → rank < length items
+    → rank ≡ block * size + offset
+    → first ≡ block * size
     → item_at unit items rank ≡ held first offset
 block_item unit size held items each block offset rank first within below rank_is first_is =
     ap (item_at unit items) rank_is ∙ each block offset within (omega arith) ∙ ap (λ b. held b offset) (sym first_is)
 
--- what holds of both halves of each pair of blocks, one after the other, holds of blocks twice as large
-pub double_blocks : {M : Type 0} (unit : M) (h : ℕ) (held : ℕ → ℕ → M) (items : List M) → 0 < h → length items % (2 * h) ≡ 0
+-- what holds for both halves of each pair of blocks, one after the other, holds for blocks twice as
+-- large
+pub double_blocks : {M : Type 0} (unit : M) (h : ℕ) (held : ℕ → ℕ → M) (items : List M)
+    → 0 < h
+    → length items % (2 * h) ≡ 0
     → ((block offset : ℕ) → offset < h → block * (2 * h) + offset + h < length items
     → (item_at unit items (block * (2 * h) + offset) ≡ held (block * (2 * h)) offset)
     × (item_at unit items (block * (2 * h) + offset + h) ≡ held (block * (2 * h)) (h + offset)))
@@ -85,16 +93,23 @@ IsRound-next n k i half round = omega (arith, pow-add 2 i 1, round.half_is)
 abbrev pub HoldsTotals : {M : Type 0} → M → (M → M → M) → ℕ → List M → List M → Type 0
 HoldsTotals unit join size old items = EachInBlock unit size (λ first offset. range_total join unit old first size) items
 
-module _ {M : Type 0} {IsValue : M → Type 0} {unit : M} {join : M → M → M} (laws : MonoidLaws IsValue unit join) where
+module _ {M : Type 0} {IsValue : M → Type 0} {unit : M} {join : M → M → M}
+    (laws : MonoidLaws IsValue unit join) where
   pub HoldsTotals-start : (items : List M) → All IsValue items → HoldsTotals unit join 1 items items
   HoldsTotals-start items values block offset within below =
       let place : block * 1 + offset ≡ block * 1 = omega arith in
       ap (item_at unit items) place ∙ sym (range_total-one laws items (block * 1) values (omega arith))
 
   -- the totals of two blocks, joined
-  pub joined_totals : (h : ℕ) (old items : List M) → All IsValue old → HoldsTotals unit join h old items
-      → (block offset : ℕ) → offset < h → block * (2 * h) + offset + h < length items
-      → join (item_at unit items (block * (2 * h) + offset)) (item_at unit items (block * (2 * h) + offset + h)) ≡ range_total join unit old (block * (2 * h)) (2 * h)
+  pub joined_totals : (h : ℕ) (old items : List M)
+      → All IsValue old
+      → HoldsTotals unit join h old items
+      → (block offset : ℕ)
+      → offset < h
+      → block * (2 * h) + offset + h < length items
+      → join (item_at unit items (block * (2 * h) + offset))
+      (item_at unit items (block * (2 * h) + offset + h))
+      ≡ range_total join unit old (block * (2 * h)) (2 * h)
   joined_totals h old items values totals block offset within below =
       let lower = block_item unit h (λ first place. range_total join unit old first h) items totals (2 * block) offset (block * (2 * h) + offset) (block * (2 * h)) within (omega arith) (grind arith) (grind arith) in
       let higher = block_item unit h (λ first place. range_total join unit old first h) items totals (2 * block + 1) offset (block * (2 * h) + offset + h) (block * (2 * h) + h) within below (grind arith) (grind arith) in
@@ -104,8 +119,14 @@ module _ {M : Type 0} {IsValue : M → Type 0} {unit : M} {join : M → M → M}
       ∙ sym (range_total-add laws old (block * (2 * h)) h h values)
       ∙ ap (range_total join unit old (block * (2 * h))) twice
 
-  HoldsTotals-double : (h : ℕ) (old items next : List M) → 0 < h → length items ≡ length next → length items % (2 * h) ≡ 0 → All IsValue old → HoldsTotals unit join h old items
-      → TurnsPairs unit h (λ low. join) (λ low. join) items next → HoldsTotals unit join (2 * h) old next
+  HoldsTotals-double : (h : ℕ) (old items next : List M)
+      → 0 < h
+      → length items ≡ length next
+      → length items % (2 * h) ≡ 0
+      → All IsValue old
+      → HoldsTotals unit join h old items
+      → TurnsPairs unit h (λ low. join) (λ low. join) items next
+      → HoldsTotals unit join (2 * h) old next
   HoldsTotals-double h old items next positive same_length whole values totals turned =
       double_blocks unit h (λ first offset. range_total join unit old first (2 * h)) next positive (ap (λ n. n % (2 * h)) (sym same_length) ∙ whole)
       (λ block offset within below.
@@ -114,8 +135,13 @@ module _ {M : Type 0} {IsValue : M → Type 0} {unit : M} {join : M → M → M}
       (pair.0 ∙ joined, pair.1 ∙ joined)))
 
   -- a round of the all-reduce
-  pub HoldsTotals-round : (k i half : ℕ) (old items next : List M) → IsRound (length items) k i half → length items ≡ length next → All IsValue old
-      → HoldsTotals unit join (2 ^ i) old items → TurnsPairs unit half (λ low. join) (λ low. join) items next → HoldsTotals unit join (2 ^ (i + 1)) old next
+  pub HoldsTotals-round : (k i half : ℕ) (old items next : List M)
+      → IsRound (length items) k i half
+      → length items ≡ length next
+      → All IsValue old
+      → HoldsTotals unit join (2 ^ i) old items
+      → TurnsPairs unit half (λ low. join) (λ low. join) items next
+      → HoldsTotals unit join (2 ^ (i + 1)) old next
   HoldsTotals-round k i half old items next round same_length values totals turned =
       let n = length items in
       let now : HoldsTotals unit join half old items = subst (λ size. HoldsTotals unit join size old items) (sym round.half_is) totals in
@@ -124,13 +150,17 @@ module _ {M : Type 0} {IsValue : M → Type 0} {unit : M} {join : M → M → M}
 
 -- ---- the prefixes within blocks
 
--- every rank holds the total of its block before its own item, and after it what its own place began with
+-- every rank holds the total of its block before its own item, and after it what its own place
+-- began with
 abbrev pub HoldsPrefixes : {M : Type 0} → M → (M → M → M) → ℕ → List M → List M → List M → Type 0
 HoldsPrefixes unit join size old begun items =
     EachInBlock unit size (λ first offset. join (range_total join unit old first offset) (item_at unit begun (first + offset))) items
 
-module _ {M : Type 0} {IsValue : M → Type 0} {unit : M} {join : M → M → M} (laws : MonoidLaws IsValue unit join) where
-  pub HoldsPrefixes-start : (old begun : List M) → All IsValue begun → HoldsPrefixes unit join 1 old begun begun
+module _ {M : Type 0} {IsValue : M → Type 0} {unit : M} {join : M → M → M}
+    (laws : MonoidLaws IsValue unit join) where
+  pub HoldsPrefixes-start : (old begun : List M)
+      → All IsValue begun
+      → HoldsPrefixes unit join 1 old begun begun
   HoldsPrefixes-start old begun values block offset within below =
       let none : 0 ≡ offset = omega arith in
       let own = item_at unit begun (block * 1 + offset) in
@@ -138,17 +168,29 @@ module _ {M : Type 0} {IsValue : M → Type 0} {unit : M} {join : M → M → M}
       ∙ ap (λ count. join (range_total join unit old (block * 1) count) own) none
 
   -- two ranges that follow each other, before an item
-  joined_before : (old : List M) (first h offset : ℕ) (own : M) → All IsValue old → IsValue own
-      → join (range_total join unit old first h) (join (range_total join unit old (first + h) offset) own) ≡ join (range_total join unit old first (h + offset)) own
+  joined_before : (old : List M) (first h offset : ℕ) (own : M)
+      → All IsValue old
+      → IsValue own
+      → join (range_total join unit old first h)
+      (join (range_total join unit old (first + h) offset) own)
+      ≡ join (range_total join unit old first (h + offset)) own
   joined_before old first h offset own values own_value =
       sym (laws.assoc (range_total join unit old first h) (range_total join unit old (first + h) offset) own
       (range_total-value laws old first h values) (range_total-value laws old (first + h) offset values) own_value)
       ∙ ap (λ total. join total own) (sym (range_total-add laws old first h offset values))
 
-  HoldsPrefixes-double : (h : ℕ) (old begun items totals next : List M) → 0 < h → length items ≡ length begun → length items ≡ length next → length totals ≡ length items → length items % (2 * h) ≡ 0
-      → All IsValue old → All IsValue begun
-      → HoldsPrefixes unit join h old begun items → HoldsTotals unit join h old totals
-      → TurnsPairs unit h (λ low a b. a) (λ low a b. join (item_at unit totals low) b) items next → HoldsPrefixes unit join (2 * h) old begun next
+  HoldsPrefixes-double : (h : ℕ) (old begun items totals next : List M)
+      → 0 < h
+      → length items ≡ length begun
+      → length items ≡ length next
+      → length totals ≡ length items
+      → length items % (2 * h) ≡ 0
+      → All IsValue old
+      → All IsValue begun
+      → HoldsPrefixes unit join h old begun items
+      → HoldsTotals unit join h old totals
+      → TurnsPairs unit h (λ low a b. a) (λ low a b. join (item_at unit totals low) b) items next
+      → HoldsPrefixes unit join (2 * h) old begun next
   HoldsPrefixes-double h old begun items totals next positive begun_length same_length total_length whole values begun_values prefixes sums turned =
       let held = λ (first offset : ℕ). join (range_total join unit old first offset) (item_at unit begun (first + offset)) in
       double_blocks unit h held next positive (ap (λ n. n % (2 * h)) (sym same_length) ∙ whole)
@@ -168,10 +210,17 @@ module _ {M : Type 0} {IsValue : M → Type 0} {unit : M} {join : M → M → M}
       )))
 
   -- a round of a scan
-  pub HoldsPrefixes-round : (k i half : ℕ) (old begun items totals next : List M) → IsRound (length items) k i half → length items ≡ length begun → length items ≡ length next → length totals ≡ length items
-      → All IsValue old → All IsValue begun
-      → HoldsPrefixes unit join (2 ^ i) old begun items → HoldsTotals unit join (2 ^ i) old totals
-      → TurnsPairs unit half (λ low a b. a) (λ low a b. join (item_at unit totals low) b) items next → HoldsPrefixes unit join (2 ^ (i + 1)) old begun next
+  pub HoldsPrefixes-round : (k i half : ℕ) (old begun items totals next : List M)
+      → IsRound (length items) k i half
+      → length items ≡ length begun
+      → length items ≡ length next
+      → length totals ≡ length items
+      → All IsValue old
+      → All IsValue begun
+      → HoldsPrefixes unit join (2 ^ i) old begun items
+      → HoldsTotals unit join (2 ^ i) old totals
+      → TurnsPairs unit half (λ low a b. a) (λ low a b. join (item_at unit totals low) b) items next
+      → HoldsPrefixes unit join (2 ^ (i + 1)) old begun next
   HoldsPrefixes-round k i half old begun items totals next round begun_length same_length total_length values begun_values prefixes sums turned =
       let n = length items in
       let now : HoldsPrefixes unit join half old begun items = subst (λ size. HoldsPrefixes unit join size old begun items) (sym round.half_is) prefixes in
@@ -208,8 +257,15 @@ abbrev pub HoldsReduced : {M : Type 0} → M → (M → M → M) → ℕ → ℕ
 HoldsReduced unit join root size old items = EachInBlock unit size (reduced unit join root size old) items
 
 -- the lower rank of a pair, by the bit of the root and the place r of the root in its half
-low_cases : {M : Type 0} (unit a both sum : M) (h bit r place offset : ℕ) → offset < h → r < h → bit < 2 → place ≡ offset → (offset ≡ r → both ≡ sum) → (offset ≢ r → a ≡ unit)
-    → (if place == r then (if bit == 0 then both else unit) else a) ≡ (if offset == bit * h + r then sum else unit)
+low_cases : {M : Type 0} (unit a both sum : M) (h bit r place offset : ℕ)
+    → offset < h
+    → r < h
+    → bit < 2
+    → place ≡ offset
+    → (offset ≡ r → both ≡ sum)
+    → (offset ≢ r → a ≡ unit)
+    → (if place == r then (if bit == 0 then both else unit) else a)
+    ≡ (if offset == bit * h + r then sum else unit)
 low_cases unit a both sum h bit r place offset within r_within bit_is place_is agree differ = elim (cases_eq offset r) [
   | inl same ↦ if_same place r (if bit == 0 then both else unit) a (place_is ∙ same) ∙ elim (cases_eq bit 0) [
     | inl zero_bit ↦
@@ -230,8 +286,15 @@ low_cases unit a both sum h bit r place offset within r_within bit_is place_is a
 ]
 
 -- the higher rank of a pair
-high_cases : {M : Type 0} (unit b both sum : M) (h bit r place offset : ℕ) → offset < h → r < h → bit < 2 → place ≡ offset → (offset ≡ r → both ≡ sum) → (offset ≢ r → b ≡ unit)
-    → (if place == r then (if bit == 0 then unit else both) else b) ≡ (if h + offset == bit * h + r then sum else unit)
+high_cases : {M : Type 0} (unit b both sum : M) (h bit r place offset : ℕ)
+    → offset < h
+    → r < h
+    → bit < 2
+    → place ≡ offset
+    → (offset ≡ r → both ≡ sum)
+    → (offset ≢ r → b ≡ unit)
+    → (if place == r then (if bit == 0 then unit else both) else b)
+    ≡ (if h + offset == bit * h + r then sum else unit)
 high_cases unit b both sum h bit r place offset within r_within bit_is place_is agree differ = elim (cases_eq offset r) [
   | inl same ↦ if_same place r (if bit == 0 then unit else both) b (place_is ∙ same) ∙ elim (cases_eq bit 0) [
     | inl zero_bit ↦
@@ -251,17 +314,25 @@ high_cases unit b both sum h bit r place offset within r_within bit_is place_is 
   ]
 ]
 
-module _ {M : Type 0} {IsValue : M → Type 0} {unit : M} {join : M → M → M} (laws : MonoidLaws IsValue unit join) where
-  pub HoldsReduced-start : (root : ℕ) (items : List M) → All IsValue items → HoldsReduced unit join root 1 items items
+module _ {M : Type 0} {IsValue : M → Type 0} {unit : M} {join : M → M → M}
+    (laws : MonoidLaws IsValue unit join) where
+  pub HoldsReduced-start : (root : ℕ) (items : List M)
+      → All IsValue items
+      → HoldsReduced unit join root 1 items items
   HoldsReduced-start root items values block offset within below =
       let place : block * 1 + offset ≡ block * 1 = omega arith in
       let root_is = mod_below root 1 (omega arith) in
       ap (item_at unit items) place ∙ sym (range_total-one laws items (block * 1) values (omega arith))
       ∙ sym (if_same offset (root % 1) (range_total join unit items (block * 1) 1) unit (omega arith))
 
-  HoldsReduced-double : (root h : ℕ) (old items next : List M) → 0 < h → length items ≡ length next → length items % (2 * h) ≡ 0 → All IsValue old
+  HoldsReduced-double : (root h : ℕ) (old items next : List M)
+      → 0 < h
+      → length items ≡ length next
+      → length items % (2 * h) ≡ 0
+      → All IsValue old
       → HoldsReduced unit join root h old items
-      → TurnsPairs unit h (reduced_low unit join root h) (reduced_high unit join root h) items next → HoldsReduced unit join root (2 * h) old next
+      → TurnsPairs unit h (reduced_low unit join root h) (reduced_high unit join root h) items next
+      → HoldsReduced unit join root (2 * h) old next
   HoldsReduced-double root h old items next positive same_length whole values before turned =
       double_blocks unit h (reduced unit join root (2 * h) old) next positive (ap (λ n. n % (2 * h)) (sym same_length) ∙ whole)
       (λ block offset within below.
@@ -293,16 +364,25 @@ module _ {M : Type 0} {IsValue : M → Type 0} {unit : M} {join : M → M → M}
           let place : block * (2 * h) + offset ≡ 2 * block * h + offset = grind arith in
           ap (λ n. n % h) place ∙ mod-mul-add (2 * block) h offset within
 
-      joined_ranges : (old : List M) (first h : ℕ) → All IsValue old → (a b : M) → a ≡ range_total join unit old first h → b ≡ range_total join unit old (first + h) h
+      joined_ranges : (old : List M) (first h : ℕ)
+          → All IsValue old
+          → (a b : M)
+          → a ≡ range_total join unit old first h
+          → b ≡ range_total join unit old (first + h) h
           → join a b ≡ range_total join unit old first (2 * h)
       joined_ranges old first h values a b a_is b_is =
           let twice : h + h ≡ 2 * h = omega arith in
           ap (λ x. join x b) a_is ∙ ap (join (range_total join unit old first h)) b_is ∙ sym (range_total-add laws old first h h values) ∙ ap (range_total join unit old first) twice
 
   -- a round of the reduction
-  pub HoldsReduced-round : (root k i half : ℕ) (old items next : List M) → IsRound (length items) k i half → length items ≡ length next → All IsValue old
+  pub HoldsReduced-round : (root k i half : ℕ) (old items next : List M)
+      → IsRound (length items) k i half
+      → length items ≡ length next
+      → All IsValue old
       → HoldsReduced unit join root (2 ^ i) old items
-      → TurnsPairs unit half (reduced_low unit join root half) (reduced_high unit join root half) items next → HoldsReduced unit join root (2 ^ (i + 1)) old next
+      → TurnsPairs unit half (reduced_low unit join root half) (reduced_high unit join root half)
+      items next
+      → HoldsReduced unit join root (2 ^ (i + 1)) old next
   HoldsReduced-round root k i half old items next round same_length values before turned =
       let n = length items in
       let now : HoldsReduced unit join root half old items = subst (λ size. HoldsReduced unit join root size old items) (sym round.half_is) before in
@@ -312,33 +392,47 @@ module _ {M : Type 0} {IsValue : M → Type 0} {unit : M} {join : M → M → M}
 -- ---- the whole cube as one block
 
 -- what the ranks of the one block of all places hold
-pub one_block : {M : Type 0} (unit : M) (k : ℕ) (held : ℕ → ℕ → M) (items : List M) → length items ≡ 2 ^ k → EachInBlock unit (2 ^ k) held items
+pub one_block : {M : Type 0} (unit : M) (k : ℕ) (held : ℕ → ℕ → M) (items : List M)
+    → length items ≡ 2 ^ k
+    → EachInBlock unit (2 ^ k) held items
     → Holds items k (held 0)
 one_block unit k held items places each rank within =
     slice_get-get_or items rank unit (omega arith)
     ∙ ap Some (block_item unit (2 ^ k) held items each 0 rank rank 0 within (omega arith) (omega arith) (omega arith))
 
 -- the range of all items
-pub range_total-all : {M : Type 0} (unit : M) (join : M → M → M) (items : List M) (n : ℕ) → length items ≡ n → range_total join unit items 0 n ≡ total join unit items
+pub range_total-all : {M : Type 0} (unit : M) (join : M → M → M) (items : List M) (n : ℕ)
+    → length items ≡ n
+    → range_total join unit items 0 n ≡ total join unit items
 range_total-all unit join items n all = ap (total join unit) (take_all n items (omega arith))
 
-pub HoldsTotals-all : {M : Type 0} (unit : M) (join : M → M → M) (k : ℕ) (old items : List M) → length old ≡ 2 ^ k → length items ≡ 2 ^ k → HoldsTotals unit join (2 ^ k) old items
+pub HoldsTotals-all : {M : Type 0} (unit : M) (join : M → M → M) (k : ℕ) (old items : List M)
+    → length old ≡ 2 ^ k
+    → length items ≡ 2 ^ k
+    → HoldsTotals unit join (2 ^ k) old items
     → Holds items k (λ rank. total join unit old)
 HoldsTotals-all unit join k old items old_places places totals rank within =
     one_block unit k (λ first offset. range_total join unit old first (2 ^ k)) items places totals rank within
     ∙ ap Some (range_total-all unit join old (2 ^ k) old_places)
 
-pub HoldsPrefixes-all : {M : Type 0} (unit : M) (join : M → M → M) (k : ℕ) (old begun items : List M) → length items ≡ 2 ^ k → HoldsPrefixes unit join (2 ^ k) old begun items
+pub HoldsPrefixes-all : {M : Type 0} (unit : M) (join : M → M → M) (k : ℕ)
+    (old begun items : List M)
+    → length items ≡ 2 ^ k
+    → HoldsPrefixes unit join (2 ^ k) old begun items
     → Holds items k (λ rank. join (prefix_total join unit old rank) (item_at unit begun rank))
 HoldsPrefixes-all unit join k old begun items places prefixes rank within =
     let place : 0 + rank ≡ rank = omega arith in
     one_block unit k (λ first offset. join (range_total join unit old first offset) (item_at unit begun (first + offset))) items places prefixes rank within
     ∙ ap (λ own. Some (join (prefix_total join unit old rank) (item_at unit begun own))) place
 
-module _ {M : Type 0} {IsValue : M → Type 0} {unit : M} {join : M → M → M} (laws : MonoidLaws IsValue unit join) where
+module _ {M : Type 0} {IsValue : M → Type 0} {unit : M} {join : M → M → M}
+    (laws : MonoidLaws IsValue unit join) where
   -- what the rounds make of prefixes that begin as the items themselves
-  pub with_own_items : (k : ℕ) (old items : List M) → length old ≡ 2 ^ k → All IsValue old
-      → Holds items k (λ rank. join (prefix_total join unit old rank) (item_at unit old rank)) → Holds items k (λ rank. prefix_total join unit old (rank + 1))
+  pub with_own_items : (k : ℕ) (old items : List M)
+      → length old ≡ 2 ^ k
+      → All IsValue old
+      → Holds items k (λ rank. join (prefix_total join unit old rank) (item_at unit old rank))
+      → Holds items k (λ rank. prefix_total join unit old (rank + 1))
   with_own_items k old items places values held rank within =
       let place : rank ≡ 0 + rank = omega arith in
       held rank within
@@ -347,15 +441,22 @@ module _ {M : Type 0} {IsValue : M → Type 0} {unit : M} {join : M → M → M}
       ∙ ap Some (sym (range_total-add laws old 0 rank 1 values))
 
   -- and what they make of prefixes that begin as the unit
-  pub with_units : (k : ℕ) (old begun items : List M) → All IsValue old → ((rank : ℕ) → item_at unit begun rank ≡ unit)
-      → Holds items k (λ rank. join (prefix_total join unit old rank) (item_at unit begun rank)) → Holds items k (λ rank. prefix_total join unit old rank)
+  pub with_units : (k : ℕ) (old begun items : List M)
+      → All IsValue old
+      → ((rank : ℕ) → item_at unit begun rank ≡ unit)
+      → Holds items k (λ rank. join (prefix_total join unit old rank) (item_at unit begun rank))
+      → Holds items k (λ rank. prefix_total join unit old rank)
   with_units k old begun items values units held rank within =
       held rank within
       ∙ ap (λ own. Some (join (prefix_total join unit old rank) own)) (units rank)
       ∙ ap Some (laws.right_unit (prefix_total join unit old rank) (range_total-value laws old 0 rank values))
 
-pub HoldsReduced-all : {M : Type 0} (unit : M) (join : M → M → M) (root k : ℕ) (old items : List M) → root < 2 ^ k → length old ≡ 2 ^ k → length items ≡ 2 ^ k
-    → HoldsReduced unit join root (2 ^ k) old items → Holds items k (λ rank. if rank == root then total join unit old else unit)
+pub HoldsReduced-all : {M : Type 0} (unit : M) (join : M → M → M) (root k : ℕ) (old items : List M)
+    → root < 2 ^ k
+    → length old ≡ 2 ^ k
+    → length items ≡ 2 ^ k
+    → HoldsReduced unit join root (2 ^ k) old items
+    → Holds items k (λ rank. if rank == root then total join unit old else unit)
 HoldsReduced-all unit join root k old items root_within old_places places before rank within =
     let only : root ≡ 0 * 2 ^ k + root = omega arith in
     let small : root % 2 ^ k ≡ root = ap (λ n. n % 2 ^ k) only ∙ mod-mul-add 0 (2 ^ k) root root_within in

@@ -56,7 +56,11 @@ low_in_block start h x first from below =
     ap (λ n. n / h % 2) place ∙ low_of_block (start / (2 * h)) (x - start) h (omega arith)
 
 -- the place in the first half of a block
-pub offset_in_block : (start h x : ℕ) → start % (2 * h) ≡ 0 → start ≤ x → x < start + h → x % h ≡ x - start
+pub offset_in_block : (start h x : ℕ)
+    → start % (2 * h) ≡ 0
+    → start ≤ x
+    → x < start + h
+    → x % h ≡ x - start
 offset_in_block start h x first from below =
     let begins = start_of start h first in
     let twice : start / (2 * h) * (2 * h) ≡ 2 * (start / (2 * h)) * h = grind arith in
@@ -64,38 +68,62 @@ offset_in_block start h x first from below =
     ap (λ n. n % h) place ∙ mod-mul-add (2 * (start / (2 * h))) h (x - start) (omega arith)
 
 -- its second half has no lower rank
-pub high_in_block : (start h x : ℕ) → 0 < h → start % (2 * h) ≡ 0 → start + h ≤ x → x < start + 2 * h → x / h % 2 ≢ 0
+pub high_in_block : (start h x : ℕ)
+    → 0 < h
+    → start % (2 * h) ≡ 0
+    → start + h ≤ x
+    → x < start + 2 * h
+    → x / h % 2 ≢ 0
 high_in_block start h x positive first from below low =
     pair_apart x (x - h) h positive low (low_in_block start h (x - h) first (omega arith) (omega arith)) (omega arith)
 
 -- ---- pairs that turn, a range of lower ranks after the other
 
-pub Turned-start : {M : Type 0} (unit : M) (half from : ℕ) (left right : ℕ → M → M → M) (old : List M) → TurnsPairsIn unit half from from left right old old
+pub Turned-start : {M : Type 0} (unit : M) (half from : ℕ) (left right : ℕ → M → M → M)
+    (old : List M)
+    → TurnsPairsIn unit half from from left right old old
 Turned-start unit half from left right old = record {
   turned = λ low low_is within above below. absurd (omega arith);
   others = λ low low_is within outside. (refl, refl);
 }
 
-pub Turned-end : {M : Type 0} (unit : M) (half bound : ℕ) (left right : ℕ → M → M → M) (old new : List M) → TurnsPairsIn unit half 0 bound left right old new → length old ≤ bound → TurnsPairs unit half left right old new
+pub Turned-end : {M : Type 0} (unit : M) (half bound : ℕ) (left right : ℕ → M → M → M)
+    (old new : List M)
+    → TurnsPairsIn unit half 0 bound left right old new
+    → length old ≤ bound
+    → TurnsPairs unit half left right old new
 Turned-end unit half bound left right old new so_far all low low_is within = so_far.turned low low_is within (omega arith) (omega arith)
 
 -- one equation after the other, of two at a time
-then_both : {M : Type 0} {a b c x y z : M} → (a ≡ b) × (x ≡ y) → (b ≡ c) × (y ≡ z) → (a ≡ c) × (x ≡ z)
+then_both : {M : Type 0} {a b c x y z : M}
+    → (a ≡ b) × (x ≡ y)
+    → (b ≡ c) × (y ≡ z)
+    → (a ≡ c) × (x ≡ z)
 then_both first second = (first.0 ∙ second.0, first.1 ∙ second.1)
 
 sym_both : {M : Type 0} {a b x y : M} → (a ≡ b) × (x ≡ y) → (b ≡ a) × (y ≡ x)
 sym_both both = (sym both.0, sym both.1)
 
 -- outside of a range, so outside of one within it
-outside_within : (low from bound a b : ℕ) → from ≤ a → b ≤ bound → (low < from) ⊎ (bound ≤ low) → (low < a) ⊎ (b ≤ low)
+outside_within : (low from bound a b : ℕ)
+    → from ≤ a
+    → b ≤ bound
+    → (low < from) ⊎ (bound ≤ low)
+    → (low < a) ⊎ (b ≤ low)
 outside_within low from bound a b from_a b_bound outside = elim outside [
   | inl before ↦ inl (omega arith)
   | inr after ↦ inr (omega arith)
 ]
 
 -- first the pairs of one range turn, then those of the next
-pub Turned-join : {M : Type 0} (unit : M) (half a b d : ℕ) (left right : ℕ → M → M → M) (old new next : List M) → a ≤ b → b ≤ d → length new ≡ length old
-    → TurnsPairsIn unit half a b left right old new → TurnsPairsIn unit half b d left right new next → TurnsPairsIn unit half a d left right old next
+pub Turned-join : {M : Type 0} (unit : M) (half a b d : ℕ) (left right : ℕ → M → M → M)
+    (old new next : List M)
+    → a ≤ b
+    → b ≤ d
+    → length new ≡ length old
+    → TurnsPairsIn unit half a b left right old new
+    → TurnsPairsIn unit half b d left right new next
+    → TurnsPairsIn unit half a d left right old next
 Turned-join unit half a b d left right old new next a_b b_d same_length first second = record {
   turned = λ low low_is within above below. elim (cases_lt low b) [
     | inl early ↦
@@ -115,9 +143,14 @@ Turned-join unit half a b d left right old new next a_b b_d same_length first se
 }
 
 -- the pair of x turns
-pub Turned-pair : {M : Type 0} (unit : M) (half x : ℕ) (left right : ℕ → M → M → M) (old next : List M)
-    → 0 < half → x / half % 2 ≡ 0 → x + half < length old → (a b : M)
-    → a ≡ left x (item_at unit old x) (item_at unit old (x + half)) → b ≡ right x (item_at unit old x) (item_at unit old (x + half))
+pub Turned-pair : {M : Type 0} (unit : M) (half x : ℕ) (left right : ℕ → M → M → M)
+    (old next : List M)
+    → 0 < half
+    → x / half % 2 ≡ 0
+    → x + half < length old
+    → (a b : M)
+    → a ≡ left x (item_at unit old x) (item_at unit old (x + half))
+    → b ≡ right x (item_at unit old x) (item_at unit old (x + half))
     → next ≡ set (set old x a) (x + half) b
     → TurnsPairsIn unit half x (x + 1) left right old next
 Turned-pair {M = M} unit half x left right old next positive x_low x_within a b a_is b_is next_is = subst (TurnsPairsIn unit half x (x + 1) left right old) (sym next_is) (record {
@@ -137,7 +170,10 @@ Turned-pair {M = M} unit half x left right old next positive x_low x_within a b 
       | inr after ↦ absurd (omega arith)
     ]
 
-    untouched : (y : ℕ) → (y ≢ x) → (y ≢ x + half) → item_at unit (set (set old x a) (x + half) b) y ≡ item_at unit old y
+    untouched : (y : ℕ)
+        → (y ≢ x)
+        → (y ≢ x + half)
+        → item_at unit (set (set old x a) (x + half) b) y ≡ item_at unit old y
     untouched y apart_low apart_high = get_or-set_other (set old x a) (x + half) y b unit apart_high ∙ get_or-set_other old x y a unit apart_low
 
     at_x : TurnsPair unit left right old (set (set old x a) (x + half) b) x (x + half)
@@ -146,10 +182,13 @@ Turned-pair {M = M} unit half x left right old next positive x_low x_within a b 
       get_or-set_same (set old x a) (x + half) b unit (omega (arith, length-set old x a)) ∙ b_is,
     )
 
--- the higher rank's item may be said in another way
-pub Turned-alike : {M : Type 0} (unit : M) (half from bound : ℕ) (left right other : ℕ → M → M → M) (old new : List M)
-    → ((low : ℕ) → from ≤ low → low < bound → low / half % 2 ≡ 0 → low + half < length old → (a b : M) → right low a b ≡ other low a b)
-    → TurnsPairsIn unit half from bound left right old new → TurnsPairsIn unit half from bound left other old new
+-- what the higher rank's item is may be said in another way
+pub Turned-alike : {M : Type 0} (unit : M) (half from bound : ℕ) (left right other : ℕ → M → M → M)
+    (old new : List M)
+    → ((low : ℕ) → from ≤ low → low < bound → low / half % 2 ≡ 0 → low + half < length old
+    → (a b : M) → right low a b ≡ other low a b)
+    → TurnsPairsIn unit half from bound left right old new
+    → TurnsPairsIn unit half from bound left other old new
 Turned-alike unit half from bound left right other old new alike so_far = record {
   turned = λ low low_is within above below. (
     (so_far.turned low low_is within above below).0,
@@ -159,8 +198,10 @@ Turned-alike unit half from bound left right other old new alike so_far = record
 }
 
 -- pairs whose items stay, because what is said of them changes nothing
-pub Turned-keep : {M : Type 0} (unit : M) (half from bound : ℕ) (left right : ℕ → M → M → M) (old : List M)
-    → ((x : ℕ) → from ≤ x → x < bound → x / half % 2 ≡ 0 → (a b : M) → (left x a b ≡ a) × (right x a b ≡ b))
+pub Turned-keep : {M : Type 0} (unit : M) (half from bound : ℕ) (left right : ℕ → M → M → M)
+    (old : List M)
+    → ((x : ℕ) → from ≤ x → x < bound → x / half % 2 ≡ 0 → (a b : M) → (left x a b ≡ a)
+    × (right x a b ≡ b))
     → TurnsPairsIn unit half from bound left right old old
 Turned-keep unit half from bound left right old kept = record {
   turned = λ low low_is within above below. sym_both (kept low above below low_is (item_at unit old low) (item_at unit old (low + half)));
@@ -168,8 +209,12 @@ Turned-keep unit half from bound left right old kept = record {
 }
 
 -- once those of the first half of a block have turned, all of the block have
-pub Turned-block : {M : Type 0} (unit : M) (half start : ℕ) (left right : ℕ → M → M → M) (old new : List M) → 0 < half → start % (2 * half) ≡ 0
-    → TurnsPairsIn unit half start (start + half) left right old new → TurnsPairsIn unit half start (start + 2 * half) left right old new
+pub Turned-block : {M : Type 0} (unit : M) (half start : ℕ) (left right : ℕ → M → M → M)
+    (old new : List M)
+    → 0 < half
+    → start % (2 * half) ≡ 0
+    → TurnsPairsIn unit half start (start + half) left right old new
+    → TurnsPairsIn unit half start (start + 2 * half) left right old new
 Turned-block unit half start left right old new positive first so_far = record {
   turned = λ low low_is within above below. elim (cases_lt low (start + half)) [
     | inl lower ↦ so_far.turned low low_is within above lower
@@ -188,8 +233,13 @@ block_fits n size block below =
     let next : (block + 1) * size ≡ block * size + size = grind arith in
     omega (arith, div-add-mod' n size, up, next)
 
--- a block of `size` ranks that begins within n ranks, which divide into such blocks, ends within them
-pub block_within : (n size start : ℕ) → n % size ≡ 0 → start % size ≡ 0 → start < n → start + size ≤ n
+-- a block of `size` ranks that begins within n ranks, which divide into such blocks, ends within
+-- them
+pub block_within : (n size start : ℕ)
+    → n % size ≡ 0
+    → start % size ≡ 0
+    → start < n
+    → start + size ≤ n
 block_within n size start whole first within = elim (cases_lt (start / size) (n / size)) [
   | inl below ↦ omega (arith, div-add-mod' start size, block_fits n size (start / size) below)
   | inr above ↦

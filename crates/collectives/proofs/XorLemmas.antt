@@ -1,4 +1,4 @@
--- Ranks seen from a root: rank v stands at bit_xor v root.
+-- Ranks seen from a root: rank v is at bit_xor v root.
 use Rattle.std.proofs.Common.{◌≡◌, ℕ, ◌+◌, ◌-◌, ◌*◌, ◌^◌, ◌<◌, inl, inr, List, sym, ◌∙◌, ap, arith}
 use Rattle.std.specs.Prelude.{slice_get, bit_and, bit_xor}
 use Rattle.std.proofs.lemmas.Bool.{cases_lt}
@@ -31,7 +31,11 @@ HoldsRoot-start root items v first =
     ap (λ x. slice_get items (bit_xor x root)) none ∙ ap (slice_get items) (xor_zero_l root)
 
 -- a round of the broadcast
-pub HoldsRoot-round : {M : Type 0} (root i half : ℕ) (old items next : List M) → half ≡ 2 ^ i → HoldsRoot root (2 ^ i) old items → Doubles root half items next → HoldsRoot root (2 ^ (i + 1)) old next
+pub HoldsRoot-round : {M : Type 0} (root i half : ℕ) (old items next : List M)
+    → half ≡ 2 ^ i
+    → HoldsRoot root (2 ^ i) old items
+    → Doubles root half items next
+    → HoldsRoot root (2 ^ (i + 1)) old next
 HoldsRoot-round root i half old items next half_is before doubled v within = elim (cases_lt v half) [
   | inl low ↦ (doubled v low).0 ∙ before v (omega arith)
   | inr high ↦ (
@@ -41,7 +45,11 @@ HoldsRoot-round root i half old items next half_is before doubled v within = eli
       ap (λ x. slice_get next (bit_xor x root)) back ∙ (doubled (v - half) low).1 ∙ before (v - half) (omega arith))
 ]
 
-pub HoldsRoot-all : {M : Type 0} (root k : ℕ) (old items : List M) → root < 2 ^ k → HoldsRoot root (2 ^ k) old items
-    → (rank : ℕ) → rank < 2 ^ k → slice_get items rank ≡ slice_get old root
+pub HoldsRoot-all : {M : Type 0} (root k : ℕ) (old items : List M)
+    → root < 2 ^ k
+    → HoldsRoot root (2 ^ k) old items
+    → (rank : ℕ)
+    → rank < 2 ^ k
+    → slice_get items rank ≡ slice_get old root
 HoldsRoot-all root k old items root_within before rank within =
     ap (slice_get items) (sym (xor_back rank root)) ∙ before (bit_xor rank root) (xor_lt k rank root within root_within)

@@ -9,7 +9,7 @@ use crate::monoid::Monoid;
 use crate::rounds::{all_reduce_round, broadcast_round, distance, reduce_round, scan_round};
 use crate::shape::{DIM_LIMIT, Shape, Tally};
 
-/// Every place receives the item of the root's place, which is one of the `2^k`.
+/// Copies the item of the root's place to every place. Returns the rounds and messages.
 pub fn broadcast<M: Copy>(items: &mut [M], k: u32, root: usize) -> Tally
     requires dim { k < DIM_LIMIT }
     requires places { length items.old ≡ 2 ^ k }
@@ -23,10 +23,8 @@ pub fn broadcast<M: Copy>(items: &mut [M], k: u32, root: usize) -> Tally
     Shape::Broadcast.tally(k)
 }
 
-/// The root's place, one of the `2^k`, receives all items, joined in the order of their ranks. The
-/// other places hold the unit in the end.
-///
-/// There are `2^k` items, all of them values.
+/// Joins all items in the order of their ranks, and stores the result at the root's place. The
+/// other places hold the unit at the end. Returns the rounds and messages.
 pub fn reduce<M: Monoid>(items: &mut [M], k: u32, root: usize) -> Tally
     requires dim { k < DIM_LIMIT }
     requires places { length items.old ≡ 2 ^ k }
@@ -43,9 +41,8 @@ pub fn reduce<M: Monoid>(items: &mut [M], k: u32, root: usize) -> Tally
     Shape::Reduce.tally(k)
 }
 
-/// Every place receives all items, joined in the order of their ranks.
-///
-/// There are `2^k` items, all of them values.
+/// Joins all items in the order of their ranks, and stores the result at every place. Returns the
+/// rounds and messages.
 pub fn all_reduce<M: Monoid>(items: &mut [M], k: u32) -> Tally
     requires dim { k < DIM_LIMIT }
     requires places { length items.old ≡ 2 ^ k }
@@ -60,10 +57,11 @@ pub fn all_reduce<M: Monoid>(items: &mut [M], k: u32) -> Tally
     Shape::AllReduce.tally(k)
 }
 
-/// Each place receives the items up to and with its own, joined in the order of their ranks.
+/// Stores at each place the items up to and including its own, joined in the order of their ranks.
+/// Returns the rounds and messages.
 ///
-/// There are `2^k` items, all of them values, and `scratch` has as many places. What it holds at
-/// first is ignored; in the end each of its places holds the total of all items.
+/// The first content of `scratch` is ignored. At the end each of its places holds the total of all
+/// items.
 pub fn scan<M: Monoid>(items: &mut [M], scratch: &mut [M], k: u32) -> Tally
     requires dim { k < DIM_LIMIT }
     requires places { length items.old ≡ 2 ^ k }
@@ -79,12 +77,12 @@ pub fn scan<M: Monoid>(items: &mut [M], scratch: &mut [M], k: u32) -> Tally
     Shape::Scan.tally(k)
 }
 
-/// Each place receives the items before its own, joined in the order of their ranks: the exclusive
-/// scan. No item is before the first place, which receives the unit.
+/// Stores at each place the items before its own, joined in the order of their ranks (exclusive
+/// scan). The first place receives the unit. Returns the rounds and messages, which are those of a
+/// scan.
 ///
-/// There are `2^k` items, all of them values, and `scratch` has as many places. What it holds at
-/// first is ignored; in the end each of its places holds the total of all items. The rounds and
-/// messages are those of a scan.
+/// The first content of `scratch` is ignored. At the end each of its places holds the total of all
+/// items.
 pub fn exscan<M: Monoid>(items: &mut [M], scratch: &mut [M], k: u32) -> Tally
     requires dim { k < DIM_LIMIT }
     requires places { length items.old ≡ 2 ^ k }
@@ -102,8 +100,8 @@ pub fn exscan<M: Monoid>(items: &mut [M], scratch: &mut [M], k: u32) -> Tally
     Shape::Scan.tally(k)
 }
 
-// The rounds of both scans, over the items in `totals`. Each place receives the items before its own,
-// joined, and after these the prefix that it began with.
+// Makes the rounds of both scans, over the items in `totals`. Each place receives the items before
+// its own, joined, and after these the prefix that it began with.
 fn scan_rounds<M: Monoid>(prefixes: &mut [M], totals: &mut [M], k: u32)
     requires dim { k < DIM_LIMIT }
     requires places { length prefixes.old ≡ 2 ^ k }
@@ -120,7 +118,7 @@ fn scan_rounds<M: Monoid>(prefixes: &mut [M], totals: &mut [M], k: u32)
     }
 }
 
-// Every place receives the unit.
+// Stores the unit at every place.
 fn put_units<M: Monoid>(items: &mut [M])
     requires values { All M.is_value items.old }
     ensures units { (rank : ℕ) → item_at M.unit items.new rank ≡ M.unit }

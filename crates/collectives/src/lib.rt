@@ -1,13 +1,14 @@
-//! The collective operations on the `2^k` places of a subcube of dimension `k`: broadcast, reduce,
-//! all-reduce, scan and exclusive scan, by `k` rounds, one for each dimension, in place on a slice.
+//! The collective operations broadcast, reduce, all-reduce, scan and exclusive scan (as in MPI) on
+//! a subcube, in place on a slice.
 //!
-//! The ranks are the numbers from `0` to `2^k - 1`, and rank `x` holds the item `items[x]`. In
-//! round `i` a message goes between two ranks that differ in bit `i` alone, and where their items
-//! are combined, the one whose bit `i` is 0 stands on the left. So the items are joined in the
-//! order of their ranks, and joining need not be commutative.
+//! A subcube of dimension `k` has the ranks `0` to `2^k - 1`, and rank `x` holds the item
+//! `items[x]`. A collective takes `k` rounds, one for each dimension. In round `i` messages go
+//! between ranks that differ in bit `i` only. If their two items are joined, the rank whose bit `i`
+//! is 0 is on the left. So the items are joined in the order of their ranks, and joining need not
+//! be commutative.
 //!
-//! Where there are fewer items than places, `pad` puts the unit at the others. What the items come to,
-//! joined, stays the same.
+//! If there are fewer items than places, `pad` puts the unit at the other places. This does not
+//! change the total.
 #![tactic(auto)]
 
 mod collective;

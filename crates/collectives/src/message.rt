@@ -1,9 +1,9 @@
 //! One message of a collective.
 
-/// A message of a collective.
+/// A message of a collective, from one rank to another.
 #[derive(Clone, Copy, Debug, PartialEq, Eq, Hash)]
 pub struct Message {
-    /// The round it is sent in, from 0 on.
+    /// The round in which it is sent, from 0 on.
     pub round: u32,
     /// The rank that sends it.
     pub from: u64,

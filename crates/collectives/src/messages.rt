@@ -8,15 +8,15 @@ ghost use Rattle.collectives.specs.Messages.{IsAlongAnEdge, IsMessage, message_n
 use crate::message::Message;
 use crate::shape::{DIM_LIMIT, Shape, places};
 
-/// Message number `i`, from 0 on, of a collective on `2^k` places.
+/// Returns message number `i`, from 0 on, of a collective on `2^k` places.
 ///
-/// Messages are counted round after round. Within a round those of a broadcast come in the order of
-/// their senders, seen from the root (rank `x` is seen as `x ^ root`), those of a reduction in the
-/// order of their receivers, and those of an all-reduce and of both scans in the order of their
-/// senders. Only a broadcast and a reduction have a root: an all-reduce and both scans ignore it.
+/// Messages are counted round after round. Within a round, messages of a broadcast come in the
+/// order of their senders as seen from the root (rank `x` is seen as `x ^ root`). Those of a
+/// reduction come in the order of their receivers. Those of an all-reduce and of both scans come in
+/// the order of their senders. An all-reduce and both scans ignore the root.
 ///
-/// Both ranks are in the cube and differ in the bit of the round alone. On each region of dimension
-/// `k`, whose base is some `m * 2^k`, the processors of the two ranks are therefore neighbours.
+/// The two ranks differ in the bit of the round only. So on each block of dimension `k`, whose base
+/// is some `m * 2^k`, the processors of the two ranks are neighbours.
 pub fn message_at(shape: Shape, k: u32, root: u64, i: u64) -> Message
     requires dim { k < DIM_LIMIT }
     requires root { root < 2 ^ k }
@@ -34,7 +34,7 @@ pub fn message_at(shape: Shape, k: u32, root: u64, i: u64) -> Message
     numbered_message(shape, k, root, i)
 }
 
-// The message by its number, from which the rest follows.
+// Returns message number `i`. The other clauses of `message_at` follow from these two.
 fn numbered_message(shape: Shape, k: u32, root: u64, i: u64) -> Message
     requires dim { k < DIM_LIMIT }
     requires root { root < 2 ^ k }
@@ -49,7 +49,8 @@ fn numbered_message(shape: Shape, k: u32, root: u64, i: u64) -> Message
     }
 }
 
-// Message number `i` of a broadcast, whose rounds have twice as many messages from one to the next.
+// Returns message number `i` of a broadcast. Each round has twice as many messages as the one
+// before.
 fn broadcast_message(k: u32, root: u64, i: u64) -> Message
     requires dim { k < DIM_LIMIT }
     requires number { i < 2 ^ k - 1 }
@@ -66,7 +67,8 @@ fn broadcast_message(k: u32, root: u64, i: u64) -> Message
     }
 }
 
-// Message number `i` of a reduction, whose rounds have half as many messages from one to the next.
+// Returns message number `i` of a reduction. Each round has half as many messages as the one
+// before.
 fn reduce_message(k: u32, root: u64, i: u64) -> Message
     requires dim { k < DIM_LIMIT }
     requires root { root < 2 ^ k }
@@ -88,7 +90,7 @@ fn reduce_message(k: u32, root: u64, i: u64) -> Message
     }
 }
 
-// Message number `i` of an all-reduce or one of the scans, each round of which has `2^k` messages.
+// Returns message number `i` of an all-reduce or a scan. Each round has `2^k` messages.
 fn exchange_message(k: u32, i: u64) -> Message
     requires dim { k < DIM_LIMIT }
     requires number { i < k * 2 ^ k }

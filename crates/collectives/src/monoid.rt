@@ -3,10 +3,11 @@
 ghost use Rattle.std.specs.Prelude.{◌≡◌, ◌↔◌, IsTrue};
 ghost use Rattle.collectives.specs.Laws.{MonoidLaws};
 
-/// A way to join two values into one: associative, with a unit, and not necessarily commutative.
+/// A monoid: a way to join two values into one that is associative and has a unit. It need not be
+/// commutative.
 ///
-/// Only some members of the type may be its values. The laws hold of values, and two values joined
-/// are a value.
+/// Only some members of the type may be values. The laws hold for values, and joining two values
+/// gives a value.
 pub trait Monoid: Copy {
     ghost unit: { Self };
 
@@ -14,17 +15,17 @@ pub trait Monoid: Copy {
 
     ghost is_value: { Self → Type 0 };
 
-    /// The value that changes nothing on either side.
+    /// Returns the value that changes nothing on either side.
     fn unit() -> Self
         ensures { result ≡ unit };
 
-    /// The two values joined, this one on the left.
+    /// Joins two values, this one on the left.
     fn join(self, right: Self) -> Self
         requires left { is_value self }
         requires right { is_value right }
         ensures { result ≡ join self right };
 
-    /// Whether this is a value.
+    /// Returns whether this is a value.
     fn is_value(self) -> bool
         ensures { IsTrue result ↔ is_value self };
 

@@ -8,9 +8,9 @@ ghost use Rattle.collectives.specs.Inner.OperationLaws.{add_laws, min_laws, max_
 use crate::monoid::Monoid;
 use std::marker::{Model, PhantomData};
 
-/// An operator that joins two numbers into one: associative, and with a unit.
+/// An operator that joins two numbers into one. It is associative and has a unit.
 ///
-/// A type that implements it is a name for the operator. Nobody needs a value of that type.
+/// A type that implements this trait is a name for the operator. No value of that type is needed.
 pub trait Operator: Copy {
     ghost unit: { ℕ };
 
@@ -28,8 +28,6 @@ pub trait Operator: Copy {
 }
 
 /// A number that the operator `O` joins with others. Each `u64` is a value.
-///
-/// A contract sees the number.
 #[derive(Clone, Copy, Debug, PartialEq, Eq, Hash)]
 pub struct Operand<O> {
     number: u64,
@@ -86,7 +84,7 @@ impl<O: Operator> Monoid for Operand<O> {
     ghost laws = { O.laws };
 }
 
-/// Adds two numbers, modulo `2^64`.
+/// Addition modulo `2^64`.
 #[derive(Clone, Copy, Debug, PartialEq, Eq, Hash)]
 pub struct Addition;
 
@@ -109,7 +107,7 @@ impl Operator for Addition {
     ghost laws = { add_laws };
 }
 
-/// Takes the smaller of two numbers.
+/// The smaller of two numbers.
 #[derive(Clone, Copy, Debug, PartialEq, Eq, Hash)]
 pub struct Minimum;
 
@@ -132,7 +130,7 @@ impl Operator for Minimum {
     ghost laws = { min_laws };
 }
 
-/// Takes the larger of two numbers.
+/// The larger of two numbers.
 #[derive(Clone, Copy, Debug, PartialEq, Eq, Hash)]
 pub struct Maximum;
 
@@ -155,7 +153,7 @@ impl Operator for Maximum {
     ghost laws = { max_laws };
 }
 
-/// Takes the bits in which two numbers differ.
+/// Exclusive or, bit by bit.
 #[derive(Clone, Copy, Debug, PartialEq, Eq, Hash)]
 pub struct BitwiseXor;
 
@@ -178,7 +176,7 @@ impl Operator for BitwiseXor {
     ghost laws = { xor_laws };
 }
 
-/// Takes the bits that two numbers share.
+/// And, bit by bit.
 #[derive(Clone, Copy, Debug, PartialEq, Eq, Hash)]
 pub struct BitwiseAnd;
 
@@ -201,7 +199,7 @@ impl Operator for BitwiseAnd {
     ghost laws = { and_laws };
 }
 
-/// Takes the bits that one of two numbers has, or both.
+/// Or, bit by bit.
 #[derive(Clone, Copy, Debug, PartialEq, Eq, Hash)]
 pub struct BitwiseOr;
 
@@ -224,10 +222,9 @@ impl Operator for BitwiseOr {
     ghost laws = { or_laws };
 }
 
-/// The map of `x` to `a * x + b` modulo `2^32`; joined, the left map comes first. Values have an
-/// `a` and a `b` below `2^32`.
+/// The map of `x` to `a * x + b` modulo `2^32`. Values have an `a` and a `b` below `2^32`.
 ///
-/// Joining is not commutative.
+/// Joining two maps applies the left one first. It is not commutative.
 #[derive(Clone, Copy, Debug, PartialEq, Eq, Hash)]
 pub struct Affine {
     /// The factor.

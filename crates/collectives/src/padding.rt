@@ -1,4 +1,4 @@
-//! Fewer items than places.
+//! Padding: fewer items than places.
 
 ghost use Rattle.std.specs.Prelude.{◌≡◌, ℕ, ◌^◌, ◌<◌, ◌≤◌, All, OnErr, OnOk, length, vec_capacity};
 ghost use Rattle.collectives.specs.Places.{padded, prefix_total, total};
@@ -7,15 +7,16 @@ use crate::monoid::Monoid;
 use crate::shape::DIM_LIMIT;
 use std::alloc::AllocError;
 
-/// Puts the unit at each of the `2^k` places that is past the last item, so that the collectives can
-/// run on any number of items from 0 to `2^k`.
+/// Puts the unit at each of the `2^k` places past the last item. So the collectives can run on any
+/// number of items from 0 to `2^k`.
 ///
-/// All items, joined, come to what they came to before, and so do the items up to each of them.
-/// A list with a capacity of `2^k` items or more needs no memory.
+/// The total of all items does not change, nor does the total of the items up to each of them. A
+/// list with a capacity of at least `2^k` items needs no memory.
 ///
 /// # Errors
 ///
-/// Where the capacity is below `2^k`, and there is no memory for more. The list is as it was.
+/// Returns an error only if the capacity is below `2^k` and memory ran out. Then the items are
+/// unchanged.
 pub fn pad<M: Monoid>(items: &mut Vec<M>, k: u32) -> Result<(), AllocError>
     requires dim { k < DIM_LIMIT }
     requires fits { length items.old.items ≤ 2 ^ k }

@@ -1,4 +1,4 @@
-//! One round of each collective, over the pairs of ranks that lie `half` apart.
+//! One round of each collective, over the pairs of ranks that are `half` apart.
 
 ghost use Rattle.std.specs.Prelude.{◌≡◌, ℕ, ◌+◌, ◌*◌, ◌%◌, ◌^◌, ◌<◌, ◌≤◌, length, All, slice_get, slice_set, ◌≢◌, bit_xor, if◌then◌else◌};
 ghost use Rattle.collectives.specs.Inner.Rounds.{Doubles, TurnsPairs, TurnsPairsIn, reduced_high, reduced_low, item_at};
@@ -6,7 +6,7 @@ ghost use Rattle.collectives.specs.Inner.Rounds.{Doubles, TurnsPairs, TurnsPairs
 use crate::monoid::Monoid;
 use crate::shape::DIM_LIMIT;
 
-// How far apart the two ranks of a pair are in a round.
+// Returns how far apart the two ranks of a pair are in a round.
 pub(crate) fn distance(round: u32) -> usize
     requires { round < DIM_LIMIT }
     ensures { result ≡ 2 ^ round }
@@ -14,7 +14,8 @@ pub(crate) fn distance(round: u32) -> usize
     1 << round
 }
 
-// Both ranks of each pair receive their two items joined, in the order of the ranks.
+// Stores the two joined items of each pair at both of its ranks. The lower rank's item is on the
+// left.
 pub(crate) fn all_reduce_round<M: Monoid>(items: &mut [M], half: usize)
     requires half { 0 < half }
     requires block { 2 * half ≤ length items.old }
@@ -28,7 +29,7 @@ pub(crate) fn all_reduce_round<M: Monoid>(items: &mut [M], half: usize)
     }
 }
 
-// A round of the all-reduce on the pairs of the block that begins at `start`.
+// Makes a round of the all-reduce on the pairs of the block that begins at `start`.
 fn all_reduce_block<M: Monoid>(items: &mut [M], start: usize, half: usize)
     requires half { 0 < half }
     requires start { start % (2 * half) ≡ 0 }
@@ -43,7 +44,7 @@ fn all_reduce_block<M: Monoid>(items: &mut [M], start: usize, half: usize)
     }
 }
 
-// The two ranks receive their items joined, the lower one's on the left.
+// Stores the two joined items at both ranks. The item of `low` is on the left.
 fn all_reduce_pair<M: Monoid>(items: &mut [M], low: usize, high: usize)
     requires low { low < length items.old }
     requires high { high < length items.old }
@@ -58,8 +59,8 @@ fn all_reduce_pair<M: Monoid>(items: &mut [M], low: usize, high: usize)
     items[high] = joined;
 }
 
-// The higher rank of each pair puts the total of the lower rank before its own prefix, and then
-// both ranks receive their two totals joined, in the order of the ranks.
+// Puts the total of each pair's lower rank before the prefix of its higher rank. Then joins the two
+// totals of each pair in the order of the ranks, and stores the result at both ranks.
 pub(crate) fn scan_round<M: Monoid>(prefixes: &mut [M], totals: &mut [M], half: usize)
     requires half { 0 < half }
     requires block { 2 * half ≤ length prefixes.old }
@@ -78,7 +79,7 @@ pub(crate) fn scan_round<M: Monoid>(prefixes: &mut [M], totals: &mut [M], half: 
     }
 }
 
-// A round of the scan on the pairs of the block that begins at `start`.
+// Makes a round of the scan on the pairs of the block that begins at `start`.
 fn scan_block<M: Monoid>(prefixes: &mut [M], totals: &mut [M], start: usize, half: usize)
     requires half { 0 < half }
     requires start { start % (2 * half) ≡ 0 }
@@ -99,7 +100,7 @@ fn scan_block<M: Monoid>(prefixes: &mut [M], totals: &mut [M], start: usize, hal
     }
 }
 
-// The rank `high` puts the total of the rank `low` before its own prefix.
+// Puts the total of rank `low` before the prefix of rank `high`.
 fn prepend_total<M: Monoid>(prefixes: &mut [M], totals: &[M], low: usize, high: usize)
     requires low { low < length totals.now }
     requires high { high < length prefixes.old }
@@ -112,9 +113,8 @@ fn prepend_total<M: Monoid>(prefixes: &mut [M], totals: &[M], low: usize, high: 
     prefixes[high] = totals[low].join(prefixes[high]);
 }
 
-// In each pair that agrees with the root below the bit of the round, the rank that agrees in this
-// bit too receives the two items joined, in the order of the ranks, and the other rank keeps the
-// unit.
+// Joins the two items of each pair that agrees with the root below the bit of the round. The rank
+// that agrees in this bit too receives the result, and the other rank receives the unit.
 pub(crate) fn reduce_round<M: Monoid>(items: &mut [M], root: usize, half: usize)
     requires half { 0 < half }
     requires block { 2 * half ≤ length items.old }
@@ -132,8 +132,8 @@ pub(crate) fn reduce_round<M: Monoid>(items: &mut [M], root: usize, half: usize)
     }
 }
 
-// One of the two ranks receives their items joined, the lower one's on the left, the other the
-// unit.
+// Joins the items of two ranks, the lower one's on the left. Stores the result at one of the ranks,
+// and the unit at the other.
 fn reduce_pair<M: Monoid>(items: &mut [M], low: usize, high: usize, to_low: bool)
     requires low { low < length items.old }
     requires high { high < length items.old }
@@ -155,7 +155,8 @@ fn reduce_pair<M: Monoid>(items: &mut [M], low: usize, high: usize, to_low: bool
     }
 }
 
-// Each of the first `half` ranks, seen from the root, sends its item to the rank `half` after it.
+// Copies the item of each of the first `half` ranks, as seen from the root, to the rank `half`
+// after it.
 pub(crate) fn broadcast_round<M: Copy>(items: &mut [M], root: usize, half: usize)
     requires half { 2 * half < 2 ^ 64 }
     requires places { (v : ℕ) → v < 2 * half → bit_xor v root < length items.old }
@@ -166,7 +167,7 @@ pub(crate) fn broadcast_round<M: Copy>(items: &mut [M], root: usize, half: usize
     }
 }
 
-// The rank `to` receives the item of the rank `from`.
+// Copies the item of rank `from` to rank `to`.
 fn send<M: Copy>(items: &mut [M], from: usize, to: usize)
     requires from { from < length items.old }
     requires to { to < length items.old }

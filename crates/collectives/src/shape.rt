@@ -1,4 +1,4 @@
-//! The four shapes of a collective, and how many rounds and messages each takes.
+//! The shapes of a collective, and the rounds and messages of each.
 
 ghost use Rattle.std.specs.Prelude.{◌≡◌, ℕ, ◌^◌, ◌<◌};
 ghost use Rattle.collectives.specs.Shape.{message_count, tally_of};
@@ -6,7 +6,7 @@ ghost use Rattle.collectives.specs.Messages.{IsMessage, message_number};
 
 use crate::message::Message;
 
-/// The dimension of a collective is below this limit.
+/// The limit of the dimension of a collective, which is below it.
 pub const DIM_LIMIT: u32 = 32;
 
 /// Which messages a collective sends.
@@ -18,23 +18,23 @@ pub enum Shape {
     Reduce,
     /// From all ranks to all.
     AllReduce,
-    /// From all ranks to all, where each keeps a prefix: that of a scan ends with the rank's own item,
-    /// that of an exclusive scan before it.
+    /// From all ranks to all, and each keeps a prefix. The prefix of a scan ends with the rank's
+    /// own item, that of an exclusive scan before it.
     Scan,
 }
 
-/// The rounds and messages that a collective took.
+/// The number of rounds and messages of a collective.
 #[derive(Clone, Copy, Debug, PartialEq, Eq, Hash)]
 pub struct Tally {
-    /// How many rounds, one after the other.
+    /// The number of rounds, one after the other.
     pub rounds: u32,
-    /// How many messages, over all rounds.
+    /// The number of messages over all rounds.
     pub messages: u64,
 }
 
 impl Shape {
-    /// The tally of a collective of this shape on `2^k` places: `k` rounds, and the messages of
-    /// these rounds.
+    /// Returns the rounds and messages of a collective of this shape on `2^k` places. There are `k`
+    /// rounds.
     pub fn tally(self, k: u32) -> Tally
         requires { k < DIM_LIMIT }
         ensures tally { result ≡ tally_of self k }
@@ -47,7 +47,7 @@ impl Shape {
         }
     }
 
-    // How many messages the rounds have.
+    // Returns the number of messages of all rounds.
     fn message_count(self, k: u32) -> u64
         requires { k < DIM_LIMIT }
         ensures { result ≡ message_count self k }
@@ -59,7 +59,7 @@ impl Shape {
     }
 }
 
-// How many places a cube of dimension `k` has.
+// Returns how many places a subcube of dimension `k` has.
 pub(crate) fn places(k: u32) -> u64
     requires { k < DIM_LIMIT }
     ensures { result ≡ 2 ^ k }

@@ -4,6 +4,6 @@ use Rattle.cube_tree.specs.declared.handles.Cube.{Cube}
 use Rattle.cube_tree.specs.Handles.{IsStationOf}
 use Rattle.cube_bench.specs.declared.tree.lanes.Lane.{Lane}
 
--- the lane has a station, which is one of this cube
+-- The lane has a station of this tree.
 abbrev pub HasStation : Cube → Lane → Type 0
 HasStation cube lane = IsSomeAnd lane.station (λ station. IsStationOf cube station)

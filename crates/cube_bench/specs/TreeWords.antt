@@ -1,10 +1,11 @@
--- What contracts say of the words of a measurement of the tree.
+-- What contracts say of the arguments of a measurement of the tree.
 use Rattle.std.specs.Prelude.{◌<◌}
 use Rattle.cube_shape.specs.declared.limits.TheConstants.{MAX_STATIONS}
 use Rattle.cube_bench.specs.declared.tree.words.TreeRun.{TreeRun}
 use Rattle.cube_bench.specs.declared.tree.words.TreeRun.TheVariants.{Threads, Solo, Bits}
 
--- a run on threads has a thread at least, and a station for each and one more
+-- A run on threads has at least one thread. Each thread has a station, and there is one station
+-- more.
 abbrev pub HasLanes : TreeRun → Type 0
 HasLanes (Threads threads workload) = (0 < threads) × (threads < MAX_STATIONS)
 HasLanes (Solo workload) = Unit {0}

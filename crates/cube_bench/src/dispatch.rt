@@ -1,4 +1,4 @@
-//! Runs a dispatcher on threads, so that it can be timed: the words
+//! Runs a dispatcher on threads so that it can be timed. The arguments are
 //! `SHOP ITEMS LANES DISPATCHERS CAPACITY JOBS`.
 ghost use Rattle.std.specs.Prelude.{◌≤◌};
 
@@ -25,7 +25,7 @@ use std::thread::Threads;
 use std::time::Instant;
 use words::{Invocation, parse_words};
 
-// How many replies there are.
+// Returns how many replies there are.
 fn reply_count<M>(finished: &Finished<M>) -> u64 {
     let mut count = finished.rest.len() as u64;
     for replies in finished.by_worker.iter() {
@@ -34,7 +34,7 @@ fn reply_count<M>(finished: &Finished<M>) -> u64 {
     count
 }
 
-// What was measured of a run that took so many nanoseconds, if there was memory for it and a clock.
+// Returns what was measured of a run, if there was memory for it and a clock.
 fn measured_of<M>(
     alloc: Global,
     ran: &Result<RunEnd<M>, (ShopRefused, Vec<VecDeque<Job>>)>,
@@ -46,8 +46,8 @@ fn measured_of<M>(
     Some(Measured::timed(alloc, reply_count(&end.finished), nanos))
 }
 
-// Runs a new shop over this line and this floor: how many jobs have a reply, and the nanoseconds from
-// the opening of the shop to its end.
+// Runs a new dispatcher over this queue and this allocator. Returns how many jobs have a reply, and
+// the nanoseconds from its opening to its end.
 fn run_shop<R: Threads + Wait + Sync + Clock, L: JobLine + SharedLine, F: Floor + SharedFloor>(
     rt: &R,
     alloc: Global,
@@ -63,7 +63,7 @@ fn run_shop<R: Threads + Wait + Sync + Clock, L: JobLine + SharedLine, F: Floor 
     measured_of(alloc, &ran, nanos)
 }
 
-// Runs the shop that is asked for.
+// Runs the dispatcher that is asked for.
 fn measure_shop<R: Threads + Wait + Sync + Clock>(
     rt: &R,
     alloc: Global,
@@ -79,7 +79,7 @@ fn measure_shop<R: Threads + Wait + Sync + Clock>(
     }
 }
 
-/// Runs the shop that the words ask for, and counts and times it.
+/// Runs the dispatcher that the arguments ask for. Counts its replies, and times it.
 pub(crate) fn measure<R: Threads + Wait + Sync + Clock>(
     rt: &R,
     alloc: Global,

@@ -1,4 +1,4 @@
-//! The jobs that lanes hand in.
+//! The jobs that lanes submit.
 ghost use Rattle.std.specs.Prelude.{◌<◌, ◌≤◌, IfSome};
 ghost use Rattle.std.specs.List.{All};
 ghost use Rattle.job_queue.specs.Line.{IsFor};
@@ -8,7 +8,7 @@ use job_types::{Job, Kind, Op};
 use std::alloc::Global;
 use std::collections::VecDeque;
 
-// An all-reduce of so many ones.
+// Makes an all-reduce of `items` ones.
 fn job(alloc: Global, machine: u32, lane: u32, items: usize) -> Option<Job>
     requires machine { machine ≤ MAX_DIM }
     requires lane { lane < MAX_LANES }
@@ -18,7 +18,7 @@ fn job(alloc: Global, machine: u32, lane: u32, items: usize) -> Option<Job>
     Job::new(alloc, machine, lane, Kind::AllReduce { op: Op::Add }, items).ok()
 }
 
-/// The jobs of one lane, each an all-reduce of so many ones.
+/// Makes the jobs of one lane. Each is an all-reduce of `items` ones.
 pub(crate) fn jobs_of(
     alloc: Global,
     machine: u32,

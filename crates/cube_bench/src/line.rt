@@ -1,4 +1,4 @@
-//! Hands jobs through a line, so that it can be timed: the words
+//! Passes jobs through a queue so that it can be timed. The arguments are
 //! `LINE LANES PASSES CAPACITY JOBS [calls]`.
 ghost use Rattle.std.specs.Prelude.{◌≡◌, ◌<◌, ◌≤◌};
 ghost use Rattle.std.specs.List.{All};
@@ -21,7 +21,7 @@ use std::thread::{Threads, for_each_mut, join_mut, yield_now};
 use std::time::Instant;
 use words::{Invocation, MACHINE, MAX_JOBS, parse_words};
 
-// The jobs of each lane, at the lane's number.
+// Makes the jobs of each lane, at the lane's number.
 fn jobs_of_all(alloc: Global, invocation: Invocation) -> Option<Vec<Mutex<Feeding>>>
     requires { invocation.sizes.lanes ≤ MAX_LANES }
 {
@@ -37,7 +37,7 @@ fn jobs_of_all(alloc: Global, invocation: Invocation) -> Option<Vec<Mutex<Feedin
     Some(all)
 }
 
-// An empty list with room for `count` jobs.
+// Makes an empty list with room for `count` jobs.
 fn room(alloc: Global, times_calls: bool, count: usize) -> Option<Taking> {
     let Ok(jobs) = Vec::with_capacity(alloc, count) else {
         return None;
@@ -50,7 +50,7 @@ fn room(alloc: Global, times_calls: bool, count: usize) -> Option<Taking> {
     })
 }
 
-// A list with room for `count` jobs for each pass.
+// Makes a list with room for `count` jobs for each pass.
 fn room_of_all(alloc: Global, invocation: Invocation, count: usize) -> Option<Vec<Mutex<Taking>>> {
     let mut all = Vec::new(alloc);
     for _ in 0..invocation.sizes.passes {
@@ -60,7 +60,8 @@ fn room_of_all(alloc: Global, invocation: Invocation, count: usize) -> Option<Ve
     Some(all)
 }
 
-// Hands in the next job, which stays the next one where the line is full: whether there may be more to do.
+// Submits the next job, which stays the next one if the queue is full. Returns whether there may be
+// more to do.
 fn feed_next<R: Wait + Clock, L: JobLine>(
     rt: &R,
     line: &L,
@@ -85,7 +86,7 @@ fn feed_next<R: Wait + Clock, L: JobLine>(
     matches!(refused, Refused::Full)
 }
 
-// Hands in the jobs, and tries again where the line is full.
+// Submits the jobs, and tries again if the queue is full.
 fn feed<R: Wait + Clock, L: JobLine>(rt: &R, line: &L, lane: &mut L::Lane, feeding: &mut Feeding)
     requires lane { L.is_lane (L.id line.now) lane.old }
     requires machine { (L.id line.now).sizes.machine ≡ MACHINE }
@@ -99,7 +100,7 @@ fn feed<R: Wait + Clock, L: JobLine>(rt: &R, line: &L, lane: &mut L::Lane, feedi
     unreachable!()
 }
 
-// Takes the next job, where there is one and more are wanted: whether there may be more to do.
+// Takes the next job, if there is one and more are wanted. Returns whether there may be more to do.
 fn drain_next<R: Wait + Clock, L: JobLine>(
     rt: &R,
     line: &L,
@@ -138,7 +139,7 @@ fn drain<R: Wait + Clock, L: JobLine>(rt: &R, line: &L, pass: &mut L::Pass, taki
     unreachable!()
 }
 
-// Feeds by all lanes at once.
+// Feeds all lanes at once.
 fn feed_all<R: Threads + Wait + Clock + Sync, L: JobLine + SharedLine>(
     rt: &R,
     line: &L,
@@ -182,7 +183,7 @@ fn drain_all<R: Threads + Wait + Clock + Sync, L: JobLine + SharedLine>(
     for_each_mut(rt, passes, MAX_PASSES as usize, &drain_one);
 }
 
-// Feeds by all lanes and drains by all passes at once. Where no thread can be made, it feeds first.
+// Feeds all lanes and drains by all passes at once. If no thread can be made, it feeds first.
 fn run_threads<'a, R: Threads + Wait + Clock + Sync, L: JobLine + SharedLine>(
     rt: &'a R,
     line: &'a L,
@@ -209,7 +210,7 @@ fn run_threads<'a, R: Threads + Wait + Clock + Sync, L: JobLine + SharedLine>(
     join_mut(rt, &mut draining, &mut feeding);
 }
 
-// The number of jobs that were accepted and are not left.
+// Returns the number of jobs that were accepted and are not left.
 fn taken_of_all(rest: &Rest) -> u64 {
     let mut taken: u64 = 0;
     for accepted in &rest.accepted {
@@ -218,7 +219,7 @@ fn taken_of_all(rest: &Rest) -> u64 {
     taken.wrapping_sub(rest.jobs.len() as u64)
 }
 
-// How many jobs each pass takes.
+// Returns how many jobs each pass takes.
 fn share(invocation: Invocation) -> usize
     requires lanes { invocation.sizes.lanes ≤ MAX_LANES }
     requires passes { 0 < invocation.sizes.passes }
@@ -227,7 +228,7 @@ fn share(invocation: Invocation) -> usize
     invocation.jobs * invocation.sizes.lanes as usize / invocation.sizes.passes as usize
 }
 
-// Runs the threads on a new line: the number of jobs that were taken, and the nanoseconds that it took.
+// Runs the threads on a new queue. Returns the number of jobs that were taken, and the nanoseconds.
 fn run_line<R: Threads + Wait + Sync + Clock, L: JobLine + SharedLine>(
     rt: &R,
     alloc: Global,
@@ -257,7 +258,7 @@ fn run_line<R: Threads + Wait + Sync + Clock, L: JobLine + SharedLine>(
     Some((taken_of_all(&rest), nanos?))
 }
 
-// What was measured of a run that took so many jobs, with the times of its calls in order.
+// Returns what was measured of a run, with the times of its calls in order.
 fn measured_of<R: Wait>(
     rt: &R,
     alloc: Global,
@@ -276,8 +277,8 @@ fn measured_of<R: Wait>(
     })
 }
 
-// Runs the threads on a new line: the number of jobs that were taken, the nanoseconds that it took, and
-// those of each call in order, where the calls were timed.
+// Runs the threads on a new queue. Returns the number of jobs that were taken, and the nanoseconds.
+// If calls were timed, it also returns those of each call in order.
 fn measure_line<R: Threads + Wait + Sync + Clock, L: JobLine + SharedLine>(
     rt: &R,
     alloc: Global,
@@ -297,7 +298,7 @@ fn measure_line<R: Threads + Wait + Sync + Clock, L: JobLine + SharedLine>(
     measured_of(rt, alloc, ran, &jobs, &taken)
 }
 
-/// Runs the line that the words ask for, and counts and times the jobs that were taken.
+/// Runs the queue that the arguments ask for. Counts the jobs that were taken, and times the run.
 pub(crate) fn measure<R: Threads + Wait + Sync + Clock>(
     rt: &R,
     alloc: Global,

@@ -1,34 +1,36 @@
-//! Runs parts of the program, so that they can be timed: `cube_bench MEASUREMENT [and MEASUREMENT]..`.
-//! One after the other, each prints what it counted.
+//! Runs parts of this repository so that they can be timed:
+//! `cube_bench MEASUREMENT [and MEASUREMENT]..`. The measurements run one after the other, and each
+//! prints what it counted.
 //!
 //! `rounds COLLECTIVE DIM TIMES` repeats one collective on `2^DIM` places. The collective is
-//! `broadcast`, `reduce`, `allreduce`, `scan` or `exscan`, of sums; its root is the last place. It prints a
-//! number that all places determine in the end.
+//! `broadcast`, `reduce`, `allreduce`, `scan` or `exscan`, of sums. Its root is the last place. It
+//! prints a digest: a number that all places determine in the end.
 //!
-//! `line LINE LANES PASSES CAPACITY JOBS [calls]` hands jobs through a line, which is `ruled` or
-//! `locked`. Each lane hands in JOBS jobs, and each pass takes as many as the others, each on a thread of
-//! its own. The jobs are made before. It prints the number of jobs that were taken, and on standard error
-//! the nanoseconds from the first submit to the last take. With `calls` it also reads the clock before
-//! and after each call, and standard error has six lines more: the nanoseconds of submits that were
-//! accepted, and of takes that had a job, each as median, 99 % and 99.9 %.
+//! `line LINE LANES PASSES CAPACITY JOBS [calls]` passes jobs through a queue, which is `ruled` or
+//! `locked`. Each lane submits JOBS jobs, and each pass takes as many as the others, each on a
+//! thread of its own. The jobs are made before. It prints the number of jobs that were taken, and
+//! on standard error the nanoseconds from the first submit to the last take. With `calls` it also
+//! reads the clock before and after each call. Then standard error has six more lines, in
+//! nanoseconds: median, 99 % and 99.9 % of accepted submits, and of takes that had a job.
 //!
-//! `tree SIZES THREADS TURNS [half]` takes and gives back regions of a running tree of dimension 10. Each
-//! thread has a station, which makes so many turns of one take and its release. SIZES is `leaf`, where
-//! each take asks for one processor, or `mixed` or `wide`, where those of a station ask for the dimensions
-//! 0 to 5, or 0 to 9, in turn. In place of THREADS, `solo` has the turns made by a tree in one hand, and
-//! `bits` by the allocation bits. With `half`, one more station holds a half of the machine all the
-//! while. It prints how many takes were given.
+//! `tree SIZES THREADS TURNS [half]` takes and releases blocks of a running tree of dimension 10.
+//! Each thread has a station, which makes TURNS turns of one take and its release. SIZES is `leaf`
+//! if each take asks for one processor. With `mixed` or `wide` those of a station ask for the
+//! dimensions 0 to 5, or 0 to 9, in turn. Instead of THREADS, `solo` has the turns made by a tree
+//! whose stations are all with one caller, and `bits` by the allocation bits. With `half`, one more
+//! station holds half of the machine all the while. It prints how many takes succeeded.
 //!
-//! `dispatch SHOP ITEMS LANES DISPATCHERS CAPACITY JOBS` runs a dispatcher on threads, where SHOP is
-//! `free`, the line with no lock and the tree, or `locked`, the line and the floor under a lock each.
-//! Each lane hands in JOBS all-reduces of ITEMS numbers, and DISPATCHERS workers answer them on subcubes
-//! of a machine of dimension 10, through a line of CAPACITY jobs. The jobs are made before. It prints
-//! the number of replies, and on standard error the nanoseconds from the opening of the shop to its
-//! end.
+//! `dispatch SHOP ITEMS LANES DISPATCHERS CAPACITY JOBS` runs a dispatcher on threads. SHOP is
+//! `free`, the lock-free queue and allocator, or `locked`, a queue and an allocator under a lock
+//! each. Each lane submits JOBS all-reduces of ITEMS numbers. DISPATCHERS workers run them on
+//! blocks of a machine of dimension 10, through a queue of CAPACITY jobs. The jobs are made before.
+//! It prints the number of replies, and on standard error the nanoseconds from the opening of the
+//! dispatcher to its end.
 //!
-//! `memory CALLS` makes calls that take memory, which is refused to them by whoever runs the program, and
-//! times nothing. CALLS is `cube`, `items`, `files`, or `shop SHOP JOBS` with SHOP as above and JOBS of one
-//! lane. After each call comes a line, its name and what came back, and it prints how many calls had memory.
+//! `memory CALLS` makes calls that allocate memory, and times nothing. It is for runs in which
+//! allocations are refused from outside. CALLS is `cube`, `items`, `files`, or `shop SHOP JOBS`
+//! with SHOP as above and JOBS of one lane. After each call it prints a line, the call's name and
+//! what came back. At the end it prints how many calls had memory.
 #![tactic(auto)]
 
 mod dispatch;
@@ -47,13 +49,13 @@ use std::rt::{Clock, Env};
 use std::sync::Wait;
 use std::thread::Threads;
 
-// The words of the command line, from the program's name on.
+// Returns the arguments, the program's name first.
 fn arguments<R: Env + AllocGlobal>(rt: &R) -> io::Result<Vec<String>> {
     let arguments = std::env::args(rt)?.collect(rt.alloc())?;
     Ok(arguments)
 }
 
-// Makes the measurement of these words, of which the first is its name.
+// Makes the measurement of these arguments. The first of them is its name.
 fn measure<R: Threads + Wait + Sync + Clock + Print>(
     rt: &R,
     alloc: Global,
@@ -72,7 +74,7 @@ fn measure<R: Threads + Wait + Sync + Clock + Print>(
     }
 }
 
-// Makes the measurements of these words one after the other, and prints what comes of each.
+// Makes the measurements of these arguments one after the other, and prints the result of each.
 fn measure_each<R: Threads + Wait + Sync + Clock + Print + Eprint>(
     rt: &R,
     alloc: Global,

@@ -1,8 +1,8 @@
-//! Calls that take memory, one after the other, so that it can be refused to them: the words `cube`,
-//! `items`, `files` or `shop SHOP JOBS`.
+//! Calls that allocate memory, one after the other, so that it can be refused to them. The
+//! arguments are `cube`, `items`, `files` or `shop SHOP JOBS`.
 //!
-//! Nothing is timed. After each call comes a line, its name and what came back, and after the last one
-//! how many calls had the memory that they asked for.
+//! Nothing is timed. After each call the program prints its name and what came back. After the last
+//! one it prints how many calls had the memory that they needed.
 
 mod cube;
 mod files;
@@ -26,13 +26,13 @@ enum Calls {
     Cube,
     Items,
     Files,
-    // On the shop with no lock, with so many jobs.
+    // On the lock-free dispatcher, with this many jobs.
     Free(usize),
-    // On the shop under locks, with so many jobs.
+    // On the dispatcher under locks, with this many jobs.
     Locked(usize),
 }
 
-// The calls on a shop that these words ask for, of which the first one is `shop`.
+// Returns the calls on a dispatcher that these arguments ask for. The first argument is `shop`.
 fn calls_of_shop(words: &[String]) -> Option<Calls> {
     let [_, shop, jobs, ..] = words else {
         return None;
@@ -47,7 +47,7 @@ fn calls_of_shop(words: &[String]) -> Option<Calls> {
     }
 }
 
-// The calls that these words ask for, if they ask for some.
+// Returns the calls that these arguments ask for, if they ask for some.
 fn calls_of(words: &[String]) -> Option<Calls> {
     match words.first()?.as_str() {
         "cube" => Some(Calls::Cube),
@@ -58,7 +58,7 @@ fn calls_of(words: &[String]) -> Option<Calls> {
     }
 }
 
-// Makes these calls: how many had memory.
+// Makes these calls. Returns how many had memory.
 fn call_all<R: Wait + Print>(rt: &R, alloc: Global, calls: Calls) -> io::Result<u64> {
     rt.println("begin")?;
     match calls {
@@ -70,7 +70,8 @@ fn call_all<R: Wait + Print>(rt: &R, alloc: Global, calls: Calls) -> io::Result<
     }
 }
 
-/// Makes the calls that the words ask for, and counts those that had the memory that they asked for.
+/// Makes the calls that the arguments ask for, and counts those that had the memory that they
+/// needed.
 pub(crate) fn measure<R: Wait + Print>(
     rt: &R,
     alloc: Global,

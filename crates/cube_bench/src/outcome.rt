@@ -1,24 +1,24 @@
-//! What comes of a measurement, and how it is printed.
+//! The result of a measurement, and how it is printed.
 use std::alloc::Global;
 use std::io;
 use std::rt::Clock;
 use std::time::Instant;
 
-/// What was measured.
+/// The result of a measurement.
 #[derive(Drop)]
 pub(crate) struct Measured {
-    /// What the run counted.
+    /// The number that the run counted.
     pub count: u64,
-    /// The nanoseconds that it took, where the program timed it.
+    /// The nanoseconds that the run took, if the program timed it.
     pub nanos: Option<u128>,
-    /// The nanoseconds of each submit that was accepted, in order, where calls were timed.
+    /// The nanoseconds of each submit that was accepted, in order, if calls were timed.
     pub submits: Vec<u64>,
-    /// The nanoseconds of each take that had a job, in order, where calls were timed.
+    /// The nanoseconds of each take that had a job, in order, if calls were timed.
     pub takes: Vec<u64>,
 }
 
 impl Measured {
-    /// A run that is timed from outside.
+    /// Makes the result of a run that is timed from outside.
     pub fn counted(alloc: Global, count: u64) -> Self {
         Measured {
             count,
@@ -28,7 +28,7 @@ impl Measured {
         }
     }
 
-    /// A run that took so many nanoseconds.
+    /// Makes the result of a run that took this many nanoseconds.
     pub fn timed(alloc: Global, count: u64, nanos: u128) -> Self {
         Measured {
             count,
@@ -39,21 +39,21 @@ impl Measured {
     }
 }
 
-/// Why nothing was measured.
+/// The reason why nothing was measured.
 pub(crate) enum MeasureError {
-    /// The words ask for no measurement.
+    /// The arguments ask for no measurement.
     BadWords,
-    /// There was no memory or no clock, or the output failed.
+    /// Memory or the clock was refused, or the output failed.
     Failed,
 }
 
-/// The nanoseconds since a reading of the clock.
+/// Returns the nanoseconds since a reading of the clock.
 pub(crate) fn nanos_since<R: Clock>(rt: &R, start: io::Result<Instant>) -> Option<u128> {
     let elapsed = start.ok()?.elapsed(rt).ok()?;
     Some(elapsed.as_nanos())
 }
 
-// The time that so many thousandths of the sorted times do not pass.
+// Returns the time that this many thousandths of the sorted times do not exceed.
 fn percentile(times: &[u64], thousandths: usize) -> u64 {
     match times.get((times.len() / 1000).saturating_mul(thousandths)) {
         Some(nanos) => *nanos,
@@ -61,7 +61,7 @@ fn percentile(times: &[u64], thousandths: usize) -> u64 {
     }
 }
 
-// Prints the median, 99 % and 99.9 % of sorted times, where there are some.
+// Prints the median, 99 % and 99.9 % of sorted times, if there are any.
 fn print_times<R: Eprint>(rt: &R, times: &[u64]) -> io::Result<()> {
     if times.is_empty() {
         return Ok(());

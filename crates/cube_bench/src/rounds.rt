@@ -1,4 +1,4 @@
-//! One collective on `2^DIM` places, so many times, so that it can be timed: the words
+//! Repeats one collective on `2^DIM` places so that it can be timed. The arguments are
 //! `COLLECTIVE DIM TIMES`.
 ghost use Rattle.std.specs.Prelude.{◌≡◌, ◌^◌, ◌<◌, ◌≤◌, All, IfSome, length};
 ghost use Rattle.collectives.specs.Operations.{IsU64};
@@ -20,7 +20,7 @@ enum Collective {
     ExScan,
 }
 
-// A number that all places determine.
+// Returns a number that all places determine.
 fn digest(items: &[Add]) -> u64 {
     let mut digest: u64 = 0;
     for item in items {
@@ -72,7 +72,7 @@ fn repeat(collective: Collective, dim: u32, times: u64, items: &mut [Add], scrat
     }
 }
 
-// The collective of this name.
+// Returns the collective of this name.
 fn collective_named(name: &str) -> Option<Collective> {
     match name {
         "broadcast" => Some(Collective::Broadcast),
@@ -84,7 +84,7 @@ fn collective_named(name: &str) -> Option<Collective> {
     }
 }
 
-// The run that the words ask for.
+// The run that the arguments ask for.
 #[derive(Clone, Copy)]
 struct Invocation {
     collective: Collective,
@@ -92,7 +92,7 @@ struct Invocation {
     times: u64,
 }
 
-// The run that the words ask for, if they are well formed.
+// Returns the run that the arguments ask for, if they are well formed.
 fn parse_words(words: &[String]) -> Option<Invocation>
     ensures { IfSome result (λ invocation. invocation.dim ≤ MAX_DIM) }
 {
@@ -117,7 +117,8 @@ fn parse_words(words: &[String]) -> Option<Invocation>
     })
 }
 
-// The digest of the items after `times` runs of a collective, from the ranks as the first items.
+// Returns the digest of the items after `times` runs of a collective. The first items are the
+// ranks.
 fn digest_after(alloc: Global, invocation: Invocation) -> Result<u64, AllocError>
     requires { invocation.dim ≤ MAX_DIM }
 {
@@ -134,7 +135,7 @@ fn digest_after(alloc: Global, invocation: Invocation) -> Result<u64, AllocError
     Ok(digest(&items))
 }
 
-/// Runs the collective that the words ask for, so many times, and counts a number that all places
+/// Repeats the collective that the arguments ask for. Its count is a number that all places
 /// determine in the end.
 pub(crate) fn measure(alloc: Global, words: &[String]) -> Result<Measured, MeasureError> {
     let Some(invocation) = parse_words(words) else {

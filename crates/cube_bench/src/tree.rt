@@ -1,5 +1,5 @@
-//! Takes and gives back regions of a running tree of dimension 10, so that it can be timed: the words
-//! `SIZES THREADS TURNS [half]`.
+//! Takes and releases blocks of a running tree of dimension 10 so that it can be timed. The
+//! arguments are `SIZES THREADS TURNS [half]`.
 ghost use Rattle.cube_bench.specs.TreeWords.{HasLanes};
 
 mod alone;
@@ -15,7 +15,7 @@ use std::sync::Wait;
 use std::thread::Threads;
 use words::{TreeRun, parse_words};
 
-// How many takes are given in this run.
+// Returns how many takes succeed in this run.
 fn given_takes<R: Threads + Wait + Sync>(rt: &R, alloc: Global, run: TreeRun) -> Option<u64>
     requires { HasLanes run }
 {
@@ -26,7 +26,7 @@ fn given_takes<R: Threads + Wait + Sync>(rt: &R, alloc: Global, run: TreeRun) ->
     }
 }
 
-/// Makes the run that the words ask for, and counts how many takes were given.
+/// Makes the run that the arguments ask for, and counts how many takes succeeded.
 pub(crate) fn measure<R: Threads + Wait + Sync>(
     rt: &R,
     alloc: Global,

@@ -18,8 +18,18 @@ use Rattle.cube_core.proofs.ChangeLemmas.{Fit, Agrees, Change, quiet, claimed, r
 use Rattle.cube_core.proofs.MoveLemmas.{Move, begins_take, begins_release, retires, looks_free, looks_used, claims, claims_lost, sweeps, raises, raises_under, zeroes, zeroes_back, unmarks, marks, marks_stop, looks_left, looks_right, clears, clears_lost}
 use Rattle.cube_core.proofs.SeenFreeLemmas.{Shut, passed_swept}
 
--- quiet from a phase that is written out
-quiet_from : {n : ℕ} {W : ℕ → ℕ} {P : ℕ → Phase} {v y u : ℕ} {q : Phase} {V : ℕ → ℕ} {Q : ℕ → Phase} (p : Phase) → P u ≡ p → Change W P v y u q V Q → Agrees n W P → Fit n q → owned q ≡ owned p → stop q ≡ stop p → (0 < v → IsOccupied y ↔ IsOccupied (W v)) → (0 < v → (i : ℕ) → i < 3 → IsSet (W v) i → IsSet y i) → Agrees n V Q
+-- `quiet`, for a phase that is given by an equation
+quiet_from : {n : ℕ} {W : ℕ → ℕ} {P : ℕ → Phase} {v y u : ℕ} {q : Phase} {V : ℕ → ℕ} {Q : ℕ → Phase}
+    (p : Phase)
+    → P u ≡ p
+    → Change W P v y u q V Q
+    → Agrees n W P
+    → Fit n q
+    → owned q ≡ owned p
+    → stop q ≡ stop p
+    → (0 < v → IsOccupied y ↔ IsOccupied (W v))
+    → (0 < v → (i : ℕ) → i < 3 → IsSet (W v) i → IsSet y i)
+    → Agrees n V Q
 quiet_from p is x k fit own at occ grows =
     let stops = ap stop is in
     quiet x k fit (own ∙ sym (ap owned is)) (omega (arith, stops, at)) occ grows
@@ -35,8 +45,18 @@ not_seen_free seen.NotYet other = refl
 not_seen_free seen.Free other = absurd (other refl)
 not_seen_free seen.Used other = refl
 
--- a Clear leaves the sides through which a station has passed, since their children were not seen free
-side_stays : {n : ℕ} {W : ℕ → ℕ} {P : ℕ → Phase} (u a w : ℕ) (left right : Seen) → Agrees n W P → Shut W P → P u ≡ Marked a w left right → 0 < a → W a ≡ w → (t c : ℕ) → c / 2 ≡ a → HasPassed (P t) c → HasSide (side_of c) (cleared_as_seen w left right)
+-- a Clear keeps the sides through which a station has passed, since their children were not seen
+-- free
+side_stays : {n : ℕ} {W : ℕ → ℕ} {P : ℕ → Phase} (u a w : ℕ) (left right : Seen)
+    → Agrees n W P
+    → Shut W P
+    → P u ≡ Marked a w left right
+    → 0 < a
+    → W a ≡ w
+    → (t c : ℕ)
+    → c / 2 ≡ a
+    → HasPassed (P t) c
+    → HasSide (side_of c) (cleared_as_seen w left right)
 side_stays {W = W} {P = P} u a w left right k shut is positive word t c node on = by_side (side_of c) refl (subst (HasSide (side_of c)) word (subst (λ b. HasSide (side_of c) (W b)) node (k.sides t c on)))
   where
     mark : IsMarked u (W (c / 2))
@@ -45,11 +65,21 @@ side_stays {W = W} {P = P} u a w left right k shut is positive word t c node on 
     not_free : saw (P u) (side_of c) ≡ seen.Free → ⊥
     not_free free = shut.shut u t c (subst (λ b. 0 < b) (sym node) positive, ap marked_at is ∙ sym node) mark free (passed_swept (P t) c on)
 
-    by_side : (side : Side) → side_of c ≡ side → HasSide side w → HasSide side (cleared_as_seen w left right)
+    by_side : (side : Side)
+        → side_of c ≡ side
+        → HasSide side w
+        → HasSide side (cleared_as_seen w left right)
     by_side Left is_left has = (cleared-left w (is_seen_free left) (is_seen_free right)).1 (has, not_seen_free left (λ free. not_free (ap (λ p. saw p (side_of c)) is ∙ ap (saw (Marked a w left right)) is_left ∙ free)))
     by_side Right is_right has = (cleared-right w (is_seen_free left) (is_seen_free right)).1 (has, not_seen_free right (λ free. not_free (ap (λ p. saw p (side_of c)) is ∙ ap (saw (Marked a w left right)) is_right ∙ free)))
 
-pub agrees_kept : {n : ℕ} {W : ℕ → ℕ} {P : ℕ → Phase} {p : Phase} {u v y : ℕ} {q : Phase} {V : ℕ → ℕ} {Q : ℕ → Phase} → Move n u W p v y q → P u ≡ p → Change W P v y u q V Q → Agrees n W P → Shut W P → Agrees n V Q
+pub agrees_kept : {n : ℕ} {W : ℕ → ℕ} {P : ℕ → Phase} {p : Phase} {u v y : ℕ} {q : Phase}
+    {V : ℕ → ℕ} {Q : ℕ → Phase}
+    → Move n u W p v y q
+    → P u ≡ p
+    → Change W P v y u q V Q
+    → Agrees n W P
+    → Shut W P
+    → Agrees n V Q
 agrees_kept {W = W} (begins_take h i) is x k shut = quiet_from Idle is x k i refl refl (same_occ 0 (W 0)) (same_bits 0 (W 0))
 agrees_kept {W = W} (begins_release h i) is x k shut = quiet_from (Holding h) is x k i refl refl (same_occ 0 (W 0)) (same_bits 0 (W 0))
 agrees_kept retires is x k shut = quiet_from Idle is x k tt refl refl (λ positive. absurd (omega arith)) (λ positive. absurd (omega arith))

@@ -21,7 +21,8 @@ use_of-small w small = and_mask w 3 ∙ mod-eq_of_lt small
 pub use_of-twice : (w : ℕ) → use_of (use_of w) ≡ use_of w
 use_of-twice w = use_of-small (use_of w) (omega (arith, and_le_r w 7))
 
-pub use_of-cleared : (w : ℕ) (left right : Bool) → use_of (cleared w left right) ≡ cleared w left right
+pub use_of-cleared : (w : ℕ) (left right : Bool)
+    → use_of (cleared w left right) ≡ cleared w left right
 use_of-cleared w false false = use_of-small (bit_and w 7) (omega (arith, and_le_r w 7))
 use_of-cleared w true false = use_of-small (bit_and w 5) (omega (arith, and_le_r w 5))
 use_of-cleared w false true = use_of-small (bit_and w 3) (omega (arith, and_le_r w 3))
@@ -29,7 +30,7 @@ use_of-cleared w true true = use_of-small (bit_and w 1) (omega (arith, and_le_r 
 
 -- ---- words in use
 
--- a word that has the bits of use of another is in use where that one is
+-- a word with the bits of use of another is in use if the other is
 pub IsInUse-more : (x y : ℕ) → ((i : ℕ) → i < 3 → IsSet x i → IsSet y i) → IsInUse x → IsInUse y
 IsInUse-more x y more in_use = elim (IsInUse-cases x in_use) [
   | inl occupied ↦ IsOccupied-in_use y (more 0 (lit< tt) occupied)
@@ -53,7 +54,7 @@ IsInUse-with_mark s w = (IsInUse-more (with_mark s w) w (λ i low. (with_mark-us
 pub IsInUse-with_side : (side : Side) (w : ℕ) → IsInUse (with_side side w)
 IsInUse-with_side side w = HasSide-in_use side (with_side side w) (with_side-has side w)
 
--- and a side no mark
+-- nor does a side change a mark
 pub with_side-marks : (side : Side) (w s : ℕ) → IsMarked s (with_side side w) → IsMarked s w
 with_side-marks side w s marked = with_side-others side w (mark_bit s) (λ is. far (side_bit-low side) is) marked
   where
@@ -69,7 +70,7 @@ with_mark-other s t w other marked = with_mark-others s w (mark_bit t) (λ is. o
 pub cleared-had : (w : ℕ) (left right : Bool) (i : ℕ) → IsSet (cleared w left right) i → IsSet w i
 cleared-had w left right i set = IsSet-and_left w (kept_bits left right) i set
 
--- what has no OCC and loses both sides is free
+-- a word without OCC is free once it loses both sides
 pub cleared-none : (w : ℕ) → (IsOccupied w → ⊥) → IsInUse (cleared w true true) → ⊥
 cleared-none w unoccupied in_use = elim (IsInUse-cases (cleared w true true) in_use) [
   | inl occupied ↦ unoccupied ((cleared-occupied w true true).0 occupied)

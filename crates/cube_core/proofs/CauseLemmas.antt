@@ -27,13 +27,14 @@ use Rattle.cube_core.proofs.ConsequenceLemmas.{in_use_engaged}
 use Rattle.cube_core.proofs.StandsLemmas.{Stands}
 use Rattle.cube_core.proofs.CountLemmas.{stepped}
 
--- a node that is not there has the word 0
+-- a node that does not exist has the word 0
 pub no_word : (w : State) → Stands w → (v : ℕ) → 2 ^ (w.dim + 1) ≤ v → word_of w v ≡ 0
 no_word w k v past = get_or_past w.words v 0 (subst (λ m. m ≤ v) (sym k.word_count) past)
 
--- ---- who else is engaged
+-- ---- which other station is engaged
 
--- the owner, or the one to clear, is no station that owns nothing and is to clear nothing
+-- the station owns nothing and is to clear nothing, so another one is the owner, or the one to
+-- clear
 record IsUnengaged (w : State) (s : ℕ) : Type 0 where
   owns_none : owned (phase_of w s) ≡ 0
   clears_none : to_clear (phase_of w s) ≡ 0
@@ -42,11 +43,19 @@ not_engaged : (w : State) (s v : ℕ) → IsUnengaged w s → IsEngagedAt (phase
 not_engaged w s v none (inl on) = OnPath-zero v (subst (OnPath v) none.owns_none on)
 not_engaged w s v none (inr on) = OnPath-zero v (subst (OnPath v) none.clears_none on)
 
-other_at : (w : State) (s t v : ℕ) → IsUnengaged w s → IsEngagedAt (phase_of w t) v → HasOtherAt w s v
+other_at : (w : State) (s t v : ℕ)
+    → IsUnengaged w s
+    → IsEngagedAt (phase_of w t) v
+    → HasOtherAt w s v
 other_at w s t v none engaged = (t, (λ same. not_engaged w s v none (subst (λ i. IsEngagedAt (phase_of w i) v) same engaged)), engaged)
 
--- where the word of a node is in use
-other_in_use : (w : State) (s v : ℕ) → Stands w → IsUnengaged w s → 0 < v → IsInUse (word_of w v) → HasOtherAt w s v
+-- if the word of a node is in use
+other_in_use : (w : State) (s v : ℕ)
+    → Stands w
+    → IsUnengaged w s
+    → 0 < v
+    → IsInUse (word_of w v)
+    → HasOtherAt w s v
 other_in_use w s v k none positive used =
     let found = in_use_engaged k.holds (2 ^ (w.dim + 1)) (no_word w k) v positive used in
     other_at w s found.0 v none found.1
@@ -66,14 +75,25 @@ marked_clears (Unmarked a) v positive at = absurd (omega (arith, positive, at))
 marked_clears (Marked a w left right) v positive at = at
 marked_clears Retired v positive at = absurd (omega (arith, positive, at))
 
--- where the word of a node is free and not 0
-other_marked : (w : State) (s v : ℕ) → Stands w → IsUnengaged w s → 0 < v → IsFree (word_of w v) → word_of w v ≢ 0 → HasOtherAt w s v
+-- if the word of a node is free and not 0
+other_marked : (w : State) (s v : ℕ)
+    → Stands w
+    → IsUnengaged w s
+    → 0 < v
+    → IsFree (word_of w v)
+    → word_of w v ≢ 0
+    → HasOtherAt w s v
 other_marked w s v k none positive free some =
     let found = k.holds.witnessed.witness v positive free some in
     other_at w s found.0 v none (inr (subst (OnPath v) (sym (marked_clears (phase_of w found.0) v positive found.1.0)) (OnPath-self v positive)))
 
--- where it is not 0
-other_not_zero : (w : State) (s v : ℕ) → Stands w → IsUnengaged w s → 0 < v → word_of w v ≢ 0 → HasOtherAt w s v
+-- if it is not 0
+other_not_zero : (w : State) (s v : ℕ)
+    → Stands w
+    → IsUnengaged w s
+    → 0 < v
+    → word_of w v ≢ 0
+    → HasOtherAt w s v
 other_not_zero w s v k none positive some = elim (cases_eq (use_of (word_of w v)) 0) [
   | inl free ↦ other_marked w s v k none positive free some
   | inr used ↦ other_in_use w s v k none positive used
@@ -84,7 +104,13 @@ other_not_zero w s v k none positive some = elim (cases_eq (use_of (word_of w v)
 abbrev event_of : ℕ → Kind → ℕ → ℕ → Note → Event
 event_of s kind node word its_note = record { station = s; kind = kind; node = node; word = word; note = its_note }
 
-look_caused : (w : State) (s h : ℕ) → Stands w → phase_of w s ≡ Looking h → 0 < h → (t : Bool) → is_free (word_of w h) ≡ t → HasCause w s (event_of s Look h (word_of w h) (cond t note.Free note.InUse))
+look_caused : (w : State) (s h : ℕ)
+    → Stands w
+    → phase_of w s ≡ Looking h
+    → 0 < h
+    → (t : Bool)
+    → is_free (word_of w h) ≡ t
+    → HasCause w s (event_of s Look h (word_of w h) (cond t note.Free note.InUse))
 look_caused w s h k is positive true free = record {
   look = λ _ refused. absurd (cc);
   claim = λ other _. absurd (cc);
@@ -100,12 +126,19 @@ look_caused w s h k is positive false used = record {
 raise_note : (a : ℕ) → (note_after_raise a ≢ note.Lost) × (note_after_raise a ≢ note.Under)
 raise_note a = turn (eqb a 1)
   where
-    turn : (t : Bool) → (cond t note.Held note.Climb ≢ note.Lost) × (cond t note.Held note.Climb ≢ note.Under)
+    turn : (t : Bool)
+        → (cond t note.Held note.Climb ≢ note.Lost) × (cond t note.Held note.Climb ≢ note.Under)
     turn true = (λ e. cc, λ e. cc)
     turn false = (λ e. cc, λ e. cc)
 
 -- a Claim that finds 0 had read another word, so one with a mark
-claim_caused : (w : State) (s h read y : ℕ) → Stands w → phase_of w s ≡ Looked h read → 0 < h → (t : Bool) → eqb (word_of w h) read ≡ t → HasCause w s (event_of s Claim h y (cond t (note_after_raise h) note.Lost))
+claim_caused : (w : State) (s h read y : ℕ)
+    → Stands w
+    → phase_of w s ≡ Looked h read
+    → 0 < h
+    → (t : Bool)
+    → eqb (word_of w h) read ≡ t
+    → HasCause w s (event_of s Claim h y (cond t (note_after_raise h) note.Lost))
 claim_caused w s h read y k is positive true same = record {
   look = λ other _. absurd (cc);
   claim = λ _ lost. absurd ((raise_note h).0 lost);
@@ -122,7 +155,14 @@ claim_caused w s h read y k is positive false differs = record {
   raise = λ other _. absurd (cc);
 }
 
-raise_caused : (w : State) (s h a y : ℕ) → Stands w → phase_of w s ≡ Swept h a → a < h → OnPath a h → (t : Bool) → is_occupied (word_of w a) ≡ t → HasCause w s (event_of s Raise a y (cond t note.Under (note_after_raise a)))
+raise_caused : (w : State) (s h a y : ℕ)
+    → Stands w
+    → phase_of w s ≡ Swept h a
+    → a < h
+    → OnPath a h
+    → (t : Bool)
+    → is_occupied (word_of w a) ≡ t
+    → HasCause w s (event_of s Raise a y (cond t note.Under (note_after_raise a)))
 raise_caused w s h a y k is below on true occupied = record {
   look = λ other _. absurd (cc);
   claim = λ other _. absurd (cc);
@@ -143,7 +183,11 @@ raise_caused w s h a y k is below on false free = record {
 -- ---- every event
 
 -- an event of another kind refuses no try
-other_kind : (w : State) (s : ℕ) (event : Event) → event.kind ≢ Look → event.kind ≢ Claim → event.kind ≢ Raise → HasCause w s event
+other_kind : (w : State) (s : ℕ) (event : Event)
+    → event.kind ≢ Look
+    → event.kind ≢ Claim
+    → event.kind ≢ Raise
+    → HasCause w s event
 other_kind w s event no_look no_claim no_raise = record {
   look = λ is _. absurd (no_look is);
   claim = λ is _. absurd (no_claim is);
@@ -159,7 +203,8 @@ newest otherwise (event ∷ _) = event
 abbrev made_in : State → ℕ → Phase → Event → Event
 made_in w s p otherwise = newest otherwise ((transition s p).events (word_of w (transition s p).node) ++ trail_of w s)
 
-marked_caused : (w : State) (s a x : ℕ) (left right : Seen) (otherwise : Event) → HasCause w s (made_in w s (Marked a x left right) otherwise)
+marked_caused : (w : State) (s a x : ℕ) (left right : Seen) (otherwise : Event)
+    → HasCause w s (made_in w s (Marked a x left right) otherwise)
 marked_caused w s a x seen.NotYet right otherwise = other_kind w s _ (λ e. cc) (λ e. cc) (λ e. cc)
 marked_caused w s a x seen.Free seen.NotYet otherwise = other_kind w s _ (λ e. cc) (λ e. cc) (λ e. cc)
 marked_caused w s a x seen.Used seen.NotYet otherwise = other_kind w s _ (λ e. cc) (λ e. cc) (λ e. cc)
@@ -168,7 +213,13 @@ marked_caused w s a x seen.Free seen.Used otherwise = other_kind w s _ (λ e. cc
 marked_caused w s a x seen.Used seen.Free otherwise = other_kind w s _ (λ e. cc) (λ e. cc) (λ e. cc)
 marked_caused w s a x seen.Used seen.Used otherwise = other_kind w s _ (λ e. cc) (λ e. cc) (λ e. cc)
 
-phase_caused : (w : State) (s : ℕ) (otherwise : Event) → Stands w → (p : Phase) → phase_of w s ≡ p → step_refusal p ≡ None → Fit w.dim p → HasCause w s (made_in w s p otherwise)
+phase_caused : (w : State) (s : ℕ) (otherwise : Event)
+    → Stands w
+    → (p : Phase)
+    → phase_of w s ≡ p
+    → step_refusal p ≡ None
+    → Fit w.dim p
+    → HasCause w s (made_in w s p otherwise)
 phase_caused w s otherwise k Idle is none fit = absurd (cc)
 phase_caused w s otherwise k (Looking h) is none fit = look_caused w s h k is fit.0 (is_free (word_of w h)) refl
 phase_caused w s otherwise k (Looked h x) is none fit = claim_caused w s h x _ k is fit.0.0 (eqb (word_of w h) x) refl
@@ -183,7 +234,12 @@ phase_caused w s otherwise k (Marked a x left right) is none fit = marked_caused
 phase_caused w s otherwise k Retired is none fit = absurd (cc)
 
 -- the event that an accepted step adds
-pub caused : (w : State) → Stands w → (s : ℕ) (event : Event) → refusal (Step s) w ≡ None → trail_of (apply (Step s) w) s ≡ event ∷ trail_of w s → HasCause w s event
+pub caused : (w : State)
+    → Stands w
+    → (s : ℕ) (event : Event)
+    → refusal (Step s) w ≡ None
+    → trail_of (apply (Step s) w) s ≡ event ∷ trail_of w s
+    → HasCause w s event
 caused w k s event none told =
     let step = stepped w s none in
     subst (HasCause w s) (ap (newest event) (sym (ap (λ (r : Record). r.trail) step.record_is) ∙ told))

@@ -47,30 +47,50 @@ pub record Agrees (n : ℕ) (W : ℕ → ℕ) (P : ℕ → Phase) : Type 0 where
 -- ---- one word and one phase change
 
 -- word v becomes y and station u gets phase q: words W and phases P become V and Q
-pub record Change (W : ℕ → ℕ) (P : ℕ → Phase) (v y u : ℕ) (q : Phase) (V : ℕ → ℕ) (Q : ℕ → Phase) : Type 0 where
+pub record Change (W : ℕ → ℕ) (P : ℕ → Phase) (v y u : ℕ) (q : Phase) (V : ℕ → ℕ) (Q : ℕ → Phase) :
+    Type 0 where
   pub word_here : V v ≡ y
   pub word_else : (a : ℕ) → a ≢ v → V a ≡ W a
   pub phase_here : Q u ≡ q
   pub phase_else : (t : ℕ) → t ≢ u → Q t ≡ P t
 
--- what holds of the station's new phase and of the others' old ones holds of all
-pub each : {W : ℕ → ℕ} {P : ℕ → Phase} {v y u : ℕ} {q : Phase} {V : ℕ → ℕ} {Q : ℕ → Phase} → Change W P v y u q V Q → (F : ℕ → Phase → Type 0) → F u q → ((t : ℕ) → t ≢ u → F t (P t)) → (t : ℕ) → F t (Q t)
+-- what holds for the station's new phase and for the others' old ones holds for all
+pub each : {W : ℕ → ℕ} {P : ℕ → Phase} {v y u : ℕ} {q : Phase} {V : ℕ → ℕ} {Q : ℕ → Phase}
+    → Change W P v y u q V Q
+    → (F : ℕ → Phase → Type 0)
+    → F u q
+    → ((t : ℕ) → t ≢ u → F t (P t))
+    → (t : ℕ)
+    → F t (Q t)
 each {u = u} {Q = Q} x F here others t = elim (cases_eq t u) [
   | inl at ↦ subst (λ i. F i (Q i)) (sym at) (subst (F u) (sym x.phase_here) here)
   | inr other ↦ subst (F t) (sym (x.phase_else t other)) (others t other)
 ]
 
 -- and so for the words
-pub each_word : {W : ℕ → ℕ} {P : ℕ → Phase} {v y u : ℕ} {q : Phase} {V : ℕ → ℕ} {Q : ℕ → Phase} → Change W P v y u q V Q → (F : ℕ → ℕ → Type 0) → F v y → ((a : ℕ) → a ≢ v → F a (W a)) → (a : ℕ) → F a (V a)
+pub each_word : {W : ℕ → ℕ} {P : ℕ → Phase} {v y u : ℕ} {q : Phase} {V : ℕ → ℕ} {Q : ℕ → Phase}
+    → Change W P v y u q V Q
+    → (F : ℕ → ℕ → Type 0)
+    → F v y
+    → ((a : ℕ) → a ≢ v → F a (W a))
+    → (a : ℕ)
+    → F a (V a)
 each_word {v = v} {V = V} x F here others a = elim (cases_eq a v) [
   | inl at ↦ subst (λ i. F i (V i)) (sym at) (subst (F v) (sym x.word_here) here)
   | inr other ↦ subst (F a) (sym (x.word_else a other)) (others a other)
 ]
 
--- ---- what every event keeps that leaves the owners alone
+-- ---- what every event keeps that changes no owner
 
 -- no station's owned node and no word's OCC changes
-pub owners_kept : {n : ℕ} {W : ℕ → ℕ} {P : ℕ → Phase} {V : ℕ → ℕ} {Q : ℕ → Phase} → Agrees n W P → ((s : ℕ) → owned (Q s) ≡ owned (P s)) → ((v : ℕ) → 0 < v → IsOccupied (V v) ↔ IsOccupied (W v)) → ((s : ℕ) → Fit n (Q s)) → ((s c : ℕ) → HasPassed (Q s) c → HasSide (side_of c) (V (c / 2))) → ((s t c : ℕ) → owned (Q s) ≡ c / 2 → HasPassed (Q t) c → ⊥) → Agrees n V Q
+pub owners_kept : {n : ℕ} {W : ℕ → ℕ} {P : ℕ → Phase} {V : ℕ → ℕ} {Q : ℕ → Phase}
+    → Agrees n W P
+    → ((s : ℕ) → owned (Q s) ≡ owned (P s))
+    → ((v : ℕ) → 0 < v → IsOccupied (V v) ↔ IsOccupied (W v))
+    → ((s : ℕ) → Fit n (Q s))
+    → ((s c : ℕ) → HasPassed (Q s) c → HasSide (side_of c) (V (c / 2)))
+    → ((s t c : ℕ) → owned (Q s) ≡ c / 2 → HasPassed (Q t) c → ⊥)
+    → Agrees n V Q
 owners_kept {W = W} {P = P} {V = V} {Q = Q} k owns occ fit sides apart = record {
   fit = fit;
   sides = sides;
@@ -81,12 +101,24 @@ owners_kept {W = W} {P = P} {V = V} {Q = Q} k owns occ fit sides apart = record 
 }
 
 -- the same words and phases
-pub Agrees-same : {n : ℕ} {W : ℕ → ℕ} {P : ℕ → Phase} {Q : ℕ → Phase} → ((s : ℕ) → Q s ≡ P s) → Agrees n W P → Agrees n W Q
+pub Agrees-same : {n : ℕ} {W : ℕ → ℕ} {P : ℕ → Phase} {Q : ℕ → Phase}
+    → ((s : ℕ) → Q s ≡ P s)
+    → Agrees n W P
+    → Agrees n W Q
 Agrees-same {n = n} same k = owners_kept k (λ s. ap owned (same s)) (λ v _. (λ o. o, λ o. o)) (λ s. subst (Fit n) (sym (same s)) (k.fit s)) (λ s c on. k.sides s c (subst (λ p. HasPassed p c) (same s) on)) (λ s t c o on. k.apart s t c (sym (ap owned (same s)) ∙ o) (subst (λ p. HasPassed p c) (same t) on))
 
--- a word of a node keeps its bits of use, and a station owns what it owned and has passed no more:
--- all moves but a Claim that wins, a Raise that finds no OCC, a Zero and a Clear that wins
-pub quiet : {n : ℕ} {W : ℕ → ℕ} {P : ℕ → Phase} {v y u : ℕ} {q : Phase} {V : ℕ → ℕ} {Q : ℕ → Phase} → Change W P v y u q V Q → Agrees n W P → Fit n q → owned q ≡ owned (P u) → stop (P u) ≤ stop q → (0 < v → IsOccupied y ↔ IsOccupied (W v)) → (0 < v → (i : ℕ) → i < 3 → IsSet (W v) i → IsSet y i) → Agrees n V Q
+-- a word of a node keeps its bits of use, and a station owns what it owned and has passed no more.
+-- These are all moves except a Claim that wins, a Raise that finds no OCC, a Zero and a Clear that
+-- wins
+pub quiet : {n : ℕ} {W : ℕ → ℕ} {P : ℕ → Phase} {v y u : ℕ} {q : Phase} {V : ℕ → ℕ} {Q : ℕ → Phase}
+    → Change W P v y u q V Q
+    → Agrees n W P
+    → Fit n q
+    → owned q ≡ owned (P u)
+    → stop (P u) ≤ stop q
+    → (0 < v → IsOccupied y ↔ IsOccupied (W v))
+    → (0 < v → (i : ℕ) → i < 3 → IsSet (W v) i → IsSet y i)
+    → Agrees n V Q
 quiet {n = n} {W = W} {P = P} {u = u} {V = V} {Q = Q} x k fit own further occ grows = owners_kept k owns occ_all fit_all (λ s c on. grown (c / 2) (omega (arith, on.1)) (side_bit (side_of c)) (side_bit-low (side_of c)) (k.sides s c (passed s c on))) (λ s t c o on. k.apart s t c (sym (owns s) ∙ o) (passed t c on))
   where
     owns : (s : ℕ) → owned (Q s) ≡ owned (P s)
@@ -110,8 +142,17 @@ has_both : (side : Side) → HasSide side busy
 has_both Left = refl
 has_both Right = refl
 
--- a free word becomes BUSY, and its station owns the node, with all ancestors before it
-pub claimed : {n : ℕ} {W : ℕ → ℕ} {P : ℕ → Phase} {h u : ℕ} {q : Phase} {V : ℕ → ℕ} {Q : ℕ → Phase} → Change W P h busy u q V Q → Agrees n W P → owned (P u) ≡ 0 → IsFree (W h) → 0 < h → Fit n q → owned q ≡ h → stop q ≡ h / 2 → Agrees n V Q
+-- a free word becomes BUSY, and its station owns the node and has passed none of its ancestors
+pub claimed : {n : ℕ} {W : ℕ → ℕ} {P : ℕ → Phase} {h u : ℕ} {q : Phase} {V : ℕ → ℕ} {Q : ℕ → Phase}
+    → Change W P h busy u q V Q
+    → Agrees n W P
+    → owned (P u) ≡ 0
+    → IsFree (W h)
+    → 0 < h
+    → Fit n q
+    → owned q ≡ h
+    → stop q ≡ h / 2
+    → Agrees n V Q
 claimed {n = n} {W = W} {P = P} {h = h} {u = u} {q = q} {V = V} {Q = Q} x k none free positive fit own at = record {
   fit = each x (λ s p. Fit n p) fit (λ t _. k.fit t);
   sides = λ s c on. grown (side_of c) (c / 2) (k.sides s c (passed s c on).1);
@@ -153,13 +194,24 @@ claimed {n = n} {W = W} {P = P} {h = h} {u = u} {q = q} {V = V} {Q = Q} x k none
 
 -- ---- a Raise that finds no OCC
 
--- a side more leaves OCC alone
+-- a further side does not change OCC
 pub with_side-occupied : (side : Side) (w : ℕ) → IsOccupied (with_side side w) ↔ IsOccupied w
 with_side-occupied Left w = (with_side-others Left w 0 (λ e. omega arith), with_side-keeps Left w 0)
 with_side-occupied Right w = (with_side-others Right w 0 (λ e. omega arith), with_side-keeps Right w 0)
 
 -- the side of the child towards h is set at its parent a, and the station has passed a
-pub raised : {n : ℕ} {W : ℕ → ℕ} {P : ℕ → Phase} {a h u : ℕ} {q : Phase} {V : ℕ → ℕ} {Q : ℕ → Phase} → Change W P a (with_side (side_of (child_towards a h)) (W a)) u q V Q → Agrees n W P → (IsOccupied (W a) → ⊥) → OnPath a h → a < h → owned (P u) ≡ h → stop (P u) ≡ a → Fit n q → owned q ≡ h → stop q ≡ a / 2 → Agrees n V Q
+pub raised : {n : ℕ} {W : ℕ → ℕ} {P : ℕ → Phase} {a h u : ℕ} {q : Phase} {V : ℕ → ℕ} {Q : ℕ → Phase}
+    → Change W P a (with_side (side_of (child_towards a h)) (W a)) u q V Q
+    → Agrees n W P
+    → (IsOccupied (W a) → ⊥)
+    → OnPath a h
+    → a < h
+    → owned (P u) ≡ h
+    → stop (P u) ≡ a
+    → Fit n q
+    → owned q ≡ h
+    → stop q ≡ a / 2
+    → Agrees n V Q
 raised {n = n} {W = W} {P = P} {a = a} {h = h} {u = u} {q = q} {V = V} {Q = Q} x k unoccupied above less was_own was_at fit own at = owners_kept k owns occ fit_all sides apart
   where
     child_is : (child_towards a h / 2 ≡ a) × OnPath (child_towards a h) h
@@ -216,7 +268,14 @@ raised {n = n} {W = W} {P = P} {a = a} {h = h} {u = u} {q = q} {V = V} {Q = Q} x
 -- ---- a Zero
 
 -- the word of the node that a station owns becomes 0, and the station owns nothing
-pub zeroed : {n : ℕ} {W : ℕ → ℕ} {P : ℕ → Phase} {h u : ℕ} {q : Phase} {V : ℕ → ℕ} {Q : ℕ → Phase} → Change W P h 0 u q V Q → Agrees n W P → owned (P u) ≡ h → 0 < h → Fit n q → owned q ≡ 0 → Agrees n V Q
+pub zeroed : {n : ℕ} {W : ℕ → ℕ} {P : ℕ → Phase} {h u : ℕ} {q : Phase} {V : ℕ → ℕ} {Q : ℕ → Phase}
+    → Change W P h 0 u q V Q
+    → Agrees n W P
+    → owned (P u) ≡ h
+    → 0 < h
+    → Fit n q
+    → owned q ≡ 0
+    → Agrees n V Q
 zeroed {n = n} {W = W} {P = P} {h = h} {u = u} {q = q} {V = V} {Q = Q} x k own positive fit none = record {
   fit = each x (λ s p. Fit n p) fit (λ t _. k.fit t);
   sides = λ s c on. each_word x (λ a w. c / 2 ≡ a → HasSide (side_of c) (W a) → HasSide (side_of c) w) (λ is _. absurd (k.apart u s c (own ∙ sym is) (passed s c on).1)) (λ a _ _ has. has) (c / 2) refl (k.sides s c (passed s c on).1);
@@ -249,8 +308,17 @@ zeroed {n = n} {W = W} {P = P} {h = h} {u = u} {q = q} {V = V} {Q = Q} x k own p
 
 -- ---- a Clear that wins
 
--- no word's OCC changes, and no side goes that a station has passed through
-pub cleared_kept : {n : ℕ} {W : ℕ → ℕ} {P : ℕ → Phase} {a y u : ℕ} {q : Phase} {V : ℕ → ℕ} {Q : ℕ → Phase} → Change W P a y u q V Q → Agrees n W P → owned (P u) ≡ 0 → owned q ≡ 0 → Fit n q → IsOccupied y ↔ IsOccupied (W a) → ((t c : ℕ) → c / 2 ≡ a → HasPassed (P t) c → HasSide (side_of c) y) → Agrees n V Q
+-- no word's OCC changes, and no side is removed that a station has passed through
+pub cleared_kept : {n : ℕ} {W : ℕ → ℕ} {P : ℕ → Phase} {a y u : ℕ} {q : Phase} {V : ℕ → ℕ}
+    {Q : ℕ → Phase}
+    → Change W P a y u q V Q
+    → Agrees n W P
+    → owned (P u) ≡ 0
+    → owned q ≡ 0
+    → Fit n q
+    → IsOccupied y ↔ IsOccupied (W a)
+    → ((t c : ℕ) → c / 2 ≡ a → HasPassed (P t) c → HasSide (side_of c) y)
+    → Agrees n V Q
 cleared_kept {n = n} {W = W} {P = P} {a = a} {u = u} {q = q} {V = V} {Q = Q} x k was_none none fit occ stay = owners_kept k owns occ_all (each x (λ s p. Fit n p) fit (λ t _. k.fit t)) sides (λ s t c o on. k.apart s t c (sym (owns s) ∙ o) (passed t c on))
   where
     owns : (s : ℕ) → owned (Q s) ≡ owned (P s)

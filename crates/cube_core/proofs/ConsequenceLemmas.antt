@@ -1,5 +1,5 @@
--- What follows from the invariant of the moment: who is engaged, which words are free at rest, and
--- that all words are 0 when all have retired.
+-- What follows from the current invariant: which stations are engaged, and which words are free at
+-- rest. All words are 0 when all stations have retired.
 use Rattle.std.proofs.Common.{◌≡◌, ◌≢◌, ℕ, zero, suc, ◌+◌, ◌*◌, ◌/◌, ◌<◌, ◌≤◌, inl, inr, refl, sym, ◌∙◌, ap, subst, arith}
 use Rattle.std.specs.Prelude.{◌↔◌}
 use Rattle.std.specs.Int.{bit_at}
@@ -15,7 +15,7 @@ use Rattle.cube_core.proofs.HeldLemmas.{holder_is}
 use Rattle.cube_core.proofs.SeenFreeLemmas.{used_on_path}
 use Rattle.cube_core.proofs.InvariantLemmas.{Invariant}
 
--- ---- who is engaged
+-- ---- which stations are engaged
 
 debtor_engaged : (p : Phase) (v x : ℕ) → MustClear p v x → to_clear p ≡ v
 debtor_engaged Idle v x owes = absurd owes
@@ -31,22 +31,37 @@ debtor_engaged (Unmarked a) v x owes = owes
 debtor_engaged (Marked a w left right) v x owes = owes.0
 debtor_engaged Retired v x owes = absurd owes
 
--- the owner of a node is engaged there, and so is who is to clear it
+-- the owner of a node is engaged there, and so is a station that is to clear it
 owner_engaged : (P : ℕ → Phase) (s v : ℕ) → 0 < v → owned (P s) ≡ v → (t : ℕ) × IsEngagedAt (P t) v
 owner_engaged P s v positive at = (s, inl (subst (OnPath v) (sym at) (OnPath-self v positive)))
 
-clearer_engaged : (P : ℕ → Phase) (s v : ℕ) → 0 < v → to_clear (P s) ≡ v → (t : ℕ) × IsEngagedAt (P t) v
+clearer_engaged : (P : ℕ → Phase) (s v : ℕ)
+    → 0 < v
+    → to_clear (P s) ≡ v
+    → (t : ℕ) × IsEngagedAt (P t) v
 clearer_engaged P s v positive at = (s, inr (subst (OnPath v) (sym at) (OnPath-self v positive)))
 
--- who is engaged at a node is engaged at its parent
-engaged_below : (P : ℕ → Phase) (v c : ℕ) → 0 < v → c / 2 ≡ v → (s : ℕ) × IsEngagedAt (P s) c → (s : ℕ) × IsEngagedAt (P s) v
+-- a station that is engaged at a node is engaged at its parent
+engaged_below : (P : ℕ → Phase) (v c : ℕ)
+    → 0 < v
+    → c / 2 ≡ v
+    → (s : ℕ) × IsEngagedAt (P s) c
+    → (s : ℕ) × IsEngagedAt (P s) v
 engaged_below P v c positive node (s, engaged) = (s, elim engaged [ inl on ↦ inl (OnPath-trans v c (owned (P s)) above on) | inr on ↦ inr (OnPath-trans v c (to_clear (P s)) above on) ])
   where
     above : OnPath v c
     above = subst (λ a. OnPath a c) node (OnPath-parent c (subst (λ a. 0 < a) (sym node) positive))
 
 -- by induction from the leaves up: there is nothing below the last level
-engaged_from : {n count : ℕ} {W : ℕ → ℕ} {P : ℕ → Phase} → Invariant n count W P → (nodes : ℕ) → ((v : ℕ) → nodes ≤ v → W v ≡ 0) → (left v : ℕ) → nodes ≤ v + left → 0 < v → IsInUse (W v) → (s : ℕ) × IsEngagedAt (P s) v
+engaged_from : {n count : ℕ} {W : ℕ → ℕ} {P : ℕ → Phase}
+    → Invariant n count W P
+    → (nodes : ℕ)
+    → ((v : ℕ) → nodes ≤ v → W v ≡ 0)
+    → (left v : ℕ)
+    → nodes ≤ v + left
+    → 0 < v
+    → IsInUse (W v)
+    → (s : ℕ) × IsEngagedAt (P s) v
 engaged_from k nodes outside zero v enough positive used = absurd (used (ap use_of (outside v (omega arith))))
 engaged_from {W = W} {P = P} k nodes outside (suc left) v enough positive used = elim (cases_eq (bit_at (W v) 0) 1) [
   | inl occupied ↦ let found = k.agrees.owner v positive occupied in owner_engaged P found.0 v positive found.1
@@ -57,7 +72,14 @@ engaged_from {W = W} {P = P} k nodes outside (suc left) v enough positive used =
   ]
 ]
 
-pub in_use_engaged : {n count : ℕ} {W : ℕ → ℕ} {P : ℕ → Phase} → Invariant n count W P → (nodes : ℕ) → ((v : ℕ) → nodes ≤ v → W v ≡ 0) → (v : ℕ) → 0 < v → IsInUse (W v) → (s : ℕ) × IsEngagedAt (P s) v
+pub in_use_engaged : {n count : ℕ} {W : ℕ → ℕ} {P : ℕ → Phase}
+    → Invariant n count W P
+    → (nodes : ℕ)
+    → ((v : ℕ) → nodes ≤ v → W v ≡ 0)
+    → (v : ℕ)
+    → 0 < v
+    → IsInUse (W v)
+    → (s : ℕ) × IsEngagedAt (P s) v
 in_use_engaged k nodes outside v positive used = engaged_from k nodes outside nodes v (omega arith) positive used
 
 -- ---- at rest
@@ -81,12 +103,19 @@ at_rest_quiet (Unmarked a) rest = absurd rest
 at_rest_quiet (Marked a w left right) rest = absurd rest
 at_rest_quiet Retired rest = record { owns = refl; clears_none = refl }
 
--- so it is engaged above that node alone
+-- so it is engaged only at this node and above it
 at_rest_engaged : (p : Phase) (v : ℕ) → IsAtRest p → IsEngagedAt p v → OnPath v (node_held p)
 at_rest_engaged p v rest (inl on) = subst (OnPath v) (at_rest_quiet p rest).owns on
 at_rest_engaged p v rest (inr on) = absurd (OnPath-zero v (subst (OnPath v) (at_rest_quiet p rest).clears_none on))
 
-pub at_rest_exact : {n count : ℕ} {W : ℕ → ℕ} {P : ℕ → Phase} → Invariant n count W P → (nodes : ℕ) → ((v : ℕ) → nodes ≤ v → W v ≡ 0) → ((s : ℕ) → IsAtRest (P s)) → (v : ℕ) → 0 < v → IsFree (W v) ↔ ((s : ℕ) → OnPath v (node_held (P s)) → ⊥)
+pub at_rest_exact : {n count : ℕ} {W : ℕ → ℕ} {P : ℕ → Phase}
+    → Invariant n count W P
+    → (nodes : ℕ)
+    → ((v : ℕ) → nodes ≤ v → W v ≡ 0)
+    → ((s : ℕ) → IsAtRest (P s))
+    → (v : ℕ)
+    → 0 < v
+    → IsFree (W v) ↔ ((s : ℕ) → OnPath v (node_held (P s)) → ⊥)
 at_rest_exact {n = n} {W = W} {P = P} k nodes outside rest v positive = (λ free s on. held_used s on free, nobody)
   where
     held_used : (s : ℕ) → OnPath v (node_held (P s)) → IsInUse (W v)
@@ -106,7 +135,14 @@ at_rest_exact {n = n} {W = W} {P = P} k nodes outside rest v positive = (λ free
 
 -- ---- when all have retired
 
-pub retired_zero : {n count : ℕ} {W : ℕ → ℕ} {P : ℕ → Phase} → Invariant n count W P → (nodes : ℕ) → ((v : ℕ) → nodes ≤ v → W v ≡ 0) → ((s : ℕ) → P s ≡ Retired) → (v : ℕ) → 0 < v → W v ≡ 0
+pub retired_zero : {n count : ℕ} {W : ℕ → ℕ} {P : ℕ → Phase}
+    → Invariant n count W P
+    → (nodes : ℕ)
+    → ((v : ℕ) → nodes ≤ v → W v ≡ 0)
+    → ((s : ℕ) → P s ≡ Retired)
+    → (v : ℕ)
+    → 0 < v
+    → W v ≡ 0
 retired_zero {W = W} {P = P} k nodes outside gone v positive = elim (cases_eq (W v) 0) [
   | inl none ↦ none
   | inr some ↦ absurd (no_witness some)

@@ -33,8 +33,14 @@ child_owed W P a c node used = elim (child_cases c a node) [
   | inr right ↦ inr (inl (subst (λ b. IsInUse (W b)) right used))
 ]
 
--- with what is owed where the word changes, at its parent, and by the mover elsewhere
-owing_by : {W : ℕ → ℕ} {P : ℕ → Phase} {u v y : ℕ} {q : Phase} {V : ℕ → ℕ} {Q : ℕ → Phase} → Change W P v y u q V Q → Owing W P → (0 < v → IsInUse y → (IsOccupied y → ⊥) → Owed V Q v) → (0 < v / 2 → IsInUse (W v) → IsInUse y ⊎ ((x : ℕ) → MustClear q (v / 2) x)) → ((a : ℕ) → 0 < a → a ≢ v → MustClear (P u) a (W a) → Owed V Q a) → Owing V Q
+-- with what is owed at the word that changes, at its parent, and elsewhere by the moving station
+owing_by : {W : ℕ → ℕ} {P : ℕ → Phase} {u v y : ℕ} {q : Phase} {V : ℕ → ℕ} {Q : ℕ → Phase}
+    → Change W P v y u q V Q
+    → Owing W P
+    → (0 < v → IsInUse y → (IsOccupied y → ⊥) → Owed V Q v)
+    → (0 < v / 2 → IsInUse (W v) → IsInUse y ⊎ ((x : ℕ) → MustClear q (v / 2) x))
+    → ((a : ℕ) → 0 < a → a ≢ v → MustClear (P u) a (W a) → Owed V Q a)
+    → Owing V Q
 owing_by {W = W} {P = P} {u = u} {v = v} {y = y} {q = q} {V = V} {Q = Q} x k here above own = record {
   owed = each_word x (λ a w. 0 < a → IsInUse w → (IsOccupied w → ⊥) → Owed V Q a) here elsewhere;
 }
@@ -61,8 +67,14 @@ owing_by {W = W} {P = P} {u = u} {v = v} {y = y} {q = q} {V = V} {Q = Q} x k her
       | inr (inr (s, owes)) ↦ debtor a positive other s owes
     ]
 
--- where no word changes
-owing_same : {W : ℕ → ℕ} {P : ℕ → Phase} {u v y : ℕ} {q : Phase} {V : ℕ → ℕ} {Q : ℕ → Phase} → Change W P v y u q V Q → Owing W P → y ≡ W v → ((a : ℕ) → 0 < a → MustClear (P u) a (W a) → IsInUse (W (2 * a)) ⊎ (IsInUse (W (2 * a + 1)) ⊎ MustClear q a (W a))) → Owing V Q
+-- if no word changes
+owing_same : {W : ℕ → ℕ} {P : ℕ → Phase} {u v y : ℕ} {q : Phase} {V : ℕ → ℕ} {Q : ℕ → Phase}
+    → Change W P v y u q V Q
+    → Owing W P
+    → y ≡ W v
+    → ((a : ℕ) → 0 < a → MustClear (P u) a (W a) → IsInUse (W (2 * a))
+    ⊎ (IsInUse (W (2 * a + 1)) ⊎ MustClear q a (W a)))
+    → Owing V Q
 owing_same {W = W} {P = P} {u = u} {q = q} {V = V} {Q = Q} x k same own = record {
   owed = λ a positive used unoccupied. elim (k.owed a positive (subst IsInUse (words a) used) (λ is. unoccupied (subst IsOccupied (sym (words a)) is))) [
     | inl left ↦ inl (subst IsInUse (sym (words (2 * a))) left)
@@ -84,12 +96,26 @@ owing_same {W = W} {P = P} {u = u} {q = q} {V = V} {Q = Q} x k same own = record
       ]
     ]
 
--- a mover that owes nothing in its phase
-owes_none : {A : Type 0} (p r : Phase) (a w : ℕ) → p ≡ r → (MustClear r a w → ⊥) → MustClear p a w → A
+-- a moving station that owes nothing in its phase
+owes_none : {A : Type 0} (p r : Phase) (a w : ℕ)
+    → p ≡ r
+    → (MustClear r a w → ⊥)
+    → MustClear p a w
+    → A
 owes_none p r a w is none owes = absurd (none (subst (λ z. MustClear z a w) is owes))
 
--- where the mover owns a node below v and has stopped there, a child of v is in use, also afterwards
-child_on_way : {n : ℕ} {W : ℕ → ℕ} {P : ℕ → Phase} {u v y : ℕ} {q : Phase} {V : ℕ → ℕ} {Q : ℕ → Phase} → Change W P v y u q V Q → Agrees n W P → (h : ℕ) → owned (P u) ≡ h → stop (P u) ≡ v → v < h → OnPath v h → Owed V Q v
+-- if the moving station owns a node below v and has stopped there, a child of v is in use, also
+-- afterwards
+child_on_way : {n : ℕ} {W : ℕ → ℕ} {P : ℕ → Phase} {u v y : ℕ} {q : Phase} {V : ℕ → ℕ}
+    {Q : ℕ → Phase}
+    → Change W P v y u q V Q
+    → Agrees n W P
+    → (h : ℕ)
+    → owned (P u) ≡ h
+    → stop (P u) ≡ v
+    → v < h
+    → OnPath v h
+    → Owed V Q v
 child_on_way {u = u} {v = v} {V = V} {Q = Q} x k h own at less above =
     let child = child_towards_is v h above less in
     let below : v < child_towards v h = strictly (child_towards v h) child.0 above.0 in
@@ -103,7 +129,9 @@ child_on_way {u = u} {v = v} {V = V} {Q = Q} x k h own at less above =
     differ c lower same = omega arith
 
 -- a station that owes is marked there by the word, or owes whatever the word is
-debt_cases : (p : Phase) (v x : ℕ) → MustClear p v x → ((z : ℕ) → MustClear p v z) ⊎ ((marked_at p ≡ v) × (marked_word p ≡ x))
+debt_cases : (p : Phase) (v x : ℕ)
+    → MustClear p v x
+    → ((z : ℕ) → MustClear p v z) ⊎ ((marked_at p ≡ v) × (marked_word p ≡ x))
 debt_cases Idle v x owes = absurd owes
 debt_cases (Looking h) v x owes = absurd owes
 debt_cases (Looked h w) v x owes = absurd owes
@@ -118,7 +146,19 @@ debt_cases (Marked a w left right) v x owes = inr (owes.0, owes.1)
 debt_cases Retired v x owes = absurd owes
 
 -- a Clear leaves a word in use only where a child is in use or another station owes
-clear_owed : {W : ℕ → ℕ} {P : ℕ → Phase} {u : ℕ} {q : Phase} {V : ℕ → ℕ} {Q : ℕ → Phase} (a w : ℕ) (left right : Seen) → Change W P a (cleared_as_seen w left right) u q V Q → Stamped W P → Owing W P → P u ≡ Marked a w left right → 0 < a → left ≢ seen.NotYet → right ≢ seen.NotYet → W a ≡ w → IsInUse (cleared_as_seen w left right) → (IsOccupied (cleared_as_seen w left right) → ⊥) → Owed V Q a
+clear_owed : {W : ℕ → ℕ} {P : ℕ → Phase} {u : ℕ} {q : Phase} {V : ℕ → ℕ} {Q : ℕ → Phase} (a w : ℕ)
+    (left right : Seen)
+    → Change W P a (cleared_as_seen w left right) u q V Q
+    → Stamped W P
+    → Owing W P
+    → P u ≡ Marked a w left right
+    → 0 < a
+    → left ≢ seen.NotYet
+    → right ≢ seen.NotYet
+    → W a ≡ w
+    → IsInUse (cleared_as_seen w left right)
+    → (IsOccupied (cleared_as_seen w left right) → ⊥)
+    → Owed V Q a
 clear_owed {W = W} {P = P} {u = u} {V = V} {Q = Q} a w left right x stamped k is positive l r word used unoccupied = elim (k.owed a positive used_before unoccupied_before) [
   | inl child ↦ inl (subst IsInUse (sym (x.word_else (2 * a) (λ same. omega arith))) child)
   | inr (inl child) ↦ inr (inl (subst IsInUse (sym (x.word_else (2 * a + 1) (λ same. omega arith))) child))
@@ -136,7 +176,7 @@ clear_owed {W = W} {P = P} {u = u} {V = V} {Q = Q} a w left right x stamped k is
     seen_free seen.Free not_yet not_used = refl
     seen_free seen.Used not_yet not_used = absurd (not_used refl)
 
-    -- the mover owes only where it has seen both children free, and then the word is free
+    -- the moving station owes only if it has seen both children free, and then the word is free
     not_mover : MustClear (Marked a w left right) a (W a) → ⊥
     not_mover owes = cleared-none w (λ occupied. unoccupied_before (subst IsOccupied (sym word) occupied))
         (subst (λ z. IsInUse (cleared_as_seen w seen.Free z)) (seen_free right r owes.3) (subst (λ z. IsInUse (cleared_as_seen w z right)) (seen_free left l owes.2) used))
@@ -151,8 +191,16 @@ clear_owed {W = W} {P = P} {u = u} {V = V} {Q = Q} a w left right x stamped k is
       ]
     ]
 
--- by a look at a child a marked station still owes, or the child is in use
-pub owing_kept : {n : ℕ} {W : ℕ → ℕ} {P : ℕ → Phase} {p : Phase} {u v y : ℕ} {q : Phase} {V : ℕ → ℕ} {Q : ℕ → Phase} → Move n u W p v y q → P u ≡ p → Change W P v y u q V Q → Agrees n W P → Stamped W P → Owing W P → Owing V Q
+-- after a look at a child a marked station still owes, or the child is in use
+pub owing_kept : {n : ℕ} {W : ℕ → ℕ} {P : ℕ → Phase} {p : Phase} {u v y : ℕ} {q : Phase} {V : ℕ → ℕ}
+    {Q : ℕ → Phase}
+    → Move n u W p v y q
+    → P u ≡ p
+    → Change W P v y u q V Q
+    → Agrees n W P
+    → Stamped W P
+    → Owing W P
+    → Owing V Q
 owing_kept (begins_take h i) is x g m k = owing_same x k refl (λ a _. owes_none _ _ a _ is (λ e. e))
 owing_kept (begins_release h i) is x g m k = owing_same x k refl (λ a _. owes_none _ _ a _ is (λ e. e))
 owing_kept retires is x g m k = owing_by x k (λ positive. absurd (omega arith)) (λ positive. absurd (omega arith)) (λ a _ _. owes_none _ _ a _ is (λ e. e))
@@ -173,7 +221,11 @@ owing_kept {W = W} {u = u} {V = V} (marks a i f) is x g m k = owing_by x k (λ _
 owing_kept {W = W} {u = u} (marks_stop a i f) is x g m k = owing_by x k (λ _ _ free. absurd (free ((with_mark-use u (W a) 0 (omega arith)).1 f))) (λ _ used. inl ((IsInUse-with_mark u (W a)).1 used)) (λ b _ other. owes_none _ _ b _ is (λ owes. other (sym owes)))
 owing_kept {W = W} (looks_left a w right found i shown) is x g m k = owing_same x k refl (λ b _ owes. turn b (subst (λ r. MustClear r b (W b)) is owes) shown)
   where
-    turn : (b : ℕ) → MustClear (Marked a w seen.NotYet right) b (W b) → ((found ≡ seen.Free) × IsFree (W (2 * a))) ⊎ ((found ≡ seen.Used) × IsInUse (W (2 * a))) → IsInUse (W (2 * b)) ⊎ (IsInUse (W (2 * b + 1)) ⊎ MustClear (Marked a w found right) b (W b))
+    turn : (b : ℕ)
+        → MustClear (Marked a w seen.NotYet right) b (W b)
+        → ((found ≡ seen.Free) × IsFree (W (2 * a))) ⊎ ((found ≡ seen.Used) × IsInUse (W (2 * a)))
+        → IsInUse (W (2 * b)) ⊎ (IsInUse (W (2 * b + 1))
+        ⊎ MustClear (Marked a w found right) b (W b))
     turn b owes (inl free) = inr (inr (owes.0, owes.1, λ e. not_used (sym free.0 ∙ e), owes.3))
       where
         not_used : seen.Free ≢ seen.Used
@@ -181,7 +233,12 @@ owing_kept {W = W} (looks_left a w right found i shown) is x g m k = owing_same 
     turn b owes (inr used) = inl (subst (λ c. IsInUse (W (2 * c))) owes.0 used.1)
 owing_kept {W = W} (looks_right a w left found i l shown) is x g m k = owing_same x k refl (λ b _ owes. turn b (subst (λ r. MustClear r b (W b)) is owes) shown)
   where
-    turn : (b : ℕ) → MustClear (Marked a w left seen.NotYet) b (W b) → ((found ≡ seen.Free) × IsFree (W (2 * a + 1))) ⊎ ((found ≡ seen.Used) × IsInUse (W (2 * a + 1))) → IsInUse (W (2 * b)) ⊎ (IsInUse (W (2 * b + 1)) ⊎ MustClear (Marked a w left found) b (W b))
+    turn : (b : ℕ)
+        → MustClear (Marked a w left seen.NotYet) b (W b)
+        → ((found ≡ seen.Free) × IsFree (W (2 * a + 1)))
+        ⊎ ((found ≡ seen.Used) × IsInUse (W (2 * a + 1)))
+        → IsInUse (W (2 * b)) ⊎ (IsInUse (W (2 * b + 1))
+        ⊎ MustClear (Marked a w left found) b (W b))
     turn b owes (inl free) = inr (inr (owes.0, owes.1, owes.2, λ e. not_used (sym free.0 ∙ e)))
       where
         not_used : seen.Free ≢ seen.Used
@@ -189,7 +246,9 @@ owing_kept {W = W} (looks_right a w left found i l shown) is x g m k = owing_sam
     turn b owes (inr used) = inr (inl (subst (λ c. IsInUse (W (2 * c + 1))) owes.0 used.1))
 owing_kept {W = W} (clears a w left right q i l r e leaving) is x g m k = owing_by x k (λ positive. clear_owed a w left right x m k is positive l r e) above (λ b _ other. owes_none _ _ b _ is (λ owes. other (sym owes.0)))
   where
-    above : 0 < a / 2 → IsInUse (W a) → IsInUse (cleared_as_seen w left right) ⊎ ((z : ℕ) → MustClear q (a / 2) z)
+    above : 0 < a / 2
+        → IsInUse (W a)
+        → IsInUse (cleared_as_seen w left right) ⊎ ((z : ℕ) → MustClear q (a / 2) z)
     above inner _ = elim (cases_eq (use_of (cleared_as_seen w left right)) 0) [
       | inl free ↦ inr (leaving.owes free inner)
       | inr used ↦ inl used

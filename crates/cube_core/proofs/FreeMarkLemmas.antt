@@ -19,8 +19,13 @@ pub record Witnessed (W : ℕ → ℕ) (P : ℕ → Phase) : Type 0 where
 
 -- ---- every move keeps it
 
--- with a witness for the written word, and the mover's own witness at other nodes
-witnessed_by : {W : ℕ → ℕ} {P : ℕ → Phase} {u v y : ℕ} {q : Phase} {V : ℕ → ℕ} {Q : ℕ → Phase} → Change W P v y u q V Q → Witnessed W P → (0 < v → IsFree y → y ≢ 0 → (s : ℕ) × IsWitness v y (Q s)) → ((a : ℕ) → 0 < a → a ≢ v → IsWitness a (W a) (P u) → IsWitness a (W a) q) → Witnessed V Q
+-- with a witness for the written word, and the witness that the moving station is at other nodes
+witnessed_by : {W : ℕ → ℕ} {P : ℕ → Phase} {u v y : ℕ} {q : Phase} {V : ℕ → ℕ} {Q : ℕ → Phase}
+    → Change W P v y u q V Q
+    → Witnessed W P
+    → (0 < v → IsFree y → y ≢ 0 → (s : ℕ) × IsWitness v y (Q s))
+    → ((a : ℕ) → 0 < a → a ≢ v → IsWitness a (W a) (P u) → IsWitness a (W a) q)
+    → Witnessed V Q
 witnessed_by {W = W} {P = P} {v = v} {Q = Q} x k here own = record {
   witness = each_word x (λ a w. 0 < a → IsFree w → w ≢ 0 → (s : ℕ) × IsWitness a w (Q s)) here
       (λ a other positive free some. let found = k.witness a positive free some in (found.0, still a positive other found.0 found.1));
@@ -29,8 +34,13 @@ witnessed_by {W = W} {P = P} {v = v} {Q = Q} x k here own = record {
     still : (a : ℕ) → 0 < a → a ≢ v → (s : ℕ) → IsWitness a (W a) (P s) → IsWitness a (W a) (Q s)
     still a positive other = each x (λ s r. IsWitness a (W a) (P s) → IsWitness a (W a) r) (own a positive other) (λ t _ is. is)
 
--- where no word of a node changes, and the mover stays what witness it was
-witnessed_same : {W : ℕ → ℕ} {P : ℕ → Phase} {u v y : ℕ} {q : Phase} {V : ℕ → ℕ} {Q : ℕ → Phase} → Change W P v y u q V Q → Witnessed W P → (0 < v → y ≡ W v) → ((a : ℕ) → 0 < a → IsWitness a (W a) (P u) → IsWitness a (W a) q) → Witnessed V Q
+-- if no word of a node changes, and the moving station is a witness as before
+witnessed_same : {W : ℕ → ℕ} {P : ℕ → Phase} {u v y : ℕ} {q : Phase} {V : ℕ → ℕ} {Q : ℕ → Phase}
+    → Change W P v y u q V Q
+    → Witnessed W P
+    → (0 < v → y ≡ W v)
+    → ((a : ℕ) → 0 < a → IsWitness a (W a) (P u) → IsWitness a (W a) q)
+    → Witnessed V Q
 witnessed_same {W = W} {P = P} {v = v} {y = y} {Q = Q} x k same own = witnessed_by x k
     (λ positive free some. let is : y ≡ W v = same positive in let found = k.witness v positive (subst IsFree is free) (λ none. some (is ∙ none)) in (found.0, subst (λ w. IsWitness v w (Q found.0)) (sym is) (still v positive found.0 found.1)))
     (λ a positive _. own a positive)
@@ -38,18 +48,29 @@ witnessed_same {W = W} {P = P} {v = v} {y = y} {Q = Q} x k same own = witnessed_
     still : (a : ℕ) → 0 < a → (s : ℕ) → IsWitness a (W a) (P s) → IsWitness a (W a) (Q s)
     still a positive = each x (λ s r. IsWitness a (W a) (P s) → IsWitness a (W a) r) (own a positive) (λ t _ is. is)
 
--- a mover that was no witness
-no_witness : {A : Type 0} (a w : ℕ) (p r : Phase) → 0 < a → p ≡ r → marked_at r ≡ 0 → IsWitness a w p → A
+-- a moving station that was no witness
+no_witness : {A : Type 0} (a w : ℕ) (p r : Phase)
+    → 0 < a
+    → p ≡ r
+    → marked_at r ≡ 0
+    → IsWitness a w p
+    → A
 no_witness a w p r positive is none found = absurd (nothing (marked_at r) none (sym (ap marked_at is) ∙ found.0))
   where
     nothing : (b : ℕ) → b ≡ 0 → b ≡ a → ⊥
     nothing b zero_b at = omega arith
 
--- a word with no bit but those of use is free only as 0
+-- a word that has only bits of use is free only if it is 0
 only_zero : (w : ℕ) → use_of w ≡ w → IsFree w → w ≢ 0 → ⊥
 only_zero w small free some = some (sym small ∙ free)
 
-pub witnessed_kept : {n : ℕ} {W : ℕ → ℕ} {P : ℕ → Phase} {p : Phase} {u v y : ℕ} {q : Phase} {V : ℕ → ℕ} {Q : ℕ → Phase} → Move n u W p v y q → P u ≡ p → Change W P v y u q V Q → Witnessed W P → Witnessed V Q
+pub witnessed_kept : {n : ℕ} {W : ℕ → ℕ} {P : ℕ → Phase} {p : Phase} {u v y : ℕ} {q : Phase}
+    {V : ℕ → ℕ} {Q : ℕ → Phase}
+    → Move n u W p v y q
+    → P u ≡ p
+    → Change W P v y u q V Q
+    → Witnessed W P
+    → Witnessed V Q
 witnessed_kept (begins_take h i) is x k = witnessed_same x k (λ _. refl) (λ a positive. no_witness a _ _ _ positive is refl)
 witnessed_kept (begins_release h i) is x k = witnessed_same x k (λ _. refl) (λ a positive. no_witness a _ _ _ positive is refl)
 witnessed_kept retires is x k = witnessed_same x k (λ positive. absurd (omega arith)) (λ a positive. no_witness a _ _ _ positive is refl)

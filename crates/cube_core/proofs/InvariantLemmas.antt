@@ -18,7 +18,7 @@ use Rattle.cube_core.proofs.DebtLemmas.{Owing, owing_kept}
 use Rattle.cube_core.proofs.RollLemmas.{Rolled, rolled_kept}
 use Rattle.cube_core.proofs.ReadLemmas.{Read, read_kept}
 
--- of a machine of dimension n and this many stations
+-- the invariant of a machine of dimension n and this many stations
 pub record Invariant (n count : ℕ) (W : ℕ → ℕ) (P : ℕ → Phase) : Type 0 where
   pub agrees : Agrees n W P
   pub shut : Shut W P
@@ -28,7 +28,13 @@ pub record Invariant (n count : ℕ) (W : ℕ → ℕ) (P : ℕ → Phase) : Typ
   pub rolled : Rolled count W P
   pub read : Read P
 
-pub invariant_kept : {n count : ℕ} {W : ℕ → ℕ} {P : ℕ → Phase} {p : Phase} {u v y : ℕ} {q : Phase} {V : ℕ → ℕ} {Q : ℕ → Phase} → Move n u W p v y q → P u ≡ p → Change W P v y u q V Q → Invariant n count W P → Invariant n count V Q
+pub invariant_kept : {n count : ℕ} {W : ℕ → ℕ} {P : ℕ → Phase} {p : Phase} {u v y : ℕ} {q : Phase}
+    {V : ℕ → ℕ} {Q : ℕ → Phase}
+    → Move n u W p v y q
+    → P u ≡ p
+    → Change W P v y u q V Q
+    → Invariant n count W P
+    → Invariant n count V Q
 invariant_kept move is x k = record {
   agrees = agrees_kept move is x k.agrees k.shut;
   shut = shut_kept move is x k.agrees k.shut;
@@ -39,8 +45,12 @@ invariant_kept move is x k = record {
   read = read_kept move is x k.shut k.witnessed k.read;
 }
 
--- where all words are 0, every station is idle, and those that are not there read as retired
-pub invariant_initial : (n count : ℕ) (W : ℕ → ℕ) (P : ℕ → Phase) → ((v : ℕ) → W v ≡ 0) → ((s : ℕ) → (P s ≡ Idle) ⊎ (P s ≡ Retired)) → ((s : ℕ) → s < count → P s ≡ Idle) → Invariant n count W P
+-- if all words are 0, every station is idle, and those that do not exist read as retired
+pub invariant_initial : (n count : ℕ) (W : ℕ → ℕ) (P : ℕ → Phase)
+    → ((v : ℕ) → W v ≡ 0)
+    → ((s : ℕ) → (P s ≡ Idle) ⊎ (P s ≡ Retired))
+    → ((s : ℕ) → s < count → P s ≡ Idle)
+    → Invariant n count W P
 invariant_initial n count W P zeros idle there = record {
   agrees = record {
     fit = λ s. of_both (Fit n) tt tt s;
@@ -65,7 +75,7 @@ invariant_initial n count W P zeros idle there = record {
   read = record { marked = λ s some. absurd (some (of_both (λ p. word_read p ≡ 0) refl refl s)) };
 }
   where
-    -- what an idle station and an absent one have in common
+    -- what an idle station and one that does not exist have in common
     of_both : (F : Phase → Type 0) → F Idle → F Retired → (s : ℕ) → F (P s)
     of_both F of_idle of_retired s = elim (idle s) [ inl is ↦ subst F (sym is) of_idle | inr is ↦ subst F (sym is) of_retired ]
 

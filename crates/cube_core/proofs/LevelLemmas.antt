@@ -36,7 +36,10 @@ pub dim_at-level : (m w : ℕ) → IsInCube m w → IsOnLevel m w (dim_at m w)
 dim_at-level zero w in_cube = root_level 0 w (omega (arith, in_cube.0, in_cube.1))
 dim_at-level (suc m) w in_cube = turn (dim_at-level m (w / 2)) (eqb w 1) refl
   where
-    turn : (IsInCube m (w / 2) → IsOnLevel m (w / 2) (dim_at m (w / 2))) → (t : Bool) → eqb w 1 ≡ t → IsOnLevel (suc m) w (cond t (suc m) (dim_at m (w / 2)))
+    turn : (IsInCube m (w / 2) → IsOnLevel m (w / 2) (dim_at m (w / 2)))
+        → (t : Bool)
+        → eqb w 1 ≡ t
+        → IsOnLevel (suc m) w (cond t (suc m) (dim_at m (w / 2)))
     turn above true is = root_level (suc m) w (eqb-true w 1 is)
     turn above false is = next_level m w (dim_at m (w / 2)) (above (parent_in_cube m w (eqb-false w 1 is) in_cube))
 

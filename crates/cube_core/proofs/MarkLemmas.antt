@@ -1,5 +1,5 @@
--- Marks at one node: a mark that stands says that the word has only grown, a station that is about to
--- mark has no mark there, and no two stations marked the same word.
+-- Marks at one node. While a mark is set, the word has only grown. A station that is about to mark
+-- has no mark there, and no two stations marked the same word.
 use Rattle.std.proofs.Common.{◌≡◌, ◌≢◌, ℕ, ◌<◌, refl, sym, ◌∙◌, ap, subst, arith}
 use Rattle.status_word.specs.Word.{mark_bit, IsSet, IsMarked, with_mark}
 use Rattle.status_word.proofs.WordLemmas.{use_of-unmarked, with_mark-has}
@@ -13,14 +13,33 @@ use Rattle.cube_core.proofs.MoveLemmas.{unmarked_at, Move, claims, raises, zeroe
 use Rattle.cube_core.proofs.SeenFreeLemmas.{Shut, marks_stood}
 
 pub record Stamped (W : ℕ → ℕ) (P : ℕ → Phase) : Type 0 where
-  pub grown : (s : ℕ) → 0 < marked_at (P s) → IsMarked s (W (marked_at (P s))) → (i : ℕ) → IsSet (marked_word (P s)) i → IsSet (W (marked_at (P s))) i
+  pub grown : (s : ℕ)
+      → 0 < marked_at (P s)
+      → IsMarked s (W (marked_at (P s)))
+      → (i : ℕ)
+      → IsSet (marked_word (P s)) i
+      → IsSet (W (marked_at (P s))) i
   pub fresh : (s : ℕ) → 0 < unmarked_at (P s) → IsMarked s (W (unmarked_at (P s))) → ⊥
-  pub unlike : (s t : ℕ) → s ≢ t → 0 < marked_at (P s) → marked_at (P s) ≡ marked_at (P t) → marked_word (P s) ≢ marked_word (P t)
+  pub unlike : (s t : ℕ)
+      → s ≢ t
+      → 0 < marked_at (P s)
+      → marked_at (P s) ≡ marked_at (P t)
+      → marked_word (P s) ≢ marked_word (P t)
 
 -- ---- every move keeps it
 
--- with what the mover itself is marked or unmarked at afterwards
-stamped_by : {n : ℕ} {W : ℕ → ℕ} {P : ℕ → Phase} {p : Phase} {u v y : ℕ} {q : Phase} {V : ℕ → ℕ} {Q : ℕ → Phase} → Move n u W p v y q → Change W P v y u q V Q → Stamped W P → (0 < marked_at q → IsMarked u (V (marked_at q)) → (i : ℕ) → IsSet (marked_word q) i → IsSet (V (marked_at q)) i) → (0 < unmarked_at q → IsMarked u (V (unmarked_at q)) → ⊥) → ((t : ℕ) → t ≢ u → 0 < marked_at q → marked_at q ≡ marked_at (P t) → marked_word q ≢ marked_word (P t)) → Stamped V Q
+-- with the mark that the moving station itself has, or is about to set, afterwards
+stamped_by : {n : ℕ} {W : ℕ → ℕ} {P : ℕ → Phase} {p : Phase} {u v y : ℕ} {q : Phase} {V : ℕ → ℕ}
+    {Q : ℕ → Phase}
+    → Move n u W p v y q
+    → Change W P v y u q V Q
+    → Stamped W P
+    → (0 < marked_at q → IsMarked u (V (marked_at q)) → (i : ℕ) → IsSet (marked_word q) i
+    → IsSet (V (marked_at q)) i)
+    → (0 < unmarked_at q → IsMarked u (V (unmarked_at q)) → ⊥)
+    → ((t : ℕ) → t ≢ u → 0 < marked_at q → marked_at q ≡ marked_at (P t)
+    → marked_word q ≢ marked_word (P t))
+    → Stamped V Q
 stamped_by {P = P} {u = u} {q = q} {V = V} {Q = Q} move x k here_grown here_fresh here_unlike = record {
   grown = each x (λ s r. 0 < marked_at r → IsMarked s (V (marked_at r)) → (i : ℕ) → IsSet (marked_word r) i → IsSet (V (marked_at r)) i) here_grown
       (λ t other positive marked i set. let stood = marks_stood move x t (marked_at (P t)) other positive marked in stood.1 i (k.grown t positive stood.0 i set));
@@ -29,23 +48,50 @@ stamped_by {P = P} {u = u} {q = q} {V = V} {Q = Q} move x k here_grown here_fres
   unlike = each x (λ s r. (t : ℕ) → s ≢ t → 0 < marked_at r → marked_at r ≡ marked_at (Q t) → marked_word r ≢ marked_word (Q t)) unlike_here unlike_else;
 }
   where
-    unlike_here : (t : ℕ) → u ≢ t → 0 < marked_at q → marked_at q ≡ marked_at (Q t) → marked_word q ≢ marked_word (Q t)
+    unlike_here : (t : ℕ)
+        → u ≢ t
+        → 0 < marked_at q
+        → marked_at q ≡ marked_at (Q t)
+        → marked_word q ≢ marked_word (Q t)
     unlike_here t other = subst (λ r. 0 < marked_at q → marked_at q ≡ marked_at r → marked_word q ≢ marked_word r) (sym (x.phase_else t (λ e. other (sym e)))) (here_unlike t (λ e. other (sym e)))
 
-    unlike_else : (s : ℕ) → s ≢ u → (t : ℕ) → s ≢ t → 0 < marked_at (P s) → marked_at (P s) ≡ marked_at (Q t) → marked_word (P s) ≢ marked_word (Q t)
+    unlike_else : (s : ℕ)
+        → s ≢ u
+        → (t : ℕ)
+        → s ≢ t
+        → 0 < marked_at (P s)
+        → marked_at (P s) ≡ marked_at (Q t)
+        → marked_word (P s) ≢ marked_word (Q t)
     unlike_else s other = each x (λ t r. s ≢ t → 0 < marked_at (P s) → marked_at (P s) ≡ marked_at r → marked_word (P s) ≢ marked_word r)
         (λ _ positive same equal. here_unlike s other (subst (λ a. 0 < a) same positive) (sym same) (sym equal))
         (λ t _ differ positive same. k.unlike s t differ positive same)
 
--- a mover that is marked nowhere afterwards, and about to mark nowhere
-stamped_plain : {n : ℕ} {W : ℕ → ℕ} {P : ℕ → Phase} {p : Phase} {u v y : ℕ} {q : Phase} {V : ℕ → ℕ} {Q : ℕ → Phase} → Move n u W p v y q → Change W P v y u q V Q → Stamped W P → marked_at q ≡ 0 → unmarked_at q ≡ 0 → Stamped V Q
+-- a moving station that is marked nowhere afterwards, and about to mark nowhere
+stamped_plain : {n : ℕ} {W : ℕ → ℕ} {P : ℕ → Phase} {p : Phase} {u v y : ℕ} {q : Phase} {V : ℕ → ℕ}
+    {Q : ℕ → Phase}
+    → Move n u W p v y q
+    → Change W P v y u q V Q
+    → Stamped W P
+    → marked_at q ≡ 0
+    → unmarked_at q ≡ 0
+    → Stamped V Q
 stamped_plain {q = q} move x k no_mark no_unmark = stamped_by move x k (λ positive. absurd (nowhere (marked_at q) no_mark positive)) (λ positive. absurd (nowhere (unmarked_at q) no_unmark positive)) (λ t _ positive. absurd (nowhere (marked_at q) no_mark positive))
   where
     nowhere : (a : ℕ) → a ≡ 0 → 0 < a → ⊥
     nowhere a is_zero positive = omega arith
 
--- a mover that stays marked at the node by the same word, while no word changes
-stamped_looks : {n : ℕ} {W : ℕ → ℕ} {P : ℕ → Phase} {p : Phase} {u v y : ℕ} {q : Phase} {V : ℕ → ℕ} {Q : ℕ → Phase} → Move n u W p v y q → P u ≡ p → Change W P v y u q V Q → Stamped W P → y ≡ W v → marked_at q ≡ marked_at p → marked_word q ≡ marked_word p → unmarked_at q ≡ 0 → Stamped V Q
+-- a moving station that is marked at the node by the same word as before, while no word changes
+stamped_looks : {n : ℕ} {W : ℕ → ℕ} {P : ℕ → Phase} {p : Phase} {u v y : ℕ} {q : Phase} {V : ℕ → ℕ}
+    {Q : ℕ → Phase}
+    → Move n u W p v y q
+    → P u ≡ p
+    → Change W P v y u q V Q
+    → Stamped W P
+    → y ≡ W v
+    → marked_at q ≡ marked_at p
+    → marked_word q ≡ marked_word p
+    → unmarked_at q ≡ 0
+    → Stamped V Q
 stamped_looks {W = W} {P = P} {p = p} {u = u} {q = q} {V = V} move is x k word at same none = stamped_by move x k grown_here (λ positive. absurd (nowhere (unmarked_at q) none positive)) unlike_here
   where
     nowhere : (a : ℕ) → a ≡ 0 → 0 < a → ⊥
@@ -60,17 +106,32 @@ stamped_looks {W = W} {P = P} {p = p} {u = u} {q = q} {V = V} move is x k word a
     word_before : marked_word q ≡ marked_word (P u)
     word_before = same ∙ sym (ap marked_word is)
 
-    grown_here : 0 < marked_at q → IsMarked u (V (marked_at q)) → (i : ℕ) → IsSet (marked_word q) i → IsSet (V (marked_at q)) i
+    grown_here : 0 < marked_at q
+        → IsMarked u (V (marked_at q))
+        → (i : ℕ)
+        → IsSet (marked_word q) i
+        → IsSet (V (marked_at q)) i
     grown_here positive marked i set =
         let node : V (marked_at q) ≡ W (marked_at (P u)) = words (marked_at q) ∙ ap W at_before in
         subst (λ z. IsSet z i) (sym node) (k.grown u (subst (λ a. 0 < a) at_before positive) (subst (IsMarked u) node marked) i (subst (λ z. IsSet z i) word_before set))
 
-    unlike_here : (t : ℕ) → t ≢ u → 0 < marked_at q → marked_at q ≡ marked_at (P t) → marked_word q ≢ marked_word (P t)
+    unlike_here : (t : ℕ)
+        → t ≢ u
+        → 0 < marked_at q
+        → marked_at q ≡ marked_at (P t)
+        → marked_word q ≢ marked_word (P t)
     unlike_here t other positive node equal = k.unlike u t (λ e. other (sym e)) (subst (λ a. 0 < a) at_before positive) (sym at_before ∙ node) (sym word_before ∙ equal)
 
--- the mark of u: no other station is marked there by the new word, since its mark would stand, the
--- word would have only grown, and so u would have had a mark before
-mark_is_new : {W : ℕ → ℕ} {P : ℕ → Phase} (u a t : ℕ) → Shut W P → Stamped W P → P u ≡ Unmarked a → 0 < a → t ≢ u → a ≡ marked_at (P t) → with_mark u (W a) ≢ marked_word (P t)
+-- the mark of u. No other station is marked there by the new word. Else its mark would be set and
+-- the word would have only grown, so u would have had a mark before
+mark_is_new : {W : ℕ → ℕ} {P : ℕ → Phase} (u a t : ℕ)
+    → Shut W P
+    → Stamped W P
+    → P u ≡ Unmarked a
+    → 0 < a
+    → t ≢ u
+    → a ≡ marked_at (P t)
+    → with_mark u (W a) ≢ marked_word (P t)
 mark_is_new {W = W} {P = P} u a t shut k is positive other at equal =
     k.fresh u (subst (λ r. 0 < unmarked_at r) (sym is) positive) (subst (λ b. IsMarked u (W b)) (sym (ap unmarked_at is)) mark_before)
   where
@@ -83,7 +144,14 @@ mark_is_new {W = W} {P = P} u a t shut k is positive other at equal =
     mark_before : IsMarked u (W a)
     mark_before = subst (λ b. IsMarked u (W b)) (sym at) (k.grown t positive_t other_mark (mark_bit u) (subst (IsMarked u) equal (with_mark-has u (W a))))
 
-pub stamped_kept : {n : ℕ} {W : ℕ → ℕ} {P : ℕ → Phase} {p : Phase} {u v y : ℕ} {q : Phase} {V : ℕ → ℕ} {Q : ℕ → Phase} → Move n u W p v y q → P u ≡ p → Change W P v y u q V Q → Shut W P → Stamped W P → Stamped V Q
+pub stamped_kept : {n : ℕ} {W : ℕ → ℕ} {P : ℕ → Phase} {p : Phase} {u v y : ℕ} {q : Phase}
+    {V : ℕ → ℕ} {Q : ℕ → Phase}
+    → Move n u W p v y q
+    → P u ≡ p
+    → Change W P v y u q V Q
+    → Shut W P
+    → Stamped W P
+    → Stamped V Q
 stamped_kept (claims h w q i f e risen) is x shut k = stamped_plain (claims h w q i f e risen) x k risen.plain.not_marked risen.plain.not_unmarked
 stamped_kept (raises h a q i l o f risen) is x shut k = stamped_plain (raises h a q i l o f risen) x k risen.plain.not_marked risen.plain.not_unmarked
 stamped_kept (zeroes h q i leaving) is x shut k = stamped_plain (zeroes h q i leaving) x k leaving.plain.not_marked leaving.plain.not_unmarked

@@ -1,4 +1,5 @@
--- What a call or an event does to one word and one phase: a move for each outcome, with what is known there.
+-- What a call or an event does to one word and one phase: a move for each outcome, with what is
+-- known there.
 use Rattle.std.proofs.Common.{◌≡◌, ◌≢◌, ℕ, ◌+◌, ◌*◌, ◌/◌, ◌^◌, ◌<◌, ◌≤◌, ◌⊎◌, inl, inr, Bool, true, false, cond, eqb, bit_or, [], ◌∷◌, refl, ◌∙◌, ap, arith}
 use Rattle.std.specs.Int.{bit_at}
 use Rattle.std.proofs.lemmas.Bool.{eqb-true, eqb-false}
@@ -71,9 +72,10 @@ plain_holding h = record { not_marked = refl; not_unmarked = refl; unread = refl
 pub plain_arriving : (a : ℕ) → IsPlain (Arriving a)
 plain_arriving a = record { not_marked = refl; not_unmarked = refl; unread = refl; stays = λ is. absurd (cc) }
 
--- ---- the phase past a
+-- ---- the phase after a was passed
 
--- past a on the way up from h the station owns h and stops at the parent of a, also at the root
+-- after a was passed on the way up from h, the station owns h and stops at the parent of a, also at
+-- the root
 pub record IsRisen (n h a : ℕ) (q : Phase) : Type 0 where
   pub fit : Fit n q
   pub own : owned q ≡ h
@@ -87,7 +89,10 @@ pub record IsRisen (n h a : ℕ) (q : Phase) : Type 0 where
 path_in_cube : (n a h : ℕ) → OnPath a h → IsInCube n h → IsInCube n a
 path_in_cube n a h above in_cube = let order : a ≤ h = OnPath-le a h above in (above.0, omega (arith, in_cube.1))
 
-phase_after_raise_is : (n h a : ℕ) → IsInCube n h → OnPath a h → IsRisen n h a (phase_after_raise h a)
+phase_after_raise_is : (n h a : ℕ)
+    → IsInCube n h
+    → OnPath a h
+    → IsRisen n h a (phase_after_raise h a)
 phase_after_raise_is n h a in_cube above = turn (eqb a 1) refl
   where
     turn : (t : Bool) → eqb a 1 ≡ t → IsRisen n h a (cond t (Holding h) (Climbing h (a / 2)))
@@ -102,7 +107,7 @@ phase_after_raise_is n h a in_cube above = turn (eqb a 1) refl
         let deeper : depth n a ≡ 1 + depth n (a / 2) = depth-parent n a (path_in_cube n a h above in_cube) inner in
         record { fit = (in_cube, omega arith, parent); own = refl; at = refl; from = omega arith; plain = plain_climbing h (a / 2); takes = inl (refl, refl); due = omega (arith, deeper) }
 
--- past a on the way up after a node was given back the station owns nothing, and is to clear the
+-- after a was passed on the way up after a Zero, the station owns nothing. It is to clear the
 -- parent of a if a was left free, with the word y
 pub record IsLeaving (n a y : ℕ) (q : Phase) : Type 0 where
   pub fit : Fit n q
@@ -150,38 +155,108 @@ pub data Move (n u : ℕ) (W : ℕ → ℕ) : Phase → ℕ → ℕ → Phase �
   begins_take : (h : ℕ) → IsInCube n h → Move n u W Idle 0 (W 0) (Looking h)
   begins_release : (h : ℕ) → IsInCube n h → Move n u W (Holding h) 0 (W 0) (Leaving h)
   retires : Move n u W Idle 0 (bit_or (W 0) (2 ^ u)) Retired
-  looks_free : (h : ℕ) → IsInCube n h → IsFree (W h) → Move n u W (Looking h) h (W h) (Looked h (W h))
+  looks_free : (h : ℕ)
+      → IsInCube n h
+      → IsFree (W h)
+      → Move n u W (Looking h) h (W h) (Looked h (W h))
   looks_used : (h : ℕ) → IsInCube n h → Move n u W (Looking h) h (W h) Idle
-  claims : (h w : ℕ) (q : Phase) → IsInCube n h → IsFree w → W h ≡ w → IsRisen n h h q → Move n u W (Looked h w) h busy q
+  claims : (h w : ℕ) (q : Phase)
+      → IsInCube n h
+      → IsFree w
+      → W h ≡ w
+      → IsRisen n h h q
+      → Move n u W (Looked h w) h busy q
   claims_lost : (h w : ℕ) → IsInCube n h → Move n u W (Looked h w) h (W h) Idle
-  sweeps : (h a : ℕ) → IsInCube n h → a < h → OnPath a h → Move n u W (Climbing h a) a (use_of (W a)) (Swept h a)
-  raises : (h a : ℕ) (q : Phase) → IsInCube n h → a < h → OnPath a h → (IsOccupied (W a) → ⊥) → IsRisen n h a q → Move n u W (Swept h a) a (with_side (side_of (child_towards a h)) (W a)) q
-  raises_under : (h a : ℕ) → IsInCube n h → a < h → OnPath a h → IsOccupied (W a) → Move n u W (Swept h a) a (with_side (side_of (child_towards a h)) (W a)) (Backing h a)
+  sweeps : (h a : ℕ)
+      → IsInCube n h
+      → a < h
+      → OnPath a h
+      → Move n u W (Climbing h a) a (use_of (W a)) (Swept h a)
+  raises : (h a : ℕ) (q : Phase)
+      → IsInCube n h
+      → a < h
+      → OnPath a h
+      → (IsOccupied (W a) → ⊥)
+      → IsRisen n h a q
+      → Move n u W (Swept h a) a (with_side (side_of (child_towards a h)) (W a)) q
+  raises_under : (h a : ℕ)
+      → IsInCube n h
+      → a < h
+      → OnPath a h
+      → IsOccupied (W a)
+      → Move n u W (Swept h a) a (with_side (side_of (child_towards a h)) (W a)) (Backing h a)
   zeroes : (h : ℕ) (q : Phase) → IsInCube n h → IsLeaving n h 0 q → Move n u W (Leaving h) h 0 q
-  zeroes_back : (h a : ℕ) (q : Phase) → IsInCube n h → IsLeaving n h 0 q → Move n u W (Backing h a) h 0 q
+  zeroes_back : (h a : ℕ) (q : Phase)
+      → IsInCube n h
+      → IsLeaving n h 0 q
+      → Move n u W (Backing h a) h 0 q
   unmarks : (a : ℕ) → IsInner n a → Move n u W (Arriving a) a (use_of (W a)) (Unmarked a)
-  marks : (a : ℕ) → IsInner n a → (IsOccupied (W a) → ⊥) → Move n u W (Unmarked a) a (with_mark u (W a)) (Marked a (with_mark u (W a)) seen.NotYet seen.NotYet)
-  marks_stop : (a : ℕ) → IsInner n a → IsOccupied (W a) → Move n u W (Unmarked a) a (with_mark u (W a)) Idle
-  looks_left : (a w : ℕ) (right found : Seen) → IsInner n a → Shows found (W (2 * a)) → Move n u W (Marked a w seen.NotYet right) (2 * a) (W (2 * a)) (Marked a w found right)
-  looks_right : (a w : ℕ) (left found : Seen) → IsInner n a → left ≢ seen.NotYet → Shows found (W (2 * a + 1)) → Move n u W (Marked a w left seen.NotYet) (2 * a + 1) (W (2 * a + 1)) (Marked a w left found)
-  clears : (a w : ℕ) (left right : Seen) (q : Phase) → IsInner n a → left ≢ seen.NotYet → right ≢ seen.NotYet → W a ≡ w → IsLeaving n a (cleared_as_seen w left right) q → Move n u W (Marked a w left right) a (cleared_as_seen w left right) q
-  clears_lost : (a w : ℕ) (left right : Seen) → IsInner n a → W a ≢ w → Move n u W (Marked a w left right) a (W a) Idle
+  marks : (a : ℕ)
+      → IsInner n a
+      → (IsOccupied (W a) → ⊥)
+      → Move n u W (Unmarked a) a (with_mark u (W a))
+      (Marked a (with_mark u (W a)) seen.NotYet seen.NotYet)
+  marks_stop : (a : ℕ)
+      → IsInner n a
+      → IsOccupied (W a)
+      → Move n u W (Unmarked a) a (with_mark u (W a)) Idle
+  looks_left : (a w : ℕ) (right found : Seen)
+      → IsInner n a
+      → Shows found (W (2 * a))
+      → Move n u W (Marked a w seen.NotYet right) (2 * a) (W (2 * a)) (Marked a w found right)
+  looks_right : (a w : ℕ) (left found : Seen)
+      → IsInner n a
+      → left ≢ seen.NotYet
+      → Shows found (W (2 * a + 1))
+      → Move n u W (Marked a w left seen.NotYet) (2 * a + 1) (W (2 * a + 1)) (Marked a w left found)
+  clears : (a w : ℕ) (left right : Seen) (q : Phase)
+      → IsInner n a
+      → left ≢ seen.NotYet
+      → right ≢ seen.NotYet
+      → W a ≡ w
+      → IsLeaving n a (cleared_as_seen w left right) q
+      → Move n u W (Marked a w left right) a (cleared_as_seen w left right) q
+  clears_lost : (a w : ℕ) (left right : Seen)
+      → IsInner n a
+      → W a ≢ w
+      → Move n u W (Marked a w left right) a (W a) Idle
 
 -- ---- each event is a move
 
-looked : (n u : ℕ) (W : ℕ → ℕ) (h : ℕ) → IsInCube n h → (t : Bool) → is_free (W h) ≡ t → Move n u W (Looking h) h (W h) (cond t (Looked h (W h)) Idle)
+looked : (n u : ℕ) (W : ℕ → ℕ) (h : ℕ)
+    → IsInCube n h
+    → (t : Bool)
+    → is_free (W h) ≡ t
+    → Move n u W (Looking h) h (W h) (cond t (Looked h (W h)) Idle)
 looked n u W h in_cube true is = looks_free h in_cube (eqb-true (use_of (W h)) 0 is)
 looked n u W h in_cube false is = looks_used h in_cube
 
-claimed : (n u : ℕ) (W : ℕ → ℕ) (h w : ℕ) → IsInCube n h → IsFree w → (t : Bool) → eqb (W h) w ≡ t → Move n u W (Looked h w) h (cond t busy (W h)) (cond t (phase_after_raise h h) Idle)
+claimed : (n u : ℕ) (W : ℕ → ℕ) (h w : ℕ)
+    → IsInCube n h
+    → IsFree w
+    → (t : Bool)
+    → eqb (W h) w ≡ t
+    → Move n u W (Looked h w) h (cond t busy (W h)) (cond t (phase_after_raise h h) Idle)
 claimed n u W h w in_cube free true is = claims h w (phase_after_raise h h) in_cube free (eqb-true (W h) w is) (phase_after_raise_is n h h in_cube (OnPath-self h in_cube.0))
 claimed n u W h w in_cube free false is = claims_lost h w in_cube
 
-raised : (n u : ℕ) (W : ℕ → ℕ) (h a : ℕ) → IsInCube n h → a < h → OnPath a h → (t : Bool) → is_occupied (W a) ≡ t → Move n u W (Swept h a) a (with_side (side_of (child_towards a h)) (W a)) (cond t (Backing h a) (phase_after_raise h a))
+raised : (n u : ℕ) (W : ℕ → ℕ) (h a : ℕ)
+    → IsInCube n h
+    → a < h
+    → OnPath a h
+    → (t : Bool)
+    → is_occupied (W a) ≡ t
+    → Move n u W (Swept h a) a (with_side (side_of (child_towards a h)) (W a))
+    (cond t (Backing h a) (phase_after_raise h a))
 raised n u W h a in_cube less above true is = raises_under h a in_cube less above (eqb-true (bit_at (W a) 0) 1 is)
 raised n u W h a in_cube less above false is = raises h a (phase_after_raise h a) in_cube less above (eqb-false (bit_at (W a) 0) 1 is) (phase_after_raise_is n h a in_cube above)
 
-marked : (n u : ℕ) (W : ℕ → ℕ) (a : ℕ) → IsInner n a → (t : Bool) → is_occupied (W a) ≡ t → Move n u W (Unmarked a) a (with_mark u (W a)) (cond t Idle (Marked a (with_mark u (W a)) seen.NotYet seen.NotYet))
+marked : (n u : ℕ) (W : ℕ → ℕ) (a : ℕ)
+    → IsInner n a
+    → (t : Bool)
+    → is_occupied (W a) ≡ t
+    → Move n u W (Unmarked a) a (with_mark u (W a))
+    (cond t Idle (Marked a (with_mark u (W a)) seen.NotYet seen.NotYet))
 marked n u W a inner true is = marks_stop a inner (eqb-true (bit_at (W a) 0) 1 is)
 marked n u W a inner false is = marks a inner (eqb-false (bit_at (W a) 0) 1 is)
 
@@ -189,7 +264,15 @@ in_cube-inner : (n a : ℕ) → IsInner n a → IsInCube n a
 in_cube-inner n a inner = let whole : 2 ^ (n + 1) ≡ 2 * 2 ^ n = double n in (inner.0, omega (arith, inner.1))
 
 -- a Clear, by whether the word is still the marked one and whether what it writes is free
-cleared_by : (n u : ℕ) (W : ℕ → ℕ) (a w : ℕ) (left right : Seen) → IsInner n a → left ≢ seen.NotYet → right ≢ seen.NotYet → (s t : Bool) → eqb (W a) w ≡ s → is_free (cleared_as_seen w left right) ≡ t → Move n u W (Marked a w left right) a (cond s (cleared_as_seen w left right) (W a)) (cond s (cond t (phase_after_zero a) Idle) Idle)
+cleared_by : (n u : ℕ) (W : ℕ → ℕ) (a w : ℕ) (left right : Seen)
+    → IsInner n a
+    → left ≢ seen.NotYet
+    → right ≢ seen.NotYet
+    → (s t : Bool)
+    → eqb (W a) w ≡ s
+    → is_free (cleared_as_seen w left right) ≡ t
+    → Move n u W (Marked a w left right) a (cond s (cleared_as_seen w left right) (W a))
+    (cond s (cond t (phase_after_zero a) Idle) Idle)
 cleared_by n u W a w left right inner l r true true same free = clears a w left right (phase_after_zero a) inner l r (eqb-true (W a) w same) (phase_after_zero_is n a (cleared_as_seen w left right) (in_cube-inner n a inner))
 cleared_by n u W a w left right inner l r true false same used = clears a w left right Idle inner l r (eqb-true (W a) w same) (record { fit = tt; none = refl; holds_none = refl; asks_none = refl; plain = plain_idle; owes = λ free _ _. absurd (eqb-false (use_of (cleared_as_seen w left right)) 0 used free); due = omega arith })
 cleared_by n u W a w left right inner l r false t other _ = clears_lost a w left right inner (eqb-false (W a) w other)
@@ -198,7 +281,11 @@ cleared_by n u W a w left right inner l r false t other _ = clears_lost a w left
 abbrev pub MoveOf : ℕ → ℕ → (ℕ → ℕ) → Phase → Transition → Type 0
 MoveOf n u W p d = Move n u W p d.node (d.writes (W d.node)) (d.next (W d.node))
 
-clear_move : (n u : ℕ) (W : ℕ → ℕ) (a w : ℕ) (left right : Seen) → IsInner n a → left ≢ seen.NotYet → right ≢ seen.NotYet → MoveOf n u W (Marked a w left right) (clear_event u a w (cleared_as_seen w left right))
+clear_move : (n u : ℕ) (W : ℕ → ℕ) (a w : ℕ) (left right : Seen)
+    → IsInner n a
+    → left ≢ seen.NotYet
+    → right ≢ seen.NotYet
+    → MoveOf n u W (Marked a w left right) (clear_event u a w (cleared_as_seen w left right))
 clear_move n u W a w left right inner l r = cleared_by n u W a w left right inner l r (eqb (W a) w) (is_free (cleared_as_seen w left right)) refl refl
 
 free_is_seen : seen.Free ≢ seen.NotYet
@@ -207,7 +294,9 @@ free_is_seen is = cc
 used_is_seen : seen.Used ≢ seen.NotYet
 used_is_seen is = cc
 
-marked_move : (n u : ℕ) (W : ℕ → ℕ) (a w : ℕ) (left right : Seen) → IsInner n a → MoveOf n u W (Marked a w left right) (transition u (Marked a w left right))
+marked_move : (n u : ℕ) (W : ℕ → ℕ) (a w : ℕ) (left right : Seen)
+    → IsInner n a
+    → MoveOf n u W (Marked a w left right) (transition u (Marked a w left right))
 marked_move n u W a w seen.NotYet right inner = looks_left a w right (seen_at (W (2 * a))) inner (shows (W (2 * a)))
 marked_move n u W a w seen.Free seen.NotYet inner = looks_right a w seen.Free (seen_at (W (2 * a + 1))) inner free_is_seen (shows (W (2 * a + 1)))
 marked_move n u W a w seen.Used seen.NotYet inner = looks_right a w seen.Used (seen_at (W (2 * a + 1))) inner used_is_seen (shows (W (2 * a + 1)))
@@ -217,7 +306,10 @@ marked_move n u W a w seen.Used seen.Free inner = clear_move n u W a w seen.Used
 marked_move n u W a w seen.Used seen.Used inner = clear_move n u W a w seen.Used seen.Used inner used_is_seen used_is_seen
 
 -- a step that is not refused is a move
-pub step_move : (n u : ℕ) (W : ℕ → ℕ) (p : Phase) → Fit n p → step_refusal p ≡ None → MoveOf n u W p (transition u p)
+pub step_move : (n u : ℕ) (W : ℕ → ℕ) (p : Phase)
+    → Fit n p
+    → step_refusal p ≡ None
+    → MoveOf n u W p (transition u p)
 step_move n u W Idle fit none = absurd (cc)
 step_move n u W (Looking h) fit none = looked n u W h fit (is_free (W h)) refl
 step_move n u W (Looked h w) fit none = claimed n u W h w fit.0 fit.1 (eqb (W h) w) refl
@@ -238,7 +330,10 @@ unseen-seen found w (inl shown) = ap unseen shown.0
 unseen-seen found w (inr shown) = ap unseen shown.0
 
 -- each event lowers the count of its station
-pub due_falls : {n u : ℕ} {W : ℕ → ℕ} {p : Phase} {v y : ℕ} {q : Phase} → Move n u W p v y q → step_refusal p ≡ None → events_due n q < events_due n p
+pub due_falls : {n u : ℕ} {W : ℕ → ℕ} {p : Phase} {v y : ℕ} {q : Phase}
+    → Move n u W p v y q
+    → step_refusal p ≡ None
+    → events_due n q < events_due n p
 due_falls (begins_take h _) step = absurd (cc)
 due_falls (begins_release h _) step = absurd (cc)
 due_falls retires step = absurd (cc)
@@ -265,12 +360,20 @@ due_falls (clears_lost a w left right _ _) step = omega arith
 abbrev pub IsTaking : ℕ → Phase → Type 0
 IsTaking v p = ((asked p ≡ v) × (node_held p ≡ 0)) ⊎ ((asked p ≡ 0) × ((node_held p ≡ 0) ⊎ (node_held p ≡ v)))
 
-risen_taking : {n h a : ℕ} {q : Phase} (v : ℕ) → IsRisen n h a q → 0 < h → ((h ≡ v) × ◌≡◌ {A = ℕ} 0 0) ⊎ ((h ≡ 0) × (◌≡◌ {A = ℕ} 0 0 ⊎ (0 ≡ v))) → IsTaking v q
+risen_taking : {n h a : ℕ} {q : Phase} (v : ℕ)
+    → IsRisen n h a q
+    → 0 < h
+    → ((h ≡ v) × ◌≡◌ {A = ℕ} 0 0) ⊎ ((h ≡ 0) × (◌≡◌ {A = ℕ} 0 0 ⊎ (0 ≡ v)))
+    → IsTaking v q
 risen_taking v risen positive (inl (is, _)) = elim risen.takes [ inl climbs ↦ inl (climbs.0 ∙ is, climbs.1) | inr holds ↦ inr (holds.0, inr (holds.1 ∙ is)) ]
 risen_taking v risen positive (inr (none, _)) = absurd (omega arith)
 
 -- each step of the station keeps that
-pub taking_kept : {n u : ℕ} {W : ℕ → ℕ} {p : Phase} {x y : ℕ} {q : Phase} (v : ℕ) → Move n u W p x y q → step_refusal p ≡ None → IsTaking v p → IsTaking v q
+pub taking_kept : {n u : ℕ} {W : ℕ → ℕ} {p : Phase} {x y : ℕ} {q : Phase} (v : ℕ)
+    → Move n u W p x y q
+    → step_refusal p ≡ None
+    → IsTaking v p
+    → IsTaking v q
 taking_kept v (begins_take h _) step k = absurd (cc)
 taking_kept v (begins_release h _) step k = absurd (cc)
 taking_kept v retires step k = absurd (cc)
@@ -289,7 +392,8 @@ taking_kept v _ step k = inr (refl, inl refl)
 abbrev pub SingleEvent : ℕ → Transition → ℕ → Type 0
 SingleEvent s d found = (event : Event) × (event.station ≡ s) × (d.events found ≡ event ∷ [])
 
-marked_event : (s a w found : ℕ) (left right : Seen) → SingleEvent s (transition s (Marked a w left right)) found
+marked_event : (s a w found : ℕ) (left right : Seen)
+    → SingleEvent s (transition s (Marked a w left right)) found
 marked_event s a w found seen.NotYet right = (_, refl, refl)
 marked_event s a w found seen.Free seen.NotYet = (_, refl, refl)
 marked_event s a w found seen.Used seen.NotYet = (_, refl, refl)
@@ -298,7 +402,9 @@ marked_event s a w found seen.Free seen.Used = (_, refl, refl)
 marked_event s a w found seen.Used seen.Free = (_, refl, refl)
 marked_event s a w found seen.Used seen.Used = (_, refl, refl)
 
-pub step_event : (s found : ℕ) (p : Phase) → step_refusal p ≡ None → SingleEvent s (transition s p) found
+pub step_event : (s found : ℕ) (p : Phase)
+    → step_refusal p ≡ None
+    → SingleEvent s (transition s p) found
 step_event s found Idle none = absurd (cc)
 step_event s found (Looking h) none = (_, refl, refl)
 step_event s found (Looked h w) none = (_, refl, refl)

@@ -1,4 +1,4 @@
--- The roll: the bit of a station stands in word 0 exactly when the station has retired.
+-- The roll: the bit of a station is set in word 0 exactly if the station has retired.
 use Rattle.std.proofs.Common.{◌≡◌, ◌≢◌, ℕ, ◌^◌, ◌<◌, inl, inr, bit_or, refl, sym, ◌∙◌, subst, arith}
 use Rattle.std.specs.Prelude.{◌↔◌}
 use Rattle.std.proofs.lemmas.Nat.Bits.{bit_at-pow_same, bit_at-pow_other}
@@ -9,12 +9,19 @@ use Rattle.cube_core.specs.declared.phase.Phase.TheVariants.{Retired}
 use Rattle.cube_core.proofs.ChangeLemmas.{Change, each, each_word}
 use Rattle.cube_core.proofs.MoveLemmas.{Move, begins_take, begins_release, retires, looks_free, looks_used, claims, claims_lost, sweeps, raises, raises_under, zeroes, zeroes_back, unmarks, marks, marks_stop, looks_left, looks_right, clears, clears_lost}
 
--- of this many stations
+-- the roll of this many stations
 pub record Rolled (count : ℕ) (W : ℕ → ℕ) (P : ℕ → Phase) : Type 0 where
   pub roll : (s : ℕ) → s < count → IsSet (W 0) s ↔ (P s ≡ Retired)
 
--- a move of one who has not retired and does not leaves the roll alone
-rolled_same : {count : ℕ} {W : ℕ → ℕ} {P : ℕ → Phase} {u v y : ℕ} {q : Phase} {V : ℕ → ℕ} {Q : ℕ → Phase} → Change W P v y u q V Q → Rolled count W P → (v ≡ 0 → y ≡ W v) → P u ≢ Retired → q ≢ Retired → Rolled count V Q
+-- a move of a station that has not retired, and does not retire, does not change the roll
+rolled_same : {count : ℕ} {W : ℕ → ℕ} {P : ℕ → Phase} {u v y : ℕ} {q : Phase} {V : ℕ → ℕ}
+    {Q : ℕ → Phase}
+    → Change W P v y u q V Q
+    → Rolled count W P
+    → (v ≡ 0 → y ≡ W v)
+    → P u ≢ Retired
+    → q ≢ Retired
+    → Rolled count V Q
 rolled_same {count = count} {W = W} {P = P} {u = u} {v = v} {y = y} {V = V} x k same was_in stays_in = record {
   roll = each x (λ s r. s < count → IsSet (V 0) s ↔ (r ≡ Retired))
       (λ there. (λ set. absurd (was_in ((k.roll u there).0 (subst (λ w. IsSet w u) zero_word set))), λ is. absurd (stays_in is)))
@@ -30,7 +37,10 @@ retired_bit s u w other set = elim (IsSet-or_cases w (2 ^ u) s set) [
   | inr new ↦ absurd (omega (arith, bit_at-pow_other u s other, new))
 ]
 
-rolled_more : {count : ℕ} {W : ℕ → ℕ} {P : ℕ → Phase} {u : ℕ} {V : ℕ → ℕ} {Q : ℕ → Phase} → Change W P 0 (bit_or (W 0) (2 ^ u)) u Retired V Q → Rolled count W P → Rolled count V Q
+rolled_more : {count : ℕ} {W : ℕ → ℕ} {P : ℕ → Phase} {u : ℕ} {V : ℕ → ℕ} {Q : ℕ → Phase}
+    → Change W P 0 (bit_or (W 0) (2 ^ u)) u Retired V Q
+    → Rolled count W P
+    → Rolled count V Q
 rolled_more {count = count} {W = W} {P = P} {u = u} {V = V} x k = record {
   roll = each x (λ s r. s < count → IsSet (V 0) s ↔ (r ≡ Retired))
       (λ _. (λ _. refl, λ _. subst (λ w. IsSet w u) (sym x.word_here) (IsSet-or_right (W 0) (2 ^ u) u (bit_at-pow_same u))))
@@ -40,7 +50,7 @@ rolled_more {count = count} {W = W} {P = P} {u = u} {V = V} x k = record {
       ));
 }
 
--- from a phase that is written out
+-- for a phase that is given by an equation
 from : {p r : Phase} → p ≡ r → r ≢ Retired → p ≢ Retired
 from is other retired = other (sym is ∙ retired)
 
@@ -48,7 +58,13 @@ from is other retired = other (sym is ∙ retired)
 node_not : (v y w : ℕ) → 0 < v → v ≡ 0 → y ≡ w
 node_not v y w positive is = absurd (omega arith)
 
-pub rolled_kept : {n count : ℕ} {W : ℕ → ℕ} {P : ℕ → Phase} {p : Phase} {u v y : ℕ} {q : Phase} {V : ℕ → ℕ} {Q : ℕ → Phase} → Move n u W p v y q → P u ≡ p → Change W P v y u q V Q → Rolled count W P → Rolled count V Q
+pub rolled_kept : {n count : ℕ} {W : ℕ → ℕ} {P : ℕ → Phase} {p : Phase} {u v y : ℕ} {q : Phase}
+    {V : ℕ → ℕ} {Q : ℕ → Phase}
+    → Move n u W p v y q
+    → P u ≡ p
+    → Change W P v y u q V Q
+    → Rolled count W P
+    → Rolled count V Q
 rolled_kept (begins_take h i) is x k = rolled_same x k (λ _. refl) (from is (λ e. absurd (cc))) (λ e. absurd (cc))
 rolled_kept (begins_release h i) is x k = rolled_same x k (λ _. refl) (from is (λ e. absurd (cc))) (λ e. absurd (cc))
 rolled_kept retires is x k = rolled_more x k

@@ -61,6 +61,7 @@ Stands-lawful w k = record {
   counted = Stands-counted w k;
 }
 
-pub every_schedule : (n stations : ℕ) (acts : List Act) → IsTreeLawful (apply_all acts (initial n stations))
+pub every_schedule : (n stations : ℕ) (acts : List Act)
+    → IsTreeLawful (apply_all acts (initial n stations))
 every_schedule n stations acts =
     Stands-lawful (apply_all acts (initial n stations)) (apply_all_stands acts (initial n stations) (initial_stands n stations))

@@ -31,7 +31,10 @@ pub record Stands (w : State) : Type 0 where
 absent : Record
 absent = record { phase = Retired; trail = [] }
 
-apply_begin_change : (s : ℕ) (phase : Phase) (w : State) → s < length w.records → Change (word_of w) (phase_of w) 0 (word_of w 0) s phase (word_of w) (phase_of (apply_begin s phase w))
+apply_begin_change : (s : ℕ) (phase : Phase) (w : State)
+    → s < length w.records
+    → Change (word_of w) (phase_of w) 0 (word_of w 0) s phase (word_of w)
+    (phase_of (apply_begin s phase w))
 unfolding absent
 apply_begin_change s phase w there = record {
   word_here = refl;
@@ -40,7 +43,11 @@ apply_begin_change s phase w there = record {
   phase_else = λ t other. ap (λ (r : Record). r.phase) (get_or-set_other w.records s t (record (record_of w s) { phase = phase }) absent other);
 }
 
-apply_event_change : (d : Transition) (s : ℕ) (w : State) → d.node < length w.words → s < length w.records → Change (word_of w) (phase_of w) d.node (d.writes (word_of w d.node)) s (d.next (word_of w d.node)) (word_of (apply_event d s w)) (phase_of (apply_event d s w))
+apply_event_change : (d : Transition) (s : ℕ) (w : State)
+    → d.node < length w.words
+    → s < length w.records
+    → Change (word_of w) (phase_of w) d.node (d.writes (word_of w d.node)) s
+    (d.next (word_of w d.node)) (word_of (apply_event d s w)) (phase_of (apply_event d s w))
 unfolding absent
 apply_event_change d s w node_there there = record {
   word_here = get_or-set_same w.words d.node _ 0 node_there;
@@ -53,7 +60,9 @@ apply_event_change d s w node_there there = record {
 pub below_inner : (n a : ℕ) → IsInner n a → 2 * a + 1 < 2 ^ (n + 1)
 below_inner n a inner = let whole : 2 ^ (n + 1) ≡ 2 * 2 ^ n = double n in omega (arith, inner.1)
 
-marked_there : (n u a w : ℕ) (left right : Seen) → IsInner n a → (transition u (Marked a w left right)).node < 2 ^ (n + 1)
+marked_there : (n u a w : ℕ) (left right : Seen)
+    → IsInner n a
+    → (transition u (Marked a w left right)).node < 2 ^ (n + 1)
 marked_there n u a w left right inner = turn left right
   where
     below : 2 * a + 1 < 2 ^ (n + 1)
@@ -88,12 +97,16 @@ node_there n u (Unmarked a) fit = inner_there n a fit
 node_there n u (Marked a w left right) fit = marked_there n u a w left right fit
 node_there n u Retired fit = pow_pos (n + 1)
 
--- past an ancestor the station holds the node that it asked for, or nothing yet
-holds_asked : {n h a : ℕ} {q : Phase} → IsRisen n h a q → (◌≡◌ {A = ℕ} 0 0 × (node_held q ≡ h)) ⊎ ((node_held q ≡ 0) ⊎ (node_held q ≡ 0))
+-- after an ancestor was passed, the station holds the node that it asked for, or nothing yet
+holds_asked : {n h a : ℕ} {q : Phase}
+    → IsRisen n h a q
+    → (◌≡◌ {A = ℕ} 0 0 × (node_held q ≡ h)) ⊎ ((node_held q ≡ 0) ⊎ (node_held q ≡ 0))
 holds_asked risen = elim risen.takes [ inl climbs ↦ inr (inl climbs.1) | inr holds ↦ inl (refl, holds.1) ]
 
--- a move makes a holder of nothing but the node asked
-held_moves : {n u : ℕ} {W : ℕ → ℕ} {p : Phase} {v y : ℕ} {q : Phase} → Move n u W p v y q → HeldMoves p q
+-- after a move a station holds nothing, what it held, or the node asked
+held_moves : {n u : ℕ} {W : ℕ → ℕ} {p : Phase} {v y : ℕ} {q : Phase}
+    → Move n u W p v y q
+    → HeldMoves p q
 held_moves (begins_release h _) = inr (inr refl)
 held_moves (claims h w q _ _ _ risen) = holds_asked risen
 held_moves (raises h a q _ _ _ _ risen) = holds_asked risen
@@ -104,18 +117,31 @@ held_moves _ = inr (inl refl)
 
 -- ---- an act that is not refused
 
--- its station is there, and its phase lets it
-pub accepted : (act : Act) (w : State) → refusal act w ≡ None → (station_of act < length w.records) × (phase_refusal w.dim act (phase_of w (station_of act)) ≡ None)
+-- its station exists, and its phase allows it
+pub accepted : (act : Act) (w : State)
+    → refusal act w ≡ None
+    → (station_of act < length w.records)
+    × (phase_refusal w.dim act (phase_of w (station_of act)) ≡ None)
 accepted act w = turn _ (ltb (station_of act) (length w.records)) refl
   where
-    turn : (why : Refused) (t : Bool) → ltb (station_of act) (length w.records) ≡ t → cond t (phase_refusal w.dim act (phase_of w (station_of act))) (Some why) ≡ None → (station_of act < length w.records) × (phase_refusal w.dim act (phase_of w (station_of act)) ≡ None)
+    turn : (why : Refused) (t : Bool)
+        → ltb (station_of act) (length w.records) ≡ t
+        → cond t (phase_refusal w.dim act (phase_of w (station_of act))) (Some why) ≡ None
+        → (station_of act < length w.records)
+        × (phase_refusal w.dim act (phase_of w (station_of act)) ≡ None)
     turn why true is none = (ltb-true (station_of act) (length w.records) is, none)
     turn why false is none = absurd (cc)
 
-take_idle : (n s v : ℕ) (p : Phase) → phase_refusal n (Take s v) p ≡ None → (p ≡ Idle) × IsInCube n v
+take_idle : (n s v : ℕ) (p : Phase)
+    → phase_refusal n (Take s v) p ≡ None
+    → (p ≡ Idle) × IsInCube n v
 take_idle n s v Idle none = turn _ (ltb 0 v) (ltb v (2 ^ (n + 1))) refl refl none
   where
-    turn : (why : Refused) (b t : Bool) → ltb 0 v ≡ b → ltb v (2 ^ (n + 1)) ≡ t → cond (b && t) None (Some why) ≡ None → (Idle ≡ Idle) × IsInCube n v
+    turn : (why : Refused) (b t : Bool)
+        → ltb 0 v ≡ b
+        → ltb v (2 ^ (n + 1)) ≡ t
+        → cond (b && t) None (Some why) ≡ None
+        → (Idle ≡ Idle) × IsInCube n v
     turn why true true low high is = (refl, (ltb-true 0 v low, ltb-true v (2 ^ (n + 1)) high))
     turn why true false low high is = absurd (cc)
     turn why false true low high is = absurd (cc)
@@ -132,7 +158,9 @@ take_idle n s v (Unmarked a) none = absurd (cc)
 take_idle n s v (Marked a w left right) none = absurd (cc)
 take_idle n s v Retired none = absurd (cc)
 
-pub release_holds : (n s : ℕ) (p : Phase) → phase_refusal n (Release s) p ≡ None → p ≡ Holding (owned p)
+pub release_holds : (n s : ℕ) (p : Phase)
+    → phase_refusal n (Release s) p ≡ None
+    → p ≡ Holding (owned p)
 release_holds n s Idle none = absurd (cc)
 release_holds n s (Looking h) none = absurd (cc)
 release_holds n s (Looked h w) none = absurd (cc)
@@ -168,7 +196,15 @@ pub record LeadsTo (w : State) (u : ℕ) (new : State) : Type 0 where
   pub step : IsMachineStep w.dim u (asked (phase_of w u)) (held_of w) (held_of new)
 
 -- a move keeps the invariant
-move_leads : (w new : State) (u : ℕ) (p : Phase) (v y : ℕ) (q : Phase) → Stands w → new.dim ≡ w.dim → length new.words ≡ length w.words → length new.records ≡ length w.records → Move w.dim u (word_of w) p v y q → phase_of w u ≡ p → Change (word_of w) (phase_of w) v y u q (word_of new) (phase_of new) → LeadsTo w u new
+move_leads : (w new : State) (u : ℕ) (p : Phase) (v y : ℕ) (q : Phase)
+    → Stands w
+    → new.dim ≡ w.dim
+    → length new.words ≡ length w.words
+    → length new.records ≡ length w.records
+    → Move w.dim u (word_of w) p v y q
+    → phase_of w u ≡ p
+    → Change (word_of w) (phase_of w) v y u q (word_of new) (phase_of new)
+    → LeadsTo w u new
 move_leads w new u p v y q k dim words stations move is change =
     let kept : Invariant w.dim (length w.records) (word_of new) (phase_of new) = invariant_kept move is change k.holds in record {
       dim = dim;
@@ -177,7 +213,11 @@ move_leads w new u p v y q k dim words stations move is change =
       step = subst (λ n. IsMachineStep w.dim u (asked (phase_of w u)) (held_of w) (λ s. region_held n (node_held (phase_of new s)))) (sym dim) (machine_step change kept.agrees (subst (λ r. HeldMoves r q) (sym is) (held_moves move)));
     }
 
-apply_accepted_leads : (act : Act) (w : State) → Stands w → (station_of act < length w.records) → phase_refusal w.dim act (phase_of w (station_of act)) ≡ None → LeadsTo w (station_of act) (apply_accepted act w)
+apply_accepted_leads : (act : Act) (w : State)
+    → Stands w
+    → (station_of act < length w.records)
+    → phase_refusal w.dim act (phase_of w (station_of act)) ≡ None
+    → LeadsTo w (station_of act) (apply_accepted act w)
 apply_accepted_leads (Take s v) w k there none =
     let idle = take_idle w.dim s v (phase_of w s) none in
     move_leads w _ s Idle 0 (word_of w 0) (Looking v) k refl refl (length-set w.records s _) (begins_take v idle.1) idle.0 (apply_begin_change s (Looking v) w there)
@@ -196,14 +236,17 @@ apply_accepted_leads (Retire s) w k there none =
 pub apply_leads : (act : Act) (w : State) → Stands w → LeadsTo w (station_of act) (apply act w)
 apply_leads act w k = turn (refusal act w) refl
   where
-    turn : (r : Option Refused) → refusal act w ≡ r → LeadsTo w (station_of act) (unless_refused r act w)
+    turn : (r : Option Refused)
+        → refusal act w ≡ r
+        → LeadsTo w (station_of act) (unless_refused r act w)
     turn None is = let yes_there = accepted act w is in apply_accepted_leads act w k yes_there.0 yes_there.1
     turn (Some why) is = record { dim = refl; stations = refl; stands = k; step = inr (inr (λ _. refl)) }
 
 -- ---- every schedule
 
 -- copies of one thing, wherever they are read
-copies : {A : Type 0} (count i : ℕ) (a d : A) → (get_or (replicate count a) i d ≡ a) ⊎ (get_or (replicate count a) i d ≡ d)
+copies : {A : Type 0} (count i : ℕ) (a d : A)
+    → (get_or (replicate count a) i d ≡ a) ⊎ (get_or (replicate count a) i d ≡ d)
 copies count i a d = elim (cases_lt i count) [
   | inl inside ↦ inl (get_or-replicate count i a d inside)
   | inr outside ↦ inr (get_or_past (replicate count a) i d (omega (arith, length-replicate count a)))
@@ -216,17 +259,24 @@ initial_stands n stations = record { word_count = length-replicate (2 ^ (n + 1))
     word : (v : ℕ) → word_of (initial n stations) v ≡ 0
     word v = elim (copies (2 ^ (n + 1)) v 0 0) [ inl is ↦ is | inr is ↦ is ]
 
-    -- what an idle station and an absent one have in common
-    station : (F : Phase → Type 0) → F Idle → F Retired → (s : ℕ) → F (phase_of (initial n stations) s)
+    -- what an idle station and one that does not exist have in common
+    station : (F : Phase → Type 0)
+        → F Idle
+        → F Retired
+        → (s : ℕ)
+        → F (phase_of (initial n stations) s)
     station F idle retired s = elim (copies stations s (record { phase = Idle; trail = [] }) (record { phase = Retired; trail = [] })) [
       | inl is ↦ subst F (sym (ap (λ (r : Record). r.phase) is)) idle
       | inr is ↦ subst F (sym (ap (λ (r : Record). r.phase) is)) retired
     ]
 
-    there : (s : ℕ) → s < length (initial n stations).records → phase_of (initial n stations) s ≡ Idle
+    there : (s : ℕ)
+        → s < length (initial n stations).records
+        → phase_of (initial n stations) s ≡ Idle
     there s below = ap (λ (r : Record). r.phase) (get_or-replicate stations s (record { phase = Idle; trail = [] }) (record { phase = Retired; trail = [] }) (subst (λ count. s < count) (length-replicate stations (record { phase = Idle; trail = [] })) below))
 
-    holds : Invariant n (length (initial n stations).records) (word_of (initial n stations)) (phase_of (initial n stations))
+    holds : Invariant n (length (initial n stations).records) (word_of (initial n stations))
+        (phase_of (initial n stations))
     holds = invariant_initial n (length (initial n stations).records) (word_of (initial n stations)) (phase_of (initial n stations)) word (station (λ p. (p ≡ Idle) ⊎ (p ≡ Retired)) (inl refl) (inr refl)) there
 
 pub apply_all_stands : (acts : List Act) (w : State) → Stands w → Stands (apply_all acts w)
@@ -234,10 +284,14 @@ apply_all_stands [] w k = k
 apply_all_stands (act ∷ earlier) w k = (apply_leads act (apply_all earlier w) (apply_all_stands earlier w k)).stands
 
 -- what an act that is not refused makes of the world
-pub apply-accepted : (act : Act) (w : State) → refusal act w ≡ None → apply act w ≡ apply_accepted act w
+pub apply-accepted : (act : Act) (w : State)
+    → refusal act w ≡ None
+    → apply act w ≡ apply_accepted act w
 apply-accepted act w none = ap (λ r. unless_refused r act w) none
 
-pub apply_begin_phase : (s : ℕ) (q : Phase) (w : State) → s < length w.records → phase_of (apply_begin s q w) s ≡ q
+pub apply_begin_phase : (s : ℕ) (q : Phase) (w : State)
+    → s < length w.records
+    → phase_of (apply_begin s q w) s ≡ q
 apply_begin_phase s q w there = (apply_begin_change s q w there).phase_here
 
 -- ---- schedules and their acts
@@ -247,11 +301,15 @@ apply_all_dim [] w k = refl
 apply_all_dim (act ∷ earlier) w k = (apply_leads act (apply_all earlier w) (apply_all_stands earlier w k)).dim ∙ apply_all_dim earlier w k
 
 -- no act changes another station's record
-pub others_record : (act : Act) (w : State) (t : ℕ) → t ≢ station_of act → record_of (apply act w) t ≡ record_of w t
+pub others_record : (act : Act) (w : State) (t : ℕ)
+    → t ≢ station_of act
+    → record_of (apply act w) t ≡ record_of w t
 unfolding absent
 others_record act w t other = turn (refusal act w)
   where
-    apply_accepted_record : (a : Act) → t ≢ station_of a → record_of (apply_accepted a w) t ≡ record_of w t
+    apply_accepted_record : (a : Act)
+        → t ≢ station_of a
+        → record_of (apply_accepted a w) t ≡ record_of w t
     apply_accepted_record (Take s v) differ = get_or-set_other w.records s t _ absent differ
     apply_accepted_record (Release s) differ = get_or-set_other w.records s t _ absent differ
     apply_accepted_record (Step s) differ = get_or-set_other w.records s t _ absent differ
@@ -265,19 +323,34 @@ others_record act w t other = turn (refusal act w)
 abbrev pub IsKept : (Record → Type 0) → ℕ → ℕ → Type 0
 IsKept G n s = (w : State) → Stands w → w.dim ≡ n → refusal (Step s) w ≡ None → G (record_of w s) → G (record_of (apply (Step s) w) s)
 
--- each act keeps that is not another act of the station than a step
-one_step : (G : Record → Type 0) (n s : ℕ) (act : Act) (w : State) → IsKept G n s → Stands w → w.dim ≡ n → (station_of act ≡ s → act ≡ Step s) → G (record_of w s) → G (record_of (apply act w) s)
+-- an act keeps it, unless it is an act of this station and no step
+one_step : (G : Record → Type 0) (n s : ℕ) (act : Act) (w : State)
+    → IsKept G n s
+    → Stands w
+    → w.dim ≡ n
+    → (station_of act ≡ s → act ≡ Step s)
+    → G (record_of w s)
+    → G (record_of (apply act w) s)
 one_step G n s act w keeps k dim own now = elim (cases_eq s (station_of act)) [
   | inl same ↦ subst (λ a. G (record_of (apply a w) s)) (sym (own (sym same))) (turn (refusal (Step s) w) refl)
   | inr other ↦ subst G (sym (others_record act w s other)) now
 ]
   where
-    turn : (r : Option Refused) → refusal (Step s) w ≡ r → G (record_of (unless_refused r (Step s) w) s)
+    turn : (r : Option Refused)
+        → refusal (Step s) w ≡ r
+        → G (record_of (unless_refused r (Step s) w) s)
     turn None none = subst (λ u. G (record_of u s)) (apply-accepted (Step s) w none) (keeps w k dim none now)
     turn (Some why) _ = now
 
--- and so do all acts of which only steps are the station's own
-pub only_steps : (G : Record → Type 0) (n s : ℕ) → IsKept G n s → (later : List Act) (w : State) → Stands w → w.dim ≡ n → HasOnlySteps s later → G (record_of w s) → G (record_of (apply_all later w) s)
+-- and so do all acts in which the station's own are steps
+pub only_steps : (G : Record → Type 0) (n s : ℕ)
+    → IsKept G n s
+    → (later : List Act) (w : State)
+    → Stands w
+    → w.dim ≡ n
+    → HasOnlySteps s later
+    → G (record_of w s)
+    → G (record_of (apply_all later w) s)
 only_steps G n s keeps [] w k dim steps now = now
 only_steps G n s keeps (act ∷ earlier) w k dim (own, steps) now =
     one_step G n s act (apply_all earlier w) keeps (apply_all_stands earlier w k) (apply_all_dim earlier w k ∙ dim) own (only_steps G n s keeps earlier w k dim steps now)

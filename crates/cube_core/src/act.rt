@@ -9,22 +9,22 @@ pub enum Act {
     Retire { station: u64 },
 }
 
-/// Why a call is refused. A refused call changes nothing.
+/// The reason why a call is refused. A refused call changes nothing.
 #[derive(Clone, Copy, Debug, PartialEq, Eq, Error)]
 pub enum Refused {
-    /// A take or a retirement of a station that is not idle.
+    /// A take or a retirement by a station that is not idle.
     #[error("the station is not idle")]
     NotIdle,
-    /// A release of a station that holds nothing.
+    /// A release by a station that holds nothing.
     #[error("the station holds nothing")]
     NotHolding,
-    /// There is no station of this number.
+    /// No station has this number.
     #[error("there is no such station")]
     NoStation,
     /// A take of a number that is no node of the machine.
     #[error("there is no such node")]
     NotInCube,
-    /// A step of a station that makes none.
+    /// A step of a station at rest.
     #[error("the station makes no step")]
     Resting,
 }

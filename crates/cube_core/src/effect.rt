@@ -8,7 +8,7 @@ use crate::phase::{Phase, Seen};
 use cube_shape::{MAX_DIM, MAX_STATIONS, Node, child_towards, parent, side};
 use status_word::Word;
 
-/// What one event does: the word that it writes, the next phase of its station, and the event.
+/// The effect of one event: the word that it writes, the next phase of its station, and the event.
 #[derive(Clone, Copy)]
 pub(crate) struct Effect {
     pub word: u64,
@@ -16,7 +16,7 @@ pub(crate) struct Effect {
     pub event: Event,
 }
 
-// The phase of the station that takes `node`, and the note, once it has passed `at`.
+// Returns the phase of the station that takes `node` once it has passed `at`, and the note.
 fn rise(node: u64, at: u64) -> (Phase, Note)
     requires { 0 < at }
     ensures phase { result.0 ≡ phase_after_raise node at }
@@ -30,8 +30,8 @@ fn rise(node: u64, at: u64) -> (Phase, Note)
     }
 }
 
-// The phase of a station that has nothing more to do at `at`, and the note, on its way up after a
-// node was given back.
+// Returns the phase of a station on its way up after a Zero that has finished at `at`, and the
+// note.
 fn leave(at: u64) -> (Phase, Note)
     requires { 0 < at }
     ensures phase { result.0 ≡ phase_after_zero at }
@@ -45,7 +45,7 @@ fn leave(at: u64) -> (Phase, Note)
     }
 }
 
-// What a station sees of a child whose word this is, and the note.
+// Returns what a station sees of a child with this word, and the note.
 fn see(word: u64) -> (Seen, Note)
     ensures seen { result.0 ≡ seen_at word }
     ensures note { result.1 ≡ seen_note word }
@@ -58,7 +58,7 @@ fn see(word: u64) -> (Seen, Note)
     (Seen::of(Word(word)), note)
 }
 
-/// A load of the node that a take names.
+/// Computes a Look: a load of the node that a take names.
 pub(crate) fn look(station: u64, node: u64, word: u64) -> Effect
     ensures { IsEffect (transition station (Phase.Looking node)) word result }
 {
@@ -77,7 +77,8 @@ pub(crate) fn look(station: u64, node: u64, word: u64) -> Effect
     Effect { word, next, event }
 }
 
-/// One exchange of the word that the Look found for the word of a node that is given out.
+/// Computes a Claim: one compare-exchange of the word that the Look found for that of a claimed
+/// node.
 pub(crate) fn claim(station: u64, node: u64, seen: u64, word: u64) -> Effect
     requires { 0 < node }
     ensures { IsEffect (transition station (Phase.Looked node seen)) word result }
@@ -102,7 +103,7 @@ pub(crate) fn claim(station: u64, node: u64, seen: u64, word: u64) -> Effect
     }
 }
 
-/// All marks of an ancestor go.
+/// Computes a Sweep: removes all marks of an ancestor.
 pub(crate) fn sweep(station: u64, node: u64, at: u64, word: u64) -> Effect
     ensures { IsEffect (transition station (Phase.Climbing node at)) word result }
 {
@@ -122,8 +123,8 @@ pub(crate) fn sweep(station: u64, node: u64, at: u64, word: u64) -> Effect
     }
 }
 
-/// The side of the child towards the node is set at an ancestor; where that is occupied, the
-/// station backs out.
+/// Computes a Raise: sets the side of the child towards the node at an ancestor. If the ancestor is
+/// occupied, the station rolls back.
 pub(crate) fn raise(station: u64, node: u64, at: u64, word: u64) -> Effect
     requires above { at < node }
     requires on_path { OnPath at node }
@@ -150,7 +151,7 @@ pub(crate) fn raise(station: u64, node: u64, at: u64, word: u64) -> Effect
     }
 }
 
-/// The node is given back: its word becomes 0.
+/// Computes a Zero: gives the node back by writing 0.
 pub(crate) fn zero(station: u64, node: u64) -> Effect
     requires { 0 < node }
     ensures { (found : ℕ) → IsEffect (zero_event station node) found result }
@@ -171,7 +172,7 @@ pub(crate) fn zero(station: u64, node: u64) -> Effect
     }
 }
 
-/// All marks of a node on the way up after a release go.
+/// Computes an Unmark: removes all marks of a node on the way up after a release.
 pub(crate) fn unmark(station: u64, at: u64, word: u64) -> Effect
     ensures { IsEffect (transition station (Phase.Arriving at)) word result }
 {
@@ -191,7 +192,8 @@ pub(crate) fn unmark(station: u64, at: u64, word: u64) -> Effect
     }
 }
 
-/// The station's mark is set; where the node is occupied, the station has nothing more to do.
+/// Computes a Mark: sets the station's mark. If the node is occupied, the station has nothing more
+/// to do.
 pub(crate) fn mark(station: u64, at: u64, word: u64) -> Effect
     requires { station < MAX_STATIONS }
     ensures { IsEffect (transition station (Phase.Unmarked at)) word result }
@@ -222,7 +224,7 @@ pub(crate) fn mark(station: u64, at: u64, word: u64) -> Effect
     }
 }
 
-/// A load of the left child of the node where the station is marked.
+/// Computes a Child: a load of the left child of the node where the station is marked.
 pub(crate) fn look_left(station: u64, at: u64, marked: u64, right: Seen, word: u64) -> Effect
     requires { at < 2 ^ MAX_DIM }
     ensures { IsEffect (transition station (Phase.Marked at marked Seen.NotYet right)) word result }
@@ -244,7 +246,7 @@ pub(crate) fn look_left(station: u64, at: u64, marked: u64, right: Seen, word: u
     Effect { word, next, event }
 }
 
-/// A load of the right child, once the left one was seen.
+/// Computes a Child: a load of the right child, once the left one was seen.
 pub(crate) fn look_right(station: u64, at: u64, marked: u64, left: Seen, word: u64) -> Effect
     requires node { at < 2 ^ MAX_DIM }
     requires seen { left ≢ Seen.NotYet }
@@ -267,8 +269,8 @@ pub(crate) fn look_right(station: u64, at: u64, marked: u64, left: Seen, word: u
     Effect { word, next, event }
 }
 
-/// One exchange of the word that the station's mark made for the word without its marks and
-/// without each side whose child was seen free.
+/// Computes a Clear: one compare-exchange of the word that the station's mark made. The new word
+/// has no marks, and no side whose child was seen free.
 pub(crate) fn clear(
     station: u64,
     at: u64,
@@ -304,7 +306,7 @@ pub(crate) fn clear(
     }
 }
 
-/// The station's bit in the roll is set.
+/// Computes a Retire: sets the station's bit in the roll.
 pub(crate) fn retire(station: u64, word: u64) -> Effect
     requires { station < MAX_STATIONS }
     ensures { IsEffect (retirement station) word result }

@@ -1,4 +1,4 @@
-/// Which atomic step an event is.
+/// The kind of an event: which atomic step it is.
 #[derive(Clone, Copy, Debug, PartialEq, Eq, Hash)]
 pub enum Kind {
     Look,
@@ -13,7 +13,7 @@ pub enum Kind {
     Retire,
 }
 
-/// How an event ended.
+/// The outcome of an event.
 #[derive(Clone, Copy, Debug, PartialEq, Eq, Hash)]
 pub enum Note {
     /// The word was free.
@@ -22,11 +22,11 @@ pub enum Note {
     InUse,
     /// Another station changed the word first.
     Lost,
-    /// The station goes on with the parent.
+    /// The station continues at the parent.
     Climb,
-    /// The station holds the region from now on.
+    /// The station holds the block from now on.
     Held,
-    /// The word is as the station wants it.
+    /// The step is done, and the station goes on.
     Ok,
     /// An ancestor is occupied.
     Under,
@@ -47,7 +47,7 @@ pub enum Note {
 pub struct Event {
     pub station: u64,
     pub kind: Kind,
-    /// The node whose word it was; `0` is the roll.
+    /// The node of the word; `0` is the roll.
     pub node: u64,
     /// The word after the step.
     pub word: u64,

@@ -1,11 +1,14 @@
-//! The lock-free block allocator as a pure state machine: a tree of status words whose events are single atomic steps.
+//! The lock-free block allocator as a pure state machine: a tree of status words that events
+//! change. An event is a single atomic step.
 //!
-//! Each node of the tree of aligned regions has a status word, and each station a phase. A station
-//! takes the region of a node by a Look and a Claim at the node, then a Sweep and a Raise at each
-//! ancestor on the way up. It gives the region back by a Zero at the node, then at each ancestor by
-//! an Unmark, a Mark, a look at both children and a Clear, for as long as the ancestors become free.
-//! Between any two events of a station any events of the others may come; what is proved here holds
-//! in every order.
+//! Each node of the tree of aligned blocks has a status word, and each station has a phase. To take
+//! the block of a node, a station makes a Look and a Claim at the node. Then it makes a Sweep and a
+//! Raise at each ancestor on the way up. To release the block, it makes a Zero at the node. Then it
+//! makes an Unmark, a Mark, a look at both children and a Clear at each ancestor, as long as the
+//! ancestors become free.
+//!
+//! Between two events of a station, other stations may make any events. The proofs hold for every
+//! order.
 #![tactic(auto)]
 
 mod act;

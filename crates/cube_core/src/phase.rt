@@ -13,7 +13,7 @@ pub enum Seen {
 }
 
 impl Seen {
-    /// What a station sees of a child whose word this is.
+    /// Returns what a station sees of a child with this word.
     pub fn of(word: Word) -> Seen
         ensures { result ≡ seen_at word.0 }
     {
@@ -24,7 +24,7 @@ impl Seen {
         }
     }
 
-    /// Whether the child was seen free.
+    /// Returns whether the child was seen free.
     pub fn is_free(self) -> bool
         ensures { result ≡ is_seen_free self }
     {
@@ -34,8 +34,8 @@ impl Seen {
 
 /// What a station does at the moment, and so which event it makes next.
 ///
-/// `node` is the node whose region it takes or gives back, and `at` the ancestor that its next
-/// event is at.
+/// Field `node` is the node whose block it takes or gives back. Field `at` is the ancestor of its
+/// next event.
 #[derive(Clone, Copy, Debug, PartialEq, Eq, Hash)]
 pub enum Phase {
     /// Owns nothing, and may begin a take.
@@ -59,7 +59,7 @@ pub enum Phase {
         node: u64,
         at: u64,
     },
-    /// Holds the region of the node, and may begin a release.
+    /// Holds the block of the node, and may begin a release.
     Holding {
         node: u64,
     },

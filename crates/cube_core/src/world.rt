@@ -17,10 +17,10 @@ use cube_shape::{MAX_DIM, MAX_STATIONS, Node};
 use std::alloc::{AllocError, Global};
 use std::marker::Model;
 
-/// The words of the nodes and the phases of the stations.
+/// The words of the nodes and the phases of the stations of one machine.
 ///
-/// Stations are numbered from `0`, and nodes are `1` to `2^(n + 1) - 1` in a machine of dimension
-/// `n`. Each call is of one station; a refused one changes nothing.
+/// Stations are numbered from `0`. The nodes of a machine of dimension `n` are `1` to
+/// `2^(n + 1) - 1`. Each call is made by one station. A refused call changes nothing.
 #[derive(Debug, Drop)]
 pub struct World {
     dim: u32,
@@ -40,7 +40,8 @@ impl Model for World {
 }
 
 impl World {
-    /// A machine of dimension `n` with this many stations: all words are 0, all stations idle.
+    /// Creates a machine of dimension `n` with this many stations. All words are 0, and all
+    /// stations are idle.
     pub fn new(alloc: Global, n: u32, stations: u32) -> Result<Self, AllocError>
         requires dim { n ≤ MAX_DIM }
         requires stations { stations ≤ MAX_STATIONS }
@@ -54,7 +55,7 @@ impl World {
         })
     }
 
-    /// The word of a node; word `0` is the roll.
+    /// Returns the word of a node. Word `0` is the roll.
     pub fn word(&self, node: u64) -> u64
         requires { node < 2 ^ (self.now.dim + 1) }
         ensures { result ≡ word_of self.now node }
@@ -62,7 +63,7 @@ impl World {
         self.words[node as usize]
     }
 
-    /// The phase of a station.
+    /// Returns the phase of a station.
     pub fn phase(&self, station: u64) -> Phase
         requires { station < length self.now.records }
         ensures { result ≡ phase_of self.now station }
@@ -71,9 +72,9 @@ impl World {
         self.phases[index]
     }
 
-    /// An idle station begins to take the region of a node. If the node is `j` levels below the root,
-    /// the take has at most `3 + 7 * j` events, its roll-back included: `lawful` says so of every
-    /// list of acts that follows.
+    /// Begins a take of the block of a node, by an idle station. If the node is `j` levels below
+    /// the root, the take makes at most `3 + 7 * j` events, including its roll-back. Clause
+    /// `lawful` says this of every list of acts that follows.
     pub fn begin_take(&mut self, station: u64, node: u64) -> Result<(), Refused>
         ensures refused { IfErr result (λ why.
             refusal (Act.Take station node) self.old ≡ Some why) }
@@ -96,8 +97,8 @@ impl World {
         }
     }
 
-    /// A station that holds a region begins to give it back. If the node is `j` levels below the
-    /// root, the release has at most `1 + 5 * j` events.
+    /// Begins a release, by a station that holds a block. If the node is `j` levels below the root,
+    /// the release makes at most `1 + 5 * j` events.
     pub fn begin_release(&mut self, station: u64) -> Result<(), Refused>
         ensures refused { IfErr result (λ why. refusal (Act.Release station) self.old ≡ Some why) }
         ensures accepted { IfOk result (λ _. refusal (Act.Release station) self.old ≡ None) }
@@ -116,10 +117,11 @@ impl World {
         Ok(())
     }
 
-    /// The next event of a station: one atomic step on one word. It lowers the count of the events
-    /// that the station has still to make at most, and leaves the other stations' phases alone.
+    /// Makes the next event of a station: one atomic step on one word. This lowers the bound on the
+    /// events that the station still has to make. The phases of other stations do not change.
     ///
-    /// Where the event refuses the station's try, another station is in the way: `cause` names it.
+    /// If the event refuses the station's try, another station is in the way, as clause `cause`
+    /// says.
     pub fn step(&mut self, station: u64) -> Result<Event, Refused>
         ensures refused { IfErr result (λ why. refusal (Act.Step station) self.old ≡ Some why) }
         ensures accepted { IfOk result (λ _. refusal (Act.Step station) self.old ≡ None) }
@@ -145,7 +147,7 @@ impl World {
         Ok(effect.event)
     }
 
-    /// An idle station retires: its bit in the roll is set, and it makes no event any more.
+    /// Retires an idle station: sets its bit in the roll. It makes no further event.
     pub fn retire(&mut self, station: u64) -> Result<Event, Refused>
         ensures refused { IfErr result (λ why. refusal (Act.Retire station) self.old ≡ Some why) }
         ensures accepted { IfOk result (λ _. refusal (Act.Retire station) self.old ≡ None) }
@@ -167,7 +169,7 @@ impl World {
         Ok(effect.event)
     }
 
-    /// Makes these acts one after another. A refused one changes nothing, and the next one follows.
+    /// Makes these acts one after another. A refused act changes nothing, and the next one follows.
     pub fn run(&mut self, acts: &[Act])
         ensures world { self.new ≡ without_trails (apply_all (reverse acts.now) self.old) }
         ensures shape { HasShapeOf self.old self.new }
@@ -179,7 +181,7 @@ impl World {
         }
     }
 
-    // One act; whether it was refused is not reported.
+    // Makes one act. Does not report whether it was refused.
     fn make(&mut self, act: Act)
         ensures world { self.new ≡ without_trails (apply act self.old) }
         ensures shape { HasShapeOf self.old self.new }
@@ -194,7 +196,7 @@ impl World {
         };
     }
 
-    // The next event of a station in this phase, unless it rests.
+    // Computes the next event of a station in this phase, unless it is at rest.
     fn effect(&self, station: u64, phase: Phase) -> Option<Effect>
         requires phase { phase ≡ phase_of self.now station }
         requires there { station < length self.now.records }
@@ -224,8 +226,8 @@ impl World {
         Some(effect)
     }
 
-    // The next event of a station that is marked at a node: a look at a child not seen yet, or the
-    // exchange.
+    // Computes the next event of a station that is marked at a node. It is a look at a child that
+    // is not seen yet, or a Clear.
     fn marked(&self, station: u64, at: u64, word: u64, left: Seen, right: Seen) -> Effect
         requires node { 0 < at }
         requires limit { at < 2 ^ MAX_DIM }
@@ -240,7 +242,7 @@ impl World {
         }
     }
 
-    // The phase of a station, if there is one of this number.
+    // Returns the phase of a station, if there is one with this number.
     fn find(&self, station: u64) -> Result<Phase, Refused>
         ensures found { IfOk result (λ phase. (phase ≡ phase_of self.now station)
             × (station < length self.now.records)) }
@@ -255,45 +257,44 @@ impl World {
     }
 }
 
-/// The law of the tree, after every list of acts from an opened world, for every dimension and
-/// every number of stations, with the newest act first.
+/// Proves the law of the tree after every list of acts from an opened machine. It holds for every
+/// dimension and every number of stations.
 ///
-/// - Where a station has passed a node through a child, the node's word has the side of this child.
-/// - A word is occupied exactly where some station owns its node. Then no other station owns the
-///   node, and none has passed it.
-/// - Where the mark of a station that is marked at a node stands, the node's word has every bit of
-///   the marked one. If the station saw a child free, none is swept at the node, or has passed it,
+/// - If a station has passed a node through a child, the node's word has the side of this child.
+/// - A word is occupied exactly if some station owns its node. Then no other station owns the node,
+///   and none has passed it.
+/// - While the mark of a station that is marked at a node is set, the node's word has every bit of
+///   the marked one. If the station saw a child free, no station has swept or passed the node
 ///   through this child.
 /// - A word that is in use and not occupied has a child in use, or a station that is to clear its
-///   node: one that is arriving or unmarked there, or marked there by the word that still stands,
-///   with no child seen in use.
+///   node. Such a station is arriving or unmarked there. Or it is marked there by the word that is
+///   still there, and has seen no child in use.
 /// - A free word with a mark is the one that some station's mark made there. No two stations are
 ///   marked at one node by the same word.
-/// - The regions of the stations that hold one are aligned and apart.
-/// - Each further act is a step of its station on the machine of regions: the station gets the region
-///   of the node that its take named, which is apart from every held one, or its own region is taken
-///   away. Or the act leaves the held regions alone.
-/// - Where a word is in use, some station owns a node at or under its node, or is to clear one. So
-///   when all stations are at rest a word is free exactly where no held region is at or under its
-///   node, and when all have retired every node's word is `0`.
-/// - No try is refused without a cause. Where a Look finds its node in use, another station owns a
-///   node at or under it, or is to clear one. Where a Raise finds an ancestor occupied, another
-///   station owns the ancestor. Where a Claim finds another word than the one that was read, it is
-///   as at a Look, or the word read had another station's mark, and no mark is left.
-/// - The bit of a station stands in the roll exactly when it has retired.
-/// - Each accepted step adds one event to its own station's list and to no other. A take of a node
-///   `j` levels below the root makes at most `3 + 7 * j` events and a release at most `1 + 5 * j`, in
-///   every list of acts in which the station's own are steps.
+/// - Held blocks are aligned, and those of two stations do not overlap.
+/// - Each further act is a step of its station on the machine of blocks, or changes no holding.
+///   Either the station gets the block of the node that its take named, which overlaps no held
+///   block. Or its own block is taken away.
+/// - If a word is in use, some station owns a node at or under its node, or is to clear one. So
+///   when all stations are at rest, a word is free exactly if no held block is at or under its
+///   node. When all have retired, every node's word is `0`.
+/// - No try is refused without a cause. If a Look finds its node in use, another station owns a
+///   node at or under it, or is to clear one. If a Raise finds an ancestor occupied, another
+///   station owns the ancestor. A Claim may find another word than the one that was read. Then it
+///   is as at a Look, or the word read had another station's mark and no mark is left.
+/// - The bit of a station is set in the roll exactly if it has retired.
+/// - Each accepted step adds one event to its own station's trail and to no other. A take of a node
+///   `j` levels below the root makes at most `3 + 7 * j` events, and a release at most `1 + 5 * j`.
+///   This holds for every list of acts in which the station's own acts are steps.
 pub fn every_schedule_is_lawful()
     ensures { (n stations : ℕ) (acts : List Act)
         → IsTreeLawful (apply_all acts (initial n stations)) }
 {}
 
-/// What a station that runs on shared words makes in one atomic step is one event: a step, a take
-/// or a release with the step after it, or a retirement.
+/// Proves that what a station of the running tree does in one atomic step is one event. Such a step
+/// is a step, a take or a release with the step after it, or a retirement.
 ///
-/// On every world in which a station has this phase, the calls make of the world what the one event
-/// makes of it, whatever the words are.
+/// This holds in every state in which the station has this phase, whatever the words are.
 pub fn calls_are_single_events()
     ensures step { (n s : ℕ) (p : Phase) (r : Record) → r.phase ≡ p → step_refusal p ≡ None
         → AreOneEvent n (Act.Step s ∷ []) s r (transition s p) }

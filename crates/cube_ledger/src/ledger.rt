@@ -1,4 +1,4 @@
-//! The totals of a finished shop.
+//! The totals of a finished dispatcher.
 ghost use Rattle.std.specs.Prelude.{◌≡◌, ℕ, ◌+◌, ◌<◌, ◌≤◌, ◌++◌, ◌^◌, [], ◌∷◌, IfOk, OnOk, cond, map};
 ghost use Rattle.std.specs.List.{All};
 ghost use Rattle.ghost_history.specs.Sums.{below};
@@ -13,21 +13,20 @@ use job_types::Reply;
 use std::alloc::{AllocError, Global};
 use std::marker::Model;
 
-/// How many jobs, how many processors their regions have together, and how many of these stood idle.
+/// The number of jobs, of the processors of their blocks, and of those among them that were idle.
 #[derive(Clone, Copy, Debug, PartialEq, Eq)]
 pub struct Totals {
-    /// How many jobs.
+    /// The number of jobs.
     pub jobs: u64,
-    /// The sum of the processors of their regions. A processor counts once for each job.
+    /// The sum of the processors of their blocks. A processor counts once for each job.
     pub processors: u128,
-    /// How many of these processors had no item of their job: the sum, over the jobs, of the processors of
-    /// the region less the items.
+    /// The number of these processors that had no item of their job.
     pub idle: u128,
 }
 
-/// The slips of all replies of a finished shop.
+/// The slips of all replies of a finished dispatcher.
 ///
-/// A contract sees the list of the slips. A total asks for no memory.
+/// A contract sees the list of the slips. A total allocates no memory.
 #[derive(Debug, Drop)]
 pub struct Ledger {
     slips: Vec<Slip>,
@@ -46,7 +45,7 @@ impl Model for Ledger {
     ghost invariant = { λ l. All HasSmallDim l.slips.items };
 }
 
-// Which slips a total counts.
+// The slips that a total counts.
 #[derive(Clone, Copy)]
 enum Group {
     Lane(u32),
@@ -55,7 +54,7 @@ enum Group {
 }
 
 impl Group {
-    // Whether the slip counts.
+    // Returns whether the slip counts.
     fn has(self, slip: &Slip) -> bool
         ensures { result ≡ is_in self slip.now }
     {
@@ -67,7 +66,7 @@ impl Group {
     }
 }
 
-// The processors of a region.
+// Returns the number of processors of the block.
 fn processors(slip: &Slip) -> u128
     requires { HasSmallDim slip.now }
     ensures value { result ≡ processors_of slip.now }
@@ -76,7 +75,7 @@ fn processors(slip: &Slip) -> u128
     1 << slip.region.dim
 }
 
-// The totals with one slip more, if it counts.
+// Adds one slip to the totals, if it counts.
 fn add_if(totals: Totals, slip: &Slip, counts: bool) -> Totals
     requires jobs { totals.jobs + 1 < 2 ^ 64 }
     requires processors { totals.processors + 2 ^ MAX_DIM < 2 ^ 128 }
@@ -100,7 +99,7 @@ fn add_if(totals: Totals, slip: &Slip, counts: bool) -> Totals
     }
 }
 
-// The totals of the slips of a group.
+// Returns the totals of the slips of a group.
 #[tactic(auto, using(crate::proofs::TotalLemmas::total_more))]
 fn sum(slips: &[Slip], group: Group) -> Totals
     requires { All HasSmallDim slips.now }
@@ -130,11 +129,11 @@ fn add_slips(slips: &mut Vec<Slip>, replies: &[Reply]) -> Result<(), AllocError>
 }
 
 impl Ledger {
-    /// The ledger of all replies of a shop: those of its workers and those of the rest.
+    /// Makes the ledger of all replies of a dispatcher: those of its workers and those of the rest.
     ///
     /// # Errors
     ///
-    /// Where there is no memory for the slips.
+    /// Memory ran out for the slips.
     pub fn of<M>(alloc: Global, finished: &Finished<M>) -> Result<Ledger, AllocError>
         ensures { IfOk result (λ ledger. HasAllSlips
             (map (λ replies. replies.items) finished.now.by_worker.items)
@@ -148,21 +147,24 @@ impl Ledger {
         Ok(Ledger { slips })
     }
 
-    /// The totals of a lane. They are 0 for a lane with no reply, and so for any number that is none.
+    /// Returns the totals of a lane. They are 0 for a lane without replies, and for a number that
+    /// is no lane's.
     pub fn lane(&self, lane: u32) -> Totals
         ensures { result ≡ totals_of (is_of_lane lane) self.now }
     {
         sum(&self.slips, Group::Lane(lane))
     }
 
-    /// The totals of the jobs that ran on a region of this dimension. They are 0 where there was none.
+    /// Returns the totals of the jobs that ran on a block of this dimension. They are 0 if there
+    /// was none.
     pub fn dim(&self, dim: u32) -> Totals
         ensures { result ≡ totals_of (is_of_dim dim) self.now }
     {
         sum(&self.slips, Group::Dim(dim))
     }
 
-    /// The totals of all jobs. Those of the lanes sum to them, and so do those of the dimensions.
+    /// Returns the totals of all jobs. The totals of the lanes add up to them, and so do those of
+    /// the dimensions.
     pub fn total(&self) -> Totals
         ensures value { result ≡ totals_of is_any self.now }
         ensures lanes_sum { (lanes : ℕ) → All (λ s. s.id.lane < lanes) self.now →

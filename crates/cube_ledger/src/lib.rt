@@ -1,8 +1,9 @@
-//! The totals of a finished shop's replies, by lane, by dimension and in all.
+//! Accounting for a finished dispatcher (`Ledger`): how many jobs ran, on how many processors, and
+//! how many of these were idle.
 //!
-//! A `Slip` is what a reply adds to the totals, and a `Ledger` has the slips of all replies of a
-//! finished shop: its totals by lane, by dimension and in all are sums over these. `occupancy` of
-//! `cube_occupancy` is passed on: it counts what of a machine is free by its status words.
+//! A `Slip` is what one reply adds to the totals. A `Ledger` has the slips of all replies, and sums
+//! them by lane, by dimension and in all. `occupancy` of `cube_occupancy` is exported too: it
+//! counts what is free in a machine, by its status words.
 #![tactic(auto)]
 
 mod ledger;

@@ -6,18 +6,19 @@ ghost use Rattle.cube_ledger.specs.Ledger.{slip_of};
 use cube_shape::{MAX_DIM, Region};
 use job_types::{JobId, Reply, Request};
 
-/// Which job was answered, the region that it ran on, and how many processors of that had no item.
+/// The entry of one reply in a ledger: its job, the block that this ran on, and the idle
+/// processors.
 #[derive(Clone, Copy, Debug, PartialEq, Eq, Hash)]
 pub struct Slip {
     /// The id of the job.
     pub id: JobId,
-    /// The region that the job ran on.
+    /// The block that the job ran on.
     pub region: Region,
-    /// How many of the region's processors had no item of the job, and stood idle.
+    /// The number of the block's processors that had no item of the job.
     pub idle: u64,
 }
 
-// How many processors of the least region that holds the items of a job have none of them.
+// Returns how many processors of the job's block have none of its items.
 fn idle_processors(job: &Request) -> u64
     ensures value { result ≡ 2 ^ dim_of (length job.now.items) - length job.now.items }
     ensures few { result < 2 ^ dim_of (length job.now.items) }
@@ -26,7 +27,7 @@ fn idle_processors(job: &Request) -> u64
 }
 
 impl Slip {
-    /// The slip of a reply.
+    /// Makes the slip of a reply.
     pub fn of(reply: &Reply) -> Slip
         ensures value { result ≡ slip_of reply.now }
         ensures limit { result.region.dim ≤ MAX_DIM }

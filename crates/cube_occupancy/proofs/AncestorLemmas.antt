@@ -16,7 +16,10 @@ or_true true = refl
 or_true false = refl
 
 -- an ancestor of the node: its parent, or an ancestor of the parent
-from_parent : (words : List ℕ) (node : ℕ) → 0 < node / 2 → (is_occupied_word words (node / 2) ≡ true) ⊎ HasOccupiedAncestor words (node / 2) → HasOccupiedAncestor words node
+from_parent : (words : List ℕ) (node : ℕ)
+    → 0 < node / 2
+    → (is_occupied_word words (node / 2) ≡ true) ⊎ HasOccupiedAncestor words (node / 2)
+    → HasOccupiedAncestor words node
 from_parent words node some (inl here) = (node / 2, OnPath-parent node some, (λ e. omega (arith, e, some)), eqb-true (bit_at (slice_index words (node / 2)) 0) 1 here)
 from_parent words node some (inr (a, on, other, occupied)) = (a, OnPath-trans a (node / 2) node on (OnPath-parent node some), (λ e. omega (arith, e, OnPath-le a (node / 2) on, some)), occupied)
 
@@ -24,7 +27,10 @@ from_either : {A : Type 0} (a b : Bool) → (b ≡ true → A) → (a || b) ≡ 
 from_either true b f e = inl refl
 from_either false b f e = inr (f e)
 
-pub ancestor_found : (words : List ℕ) (levels node : ℕ) → 2 ^ levels ≤ node → has_occupied_above words node levels ≡ true → HasOccupiedAncestor words node
+pub ancestor_found : (words : List ℕ) (levels node : ℕ)
+    → 2 ^ levels ≤ node
+    → has_occupied_above words node levels ≡ true
+    → HasOccupiedAncestor words node
 unfolding has_occupied_above
 ancestor_found words zero node deep found = absurd (false≢true found)
 ancestor_found words (suc levels) node deep found =
@@ -33,7 +39,11 @@ ancestor_found words (suc levels) node deep found =
     from_parent words node (omega (arith, up, some))
     (from_either (is_occupied_word words (node / 2)) (has_occupied_above words (node / 2) levels) (λ above. ancestor_found words levels (node / 2) up above) found)
 
-pub ancestor_seen : (words : List ℕ) (levels node : ℕ) → 2 ^ levels ≤ node → node < 2 ^ (levels + 1) → HasOccupiedAncestor words node → has_occupied_above words node levels ≡ true
+pub ancestor_seen : (words : List ℕ) (levels node : ℕ)
+    → 2 ^ levels ≤ node
+    → node < 2 ^ (levels + 1)
+    → HasOccupiedAncestor words node
+    → has_occupied_above words node levels ≡ true
 unfolding has_occupied_above
 ancestor_seen words zero node deep within (a, on, other, occupied) =
     let none : node / 2 ≡ 0 = omega (arith, within) in

@@ -1,4 +1,4 @@
-//! The count of free regions and of processors that are given out.
+//! Counting the free blocks and the held processors.
 ghost use Rattle.std.specs.Prelude.{◌≡◌, ℕ, ◌+◌, ◌-◌, ◌*◌, ◌^◌, ◌<◌, ◌≤◌, ◌↔◌, Some, None, IsTrue, length, slice_index};
 ghost use Rattle.cube_occupancy.specs.Occupancy.{HasOccupiedAncestor, IsEmptyMachine, IsLargestFree, free_regions, has_occupied_above, held_processors, held_regions, is_free_node, is_held_node, is_occupied_word};
 
@@ -6,7 +6,7 @@ use crate::regions::{FREE_PLACES, Occupancy};
 use cube_shape::MAX_DIM;
 use status_word::Word;
 
-// Whether a node is occupied.
+// Returns whether a node is occupied.
 fn is_occupied(words: &[u64], node: usize) -> bool
     requires { node < length words.now }
     ensures { result ≡ is_occupied_word words.now node }
@@ -14,7 +14,7 @@ fn is_occupied(words: &[u64], node: usize) -> bool
     Word(words[node]).is_occupied()
 }
 
-// Whether one of the next nodes above this one, as many as there are levels, is occupied.
+// Returns whether one of the next ancestors of a node is occupied, for this number of levels.
 fn is_under_occupied(words: &[u64], node: usize, levels: u32) -> bool
     requires { node < length words.now }
     ensures { result ≡ has_occupied_above words.now node levels }
@@ -29,7 +29,7 @@ fn is_under_occupied(words: &[u64], node: usize, levels: u32) -> bool
     false
 }
 
-// Whether the region of a node so many levels below the root is free.
+// Returns whether the block of a node at this level is free.
 fn is_free_node(words: &[u64], node: usize, levels: u32) -> bool
     requires { node < length words.now }
     ensures { result ≡ is_free_node words.now node levels }
@@ -37,8 +37,8 @@ fn is_free_node(words: &[u64], node: usize, levels: u32) -> bool
     Word(words[node]).is_free() && !is_under_occupied(words, node, levels)
 }
 
-// Whether the region of a node so many levels below the root is given out as a whole, and is in no
-// other that is.
+// Returns whether the block of a node at this level is held as a whole, and is in no larger held
+// block.
 fn is_held_node(words: &[u64], node: usize, levels: u32) -> bool
     requires { node < length words.now }
     ensures { result ≡ is_held_node words.now node levels }
@@ -46,7 +46,7 @@ fn is_held_node(words: &[u64], node: usize, levels: u32) -> bool
     is_occupied(words, node) && !is_under_occupied(words, node, levels)
 }
 
-// The number of free regions that are so many levels below the root.
+// Returns the number of free blocks of a level.
 fn free_regions(words: &[u64], levels: u32) -> u64
     requires levels { levels ≤ MAX_DIM }
     requires words { 2 ^ (levels + 1) ≤ length words.now }
@@ -62,7 +62,7 @@ fn free_regions(words: &[u64], levels: u32) -> u64
     count
 }
 
-// The number of regions that are given out, so many levels below the root.
+// Returns the number of held blocks of a level.
 fn held_regions(words: &[u64], levels: u32) -> u64
     requires levels { levels ≤ MAX_DIM }
     requires words { 2 ^ (levels + 1) ≤ length words.now }
@@ -79,7 +79,7 @@ fn held_regions(words: &[u64], levels: u32) -> u64
     count
 }
 
-// The processors of the regions of one dimension that are given out.
+// Returns the number of processors of the held blocks of one dimension.
 fn held_of_dim(n: u32, words: &[u64], dim: u32) -> u64
     requires machine { n ≤ MAX_DIM }
     requires dim { dim ≤ n }
@@ -90,7 +90,7 @@ fn held_of_dim(n: u32, words: &[u64], dim: u32) -> u64
     held_regions(words, n - dim) << dim
 }
 
-// The processors of all regions that are given out.
+// Returns the number of processors of all held blocks.
 fn held_processors(n: u32, words: &[u64]) -> u64
     requires machine { n ≤ MAX_DIM }
     requires words { length words.now ≡ 2 ^ (n + 1) }
@@ -103,7 +103,7 @@ fn held_processors(n: u32, words: &[u64]) -> u64
     held
 }
 
-// The number of free regions of each dimension.
+// Returns the number of free blocks of each dimension.
 #[tactic(auto, using(crate::proofs::RegionLemmas::level_fits))]
 fn free_by_dim(n: u32, words: &[u64]) -> [u64; FREE_PLACES]
     requires machine { n ≤ MAX_DIM }
@@ -118,7 +118,7 @@ fn free_by_dim(n: u32, words: &[u64]) -> [u64; FREE_PLACES]
     free
 }
 
-// The largest dimension at which a count is not 0.
+// Returns the largest dimension at which a count is not 0.
 fn largest_free(free: &[u64; FREE_PLACES]) -> Option<u32>
     ensures { IsLargestFree free.now result }
 {
@@ -131,8 +131,8 @@ fn largest_free(free: &[u64; FREE_PLACES]) -> Option<u32>
     largest
 }
 
-/// What the words of a machine of dimension `n` say of its regions: word `v` is that of node `v`, and
-/// word `0` is not read. It takes no memory.
+/// Counts the free blocks and the held processors of a machine of dimension `n`, from its status
+/// words. Word `v` is that of node `v`, and word 0 is not read. Needs no memory.
 pub fn occupancy(n: u32, words: &[u64]) -> Occupancy
     requires machine { n ≤ MAX_DIM }
     requires words { length words.now ≡ 2 ^ (n + 1) }
@@ -144,7 +144,7 @@ pub fn occupancy(n: u32, words: &[u64]) -> Occupancy
     ensures wholly_free { ((node : ℕ) → 0 < node → slice_index words.now node ≡ 0) →
         IsEmptyMachine n result }
 
-    // What `has_occupied_above` means, of a node that is so many levels below the root.
+    // What `has_occupied_above` means, for a node at this level.
     ensures above { (node levels : ℕ) → 2 ^ levels ≤ node → node < 2 ^ (levels + 1) →
         IsTrue (has_occupied_above words.now node levels) ↔ HasOccupiedAncestor words.now node }
 {

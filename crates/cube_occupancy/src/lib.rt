@@ -1,7 +1,5 @@
-//! Which blocks of a machine are free, and how many processors are held, read from the allocator's status words.
-//!
-//! `occupancy` counts the free regions of a machine and the processors that are given out, from its
-//! status words, whoever wrote them.
+//! Occupancy of a machine: which blocks are free, and how many processors are held. It is read from
+//! the allocator's status words, from whatever source.
 #![tactic(auto)]
 
 mod counting;

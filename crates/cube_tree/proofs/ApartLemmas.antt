@@ -16,11 +16,18 @@ use Rattle.cube_tree.specs.declared.handles.Subcube.{Subcube}
 use Rattle.cube_tree.specs.Handles.{held_region, subcube_entry}
 
 -- the seat of both
-pub both_there : {s t : ℕ} {p q : Phase} {m o : Known} (new : Known) → IsSeatOf s p m → IsSeatOf t q o → new ≡ (joined m.0 o.0, m.1) → new.0.stations ≡ first_of m ∷ first_of o ∷ []
+pub both_there : {s t : ℕ} {p q : Phase} {m o : Known} (new : Known)
+    → IsSeatOf s p m
+    → IsSeatOf t q o
+    → new ≡ (joined m.0 o.0, m.1)
+    → new.0.stations ≡ first_of m ∷ first_of o ∷ []
 both_there {m = m} {o = o} new by_s by_t is =
     ap (λ (x : Known). x.0.stations) is ∙ ap (λ es. es ++ o.0.stations) by_s.one ∙ ap (λ es. first_of m ∷ es) by_t.one
 
-pub two_off : (entries : List Entry) (a b : Entry) → entries ≡ a ∷ b ∷ [] → IsOffAll entries → AreOffPath a b
+pub two_off : (entries : List Entry) (a b : Entry)
+    → entries ≡ a ∷ b ∷ []
+    → IsOffAll entries
+    → AreOffPath a b
 two_off entries a b is off = All-head (AreOffPath a) b [] (subst IsOffAll is off)
 
 -- ---- regions
@@ -31,7 +38,10 @@ same_dim n k count first second =
     let some = pow_pos (n + 1) in let more = pow_pos (k + 1) in
     let equal : n + 1 ≡ k + 1 = log_unique count (n + 1) (k + 1) (omega arith) (omega arith) (omega arith) (omega arith) in omega arith
 
-pub regions_apart : (a b : Subcube) → a.seat.table_id ≡ b.seat.table_id → AreOffPath (subcube_entry a) (subcube_entry b) → AreApart (held_region a) (held_region b)
+pub regions_apart : (a b : Subcube)
+    → a.seat.table_id ≡ b.seat.table_id
+    → AreOffPath (subcube_entry a) (subcube_entry b)
+    → AreApart (held_region a) (held_region b)
 regions_apart a b same off =
     subst (λ r. AreApart r (held_region b)) (sym a.named) (subst (AreApart (region_at a.dim a.node.0)) (sym (b.named ∙ ap (λ n. region_at n b.node.0) (sym dims)))
     ((AreApart-paths a.dim a.node.0 b.node.0 (region_at a.dim a.node.0) (region_at a.dim b.node.0)

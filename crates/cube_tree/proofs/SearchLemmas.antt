@@ -1,4 +1,4 @@
--- Which nodes a search tries, and for which a refusal stands.
+-- Which nodes a search tries, and which nodes a refusal covers.
 use Rattle.std.proofs.Common.{◌≡◌, ℕ, zero, suc, ◌+◌, ◌-◌, ◌*◌, ◌/◌, ◌%◌, ◌^◌, ◌<◌, ◌≤◌, ◌⊎◌, inl, inr, Option, Some, None, List, [], ◌∷◌, length, refl, sym, ◌∙◌, ap, subst, arith, suc-mul}
 use Rattle.std.specs.Prelude.{All, Any, nat_eq}
 use Rattle.std.proofs.lemmas.Bool.{cases_eq, cases_lt}
@@ -42,14 +42,25 @@ level_of a j positive below =
     (j - (region_at j a).dim, level.0, level.1)
 
 -- the steps up from a node of level j to an ancestor
-steps_up : (a v j : ℕ) → 2 ^ j ≤ v → v < 2 * 2 ^ j → (on : OnPath a v) → (i : ℕ) × (a < 2 * 2 ^ i) × (j ≡ i + on.1.0)
+steps_up : (a v j : ℕ)
+    → 2 ^ j ≤ v
+    → v < 2 * 2 ^ j
+    → (on : OnPath a v)
+    → (i : ℕ) × (a < 2 * 2 ^ i) × (j ≡ i + on.1.0)
 steps_up a v j low high on =
     let le = OnPath-le a v on in
     let level = level_of a j on.0 (omega (arith, le, high)) in
     (level.0, level.2, level_difference a v level.0 j level.1 level.2 low high on)
 
--- they are as many for each node of the level
-same_steps : (a v w j : ℕ) → 2 ^ j ≤ v → v < 2 * 2 ^ j → 2 ^ j ≤ w → w < 2 * 2 ^ j → (on_v : OnPath a v) → (on_w : OnPath a w) → on_v.1.0 ≡ on_w.1.0
+-- the number of steps is the same for each node of the level
+same_steps : (a v w j : ℕ)
+    → 2 ^ j ≤ v
+    → v < 2 * 2 ^ j
+    → 2 ^ j ≤ w
+    → w < 2 * 2 ^ j
+    → (on_v : OnPath a v)
+    → (on_w : OnPath a w)
+    → on_v.1.0 ≡ on_w.1.0
 same_steps a v w j v_low v_high w_low w_high on_v on_w =
     let le = OnPath-le a v on_v in
     let level = level_of a j on_v.0 (omega (arith, le, v_high)) in
@@ -57,7 +68,7 @@ same_steps a v w j v_low v_high w_low w_high on_v on_w =
     let second = level_difference a w level.0 j level.1 level.2 w_low w_high on_w in
     omega (arith, first, second)
 
--- where they begin and end
+-- the nodes of the level under the ancestor: the first and the last
 under_low : (a v s : ℕ) → v / 2 ^ s ≡ a → a * 2 ^ s ≤ v
 under_low a v s is =
     let split : a * 2 ^ s + v % 2 ^ s ≡ v = ap (λ x. x * 2 ^ s + v % 2 ^ s) (sym is) ∙ shr_split v s in omega (arith, split)
@@ -75,7 +86,13 @@ under_is a v w s is later before =
     ap (λ x. x / 2 ^ s) split ∙ div-mul-add a (2 ^ s) (w - a * 2 ^ s) (omega (arith, start, later, before))
 
 -- the steps up, from the logarithms of both nodes
-pub ancestor_steps : (a v i j : ℕ) → 2 ^ i ≤ a → a < 2 * 2 ^ i → 2 ^ j ≤ v → v < 2 * 2 ^ j → OnPath a v → (i ≤ j) × (v / 2 ^ (j - i) ≡ a) × ((a + 1) * 2 ^ (j - i) ≤ 2 * 2 ^ j)
+pub ancestor_steps : (a v i j : ℕ)
+    → 2 ^ i ≤ a
+    → a < 2 * 2 ^ i
+    → 2 ^ j ≤ v
+    → v < 2 * 2 ^ j
+    → OnPath a v
+    → (i ≤ j) × (v / 2 ^ (j - i) ≡ a) × ((a + 1) * 2 ^ (j - i) ≤ 2 * 2 ^ j)
 ancestor_steps a v i j a_low a_high v_low v_high on =
     let level : j ≡ i + on.1.0 = level_difference a v i j a_low a_high v_low v_high on in
     let steps : j - i ≡ on.1.0 = omega (arith, level) in
@@ -93,7 +110,12 @@ is_onward Lost v next is = omega (arith, is)
 is_onward (Under at) v next (s, is, end) = let high = under_high at.0 v s is in omega (arith, high, end)
 
 -- it is on the level, or the level has ended
-is_within : (why : Why) (v next j : ℕ) → 2 ^ j ≤ v → v < 2 * 2 ^ j → IsNodeAfter why v next → NamesAncestor why v → next ≤ 2 * 2 ^ j
+is_within : (why : Why) (v next j : ℕ)
+    → 2 ^ j ≤ v
+    → v < 2 * 2 ^ j
+    → IsNodeAfter why v next
+    → NamesAncestor why v
+    → next ≤ 2 * 2 ^ j
 is_within InUse v next j low high is names = omega (arith, is, high)
 is_within Lost v next j low high is names = omega (arith, is, high)
 is_within (Under at) v next j low high (s, is, end) names =
@@ -104,14 +126,27 @@ is_within (Under at) v next j low high (s, is, end) names =
     let same : 2 ^ j ≡ 2 ^ (up.0 + s) = ap (λ e. 2 ^ e) up.2 in
     omega (arith, end, wide, scaled, same)
 
--- the refusal stands for those between
-pub is_between : (why : Why) (v w next : ℕ) → IsNodeAfter why v next → NamesAncestor why v → v < w → w < next → IsUnder why w
+-- the refusal covers the nodes between
+pub is_between : (why : Why) (v w next : ℕ)
+    → IsNodeAfter why v next
+    → NamesAncestor why v
+    → v < w
+    → w < next
+    → IsUnder why w
 is_between InUse v w next is names later before = absurd (omega (arith, is, later, before))
 is_between Lost v w next is names later before = absurd (omega (arith, is, later, before))
 is_between (Under at) v w next (s, is, end) names later before = (names.0.0, (s, under_is at.0 v w s is later (omega (arith, end, before))))
 
--- and for none from there on
-is_beyond : (why : Why) (v w next j : ℕ) → 2 ^ j ≤ v → v < 2 * 2 ^ j → IsNodeAfter why v next → NamesAncestor why v → next ≤ w → w < 2 * 2 ^ j → IsUnder why w → ⊥
+-- and none from there on
+is_beyond : (why : Why) (v w next j : ℕ)
+    → 2 ^ j ≤ v
+    → v < 2 * 2 ^ j
+    → IsNodeAfter why v next
+    → NamesAncestor why v
+    → next ≤ w
+    → w < 2 * 2 ^ j
+    → IsUnder why w
+    → ⊥
 is_beyond InUse v w next j low high is names from below under = absurd under
 is_beyond Lost v w next j low high is names from below under = absurd under
 is_beyond (Under at) v w next j low high (s, is, end) names from below on =
@@ -123,7 +158,11 @@ is_beyond (Under at) v w next j low high (s, is, end) names from below on =
 
 -- ---- lists of tries and of peeks
 
-both_all : {X : Type 0} (P Q R : X → Type 0) (xs : List X) → ((x : X) → P x → Q x → R x) → All P xs → All Q xs → All R xs
+both_all : {X : Type 0} (P Q R : X → Type 0) (xs : List X)
+    → ((x : X) → P x → Q x → R x)
+    → All P xs
+    → All Q xs
+    → All R xs
 both_all P Q R xs both ps qs k d within = both _ (ps k d within) (qs k d within)
 
 any_first : {X : Type 0} (P : X → Type 0) (x : X) (xs : List X) → P x → Any P (x ∷ xs)
@@ -155,7 +194,9 @@ module _ (j first : ℕ) (is : first ≡ 2 ^ j) where
       let level = (on_level n j first le first_low first_high).0 in (above.0.0, omega (arith, level.1, above.1))
 
   -- a search begins there without a hint
-  pub begins_first : (had : Option ℕ) (e : Entry) → (IsHintAbove had first → ⊥) → Begins j first had had e e
+  pub begins_first : (had : Option ℕ) (e : Entry)
+      → (IsHintAbove had first → ⊥)
+      → Begins j first had had e e
   begins_first had e not_above = record {
     peeks = [];
     few = omega arith;
@@ -168,15 +209,22 @@ module _ (j first : ℕ) (is : first ≡ 2 ^ j) where
   }
 
   -- after one peek
-  module _ (a word : ℕ) (had : Option ℕ) (old new : Entry) (noted : new ≡ with_peeks (record { node = a; word = word } ∷ []) old) (here : had ≡ Some a) (above : IsAbove a first) where
-    found : (v : ℕ) → IsSeenOccupied v (record { node = a; word = word } ∷ []) → OnPath a v × IsOccupied word
+  module _ (a word : ℕ) (had : Option ℕ) (old new : Entry)
+      (noted : new ≡ with_peeks (record { node = a; word = word } ∷ []) old) (here : had ≡ Some a)
+      (above : IsAbove a first) where
+    found : (v : ℕ)
+        → IsSeenOccupied v (record { node = a; word = word } ∷ [])
+        → OnPath a v × IsOccupied word
     found v over = any_single (λ (g : Peek). OnPath g.node v × IsOccupied g.word) (record { node = a; word = word }) over
 
     had_above : IsHintAbove had (2 ^ j)
     had_above = subst (λ hint. IsHintAbove hint (2 ^ j)) (sym here) (subst (IsAbove a) is above)
 
-    -- that did not find its node occupied, it begins there too
-    pub begins_free : (kept : Option ℕ) → (IsOccupied word → ⊥) → kept ≡ None → Begins j first had kept old new
+    -- if it did not find its node occupied, the search begins at the first node too
+    pub begins_free : (kept : Option ℕ)
+        → (IsOccupied word → ⊥)
+        → kept ≡ None
+        → Begins j first had kept old new
     begins_free kept free forgotten = record {
       peeks = record { node = a; word = word } ∷ [];
       few = omega arith;
@@ -188,8 +236,14 @@ module _ (j first : ℕ) (is : first ≡ 2 ^ j) where
       peeked = (had_above, here, λ occupied. absurd (free occupied), λ _. forgotten);
     }
 
-    -- and after one that found an ancestor occupied, behind the nodes under this
-    pub begins_after : (at : Node) (next : ℕ) (kept : Option ℕ) → at.0 ≡ a → IsOccupied word → kept ≡ Some a → NamesAncestor (Under at) first → IsNodeAfter (Under at) first next → Begins j next had kept old new
+    -- after a peek that found an ancestor occupied, it begins after the nodes under this ancestor
+    pub begins_after : (at : Node) (next : ℕ) (kept : Option ℕ)
+        → at.0 ≡ a
+        → IsOccupied word
+        → kept ≡ Some a
+        → NamesAncestor (Under at) first
+        → IsNodeAfter (Under at) first next
+        → Begins j next had kept old new
     begins_after at next kept same occupied still names after = record {
       peeks = record { node = a; word = word } ∷ [];
       few = omega arith;
@@ -209,7 +263,7 @@ module _ (j first : ℕ) (is : first ≡ 2 ^ j) where
 
 -- ---- a search
 
--- the refusal stands for no node of the level from `end` on
+-- the refusal covers no node of the level from `end` on
 abbrev pub LeavesFrom : ℕ → ℕ → RefusedTry → Type 0
 LeavesFrom j end t = (v : ℕ) → end ≤ v → v < 2 * 2 ^ j → StandsFor v t → ⊥
 
@@ -217,8 +271,9 @@ LeavesFrom j end t = (v : ℕ) → end ≤ v → v < 2 * 2 ^ j → StandsFor v t
 abbrev IsBefore : ℕ → ℕ → RefusedTry → Type 0
 IsBefore j end t = (2 ^ j ≤ t.node) × (t.node < end)
 
--- a search that has come to the node `end`
-pub record IsSearch (n j end : ℕ) (refusal : Refusal) (had now : Option ℕ) (old new : Entry) : Type 0 where
+-- a search that has reached node `end`
+pub record IsSearch (n j end : ℕ) (refusal : Refusal) (had now : Option ℕ)
+    (old new : Entry) : Type 0 where
   pub peeks : List Peek
   pub tries : List RefusedTry
   pub searches : Searches n j end peeks tries old new
@@ -231,7 +286,9 @@ pub record IsSearch (n j end : ℕ) (refusal : Refusal) (had now : Option ℕ) (
   pub low : 2 ^ j ≤ end
   pub high : end ≤ 2 * 2 ^ j
 
-pub search_begun : (n j start : ℕ) (had now : Option ℕ) (old new : Entry) → Begins j start had now old new → IsSearch n j start no_refusal had now old new
+pub search_begun : (n j start : ℕ) (had now : Option ℕ) (old new : Entry)
+    → Begins j start had now old new
+    → IsSearch n j start no_refusal had now old new
 search_begun n j start had now old new begins = record {
   peeks = begins.peeks;
   tries = [];
@@ -252,14 +309,24 @@ search_begun n j start had now old new begins = record {
   high = begins.high;
 }
 
--- no refusal stands for the node that is next
-passed_for : {n j v : ℕ} {r : Refusal} {was now : Option ℕ} {old new : Entry} → (had : IsSearch n j v r was now old new) → v < 2 * 2 ^ j → All (IsPassedFor v) had.tries
+-- no refusal covers the next node
+passed_for : {n j v : ℕ} {r : Refusal} {was now : Option ℕ} {old new : Entry}
+    → (had : IsSearch n j v r was now old new)
+    → v < 2 * 2 ^ j
+    → All (IsPassedFor v) had.tries
 passed_for {j = j} {v = v} had below =
     both_all (IsBefore j v) (LeavesFrom j v) (IsPassedFor v) had.tries (λ t before leaves. (before.1, leaves v (omega arith) below)) had.searches.level had.leaves
 
 -- one try more
-pub search_more : {n j v next : ℕ} {r s : Refusal} {was then now : Option ℕ} {old between new : Entry} {why : Why} → IsSearch n j v r was then old between → v < 2 * 2 ^ j → IsRefusedTry n v between new why → s ≡ counted why r → IsNodeAfter why v next
-    → now ≡ hint_after_refusal (nat_eq v (2 ^ j)) (ancestor_of why) then → IsSearch n j next s was now old new
+pub search_more : {n j v next : ℕ} {r s : Refusal} {was then now : Option ℕ}
+    {old between new : Entry} {why : Why}
+    → IsSearch n j v r was then old between
+    → v < 2 * 2 ^ j
+    → IsRefusedTry n v between new why
+    → s ≡ counted why r
+    → IsNodeAfter why v next
+    → now ≡ hint_after_refusal (nat_eq v (2 ^ j)) (ancestor_of why) then
+    → IsSearch n j next s was now old new
 search_more {j = j} {v = v} {next = next} {between = between} {why = why} had below refused counts after remembers = record {
   peeks = had.peeks;
   tries = own ∷ had.tries;
@@ -291,10 +358,15 @@ search_more {j = j} {v = v} {next = next} {between = between} {why = why} had be
     later : (t : RefusedTry) → t.node < v → t.node < next
     later t before = omega (arith, before, onward)
 
-    own_stands : (w : ℕ) → StandsFor w own → Any (StandsFor w) (own ∷ had.tries) ⊎ IsSeenOccupied w had.peeks
+    own_stands : (w : ℕ)
+        → StandsFor w own
+        → Any (StandsFor w) (own ∷ had.tries) ⊎ IsSeenOccupied w had.peeks
     own_stands w stands = inl (any_first (StandsFor w) own had.tries stands)
 
-    each : (w : ℕ) → 2 ^ j ≤ w → w < next → Any (StandsFor w) (own ∷ had.tries) ⊎ IsSeenOccupied w had.peeks
+    each : (w : ℕ)
+        → 2 ^ j ≤ w
+        → w < next
+        → Any (StandsFor w) (own ∷ had.tries) ⊎ IsSeenOccupied w had.peeks
     each w low before = elim (cases_lt w v) [
       | inl less ↦ elim (had.searches.each w low less) [
         | inl earlier ↦ inl (any_later (StandsFor w) own had.tries earlier)
@@ -312,9 +384,13 @@ search_more {j = j} {v = v} {next = next} {between = between} {why = why} had be
       | inr under ↦ is_beyond why v w next j had.low below after refused.names from high under
     ]
 
--- ---- how many tries, and what they come to
+-- ---- the number of tries, and their counts
 
-few_tries : (n j end : ℕ) (tries : List RefusedTry) (old new : Entry) → 2 ^ j ≤ end → All (IsBefore j end) tries → AreRefused n tries old new → length tries + 2 ^ j ≤ end
+few_tries : (n j end : ℕ) (tries : List RefusedTry) (old new : Entry)
+    → 2 ^ j ≤ end
+    → All (IsBefore j end) tries
+    → AreRefused n tries old new
+    → length tries + 2 ^ j ≤ end
 few_tries n j end [] old new le level refused = omega (arith, le)
 few_tries n j end (t ∷ tries) old new le level (between, earlier_tries, refused, passed) =
     let own = All-head (IsBefore j end) t tries level in
@@ -328,13 +404,19 @@ sum_of : (tries : List RefusedTry) → refusal_sum (counts_of tries) ≡ length 
 sum_of [] = refl
 sum_of (t ∷ tries) = let more = sum_counted t.why (counts_of tries) in let earlier = sum_of tries in omega (arith, more, earlier)
 
-events_of : (n : ℕ) (tries : List RefusedTry) (old new : Entry) → AreRefused n tries old new → refusals_in new.trail ≡ added (counts_of tries) (refusals_in old.trail)
+events_of : (n : ℕ) (tries : List RefusedTry) (old new : Entry)
+    → AreRefused n tries old new
+    → refusals_in new.trail ≡ added (counts_of tries) (refusals_in old.trail)
 events_of n [] old new refused = no_events old new no_refusal refused refl
 events_of n (t ∷ tries) old new (between, earlier, refused, passed) =
     more_events n t.node old between new t.why (counts_of tries) (counts_of (t ∷ tries)) (events_of n tries old between earlier) refused refl
 
--- each try adds at most so many events
-bound_of : (n j : ℕ) (tries : List RefusedTry) (old new : Entry) → j ≤ n → All (IsBefore j (2 * 2 ^ j)) tries → AreRefused n tries old new → length new.trail ≤ length old.trail + length tries * (3 + 7 * j)
+-- each try adds at most this many events
+bound_of : (n j : ℕ) (tries : List RefusedTry) (old new : Entry)
+    → j ≤ n
+    → All (IsBefore j (2 * 2 ^ j)) tries
+    → AreRefused n tries old new
+    → length new.trail ≤ length old.trail + length tries * (3 + 7 * j)
 bound_of n j [] old new le level refused = let same = ap (λ (e : Entry). length e.trail) refused in omega (arith, same)
 bound_of n j (t ∷ tries) old new le level (between, earlier, refused, passed) =
     let own = All-head (IsBefore j (2 * 2 ^ j)) t tries level in
@@ -345,7 +427,11 @@ bound_of n j (t ∷ tries) old new le level (between, earlier, refused, passed) 
 
 -- ---- the end of a search
 
-pub refused_each : (n j end : ℕ) (r : Refusal) (was now : Option ℕ) (old new : Entry) → j ≤ n → end ≡ 2 * 2 ^ j → IsSearch n j end r was now old new → IsRefusedEach n j old new r
+pub refused_each : (n j end : ℕ) (r : Refusal) (was now : Option ℕ) (old new : Entry)
+    → j ≤ n
+    → end ≡ 2 * 2 ^ j
+    → IsSearch n j end r was now old new
+    → IsRefusedEach n j old new r
 refused_each n j end r was now old new le is had = record {
   peeks = whole.peeks;
   tries = whole.tries;
@@ -362,7 +448,13 @@ refused_each n j end r was now old new le is had = record {
     first : Entry
     first = with_peeks whole.peeks old
 
-pub takes_next : (cube : Cube) (j node : ℕ) (r : Refusal) (was now : Option ℕ) (old between : Entry) (subcube : Subcube) → j ≤ cube_dim cube → node < 2 * 2 ^ j → IsSearch (cube_dim cube) j node r was now old between → TakesNode cube node between subcube → TakesNext cube j old subcube
+pub takes_next : (cube : Cube) (j node : ℕ) (r : Refusal) (was now : Option ℕ) (old between : Entry)
+    (subcube : Subcube)
+    → j ≤ cube_dim cube
+    → node < 2 * 2 ^ j
+    → IsSearch (cube_dim cube) j node r was now old between
+    → TakesNode cube node between subcube
+    → TakesNext cube j old subcube
 takes_next cube j node r was now old between subcube le below had_node taken_node = record {
   peeks = had.peeks;
   tries = had.tries;
@@ -399,7 +491,9 @@ takes_next cube j node r was now old between subcube le below had_node taken_nod
     later t before = omega (arith, before, high)
 
 -- the hint after it
-pub remembers : {n j end : ℕ} {r : Refusal} {was now : Option ℕ} {old new : Entry} → IsSearch n j end r was now old new → Remembers n j end was now old new
+pub remembers : {n j end : ℕ} {r : Refusal} {was now : Option ℕ} {old new : Entry}
+    → IsSearch n j end r was now old new
+    → Remembers n j end was now old new
 remembers had = record {
   peeks = had.peeks;
   tries = had.tries;
@@ -409,14 +503,20 @@ remembers had = record {
   after = had.after;
 }
 
-pub remembers_refused : (n j end : ℕ) (r : Refusal) (old new : TreeStation) → end ≡ 2 * 2 ^ j
-    → IsSearch n j end r (hint_of old) (hint_of new) (station_entry old) (station_entry new) → RemembersRefused n j old new
+pub remembers_refused : (n j end : ℕ) (r : Refusal) (old new : TreeStation)
+    → end ≡ 2 * 2 ^ j
+    → IsSearch n j end r (hint_of old) (hint_of new) (station_entry old) (station_entry new)
+    → RemembersRefused n j old new
 remembers_refused n j end r old new is had =
     subst (λ e. Remembers n j e (hint_of old) (hint_of new) (station_entry old) (station_entry new)) is (remembers had)
 
-pub remembers_taken : (cube : Cube) (j node : ℕ) (r : Refusal) (old between : TreeStation) (subcube : Subcube)
-    → IsSearch (cube_dim cube) j node r (hint_of old) (hint_of between) (station_entry old) (station_entry between)
-    → TakesNode cube node (station_entry between) subcube → hint_with subcube ≡ hint_of between → RemembersTaken cube j old subcube
+pub remembers_taken : (cube : Cube) (j node : ℕ) (r : Refusal) (old between : TreeStation)
+    (subcube : Subcube)
+    → IsSearch (cube_dim cube) j node r (hint_of old) (hint_of between) (station_entry old)
+    (station_entry between)
+    → TakesNode cube node (station_entry between) subcube
+    → hint_with subcube ≡ hint_of between
+    → RemembersTaken cube j old subcube
 remembers_taken cube j node r old between subcube had taken same = record {
   between = station_entry between;
   search = subst (λ v. Remembers (cube_dim cube) j v (hint_of old) (hint_with subcube) (station_entry old) (station_entry between)) (sym taken.node_is)
@@ -424,8 +524,10 @@ remembers_taken cube j node r old between subcube had taken same = record {
   taken = subst (λ v. TakesNode cube v (station_entry between) subcube) (sym taken.node_is) taken;
 }
 
--- as many refusals as tries, and so no more than the level has nodes
-pub search_sum : {n j end : ℕ} {r : Refusal} {was now : Option ℕ} {old new : Entry} → IsSearch n j end r was now old new → refusal_sum r + 2 ^ j ≤ end
+-- there are as many refusals as tries, and so at most as many as the level has nodes
+pub search_sum : {n j end : ℕ} {r : Refusal} {was now : Option ℕ} {old new : Entry}
+    → IsSearch n j end r was now old new
+    → refusal_sum r + 2 ^ j ≤ end
 search_sum {n = n} {j = j} {end = end} {old = old} {new = new} had =
     let count = few_tries n j end had.tries (with_peeks had.peeks old) new had.low had.searches.level had.searches.refused in
     let same = ap refusal_sum had.counts ∙ sum_of had.tries in

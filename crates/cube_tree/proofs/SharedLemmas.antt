@@ -1,4 +1,4 @@
--- A cube may be used by many threads at once.
+-- Many threads may use a cube at once.
 use denote.RattleType.{RattleType}
 use denote.Param.Send.{IsSend, IsSync, sendable, part_keyless}
 use denote.Builtin.{unit}

@@ -1,4 +1,4 @@
--- What the words that were read tell of the stations of a seat, and of the regions that are held.
+-- What the words that were read say of the stations of a seat, and of the regions that are held.
 use Rattle.std.proofs.Common.{◌≡◌, ℕ, zero, suc, ◌/◌, ◌<◌, ◌≤◌, ◌⊎◌, inl, inr, List, [], ◌∷◌, slice_index, Option, Some, refl, sym, ◌∙◌, ap, subst, arith}
 use Rattle.std.specs.Prelude.{All}
 use Rattle.std.specs.Int.{bit_at}
@@ -37,8 +37,12 @@ path_or_not (suc fuel) v b below positive = elim (cases_eq v b) [
 
 -- the first station has moved at a node, and the words on its path are read again
 told_after : {n node : ℕ} {words read : List ℕ} {old new : Known} {p q : Phase}
-    → IsTold n words old.0.stations → IsAt old p → IsAt new q → others new.0.stations ≡ others old.0.stations
-    → ((h : ℕ) → p ≡ Holding h → h ≡ node) → ((h : ℕ) → q ≡ Holding h → h ≡ node)
+    → IsTold n words old.0.stations
+    → IsAt old p
+    → IsAt new q
+    → others new.0.stations ≡ others old.0.stations
+    → ((h : ℕ) → p ≡ Holding h → h ≡ node)
+    → ((h : ℕ) → q ≡ Holding h → h ≡ node)
     → ((v : ℕ) → OnPath v node → TellsWord v (slice_index read v) new.0.stations)
     → ((v : ℕ) → (OnPath v node → ⊥) → slice_index read v ≡ slice_index words v)
     → IsTold n read new.0.stations
@@ -50,20 +54,33 @@ told_after {n = n} {node = node} {words = words} {read = read} {old = old} {new 
   ];
 }
   where
-    untouched : (v : ℕ) → IsInCube n v → (OnPath v node → ⊥) → TellsWord v (slice_index words v) new.0.stations
+    untouched : (v : ℕ)
+        → IsInCube n v
+        → (OnPath v node → ⊥)
+        → TellsWord v (slice_index words v) new.0.stations
     untouched v in_cube off =
         let had : TellsWord v (slice_index words v) (first_of old ∷ others old.0.stations) = subst (TellsWord v (slice_index words v)) was.there (told.nodes v in_cube) in
         let has : TellsWord v (slice_index words v) (first_of new ∷ others old.0.stations) = tells_moved v (slice_index words v) (first_of old) (first_of new) (others old.0.stations) in_cube.0
         (λ h holds on. off (subst (OnPath v) (before h (sym was.phase ∙ holds)) on)) (λ h holds on. off (subst (OnPath v) (now h (sym is.phase ∙ holds)) on)) had in
         subst (TellsWord v (slice_index words v)) (ap (λ rest. first_of new ∷ rest) (sym same) ∙ sym is.there) has
 
--- after a walk of the first station from a phase at rest to another, where the words on the path are
--- read with a seat like the one that it left
-pub told_read : {n k node : ℕ} {words read : List ℕ} {old mid between new : Known} {p q : Phase} (begun : Phase)
-    → IsTold n words old.0.stations → IsAlone old → IsAt old p → Walks (begin begun old) mid → IsAt mid q → IsAtRest q
-    → ((h : ℕ) → p ≡ Holding h → h ≡ node) → ((h : ℕ) → q ≡ Holding h → h ≡ node)
-    → between ≡ mid → new ≡ between → k ≡ n
-    → (IsAlone between → IsAtRest (first_of between).phase → (v : ℕ) → OnPath v node → TellsWord v (slice_index read v) between.0.stations)
+-- after a walk of the first station from a phase at rest to another. The words on the path are read
+-- with a seat like the one after the walk
+pub told_read : {n k node : ℕ} {words read : List ℕ} {old mid between new : Known} {p q : Phase}
+    (begun : Phase)
+    → IsTold n words old.0.stations
+    → IsAlone old
+    → IsAt old p
+    → Walks (begin begun old) mid
+    → IsAt mid q
+    → IsAtRest q
+    → ((h : ℕ) → p ≡ Holding h → h ≡ node)
+    → ((h : ℕ) → q ≡ Holding h → h ≡ node)
+    → between ≡ mid
+    → new ≡ between
+    → k ≡ n
+    → (IsAlone between → IsAtRest (first_of between).phase → (v : ℕ) → OnPath v node
+    → TellsWord v (slice_index read v) between.0.stations)
     → ((v : ℕ) → (OnPath v node → ⊥) → slice_index read v ≡ slice_index words v)
     → IsTold k read new.0.stations
 told_read {n = n} {node = node} {read = read} {old = old} {mid = mid} {new = new} begun told alone was walk is rest before now shown same dim path else_same =
@@ -74,19 +91,30 @@ told_read {n = n} {node = node} {read = read} {old = old} {mid = mid} {new = new
     path_mid = subst (λ (m : Known). IsAlone m → IsAtRest (first_of m).phase → (v : ℕ) → OnPath v node → TellsWord v (slice_index read v) m.0.stations) shown path
         (alone_begun begun old walk alone) (subst IsAtRest (sym is.phase) rest)
 
--- after a try that leaves the first station idle, where no word is read
-pub told_idle : {n : ℕ} {words : List ℕ} {old new : Known} (begun : Phase) → IsTold n words old.0.stations → IsAt old Idle → Walks (begin begun old) new → IsAt new Idle → IsTold n words new.0.stations
+-- after a try that leaves the first station idle, if no word is read
+pub told_idle : {n : ℕ} {words : List ℕ} {old new : Known} (begun : Phase)
+    → IsTold n words old.0.stations
+    → IsAt old Idle
+    → Walks (begin begun old) new
+    → IsAt new Idle
+    → IsTold n words new.0.stations
 told_idle {words = words} {old = old} {new = new} begun told was walk is =
     told_after {node = 0} told was is ((walk_leaves walk).others ∙ (begin_leaves old begun).others) (λ h e. absurd (idle_or_holding e)) (λ h e. absurd (idle_or_holding e))
     (λ v on. absurd (OnPath-zero v on)) (λ v off. refl)
 
--- where the record of a station comes first
-pub told_turned : {n s : ℕ} {words : List ℕ} {old new : Known} → IsTold n words old.0.stations → Turns s old new → IsTold n words new.0.stations
+-- after the record of a station was moved to the front
+pub told_turned : {n s : ℕ} {words : List ℕ} {old new : Known}
+    → IsTold n words old.0.stations
+    → Turns s old new
+    → IsTold n words new.0.stations
 told_turned {n = n} {s = s} {words = words} {old = old} told turns = subst (λ (m : Known). IsTold n words m.0.stations) (sym turns.seat)
     (record { roll = told.roll; nodes = λ v in_cube. tells_turned v (slice_index words v) s old.0.stations in_cube.0 (told.nodes v in_cube) })
 
--- where all words are 0 and no station holds a node
-pub told_fresh : (n : ℕ) (words : List ℕ) (m : Known) → ((v : ℕ) → slice_index words v ≡ 0) → All (λ e. e.phase ≡ Idle) m.0.stations → IsTold n words m.0.stations
+-- if all words are 0 and no station holds a node
+pub told_fresh : (n : ℕ) (words : List ℕ) (m : Known)
+    → ((v : ℕ) → slice_index words v ≡ 0)
+    → All (λ e. e.phase ≡ Idle) m.0.stations
+    → IsTold n words m.0.stations
 told_fresh n words m unread idle = record {
   roll = unread 0;
   nodes = λ v in_cube. tells_nothing v (slice_index words v) m.0.stations (unread v) (λ h (i, e, within, is, holds). idle_or_holding (sym (subst (λ x. x.phase ≡ Idle) is (idle i e within)) ∙ holds));
@@ -127,7 +155,8 @@ holder_or_not h (e ∷ rest) = elim (phase_holds e.phase h) [
 
 -- ---- what is held
 
-module _ {n count : ℕ} {nodes : List (Option Node)} {m : Known} (state : Represents n count nodes m) where
+module _ {n count : ℕ} {nodes : List (Option Node)} {m : Known}
+    (state : Represents n count nodes m) where
   named : (s : ℕ) (w : Node) → node_of_station nodes s ≡ Some w → IsNodeOf n w.0 (region_at n w.0)
   named s w is = region_named n w.0 (state.in_cube s w is)
 
@@ -151,7 +180,11 @@ module _ {n count : ℕ} {nodes : List (Option Node)} {m : Known} (state : Repre
       below : s < count
       below = let there = slot_there nodes s slot.0 slot.1 in let size = state.slot_count in omega (arith, there, size)
 
-  pub told_held : {words : List ℕ} → IsTold n words m.0.stations → (v : ℕ) → IsInCube n v → TellsHeld n (holdings n nodes) v (slice_index words v)
+  pub told_held : {words : List ℕ}
+      → IsTold n words m.0.stations
+      → (v : ℕ)
+      → IsInCube n v
+      → TellsHeld n (holdings n nodes) v (slice_index words v)
   told_held {words = words} told v in_cube = record {
     zero = (λ is u on held. (told.nodes v in_cube).zero.0 is u on (holder_of_held u held), λ none. (told.nodes v in_cube).zero.1 (λ u on has. none u on (held_of_holder u has)));
     occupied = (

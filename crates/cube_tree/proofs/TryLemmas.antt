@@ -17,8 +17,11 @@ use Rattle.cube_tree.specs.Handles.{cube_dim, subcube_entry, IsRefusedTry, Takes
 use Rattle.cube_tree.specs.Tries.{counted, refusal_sum, Tries, TakesOne, IsRefusedAll}
 use Rattle.cube_tree.proofs.RefusalLemmas.{tries_events}
 
--- a node of the level that is j levels below the root
-pub node_of_level : (n k m : ℕ) → k ≤ n → m < 2 ^ (n - k) → IsInCube n (2 ^ (n - k) + m) × (depth n (2 ^ (n - k) + m) ≡ n - k)
+-- a node of the level j levels below the root
+pub node_of_level : (n k m : ℕ)
+    → k ≤ n
+    → m < 2 ^ (n - k)
+    → IsInCube n (2 ^ (n - k) + m) × (depth n (2 ^ (n - k) + m) ≡ n - k)
 node_of_level n k m le below = (in_cube, depth_is n (2 ^ (n - k) + m) (n - k) in_cube (omega arith) (omega arith))
   where
     twice : 2 ^ (1 + (n - k)) ≡ 2 * 2 ^ (n - k)
@@ -45,7 +48,11 @@ on_level n j v le low high = (in_cube, depth_is n v j in_cube low high)
         (omega (arith, some, low), omega (arith, twice, more, high))
 
 -- and its region is of the dimension of the level
-pub dim_of_level : (n k v : ℕ) → k ≤ n → 2 ^ (n - k) ≤ v → v < 2 * 2 ^ (n - k) → (region_at n v).dim ≡ k
+pub dim_of_level : (n k v : ℕ)
+    → k ≤ n
+    → 2 ^ (n - k) ≤ v
+    → v < 2 * 2 ^ (n - k)
+    → (region_at n v).dim ≡ k
 dim_of_level n k v le low high =
     let level = on_level n (n - k) v (omega arith) low high in
     same n k (region_at n v).dim le (region_named n v level.0).0 level.1
@@ -59,13 +66,19 @@ sum_counted InUse r = omega arith
 sum_counted Lost r = omega arith
 sum_counted (Under at) r = omega arith
 
-pub tries_sum : (n first m : ℕ) (r : Refusal) (old new : Entry) → Tries n first m r old new → refusal_sum r ≡ m
+pub tries_sum : (n first m : ℕ) (r : Refusal) (old new : Entry)
+    → Tries n first m r old new
+    → refusal_sum r ≡ m
 tries_sum n first zero r old new tries = ap refusal_sum tries.1
 tries_sum n first (suc m) r old new (between, before, tries, one) =
     let earlier = tries_sum n first m before old between tries in let more = sum_counted one.why before in let counts = ap refusal_sum one.counts in omega arith
 
--- and adds at most so many events
-tries_bound : (n k m : ℕ) (r : Refusal) (old new : Entry) → k ≤ n → m ≤ 2 ^ (n - k) → Tries n (2 ^ (n - k)) m r old new → length new.trail ≤ length old.trail + m * (3 + 7 * (n - k))
+-- and adds at most this many events
+tries_bound : (n k m : ℕ) (r : Refusal) (old new : Entry)
+    → k ≤ n
+    → m ≤ 2 ^ (n - k)
+    → Tries n (2 ^ (n - k)) m r old new
+    → length new.trail ≤ length old.trail + m * (3 + 7 * (n - k))
 tries_bound n k zero r old new le below tries = let same = ap (λ (e : Entry). length e.trail) tries.0 in omega arith
 tries_bound n k (suc m) r old new le below (between, before, tries, one) =
     let earlier = tries_bound n k m before old between le (omega arith) tries in
@@ -75,11 +88,14 @@ tries_bound n k (suc m) r old new le below (between, before, tries, one) =
     let sum = suc-mul m (3 + 7 * (n - k)) in
     omega (arith, earlier, each, sum)
 
--- so many tries are at most all tries of the level
+-- this many tries are at most all tries of the level
 within : (m j t : ℕ) → m ≤ j → m * t ≤ j * t
 within m j t le = mul-le-mul_right t le
 
-pub refused_all : (n k : ℕ) (old new : Entry) (r : Refusal) → k ≤ n → Tries n (2 ^ (n - k)) (2 ^ (n - k)) r old new → IsRefusedAll n (n - k) old new r
+pub refused_all : (n k : ℕ) (old new : Entry) (r : Refusal)
+    → k ≤ n
+    → Tries n (2 ^ (n - k)) (2 ^ (n - k)) r old new
+    → IsRefusedAll n (n - k) old new r
 refused_all n k old new r le tries = record {
   tries = tries;
   sum = tries_sum n (2 ^ (n - k)) (2 ^ (n - k)) r old new tries;
@@ -87,7 +103,12 @@ refused_all n k old new r le tries = record {
   bound = tries_bound n k (2 ^ (n - k)) r old new le (omega arith) tries;
 }
 
-pub takes_one : (cube : Cube) (k m : ℕ) (old between : Entry) (r : Refusal) (subcube : Subcube) → k ≤ cube_dim cube → m < 2 ^ (cube_dim cube - k) → Tries (cube_dim cube) (2 ^ (cube_dim cube - k)) m r old between → TakesNode cube (2 ^ (cube_dim cube - k) + m) between subcube → TakesOne cube (cube_dim cube - k) old subcube
+pub takes_one : (cube : Cube) (k m : ℕ) (old between : Entry) (r : Refusal) (subcube : Subcube)
+    → k ≤ cube_dim cube
+    → m < 2 ^ (cube_dim cube - k)
+    → Tries (cube_dim cube) (2 ^ (cube_dim cube - k)) m r old between
+    → TakesNode cube (2 ^ (cube_dim cube - k) + m) between subcube
+    → TakesOne cube (cube_dim cube - k) old subcube
 takes_one cube k m old between r subcube le below tries taken = record {
   m = m;
   there = below;
@@ -104,7 +125,11 @@ takes_one cube k m old between r subcube le below tries taken = record {
       omega (arith, earlier, last, sum, all);
 }
 
-pub one_more : (n first m : ℕ) (r s : Refusal) (old between new : Entry) (why : Why) → Tries n first m r old between → IsRefusedTry n (first + m) between new why → s ≡ counted why r → Tries n first (m + 1) s old new
+pub one_more : (n first m : ℕ) (r s : Refusal) (old between new : Entry) (why : Why)
+    → Tries n first m r old between
+    → IsRefusedTry n (first + m) between new why
+    → s ≡ counted why r
+    → Tries n first (m + 1) s old new
 one_more n first m r s old between new why tries refused counts = subst (λ i. Tries n first i s old new) (next m) (between, r, tries, record { why = why; refused = refused; counts = counts })
   where
     next : (i : ℕ) → suc i ≡ i + 1

@@ -1,4 +1,4 @@
--- The end of a machine: who has retired, and what is left.
+-- The end of a machine: which stations have retired, and what is left.
 use Rattle.std.specs.Prelude.{◌≡◌, ℕ, ◌+◌, ◌^◌, ◌<◌, ◌↔◌, List, ◌∷◌, map, vec_len, slice_index}
 use Rattle.status_word.specs.Word.{IsSet}
 use Rattle.tree_steps.specs.Rule.{times}
@@ -9,56 +9,59 @@ use Rattle.cube_tree.specs.declared.handles.FreeMachine.{FreeMachine}
 use Rattle.cube_tree.specs.declared.handles.RetirementReader.{RetirementReader}
 use Rattle.cube_tree.specs.Handles.{station_entry}
 
--- each station below the count is in the list
+-- Each station below the count is in the list.
 abbrev pub HasAll : ℕ → List TreeStation → Type 0
 HasAll count stations = (s : ℕ) → s < count → 0 < times s (map station_entry stations)
 
--- the number of the station is below the count
+-- The number of the station is below the count.
 abbrev pub HasNumberBelow : ℕ → TreeStation → Type 0
 HasNumberBelow count station = (station_entry station).station < count
 
--- the stations below the count whose bit a load of the roll found clear
+-- The stations below the count whose bit a load of the roll found clear.
 abbrev pub IsMissing : ℕ → ℕ → ℕ → Type 0
 IsMissing count roll missing = (s : ℕ) → IsSet missing s ↔ ((s < count) × (IsSet roll s → ⊥))
 
--- a load of the roll found the bit of each station below the count
+-- A load of the roll found the bit of each station below the count.
 abbrev pub IsWhole : ℕ → ℕ → Type 0
 IsWhole count roll = (s : ℕ) → s < count → IsSet roll s
 
--- who loads the roll of this cube, and what these loads found, the newest first
+-- The reader loads the roll of this cube.
 abbrev pub IsReaderOf : Cube → RetirementReader → Type 0
 IsReaderOf cube reader = reader.seat.table_id ≡ id_of cube.tree
 
+-- What the loads of a reader found, the newest first.
 abbrev pub reader_loads : RetirementReader → List ℕ
 reader_loads reader = reader.seat.me.0.loads
 
--- its last load found that no station below the count is missing
+-- The last load of the reader found that no station below the count is missing.
 pub record FindsAllRetired (count : ℕ) (reader : RetirementReader) : Type 0 where
   pub roll : ℕ
   pub earlier : List ℕ
   pub loads : reader_loads reader ≡ roll ∷ earlier
   pub none : IsMissing count roll 0
 
+-- The dimension of a closed machine.
 abbrev pub machine_dim : FreeMachine → ℕ
 machine_dim machine = machine.dim
 
+-- The words of a closed machine.
 abbrev pub machine_words : FreeMachine → List ℕ
 machine_words machine = machine.words.items
 
--- what the loads of the roll found, the newest first
+-- What the loads of the roll of a closed machine found, the newest first.
 abbrev pub machine_loads : FreeMachine → List ℕ
 machine_loads machine = machine.seat.me.0.loads
 
--- the last load of the roll, after those `before`, found the bit of each station below the count; it
--- found what is word 0 of the machine
+-- The last load of the roll, after those `before`, found the bit of each station below the count.
+-- What it found is word 0 of the machine.
 pub record ClosedByRoll (count : ℕ) (before : List ℕ) (machine : FreeMachine) : Type 0 where
   pub roll : ℕ
   pub loads : machine_loads machine ≡ roll ∷ before
   pub whole : IsWhole count roll
   pub word : slice_index (machine_words machine) 0 ≡ roll
 
--- the machine of dimension n is wholly free: there is a word for each node and the roll, and that of
--- each node is 0
+-- Every block of the machine of dimension `n` is free. There is a word for each node and for the
+-- roll, and that of each node is 0.
 pub record IsWhollyFree (n : ℕ) (machine : FreeMachine) : Type 0 where
   pub dim : machine_dim machine ≡ n
   pub count : vec_len machine.words ≡ 2 ^ (n + 1)

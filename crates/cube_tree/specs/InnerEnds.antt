@@ -7,10 +7,10 @@ use Rattle.tree_steps.specs.Steps.{Known}
 use Rattle.cube_tree.specs.declared.handles.TreeStation.{TreeStation}
 use Rattle.cube_tree.specs.Handles.{station_entry}
 
--- the station has retired
+-- The station has retired.
 abbrev pub IsGone : Entry → Type 0
 IsGone e = e.phase ≡ Retired
 
--- each station steps with the seat as often as it is in the list
+-- Each station steps with the seat as often as it is in the list.
 abbrev pub AreThere : List TreeStation → Known → Type 0
 AreThere stations m = (s : ℕ) → times s m.0.stations ≡ times s (map station_entry stations)

@@ -1,4 +1,4 @@
--- No public contract cites these: what a seat that has all stations knows.
+-- What a seat that has all stations knows. No public contract cites these.
 use Rattle.std.specs.Prelude.{◌≡◌, ℕ, ◌+◌, ◌^◌, ◌<◌, List, All, length, IsSome, Option, None}
 use Rattle.cube_shape.specs.declared.node.Node.{Node}
 use Rattle.cube_core.specs.declared.phase.Phase.{Phase}
@@ -9,11 +9,11 @@ use Rattle.tree_steps.specs.Steps.{Known, IsAt, IsOffAll, first_of}
 use Rattle.tree_steps.specs.Alone.{IsBlocked, unpicked}
 use Rattle.cube_tree.specs.Slots.{node_of_station}
 
--- the record of this station is in this phase
+-- The record of this station is in this phase.
 abbrev pub HasPhase : ℕ → Phase → Known → Type 0
 HasPhase s p m = All (λ e. e.station ≡ s → e.phase ≡ p) m.0.stations
 
--- the station's record comes first and is in this phase; those of the others are as they were
+-- The station's record is first and in this phase. The records of the others did not change.
 pub record IsMoved (s : ℕ) (p : Phase) (old new : Known) : Type 0 where
   pub at : IsAt new p
   pub number : (first_of new).station ≡ s
@@ -22,12 +22,12 @@ pub record IsMoved (s : ℕ) (p : Phase) (old new : Known) : Type 0 where
   pub loads : new.0.loads ≡ old.0.loads
   pub slots : new.1 ≡ old.1
 
--- the first m nodes of the level that is j levels below the root are blocked
+-- The first `m` nodes of the level `j` levels below the root are blocked.
 abbrev pub AreBlocked : ℕ → ℕ → List Entry → Type 0
 AreBlocked j m entries = (i : ℕ) → i < m → IsBlocked (2 ^ j + i) entries
 
--- the station has taken the first node of its level that is not blocked, and what it holds is apart from
--- what the others hold
+-- The station has taken the first node of its level that is not blocked. What it holds does not
+-- overlap what the others hold.
 pub record TakesFirst (s j node : ℕ) (old new : Known) : Type 0 where
   pub m : ℕ
   pub there : m < 2 ^ j
@@ -35,12 +35,12 @@ pub record TakesFirst (s j node : ℕ) (old new : Known) : Type 0 where
   pub before : AreBlocked j m (unpicked s old.0.stations)
   pub off : IsOffAll new.0.stations
 
--- the first station that holds nothing
+-- The first station that holds nothing.
 pub record IsFirstIdle (nodes : List (Option Node)) (s : ℕ) : Type 0 where
   pub there : s < length nodes
   pub idle : node_of_station nodes s ≡ None
   pub first : (t : ℕ) → t < s → IsSome (node_of_station nodes t)
 
--- the stations below a number have retired, the others are idle
+-- The stations below a number have retired, and the others are idle.
 abbrev pub IsGoneBelow : ℕ → Entry → Type 0
 IsGoneBelow s e = (e.station < s → e.phase ≡ Retired) × ((e.station < s → ⊥) → e.phase ≡ Idle)

@@ -3,7 +3,7 @@ use Rattle.std.specs.Prelude.{◌≡◌, ℕ, [], ◌∷◌}
 use Rattle.cube_core.specs.declared.phase.Phase.{Phase}
 use Rattle.tree_steps.specs.Steps.{Known, first_of}
 
--- one station steps with this seat; it has this number, and this phase
+-- Exactly one station steps with this seat. It has this number and this phase.
 pub record IsSeatOf (number : ℕ) (phase : Phase) (m : Known) : Type 0 where
   pub one : m.0.stations ≡ first_of m ∷ []
   pub slots : m.1 ≡ []
@@ -11,7 +11,7 @@ pub record IsSeatOf (number : ℕ) (phase : Phase) (m : Known) : Type 0 where
   pub number_is : (first_of m).station ≡ number
   pub phase_is : (first_of m).phase ≡ phase
 
--- no station steps with this seat
+-- No station steps with this seat.
 pub record IsBare (m : Known) : Type 0 where
   pub bare : m.0.stations ≡ []
   pub slots : m.1 ≡ []

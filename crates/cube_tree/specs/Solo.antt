@@ -1,4 +1,4 @@
--- What contracts say of a machine whose stations are all in one hand.
+-- What contracts say of a machine of which one caller has all stations.
 use Rattle.std.specs.Prelude.{◌≡◌, ℕ, ◌<◌, ◌↔◌, IsSome, Some, None}
 use Rattle.cube_shape.specs.declared.region.Region.{Region}
 use Rattle.cube_shape.specs.declared.node.Side.{Side}
@@ -10,35 +10,40 @@ use Rattle.tree_steps.specs.Tree.{size_of}
 use Rattle.cube_tree.specs.declared.solo.Solo.{Solo}
 use Rattle.cube_tree.specs.Slots.{holdings}
 
--- the dimension of the machine and the number of its stations
+-- The dimension of the machine and the number of its stations.
 abbrev pub solo_size : Solo → Size
 solo_size solo = size_of solo.tree
 
+-- The dimension of the machine.
 abbrev pub solo_dim : Solo → ℕ
 solo_dim solo = (solo_size solo).dim
 
--- what each station holds
+-- What each station holds.
 abbrev pub held_by : Solo → Holdings
 held_by solo = holdings (solo_dim solo) solo.nodes.items
 
--- the region of node v is held
+-- Some station holds the block of node `v`.
 abbrev pub IsHeld : ℕ → Holdings → ℕ → Type 0
 IsHeld n held v = (s : ℕ) × (r : Region) × (held s ≡ Some r) × IsNodeOf n v r
 
--- what the word of node v says of what is held
+-- What the word of node `v` says of what is held. A word that is not 0 may have other sides and
+-- marks.
 pub record TellsHeld (n : ℕ) (held : Holdings) (v word : ℕ) : Type 0 where
-  -- it is 0 exactly where the region of no node at v or under it is held
+  -- The word is 0 exactly if no block of a node at `v` or under it is held.
   pub zero : (word ≡ 0) ↔ ((u : ℕ) → OnPath v u → IsHeld n held u → ⊥)
-  -- it is occupied exactly where the region of v is held
+  -- The word is occupied exactly if the block of `v` is held.
   pub occupied : IsOccupied word ↔ IsHeld n held v
-  -- it has the side of each child for which the region of a node at it or under it is held
-  pub sides : (side : Side) (u : ℕ) → OnPath (child_of v side) u → IsHeld n held u → HasSide side word
+  -- The word has the side of each child for which the block of a node at it or under it is held.
+  pub sides : (side : Side) (u : ℕ)
+      → OnPath (child_of v side) u
+      → IsHeld n held u
+      → HasSide side word
 
--- each station holds a region
+-- Each station holds a block.
 abbrev pub AllHold : Solo → Type 0
 AllHold solo = (s : ℕ) → s < (solo_size solo).stations → IsSome (held_by solo s)
 
--- the station is the lowest of those that hold nothing
+-- The station is the lowest of those that hold nothing.
 pub record IsLowestIdle (solo : Solo) (s : ℕ) : Type 0 where
   pub there : s < (solo_size solo).stations
   pub idle : held_by solo s ≡ None

@@ -1,11 +1,11 @@
-//! Two regions that are held at one moment are apart.
+//! Two blocks that are held at one moment do not overlap.
 ghost use Rattle.cube_shape.specs.Region.{AreApart};
 ghost use Rattle.cube_tree.specs.Handles.{held_region, IsSameSubcube, IsSubcubeOf};
 
 use crate::handles::{Cube, Subcube};
 
-/// Gives back two subcubes of one cube as they were, and promises that their regions have no processor
-/// in common.
+/// Shows that the blocks of two subcubes of one cube do not overlap. Returns both subcubes
+/// unchanged.
 pub fn apart(a: Subcube, b: Subcube, cube: &Cube) -> (Subcube, Subcube)
     requires first { IsSubcubeOf cube.now a }
     requires second { IsSubcubeOf cube.now b }

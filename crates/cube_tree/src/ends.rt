@@ -1,4 +1,4 @@
-//! Stations retire, and a cube is closed.
+//! Retiring stations, and closing a cube.
 ghost use Rattle.std.specs.Prelude.{◌≡◌, ◌≢◌, ℕ, ◌<◌, ◌≤◌, List, [], ◌∷◌, All, IfOk, IfErr, length, slice_index};
 ghost use Rattle.tree_steps.specs.Steps.{HasWholeRoll, retire_at};
 ghost use Rattle.tree_steps.specs.Tree.{id_of, size_of, station_count};
@@ -12,7 +12,7 @@ use cube_shape::MAX_STATIONS;
 use tree_steps::{Seat, Tree};
 
 impl TreeStation {
-    /// It makes one event more, by which its bit is set in the roll, and none after that.
+    /// Retires the station by one event, which sets its bit in the roll. It makes no further event.
     pub fn retire(self, cube: &Cube) -> RetiredStation
         requires { IsStationOf cube.now self }
         ensures { Retires cube.now (station_entry self) result }
@@ -22,7 +22,7 @@ impl TreeStation {
         }
     }
 
-    // The seat of the station once it has retired.
+    // Retires the station, and returns its seat.
     fn into_retired(self, tree: &Tree) -> Seat
         requires { self.seat.table_id ≡ id_of tree.now }
         ensures table { result.table_id ≡ self.seat.table_id }
@@ -38,7 +38,7 @@ impl TreeStation {
     }
 }
 
-// The stations below the count whose bit is clear.
+// Returns the stations below the count whose bit is clear.
 pub(crate) fn missing_in(roll: u64, stations: u32) -> u64
     requires { stations ≤ MAX_STATIONS }
     ensures { IsMissing stations roll result }
@@ -48,8 +48,8 @@ pub(crate) fn missing_in(roll: u64, stations: u32) -> u64
 }
 
 impl Cube {
-    /// Closes the cube, if the load of the roll that it makes finds the bit of each station. It is
-    /// given back with the stations whose bit was clear, of which there is at least one.
+    /// Closes the cube if its load of the roll finds the bit of each station. Else returns the cube
+    /// with the stations whose bit was clear. There is at least one.
     pub fn close(self) -> Result<FreeMachine, StillOut>
         ensures free { IfOk result (IsWhollyFree (cube_dim self)) }
         ensures roll { IfOk result (ClosedByRoll (cube_size self).stations (loads_of self)) }
@@ -73,7 +73,7 @@ impl Cube {
     }
 }
 
-// Retires stations: their seats are joined to this one.
+// Retires stations, and joins their seats to this one.
 fn retire_each(tree: &Tree, seat: &mut Seat, mut stations: Vec<TreeStation>)
     requires seat { seat.old.table_id ≡ id_of tree.now }
     requires bare { IsBare seat.old.me }
@@ -92,7 +92,7 @@ fn retire_each(tree: &Tree, seat: &mut Seat, mut stations: Vec<TreeStation>)
 }
 
 impl Cube {
-    /// Retires all stations, which it is given, and closes the cube.
+    /// Retires all stations, which are given, and closes the cube.
     pub fn close_with(self, stations: Vec<TreeStation>) -> FreeMachine
         requires cube { All (IsStationOf self) stations.items }
         requires all { HasAll (cube_size self).stations stations.items }
@@ -105,8 +105,8 @@ impl Cube {
         finish(tree, seat)
     }
 
-    /// Retires all stations, which it is given, and closes the cube: they are as many as it has, and
-    /// so these are all of them.
+    /// Retires all stations, which are given, and closes the cube. There are as many as the cube
+    /// has, so these are all of them.
     pub fn close_all(self, stations: Vec<TreeStation>) -> FreeMachine
         requires cube { All (IsStationOf self) stations.items }
         requires below { All (HasNumberBelow (cube_size self).stations) stations.items }
@@ -122,7 +122,7 @@ impl Cube {
     }
 }
 
-// The end of a tree of which all stations have retired.
+// Ends a tree of which all stations have retired.
 pub(crate) fn finish(tree: Tree, mut seat: Seat) -> FreeMachine
     requires seat { seat.table_id ≡ id_of tree }
     requires slots { seat.me.1 ≡ [] }
@@ -142,14 +142,15 @@ pub(crate) fn finish(tree: Tree, mut seat: Seat) -> FreeMachine
 }
 
 impl FreeMachine {
-    /// The dimension of the machine.
+    /// Returns the dimension of the machine.
     pub fn dim(&self) -> u32
         ensures { result ≡ machine_dim self.now }
     {
         self.dim
     }
 
-    /// Its words at the end: word `0` is the roll as it was last loaded, and word `v` that of node `v`.
+    /// Returns its words at the end. Word `0` is the roll as it was last loaded, and word `v` that
+    /// of node `v`.
     pub fn words(&self) -> &[u64]
         ensures { result.now ≡ machine_words self.now }
     {

@@ -1,4 +1,4 @@
-//! The handles of a machine: its cube, its stations, and the subcubes that they hold.
+//! The handles of a machine: its cube, its stations, and the blocks that they hold.
 ghost use Rattle.std.specs.Prelude.{◌≡◌, ℕ, ◌+◌, ◌^◌, ◌<◌, ◌≤◌, slice_index, vec_len};
 ghost use Rattle.cube_core.specs.declared.phase.Phase.TheVariants.{Idle, Holding};
 ghost use Rattle.cube_core.specs.Held.{region_at};
@@ -9,7 +9,7 @@ ghost use Rattle.cube_tree.specs.Seats.{IsSeatOf, IsBare};
 use cube_shape::{Node, Region};
 use tree_steps::{Seat, Tree};
 
-/// The status tree of a machine, shared by its stations. It cannot be dropped.
+/// A machine: a tree of status words, shared by its stations. It cannot be dropped.
 pub struct Cube {
     pub(crate) tree: Tree,
     // What its loads of the roll found.
@@ -19,19 +19,19 @@ pub struct Cube {
     ghost unread: { (v : ℕ) → slice_index (read_words tree) v ≡ 0 },
 }
 
-/// One who takes and gives back the region of one node at a time; at the moment it has none. It cannot
-/// be dropped.
+/// A station (allocator handle) that is idle. It takes and releases the block of one node at a
+/// time. It cannot be dropped.
 pub struct TreeStation {
     pub(crate) number: u32,
     // The ancestor that last refused the first node of a level. A search peeks at it before it
-    // tries what lies under it.
+    // tries the nodes under it.
     pub(crate) hint: Option<Node>,
     pub(crate) seat: Seat,
     ghost idle: { IsSeatOf number Idle seat.me },
     ghost limit: { number < MAX_STATIONS },
 }
 
-/// The region that a station holds, with its station. It cannot be dropped.
+/// A block that a station holds, with its station. It cannot be dropped.
 pub struct Subcube {
     pub(crate) number: u32,
     pub(crate) node: Node,
@@ -49,7 +49,7 @@ pub struct Subcube {
     ghost named: { region ≡ region_at dim node.0 },
 }
 
-/// A station that has retired. It makes no event any more, and is known by what it did.
+/// A station that has retired. It makes no further event. Its record says what it did.
 #[derive(Drop)]
 pub struct RetiredStation {
     pub(crate) seat: Seat,
@@ -64,15 +64,15 @@ pub struct FreeMachine {
     pub(crate) seat: Seat,
 }
 
-/// A reader of the roll of a cube, which says which stations have retired. It is no station, and can
-/// be dropped.
+/// A reader of the roll of a cube, which says which stations have retired. It is no station, and it
+/// can be dropped.
 #[derive(Drop)]
 pub struct RetirementReader {
     pub(crate) seat: Seat,
     ghost own: { IsBare seat.me },
 }
 
-/// A cube that could not be closed: the stations whose bit the load of the roll found clear.
+/// A cube that could not be closed, with the stations whose bit the load of the roll found clear.
 pub struct StillOut {
     pub cube: Cube,
     /// Bit `s` is set for station `s`.

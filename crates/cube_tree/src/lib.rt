@@ -1,10 +1,10 @@
-//! A lock-free buddy allocator of aligned power-of-two blocks (subcubes) for any number of threads at once.
+//! A lock-free buddy allocator of aligned power-of-two blocks (subcubes) for many threads.
 //!
-//! A `Cube` is the status tree of a machine as shared words, and each of its stations takes and gives
-//! back the region of one node at a time. Every atomic step of a call is an event of the tree as a
-//! pure machine (`cube_core`), so what is proved there of every order of events holds of the running
-//! threads: the regions that stations hold at one moment are apart, and once all stations have retired
-//! the machine is wholly free.
+//! A `Cube` is a machine: a tree of status words that threads share. Each of its stations takes and
+//! releases the block of one node at a time. Each atomic step of a call is an event of the pure
+//! machine `cube_core`. So what is proved there for every order of events holds for running
+//! threads. Blocks that stations hold at the same time do not overlap. Once all stations have
+//! retired, every block is free.
 #![tactic(auto)]
 
 mod comparison;

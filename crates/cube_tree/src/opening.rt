@@ -1,4 +1,4 @@
-//! The opening of a cube, and its size.
+//! Opening a cube, and its size.
 ghost use Rattle.std.specs.Prelude.{◌≡◌, ◌<◌, ◌≤◌, ◌⊎◌, ◌↔◌, [], All, map, vec_len, vec_capacity, IfOk, IsErrOf};
 ghost use Rattle.tree_steps.specs.Rule.{first_view, idle_entries};
 ghost use Rattle.tree_steps.specs.Tree.{id_of, size_of, station_count};
@@ -14,8 +14,8 @@ use std::alloc::Global;
 use tree_steps::{Seat, Size, Tree};
 
 impl Cube {
-    /// The machine of dimension `n`, wholly free, and its stations, each idle and with no event: they
-    /// have the numbers from `0` on.
+    /// Opens a machine of dimension `n` in which every block is free. Returns it with its stations,
+    /// which are idle and have the numbers from 0 on.
     pub fn open(
         alloc: Global,
         n: u32,
@@ -56,7 +56,7 @@ impl Cube {
 }
 
 impl Cube {
-    /// The dimension of the machine.
+    /// Returns the dimension of the machine.
     pub fn dim(&self) -> u32
         ensures value { result ≡ cube_dim self.now }
         ensures limit { result ≤ MAX_DIM }
@@ -64,7 +64,7 @@ impl Cube {
         self.tree.size().dim
     }
 
-    /// The number of its stations.
+    /// Returns the number of its stations.
     pub fn stations(&self) -> u32
         ensures value { result ≡ (cube_size self.now).stations }
         ensures limit { result ≤ MAX_STATIONS }
@@ -73,7 +73,7 @@ impl Cube {
     }
 }
 
-// Each station gets a seat of its own.
+// Gives each station a seat of its own.
 fn deal(tree: &Tree, seat: &mut Seat, list: &mut Vec<TreeStation>, stations: u32)
     requires seat { seat.old.table_id ≡ id_of tree.now }
     requires first { seat.old.me ≡ (first_view (size_of tree.now), []) }

@@ -1,4 +1,4 @@
-//! The roll and the words of a cube are read while its stations work, and a cube is let go.
+//! Reading the roll and the words of a cube while its stations work, and abandoning a cube.
 ghost use Rattle.std.specs.Prelude.{◌≡◌, ℕ, ◌+◌, ◌^◌, ◌<◌, ◌≤◌, List, ◌∷◌};
 ghost use Rattle.cube_tree.specs.Handles.{cube_dim, cube_size, loads_of, IsSameCube};
 ghost use Rattle.cube_tree.specs.Ends.{reader_loads, ClosedByRoll, FindsAllRetired, IsMissing, IsReaderOf, IsWhollyFree};
@@ -21,15 +21,16 @@ impl Cube {
         }
     }
 
-    /// A word as it is at some moment of the call: word `0` is the roll, and word `v` that of node `v`. It
-    /// tells nothing to a proof, for stations may work.
+    /// Returns a word as it is at some moment of the call. Word `0` is the roll, and word `v` that
+    /// of node `v`. A proof learns nothing from it, since stations may work.
     pub fn word(&self, word: u64) -> u64
         requires { word < 2 ^ (cube_dim self.now + 1) }
     {
         self.tree.word(word)
     }
 
-    /// Closes the cube by the last load that a reader of its roll made, which found the bit of each station.
+    /// Closes the cube by the last load that a reader of its roll made. This load found the bit of
+    /// each station.
     pub fn close_by(self, reader: RetirementReader) -> FreeMachine
         requires reader { IsReaderOf self reader }
         requires retired { FindsAllRetired (cube_size self).stations reader }
@@ -42,9 +43,10 @@ impl Cube {
         finish(tree, reader.seat)
     }
 
-    /// Lets the cube go, and frees its words, whatever they are. Its stations are worth nothing then. A
-    /// caller that closes its cubes has no need of it: it is for one that keeps a cube where another
-    /// language may drop it.
+    /// Frees the words of the cube, whatever they are. Its stations are useless afterwards.
+    ///
+    /// A caller that closes its cubes does not need this. It is for a caller that keeps a cube
+    /// where another language may drop it.
     pub fn abandon(self) {
         let Cube { tree, seat } = self;
         tree.abandon();
@@ -53,7 +55,8 @@ impl Cube {
 }
 
 impl RetirementReader {
-    /// Loads the roll: the stations below the count whose bit it finds clear, which have not retired.
+    /// Loads the roll. Returns the stations below the count whose bit it finds clear, which have
+    /// not retired.
     pub fn missing(&mut self, cube: &Cube, count: u32) -> u64
         requires reader { IsReaderOf cube.now self.old }
         requires count { count ≤ MAX_STATIONS }

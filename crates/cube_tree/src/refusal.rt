@@ -19,7 +19,7 @@ impl Refusal {
     };
 }
 
-// One refusal more.
+// Returns the counts with one refusal more.
 pub(crate) fn count(refusal: Refusal, why: Why) -> Refusal
     requires { refusal_sum refusal < 2 ^ 32 }
     ensures { result ≡ counted why refusal }

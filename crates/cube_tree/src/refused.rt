@@ -1,12 +1,12 @@
 use thiserror::Error;
 
-/// Why a cube is not opened.
+/// The reason why a cube is not opened.
 #[derive(Clone, Copy, Debug, PartialEq, Eq, Hash, Error)]
 pub enum CubeRefused {
     /// The dimension is above the largest one.
     #[error("the dimension is above the largest one")]
     BadDimension,
-    /// There would be no station, or more than the largest number of them.
+    /// The number of stations is 0 or above the largest one.
     #[error("the number of stations is not within its limits")]
     BadStations,
     /// There was no memory for the words or for the stations.
@@ -14,13 +14,13 @@ pub enum CubeRefused {
     OutOfMemory,
 }
 
-/// Why a take of a machine with all its stations in one hand is refused.
+/// The reason why a take of a `Solo` is refused.
 #[derive(Clone, Copy, Debug, PartialEq, Eq, Hash, Error)]
 pub enum SoloRefused {
-    /// No aligned region of the dimension asked is apart from every held region.
+    /// No aligned block of this dimension is free: each overlaps a held block.
     #[error("no free subcube of this dimension")]
     NoSubcube,
-    /// Each station holds a region.
+    /// Each station holds a block.
     #[error("each station holds a region")]
     NoStation,
 }

@@ -1,4 +1,4 @@
-//! Searches for a free region of a dimension, which skip what lies under an occupied ancestor.
+//! Searches for a free block of a dimension, which skip the nodes under an occupied ancestor.
 ghost use Rattle.std.specs.Prelude.{◌≡◌, ◌+◌, ◌-◌, ◌^◌, ◌<◌, ◌≤◌, if◌then◌else◌, None, Some, IfOk, IfErr, IfSome, IsNone};
 ghost use Rattle.tree_steps.specs.Answer.{ancestor_of};
 ghost use Rattle.cube_shape.specs.Node.{IsInCube};
@@ -15,8 +15,8 @@ use cube_shape::{MAX_DIM, Node, on_path};
 use status_word::Word;
 use tree_steps::Why;
 
-// The next node of the same level to try after a refused one: where an ancestor was occupied, the
-// first node that is not under it.
+// Returns the next node of the same level to try after a refused one. If an ancestor was occupied,
+// this is the first node that is not under it.
 pub(crate) fn node_after(node: Node, why: Why) -> Node
     requires limit { node.0 < 2 ^ (MAX_DIM + 1) }
     requires positive { 0 < node.0 }
@@ -30,7 +30,7 @@ pub(crate) fn node_after(node: Node, why: Why) -> Node
     Node((at.0 + 1) << levels)
 }
 
-// Returns the hint, where it is an ancestor of the node.
+// Returns the hint if it is an ancestor of the node.
 fn hint_above(hint: Option<Node>, node: Node) -> Option<Node>
     requires { 0 < node.0 }
     ensures same { IfSome result (λ at. hint ≡ Some at) }
@@ -45,8 +45,8 @@ fn hint_above(hint: Option<Node>, node: Node) -> Option<Node>
 }
 
 impl TreeStation {
-    // Peeks at a node: whether it is occupied. The hint is this node afterwards, or none where it
-    // is not occupied.
+    // Peeks at a node. Returns whether it is occupied. Afterwards the hint is this node if it is
+    // occupied, and else there is none.
     fn peek(self, cube: &Cube, at: Node) -> (TreeStation, bool)
         requires cube { IsStationOf cube.now self }
         requires node { IsInCube (cube_dim cube.now) at.0 }
@@ -65,9 +65,9 @@ impl TreeStation {
         (TreeStation { number, hint, seat }, is_occupied)
     }
 
-    // Returns the node at which a search for a region of dimension `k` begins. It is the first one.
-    // But where the hint is an ancestor of it, and a peek finds it occupied, it is the node after
-    // those under the hint.
+    // Returns the node at which a search for a block of dimension `k` begins. If the hint is an
+    // ancestor of the first node, and a peek finds it occupied, this is the node after those under
+    // the hint. Else it is the first node.
     fn begin_search(self, cube: &Cube, k: u32) -> (TreeStation, Node)
         requires cube { IsStationOf cube.now self }
         requires dim { k ≤ cube_dim cube.now }
@@ -87,7 +87,7 @@ impl TreeStation {
         }
     }
 
-    // Takes the ancestor that refused the first node of a level as the hint.
+    // Stores the ancestor that refused the first node of a level as the hint.
     fn remember(self, is_first: bool, why: Why) -> TreeStation
         ensures table { result.seat.table_id ≡ self.seat.table_id }
         ensures entry { station_entry result ≡ station_entry self }
@@ -112,13 +112,15 @@ impl TreeStation {
         }
     }
 
-    /// Tries the regions of dimension `k` in order, from the first one on, until one is taken.
+    /// Tries the blocks of dimension `k` in order, from the first one on, until one is taken.
     ///
-    /// It skips each region under an ancestor that this call found occupied, by a try or by a peek.
-    /// The call peeks at the station's hint, if this is an ancestor of the first region's node, and
-    /// drops the hint where it is not occupied. Where the try of the first region finds an ancestor
-    /// occupied, this becomes the hint. For `j = n - k` the call makes at most `2^j * (3 + 7 * j)`
-    /// events. The three counts of a refusal are those of its tries.
+    /// Skips each block under an ancestor that this call found occupied, by a try or by a peek. The
+    /// call peeks at the station's hint if this is an ancestor of the first block's node. If the
+    /// hint is not occupied, it is dropped. If the try of the first block finds an ancestor
+    /// occupied, this ancestor becomes the hint.
+    ///
+    /// For `j = n - k` the call makes at most `2^j * (3 + 7 * j)` events. The three counts of a
+    /// refusal are those of its tries.
     pub fn search(self, cube: &Cube, k: u32) -> Result<Subcube, (TreeStation, Refusal)>
         requires cube { IsStationOf cube.now self }
         requires dim { k ≤ cube_dim cube.now }

@@ -1,4 +1,4 @@
-//! All stations of a machine in one hand.
+//! A machine of which one caller has all stations.
 ghost use Rattle.std.specs.Prelude.{◌≡◌};
 ghost use Rattle.tree_steps.specs.Tree.{id_of, dim_of, read_words, station_count};
 ghost use Rattle.cube_tree.specs.Slots.{IsTold, Represents};
@@ -6,11 +6,11 @@ ghost use Rattle.cube_tree.specs.Slots.{IsTold, Represents};
 use cube_shape::Node;
 use tree_steps::{Seat, Tree};
 
-/// A machine with all its stations in one hand. No other takes or gives back regions of it, so a take
-/// is exact. It cannot be dropped.
+/// A machine of which one caller has all stations. Nothing else takes or releases its blocks, so a
+/// take is exact. It cannot be dropped.
 pub struct Solo {
     pub(crate) tree: Tree,
-    // All stations step with this seat.
+    // The seat that all stations step with.
     pub(crate) seat: Seat,
     // The node that each station holds.
     pub(crate) nodes: Vec<Option<Node>>,

@@ -1,4 +1,4 @@
-//! What a machine with all its stations in one hand answers, and its takes and releases.
+//! What a `Solo` says of its stations, and its takes and releases.
 ghost use Rattle.std.specs.Prelude.{◌≡◌, ℕ, ◌+◌, ◌-◌, ◌^◌, ◌<◌, ◌≤◌, ◌↔◌, length, slice_index, None, IsTrue, IsSome, IfOk, IfErr, IfSome, IfNone, IsErrOf, OnOk, OnErr, MatchOption, MatchResult};
 ghost use Rattle.cube_shape.specs.declared.region.Region.{Region as HeldRegion};
 ghost use Rattle.cube_shape.specs.Node.{IsInCube};
@@ -24,14 +24,14 @@ use cube_shape::{Node, Region};
 use tree_steps::{Seat, Tree, Why};
 
 impl Solo {
-    /// The dimension of the machine.
+    /// Returns the dimension of the machine.
     pub fn dim(&self) -> u32
         ensures { result ≡ solo_dim self.now }
     {
         self.tree.size().dim
     }
 
-    /// Whether a station holds a region.
+    /// Returns whether a station holds a block.
     pub fn holds(&self, station: usize) -> bool
         ensures held { IsTrue result ↔ IsSome (held_by self.now station) }
         ensures lawful { IsLawful (solo_dim self.now) (held_by self.now) }
@@ -39,7 +39,7 @@ impl Solo {
         node_at(&self.nodes, station).is_some()
     }
 
-    /// The region that a station holds, if it holds one.
+    /// Returns the block that a station holds, if it holds one.
     pub fn region(&self, station: usize) -> Option<Region>
         ensures { result ≡ held_by self.now station }
     {
@@ -47,11 +47,12 @@ impl Solo {
         Some(region_at_node(self.tree.size().dim, node))
     }
 
-    /// The words of the tree: word `0` is the roll, and word `v` that of node `v`. They tell what is
-    /// held now; only the nodes of held regions and the nodes above them have another word than `0`.
+    /// Returns the words of the tree. Word `0` is the roll, and word `v` that of node `v`. They say
+    /// what is held now: only the nodes of held blocks and their ancestors have another word than
+    /// `0`.
     ///
-    /// No clause says that such a word has no further bit: the side of a half in which nothing is held,
-    /// or a mark.
+    /// No clause says that such a word has no further bit. It may have the side of a half in which
+    /// nothing is held, or a mark.
     pub fn words(&self) -> &[u64]
         ensures len { length result.now ≡ 2 ^ (solo_dim self.now + 1) }
         ensures roll { slice_index result.now 0 ≡ 0 }
@@ -61,11 +62,11 @@ impl Solo {
         self.tree.words()
     }
 
-    /// Gives the lowest idle station the first fit: the region `(m, k)` for the least `m` such that it
-    /// is apart from every held region. Answers the station's number.
+    /// Gives the lowest idle station the first fit: block `(m, k)` for the least `m` such that it
+    /// overlaps no held block. Returns the station's number.
     ///
-    /// `NoStation` comes only where each station holds a region, else `NoSubcube` only where there is
-    /// no such `m`. A refusal changes nothing that a station holds.
+    /// Returns `NoStation` only if each station holds a block. Else returns `NoSubcube` only if
+    /// there is no such `m`. A refusal changes nothing that a station holds.
     pub fn take(&mut self, k: u32) -> Result<usize, SoloRefused>
         requires { k ≤ solo_dim self.old }
         ensures lowest { IfOk result (IsLowestIdle self.old) }
@@ -88,7 +89,7 @@ impl Solo {
         Ok(station)
     }
 
-    /// Takes the region of a station, which holds one, away from it.
+    /// Releases the block of a station that holds one.
     pub fn release(&mut self, station: usize)
         requires { IsSome (held_by self.old station) }
         ensures released { (r : HeldRegion)
@@ -102,14 +103,14 @@ impl Solo {
     }
 }
 
-// The node that a station holds.
+// Returns the node that a station holds.
 fn node_at(nodes: &[Option<Node>], station: usize) -> Option<Node>
     ensures { result ≡ node_of_station nodes.now station }
 {
     nodes.get(station).copied().flatten()
 }
 
-// The first station that holds nothing.
+// Returns the first station that holds nothing.
 fn first_idle(nodes: &[Option<Node>]) -> Option<usize>
     ensures found { IfSome result (IsFirstIdle nodes.now) }
     ensures none { IfNone result ((s : ℕ) → s < length nodes.now
@@ -118,7 +119,7 @@ fn first_idle(nodes: &[Option<Node>]) -> Option<usize>
     nodes.iter().position(|node| node.is_none())
 }
 
-// A station, which is idle, takes the first node of the level of dimension `k` that is not blocked.
+// Takes the first node of the level of dimension `k` that is not blocked, by an idle station.
 fn take_first(tree: &mut Tree, seat: &mut Seat, station: u32, k: u32) -> Option<Node>
     requires table { seat.old.table_id ≡ id_of tree.old }
     requires all { AreAllAtRest (station_count tree.old) seat.old.me }
@@ -148,8 +149,8 @@ fn take_first(tree: &mut Tree, seat: &mut Seat, station: u32, k: u32) -> Option<
     None
 }
 
-// One take of a node by the first station of a seat that has all stations, after which the words on
-// its path are read.
+// Makes one take of a node by the first station of a seat that has all stations. Then reads the
+// words on its path.
 fn take_alone(tree: &mut Tree, seat: &mut Seat, station: u32, node: Node) -> Result<(), Why>
     requires table { seat.old.table_id ≡ id_of tree.old }
     requires phase { IsAt seat.old.me Phase.Idle }
@@ -184,7 +185,7 @@ fn take_alone(tree: &mut Tree, seat: &mut Seat, station: u32, node: Node) -> Res
     }
 }
 
-// A station, which holds a node, gives it back.
+// Gives back the node that a station holds.
 fn give_back(tree: &mut Tree, seat: &mut Seat, station: u32, node: Node)
     requires table { seat.old.table_id ≡ id_of tree.old }
     requires all { AreAllAtRest (station_count tree.old) seat.old.me }

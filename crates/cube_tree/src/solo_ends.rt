@@ -1,4 +1,4 @@
-//! Where a cube and all its stations become one, and how that ends.
+//! Making a `Solo` of a cube and all its stations, and closing it.
 ghost use Rattle.std.specs.Prelude.{◌≡◌, ℕ, ◌<◌, List, [], None, All, vec_len, IfOk, IfErr};
 ghost use Rattle.tree_steps.specs.Rule.{times};
 ghost use Rattle.tree_steps.specs.Alone.{AreAllAtRest};
@@ -17,8 +17,8 @@ use std::alloc::{AllocError, Global};
 use tree_steps::{Seat, Tree};
 
 impl Solo {
-    /// The machine of a cube with all its stations, which it is given; none of them holds a region.
-    /// Where there is no memory, the cube and its stations are given back.
+    /// Makes a `Solo` of a cube and all its stations, none of which holds a block. If memory runs
+    /// out, both are returned.
     pub fn new(
         alloc: Global,
         cube: Cube,
@@ -42,7 +42,8 @@ impl Solo {
         }
     }
 
-    /// All regions are given back and all stations retire: the machine is wholly free.
+    /// Releases all blocks and retires all stations. In the machine that is returned every block is
+    /// free.
     pub fn close(self) -> FreeMachine
         ensures free { IsWhollyFree (solo_dim self) result }
         ensures roll { (before : List ℕ) × ClosedByRoll (solo_size self).stations before result }
@@ -59,7 +60,7 @@ impl Solo {
         finish(tree, seat)
     }
 
-    // All regions are given back.
+    // Releases all blocks.
     fn release_all(&mut self)
         ensures size { solo_size self.new ≡ solo_size self.old }
         ensures idle { (s : ℕ) → held_by self.new s ≡ None }
@@ -72,7 +73,7 @@ impl Solo {
     }
 }
 
-// The stations of the list step with this seat.
+// Joins the seats of the stations of the list to this one.
 fn gather(tree: &Tree, seat: &mut Seat, list: &mut Vec<TreeStation>)
     requires table { seat.old.table_id ≡ id_of tree.now }
     requires bare { IsBare seat.old.me }
@@ -94,7 +95,7 @@ fn gather(tree: &Tree, seat: &mut Seat, list: &mut Vec<TreeStation>)
     }
 }
 
-// All stations, which are idle, retire.
+// Retires all stations, which are idle.
 fn retire_all(tree: &Tree, seat: &mut Seat)
     requires table { seat.old.table_id ≡ id_of tree.now }
     requires all { AreAllAtRest (station_count tree.now) seat.old.me }
@@ -109,7 +110,7 @@ fn retire_all(tree: &Tree, seat: &mut Seat)
     }
 }
 
-// A station, which is idle, retires.
+// Retires a station, which is idle.
 fn retire_one(tree: &Tree, seat: &mut Seat, station: u32)
     requires table { seat.old.table_id ≡ id_of tree.now }
     requires all { AreAllAtRest (station_count tree.now) seat.old.me }

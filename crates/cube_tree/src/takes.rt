@@ -9,7 +9,7 @@ use crate::handles::{Cube, Subcube, TreeStation};
 use cube_shape::{MAX_DIM, Node, Region, region_of};
 use tree_steps::Why;
 
-// The region of a node.
+// Returns the block of a node.
 pub(crate) fn region_at_node(dim: u32, node: Node) -> Region
     requires dim { dim ≤ MAX_DIM }
     requires node { IsInCube dim node.0 }
@@ -19,14 +19,14 @@ pub(crate) fn region_at_node(dim: u32, node: Node) -> Region
 }
 
 impl TreeStation {
-    /// Its number.
+    /// Returns the number of the station.
     pub fn number(&self) -> u32
         ensures { result ≡ (station_entry self.now).station }
     {
         self.number
     }
 
-    /// One try to take the region of a node, with its roll-back where an ancestor is occupied.
+    /// Makes one try to take the block of a node. It rolls back if an ancestor is occupied.
     pub fn try_node(self, cube: &Cube, node: Node) -> Result<Subcube, (TreeStation, Why)>
         requires cube { IsStationOf cube.now self }
         requires node { IsInCube (cube_dim cube.now) node.0 }
@@ -61,14 +61,14 @@ impl TreeStation {
 }
 
 impl Subcube {
-    /// The region that is held.
+    /// Returns the block that is held.
     pub fn region(&self) -> Region
         ensures { result ≡ held_region self.now }
     {
         self.region
     }
 
-    /// Gives the region back.
+    /// Releases the block. Returns its station, which is idle.
     pub fn release(self, cube: &Cube) -> TreeStation
         requires { IsSubcubeOf cube.now self }
         ensures back { GivesBack cube.now (held_node self) (subcube_entry self) result }

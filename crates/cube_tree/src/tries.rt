@@ -1,4 +1,4 @@
-//! Takes of any region of a dimension.
+//! Takes of any block of a dimension.
 ghost use Rattle.std.specs.Prelude.{◌≡◌, ◌-◌, ◌^◌, ◌≤◌, IfOk, IfErr};
 ghost use Rattle.tree_steps.specs.Tree.{dim_of};
 ghost use Rattle.cube_shape.specs.Region.{IsAligned};
@@ -11,7 +11,7 @@ use crate::refusal::{Refusal, count};
 use cube_shape::{MAX_DIM, Node};
 use tree_steps::Tree;
 
-// The number of regions of dimension `k`.
+// Returns the number of blocks of dimension `k`.
 pub(crate) fn region_count(tree: &Tree, k: u32) -> u64
     requires { k ≤ dim_of tree.now }
     ensures value { result ≡ 2 ^ (dim_of tree.now - k) }
@@ -21,8 +21,10 @@ pub(crate) fn region_count(tree: &Tree, k: u32) -> u64
 }
 
 impl TreeStation {
-    /// Tries the regions of dimension `k` one after another, from the first one on, until one is
-    /// taken. For `j = n - k` it makes at most `2^j * (3 + 7 * j)` events; where each region is refused,
+    /// Tries the blocks of dimension `k` one after another, from the first one on, until one is
+    /// taken.
+    ///
+    /// For `j = n - k` the call makes at most `2^j * (3 + 7 * j)` events. If each block is refused,
     /// the three counts are those of its `2^j` tries.
     pub fn try_take(self, cube: &Cube, k: u32) -> Result<Subcube, (TreeStation, Refusal)>
         requires cube { IsStationOf cube.now self }

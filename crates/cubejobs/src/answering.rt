@@ -1,4 +1,4 @@
-//! A whole batch of jobs, answered over the line with no lock and the tree.
+//! Running a whole batch of jobs over the lock-free queue and the lock-free allocator.
 ghost use Rattle.std.specs.Prelude.{ℕ, ◌^◌, ◌<◌, [], IfOk, IfErr, ⊤, map, length, slice_index_or};
 ghost use Rattle.std.specs.List.{All};
 ghost use Rattle.job_queue.specs.Line.{IsFor};
@@ -17,18 +17,18 @@ use std::collections::VecDeque;
 use std::sync::Wait;
 use std::thread::Threads;
 
-/// Answers all jobs, the lists of the lanes from 0 on. Opens a shop of these sizes with a lane for each
-/// list. Hands in all lists at once, while all workers answer jobs by the runner on threads. Finishes the
-/// shop.
+/// Runs all jobs: the lists of the lanes, by number from 0 upwards. It opens a dispatcher of these
+/// sizes with a lane for each list. Threads submit all lists at once, while all workers run jobs by
+/// the runner. Then it finishes the dispatcher.
 ///
-/// Each job then has one right reply, under its id, and the machine is wholly free. Each job must be made
-/// for a machine of dimension `sizes.dim` and for its lane.
+/// Each job then has one right reply, under its id, and the machine is wholly free. Each job must
+/// be made for a machine of dimension `sizes.dim` and for its lane.
 ///
 /// # Errors
 ///
-/// Nothing is lost. `Refused` has the first size that is not within its limits, or `OutOfMemory`, with the
-/// jobs; `Unfinished` has what became of a run in which a thread or memory was refused, or a lane was
-/// spent.
+/// Nothing is lost. `Refused` has the jobs, and the first size that is not within its limits or
+/// `OutOfMemory`. `Unfinished` has the outcome of a run in which a thread or memory was refused, or
+/// a lane was spent.
 pub fn answer_all<R: Threads + Wait + Sync, T: Runner + Sync>(
     rt: &R,
     alloc: Global,

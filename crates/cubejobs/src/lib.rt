@@ -1,10 +1,10 @@
-//! The whole library under one name: lists of jobs in, all of their replies out. It uses the lock-free queue and the
-//! lock-free allocator.
+//! The whole dispatcher under one name: lists of jobs in, all of their replies out. It uses the
+//! lock-free queue and the lock-free allocator.
 //!
-//! `answer_all` runs a whole batch on threads. Who runs threads of their own opens a
-//! `Shop<RuledLine, TreeFloor>`, feeds it by its lanes, lets its workers dispatch, closes it and
-//! finishes it. What else a caller touches stands here too: jobs and replies, runners, totals. Lines
-//! and floors of another make are for the crates below: `shop_threads` and `dispatcher` take any.
+//! `answer_all` runs a whole batch on threads. To run your own threads, open a
+//! `Shop<RuledLine, TreeFloor>`, feed it by its lanes, let its workers dispatch, close it and
+//! finish it. The other types that a caller needs are exported here too: jobs, replies, runners and
+//! totals. For another queue or allocator use `shop_threads` and `dispatcher`, which take any.
 #![tactic(auto)]
 
 mod answering;

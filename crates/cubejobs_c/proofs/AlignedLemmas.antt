@@ -1,4 +1,4 @@
--- Where a region begins.
+-- Where a block begins.
 use Rattle.std.proofs.Common.{◌≡◌, ℕ, ◌+◌, ◌%◌, ◌^◌, ◌<◌, ◌≤◌, ◌∙◌, ap, arith}
 use Rattle.std.proofs.lemmas.Nat.{pow_pos}
 use Rattle.std.proofs.Math.Nat.{mul-mod_left}
@@ -16,5 +16,9 @@ within n r aligned =
     let some : 0 < 2 ^ r.dim = pow_pos r.dim in
     omega (arith, end, some)
 
-pub aligned : (n : ℕ) (r : Region) → r.dim ≤ n → r.base < 2 ^ n → r.base % 2 ^ r.dim ≡ 0 → IsAligned n r
+pub aligned : (n : ℕ) (r : Region)
+    → r.dim ≤ n
+    → r.base < 2 ^ n
+    → r.base % 2 ^ r.dim ≡ 0
+    → IsAligned n r
 aligned n r fits below begin = IsAligned-at n r.dim r.base fits below begin

@@ -1,4 +1,4 @@
-//! A take by whichever station holds nothing.
+//! A take by the first station that holds nothing.
 
 ghost use Rattle.std.specs.Prelude.{◌≡◌, ◌≢◌, ℕ, ◌<◌, ◌≤◌, None, IsSome};
 ghost use Rattle.cube_shape.specs.Region.{block};
@@ -11,7 +11,7 @@ use crate::machine::{Machine, StationAnswer};
 use crate::slots;
 use cube_shape::MAX_STATIONS;
 
-// The answer of a call that was refused.
+// Makes the answer of a refused call.
 fn no_station(code: u32) -> StationAnswer
     ensures code { result.code ≡ code }
     ensures nothing { (result.station ≡ 0) × (result.dim ≡ 0) × (result.base ≡ 0) }
@@ -24,11 +24,11 @@ fn no_station(code: u32) -> StationAnswer
     }
 }
 
-/// Gives the first station that holds nothing the first fit: the region `(m, k)` for the least `m` such that it is
-/// apart from every held region.
+/// Gives the first station that holds nothing the first fit: block `(m, k)` for the least `m` such
+/// that it overlaps no held block.
 ///
-/// The code is `DONE`, with the station and the region, or the first of these that is so: `BAD_DIMENSION`,
-/// `NO_STATION`, `NO_SUBCUBE`. A refusal changes nothing.
+/// The code is `DONE`, with the station and the block, or the first of these that applies:
+/// `BAD_DIMENSION`, `NO_STATION`, `NO_SUBCUBE`. A refusal changes nothing.
 #[unsafe(no_mangle)]
 pub extern "C" fn cubejobs_take_any(machine: &mut Machine, k: u32) -> StationAnswer
     requires sound { IsSound machine.old }

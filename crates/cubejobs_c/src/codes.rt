@@ -1,9 +1,9 @@
 //! The codes of the answers.
 
-/// The call was done.
+/// The call succeeded.
 pub const DONE: u32 = 0;
 
-/// No aligned region of the dimension asked is apart from every held region.
+/// No aligned block of this dimension is free, or the given block is not.
 pub const NO_SUBCUBE: u32 = 1;
 
 /// The dimension is larger than that of the machine, or that of any machine.
@@ -12,20 +12,21 @@ pub const BAD_DIMENSION: u32 = 2;
 /// The station's number is not below `MAX_STATIONS`.
 pub const BAD_STATION: u32 = 3;
 
-/// The station holds a region, and a station holds one at most.
+/// The station holds a block already. It holds at most one.
 pub const STATION_HOLDS: u32 = 4;
 
-/// The station holds no region, or a processor of the region is held by nobody.
+/// The station holds no block, or a processor of the block is free.
 pub const NOTHING_HELD: u32 = 5;
 
-/// No aligned region of the dimension begins at this processor.
+/// No aligned block of the dimension begins at this processor.
 pub const BAD_BASE: u32 = 6;
 
-/// The caller's header has a machine of another size than this library.
+/// The machine of the caller's header has another size than this library's, or there are too few
+/// bytes.
 pub const BAD_SIZE: u32 = 7;
 
-/// Every station holds a region.
+/// Every station holds a block.
 pub const NO_STATION: u32 = 8;
 
-/// A byte that should say whether a processor is held is neither 0 nor 1.
+/// A byte is neither 0 nor 1.
 pub const BAD_BITS: u32 = 9;

@@ -15,7 +15,7 @@ use crate::slots;
 use cube_shape::{MAX_DIM, MAX_STATIONS, Region};
 use region_bits::{clear_all, clear_region, first_fit, set_region};
 
-// The answer of a call that was done with a region.
+// Makes the answer of a successful call with a block.
 pub(crate) fn done(region: Region) -> Answer
     ensures code { result.code ≡ DONE }
     ensures region { region_of result ≡ region }
@@ -27,7 +27,7 @@ pub(crate) fn done(region: Region) -> Answer
     }
 }
 
-// The answer of a call that was refused.
+// Makes the answer of a refused call.
 pub(crate) fn refused(code: u32) -> Answer
     ensures code { result.code ≡ code }
     ensures no_region { (result.base ≡ 0) × (result.dim ≡ 0) }
@@ -39,8 +39,8 @@ pub(crate) fn refused(code: u32) -> Answer
     }
 }
 
-/// A machine of zeros is one of dimension 0 whose stations hold nothing, and is sound: so memory of zeros need not be
-/// opened before it is passed to any other call. This is a law, and does nothing.
+/// States that a machine of zeros is sound: it has dimension 0, and its stations hold nothing. So
+/// memory of zeros may be passed to any call without being opened. This is a law, and does nothing.
 pub fn zeros_are_sound(machine: &Machine)
     requires dim { machine.now.dim ≡ 0 }
     requires bits { (p : ℕ) → bit_of machine.now.bits p ≡ false }
@@ -48,10 +48,12 @@ pub fn zeros_are_sound(machine: &Machine)
     ensures { IsSound machine.now }
 {}
 
-/// Makes the machine one of dimension `n` whose stations hold nothing, whatever it was before. The caller's header
-/// has a machine of this many bytes; where this library's has another size, nothing is written.
+/// Makes the machine one of dimension `n` whose stations hold nothing, whatever it contained.
+/// `size` is the number of bytes of a machine in the caller's header. If this library's machine has
+/// another size, nothing is written.
 ///
-/// The code is `DONE`, or the first of these that is so: `BAD_SIZE`, `BAD_DIMENSION` where `n` is past `MAX_DIM`.
+/// The code is `DONE`, or the first of these that applies: `BAD_SIZE`, `BAD_DIMENSION` if `n` is
+/// above `MAX_DIM`.
 #[unsafe(no_mangle)]
 pub extern "C" fn cubejobs_open_sized(machine: &mut Machine, size: u64, n: u32) -> u32
     ensures bad_size { size ≢ MACHINE_BYTES → result ≡ BAD_SIZE }
@@ -74,10 +76,10 @@ pub extern "C" fn cubejobs_open_sized(machine: &mut Machine, size: u64, n: u32) 
     DONE
 }
 
-/// Gives a station that holds nothing the first fit: the region `(m, k)` for the least `m` such
-/// that it is apart from every held region.
+/// Gives a station that holds nothing the first fit: block `(m, k)` for the least `m` such that it
+/// overlaps no held block.
 ///
-/// The code is `DONE`, with the region, or the first of these that is so: `BAD_STATION`,
+/// The code is `DONE`, with the block, or the first of these that applies: `BAD_STATION`,
 /// `BAD_DIMENSION`, `STATION_HOLDS`, `NO_SUBCUBE`. A refusal changes nothing.
 #[unsafe(no_mangle)]
 pub extern "C" fn cubejobs_take(machine: &mut Machine, station: u32, k: u32) -> Answer
@@ -117,9 +119,9 @@ pub extern "C" fn cubejobs_take(machine: &mut Machine, station: u32, k: u32) -> 
     done(region)
 }
 
-/// Takes the region of a station away from it.
+/// Releases the block of a station.
 ///
-/// The code is `DONE`, with the region, or the first of these that is so: `BAD_STATION`,
+/// The code is `DONE`, with the block, or the first of these that applies: `BAD_STATION`,
 /// `NOTHING_HELD`. A refusal changes nothing.
 #[unsafe(no_mangle)]
 pub extern "C" fn cubejobs_release(machine: &mut Machine, station: u32) -> Answer
@@ -146,9 +148,9 @@ pub extern "C" fn cubejobs_release(machine: &mut Machine, station: u32) -> Answe
     done(region)
 }
 
-/// The station whose region has a processor, if there is one.
+/// Returns the station whose block has the processor, if there is one.
 ///
-/// A number past the processors of the machine is in no region.
+/// A number that is no processor of the machine is in no block.
 #[unsafe(no_mangle)]
 pub extern "C" fn cubejobs_holder(machine: &Machine, processor: u64) -> Holder
     requires sound { IsSound machine.now }
@@ -170,7 +172,7 @@ pub extern "C" fn cubejobs_holder(machine: &Machine, processor: u64) -> Holder
     }
 }
 
-/// Whether no station holds a region.
+/// Returns whether no station holds a block.
 #[unsafe(no_mangle)]
 pub extern "C" fn cubejobs_is_wholly_free(machine: &Machine) -> bool
     ensures { IsTrue result ↔ ((s : ℕ) → held_in machine.now s ≡ None) }

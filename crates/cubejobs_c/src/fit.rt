@@ -1,4 +1,5 @@
-//! First fit over the caller's own bits, one `bool` for each processor: any number of regions, and no stations.
+//! First fit over the caller's own bits, one `bool` for each processor: any number of blocks, and
+//! no stations.
 
 ghost use Rattle.std.specs.Prelude.{◌≡◌, ◌≢◌, ℕ, ◌-◌, ◌^◌, ◌<◌, ◌≤◌, length, true};
 ghost use Rattle.cube_shape.specs.Region.{block};
@@ -10,8 +11,8 @@ use crate::exports::{done, refused};
 use crate::machine::Answer;
 use region_bits::{MAX_BITS_DIM, first_clear, write};
 
-// `DONE` where `count` bits are enough for a machine of dimension `n`, and it has regions of dimension `k`; otherwise
-// what is wrong: `BAD_DIMENSION` before `BAD_SIZE`.
+// Returns `DONE` if `count` bits are enough for a machine of dimension `n`, and it has blocks of
+// dimension `k`. Otherwise returns the fault, `BAD_DIMENSION` before `BAD_SIZE`.
 pub(crate) fn fault_of(count: usize, n: u32, k: u32) -> u32
     ensures machine { MAX_BITS_DIM < n → result ≡ BAD_DIMENSION }
     ensures dimension { n < k → result ≡ BAD_DIMENSION }
@@ -28,10 +29,13 @@ pub(crate) fn fault_of(count: usize, n: u32, k: u32) -> u32
     DONE
 }
 
-/// Takes the first fit: the region `(m, k)` for the least `m` such that no bit of it is set. Sets its bits.
+/// Takes the first fit, block `(m, k)` for the least `m` such that all of its bits are clear, and
+/// sets its bits.
 ///
-/// The code is `DONE`, with the region, or the first of these that is so: `BAD_DIMENSION` where `n` is past
-/// `MAX_BITS_DIM` or `k` is past `n`, `BAD_SIZE` where there are less than `2^n` bits, `NO_SUBCUBE`.
+/// The code is `DONE`, with the block, or the first of these that applies:
+/// - `BAD_DIMENSION` if `n` is above `MAX_BITS_DIM` or `k` above `n`;
+/// - `BAD_SIZE` if there are less than `2^n` bits;
+/// - `NO_SUBCUBE`.
 #[unsafe(no_mangle)]
 pub extern "C" fn cubejobs_bits_take(bits: &mut [bool], n: u32, k: u32) -> Answer
     ensures bad_machine { MAX_BITS_DIM < n → result.code ≡ BAD_DIMENSION }

@@ -1,4 +1,4 @@
-//! Questions on the caller's own bits: they change nothing.
+//! Questions about the caller's own bits. They change nothing.
 
 ghost use Rattle.std.specs.Prelude.{◌≡◌, ◌≢◌, ℕ, ◌-◌, ◌^◌, ◌<◌, ◌≤◌, ◌↔◌, length, true, false, IsTrue};
 ghost use Rattle.cube_shape.specs.Region.{IsAligned, block};
@@ -15,9 +15,9 @@ use crate::regions::begins_at;
 use cube_shape::Region;
 use region_bits::{MAX_BITS_DIM, count_clear, is_clear, largest_clear};
 
-/// Returns whether a region of dimension `k` begins at this processor and no bit of it is set.
+/// Returns whether a block of dimension `k` begins at this processor and all of its bits are clear.
 ///
-/// There is none where `n` is past `MAX_BITS_DIM` or there are less than `2^n` bits.
+/// It is false if `n` is above `MAX_BITS_DIM`, or if there are less than `2^n` bits.
 #[unsafe(no_mangle)]
 pub extern "C" fn cubejobs_bits_is_free(bits: &[bool], n: u32, base: u64, k: u32) -> bool
     ensures { IsTrue result ↔ (HasBits n bits.now × IsAligned n (region_from base k)
@@ -30,9 +30,10 @@ pub extern "C" fn cubejobs_bits_is_free(bits: &[bool], n: u32, base: u64, k: u32
     begins_at(n, region) && is_clear(bits, n, region)
 }
 
-/// Returns how many regions of dimension `k` are free: no bit of them is set.
+/// Returns how many aligned blocks of dimension `k` have no bit set.
 ///
-/// There is none where `n` is past `MAX_BITS_DIM`, `k` is past `n` or there are less than `2^n` bits.
+/// It is 0 if `n` is above `MAX_BITS_DIM`, if `k` is above `n`, or if there are less than `2^n`
+/// bits.
 #[unsafe(no_mangle)]
 pub extern "C" fn cubejobs_bits_free_regions(bits: &[bool], n: u32, k: u32) -> u64
     ensures counted { HasBits n bits.now → k ≤ n
@@ -45,10 +46,12 @@ pub extern "C" fn cubejobs_bits_free_regions(bits: &[bool], n: u32, k: u32) -> u
     count_clear(bits, n, k)
 }
 
-/// Returns the first region of the largest dimension of which a region is free.
+/// Returns the first block among the free ones of the largest dimension.
 ///
-/// The code is `DONE`, with the region, or the first of these that is so: `BAD_DIMENSION` where `n` is past
-/// `MAX_BITS_DIM`, `BAD_SIZE` where there are less than `2^n` bits, `NO_SUBCUBE` where each processor is held.
+/// The code is `DONE`, with the block, or the first of these that applies:
+/// - `BAD_DIMENSION` if `n` is above `MAX_BITS_DIM`;
+/// - `BAD_SIZE` if there are less than `2^n` bits;
+/// - `NO_SUBCUBE` if each processor is held.
 #[unsafe(no_mangle)]
 pub extern "C" fn cubejobs_bits_largest(bits: &[bool], n: u32) -> Answer
     ensures bad_machine { MAX_BITS_DIM < n → result.code ≡ BAD_DIMENSION }

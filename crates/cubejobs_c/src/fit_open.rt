@@ -1,4 +1,4 @@
-//! What comes before the first take over the caller's own bits: how many bytes they are, and whether bytes are bits.
+//! Preparing the caller's own bits: how many bytes they need, opening them, and checking them.
 
 ghost use Rattle.std.specs.Prelude.{◌≡◌, ◌≢◌, ℕ, ◌^◌, ◌<◌, ◌≤◌, ◌↔◌, length, slice_index_or, IsTrue};
 
@@ -6,7 +6,8 @@ use crate::codes::{BAD_BITS, BAD_DIMENSION, BAD_SIZE, DONE};
 use crate::fit::fault_of;
 use region_bits::MAX_BITS_DIM;
 
-/// Returns how many bytes the bits of a machine of dimension `n` are, or 0 where `n` is past `MAX_BITS_DIM`.
+/// Returns how many bytes the bits of a machine of dimension `n` need, or 0 if `n` is above
+/// `MAX_BITS_DIM`.
 #[unsafe(no_mangle)]
 pub extern "C" fn cubejobs_fit_bytes(n: u32) -> u64
     ensures bytes { n ≤ MAX_BITS_DIM → result ≡ 2 ^ n }
@@ -18,11 +19,12 @@ pub extern "C" fn cubejobs_fit_bytes(n: u32) -> u64
     1 << n
 }
 
-/// Makes the first `2^n` bytes, whatever they were, the bits of a machine of which no processor is held. No other
-/// byte changes.
+/// Clears the first `2^n` bytes, whatever they were: a machine whose processors are all free. No
+/// other byte changes.
 ///
-/// Answers `DONE`, or the first of these that is so: `BAD_DIMENSION` where `n` is past `MAX_BITS_DIM`, `BAD_SIZE`
-/// where there are less than `2^n` bytes.
+/// Returns `DONE`, or the first of these that applies:
+/// - `BAD_DIMENSION` if `n` is above `MAX_BITS_DIM`;
+/// - `BAD_SIZE` if there are less than `2^n` bytes.
 #[unsafe(no_mangle)]
 pub extern "C" fn cubejobs_bits_open(bytes: &mut [u8], n: u32) -> u32
     ensures bad_machine { MAX_BITS_DIM < n → result ≡ BAD_DIMENSION }
@@ -42,10 +44,12 @@ pub extern "C" fn cubejobs_bits_open(bytes: &mut [u8], n: u32) -> u32
     DONE
 }
 
-/// Returns whether each of the first `2^n` bytes is 0 or 1, as a bit is.
+/// Checks that each of the first `2^n` bytes is a bit, 0 or 1.
 ///
-/// Answers `DONE`, or the first of these that is so: `BAD_DIMENSION` where `n` is past `MAX_BITS_DIM`, `BAD_SIZE`
-/// where there are less than `2^n` bytes, `BAD_BITS`.
+/// Returns `DONE` if so, or the first of these that applies:
+/// - `BAD_DIMENSION` if `n` is above `MAX_BITS_DIM`;
+/// - `BAD_SIZE` if there are less than `2^n` bytes;
+/// - `BAD_BITS`.
 #[unsafe(no_mangle)]
 pub extern "C" fn cubejobs_bits_check(bytes: &[u8], n: u32) -> u32
     ensures bad_machine { MAX_BITS_DIM < n → result ≡ BAD_DIMENSION }
@@ -65,7 +69,7 @@ pub extern "C" fn cubejobs_bits_check(bytes: &[u8], n: u32) -> u32
     DONE
 }
 
-// Whether each of these bytes is 0 or 1.
+// Returns whether each of these bytes is 0 or 1.
 fn are_bits(bytes: &[u8]) -> bool
     ensures { IsTrue result ↔ ((p : ℕ) → p < length bytes.now → slice_index_or bytes.now p 0 ≤ 1) }
 {

@@ -1,4 +1,4 @@
-//! Takes and releases of a given region of the caller's own bits.
+//! Takes and releases of a given block in the caller's own bits.
 
 ghost use Rattle.std.specs.Prelude.{◌≡◌, ◌≢◌, ◌-◌, ◌^◌, ◌<◌, ◌≤◌, length, true, false};
 ghost use Rattle.cube_shape.specs.Region.{IsAligned};
@@ -13,10 +13,12 @@ use crate::regions::begins_at;
 use cube_shape::Region;
 use region_bits::{MAX_BITS_DIM, is_clear, is_set, write};
 
-/// Takes the region of dimension `k` that begins at this processor. Sets its bits.
+/// Takes the block of dimension `k` that begins at this processor, and sets its bits.
 ///
-/// The code is `DONE`, with the region, or the first of these that is so: `BAD_DIMENSION` and `BAD_SIZE` as in
-/// `cubejobs_bits_take`, `BAD_BASE`, `NO_SUBCUBE` where a bit of it is set.
+/// The code is `DONE`, with the block, or the first of these that applies:
+/// - `BAD_DIMENSION` or `BAD_SIZE`, as in `cubejobs_bits_take`;
+/// - `BAD_BASE`;
+/// - `NO_SUBCUBE` if one of its bits is set.
 #[unsafe(no_mangle)]
 pub extern "C" fn cubejobs_bits_take_region(bits: &mut [bool], n: u32, base: u64, k: u32) -> Answer
     ensures bad_machine { MAX_BITS_DIM < n → result.code ≡ BAD_DIMENSION }
@@ -49,10 +51,13 @@ pub extern "C" fn cubejobs_bits_take_region(bits: &mut [bool], n: u32, base: u64
     done(region)
 }
 
-/// Gives the region of dimension `k` that begins at this processor back. Clears its bits.
+/// Releases the block of dimension `k` that begins at this processor, and clears its bits. The bits
+/// do not say which caller holds it.
 ///
-/// Answers `DONE`, or the first of these that is so: `BAD_DIMENSION` and `BAD_SIZE` as in `cubejobs_bits_take`,
-/// `BAD_BASE`, `NOTHING_HELD` where a bit of it is clear.
+/// Returns `DONE`, or the first of these that applies:
+/// - `BAD_DIMENSION` or `BAD_SIZE`, as in `cubejobs_bits_take`;
+/// - `BAD_BASE`;
+/// - `NOTHING_HELD` if one of its bits is clear.
 #[unsafe(no_mangle)]
 pub extern "C" fn cubejobs_bits_release(bits: &mut [bool], n: u32, base: u64, k: u32) -> u32
     ensures bad_machine { MAX_BITS_DIM < n → result ≡ BAD_DIMENSION }

@@ -1,9 +1,9 @@
-//! The exact block allocator for callers in C and Rust: first fit over aligned power-of-two blocks, as a static
-//! library that takes no memory.
+//! The exact block allocator for callers in C and Rust: first fit over aligned power-of-two blocks,
+//! as a static library that allocates no memory.
 //!
 //! The caller keeps the machine, one struct of a fixed size, and passes it to each call. A bad
-//! argument is answered by a code. `include/cubejobs.h` declares these functions for C and C++, and
-//! the package `rust/` wraps them for Rust.
+//! argument gives a code. `include/cubejobs.h` declares these functions for C and C++, and the
+//! package `rust/` wraps them for Rust.
 #![tactic(auto)]
 
 mod any_station;

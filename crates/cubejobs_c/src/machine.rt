@@ -1,18 +1,18 @@
-//! What crosses to the caller: the machine, and the answers.
+//! The structs that callers in C see: the machine, and the answers.
 
 /// What one station holds.
 #[repr(C)]
 #[derive(Clone, Copy, Debug)]
 pub struct Slot {
-    /// The least processor of its region, if it holds one.
+    /// The first processor of its block, if it holds one.
     pub base: u64,
-    /// The region's dimension, if it holds one.
+    /// The dimension of its block, if it holds one.
     pub dim: u32,
-    /// Whether it holds a region.
+    /// Whether it holds a block.
     pub held: bool,
 }
 
-/// The bytes of a machine.
+/// The size of a machine in bytes.
 pub const MACHINE_BYTES: u64 = 4872;
 
 /// A machine of at most `2^MAX_DIM` processors, in memory that the caller keeps.
@@ -33,17 +33,17 @@ pub struct Machine {
 pub struct Answer {
     /// `DONE`, or why the call was refused.
     pub code: u32,
-    /// The region's dimension where the call was done, and otherwise 0.
+    /// The block's dimension if the call succeeded, else 0.
     pub dim: u32,
-    /// The region's least processor where the call was done, and otherwise 0.
+    /// The block's first processor if the call succeeded, else 0.
     pub base: u64,
 }
 
-/// The answer to the question who holds a processor.
+/// The answer of `cubejobs_holder`.
 #[repr(C)]
 #[derive(Clone, Copy, Debug)]
 pub struct Holder {
-    /// The station, if there is one, and otherwise 0.
+    /// The station, if there is one, else 0.
     pub station: u32,
     /// Whether a station holds the processor.
     pub found: bool,
@@ -55,10 +55,10 @@ pub struct Holder {
 pub struct StationAnswer {
     /// `DONE`, or why the call was refused.
     pub code: u32,
-    /// The station that was given the region where the call was done, and otherwise 0.
+    /// The station that got the block if the call succeeded, else 0.
     pub station: u32,
-    /// The region's dimension where the call was done, and otherwise 0.
+    /// The block's dimension if the call succeeded, else 0.
     pub dim: u32,
-    /// The region's least processor where the call was done, and otherwise 0.
+    /// The block's first processor if the call succeeded, else 0.
     pub base: u64,
 }

@@ -1,4 +1,4 @@
-//! The functions of the library that speak of a given region, and of how many are free.
+//! The functions of the library for a given block, and for how many blocks are free.
 
 ghost use Rattle.std.specs.Prelude.{◌≡◌, ◌≢◌, ◌-◌, ◌^◌, ◌<◌, ◌≤◌, ◌↔◌, None, Some, IsTrue, IsSome};
 ghost use Rattle.cube_shape.specs.Region.{IsAligned, block};
@@ -15,7 +15,8 @@ use crate::slots;
 use cube_shape::{MAX_STATIONS, Region};
 use region_bits::{MAX_BITS_DIM, count_free, is_free, set_region};
 
-// Whether a region of a dimension within the machine's is aligned: it begins at a multiple of its size, in the machine.
+// Returns whether a block is aligned: it begins in the machine, at a multiple of its size. Its
+// dimension is within the machine's.
 pub(crate) fn begins_at(n: u32, region: Region) -> bool
     requires machine { n ≤ MAX_BITS_DIM }
     requires dim { region.dim ≤ n }
@@ -30,10 +31,11 @@ pub(crate) fn begins_at(n: u32, region: Region) -> bool
     true
 }
 
-/// Gives a station that holds nothing the region of dimension `k` that begins at this processor.
+/// Gives a station that holds nothing the block of dimension `k` that begins at this processor.
 ///
-/// The code is `DONE`, with the region, or the first of these that is so: `BAD_STATION`, `BAD_DIMENSION`,
-/// `BAD_BASE`, `STATION_HOLDS`, `NO_SUBCUBE` where a held region is not apart from it. A refusal changes nothing.
+/// The code is `DONE`, with the block, or the first of these that applies: `BAD_STATION`,
+/// `BAD_DIMENSION`, `BAD_BASE`, `STATION_HOLDS`, `NO_SUBCUBE` if a held block overlaps it. A
+/// refusal changes nothing.
 #[unsafe(no_mangle)]
 pub extern "C" fn cubejobs_take_region(
     machine: &mut Machine,
@@ -85,9 +87,10 @@ pub extern "C" fn cubejobs_take_region(
     done(region)
 }
 
-/// The region that a station holds.
+/// Returns the block that a station holds.
 ///
-/// The code is `DONE`, with the region, or the first of these that is so: `BAD_STATION`, `NOTHING_HELD`.
+/// The code is `DONE`, with the block, or the first of these that applies: `BAD_STATION`,
+/// `NOTHING_HELD`.
 #[unsafe(no_mangle)]
 pub extern "C" fn cubejobs_region(machine: &Machine, station: u32) -> Answer
     ensures bad_station { MAX_STATIONS ≤ station → result.code ≡ BAD_STATION }
@@ -107,8 +110,8 @@ pub extern "C" fn cubejobs_region(machine: &Machine, station: u32) -> Answer
     }
 }
 
-/// How many regions of dimension `k` are free: apart from every held region. There is none of a dimension
-/// past the machine's.
+/// Returns how many aligned blocks of dimension `k` overlap no held block. There is none of a
+/// dimension above the machine's.
 #[unsafe(no_mangle)]
 pub extern "C" fn cubejobs_free_regions(machine: &Machine, k: u32) -> u64
     requires sound { IsSound machine.now }

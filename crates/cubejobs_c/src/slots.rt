@@ -1,4 +1,4 @@
-//! The regions of the stations: a slot for each station, by its number.
+//! What each station holds: one slot for each station, by its number.
 
 ghost use Rattle.std.specs.Prelude.{◌≡◌, ◌≢◌, ℕ, ◌^◌, ◌<◌, ◌≤◌, ◌↔◌, None, Some, length, IsTrue, IsSome, IfNone, IfSome};
 ghost use Rattle.cube_shape.specs.declared.region.Region.{Region as HeldRegion};
@@ -10,7 +10,7 @@ use cube_shape::Region;
 use region_bits::MAX_BITS_DIM;
 
 impl Slot {
-    // The slot of a station that holds this region, or nothing.
+    // Makes the slot of a station that holds this block, or nothing.
     pub(crate) fn new(region: Option<Region>) -> Self
         ensures { region_in result ≡ region }
     {
@@ -28,7 +28,7 @@ impl Slot {
         }
     }
 
-    // The region, if there is one.
+    // Returns the block, if there is one.
     pub(crate) fn region(self) -> Option<Region>
         ensures { result ≡ region_in self }
     {
@@ -43,7 +43,7 @@ impl Slot {
     }
 }
 
-/// The region that a station holds, if it holds one.
+/// Returns the block that a station holds, if it holds one.
 pub(crate) fn region_at(slots: &[Slot], station: u32) -> Option<Region>
     requires { station < length slots.now }
     ensures { result ≡ holdings slots.now station }
@@ -51,7 +51,7 @@ pub(crate) fn region_at(slots: &[Slot], station: u32) -> Option<Region>
     slots[station as usize].region()
 }
 
-/// Gives a station a region, or takes its region away.
+/// Gives a station a block, or takes its block away.
 pub(crate) fn set_slot(slots: &mut [Slot], station: u32, region: Option<Region>)
     requires { station < length slots.old }
     ensures len { length slots.new ≡ length slots.old }
@@ -61,7 +61,7 @@ pub(crate) fn set_slot(slots: &mut [Slot], station: u32, region: Option<Region>)
     slots[station as usize] = Slot::new(region);
 }
 
-/// Takes the regions of all stations away.
+/// Takes the blocks of all stations away.
 #[tactic(auto, using(std::proofs::lemmas::List::get_or_past))]
 pub(crate) fn clear_slots(slots: &mut [Slot])
     ensures len { length slots.new ≡ length slots.old }
@@ -70,7 +70,7 @@ pub(crate) fn clear_slots(slots: &mut [Slot])
     slots.fill(Slot::new(None));
 }
 
-/// Whether no station holds a region.
+/// Returns whether no station holds a block.
 #[tactic(auto, using(std::proofs::lemmas::List::get_or_past))]
 pub(crate) fn all_empty(slots: &[Slot]) -> bool
     ensures { IsTrue result ↔ ((s : ℕ) → holdings slots.now s ≡ None) }
@@ -78,7 +78,7 @@ pub(crate) fn all_empty(slots: &[Slot]) -> bool
     slots.iter().all(|slot| !slot.held)
 }
 
-/// Returns the first station that holds no region, if there is one.
+/// Returns the first station that holds no block, if there is one.
 pub(crate) fn first_idle(slots: &[Slot]) -> Option<u32>
     requires { length slots.now < 2 ^ 32 }
     ensures idle { IfSome result (λ s. (s < length slots.now) × (holdings slots.now s ≡ None)) }
@@ -93,7 +93,7 @@ pub(crate) fn first_idle(slots: &[Slot]) -> Option<u32>
     None
 }
 
-/// The station whose region has a processor, the first if there are several.
+/// Returns the station whose block has the processor, the first if there are several.
 pub(crate) fn holder_of(slots: &[Slot], processor: u64) -> Option<u32>
     requires count { length slots.now < 2 ^ 32 }
     requires limits { (s : ℕ) (a : HeldRegion) → holdings slots.now s ≡ Some a → a.dim ≤ MAX_BITS_DIM }
@@ -112,7 +112,7 @@ pub(crate) fn holder_of(slots: &[Slot], processor: u64) -> Option<u32>
     None
 }
 
-// Whether a region has a processor.
+// Returns whether a block has the processor.
 fn covers(region: Region, processor: u64) -> bool
     requires { region.dim ≤ MAX_BITS_DIM }
     ensures { IsTrue result ↔ Covers region processor }

@@ -11,20 +11,25 @@ use Rattle.cubejobs_tree.specs.Ownership.{cube_of}
 use Rattle.cubejobs_tree.specs.Ends.{machine_cube, seated, station_count, Closes, Looks, LooksTwice, NotClosed}
 use Rattle.cubejobs_tree.specs.InnerEnds.{FindsMissing}
 
--- the cube and the reader of a machine after one load, which found no station missing
-pub record IsLeft (before between : Machine) (cube : Cube) (reader : RetirementReader) : Type 0 where
+-- The tree and the reader of a machine after one load, which found no station missing.
+pub record IsLeft (before between : Machine) (cube : Cube)
+    (reader : RetirementReader) : Type 0 where
   pub looks : Looks before between 0
   pub cube_is : cube ≡ machine_cube between
   pub reader_is : reader ≡ between.reader
 
-module _ (before between : Machine) (cube : Cube) (reader : RetirementReader) (left : IsLeft before between cube reader) where
+module _ (before between : Machine) (cube : Cube) (reader : RetirementReader)
+    (left : IsLeft before between cube reader) where
   same_cube : cube ≡ machine_cube before
   same_cube = left.cube_is ∙ ap cube_of left.looks.same
 
   same_loads : reader_loads reader ≡ left.looks.roll ∷ reader_loads before.reader
   same_loads = ap reader_loads left.reader_is ∙ left.looks.loads
 
-  closes : (free : FreeMachine) → IsWhollyFree (cube_dim cube) free → ClosedByRoll (cube_size cube).stations (reader_loads reader) free → Closes before free
+  closes : (free : FreeMachine)
+      → IsWhollyFree (cube_dim cube) free
+      → ClosedByRoll (cube_size cube).stations (reader_loads reader) free
+      → Closes before free
   closes free wholly roll = record {
     free = subst (λ (c : Cube). IsWhollyFree (cube_dim c) free) same_cube wholly;
     more = left.looks.roll ∷ [];
@@ -37,11 +42,17 @@ module _ (before between : Machine) (cube : Cube) (reader : RetirementReader) (l
       same_seated : seated between ≡ seated before
       same_seated = ap (λ share. (cube_size (cube_of share)).stations - length between.stations.items) left.looks.same ∙ ap (λ q. station_count before - length q.items) left.looks.list
 
-  pub closed_later : (r : Result FreeMachine (Machine × ℕ)) → IfOk r (IsWhollyFree (cube_dim cube)) → IfOk r (ClosedByRoll (cube_size cube).stations (reader_loads reader)) → IfOk r (Closes before)
+  pub closed_later : (r : Result FreeMachine (Machine × ℕ))
+      → IfOk r (IsWhollyFree (cube_dim cube))
+      → IfOk r (ClosedByRoll (cube_size cube).stations (reader_loads reader))
+      → IfOk r (Closes before)
   closed_later (Ok free) wholly roll = closes free wholly roll
   closed_later (Err out) wholly roll = tt
 
-  twice : (after : Machine) (missing : ℕ) → FindsMissing cube reader after missing → after.room ≡ before.room → LooksTwice before after missing
+  twice : (after : Machine) (missing : ℕ)
+      → FindsMissing cube reader after missing
+      → after.room ≡ before.room
+      → LooksTwice before after missing
   twice after missing finds room = record {
     same = finds.same ∙ same_cube;
     none_waits = finds.none_waits;
@@ -54,16 +65,26 @@ module _ (before between : Machine) (cube : Cube) (reader : RetirementReader) (l
     some = finds.some;
   }
 
-  pub open_later : (r : Result FreeMachine (Machine × ℕ)) → IfErr r (λ out. FindsMissing cube reader out.0 out.1) → IfErr r (λ out. out.0.room ≡ before.room) → IfErr r (λ out. NotClosed before out.0 out.1)
+  pub open_later : (r : Result FreeMachine (Machine × ℕ))
+      → IfErr r (λ out. FindsMissing cube reader out.0 out.1)
+      → IfErr r (λ out. out.0.room ≡ before.room)
+      → IfErr r (λ out. NotClosed before out.0 out.1)
   open_later (Ok free) finds room = tt
   open_later (Err out) finds room = inr (twice out.0 out.1 finds room)
 
--- where a station is missing, nothing is said of who shares the cube
-pub some_missing : (P : Type 0) (cube : Cube) (reader : RetirementReader) (r : Result FreeMachine (Machine × ℕ)) → IfErr r (λ out. FindsMissing cube reader out.0 out.1) → IfErr r (λ out. out.1 ≡ 0 → P)
+-- If a station is missing, nothing is said about other owners of the tree.
+pub some_missing : (P : Type 0) (cube : Cube) (reader : RetirementReader)
+    (r : Result FreeMachine (Machine × ℕ))
+    → IfErr r (λ out. FindsMissing cube reader out.0 out.1)
+    → IfErr r (λ out. out.1 ≡ 0 → P)
 some_missing P cube reader (Ok free) finds = tt
 some_missing P cube reader (Err out) finds = λ none. absurd (finds.some none)
 
--- the room of the machine that comes back is that of the machine before
-pub room_later : {Room : Type 0} (room : Machine → Room) (r : Result FreeMachine (Machine × ℕ)) (between before : Room) → IfErr r (λ out. room out.0 ≡ between) → between ≡ before → IfErr r (λ out. room out.0 ≡ before)
+-- The machine that comes back has the words of the machine before.
+pub room_later : {Room : Type 0} (room : Machine → Room) (r : Result FreeMachine (Machine × ℕ))
+    (between before : Room)
+    → IfErr r (λ out. room out.0 ≡ between)
+    → between ≡ before
+    → IfErr r (λ out. room out.0 ≡ before)
 room_later room (Ok free) between before same as_before = tt
 room_later room (Err out) between before same as_before = same ∙ as_before

@@ -1,4 +1,4 @@
--- What stands behind a handle may go to another thread.
+-- The content of a handle may go to another thread.
 use denote.RattleType.{RattleType}
 use denote.Param.Send.{IsSend, IsSync, sendable, part_keyless}
 use denote.Builtin.{unit}
@@ -15,7 +15,7 @@ use Rattle.std.proofs.Crossing.{crosses}
 use Rattle.cubejobs_tree.specs.contracts.state.State as content
 use Rattle.cubejobs_tree.specs.contracts.station.Idle as idle
 
--- a seat that is only looked at
+-- A seat that is only looked at.
 seat_sync : (S V : RattleType) → IsSend S → IsSync (seat.the_row S V)
 seat_sync S V s = record { shared = λ d b o ν q. part_keyless (seat.the_row S V) (seat_sent.the_send S V s) q d b o }
 

@@ -1,4 +1,4 @@
--- Two stations of one machine hold regions that are apart.
+-- Two stations of one machine hold blocks that are apart.
 use Rattle.std.specs.Prelude.{◌≡◌, Option, Some}
 use Rattle.std.specs.Arc.{arc_value}
 use Rattle.cube_shape.specs.Region.{AreApart}
@@ -7,13 +7,13 @@ use Rattle.cubejobs_tree.specs.declared.state.State.{State}
 use Rattle.cubejobs_tree.specs.declared.state.State.TheVariants as state
 use Rattle.cubejobs_tree.specs.declared.station.Holding.{Holding}
 
--- whatever the two hold, they hold it on one machine
+-- If the stations of both handles hold blocks, they hold them on one machine.
 abbrev pub AreOnOneMachine : Option State → Option State → Type 0
 AreOnOneMachine one other =
     (a b : Holding) → one ≡ Some (state.Holding a) → other ≡ Some (state.Holding b)
     → arc_value a.cube ≡ arc_value b.cube
 
--- both hold, as before, and the regions are apart
+-- Both stations hold blocks, as before, and these are apart.
 pub record HoldApart (one other one_after other_after : Option State) : Type 0 where
   pub a : Holding
   pub b : Holding

@@ -13,41 +13,47 @@ use Rattle.cubejobs_tree.specs.declared.machine.Machine.{Machine}
 use Rattle.cubejobs_tree.specs.declared.station.Idle.{Idle}
 use Rattle.cubejobs_tree.specs.Ownership.{cube_of}
 
--- why a call that wants an open machine is refused at once, or DONE
+-- Why a call that needs an open machine is refused at once, by the content of the handle, or
+-- `DONE`.
 abbrev pub refusal_of_machine_call : Option State → ℕ
 refusal_of_machine_call None = NOT_OPEN
 refusal_of_machine_call (Some (state.Machine (Some machine))) = DONE
 refusal_of_machine_call (Some other) = OTHER_KIND
 
--- and why one that wants a closed machine is
+-- Why a call that needs a closed machine is refused at once, by the content of the handle, or
+-- `DONE`.
 abbrev pub refusal_of_free : Option State → ℕ
 refusal_of_free None = NOT_OPEN
 refusal_of_free (Some (state.Closed free)) = DONE
 refusal_of_free (Some other) = OTHER_KIND
 
--- an open machine that has this property
+-- The content is an open machine that has this property.
 abbrev pub OnMachine : (Machine → Type 0) → Option State → Type 0
 OnMachine P (Some (state.Machine (Some machine))) = P machine
 OnMachine P other = ⊥
 
--- its cube, and its dimension
+-- The tree of a machine.
 abbrev pub machine_cube : Machine → Cube
 machine_cube machine = cube_of machine.cube
 
+-- The dimension of a machine.
 abbrev pub dim_of_machine : Machine → ℕ
 dim_of_machine machine = cube_dim (machine_cube machine)
 
--- the number of a machine's stations, of those that have no handle, and of those that got one
+-- The number of a machine's stations.
 abbrev pub station_count : Machine → ℕ
 station_count machine = (cube_size (machine_cube machine)).stations
 
+-- The number of stations that have no handle yet (they wait).
 abbrev pub waiting : Machine → ℕ
 waiting machine = length machine.stations.items
 
+-- The number of stations that got a handle (they are seated).
 abbrev pub seated : Machine → ℕ
 seated machine = station_count machine - waiting machine
 
--- a machine of this size; no station has a handle, and all wait: each idle, with the numbers from 0 on
+-- A new machine of this size. All its stations wait for a handle, each idle, with the numbers from
+-- 0 upwards.
 pub record IsNew (n count : ℕ) (new : Option State) : Type 0 where
   pub machine : Machine
   pub is : new ≡ Some (state.Machine (Some machine))
@@ -55,7 +61,7 @@ pub record IsNew (n count : ℕ) (new : Option State) : Type 0 where
   pub all : map station_entry machine.stations.items ≡ idle_entries 0 count
   pub no_loads : reader_loads machine.reader ≡ []
 
--- the first of the machine's stations that wait has got a handle, and the answer is its number
+-- The first station that waited has got the handle, the others wait, and the answer is its number.
 pub record Seats (old new station : Option State) (number : ℕ) : Type 0 where
   pub before : Machine
   pub after : Machine
@@ -69,8 +75,8 @@ pub record Seats (old new station : Option State) (number : ℕ) : Type 0 where
   pub reader : after.reader ≡ before.reader
   pub number_is : number ≡ (station_entry idle.station).station
 
--- one load of the roll more, which found these stations missing, of those that got a handle; all else is as before, the
--- stations that wait among it
+-- One load of the roll found these stations missing among those that got a handle. All else of the
+-- machine is as before, with the stations that wait.
 pub record Looks (before after : Machine) (missing : ℕ) : Type 0 where
   pub same : after.cube ≡ before.cube
   pub list : after.stations ≡ before.stations
@@ -79,8 +85,9 @@ pub record Looks (before after : Machine) (missing : ℕ) : Type 0 where
   pub loads : reader_loads after.reader ≡ roll ∷ reader_loads before.reader
   pub found : IsMissing (seated after) roll missing
 
--- two loads of the roll more: the first found no station missing, of those that got a handle, so those that waited have
--- retired; the second found stations missing all the same, of all
+-- Two loads of the roll. The first found no station missing among those that got a handle, so those
+-- that waited have retired. The second found stations missing all the same, among all. No schedule
+-- leads here, but no clause of the tree says that a bit once seen in the roll stays.
 pub record LooksTwice (before after : Machine) (missing : ℕ) : Type 0 where
   pub same : machine_cube after ≡ machine_cube before
   pub none_waits : after.stations.items ≡ []
@@ -92,17 +99,19 @@ pub record LooksTwice (before after : Machine) (missing : ℕ) : Type 0 where
   pub found : IsMissing (station_count before) second missing
   pub some : missing ≢ 0
 
--- the machine is not closed, since these stations are missing. Where none is, those that wait are still there
+-- The machine is not closed, and these stations are missing. If none is missing, those that wait
+-- are still there.
 abbrev pub NotClosed : Machine → Machine → ℕ → Type 0
 NotClosed before after missing = Looks before after missing ⊎ LooksTwice before after missing
 
--- the machine is closed: its last load of the roll found the bit of each station, and each node's word is 0
+-- The machine is closed. The last load of the roll found the bit of each station, and the word of
+-- each node is 0.
 pub record Closes (before : Machine) (after : FreeMachine) : Type 0 where
   pub free : IsWhollyFree (cube_dim (machine_cube before)) after
   pub more : List ℕ
   pub roll : ClosedByRoll (station_count before) (more ++ reader_loads before.reader) after
 
--- the same, of what stands behind a handle
+-- The machine of a handle is not closed, and these stations are missing (`NotClosed`).
 pub record IsStillOpen (old new : Option State) (missing : ℕ) : Type 0 where
   pub before : Machine
   pub after : Machine
@@ -110,6 +119,7 @@ pub record IsStillOpen (old new : Option State) (missing : ℕ) : Type 0 where
   pub is : new ≡ Some (state.Machine (Some after))
   pub not_closed : NotClosed before after missing
 
+-- The machine of a handle is closed (`Closes`).
 pub record IsClosed (old new : Option State) : Type 0 where
   pub before : Machine
   pub after : FreeMachine

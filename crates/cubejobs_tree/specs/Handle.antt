@@ -3,6 +3,6 @@ use Rattle.std.specs.Prelude.{Option}
 use Rattle.cubejobs_tree.specs.declared.state.State.{State}
 use Rattle.cubejobs_tree.specs.declared.handle.Handle.{Handle}
 
--- what stands behind a handle, if it is open
+-- The content of a handle, if it is open.
 abbrev pub content_of : Handle → Option State
 content_of handle = handle.ptr.content

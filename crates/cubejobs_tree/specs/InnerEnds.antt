@@ -10,8 +10,10 @@ use Rattle.cubejobs_tree.specs.declared.codes.TheConstants.{BAD_DIMENSION, BAD_S
 use Rattle.cubejobs_tree.specs.declared.machine.Machine.{Machine}
 use Rattle.cubejobs_tree.specs.Ends.{machine_cube}
 
--- a machine of this cube, none of whose stations waits, after one load of the roll more, which found stations missing
-pub record FindsMissing (cube : Cube) (reader : RetirementReader) (after : Machine) (missing : ℕ) : Type 0 where
+-- A machine of this tree, all of whose stations got a handle or have retired. One more load of the
+-- roll found these stations missing.
+pub record FindsMissing (cube : Cube) (reader : RetirementReader) (after : Machine) (missing : ℕ) :
+    Type 0 where
   pub same : machine_cube after ≡ cube
   pub none_waits : after.stations.items ≡ []
   pub roll : ℕ
@@ -19,7 +21,7 @@ pub record FindsMissing (cube : Cube) (reader : RetirementReader) (after : Machi
   pub found : IsMissing (cube_size cube).stations roll missing
   pub some : missing ≢ 0
 
--- the code of a machine that is not made
+-- The code for a machine that could not be made.
 abbrev pub code_for : CubeRefused → ℕ
 code_for BadDimension = BAD_DIMENSION
 code_for BadStations = BAD_STATIONS

@@ -1,4 +1,4 @@
--- What an answer counts of a machine.
+-- What an answer counts in a machine.
 use Rattle.std.specs.Prelude.{◌≡◌, ℕ, ◌-◌, ◌<◌, ◌≤◌, if◌then◌else◌, false, List, Option, Some, None, slice_index}
 use Rattle.cube_occupancy.specs.Occupancy.{IsLargestFree, free_regions, held_processors}
 use Rattle.cubejobs_tree.specs.declared.answer.OccupancyAnswer.{OccupancyAnswer}
@@ -7,14 +7,16 @@ use Rattle.cubejobs_tree.specs.declared.state.State.TheVariants as state
 use Rattle.cubejobs_tree.specs.declared.machine.Machine.{Machine}
 use Rattle.cubejobs_tree.specs.Ends.{dim_of_machine, machine_cube}
 
--- the words of a machine as they were last read, each at some moment of the call that read them
+-- The words of a machine as they were last read, each at some moment of the call that read them.
 abbrev pub words_read : Machine → List ℕ
 words_read machine = machine.room.items
 
+-- The largest free dimension of an answer, if a block is free.
 abbrev pub largest_of : OccupancyAnswer → Option ℕ
 largest_of answer = if answer.has_free then Some answer.largest else None
 
--- the answer counts the regions that are free and the processors that are held, by these words
+-- The answer counts free blocks and held processors by these words, as `cube_occupancy` does. Its
+-- largest dimension is 0 if nothing is free.
 pub record Counts (n : ℕ) (words : List ℕ) (answer : OccupancyAnswer) : Type 0 where
   pub free : (k : ℕ) → k ≤ n → slice_index answer.free k ≡ free_regions words (n - k)
   pub none_above : (k : ℕ) → n < k → slice_index answer.free k ≡ 0
@@ -22,14 +24,14 @@ pub record Counts (n : ℕ) (words : List ℕ) (answer : OccupancyAnswer) : Type
   pub largest : IsLargestFree answer.free (largest_of answer)
   pub no_largest : answer.has_free ≡ false → answer.largest ≡ 0
 
--- the answer counts nothing: each of its fields but the code is 0
+-- The answer counts nothing: each of its fields except the code is 0.
 pub record CountsNone (answer : OccupancyAnswer) : Type 0 where
   pub largest : answer.largest ≡ 0
   pub has_free : answer.has_free ≡ false
   pub held : answer.held ≡ 0
   pub free : (k : ℕ) → slice_index answer.free k ≡ 0
 
--- the words of the machine were read, and counted; else it is as before
+-- The words of the machine were read and counted. Nothing else of the machine changed.
 pub record IsCounted (old new : Option State) (answer : OccupancyAnswer) : Type 0 where
   pub before : Machine
   pub after : Machine

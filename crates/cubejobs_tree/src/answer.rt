@@ -1,4 +1,4 @@
-//! What crosses to the caller: the answers.
+//! The answers that callers in C see.
 ghost use Rattle.std.specs.Prelude.{◌≡◌};
 ghost use Rattle.cube_tree.specs.Tries.{counted, no_refusal};
 ghost use Rattle.cubejobs_tree.specs.Answers.{counts_of, region_of, NamesNone};
@@ -9,21 +9,21 @@ use cube_occupancy::FREE_PLACES;
 use cube_shape::Region;
 use cube_tree::{Refusal, Why};
 
-/// The answer of a call that is about a region.
+/// The answer of a call about a block.
 #[repr(C)]
 #[derive(Clone, Copy, Debug)]
 pub struct Answer {
     /// `DONE`, or why the call was refused.
     pub code: u32,
-    /// The region's dimension where the call was done, and otherwise 0.
+    /// The block's dimension if the call succeeded, else 0.
     pub dim: u32,
-    /// The region's least processor where the call was done, and otherwise 0.
+    /// The block's first processor if the call succeeded, else 0.
     pub base: u64,
-    /// How many tries were refused because the node was in use.
+    /// The number of tries that were refused because the node was in use.
     pub in_use: u64,
-    /// How many because another station was faster.
+    /// The number of tries that were refused because another station was faster.
     pub lost: u64,
-    /// How many because an ancestor was occupied.
+    /// The number of tries that were refused because an ancestor was occupied.
     pub under: u64,
 }
 
@@ -33,21 +33,21 @@ pub struct Answer {
 pub struct Seated {
     /// `DONE`, or why the call was refused.
     pub code: u32,
-    /// The station's number where the call was done, and otherwise 0.
+    /// The station's number if the call succeeded, else 0.
     pub number: u32,
 }
 
-/// How large a machine is.
+/// The size of a machine.
 #[repr(C)]
 #[derive(Clone, Copy, Debug)]
 pub struct SizeAnswer {
     /// `DONE`, or why the call was refused.
     pub code: u32,
-    /// The dimension where the call was done, and otherwise 0.
+    /// The dimension if the call succeeded, else 0.
     pub dim: u32,
-    /// The number of stations where the call was done, and otherwise 0.
+    /// The number of stations if the call succeeded, else 0.
     pub stations: u32,
-    /// How many of them have been given a handle where the call was done, and otherwise 0.
+    /// The number of stations that were given a handle if the call succeeded, else 0.
     pub seated: u32,
 }
 
@@ -57,27 +57,27 @@ pub struct SizeAnswer {
 pub struct WordAnswer {
     /// `DONE`, or why the call was refused.
     pub code: u32,
-    /// The word where the call was done, and otherwise 0.
+    /// The word if the call succeeded, else 0.
     pub word: u64,
 }
 
-/// How much of a machine is free.
+/// The occupancy of a machine: what of it is free.
 #[repr(C)]
 #[derive(Clone, Copy, Debug)]
 pub struct OccupancyAnswer {
-    /// `DONE`, or why the call was refused; then all else is 0.
+    /// `DONE`, or why the call was refused. Then all else is 0.
     pub code: u32,
-    /// The largest dimension of a free region, if there is one, and otherwise 0.
+    /// The largest dimension of a free block, if there is one, else 0.
     pub largest: u32,
-    /// Whether a region is free.
+    /// Whether a block is free.
     pub has_free: bool,
-    /// How many processors are in a region that is held.
+    /// The number of processors in held blocks.
     pub held: u64,
-    /// The number of free regions of each dimension, at the dimension. It is 0 above the machine's.
+    /// The number of free blocks of each dimension, at the dimension. It is 0 above the machine's.
     pub free: [u64; FREE_PLACES],
 }
 
-// The answer of a call that was done with a region.
+// Makes the answer of a successful call with a block.
 #[inline(always)]
 pub(crate) fn done(region: Region) -> Answer
     ensures code { result.code ≡ DONE }
@@ -94,7 +94,7 @@ pub(crate) fn done(region: Region) -> Answer
     }
 }
 
-// The answer of a call that was refused before it did anything.
+// Makes the answer of a call that was refused before it did anything.
 #[inline(always)]
 pub(crate) fn refused(code: u32) -> Answer
     ensures code { result.code ≡ code }
@@ -111,7 +111,7 @@ pub(crate) fn refused(code: u32) -> Answer
     }
 }
 
-// The answer of a take whose tries were all refused.
+// Makes the answer of a take whose tries were all refused.
 #[inline(always)]
 pub(crate) fn no_subcube(refusal: Refusal) -> Answer
     ensures code { result.code ≡ NO_SUBCUBE }
@@ -128,7 +128,7 @@ pub(crate) fn no_subcube(refusal: Refusal) -> Answer
     }
 }
 
-// The count of one refusal.
+// Counts one refusal.
 pub(crate) fn count_of(why: Why) -> Refusal
     ensures { result ≡ counted why no_refusal }
 {
@@ -152,7 +152,7 @@ pub(crate) fn count_of(why: Why) -> Refusal
 }
 
 impl Seated {
-    // A call that was refused.
+    // Makes the answer of a refused call.
     pub(crate) fn refused(code: u32) -> Seated
         ensures code { result.code ≡ code }
         ensures no_number { result.number ≡ 0 }
@@ -162,7 +162,7 @@ impl Seated {
 }
 
 impl SizeAnswer {
-    // A call that was refused.
+    // Makes the answer of a refused call.
     pub(crate) fn refused(code: u32) -> SizeAnswer
         ensures code { result.code ≡ code }
         ensures nothing { (result.dim ≡ 0) × (result.stations ≡ 0) × (result.seated ≡ 0) }
@@ -177,7 +177,7 @@ impl SizeAnswer {
 }
 
 impl OccupancyAnswer {
-    // A call that was refused.
+    // Makes the answer of a refused call.
     pub(crate) fn refused(code: u32) -> OccupancyAnswer
         ensures code { result.code ≡ code }
         ensures nothing { CountsNone result }

@@ -16,7 +16,7 @@ use crate::take_request::TakeRequest;
 use cube_shape::Node;
 use cube_tree::Refusal;
 
-// An idle station takes a region, as its machine can.
+// Takes a block for an idle station, on a machine that has such a block.
 #[inline(always)]
 fn take_idle(idle: Idle, request: TakeRequest) -> Result<Holding, (Idle, Refusal)>
     requires { HasRegionFor (dim_of_idle idle) request }
@@ -36,7 +36,7 @@ fn take_idle(idle: Idle, request: TakeRequest) -> Result<Holding, (Idle, Refusal
     }
 }
 
-// A station is asked to take a region.
+// Takes a block for a station, if it is idle and its machine has such a block.
 #[inline(always)]
 pub(crate) fn take(content: State, request: TakeRequest) -> (State, Answer)
     ensures barred { refusal_of_take (Some content) ≢ DONE
@@ -70,7 +70,7 @@ pub(crate) fn take(content: State, request: TakeRequest) -> (State, Answer)
     }
 }
 
-// The region is given back.
+// Releases the station's block.
 #[inline(always)]
 pub(crate) fn release(content: State) -> (State, Answer)
     ensures barred { refusal_of_release (Some content) ≢ DONE
@@ -91,7 +91,7 @@ pub(crate) fn release(content: State) -> (State, Answer)
     }
 }
 
-// The region that is held.
+// Returns the block that is held.
 pub(crate) fn region(content: &State) -> Answer
     ensures barred { refusal_of_release (Some content.now) ≢ DONE
         → result.code ≡ refusal_of_release (Some content.now) }

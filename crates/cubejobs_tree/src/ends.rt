@@ -1,4 +1,4 @@
-//! A machine is opened, its stations get handles, and it is closed.
+//! Opening a machine, giving its stations handles, and closing it.
 ghost use Rattle.std.specs.Prelude.{◌≡◌, ◌+◌, ◌^◌, ◌<◌, ◌≤◌, Some, IfOk, IfErr, IfSome, IsErrOf, ◌↔◌, ◌⊎◌, [], All, vec_len};
 ghost use Rattle.cube_tree.specs.Handles.{cube_dim, cube_size, IsStationOf};
 ghost use Rattle.cube_tree.specs.Ends.{reader_loads, ClosedByRoll, IsReaderOf, IsWhollyFree};
@@ -17,7 +17,7 @@ use std::alloc::{AllocFailed, Global};
 use std::collections::VecDeque;
 use std::sync::Arc;
 
-// A cube that is not shared after all: its stations retire, and it is let go.
+// Frees a tree that could not be shared: its stations retire first.
 fn give_up(cube: Cube, stations: VecDeque<TreeStation>)
     requires { All (IsStationOf cube) stations.items }
 {
@@ -27,7 +27,7 @@ fn give_up(cube: Cube, stations: VecDeque<TreeStation>)
     cube.abandon();
 }
 
-// The machine of a cube and its stations, unless memory is refused.
+// Makes the machine of a tree and its stations. Returns `None` if memory ran out.
 fn share(
     alloc: Global,
     cube: Cube,
@@ -59,7 +59,7 @@ fn share(
     }
 }
 
-// The machine with all its stations, none of which has a handle.
+// Makes a machine with all its stations, none of which has a handle.
 pub(crate) fn machine_of(alloc: Global, n: u32, stations: u32) -> Result<Machine, CubeRefused>
     ensures dimension { IsErrOf result CubeRefused.BadDimension ↔ (MAX_DIM < n) }
     ensures stations { IsErrOf result CubeRefused.BadStations
@@ -74,7 +74,7 @@ pub(crate) fn machine_of(alloc: Global, n: u32, stations: u32) -> Result<Machine
     Ok(machine)
 }
 
-// The code of a machine that is not made.
+// Returns the code for a machine that could not be made.
 pub(crate) fn code_of(why: CubeRefused) -> u32
     ensures { result ≡ code_for why }
 {
@@ -86,7 +86,7 @@ pub(crate) fn code_of(why: CubeRefused) -> u32
 }
 
 impl Machine {
-    /// The first station that waits, behind a handle of its own, and its number.
+    /// Gives the first station without a handle one of its own. Returns that and its number.
     pub fn seat(self, alloc: Global) -> (Machine, Result<(Box<State>, u32), u32>)
         ensures seated { IfOk result.1 (λ seat. Seats (Some (State.Machine (Some self)))
             (Some (State.Machine (Some result.0))) (Some seat.0.value) seat.1) }
@@ -120,7 +120,7 @@ impl Machine {
         (machine, Ok((place, number)))
     }
 
-    // How many stations have got a handle.
+    // Returns how many stations have a handle, or had one.
     pub(crate) fn seated(&self) -> u32
         ensures value { result ≡ seated self.now }
         ensures limit { result ≤ MAX_STATIONS }
@@ -129,7 +129,7 @@ impl Machine {
         count.saturating_sub(self.stations.len()) as u32
     }
 
-    // Loads the roll: which of the stations that got a handle have not retired.
+    // Loads the roll. Returns which of the stations that got a handle have not retired.
     fn look(self) -> (Machine, u64)
         ensures { Looks self result.0 result.1 }
     {
@@ -145,9 +145,11 @@ impl Machine {
         (machine, missing)
     }
 
-    /// Closes the machine if each station that got a handle has retired and no call with one is left:
-    /// then those that wait retire, and the tree is closed, wholly free. Otherwise it comes back as it
-    /// was, with the stations that are missing, of which there is none where such a call is left.
+    /// Closes the machine if each station that got a handle has retired, and no call with one is
+    /// left. Then the stations without a handle retire, and the tree is closed, wholly free.
+    ///
+    /// Otherwise it returns the machine as it was, with the stations that are missing. None is
+    /// missing if such a call is left.
     pub fn close(self) -> Result<FreeMachine, (Machine, u64)>
         ensures closed { IfOk result (Closes self) }
         ensures open { IfErr result (λ out. NotClosed self out.0 out.1) }
@@ -173,7 +175,8 @@ impl Machine {
     }
 }
 
-// The stations that wait retire, and the cube is closed if a load of the roll finds the bit of each station.
+// Retires the stations without a handle. Closes the tree if a load of the roll finds the bit of
+// each station.
 fn close_rest(
     cube: Cube,
     stations: VecDeque<TreeStation>,

@@ -25,7 +25,7 @@ use crate::take_request::TakeRequest;
 use crate::{calls, ends};
 use std::alloc::Global;
 
-// A machine in a box of its own goes into a place, unless memory is refused.
+// Puts a machine into a box of its own, and that into a place. Returns `None` if memory ran out.
 fn place_of(alloc: Global, machine: Machine) -> Option<Box<State>>
     ensures { IfSome result (λ place. place.value ≡ State.Machine (Some machine)) }
 {
@@ -39,7 +39,7 @@ fn place_of(alloc: Global, machine: Machine) -> Option<Box<State>>
     }
 }
 
-// The handle of a machine that is made, or why none is.
+// Makes a machine and opens its handle, or returns the code of why not.
 fn open_as(alloc: Global, cube: &mut Handle, n: u32, stations: u32) -> u32
     ensures bad_dimension { MAX_DIM < n → result ≡ BAD_DIMENSION }
     ensures bad_stations { n ≤ MAX_DIM → ((stations ≡ 0) ⊎ (MAX_STATIONS < stations))
@@ -61,8 +61,8 @@ fn open_as(alloc: Global, cube: &mut Handle, n: u32, stations: u32) -> u32
     }
 }
 
-/// Opens a machine of dimension `n` with this many stations, none of which has a handle. The header of the
-/// caller is of this version.
+/// Opens a machine of dimension `n` with this many stations, none of which has a handle. `version`
+/// is that of the caller's header.
 #[unsafe(no_mangle)]
 pub extern "C" fn cubejobs_tree_open_version(
     alloc: Global,
@@ -91,7 +91,7 @@ pub extern "C" fn cubejobs_tree_open_version(
     open_as(alloc, cube, n, stations)
 }
 
-/// Gives the first of the machine's stations that wait a handle. It holds nothing.
+/// Gives a handle to the machine's first station without one. The station holds nothing.
 #[unsafe(no_mangle)]
 pub extern "C" fn cubejobs_tree_seat(
     alloc: Global,
@@ -142,7 +142,7 @@ pub extern "C" fn cubejobs_tree_seat(
     }
 }
 
-// The station of a handle is asked to take a region.
+// Asks the station of a handle to take a block.
 #[inline(always)]
 fn take_as(alloc: Global, station: &mut Handle, request: TakeRequest) -> Answer
     ensures barred { refusal_of_take (content_of station.old) ≢ DONE
@@ -168,7 +168,7 @@ fn take_as(alloc: Global, station: &mut Handle, request: TakeRequest) -> Answer
     answer
 }
 
-/// Searches the regions of dimension `k` for one that can be taken, from the first one on.
+/// Searches the blocks of dimension `k` for one that can be taken, from the first one upwards.
 #[unsafe(no_mangle)]
 pub extern "C" fn cubejobs_tree_take(alloc: Global, station: &mut Handle, k: u32) -> Answer
     ensures barred { refusal_of_take (content_of station.old) ≢ DONE
@@ -189,7 +189,7 @@ pub extern "C" fn cubejobs_tree_take(alloc: Global, station: &mut Handle, k: u32
     take_as(alloc, station, TakeRequest::Dim(k))
 }
 
-/// Tries the region of one node.
+/// Tries to take the block of one node.
 #[unsafe(no_mangle)]
 pub extern "C" fn cubejobs_tree_try_node(alloc: Global, station: &mut Handle, node: u64) -> Answer
     ensures barred { refusal_of_take (content_of station.old) ≢ DONE
@@ -210,7 +210,7 @@ pub extern "C" fn cubejobs_tree_try_node(alloc: Global, station: &mut Handle, no
     take_as(alloc, station, TakeRequest::Node(node))
 }
 
-/// Gives the station's region back, and answers which it was.
+/// Releases the station's block. Returns which one it was.
 #[unsafe(no_mangle)]
 pub extern "C" fn cubejobs_tree_release(alloc: Global, station: &mut Handle) -> Answer
     ensures barred { refusal_of_release (content_of station.old) ≢ DONE
@@ -230,7 +230,7 @@ pub extern "C" fn cubejobs_tree_release(alloc: Global, station: &mut Handle) -> 
     answer
 }
 
-/// The station, which holds nothing, retires, and its handle is shut.
+/// Retires the station, which holds nothing, and shuts its handle.
 #[unsafe(no_mangle)]
 pub extern "C" fn cubejobs_tree_retire(alloc: Global, station: &mut Handle) -> u32
     ensures barred { refusal_of_take (content_of station.old) ≢ DONE
@@ -259,8 +259,8 @@ pub extern "C" fn cubejobs_tree_retire(alloc: Global, station: &mut Handle) -> u
     }
 }
 
-/// Closes the machine if each station that got a handle has retired: then the handle is that of its
-/// words, which are to be freed. Otherwise bit `s` of `missing` is set for each station `s` that has not.
+/// Closes the machine if each station that got a handle has retired. Then the handle has its words,
+/// which you free. Otherwise bit `s` of `missing` is set for each station `s` that has not retired.
 #[unsafe(no_mangle)]
 pub extern "C" fn cubejobs_tree_close(alloc: Global, cube: &mut Handle, missing: &mut u64) -> u32
     ensures barred { refusal_of_machine_call (content_of cube.old) ≢ DONE
@@ -290,7 +290,7 @@ pub extern "C" fn cubejobs_tree_close(alloc: Global, cube: &mut Handle, missing:
     }
 }
 
-// The machine is closed, or comes back behind its handle.
+// Closes the machine, or puts it back into its handle.
 fn close_owned(cube: &mut Handle, room: Box<State>, owned: OwnedMachine, missing: &mut u64) -> u32
     requires away { room.value ≡ State.Taken }
     ensures tried { (result ≡ DONE) ⊎ (result ≡ STILL_OUT) ⊎ (result ≡ RETIRING) }
@@ -323,7 +323,7 @@ fn close_owned(cube: &mut Handle, room: Box<State>, owned: OwnedMachine, missing
     }
 }
 
-/// Frees the words of a machine that is closed, and its handle is shut.
+/// Frees the words of a closed machine, and shuts its handle.
 #[unsafe(no_mangle)]
 pub extern "C" fn cubejobs_tree_free(alloc: Global, cube: &mut Handle) -> u32
     ensures barred { refusal_of_free (content_of cube.old) ≢ DONE

@@ -4,8 +4,8 @@ ghost use Rattle.cubejobs_tree.specs.declared.codes.TheConstants.{OPEN};
 
 use crate::opaque_ptr::OpaquePtr;
 
-/// A handle of a machine or of a station, in memory that the caller keeps: it is open or shut, and what
-/// stands behind an open one only this library follows.
+/// A handle of a machine or of a station, in memory that the caller keeps. It is open or shut. Only
+/// this library follows the pointer of an open one.
 #[repr(C)]
 #[derive(Drop)]
 pub struct Handle {

@@ -1,4 +1,4 @@
-//! The law of the tree, said of two handles.
+//! The law of the tree for two handles.
 ghost use Rattle.std.specs.Prelude.{◌≡◌, false, true, IsTrue};
 ghost use Rattle.std.specs.Arc.{arc_value};
 ghost use Rattle.cube_shape.specs.Region.{AreApart};
@@ -14,7 +14,7 @@ use crate::state::State;
 use crate::station::Holding;
 use std::alloc::Global;
 
-// Two regions that are held at one moment are apart: gives the stations back as they were.
+// States that two blocks held at one moment are apart. Returns the stations as they were.
 fn compare(a: Holding, b: Holding) -> (Holding, Holding)
     requires same { arc_value a.cube ≡ arc_value b.cube }
     ensures apart { AreApart (held_region a.subcube) (held_region b.subcube) }
@@ -36,9 +36,9 @@ fn compare(a: Holding, b: Holding) -> (Holding, Holding)
     )
 }
 
-/// Whether the stations of two handles hold regions. If both are stations of one machine, these regions are
-/// apart, at whatever moment the call comes, and the call changes nothing: this is a law, which says so of
-/// any two handles, and no function for C.
+/// Returns whether the stations of two handles hold blocks. If both are stations of one machine,
+/// these blocks are apart, at whatever moment the call comes. The call changes nothing. This is a
+/// law for any two handles, and no function for C.
 pub fn apart(alloc: Global, a: &mut Handle, b: &mut Handle) -> bool
     requires one_machine { AreOnOneMachine (content_of a.old) (content_of b.old) }
     ensures told { refusal_of_release (content_of a.old) ≡ DONE

@@ -1,10 +1,11 @@
-//! The lock-free block allocator for callers in C, C++ and Rust, as a static library: many threads take blocks at once.
+//! The lock-free block allocator for callers in C, C++ and Rust, as a static library: many threads
+//! take blocks at once.
 //!
-//! A caller keeps handles of 16 bytes, of a machine and of its stations, and passes one to each call. What
-//! stands behind a handle is a box that only this library follows; so the clauses of each call say what
-//! the tree's own clauses say of its cube, its stations and the regions that they hold.
-//! `include/cubejobs_tree.h` declares these functions for C and C++, and the module `tree` of the package
-//! `rust/` wraps them for Rust.
+//! A caller keeps handles of 16 bytes, of a machine and of its stations, and passes one to each
+//! call. A handle has a box that only this library follows. The clauses of each call say of its
+//! content what `cube_tree` says of its tree, its stations and the blocks that they hold.
+//! `include/cubejobs_tree.h` declares these functions for C and C++. The module `tree` of the
+//! package `rust/` wraps them for Rust.
 #![tactic(auto)]
 
 mod answer;

@@ -9,7 +9,7 @@ use crate::ownership::Ownership;
 use cube_tree::{Cube, RetirementReader, TreeStation};
 use std::collections::VecDeque;
 
-/// A machine, with its stations that have no handle yet, the first of them in front.
+/// A machine, with its stations that have no handle yet, by rising number.
 pub(crate) struct Machine {
     pub(crate) cube: Ownership,
     pub(crate) stations: VecDeque<TreeStation>,
@@ -21,7 +21,7 @@ pub(crate) struct Machine {
     ghost has_room: { vec_len room ≡ 2 ^ (cube_dim (cube_of cube) + 1) },
 }
 
-// Each station of the list retires.
+// Retires each station of the list.
 pub(crate) fn retire_all(stations: &mut VecDeque<TreeStation>, cube: &Cube)
     requires { All (IsStationOf cube.now) stations.old.items }
     ensures { stations.new.items ≡ [] }
@@ -32,7 +32,8 @@ pub(crate) fn retire_all(stations: &mut VecDeque<TreeStation>, cube: &Cube)
 }
 
 impl Machine {
-    // The cube, the stations that have no handle, the reader of the roll, and the room.
+    // Takes the machine apart: its tree, the stations without a handle, the reader of the roll, and
+    // the words.
     pub(crate) fn into_parts(self) -> (Ownership, VecDeque<TreeStation>, RetirementReader, Vec<u64>)
         ensures cube { result.0 ≡ self.cube }
         ensures stations { result.1 ≡ self.stations }

@@ -1,4 +1,4 @@
-//! The read-out of how much of a machine is free.
+//! How much of a machine is free.
 ghost use Rattle.std.specs.Prelude.{◌≡◌, ◌≢◌, ℕ, ◌+◌, ◌^◌, ◌≤◌, length};
 ghost use Rattle.cubejobs_tree.specs.Handle.{content_of};
 ghost use Rattle.cubejobs_tree.specs.Ends.{refusal_of_machine_call, machine_cube};
@@ -16,7 +16,7 @@ use cube_shape::MAX_DIM;
 use std::alloc::Global;
 
 impl Machine {
-    // Reads each word into the room.
+    // Reads each word of the machine into its room.
     fn read_words(self) -> Machine
         ensures same { machine_cube result ≡ machine_cube self }
         ensures list { result.stations ≡ self.stations }
@@ -35,7 +35,7 @@ impl Machine {
     }
 }
 
-// What the words of a machine say.
+// Counts what is free and held by the words of a machine.
 fn count(n: u32, words: &[u64]) -> OccupancyAnswer
     requires machine { n ≤ MAX_DIM }
     requires words { length words.now ≡ 2 ^ (n + 1) }
@@ -52,8 +52,8 @@ fn count(n: u32, words: &[u64]) -> OccupancyAnswer
     }
 }
 
-/// How many regions of each dimension are free, how many processors are in a region that is held, and the largest free
-/// dimension, by the words as each is at some moment of the call.
+/// Counts the free blocks of each dimension and the processors in held blocks, and finds the
+/// largest free dimension. Each word is read at some moment of the call.
 #[unsafe(no_mangle)]
 pub extern "C" fn cubejobs_tree_occupancy(alloc: Global, cube: &mut Handle) -> OccupancyAnswer
     ensures barred { refusal_of_machine_call (content_of cube.old) ≢ DONE

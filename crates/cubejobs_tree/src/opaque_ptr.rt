@@ -22,6 +22,7 @@ impl Model for OpaquePtr {
 }
 
 impl OpaquePtr {
+    // Makes a pointer to the content of a box.
     #[inline(always)]
     fn of_parts(parts: Parts<State, Global>) -> OpaquePtr
         ensures { result.content ≡ Some parts.value }
@@ -33,6 +34,7 @@ impl OpaquePtr {
         }
     }
 
+    // Returns the pointer as the fields of a box. It must have a content.
     #[inline(always)]
     fn into_parts(self) -> Parts<State, Global>
         requires { (inside : Inside) × (self.content ≡ Some inside) }
@@ -45,6 +47,7 @@ impl OpaquePtr {
         }
     }
 
+    // Makes a pointer to nothing.
     #[inline(always)]
     pub fn nothing(alloc: Global) -> OpaquePtr
         ensures { result.content ≡ None }
@@ -55,6 +58,7 @@ impl OpaquePtr {
         }
     }
 
+    // Makes a pointer to the content of a box.
     #[inline(always)]
     pub fn of(content: Box<State>) -> OpaquePtr
         ensures { result.content ≡ Some content.value }
@@ -62,6 +66,7 @@ impl OpaquePtr {
         OpaquePtr::of_parts(Parts::of(content))
     }
 
+    // Returns the content in its box. There must be one.
     #[inline(always)]
     pub fn into_box(self) -> Box<State>
         requires { (inside : Inside) × (self.content ≡ Some inside) }

@@ -26,7 +26,7 @@ impl Model for OwnedMachine {
 }
 
 impl OwnedMachine {
-    // A machine goes into a box, unless memory is refused.
+    // Puts a machine into a box. Returns `None` if memory ran out.
     pub(crate) fn of(alloc: Global, machine: Machine) -> Option<OwnedMachine>
         ensures { IfSome result (λ owned. owned ≡ Some machine) }
     {
@@ -36,7 +36,7 @@ impl OwnedMachine {
         Some(OwnedMachine { place })
     }
 
-    // The machine, and its box, which is empty.
+    // Returns the machine, and its box, which is empty.
     pub(crate) fn open(self) -> (Machine, Box<Option<Machine>>)
         ensures machine { self ≡ Some result.0 }
         ensures empty { result.1.value ≡ None }
@@ -48,7 +48,7 @@ impl OwnedMachine {
         (machine, place)
     }
 
-    // A machine goes into an empty box.
+    // Puts a machine into an empty box.
     pub(crate) fn fill(place: Box<Option<Machine>>, machine: Machine) -> OwnedMachine
         requires { place.value ≡ None }
         ensures { result ≡ Some machine }
@@ -60,7 +60,7 @@ impl OwnedMachine {
         OwnedMachine { place }
     }
 
-    // The machine.
+    // Returns the machine.
     pub(crate) fn get(&self) -> &Machine
         ensures { self.now ≡ Some result.now }
     {

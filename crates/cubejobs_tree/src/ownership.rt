@@ -1,4 +1,4 @@
-//! Who owns the cube of a machine.
+//! The ownership of a machine's tree.
 ghost use Rattle.std.specs.Prelude.{◌≡◌, IfOk, IfErr, IfSome};
 ghost use Rattle.std.specs.Arc.{arc_value};
 ghost use Rattle.cubejobs_tree.specs.Ownership.{cube_of, IsShared};
@@ -8,7 +8,7 @@ use cube_tree::Cube;
 use std::ops::Deref;
 use std::sync::Arc;
 
-/// The cube of a machine, and whether other handles own it too.
+/// The tree of a machine, and whether other handles own it too.
 pub(crate) enum Ownership {
     /// Handles of its stations may own it too.
     Shared(Arc<Cube>),
@@ -17,7 +17,7 @@ pub(crate) enum Ownership {
 }
 
 impl Ownership {
-    // The cube.
+    // Returns the tree.
     pub(crate) fn get(&self) -> &Cube
         ensures { result.now ≡ cube_of self.now }
     {
@@ -27,7 +27,7 @@ impl Ownership {
         }
     }
 
-    // Returns one more reference to it, for the handle of a station.
+    // Returns one more reference to the tree, for the handle of a station.
     pub(crate) fn another(&self) -> Option<Arc<Cube>>
         ensures { IfSome result (λ cube. arc_value cube ≡ cube_of self.now) }
     {
@@ -40,7 +40,7 @@ impl Ownership {
         Some(cube)
     }
 
-    // Returns the cube, if no other handle owns it.
+    // Returns the tree, if no other handle owns it.
     pub(crate) fn into_cube(self) -> Result<Cube, Ownership>
         ensures alone { IfOk result (λ cube. cube ≡ cube_of self) }
         ensures same { IfErr result (λ ownership. ownership ≡ self) }
@@ -55,7 +55,7 @@ impl Ownership {
         }
     }
 
-    // The last one to let a cube go frees it.
+    // Drops this reference. The last one frees the tree.
     pub(crate) fn let_go(self) {
         match self {
             Ownership::Shared(cube) => let_go(cube),

@@ -1,4 +1,4 @@
-//! A call borrows the content of a handle, and restores it.
+//! Borrowing the content of a handle for a call, and restoring it.
 ghost use Rattle.std.specs.Prelude.{◌≡◌, ◌↔◌, None, Some, IfSome, IfNone, IsSome, IsTrue};
 ghost use Rattle.cubejobs_tree.specs.Handle.{content_of};
 
@@ -10,7 +10,7 @@ use std::alloc::Global;
 use std::mem::replace;
 
 impl Handle {
-    // A handle that is shut.
+    // Makes a shut handle.
     #[inline(always)]
     pub(crate) fn shut(alloc: Global) -> Handle
         ensures { content_of result ≡ None }
@@ -21,7 +21,7 @@ impl Handle {
         }
     }
 
-    // The handle of a content.
+    // Makes the handle of a content.
     #[inline(always)]
     pub(crate) fn of(content: Box<State>) -> Handle
         ensures { content_of result ≡ Some content.value }
@@ -32,7 +32,7 @@ impl Handle {
         }
     }
 
-    // Whether it is open.
+    // Returns whether it is open.
     #[inline(always)]
     pub(crate) fn is_open(&self) -> bool
         ensures { IsTrue result ↔ IsSome (content_of self.now) }
@@ -40,7 +40,7 @@ impl Handle {
         self.tag == OPEN
     }
 
-    // The content, if it is open.
+    // Returns the content, if it is open.
     #[inline(always)]
     fn into_box(self) -> Option<Box<State>>
         ensures some { IfSome result (λ b. content_of self ≡ Some b.value) }

@@ -1,4 +1,4 @@
-//! Read-outs of a machine and of its stations, under the names that C declares.
+//! Questions about a machine and its stations, under the names that C declares.
 ghost use Rattle.std.specs.Prelude.{◌≡◌, ◌≢◌, ◌<◌, ◌≤◌, ◌+◌, ◌^◌};
 ghost use Rattle.cube_tree.specs.Tries.{no_refusal};
 ghost use Rattle.cubejobs_tree.specs.Answers.{counts_of, NamesNone};
@@ -15,7 +15,7 @@ use crate::places::{borrow_content, restore_content};
 use crate::state::State;
 use std::alloc::Global;
 
-/// The region that the station holds.
+/// Returns the block that the station holds.
 #[unsafe(no_mangle)]
 pub extern "C" fn cubejobs_tree_region(alloc: Global, station: &mut Handle) -> Answer
     ensures barred { refusal_of_release (content_of station.old) ≢ DONE
@@ -34,7 +34,7 @@ pub extern "C" fn cubejobs_tree_region(alloc: Global, station: &mut Handle) -> A
     answer
 }
 
-// The size of a machine.
+// Returns the size of a machine.
 fn size_of(machine: &Machine) -> SizeAnswer
     ensures code { result.code ≡ DONE }
     ensures dim { result.dim ≡ dim_of_machine machine.now }
@@ -49,7 +49,7 @@ fn size_of(machine: &Machine) -> SizeAnswer
     }
 }
 
-/// The dimension of the machine, the number of its stations, and how many of them have got a handle.
+/// Returns the machine's dimension, the number of its stations, and how many of them got a handle.
 #[unsafe(no_mangle)]
 pub extern "C" fn cubejobs_tree_size(alloc: Global, cube: &mut Handle) -> SizeAnswer
     ensures barred { refusal_of_machine_call (content_of cube.old) ≢ DONE
@@ -76,7 +76,7 @@ pub extern "C" fn cubejobs_tree_size(alloc: Global, cube: &mut Handle) -> SizeAn
     answer
 }
 
-// A word of a machine as it is at some moment of the call.
+// Returns a word of a machine as it is at some moment of the call.
 fn word_of(machine: &Machine, node: u64) -> WordAnswer
     ensures bad_node { 2 ^ (dim_of_machine machine.now + 1) ≤ node → result.code ≡ BAD_NODE }
     ensures done { node < 2 ^ (dim_of_machine machine.now + 1) → result.code ≡ DONE }
@@ -94,8 +94,8 @@ fn word_of(machine: &Machine, node: u64) -> WordAnswer
     }
 }
 
-/// The word of a node as it is at some moment of the call; word 0 is the roll of those who have retired. No
-/// clause says what it is, since stations may work.
+/// Returns the word of a node as it is at some moment of the call. Word 0 is the roll of the
+/// stations that have retired. No clause says what the word is, since stations may work.
 #[unsafe(no_mangle)]
 pub extern "C" fn cubejobs_tree_word(alloc: Global, cube: &mut Handle, node: u64) -> WordAnswer
     ensures barred { refusal_of_machine_call (content_of cube.old) ≢ DONE

@@ -11,10 +11,10 @@ pub(crate) enum State {
     Machine(OwnedMachine),
     /// A station that holds nothing.
     Idle(Idle),
-    /// A station that holds a region.
+    /// A station that holds a block.
     Holding(Holding),
     /// The words of a machine that is closed.
     Closed(FreeMachine),
-    /// A call has borrowed the content.
+    /// None: a call has borrowed the content.
     Taken,
 }

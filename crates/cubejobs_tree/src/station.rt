@@ -1,4 +1,4 @@
-//! A station, which one handle owns: it holds nothing, or a region.
+//! A station, which one handle owns. It holds a block or nothing.
 ghost use Rattle.std.specs.Prelude.{◌≡◌, ◌-◌, ◌≤◌, IfOk, IfErr};
 ghost use Rattle.std.specs.Arc.{arc_value};
 ghost use Rattle.cube_shape.specs.Node.{IsInCube};
@@ -16,14 +16,14 @@ pub(crate) struct Idle {
     ghost of_cube: { IsStationOf (arc_value cube) station },
 }
 
-/// A station that holds a region.
+/// A station that holds a block.
 pub(crate) struct Holding {
     pub(crate) cube: Arc<Cube>,
     pub(crate) subcube: Subcube,
     ghost of_cube: { IsSubcubeOf (arc_value cube) subcube },
 }
 
-// The last one to let a cube go frees it.
+// Drops a reference to a tree. The last one frees the tree.
 pub(crate) fn let_go(cube: Arc<Cube>) {
     if let Some(cube) = Arc::into_inner(cube) {
         cube.abandon();
@@ -31,7 +31,7 @@ pub(crate) fn let_go(cube: Arc<Cube>) {
 }
 
 impl Idle {
-    /// One try at a node.
+    /// Tries once to take the block of a node.
     #[inline(always)]
     pub fn try_node(self, node: Node) -> Result<Holding, (Idle, Why)>
         requires node { IsInCube (cube_dim (arc_value self.cube)) node.0 }
@@ -50,7 +50,8 @@ impl Idle {
         }
     }
 
-    /// A search of the nodes of a dimension that passes over those under an ancestor found occupied.
+    /// Searches the nodes of a dimension, and skips those under an ancestor that was found
+    /// occupied.
     #[inline(always)]
     pub fn take(self, k: u32) -> Result<Holding, (Idle, Refusal)>
         requires dim { k ≤ cube_dim (arc_value self.cube) }
@@ -82,7 +83,7 @@ impl Idle {
 }
 
 impl Holding {
-    // The cube, and the region with its station.
+    // Returns the tree, and the block with its station.
     pub(crate) fn into_pair(self) -> (Arc<Cube>, Subcube)
         ensures cube { result.0 ≡ self.cube }
         ensures subcube { result.1 ≡ self.subcube }
@@ -92,7 +93,7 @@ impl Holding {
         (cube, subcube)
     }
 
-    /// The region is given back.
+    /// Releases the block.
     #[inline(always)]
     pub fn release(self) -> Idle
         ensures cube { arc_value result.cube ≡ arc_value self.cube }

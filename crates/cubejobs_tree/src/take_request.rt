@@ -1,21 +1,21 @@
-//! The region that a caller asks an idle station to take.
+//! The block that a caller asks an idle station to take.
 ghost use Rattle.std.specs.Prelude.{◌≡◌, ◌≤◌, ◌↔◌, IsTrue};
 ghost use Rattle.cubejobs_tree.specs.InnerTakeRequest.{code_of_misfit, HasRegionFor};
 
 use crate::codes::{BAD_DIMENSION, BAD_NODE};
 use cube_shape::{Dim, MAX_DIM, Node};
 
-/// The region that a caller asks an idle station to take.
+/// The block that a caller asks an idle station to take.
 #[derive(Clone, Copy)]
 pub enum TakeRequest {
-    /// The first region of this dimension that can be taken.
+    /// The first block of this dimension that can be taken.
     Dim(u32),
-    /// The region of this node.
+    /// The block of this node.
     Node(u64),
 }
 
 impl TakeRequest {
-    // Whether a machine of dimension `n` has such a region.
+    // Returns whether a machine of dimension `n` has such a block.
     #[inline(always)]
     pub(crate) fn is_within(self, n: u32) -> bool
         requires { n ≤ MAX_DIM }
@@ -27,7 +27,7 @@ impl TakeRequest {
         }
     }
 
-    // The code where it has none.
+    // Returns the code for a machine that has no such block.
     #[inline(always)]
     pub(crate) fn misfit(self) -> u32
         ensures { result ≡ code_of_misfit self }

@@ -19,8 +19,8 @@ pub trait Device {
 
 /// A reader or a writer with a count of its failed calls.
 ///
-/// A call has failed where it returns an error. A write has failed too where it takes no byte of a
-/// piece that is not empty.
+/// A call fails if it returns an error. A write also fails if it takes no byte of a buffer that is
+/// not empty.
 #[derive(Drop)]
 pub struct Counted<D> {
     device: D,
@@ -28,7 +28,7 @@ pub struct Counted<D> {
 }
 
 impl<D> Counted<D> {
-    /// Counts the failed calls of this reader or writer, from 0 on.
+    /// Wraps a reader or a writer, with a count of 0.
     pub fn new(device: D) -> Self
         ensures device { device_of result ≡ device }
         ensures failures { failures_of result ≡ 0 }
@@ -43,7 +43,7 @@ impl<D> Counted<D> {
         &self.device
     }
 
-    // Counts one call more where it has failed.
+    // Counts a call if it has failed.
     fn count_if(&mut self, has_failed: bool)
         ensures failures { failures_of self.new ≡ count_failure has_failed (failures_of self.old) }
         ensures device { device_of self.new ≡ device_of self.old }

@@ -1,6 +1,6 @@
 //! Readers and writers that count their failed calls.
 //!
-//! A caller lends a `Device` to a function. Where the function fails, the count of failed calls says
+//! A caller passes a `Device` to a function. If the function fails, the count of failed calls says
 //! whether the device failed. `Counted` makes a device of any reader or writer.
 #![tactic(auto)]
 

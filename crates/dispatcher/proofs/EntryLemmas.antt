@@ -21,7 +21,7 @@ use Rattle.dispatcher.specs.Feed.{entries_since, full_since, seen_at, HandsIn}
 use Rattle.dispatcher.specs.InnerFeed.{stop_at}
 use Rattle.dispatcher.specs.Stop.{EndsWith}
 
--- of these jobs the first ones are accepted and the others left, and the feed goes on
+-- The first of these jobs are accepted, the others are left, and the feed goes on.
 pub record SoFar (jobs left : List JobData) (before now : LaneRecord) : Type 0 where
   pub gains : now ≡ record before { entries = before.entries ++ entries_since before now }
   pub brings : map job_of (accepted (entries_since before now)) ++ left ≡ jobs
@@ -38,9 +38,11 @@ none_yet jobs lane = record {
   brings = ap (λ (made : List Entry). map job_of (accepted made) ++ jobs) (none_since lane);
 }
 
--- ---- one entry more
+-- ---- one more entry
 
-module _ (before now next : LaneRecord) (e : Entry) (so_far : now ≡ record before { entries = before.entries ++ entries_since before now }) (gains : next ≡ record now { entries = now.entries ++ e ∷ [] }) where
+module _ (before now next : LaneRecord) (e : Entry)
+    (so_far : now ≡ record before { entries = before.entries ++ entries_since before now })
+    (gains : next ≡ record now { entries = now.entries ++ e ∷ [] }) where
   since_more : entries_since before next ≡ entries_since before now ++ e ∷ []
   since_more =
       let count : ℕ = length before.entries in
@@ -60,7 +62,11 @@ module _ (before now next : LaneRecord) (e : Entry) (so_far : now ≡ record bef
       let weight : Entry → ℕ = λ x. cond (is_some x.job) 0 1 in
       omega (arith, ap (total weight) since_more, total-append weight (entries_since before now) (e ∷ []))
 
-pub one_accepted : (jobs left : List JobData) (before now next : LaneRecord) (number : ℕ) (q : QueuedJob) → SoFar jobs (q.job ∷ left) before now → GainsEntry now number (Some q) next → SoFar jobs left before next
+pub one_accepted : (jobs left : List JobData) (before now next : LaneRecord) (number : ℕ)
+    (q : QueuedJob)
+    → SoFar jobs (q.job ∷ left) before now
+    → GainsEntry now number (Some q) next
+    → SoFar jobs left before next
 one_accepted jobs left before now next number q so_far gains =
     let made : List Entry = entries_since before now in
     record {
@@ -71,7 +77,10 @@ one_accepted jobs left before now next number q so_far gains =
           ∙ (ap (λ (js : List JobData). js ++ left) (map-append job_of (accepted made) (q ∷ [])) ∙ (append_assoc (map job_of (accepted made)) (q.job ∷ []) left ∙ so_far.brings)));
     }
 
-pub one_full : (jobs left : List JobData) (before now next : LaneRecord) (number : ℕ) → SoFar jobs left before now → GainsEntry now number None next → SoFar jobs left before next
+pub one_full : (jobs left : List JobData) (before now next : LaneRecord) (number : ℕ)
+    → SoFar jobs left before now
+    → GainsEntry now number None next
+    → SoFar jobs left before next
 one_full jobs left before now next number so_far gains =
     let made : List Entry = entries_since before now in
     record {
@@ -81,16 +90,26 @@ one_full jobs left before now next number so_far gains =
           ∙ (ap (λ (qs : List QueuedJob). map job_of qs ++ left) (accepted-full made number) ∙ so_far.brings);
     }
 
-pub full_same : (jobs left : List JobData) (before now next : LaneRecord) (number : ℕ) (q : QueuedJob) → SoFar jobs left before now → GainsEntry now number (Some q) next → full_since before next ≡ full_since before now
+pub full_same : (jobs left : List JobData) (before now next : LaneRecord) (number : ℕ)
+    (q : QueuedJob)
+    → SoFar jobs left before now
+    → GainsEntry now number (Some q) next
+    → full_since before next ≡ full_since before now
 full_same jobs left before now next number q so_far gains = omega (arith, full_since_more before now next (entry number (Some q)) so_far.gains gains)
 
-pub full_more : (jobs left : List JobData) (before now next : LaneRecord) (number : ℕ) → SoFar jobs left before now → GainsEntry now number None next → full_since before next ≡ full_since before now + 1
+pub full_more : (jobs left : List JobData) (before now next : LaneRecord) (number : ℕ)
+    → SoFar jobs left before now
+    → GainsEntry now number None next
+    → full_since before next ≡ full_since before now + 1
 full_more jobs left before now next number so_far gains = full_since_more before now next (entry number None) so_far.gains gains
 
 -- ---- the end
 
--- the feed stops, and the record gains what it found then
-pub stops : (jobs left : List JobData) (stop : FeedStop) (before now after : LaneRecord) → SoFar jobs left before now → after ≡ record now { seen = now.seen ++ seen_at stop } → HandsIn jobs left stop before after
+-- The feed stops, and the record gains what it found then.
+pub stops : (jobs left : List JobData) (stop : FeedStop) (before now after : LaneRecord)
+    → SoFar jobs left before now
+    → after ≡ record now { seen = now.seen ++ seen_at stop }
+    → HandsIn jobs left stop before after
 stops jobs left stop before now after so_far found =
     let same : entries_since before after ≡ entries_since before now = ap (λ (r : LaneRecord). drop (length before.entries) r.entries) found in
     record {
@@ -100,13 +119,21 @@ stops jobs left stop before now after so_far found =
       brings = ap (λ (made : List Entry). map job_of (accepted made) ++ left) same ∙ so_far.brings;
     }
 
--- or nothing
-pub stops_as_is : (jobs left : List JobData) (stop : FeedStop) (before now : LaneRecord) → SoFar jobs left before now → seen_at stop ≡ [] → HandsIn jobs left stop before now
+-- The feed stops, and the record gains nothing more.
+pub stops_as_is : (jobs left : List JobData) (stop : FeedStop) (before now : LaneRecord)
+    → SoFar jobs left before now
+    → seen_at stop ≡ []
+    → HandsIn jobs left stop before now
 stops_as_is jobs left stop before now so_far nothing =
     stops jobs left stop before now now so_far (ap (λ (seen : List ℕ). record now { seen = seen }) (sym (ap (λ (more : List ℕ). now.seen ++ more) nothing ∙ append-nil now.seen)))
 
--- the job of the refusal is the first one that is left
-pub at_refusal : (jobs left : List JobData) (before now after : LaneRecord) (why : Refused) (stop : FeedStop) → SoFar jobs left before now → GainsRefusal now why after → stop ≡ stop_at why → HandsIn jobs left stop before after
+-- The job of the refusal is the first one that is left.
+pub at_refusal : (jobs left : List JobData) (before now after : LaneRecord) (why : Refused)
+    (stop : FeedStop)
+    → SoFar jobs left before now
+    → GainsRefusal now why after
+    → stop ≡ stop_at why
+    → HandsIn jobs left stop before after
 at_refusal jobs left before now after (refused.Closed seen) stop so_far gains is =
     subst (λ (s : FeedStop). HandsIn jobs left s before after) (sym is) (stops jobs left (Closed seen) before now after so_far gains)
 at_refusal jobs left before now after refused.Full stop so_far gains is =
@@ -123,37 +150,50 @@ turns_not_closed count is = search rules
 spent_not_closed : (count : ℕ) → LaneSpent ≡ Closed count → ⊥
 spent_not_closed count is = search rules
 
--- what was refused is not done
+-- A feed that stops at a refusal is not done.
 pub not_done_at : (why : Refused) (stop : FeedStop) → stop ≡ stop_at why → stop ≡ Done → ⊥
 not_done_at (refused.Closed seen) stop is done = search rules
 not_done_at refused.Full stop is done = search rules
 not_done_at refused.LaneSpent stop is done = search rules
 
--- and what found the line closed saw a count last
+-- Two stops at a closed queue that are the same saw the same count.
 same_count : (a b : ℕ) → Closed a ≡ Closed b → a ≡ b
 same_count a b same = search rules
 
-pub closed_at : (now after : LaneRecord) (why : Refused) (stop : FeedStop) (count : ℕ) → GainsRefusal now why after → stop ≡ stop_at why → stop ≡ Closed count → EndsWith after.seen count
+pub closed_at : (now after : LaneRecord) (why : Refused) (stop : FeedStop) (count : ℕ)
+    → GainsRefusal now why after
+    → stop ≡ stop_at why
+    → stop ≡ Closed count
+    → EndsWith after.seen count
 closed_at now after (refused.Closed seen) stop count gains is closed =
     (now.seen, ap (λ (r : LaneRecord). r.seen) gains ∙ ap (λ (s : ℕ). now.seen ++ s ∷ []) (same_count seen count (sym is ∙ closed)))
 closed_at now after refused.Full stop count gains is closed = absurd (turns_not_closed count (sym is ∙ closed))
 closed_at now after refused.LaneSpent stop count gains is closed = absurd (spent_not_closed count (sym is ∙ closed))
 
--- what stops for the turns was full
-pub turns_at : (why : Refused) (stop : FeedStop) → stop ≡ stop_at why → stop ≡ Turns → why ≡ refused.Full
+-- A feed stops with `Turns` only at a full queue.
+pub turns_at : (why : Refused) (stop : FeedStop)
+    → stop ≡ stop_at why
+    → stop ≡ Turns
+    → why ≡ refused.Full
 turns_at (refused.Closed seen) stop is turns = absurd (turns_not_closed seen (sym turns ∙ is))
 turns_at refused.Full stop is turns = refl
 turns_at refused.LaneSpent stop is turns = absurd (turns_not_spent (sym turns ∙ is))
 
--- a lane that is spent was so before the refusal
-pub spent_at : (now after : LaneRecord) (why : Refused) (stop : FeedStop) → GainsRefusal now why after
-    → (why ≡ refused.LaneSpent → MAX_ENTRIES ≤ length now.entries) → stop ≡ stop_at why → stop ≡ LaneSpent → MAX_ENTRIES ≤ length after.entries
+-- A lane that is spent was so before the refusal.
+pub spent_at : (now after : LaneRecord) (why : Refused) (stop : FeedStop)
+    → GainsRefusal now why after
+    → (why ≡ refused.LaneSpent → MAX_ENTRIES ≤ length now.entries)
+    → stop ≡ stop_at why
+    → stop ≡ LaneSpent
+    → MAX_ENTRIES ≤ length after.entries
 spent_at now after (refused.Closed seen) stop gains only is spent = absurd (spent_not_closed seen (sym spent ∙ is))
 spent_at now after refused.Full stop gains only is spent = absurd (turns_not_spent (sym is ∙ spent))
 spent_at now after refused.LaneSpent stop gains only is spent = subst (λ (r : LaneRecord). MAX_ENTRIES ≤ length r.entries) (sym gains) (only refl)
 
--- what the lane has accepted, what came back and what is left
-pub fed_by : (jobs back left : List JobData) (stop : FeedStop) (before after : LaneRecord) → HandsIn jobs (back ++ left) stop before after → accepted_jobs after ++ back ++ left ≡ accepted_jobs before ++ jobs
+-- The jobs that the lane has accepted, the one that came back and those left are all jobs.
+pub fed_by : (jobs back left : List JobData) (stop : FeedStop) (before after : LaneRecord)
+    → HandsIn jobs (back ++ left) stop before after
+    → accepted_jobs after ++ back ++ left ≡ accepted_jobs before ++ jobs
 fed_by jobs back left stop before after hands =
     let made : List Entry = entries_since before after in
     append_assoc (accepted_jobs after) back left
@@ -162,10 +202,17 @@ fed_by jobs back left stop before after hands =
     ∙ (ap (λ (js : List JobData). js ++ (back ++ left)) (map-append job_of (accepted before.entries) (accepted made))
     ∙ (append_assoc (accepted_jobs before) (map job_of (accepted made)) (back ++ left) ∙ ap (λ (js : List JobData). accepted_jobs before ++ js) hands.brings))))
 
--- ---- the count of tries that found the line full
+-- ---- the count of tries that found the queue full
 
--- the count grows by one, and is not the limit
-pub goes_on : (limit : Option ℕ) (full next since now turns : ℕ) → IfSome limit (λ most. most < 2 ^ 32) → next ≡ min (full + 1) (2 ^ 64 - 1) → now ≡ since + 1 → (limit ≡ Some next → ⊥) → limit ≡ Some turns → (full ≡ since) × (full < turns) → (next ≡ now) × (next < turns)
+-- The count grows by one, and is not the limit.
+pub goes_on : (limit : Option ℕ) (full next since now turns : ℕ)
+    → IfSome limit (λ most. most < 2 ^ 32)
+    → next ≡ min (full + 1) (2 ^ 64 - 1)
+    → now ≡ since + 1
+    → (limit ≡ Some next → ⊥)
+    → limit ≡ Some turns
+    → (full ≡ since) × (full < turns)
+    → (next ≡ now) × (next < turns)
 goes_on limit full next since now turns word grows more other is so_far =
     let small : turns < 2 ^ 32 = subst (λ (l : Option ℕ). IfSome l (λ most. most < 2 ^ 32)) is word in
     let one : next ≡ full + 1 = omega (arith, grows, small, so_far.1) in (
@@ -176,13 +223,22 @@ goes_on limit full next since now turns word grows more other is so_far =
           (cases_lt next turns),
     )
 
--- or it is
-pub is_last : (limit : Option ℕ) (full next since now : ℕ) → next ≡ min (full + 1) (2 ^ 64 - 1) → now ≡ since + 1 → limit ≡ Some next → (full ≡ since) × (full < next) → limit ≡ Some now
+-- The count grows by one, and is the limit.
+pub is_last : (limit : Option ℕ) (full next since now : ℕ)
+    → next ≡ min (full + 1) (2 ^ 64 - 1)
+    → now ≡ since + 1
+    → limit ≡ Some next
+    → (full ≡ since) × (full < next)
+    → limit ≡ Some now
 is_last limit full next since now grows more is so_far = is ∙ ap Some (omega (arith, grows, more, so_far.0, so_far.1))
 
--- or the feed stops for another reason
+-- The feed stops for another reason, and the count is below the limit.
 pub fewer_at : (before now after : LaneRecord) (why : Refused) (stop : FeedStop) (full turns : ℕ)
-    → GainsRefusal now why after → stop ≡ stop_at why → (stop ≡ Turns → ⊥) → (full ≡ full_since before now) × (full < turns) → full_since before after < turns
+    → GainsRefusal now why after
+    → stop ≡ stop_at why
+    → (stop ≡ Turns → ⊥)
+    → (full ≡ full_since before now) × (full < turns)
+    → full_since before after < turns
 fewer_at before now after (refused.Closed seen) stop full turns gains is other so_far =
     let same : full_since before after ≡ full_since before now = ap (λ (r : LaneRecord). full_since before r) gains in
     omega (arith, same, so_far.0, so_far.1)
@@ -191,6 +247,6 @@ fewer_at before now after refused.LaneSpent stop full turns gains is other so_fa
     let same : full_since before after ≡ full_since before now = ap (λ (r : LaneRecord). full_since before r) gains in
     omega (arith, same, so_far.0, so_far.1)
 
--- the count at a limit is the limit
+-- The count at a limit is the limit.
 pub limit_is : (most count : ℕ) → Some most ≡ Some count → count ≡ most
 limit_is most count same = search rules

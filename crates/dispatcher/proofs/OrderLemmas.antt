@@ -20,7 +20,7 @@ use Rattle.dispatcher.specs.Order.{by_id, AreSorted, AreInOrder}
 use Rattle.dispatcher.proofs.SameJobLemmas.{same_job}
 use Rattle.dispatcher.proofs.PermutationLemmas.{Rises, NeverFalls, in_order, total-IsPermutation}
 
--- a stands before b
+-- Job `a` comes before job `b`.
 abbrev IsBefore : JobId → JobId → Type 0
 IsBefore a b = (a.lane < b.lane) ⊎ ((a.lane ≡ b.lane) × (a.seq < b.seq))
 
@@ -29,30 +29,43 @@ IsBefore a b = (a.lane < b.lane) ⊎ ((a.lane ≡ b.lane) × (a.seq < b.seq))
 abbrev IsFrom : ℕ → ℕ → QueuedJob → Type 0
 IsFrom lane seq q = (q.id.lane ≡ lane) × (seq ≤ q.id.seq)
 
-lane_from : (lane seq first : ℕ) (jobs : List JobData) → first ≤ seq → AllByRecursion (IsFrom lane first) (with_ids_from lane seq jobs)
+lane_from : (lane seq first : ℕ) (jobs : List JobData)
+    → first ≤ seq
+    → AllByRecursion (IsFrom lane first) (with_ids_from lane seq jobs)
 lane_from lane seq first [] le = tt
 lane_from lane seq first (job ∷ jobs) le = ((refl, le), lane_from lane (seq + 1) first jobs (omega (arith, le)))
 
-lanes_from : (lane first : ℕ) (lists : List (List JobData)) → first ≤ lane → AllByRecursion (λ q. first ≤ q.id.lane) (lanes_with_ids lane lists)
+lanes_from : (lane first : ℕ) (lists : List (List JobData))
+    → first ≤ lane
+    → AllByRecursion (λ q. first ≤ q.id.lane) (lanes_with_ids lane lists)
 lanes_from lane first [] le = tt
 lanes_from lane first (jobs ∷ lists) le = joined (lanes_from (lane + 1) first lists (omega (arith, le))) (with_ids_from lane 0 jobs) (lane_from lane 0 0 jobs (omega arith))
   where
-    joined : AllByRecursion (λ q. first ≤ q.id.lane) (lanes_with_ids (lane + 1) lists) → (qs : List QueuedJob) → AllByRecursion (IsFrom lane 0) qs → AllByRecursion (λ q. first ≤ q.id.lane) (qs ++ lanes_with_ids (lane + 1) lists)
+    joined : AllByRecursion (λ q. first ≤ q.id.lane) (lanes_with_ids (lane + 1) lists)
+        → (qs : List QueuedJob)
+        → AllByRecursion (IsFrom lane 0) qs
+        → AllByRecursion (λ q. first ≤ q.id.lane) (qs ++ lanes_with_ids (lane + 1) lists)
     joined later [] own = later
     joined later (q ∷ qs) own = (omega (arith, le, own.0.0), joined later qs own.1)
 
 abbrev Before : QueuedJob → QueuedJob → Type 0
 Before a b = IsBefore a.id b.id
 
-lane_rises : (lane seq : ℕ) (jobs : List JobData) (rest : List QueuedJob) → AllByRecursion (λ q. lane < q.id.lane) rest → Rises same_job Before rest → Rises same_job Before (with_ids_from lane seq jobs ++ rest)
+lane_rises : (lane seq : ℕ) (jobs : List JobData) (rest : List QueuedJob)
+    → AllByRecursion (λ q. lane < q.id.lane) rest
+    → Rises same_job Before rest
+    → Rises same_job Before (with_ids_from lane seq jobs ++ rest)
 lane_rises lane seq [] rest later risen = risen
 lane_rises lane seq (job ∷ jobs) rest later risen = (joined (with_ids_from lane (seq + 1) jobs) (lane_from lane (seq + 1) (seq + 1) jobs (omega arith)), lane_rises lane (seq + 1) jobs rest later risen)
   where
-    joined : (qs : List QueuedJob) → AllByRecursion (IsFrom lane (seq + 1)) qs → AllByRecursion (Before (queued (job_id lane seq) job)) (qs ++ rest)
+    joined : (qs : List QueuedJob)
+        → AllByRecursion (IsFrom lane (seq + 1)) qs
+        → AllByRecursion (Before (queued (job_id lane seq) job)) (qs ++ rest)
     joined [] own = all_weaker (λ (q : QueuedJob). lane < q.id.lane) (Before (queued (job_id lane seq) job)) (λ q past. inl past) rest later
     joined (q ∷ qs) own = (inr (sym own.0.0, omega (arith, own.0.1)), joined qs own.1)
 
-lanes_rise : (lane : ℕ) (lists : List (List JobData)) → Rises same_job Before (lanes_with_ids lane lists)
+lanes_rise : (lane : ℕ) (lists : List (List JobData))
+    → Rises same_job Before (lanes_with_ids lane lists)
 lanes_rise lane [] = tt
 lanes_rise lane (jobs ∷ lists) = lane_rises lane 0 jobs (lanes_with_ids (lane + 1) lists)
     (all_weaker (λ (q : QueuedJob). lane + 1 ≤ q.id.lane) (λ q. lane < q.id.lane) (λ q past. omega (arith, past)) _ (lanes_from (lane + 1) (lane + 1) lists (omega arith)))
@@ -75,7 +88,7 @@ not_before a b first = λ before. ⊎_elim
     (λ (l : (a.lane ≡ b.lane) × (a.seq ≤ b.seq)). ⊎_elim (λ (m : b.lane < a.lane). absurd (omega (arith, l.0, m))) (λ (m : (b.lane ≡ a.lane) × (b.seq < a.seq)). absurd (omega (arith, l.1, m.1))) before)
     first
 
--- what a sort says of two neighbours
+-- What a sort says of two neighbours.
 neighbours : (a b : ReplyData) → is_lt (by_id b a) ≡ false → NotAfter a.id b.id
 neighbours a b test = ⊎_elim
     (λ (back : b.id.lane < a.id.lane). absurd (true≢false (ap (λ (o : Ordering). is_lt (ordering_then o (nat_cmp b.id.seq a.id.seq))) (nat_cmp_is b.id.lane a.id.lane Less back) ∙ test)))
@@ -97,23 +110,34 @@ tail_sorted x xs sorted = λ k d le lt. subst (λ (i : ℕ). is_lt (by_id (slice
     next : (k : ℕ) → suc k + 1 ≡ suc (k + 1)
     next k = omega arith
 
-all_after : (x : ReplyData) (xs : List ReplyData) → AreSorted (x ∷ xs) → AllByRecursion (λ y. NotAfter x.id y.id) xs
+all_after : (x : ReplyData) (xs : List ReplyData)
+    → AreSorted (x ∷ xs)
+    → AllByRecursion (λ y. NotAfter x.id y.id) xs
 all_after x [] sorted = tt
 all_after x (y ∷ ys) sorted =
     let first : NotAfter x.id y.id = neighbours x y (sorted 0 x (omega arith) (omega arith)) in
     (first, all_weaker (λ (z : ReplyData). NotAfter y.id z.id) (λ z. NotAfter x.id z.id) (λ z second. not_after_trans x.id y.id z.id first second) ys (all_after y ys (tail_sorted x (y ∷ ys) sorted)))
 
-never_falls : (replies : List ReplyData) → AreSorted replies → NeverFalls same_job Before (map answered replies)
+never_falls : (replies : List ReplyData)
+    → AreSorted replies
+    → NeverFalls same_job Before (map answered replies)
 never_falls [] sorted = tt
 never_falls (x ∷ xs) sorted = (none_before xs (all_after x xs sorted), never_falls xs (tail_sorted x xs sorted))
   where
-    none_before : (ys : List ReplyData) → AllByRecursion (λ y. NotAfter x.id y.id) ys → AllByRecursion (λ q. ¬ Before q (answered x)) (map answered ys)
+    none_before : (ys : List ReplyData)
+        → AllByRecursion (λ y. NotAfter x.id y.id) ys
+        → AllByRecursion (λ q. ¬ Before q (answered x)) (map answered ys)
     none_before [] after = tt
     none_before (y ∷ ys) after = (not_before x.id y.id after.0, none_before ys after.1)
 
 -- ---- sorted replies that answer all jobs
 
-pub sorted_answers : (n : ℕ) (jobs : List (List JobData)) (by_worker : List (List ReplyData)) (rest replies : List ReplyData) → IsPermutation (all_replies by_worker rest) replies → AreSorted replies → AnswersAll n jobs by_worker rest → AreInOrder n jobs replies
+pub sorted_answers : (n : ℕ) (jobs : List (List JobData)) (by_worker : List (List ReplyData))
+    (rest replies : List ReplyData)
+    → IsPermutation (all_replies by_worker rest) replies
+    → AreSorted replies
+    → AnswersAll n jobs by_worker rest
+    → AreInOrder n jobs replies
 sorted_answers n jobs by_worker rest replies same sorted all =
     let moved = IsPermutation-map answered (all_replies by_worker rest) replies same in
     record {

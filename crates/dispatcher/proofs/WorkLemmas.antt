@@ -1,4 +1,4 @@
--- What a worker has served, and facts of a shop's line and floor.
+-- What a worker has served, and facts about a dispatcher's queue and allocator.
 use Rattle.std.proofs.Common.{rules, ◌≡◌, ◌⊎◌, ℕ, ◌<◌, ◌≤◌, ⊎_elim, ◌++◌, ◌∷◌, [], List, Option, None, Some, map, refl, sym, ap, subst, ◌∙◌, arith}
 use Rattle.std.proofs.lemmas.Bool.{cases_lt}
 use Rattle.std.proofs.lemmas.List.{map-append, append-nil}
@@ -14,7 +14,7 @@ use Rattle.dispatcher.specs.Reply.{answered, region_of, IsRight}
 use Rattle.dispatcher.specs.declared.stop.Stop.{Stop}
 use Rattle.dispatcher.specs.declared.stop.Stop.TheVariants.{Ended, OutOfMemory, NotRun, Enough}
 
--- what a record gained by one more is what the list gained by one more
+-- What a record gained by one more job is what the list gained by one more reply.
 gained : {A B : Type 0} (f : A → B) (before after : List B) (y : B) (x : A) (xs zs : List A)
     → before ≡ map f xs → after ≡ before ++ y ∷ [] → f x ≡ y → zs ≡ xs ++ x ∷ [] → after ≡ map f zs
 gained {A} {B} f before after y x xs zs start gains same pushed =
@@ -22,41 +22,65 @@ gained {A} {B} f before after y x xs zs start gains same pushed =
     ∙ (ap (λ (bs : List B). bs ++ y ∷ []) start
     ∙ (ap (λ (z : B). map f xs ++ z ∷ []) (sym same) ∙ (sym (map-append f xs (x ∷ [])) ∙ ap (map f) (sym pushed))))
 
--- a worker has served one job more
-pub served_more : (n : ℕ) (taken after : List QueuedJob) (grants now : List Region) (replies more : List ReplyData)
-    → (q : QueuedJob) (reply : ReplyData) → after ≡ taken ++ q ∷ [] → answered reply ≡ q → now ≡ grants ++ region_of reply ∷ [] → IsRight n reply
-    → more ≡ replies ++ reply ∷ [] → HasServed n taken grants replies → HasServed n after now more
+-- A worker has served one more job.
+pub served_more : (n : ℕ) (taken after : List QueuedJob) (grants now : List Region)
+    (replies more : List ReplyData)
+    → (q : QueuedJob) (reply : ReplyData)
+    → after ≡ taken ++ q ∷ []
+    → answered reply ≡ q
+    → now ≡ grants ++ region_of reply ∷ []
+    → IsRight n reply
+    → more ≡ replies ++ reply ∷ []
+    → HasServed n taken grants replies
+    → HasServed n after now more
 served_more n taken after grants now replies more q reply takes answers granted right pushed was = record {
   answers = gained answered taken after q reply replies more was.answers takes answers pushed;
   regions = gained region_of grants now (region_of reply) reply replies more was.regions granted refl pushed;
   right = All-same (IsRight n) more (replies ++ reply ∷ []) pushed (All-push (IsRight n) replies reply was.right right);
 }
 
--- or none
-pub served_none : (n : ℕ) (taken after : List QueuedJob) (grants : List Region) (replies : List ReplyData)
-    → after ≡ taken ++ [] → HasServed n taken grants replies → HasServed n after grants replies
+-- A worker has served no more jobs.
+pub served_none : (n : ℕ) (taken after : List QueuedJob) (grants : List Region)
+    (replies : List ReplyData)
+    → after ≡ taken ++ []
+    → HasServed n taken grants replies
+    → HasServed n after grants replies
 served_none n taken after grants replies takes was = record { answers = takes ∙ (append-nil taken ∙ was.answers); regions = was.regions; right = was.right }
 
--- and where its replies, or its record, are the same ones
-pub served_same : (n : ℕ) (taken : List QueuedJob) (grants : List Region) (replies same : List ReplyData)
-    → same ≡ replies → HasServed n taken grants replies → HasServed n taken grants same
+-- A worker has served the same jobs, if its replies or its record are the same.
+pub served_same : (n : ℕ) (taken : List QueuedJob) (grants : List Region)
+    (replies same : List ReplyData)
+    → same ≡ replies
+    → HasServed n taken grants replies
+    → HasServed n taken grants same
 served_same n taken grants replies same is was = subst (λ (rs : List ReplyData). HasServed n taken grants rs) (sym is) was
 
--- a fact of the line, or of the floor, that a shop has within is one of the shop that contracts see
-pub at_line : (P : LineId → Type 0) (within seen : ShopId) → within ≡ seen → P within.line → P seen.line
+-- A fact about the queue or allocator of a dispatcher holds of the one that contracts see.
+pub at_line : (P : LineId → Type 0) (within seen : ShopId)
+    → within ≡ seen
+    → P within.line
+    → P seen.line
 at_line P within seen same fact = subst (λ (s : ShopId). P s.line) same fact
 
-pub at_floor : (P : FloorId → Type 0) (within seen : ShopId) → within ≡ seen → P within.floor → P seen.floor
+pub at_floor : (P : FloorId → Type 0) (within seen : ShopId)
+    → within ≡ seen
+    → P within.floor
+    → P seen.floor
 at_floor P within seen same fact = subst (λ (s : ShopId). P s.floor) same fact
 
--- a count that is within the limit and not at it is below it
-pub below_limit : (limit : Option ℕ) (count : ℕ) → ((most : ℕ) → limit ≡ Some most → count ≤ most) → (limit ≡ Some count → ⊥) → (most : ℕ) → limit ≡ Some most → count < most
+-- A count that is within the limit and not at it is below it.
+pub below_limit : (limit : Option ℕ) (count : ℕ)
+    → ((most : ℕ) → limit ≡ Some most → count ≤ most)
+    → (limit ≡ Some count → ⊥)
+    → (most : ℕ)
+    → limit ≡ Some most
+    → count < most
 below_limit limit count within other most is = ⊎_elim
     (λ (lt : count < most). lt)
     (λ (ge : most ≤ count). absurd (other (is ∙ ap Some (omega (arith, ge, within most is)))))
     (cases_lt count most)
 
--- a worker that found the line ended has stopped for no other reason
+-- A worker that found the queue ended has stopped for no other reason.
 pub ended_not_enough : Ended ≡ Enough → ⊥
 ended_not_enough is = search rules
 
@@ -66,7 +90,7 @@ ended_not_no_memory is = search rules
 pub ended_not_idle : Ended ≡ NotRun → ⊥
 ended_not_idle is = search rules
 
--- nor has one that takes no further job found the end
+-- A worker that takes no further job has not found the end.
 pub full_not_ended : (stop : Stop) → (stop ≡ Enough) ⊎ (stop ≡ OutOfMemory) → stop ≡ Ended → ⊥
 full_not_ended stop why is = ⊎_elim (λ (enough : stop ≡ Enough). ended_not_enough (sym is ∙ enough)) (λ (no_room : stop ≡ OutOfMemory). ended_not_no_memory (sym is ∙ no_room)) why
 
@@ -76,6 +100,6 @@ full_not_idle stop why is = search rules
 pub some_is : (stop : Stop) → Some stop ≡ Some Enough → stop ≡ Enough
 some_is stop same = search rules
 
--- where there is no limit no count is the limit
+-- Without a limit, no count is the limit.
 pub no_limit : (count : ℕ) → None ≡ Some count → ⊥
 no_limit count is = search rules

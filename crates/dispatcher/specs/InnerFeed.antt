@@ -4,7 +4,7 @@ use Rattle.job_queue.specs.declared.job_line.Refused.TheVariants as refused
 use Rattle.dispatcher.specs.declared.feeding.FeedStop.{FeedStop}
 use Rattle.dispatcher.specs.declared.feeding.FeedStop.TheVariants.{Closed, LaneSpent, Turns}
 
--- why a feed stops, if it stops at this refusal
+-- Why a feed stops, if it stops at this refusal.
 abbrev pub stop_at : Refused → FeedStop
 stop_at (refused.Closed seen) = Closed seen
 stop_at refused.Full = Turns

@@ -1,14 +1,15 @@
--- Which sizes of a shop are refused.
+-- Which sizes of a dispatcher are refused.
 use Rattle.std.specs.Prelude.{ℕ, Bool, not, ◌&&◌, Option, Some, None, nat_lt, if◌then◌else◌}
 use Rattle.cube_shape.specs.declared.limits.TheConstants.{MAX_CAPACITY, MAX_DIM, MAX_LANES, MAX_DISPATCHERS}
 use Rattle.dispatcher.specs.declared.opening.ShopRefused.{ShopRefused}
 use Rattle.dispatcher.specs.declared.opening.ShopRefused.TheVariants.{BadDimension, BadLanes, BadDispatchers, BadCapacity}
 
--- the count is neither 0 nor above the limit
+-- The count is neither 0 nor above the limit.
 abbrev pub is_within : ℕ → ℕ → Bool
 is_within limit count = nat_lt 0 count && not (nat_lt limit count)
 
--- the first size that is not within its limits, or None
+-- The first size that is not within its limits, if there is one. The order is dimension, lanes,
+-- workers, capacity.
 abbrev pub refusal_of : ℕ → ℕ → ℕ → ℕ → Option ShopRefused
 refusal_of n lanes dispatchers capacity =
     if nat_lt MAX_DIM n then Some BadDimension

@@ -8,14 +8,15 @@ use Rattle.job_types.specs.Reply.{ReplyData}
 use Rattle.dispatcher.specs.Reply.{answered, IsRight}
 use Rattle.dispatcher.specs.Answers.{jobs_with_ids}
 
--- by lane, and in a lane by number
+-- The order by lane, and within a lane by number (seq).
 abbrev pub by_id : ReplyData → ReplyData → Ordering
 by_id a b = ordering_then (nat_cmp a.id.lane b.id.lane) (nat_cmp a.id.seq b.id.seq)
 
+-- The replies are sorted by lane, and within a lane by number (seq).
 abbrev pub AreSorted : List ReplyData → Type 0
 AreSorted replies = IsSorted by_id replies
 
--- the replies answer the jobs of these lanes one for one, lane by lane, and each is right
+-- The replies answer the jobs of these lanes one for one, lane by lane, and each is right.
 pub record AreInOrder (n : ℕ) (jobs : List (List JobData)) (replies : List ReplyData) : Type 0 where
   pub answers : map answered replies ≡ jobs_with_ids jobs
   pub right : All (IsRight n) replies

@@ -1,4 +1,4 @@
--- Replies, as the jobs that they answer and the regions that they name.
+-- Replies: the jobs that they answer, and the blocks that they name.
 use Rattle.std.specs.Prelude.{◌≡◌, ℕ, length}
 use Rattle.cube_shape.specs.declared.region.Region.{Region}
 use Rattle.cube_shape.specs.Region.{IsAligned}
@@ -7,15 +7,17 @@ use Rattle.job_types.specs.Reply.{ReplyData}
 use Rattle.job_queue.specs.declared.record.QueuedJob.{QueuedJob}
 use Rattle.job_queue.specs.Record.{queued}
 
--- the job that it answers, with its id
+-- The job that a reply answers, with its id, as the queue had it.
 abbrev pub answered : ReplyData → QueuedJob
 answered reply = queued reply.id reply.job
 
+-- The block that a reply names.
 abbrev pub region_of : ReplyData → Region
 region_of reply = reply.region
 
--- The job was for this machine, and the reply names an aligned region of it with a processor for each item. Its
--- result and its tally are then those of its collective, since they are those of every reply.
+-- The reply is right for the machine of dimension `n`. Its job was made for that machine. It names
+-- an aligned block of the least dimension with a processor for each item. The result is no part of
+-- it: every value of type `Reply` has the right one (`Reply::at`, `Reply::tally`).
 pub record IsRight (n : ℕ) (reply : ReplyData) : Type 0 where
   pub machine : reply.job.machine ≡ n
   pub aligned : IsAligned n reply.region

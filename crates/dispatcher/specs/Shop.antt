@@ -1,14 +1,15 @@
--- Which shop it is, and how much room its end has.
+-- Which dispatcher it is, and how much room its end has.
 use Rattle.std.specs.Prelude.{◌≡◌, ℕ}
 use Rattle.job_queue.specs.Line.{LineId}
 use Rattle.floors.specs.Floor.{FloorId}
 
--- which shop it is: its line and its floor
+-- The identity of a dispatcher: its queue and its allocator.
 pub record ShopId : Type 0 where
   pub line : LineId
   pub floor : FloorId
 
--- the shop has these sizes
+-- The dispatcher has these sizes: the dimension, the numbers of lanes and workers, and the capacity
+-- of its queue.
 pub record HasSizes (n lanes dispatchers capacity : ℕ) (shop : ShopId) : Type 0 where
   pub dim : shop.floor.dim ≡ n
   pub machine : shop.line.sizes.machine ≡ n
@@ -16,11 +17,11 @@ pub record HasSizes (n lanes dispatchers capacity : ℕ) (shop : ShopId) : Type 
   pub workers : shop.line.sizes.passes ≡ dispatchers
   pub holds : shop.line.sizes.capacity ≡ capacity
 
--- how many workers, and how many jobs that are left, the end of a shop has room for
+-- How many workers, and how many jobs that are left, the end of a dispatcher has room for.
 pub record RoomSize : Type 0 where
   pub workers : ℕ
   pub jobs : ℕ
 
--- room for all workers and for a full line
+-- Room for all workers and for a full queue.
 abbrev pub room_for : ShopId → RoomSize
 room_for shop = record { workers = shop.line.sizes.passes; jobs = shop.line.sizes.capacity }

@@ -1,4 +1,4 @@
-//! What a worker does.
+//! The calls of a worker.
 ghost use Rattle.std.specs.Prelude.{◌≡◌, ◌≢◌, ℕ, ◌+◌, ◌<◌, ◌≤◌, ◌⊎◌, [], Some, None, IfSome, IsSome, length};
 ghost use Rattle.std.specs.Vec.{vec_capacity};
 ghost use Rattle.dispatcher.specs.Members.{IsWorkerOf, IsEndOf, worker_record, stop_of, replies_of, end_record};
@@ -19,8 +19,8 @@ use std::alloc::Global;
 use std::sync::Wait;
 use std::thread::yield_now;
 
-// Why the worker takes no further job: its replies are as many as the limit, or there is no room for one
-// more. With `None` there is room.
+// Reserves room for one more reply. Returns why the worker must stop: it has as many replies as the
+// limit, or memory ran out.
 fn make_room(replies: &mut Vec<Reply>, limit: Option<u32>) -> Option<Stop>
     ensures items { replies.new.items ≡ replies.old.items }
     ensures room { result ≡ None → length replies.new.items < vec_capacity replies.new }
@@ -39,7 +39,7 @@ fn make_room(replies: &mut Vec<Reply>, limit: Option<u32>) -> Option<Stop>
     None
 }
 
-// Waits for the length of a pause, or until a job looks waiting.
+// Waits for one back-off step, or until a job looks waiting.
 fn wait_for_job<R: Wait, L: JobLine>(rt: &R, line: &L, pass: &mut L::Pass, pause: &mut Pause)
     requires { L.is_pass (L.id line.now) pass.old }
     ensures pass { L.is_pass (L.id line.now) pass.new }
@@ -59,7 +59,7 @@ struct Shift<L: JobLine, F: Floor> {
     station: F::Station,
     // The replies so far.
     replies: Vec<Reply>,
-    // The pause between two takes that find no job.
+    // The back-off between two takes that find no job.
     pause: Pause,
 }
 
@@ -79,8 +79,8 @@ impl<L: JobLine, F: Floor> Shift<L, F> {
         }
     }
 
-    // Takes a job and answers it. Where the line is empty it waits for the length of a pause. Returns a stop
-    // where the line has ended.
+    // Takes a job and runs it. If the queue is empty, waits for one back-off step. Returns a stop
+    // if the queue has ended.
     fn serve_next<R: Wait, T: Runner>(
         self,
         rt: &R,
@@ -143,7 +143,8 @@ impl<L: JobLine, F: Floor> Shift<L, F> {
         (shift, None)
     }
 
-    // Takes jobs and answers each, until the line has ended or there are as many replies as the limit says.
+    // Takes and runs jobs until the queue has ended, or there are as many replies as the limit
+    // says.
     fn work<R: Wait, T: Runner>(
         self,
         rt: &R,
@@ -206,11 +207,11 @@ impl<L: JobLine, F: Floor> Shift<L, F> {
     }
 }
 
-/// Takes jobs and answers each on a subcube of its own, until the line has ended.
+/// Takes and runs jobs until the queue has ended. Each job runs on a block of its own.
 ///
-/// Room for a reply is reserved before its job is taken: where that is refused the worker stops with
-/// `OutOfMemory`, and no taken job is lost. It stops with `Ended` where its last take found the line
-/// ended. What its replies are is said by the type `WorkerEnd`.
+/// Memory for a reply is reserved before its job is taken, so no taken job is lost. If the
+/// reservation fails, the worker stops with `OutOfMemory`. It stops with `Ended` if its last take
+/// found the queue ended. The type `WorkerEnd` says which replies it has.
 pub fn dispatch<R: Wait, L: JobLine, F: Floor, T: Runner>(
     rt: &R,
     alloc: Global,
@@ -229,9 +230,9 @@ pub fn dispatch<R: Wait, L: JobLine, F: Floor, T: Runner>(
     Shift::begin(alloc, worker).work(rt, line, floor, runner, None)
 }
 
-/// Takes jobs and answers them as `dispatch` does, and stops with `Enough` once there are `most` replies.
+/// Takes and runs jobs as `dispatch` does. Stops with `Enough` when there are `most` replies.
 ///
-/// With `most` 0 it takes nothing. Where it stops otherwise there are fewer replies.
+/// With `most` 0 it takes no job. If it stops for another reason, it has fewer replies.
 pub fn dispatch_some<R: Wait, L: JobLine, F: Floor, T: Runner>(
     rt: &R,
     alloc: Global,

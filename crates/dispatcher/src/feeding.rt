@@ -1,4 +1,4 @@
-//! What a feeder does.
+//! The calls of a producer.
 ghost use Rattle.std.specs.Prelude.{◌≡◌, ◌≢◌, ℕ, ◌+◌, ◌-◌, ◌^◌, ◌<◌, ◌≤◌, min, ◌++◌, [], ◌∷◌, List, None, Some, IfSome, length};
 ghost use Rattle.std.specs.Option.{IsSome};
 ghost use Rattle.std.specs.List.{All};
@@ -18,34 +18,34 @@ use std::collections::VecDeque;
 use std::sync::Wait;
 use std::thread::yield_now;
 
-/// Why a feed has stopped.
+/// The reason why a feed has stopped.
 #[derive(Clone, Copy, Debug, PartialEq, Eq, Hash)]
 pub enum FeedStop {
     /// All jobs were accepted.
     Done,
-    /// The line is closed.
+    /// The queue is closed.
     Closed {
-        /// The count of entries that was found beside the closed mark.
+        /// The count of entries that was read together with the closed mark.
         seen: u64,
     },
     /// The lane has made as many entries as a lane may.
     LaneSpent,
-    /// The line was full as often as the feed was to try. Only `feed_for` stops so.
+    /// The queue was full as often as the feed was allowed to try. Only `feed_for` stops so.
     Turns,
 }
 
 /// A feed that has stopped, with the jobs that were not accepted.
 #[derive(Debug, Drop)]
 pub struct FeedEnd {
-    /// The job that the last try gave back, if it gave one back.
+    /// The job that the last try returned, if it returned one.
     pub back: Option<Job>,
     /// The jobs after it, in order.
     pub left: VecDeque<Job>,
-    /// Why the feed has stopped.
+    /// The reason why the feed has stopped.
     pub stop: FeedStop,
 }
 
-// Waits for the length of a pause, or until half of the line looks free.
+// Waits for one back-off step, or until half of the queue looks free.
 fn wait_at_line<R: Wait, L: JobLine>(rt: &R, line: &L, lane: &mut L::Lane, pause: &mut Pause)
     requires { L.is_lane (L.id line.now) lane.old }
     ensures lane { L.is_lane (L.id line.now) lane.new }
@@ -59,8 +59,8 @@ fn wait_at_line<R: Wait, L: JobLine>(rt: &R, line: &L, lane: &mut L::Lane, pause
     }
 }
 
-/// Waits for the length of a pause, or until half of the line looks free: what a feeder does after a submit
-/// that found the line full.
+/// Waits for one back-off step, or until half of the queue looks free. A producer calls it after a
+/// submit that found the queue full.
 pub fn wait_for_room<R: Wait, L: JobLine, F: Floor>(
     rt: &R,
     shop: &Shop<L, F>,
@@ -74,7 +74,8 @@ pub fn wait_for_room<R: Wait, L: JobLine, F: Floor>(
     wait_at_line(rt, &shop.line, lane, pause);
 }
 
-// Why a feed stops at this refusal, if it does. It counts the tries that found the line full.
+// Counts the tries that found the queue full. Returns why the feed stops at this refusal, if it
+// does.
 fn stop_for(refused: Refused, limit: Option<u32>, full: &mut usize) -> Option<FeedStop>
     ensures stop { IfSome result (λ stop. stop ≡ stop_at refused) }
     ensures last { result ≡ Some FeedStop.Turns → limit ≡ Some full.new }
@@ -96,7 +97,7 @@ fn stop_for(refused: Refused, limit: Option<u32>, full: &mut usize) -> Option<Fe
     }
 }
 
-// Hands in the jobs, until one is refused for good or the line was full as often as the limit says.
+// Submits the jobs until one is refused for good, or the queue was full as often as the limit says.
 fn hand_in<R: Wait, L: JobLine>(
     rt: &R,
     line: &L,
@@ -149,11 +150,11 @@ fn hand_in<R: Wait, L: JobLine>(
     unreachable!()
 }
 
-/// Hands in the jobs by one lane, from the front, and tries again where the line is full.
+/// Submits the jobs of one lane, from the front, and tries again if the queue is full.
 ///
-/// What the lane has accepted in this call, followed by the job that came back and those that are
-/// left, is what was handed in. Each accepted job cost the lane an entry, and so did each try that found
-/// the line full; it made no other. All jobs must be for the line's machine and for this lane.
+/// The jobs accepted in this call, then the job that came back, then those left are all jobs passed
+/// in. Each accepted job costs the lane one entry, and so does each try that found the queue full.
+/// The call makes no other entry.
 pub fn feed<R: Wait, L: JobLine, F: Floor>(
     rt: &R,
     shop: &Shop<L, F>,
@@ -178,8 +179,8 @@ pub fn feed<R: Wait, L: JobLine, F: Floor>(
     hand_in(rt, &shop.line, lane, jobs, None)
 }
 
-/// Hands in the jobs by one lane as `feed` does, and stops with `Turns` once the line was full at `turns` tries
-/// of this call. The job of the last try is then the one that came back.
+/// Submits the jobs of one lane as `feed` does. Stops with `Turns` when `turns` tries of this call
+/// have found the queue full. Then the job of the last try came back.
 ///
 /// With `turns` 0 it makes no try, and all jobs are left.
 pub fn feed_for<R: Wait, L: JobLine, F: Floor>(

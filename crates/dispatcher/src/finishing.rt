@@ -1,4 +1,4 @@
-//! The end of a shop.
+//! The end of a dispatcher.
 ghost use Rattle.std.specs.Prelude.{◌≡◌, ℕ, ◌<◌, ◌≤◌, ◌++◌, List, [], map, length};
 ghost use Rattle.std.specs.List.{All};
 ghost use Rattle.std.specs.Vec.{vec_capacity};
@@ -20,10 +20,10 @@ use job_types::Reply;
 use std::collections::VecDeque;
 use std::sync::Wait;
 
-/// All replies of a shop, and its machine, which is wholly free.
+/// All replies of a dispatcher, and its machine, which is wholly free.
 #[derive(Drop)]
 pub struct Finished<M> {
-    /// The replies of each worker, in the order in which the workers were given.
+    /// The replies of each worker, in the order in which the workers were passed in.
     pub by_worker: Vec<Vec<Reply>>,
     /// The replies to the jobs that no worker took.
     pub rest: Vec<Reply>,
@@ -33,7 +33,7 @@ pub struct Finished<M> {
     pub machine: M,
 }
 
-// Answers the jobs on the station, front first, and keeps the replies.
+// Runs the jobs on the station, front first. Returns the station and the replies.
 fn answer_jobs<R: Wait, F: Floor, T: Runner>(
     rt: &R,
     floor: &F,
@@ -60,7 +60,7 @@ fn answer_jobs<R: Wait, F: Floor, T: Runner>(
     (station, rest)
 }
 
-// Answers the jobs on the last station.
+// Runs the jobs on the last station.
 fn answer_rest<R: Wait, F: Floor, T: Runner>(
     rt: &R,
     floor: &F,
@@ -90,11 +90,11 @@ fn answer_rest<R: Wait, F: Floor, T: Runner>(
 }
 
 impl<L: JobLine, F: Floor> Shop<L, F> {
-    /// Ends a closed shop. It is given as many lanes and workers of the shop as the shop has, so these
-    /// are all of them. It answers the jobs that no worker took, front first, and ends the floor.
+    /// Ends a closed dispatcher. It needs as many lanes and workers as the dispatcher has, which
+    /// are all of them. It runs the jobs that no worker took, front first, and ends the allocator.
     ///
-    /// Each accepted job then has exactly one right reply, and the machine is wholly free. No memory
-    /// is taken.
+    /// Then each accepted job has exactly one right reply, and the machine is wholly free. It
+    /// allocates no memory.
     pub fn finish<R: Wait, T: Runner>(
         self,
         rt: &R,

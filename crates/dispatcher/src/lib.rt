@@ -1,9 +1,10 @@
-//! A job dispatcher: producers hand in jobs by a queue, and workers answer each on a block of processors of its own. Once
-//! the shop has finished, each accepted job has exactly one right reply.
+//! A job dispatcher: producers submit jobs to a queue, and workers run each on a block of
+//! processors of its own.
 //!
-//! A `Shop` is a line of jobs and the floor of one machine. Feeders hand in jobs by its lanes, and
-//! workers take them, answer them on subcubes, and keep their replies. Everything is proved of any
-//! line, any floor and any runner, from their traits alone.
+//! A dispatcher (`Shop`) is a queue of jobs and the allocator of one machine. Producers submit jobs
+//! by its lanes. Workers take them, run them on blocks, and keep their replies. When the dispatcher
+//! has finished, each accepted job has exactly one right reply. All of this is proved for every
+//! queue, allocator and runner that meet their traits.
 #![tactic(auto)]
 
 mod closing;

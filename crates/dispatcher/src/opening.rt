@@ -1,4 +1,4 @@
-//! The opening of a shop.
+//! Opening a dispatcher.
 ghost use Rattle.std.specs.Prelude.{◌≡◌, ◌≢◌, ◌≤◌, [], Some, None, Err, IfOk, IfErr, map, length};
 ghost use Rattle.std.specs.List.{All};
 ghost use Rattle.std.specs.Vec.{vec_capacity};
@@ -19,51 +19,51 @@ use std::alloc::{AllocError, Global};
 use std::collections::VecDeque;
 use thiserror::Error;
 
-/// Why a shop is not opened.
+/// The reason why a dispatcher was not opened.
 #[derive(Clone, Copy, Debug, PartialEq, Eq, Hash, Error)]
 pub enum ShopRefused {
-    /// The dimension is above the largest one.
+    /// The dimension is above `MAX_DIM`.
     #[error("the dimension is above the largest one")]
     BadDimension,
-    /// There would be no lane, or more than the largest number of them.
+    /// The number of lanes is 0, or above `MAX_LANES`.
     #[error("the number of lanes is not within its limits")]
     BadLanes,
-    /// There would be no worker, or more than the largest number of them.
+    /// The number of workers is 0, or above `MAX_DISPATCHERS`.
     #[error("the number of workers is not within its limits")]
     BadDispatchers,
-    /// The line would hold no job, or more than the largest number of them.
+    /// The capacity of the queue is 0, or above `MAX_CAPACITY`.
     #[error("the capacity is not within its limits")]
     BadCapacity,
-    /// There was no memory.
+    /// Memory ran out.
     #[error("out of memory")]
     OutOfMemory,
 }
 
-/// The sizes of a shop that is run on threads. Its lanes are as many as the lists of jobs that it is given.
+/// The sizes of a dispatcher that runs on threads. It has a lane for each list of jobs.
 #[derive(Clone, Copy, Debug, PartialEq, Eq, Hash)]
 pub struct ShopSizes {
-    /// The dimension of the machine, which has `2^dim` processors: at most `MAX_DIM`.
+    /// The dimension of the machine, which has `2^dim` processors: from 0 to `MAX_DIM`.
     pub dim: u32,
     /// The number of workers: from 1 to `MAX_DISPATCHERS`.
     pub dispatchers: u32,
-    /// The number of jobs that the line holds at most: from 1 to `MAX_CAPACITY`.
+    /// The number of jobs that the queue holds at most: from 1 to `MAX_CAPACITY`.
     pub capacity: usize,
 }
 
-/// A new shop, with all that its callers need.
+/// A new dispatcher, with the handles that belong to it.
 pub struct Opened<L: JobLine, F: Floor> {
-    /// The shop.
+    /// The dispatcher.
     pub shop: Shop<L, F>,
     /// Its lanes, in the order of their numbers.
     pub lanes: Vec<L::Lane>,
     /// Its workers, in the order of their passes.
     pub workers: Vec<Worker<L, F>>,
-    /// What closes it.
+    /// The handle that closes it.
     pub closer: Closer<L, F>,
 }
 
-/// Why a shop of these sizes is refused, if it is: the first size that is not within its limits, in
-/// the order dimension, lanes, workers, capacity.
+/// Returns why a dispatcher of these sizes is refused, if it is: the first size that is not within
+/// its limits. The order is dimension, lanes, workers, capacity.
 pub fn refusal(n: u32, lanes: u32, dispatchers: u32, capacity: usize) -> Option<ShopRefused>
     ensures { result ≡ refusal_of n lanes dispatchers capacity }
 {
@@ -80,7 +80,7 @@ pub fn refusal(n: u32, lanes: u32, dispatchers: u32, capacity: usize) -> Option<
     }
 }
 
-// A worker of each pass and the station beside it.
+// Makes a worker of each pass and the station at the same place.
 #[tactic(auto, using(crate::proofs::OpenLemmas::first_has))]
 fn pair_up<L: JobLine, F: Floor>(
     passes: Vec<L::Pass>,
@@ -108,7 +108,7 @@ fn pair_up<L: JobLine, F: Floor>(
     workers
 }
 
-// Opens the floor and the line of these sizes. Where there is no memory for the line, it ends the floor again.
+// Opens the allocator and then the queue. If memory runs out for the queue, it ends the allocator.
 fn open_both<L: JobLine, F: Floor>(
     alloc: Global,
     sizes: Sizes,
@@ -146,7 +146,7 @@ where
     Ok((floor, stations, opened))
 }
 
-// Opens a shop of these sizes, with this room for its end.
+// Opens a dispatcher of these sizes, with this room for its end.
 fn open_all<L: JobLine, F: Floor>(
     alloc: Global,
     sizes: Sizes,
@@ -190,12 +190,12 @@ where
 }
 
 impl<L: JobLine, F: Floor> Shop<L, F> {
-    /// Opens a shop for a machine of dimension `n`, with this many lanes and workers and a line that
-    /// holds up to `capacity` jobs.
+    /// Opens a dispatcher for a machine of dimension `n`, with this many lanes and workers, and a
+    /// queue of up to `capacity` jobs.
     ///
-    /// The sizes are checked in this order, and the first one that is not within its limits is the
-    /// error. All room is reserved here, that of `finish` too. Where there is no memory for the line,
-    /// the floor is ended again.
+    /// The error is the first size that is not within its limits, in the order dimension, lanes,
+    /// workers, capacity. All memory is reserved here, that of `finish` included. If memory runs
+    /// out for the queue, the allocator is ended again.
     pub fn open(
         alloc: Global,
         n: u32,

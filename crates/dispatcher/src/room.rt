@@ -1,4 +1,4 @@
-//! The lists that the end of a shop fills, reserved when it is opened.
+//! Memory for the result of `finish`, reserved when a dispatcher opens.
 ghost use Rattle.std.specs.Prelude.{◌≡◌, ◌≤◌, [], IfOk, map, length};
 ghost use Rattle.std.specs.Vec.{vec_capacity};
 
@@ -10,7 +10,7 @@ use std::alloc::{AllocError, Global};
 use std::collections::VecDeque;
 use std::marker::Model;
 
-/// Room for the members of all workers, for their replies, and for those to a full line of jobs.
+/// Room for the members and replies of all workers, and for the replies to a full queue of jobs.
 pub(crate) struct Room<L: JobLine, F: Floor> {
     workers: u32,
     jobs: usize,
@@ -35,7 +35,7 @@ impl<L: JobLine, F: Floor> Model for Room<L, F> {
         × (r.rest.items ≡ []) × (r.jobs ≤ vec_capacity r.rest) };
 }
 
-// What all workers have, by kind.
+// The members and replies of all workers, by kind.
 pub(crate) struct Gathered<L: JobLine, F: Floor> {
     pub passes: Vec<L::Pass>,
     pub stations: Vec<F::Station>,
@@ -45,7 +45,7 @@ pub(crate) struct Gathered<L: JobLine, F: Floor> {
 }
 
 impl<L: JobLine, F: Floor> Room<L, F> {
-    // Reserves it.
+    // Reserves the room.
     pub(crate) fn new(alloc: Global, workers: u32, jobs: usize) -> Result<Self, AllocError>
         ensures { IfOk result (λ room. room ≡ record { workers = workers; jobs = jobs }) }
     {
@@ -66,7 +66,7 @@ impl<L: JobLine, F: Floor> Room<L, F> {
         })
     }
 
-    // Gives it back unused.
+    // Frees the room unused.
     pub(crate) fn let_go(self) {
         let Room {
             workers: _,
@@ -80,7 +80,7 @@ impl<L: JobLine, F: Floor> Room<L, F> {
         stations.destroy_empty();
     }
 
-    // Takes the workers apart, each kind in their order.
+    // Takes the workers apart. Each kind keeps the order of the workers.
     pub(crate) fn gather(self, ends: Vec<WorkerEnd<L, F>>) -> Gathered<L, F>
         requires { length ends.items ≤ self.workers }
         ensures passes { result.passes.items ≡ map (λ e. e.pass) ends.items }

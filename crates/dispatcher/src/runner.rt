@@ -1,4 +1,4 @@
-//! How a job is answered on the subcube that it got.
+//! How a job runs on the block that it got.
 ghost use Rattle.std.specs.Prelude.{◌≡◌, length};
 ghost use Rattle.cube_shape.specs.Region.{IsAligned};
 ghost use Rattle.job_types.specs.Dim.{dim_of};
@@ -6,16 +6,16 @@ ghost use Rattle.job_types.specs.Dim.{dim_of};
 use job_types::{Job, JobId, Region, Reply};
 use std::sync::Wait;
 
-/// Answers jobs. The threads of a shop share one runner.
+/// A way to run jobs. The threads of a dispatcher share one runner.
 pub trait Runner {
-    /// Answers the job on an aligned region of its machine, which has a processor for each item.
+    /// Runs the job on an aligned block of its machine with a processor for each item.
     fn run<R: Wait>(&self, rt: &R, id: JobId, region: Region, job: Job) -> Reply
         requires aligned { IsAligned job.machine region }
         requires dimension { region.dim ≡ dim_of (length job.items) }
         ensures { result ≡ record { id = id; job = job; region = region } };
 }
 
-/// The runner that runs the rounds of the job's collective, and nothing else.
+/// A runner that runs the rounds of the job's collective, and nothing else.
 #[derive(Clone, Copy, Debug)]
 pub struct Plain;
 

@@ -1,4 +1,4 @@
-// One job, answered on a subcube of its own.
+// Running one job on a block of its own.
 ghost use Rattle.std.specs.Prelude.{◌≡◌, ◌++◌, [], ◌∷◌};
 ghost use Rattle.job_queue.specs.Record.{queued};
 ghost use Rattle.dispatcher.specs.Reply.{answered, region_of, IsRight};
@@ -8,7 +8,7 @@ use floors::Floor;
 use job_types::{Job, JobId, Reply};
 use std::sync::Wait;
 
-// Takes a subcube of the job's dimension, answers the job on it, and gives the subcube back.
+// Takes a block of the job's dimension, runs the job on it, and releases the block.
 pub(crate) fn serve<R: Wait, F: Floor, T: Runner>(
     rt: &R,
     floor: &F,

@@ -1,4 +1,4 @@
-//! The shop: a line of jobs and the floor of their machine.
+//! The dispatcher: a queue of jobs and the allocator of their machine.
 ghost use Rattle.std.specs.Prelude.{◌≡◌, ◌≤◌, Some, Err, IfOk, IfErr, length};
 ghost use Rattle.job_queue.specs.Record.{queued, IsSettled};
 ghost use Rattle.job_queue.specs.Line.{next_id, GainsEntry, GainsRefusal};
@@ -12,7 +12,8 @@ use job_types::Job;
 use std::marker::Model;
 use std::sync::Wait;
 
-/// A line of jobs and the floor of the machine that they are for, with a station for each pass.
+/// A dispatcher: a queue of jobs, and the allocator of the machine that they are for. The allocator
+/// has a station for each pass of the queue.
 pub struct Shop<L: JobLine, F: Floor> {
     pub(crate) line: L,
     pub(crate) floor: F,
@@ -30,7 +31,8 @@ impl<L: JobLine, F: Floor> Model for Shop<L, F> {
 }
 
 impl<L: JobLine, F: Floor> Shop<L, F> {
-    /// Hands in a job, which was made for the shop's machine and for this lane: the call of the line.
+    /// Submits a job that was made for the dispatcher's machine and for this lane. It is the call
+    /// of the queue.
     pub fn submit<R: Wait>(
         &self,
         rt: &R,
@@ -56,7 +58,7 @@ impl<L: JobLine, F: Floor> Shop<L, F> {
         self.line.submit(rt, lane, job)
     }
 
-    /// Closes the shop: no job enters its line after this.
+    /// Closes the dispatcher. No job enters its queue after this.
     pub fn close<R: Wait>(&self, rt: &R, closer: Closer<L, F>) -> CloseNote<L, F>
         requires { IsCloserOf L.JobLine self.now closer }
         ensures { IsNoteOf L.JobLine self.now result }

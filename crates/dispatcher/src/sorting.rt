@@ -1,4 +1,4 @@
-//! The replies of a finished shop, sorted by id.
+//! The replies of a finished dispatcher, sorted by id.
 ghost use Rattle.std.specs.Prelude.{◌≡◌, ℕ, List, ◌+◌, ◌≤◌, ◌++◌, [], IfOk, IfErr, IfSome, map, length, IsPermutation};
 ghost use Rattle.std.specs.Vec.{vec_capacity};
 ghost use Rattle.job_types.specs.Job.{JobData};
@@ -10,7 +10,7 @@ use job_types::Reply;
 use std::alloc::{AllocError, Global};
 use std::collections::VecDeque;
 
-// The replies of the only worker, where it has all of them.
+// Returns the replies of the only worker, if it has all of them.
 fn only_list<M: Drop>(finished: Finished<M>) -> Result<Vec<Reply>, Finished<M>>
     ensures all { IfOk result (λ replies. replies.items
         ≡ all_replies (map (λ rs. rs.items) finished.by_worker.items) finished.rest.items) }
@@ -26,7 +26,7 @@ fn only_list<M: Drop>(finished: Finished<M>) -> Result<Vec<Reply>, Finished<M>>
     Ok(replies)
 }
 
-// How many replies there are, if that is a number of this machine.
+// Returns how many replies there are, if a `usize` can count them.
 fn reply_count(by_worker: &[Vec<Reply>], rest: &[Reply]) -> Option<usize>
     ensures { IfSome result (λ count.
         count ≡ length (all_replies (map (λ rs. rs.items) by_worker.now) rest.now)) }
@@ -38,7 +38,7 @@ fn reply_count(by_worker: &[Vec<Reply>], rest: &[Reply]) -> Option<usize>
     Some(count)
 }
 
-// Moves the replies to the end of the others, for which there is room.
+// Moves the replies to the end of the others, which have room for them.
 fn move_all(replies: Vec<Reply>, all: &mut Vec<Reply>)
     requires { length all.old.items + length replies.items ≤ vec_capacity all.old }
     ensures items { all.new.items ≡ all.old.items ++ replies.items }
@@ -50,7 +50,7 @@ fn move_all(replies: Vec<Reply>, all: &mut Vec<Reply>)
     }
 }
 
-// The replies of each worker, one after the other, and then the rest, in the room that is given.
+// Moves the replies of each worker, one after the other, and then the rest into `room`.
 fn gather(by_worker: Vec<Vec<Reply>>, rest: Vec<Reply>, room: Vec<Reply>) -> Vec<Reply>
     requires empty { room.items ≡ [] }
     requires room { length (all_replies (map (λ rs. rs.items) by_worker.items) rest.items)
@@ -66,6 +66,7 @@ fn gather(by_worker: Vec<Vec<Reply>>, rest: Vec<Reply>, room: Vec<Reply>) -> Vec
     all
 }
 
+/// Sorts the replies by lane, and within a lane by number.
 fn sort(replies: &mut Vec<Reply>)
     ensures same { IsPermutation replies.old.items replies.new.items }
     ensures sorted { AreSorted replies.new.items }
@@ -73,7 +74,7 @@ fn sort(replies: &mut Vec<Reply>)
     replies.sort_unstable_by_key(|reply| reply.id());
 }
 
-// All replies in one list, each worker's list after the one before.
+// Returns all replies in one list: each worker's list after the one before, then the rest.
 fn all_in_one<M: Drop>(
     alloc: Global,
     finished: Finished<M>,
@@ -100,10 +101,12 @@ fn all_in_one<M: Drop>(
     Ok(gather(by_worker, rest, room))
 }
 
-/// All replies, sorted by lane and in a lane by number. Where they answer lists of jobs, one for each lane,
-/// they are then the answers to these jobs lane by lane. It asks for one list, and ends each worker's list
-/// once its replies have moved there; where one worker has all replies its list serves. Where there is no
-/// memory the replies and the machine come back as they were.
+/// Sorts all replies by lane, and within a lane by number. If they answer lists of jobs, one for
+/// each lane, they are then the answers to these jobs, lane by lane.
+///
+/// It allocates one list, and frees each worker's list when its replies have moved. If one worker
+/// has all replies, it reuses that list. If memory runs out, the replies and the machine come back
+/// unchanged.
 pub fn sorted_replies<M: Drop>(
     alloc: Global,
     finished: Finished<M>,

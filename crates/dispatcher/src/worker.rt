@@ -1,4 +1,4 @@
-//! Those who take jobs and answer them, and what they are once they have stopped.
+//! Workers, before they run and after they have stopped.
 ghost use Rattle.std.specs.Prelude.{◌≡◌, ◌≤◌, [], map, length};
 ghost use Rattle.std.specs.Vec.{vec_capacity};
 ghost use Rattle.dispatcher.specs.Reply.{answered, region_of};
@@ -10,29 +10,27 @@ use job_queue::JobLine;
 use job_types::Reply;
 use std::alloc::Global;
 
-/// One who takes jobs and answers them: a pass of the line and a station of the floor, which have done
-/// nothing yet. Only `Shop::open` makes one.
+/// A worker that has done nothing: a pass of the queue and a station of the allocator. Only
+/// `Shop::open` makes one.
 pub struct Worker<L: JobLine, F: Floor> {
-    // By which it takes jobs.
+    // The handle by which it takes jobs.
     pub(crate) pass: L::Pass,
-    // By which it takes subcubes.
+    // The handle by which it takes blocks.
     pub(crate) station: F::Station,
     pub ghost none_taken: { (L.pass_record pass).taken ≡ [] },
     pub ghost none_granted: { F.grants station ≡ [] },
 }
 
-/// A worker that has stopped, with its replies. These are to the jobs that its pass took, and ran on the
-/// regions that its station was granted, both in order and from the opening of the shop on.
+/// A worker that has stopped, with its replies. They are the replies to all jobs that its pass ever
+/// took, in order. These jobs ran on all blocks that its station was ever granted, in order.
 ///
 /// Only `dispatch`, `dispatch_some` and `Worker::stand_down` make one.
 pub struct WorkerEnd<L: JobLine, F: Floor> {
-    // Its pass.
     pub(crate) pass: L::Pass,
-    // Its station, which holds nothing.
+    // Its station, which holds no block.
     pub(crate) station: F::Station,
     // Its replies, in the order in which it took their jobs.
     pub(crate) replies: Vec<Reply>,
-    // Why it has stopped.
     pub(crate) stop: Stop,
     pub ghost answers: { (L.pass_record pass).taken ≡ map answered replies.items },
     pub ghost regions: { F.grants station ≡ map region_of replies.items },
@@ -44,7 +42,7 @@ impl<L: JobLine, F: Floor> Worker<L, F> {
     ghost use Rattle.dispatcher.specs.Shop.{ShopId};
     ghost use Rattle.dispatcher.specs.Members.{IsWorkerOf, IsEndOf, replies_of, stop_of};
 
-    /// Ends a worker that is not to run.
+    /// Ends a worker that never ran.
     pub fn stand_down(self, alloc: Global) -> WorkerEnd<L, F>
         ensures of_shop { (shop : ShopId) → IsWorkerOf shop self → IsEndOf shop result }
         ensures replies { replies_of result ≡ [] }
@@ -63,14 +61,14 @@ impl<L: JobLine, F: Floor> Worker<L, F> {
 impl<L: JobLine, F: Floor> WorkerEnd<L, F> {
     ghost use Rattle.dispatcher.specs.Members.{replies_of, stop_of};
 
-    /// Its replies, in the order in which it took their jobs.
+    /// Returns its replies, in the order in which it took their jobs.
     pub fn replies(&self) -> &[Reply]
         ensures { result.now ≡ replies_of self.now }
     {
         &self.replies
     }
 
-    /// Why it has stopped.
+    /// Returns why it has stopped.
     pub fn stop(&self) -> Stop
         ensures { result ≡ stop_of self.now }
     {

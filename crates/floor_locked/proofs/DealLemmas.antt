@@ -1,4 +1,4 @@
--- Views are dealt out when a floor opens, and come together when it ends.
+-- Views are given out when an allocator opens, and joined when it ends.
 use Rattle.std.proofs.Common.{◌≡◌, ℕ, ◌+◌, ◌<◌, None, [], ◌∷◌, length, refl, arith}
 use Rattle.atomic_table.specs.Table.{opening, Splits, Joins}
 use Rattle.ghost_history.specs.Sums.{is_at}
@@ -13,8 +13,11 @@ use Rattle.floor_locked.specs.Inner.Deed.{station_part}
 use Rattle.floor_locked.specs.Inner.Rule.{Fits, Keeps}
 use Rattle.floor_locked.proofs.KeepLemmas.{stations_in, station_number}
 
--- the table of a new floor meets the rule
-pub opens : (size : Size) (x : Allocation) → x.dim ≡ size.dim → ((s : ℕ) → held_in x s ≡ None) → Keeps size (opening (0 ∷ []) (x ∷ []) (first_view size))
+-- The table of a new allocator meets the rule.
+pub opens : (size : Size) (x : Allocation)
+    → x.dim ≡ size.dim
+    → ((s : ℕ) → held_in x s ≡ None)
+    → Keeps size (opening (0 ∷ []) (x ∷ []) (first_view size))
 opens size x dim free =
     let v = first_view size in
     let fits : Fits size [] x = record { dim = dim; held = free } in
@@ -26,7 +29,9 @@ opens size x dim free =
       cell = opens_cell found_in members (Fits size []) v x refl fits;
     }
 
-pub deals : (size : Size) (id : ℕ) (v : View) → v.found ≡ None → Splits (Keeps size) id v (without_station v) (station_alone v)
+pub deals : (size : Size) (id : ℕ) (v : View)
+    → v.found ≡ None
+    → Splits (Keeps size) id v (without_station v) (station_alone v)
 deals size id v none s k me =
     let left : View = without_station v in
     let right : View = station_alone v in
@@ -39,8 +44,12 @@ deals size id v none s k me =
       cell = cuts found_in members s k.cell id v me left right none refl refl;
     }
 
--- two views come together
-pub joins_views : (size : Size) (id : ℕ) (v : View) (other : ℕ) (w : View) → v.found ≡ None → w.found ≡ None → 0 < members v → Joins (Keeps size) id v other w (joined v w) spent_view
+-- Two views are joined.
+pub joins_views : (size : Size) (id : ℕ) (v : View) (other : ℕ) (w : View)
+    → v.found ≡ None
+    → w.found ≡ None
+    → 0 < members v
+    → Joins (Keeps size) id v other w (joined v w) spent_view
 joins_views size id v other w none none_too member s k me apart there =
     let both : View = joined v w in
     record {

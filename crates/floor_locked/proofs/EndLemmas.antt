@@ -1,4 +1,4 @@
--- Once all stations have come together and hold nothing, the bits are at home, and wholly free.
+-- When all stations have come back and hold nothing, the bits are in their slot and wholly free.
 use Rattle.std.proofs.Common.{◌≡◌, ℕ, None, List, [], ◌∷◌, length, sym, ap, ◌∙◌, subst, arith}
 use Rattle.std.specs.List.{AllByRecursion}
 use Rattle.std.proofs.lemmas.Bool.{cases_lt}
@@ -22,16 +22,20 @@ use Rattle.floor_locked.specs.Inner.End.{IsWhole}
 use Rattle.floor_locked.proofs.DeedLemmas.{held_beyond}
 use Rattle.floor_locked.proofs.KeepLemmas.{St, stations_in, station_number}
 
--- a station with a record in the list, all of whose records hold nothing, holds nothing
-idle_there : (recorded : ℕ → StationRecord) (n k : ℕ) (rs : List StationRecord) → AllByRecursion (True stations_in station_number n recorded) rs → AllByRecursion (λ r. r.holds ≡ None) rs
-    → total (λ r. is_at k (station_number r)) rs ≡ 1 → (recorded k).holds ≡ None
+-- A station with a record in the list holds nothing, if no record there holds a block.
+idle_there : (recorded : ℕ → StationRecord) (n k : ℕ) (rs : List StationRecord)
+    → AllByRecursion (True stations_in station_number n recorded) rs
+    → AllByRecursion (λ r. r.holds ≡ None) rs
+    → total (λ r. is_at k (station_number r)) rs ≡ 1
+    → (recorded k).holds ≡ None
 idle_there recorded n k [] true idle one = absurd (omega arith)
 idle_there recorded n k (r ∷ rs) true idle one =
     dite (ℕ_discrete r.number k)
     (λ e. subst (λ (j : ℕ). (recorded j).holds ≡ None) e (ap (λ (z : StationRecord). z.holds) (sym true.0.0) ∙ idle.0))
     (λ ne. idle_there recorded n k rs true.1 idle.1 (omega (arith, is_at-other k r.number ne)))
 
-module _ (size : Size) (s : St) (k : Keeps size s) (id : ℕ) (m : Sat) (me : get_elem? s.views id ≡ some m.0) (whole : IsWhole size m) where
+module _ (size : Size) (s : St) (k : Keeps size s) (id : ℕ) (m : Sat)
+    (me : get_elem? s.views id ≡ some m.0) (whole : IsWhole size m) where
   the_value : (x : Allocation) × (get_elem? s.homes 0 ≡ some (some x)) × Fits size k.history x
   the_value = at_home found_in members s k.cell id m.0 me whole.found (λ j u apart there. ap length (nobody_else stations_in station_number s.views k.stations id m.0 me whole.stations j u apart there))
 
@@ -41,8 +45,11 @@ module _ (size : Size) (s : St) (k : Keeps size s) (id : ℕ) (m : Sat) (me : ge
     | Rattle.std.proofs.Common.inr beyond ↦ held_beyond size k.history station k.legal beyond
   ]
 
--- the bits at the end
-pub ends : (size : Size) (id : ℕ) (m : Sat) (x : Allocation) → Leaves (Keeps size) id m.0 x → IsWhole size m → (x.dim ≡ size.dim) × ((station : ℕ) → held_in x station ≡ None)
+-- The bits at the end.
+pub ends : (size : Size) (id : ℕ) (m : Sat) (x : Allocation)
+    → Leaves (Keeps size) id m.0 x
+    → IsWhole size m
+    → (x.dim ≡ size.dim) × ((station : ℕ) → held_in x station ≡ None)
 ends size id m x left whole =
     let s = left.0 in let k = left.1.0 in let me = left.1.1 in
     let t = the_value size s k id m me whole in

@@ -1,4 +1,4 @@
--- The rule of a locked floor's table, as words, homes and views change.
+-- The rule of a locked allocator's table, as words, slots and views change.
 use Rattle.std.proofs.Common.{◌≡◌, ℕ, ◌<◌, Some, None, List, [], ◌∷◌, length, get_or, set, refl, ◌∙◌}
 use mathlib.Core.Option.{some}
 use lib.ListN.{get_elem?}
@@ -24,9 +24,15 @@ stations_in v = v.stations
 abbrev pub station_number : StationRecord → ℕ
 station_number r = r.number
 
-module _ (size : Size) (s : St) (k : Keeps size s) (id : ℕ) (v : View) (me : get_elem? s.views id ≡ some v) where
-  -- a seat of a station takes the slot, where the word is 0
-  pub takes_slot : (x : Allocation) → get_or s.words 0 0 ≡ 0 → 0 < members v → v.found ≡ None → Fits size k.history x → Keeps size (stepped s 0 1 id [] (holding v x) (takes 0 x))
+module _ (size : Size) (s : St) (k : Keeps size s) (id : ℕ) (v : View)
+    (me : get_elem? s.views id ≡ some v) where
+  -- A station's seat takes the slot if the word is 0.
+  pub takes_slot : (x : Allocation)
+      → get_or s.words 0 0 ≡ 0
+      → 0 < members v
+      → v.found ≡ None
+      → Fits size k.history x
+      → Keeps size (stepped s 0 1 id [] (holding v x) (takes 0 x))
   takes_slot x free member none fits =
       let w : View = holding v x in
       record {
@@ -37,9 +43,16 @@ module _ (size : Size) (s : St) (k : Keeps size s) (id : ℕ) (v : View) (me : g
         cell = takes_value found_in members s k.cell id v me w x free none refl member fits;
       }
 
-  -- A seat that found x gives y back, and its new view is w. The history is h from then on.
-  pub gives_slot : (x y : Allocation) (w : View) (h : List Deed) → v.found ≡ Some x → w.found ≡ None → w.about ≡ v.about → 0 < members v → length s.homes ≡ 1
-      → IsLegal size h → Fits size h y → Tied stations_in station_number size.stations (station_part h) (set s.views id w)
+  -- A seat that found `x` gives `y` back. Its new view is `w`, and the history is `h` then.
+  pub gives_slot : (x y : Allocation) (w : View) (h : List Deed)
+      → v.found ≡ Some x
+      → w.found ≡ None
+      → w.about ≡ v.about
+      → 0 < members v
+      → length s.homes ≡ 1
+      → IsLegal size h
+      → Fits size h y
+      → Tied stations_in station_number size.stations (station_part h) (set s.views id w)
       → Keeps size (stepped s 0 0 id ((0, y) ∷ []) w gives)
   gives_slot x y w h some_x none about member one_home legal fits stations = record {
     history = h;

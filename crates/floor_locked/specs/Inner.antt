@@ -1,4 +1,4 @@
--- Definitions that only the locked floor's own contracts and proofs use.
+-- Definitions that only private contracts and proofs of `floor_locked` use.
 pub mod View
 pub mod Deed
 pub mod Rule

@@ -1,4 +1,4 @@
-// What the calls of a locked floor do to the allocation bits.
+// What the calls of a `LockedFloor` change in the allocation bits.
 ghost use Rattle.std.specs.Prelude.{◌≡◌, ◌<◌, ◌≤◌, None};
 ghost use Rattle.alloc_bits.specs.Allocation.{held_in};
 ghost use Rattle.floor_locked.specs.Inner.View.{Allots, Withdraws, HoldsSome};
@@ -6,7 +6,7 @@ ghost use Rattle.floor_locked.specs.Inner.View.{Allots, Withdraws, HoldsSome};
 use alloc_bits::AllocBits;
 use cube_shape::{MAX_STATIONS, Region};
 
-// Gives a station that holds nothing a region of dimension `k`, if one is free.
+// Gives a station that holds nothing a block of dimension `k`, if one is free.
 pub(crate) fn allot(bits: &mut AllocBits, station: u32, k: u32) -> Option<Region>
     requires station { station < MAX_STATIONS }
     requires idle { held_in bits.old station ≡ None }
@@ -16,7 +16,7 @@ pub(crate) fn allot(bits: &mut AllocBits, station: u32, k: u32) -> Option<Region
     bits.take(station, k).ok()
 }
 
-// Takes the region of a station away.
+// Releases the block of a station.
 pub(crate) fn withdraw(bits: &mut AllocBits, station: u32)
     requires { HoldsSome bits.old station }
     ensures { Withdraws bits.old station bits.new }

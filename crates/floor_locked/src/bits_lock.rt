@@ -1,5 +1,5 @@
-// The lock of a floor. Its allocation bits lie in a cell. A call takes them and gives them back, and as
-// it does so the record of its station gains what the call did.
+// The lock of an allocator. Its allocation bits are in a cell. A call takes them and gives them
+// back, and by that step the record of its station gains what the call did.
 ghost use Rattle.std.specs.Prelude.{◌≡◌, ℕ, ◌<◌, ◌≤◌, [], ◌∷◌, None, IfOk};
 ghost use Rattle.cube_shape.specs.declared.region.Region.{Region as HeldRegion};
 ghost use Rattle.cube_shape.specs.Machine.{Gives, TakesBack};
@@ -20,6 +20,7 @@ use std::sync::Wait;
 
 pub(crate) type Seat = atomic_table::Seat<AllocBits, View>;
 
+/// The lock of an allocator, with its allocation bits.
 #[derive(Drop)]
 pub(crate) struct BitsLock {
     cell: LockedCell<AllocBits, View, Size, FloorRule>,
@@ -28,7 +29,7 @@ pub(crate) struct BitsLock {
 impl BitsLock {
     ghost use Rattle.floor_locked.specs.Inner.Handle.{table_of, size_of};
 
-    // A lock with a wholly free machine, and the seat that has the records of all stations.
+    // Makes a lock with a wholly free machine, and the seat that has the records of all stations.
     pub fn new(alloc: Global, size: Size) -> Result<(BitsLock, Seat), AllocError>
         requires { size.dim ≤ MAX_DIM }
         ensures size { IfOk result (λ made. size_of made.0 ≡ size) }
@@ -40,7 +41,7 @@ impl BitsLock {
         Ok((BitsLock { cell }, seat))
     }
 
-    // A seat with the record of one station of those that `seat` has, the first.
+    // Splits off a seat with the record of the first station that `seat` has.
     pub fn deal(&self, seat: &mut Seat) -> Seat
         requires table { seat.old.table_id ≡ table_of self.now }
         requires idle { IsIdle seat.old.me }
@@ -52,7 +53,7 @@ impl BitsLock {
         self.cell.deal::<Deal>(seat)
     }
 
-    // Takes in the records of another seat.
+    // Joins the records of another seat to those of `seat`.
     pub fn gather(&self, seat: &mut Seat, other: Seat)
         requires tables { (seat.old.table_id ≡ table_of self.now)
             × (other.table_id ≡ table_of self.now) }
@@ -63,7 +64,7 @@ impl BitsLock {
         self.cell.gather::<Gather>(seat, other);
     }
 
-    // The seat has the records of two stations, and learns that their regions are apart.
+    // Reads the word with the records of two stations. The seat learns that their blocks are apart.
     pub fn compare(&self, seat: &mut Seat)
         requires table { seat.old.table_id ≡ table_of self.now }
         requires pair { (a : StationRecord) × (b : StationRecord) × IsPair seat.old.me a b }
@@ -74,7 +75,7 @@ impl BitsLock {
         self.cell.look::<Compare>(seat);
     }
 
-    // Takes the bits, and waits while another seat has them.
+    // Takes the bits. Waits while another seat has them.
     pub fn enter<R: Wait>(&self, rt: &R, seat: &mut Seat)
         requires table { seat.old.table_id ≡ table_of self.now }
         requires idle { IsIdle seat.old.me }
@@ -84,8 +85,8 @@ impl BitsLock {
         self.cell.enter(rt, seat);
     }
 
-    // Work on the bits that the seat has taken.
-
+    // Gives the station a block of dimension `k` in the bits that the seat has taken, if one is
+    // free.
     pub fn allot(&self, seat: &mut Seat, station: u32, k: u32) -> Option<Region>
         requires table { seat.old.table_id ≡ table_of self.now }
         requires station { station < MAX_STATIONS }
@@ -98,6 +99,7 @@ impl BitsLock {
         allot(seat.slot_mut(&self.cell.table.shared, 0), station, k)
     }
 
+    // Releases the station's block in the bits that the seat has taken.
     pub fn withdraw(&self, seat: &mut Seat, station: u32)
         requires table { seat.old.table_id ≡ table_of self.now }
         requires held { (x : Allocation) × (seat.old.me.1 ≡ (0, x) ∷ []) × HoldsSome x station }
@@ -108,8 +110,7 @@ impl BitsLock {
         withdraw(seat.slot_mut(&self.cell.table.shared, 0), station)
     }
 
-    // The bits are given back, and the record of the seat's station gains what the call did.
-
+    // Gives the bits back. The station's record gains the block that it got.
     pub fn grant(&self, seat: &mut Seat)
         requires table { seat.old.table_id ≡ table_of self.now }
         requires ready { (r : StationRecord) × (x : Allocation) × (y : Allocation)
@@ -121,6 +122,7 @@ impl BitsLock {
         self.cell.give_back::<Grant>(seat);
     }
 
+    // Gives the bits back. The station's record holds no block.
     pub fn free(&self, seat: &mut Seat)
         requires table { seat.old.table_id ≡ table_of self.now }
         requires ready { (r : StationRecord) × (x : Allocation) × (y : Allocation)
@@ -132,6 +134,7 @@ impl BitsLock {
         self.cell.give_back::<Free>(seat);
     }
 
+    // Gives the bits back unchanged.
     pub fn leave(&self, seat: &mut Seat)
         requires table { seat.old.table_id ≡ table_of self.now }
         requires ready { (r : StationRecord) × (x : Allocation) × IsOut seat.old.me r x x }
@@ -141,7 +144,7 @@ impl BitsLock {
         self.cell.give_back::<Leave>(seat);
     }
 
-    // The bits, once one seat has the records of all stations and none of them holds a region.
+    // Returns the bits. The seat must have the records of all stations, and none may hold a block.
     pub fn end(self, seat: Seat) -> AllocBits
         requires table { seat.table_id ≡ table_of self }
         requires whole { IsWhole (size_of self) seat.me }

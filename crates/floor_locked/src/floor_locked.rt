@@ -1,4 +1,4 @@
-// The locked floor, and that it is a floor.
+// `LockedFloor`, and its calls, which meet the contract `Floor`.
 ghost use Rattle.std.specs.Prelude.{◌≡◌, ℕ, ◌+◌, ◌^◌, ◌<◌, ◌≤◌, ◌++◌, [], ◌∷◌, Some, None, IfOk, MatchOption, length, replicate};
 ghost use Rattle.std.specs.List.{All};
 ghost use Rattle.cube_shape.specs.Region.{AreApart, IsAligned};
@@ -16,18 +16,18 @@ use floors::Floor;
 use std::alloc::{AllocError, Global};
 use std::sync::Wait;
 
-/// A floor whose allocation bits, an `AllocBits`, lie under one lock. It cannot be dropped, and is
-/// spent by `close`.
+/// An allocator whose allocation bits, an `AllocBits`, are under one lock. It cannot be dropped:
+/// `close` consumes it.
 pub struct LockedFloor {
     lock: BitsLock,
-    // The words of the machine at the end, which are reserved when the floor opens.
+    // The words of the machine at the end, reserved when the allocator opens.
     words: Vec<u64>,
     ghost zero: { words.items ≡ replicate (2 ^ ((size_of lock).dim + 1)) 0 },
     ghost some: { 0 < (size_of lock).stations },
 }
 
 impl LockedFloor {
-    // One try to take a subcube of dimension `k`.
+    // Tries once to take a block of dimension `k`.
     fn try_take<R: Wait>(&self, rt: &R, seat: &mut Seat, number: u32, k: u32) -> Option<Region>
         requires of_floor { IsOf (floor_id self.now.lock) seat.old.table_id seat.old.me.0.about }
         requires station { IsStationSeat seat.old.me number None }

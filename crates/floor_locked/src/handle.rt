@@ -1,5 +1,5 @@
-// What the callers of a locked floor hold. A station and what it holds have no `Drop`: they are
-// spent in the floor's end.
+// The handles of a `LockedFloor`. A station and what it holds cannot be dropped: they are consumed
+// by the allocator's end.
 ghost use Rattle.std.specs.Prelude.{◌≡◌, ℕ, None, Some};
 ghost use Rattle.alloc_bits.specs.Allocation.{held_in};
 ghost use Rattle.floors.specs.Floor.{IsWhollyFree};
@@ -9,14 +9,14 @@ use crate::bits_lock::Seat;
 use alloc_bits::AllocBits;
 use cube_shape::Region;
 
-/// One who may take a subcube of a `LockedFloor`, and has none at the moment. It cannot be dropped.
+/// A station of a `LockedFloor` that holds no block. It cannot be dropped.
 pub struct LockedStation {
     pub(crate) number: u32,
     pub(crate) seat: Seat,
     ghost known: { IsStationSeat seat.me number None },
 }
 
-/// A station of a `LockedFloor` with the subcube that it holds. It cannot be dropped.
+/// A station of a `LockedFloor` with the block that it holds. It cannot be dropped.
 pub struct Held {
     pub(crate) number: u32,
     pub(crate) region: Region,
@@ -24,8 +24,8 @@ pub struct Held {
     ghost known: { IsStationSeat seat.me number (Some region) },
 }
 
-/// What is left of a `LockedFloor`: its allocation bits, in which no station holds a region, and a
-/// word for each node.
+/// The machine of a `LockedFloor` at its end: its allocation bits, in which no station holds a
+/// block, and a word for each node.
 #[derive(Drop)]
 pub struct FreeMachine {
     pub(crate) bits: AllocBits,
@@ -37,8 +37,8 @@ pub struct FreeMachine {
 impl FreeMachine {
     ghost use Rattle.floor_locked.specs.Inner.Handle.{machine_dim, machine_words};
 
-    /// The allocation bits at the end: no station holds a region, and the words of the machine are
-    /// those of a wholly free machine of their dimension.
+    /// Returns the allocation bits at the end. No station holds a block, and the words of the
+    /// machine are those of a wholly free machine of their dimension.
     pub fn bits(&self) -> &AllocBits
         ensures dim { result.now.dim ≡ machine_dim self.now }
         ensures free { (s : ℕ) → held_in result.now s ≡ None }

@@ -1,9 +1,9 @@
-//! A block allocator under one lock (`LockedFloor`): one thread at a time takes the allocation bits, changes them
-//! and gives them back.
+//! A block allocator under one lock (`LockedFloor`): one thread at a time takes the allocation
+//! bits, changes them and gives them back.
 //!
-//! `LockedFloor` is the plainest floor that meets the contract of every floor (`Floor`): what a floor
-//! without a lock is measured against, and what a test may run a shop over. A station's grants stand in a
-//! record that the lock's one step adds to.
+//! It is the plainest allocator that meets the contract `Floor`. Measurements compare the lock-free
+//! one with it, and tests may run a dispatcher over it. A station's grants are in a record, which
+//! the lock's one step adds to.
 #![tactic(auto)]
 
 mod bits;

@@ -1,4 +1,4 @@
-// The stations of a locked floor are made when it opens, and come together when it ends.
+// The stations of a `LockedFloor`: making them when it opens, collecting them when it ends.
 ghost use Rattle.std.specs.Prelude.{◌≡◌, ℕ, ◌<◌, ◌≤◌, [], length};
 ghost use Rattle.std.specs.List.{All};
 ghost use Rattle.std.specs.Vec.{vec_capacity};
@@ -10,7 +10,7 @@ use crate::bits_lock::{BitsLock, Seat};
 use crate::handle::LockedStation;
 use cube_shape::MAX_STATIONS;
 
-// Makes the stations, of the first seat's records.
+// Makes the stations from the records of the first seat.
 pub(crate) fn deal_stations(
     lock: &BitsLock,
     mut seat: Seat,
@@ -34,7 +34,7 @@ pub(crate) fn deal_stations(
     stations
 }
 
-// One seat with the records of all stations.
+// Joins the records of all stations in one seat.
 pub(crate) fn gather_stations(lock: &BitsLock, mut stations: Vec<LockedStation>) -> Seat
     requires stations { All (is_seated (floor_id lock.now)) stations.items }
     requires all { length stations.items ≡ (size_of lock.now).stations }

@@ -1,4 +1,4 @@
-// The rule of a locked floor's table, and the names of its steps.
+// The rule of a locked allocator's table, and the names of its steps.
 ghost use Rattle.std.specs.Prelude.{◌≡◌};
 ghost use Rattle.floor_locked.specs.Inner.View.{holding, first_view, without_station, station_alone, joined, spent_view};
 ghost use Rattle.floor_locked.specs.Inner.Rule.{Keeps};
@@ -48,7 +48,7 @@ impl Play<AllocBits, View> for Compare {
         (after ≡ before) × AreFirstTwoApart before.0.stations };
 }
 
-// One station's record is dealt out.
+// The step that gives out the record of one station.
 pub(crate) struct Deal;
 
 impl Split<View> for Deal {
@@ -57,7 +57,7 @@ impl Split<View> for Deal {
     ghost right = { station_alone };
 }
 
-// The records of two seats come together.
+// The step that joins the records of two seats.
 pub(crate) struct Gather;
 
 impl Join<View> for Gather {

@@ -1,4 +1,4 @@
-// What a seat of a locked floor's table knows. No value of it is made.
+// What a seat of a locked allocator's table knows. No program makes a value of it.
 use alloc_bits::AllocBits;
 use cube_shape::Region;
 use std::collections::LinkedList;
@@ -10,16 +10,16 @@ pub(crate) struct Size {
     pub stations: u32,
 }
 
-// What a station is known to have done.
+// The record of a station: what it is known to have done.
 pub(crate) struct StationRecord {
     pub number: u32,
-    // The regions that it was given, in order.
+    // The blocks that it was given, in order.
     pub grants: LinkedList<Region>,
-    // The region that it holds.
+    // The block that it holds.
     pub holds: Option<Region>,
 }
 
-// The records that the seat carries, and the allocation that it found where it has taken the slot.
+// The records that the seat carries, and the allocation that it found if it has taken the slot.
 pub(crate) struct View {
     pub about: Size,
     pub stations: LinkedList<StationRecord>,

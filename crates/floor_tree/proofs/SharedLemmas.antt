@@ -1,4 +1,4 @@
--- A tree floor may be used by many threads at once.
+-- Many threads may use a `TreeFloor` at once.
 use denote.Param.Send.{IsSync, sendable}
 use Rattle.cube_tree.proofs.SharedLemmas.{cube_field_sync}
 use Rattle.floor_tree.specs.contracts.floor_tree.TreeFloor as floor

@@ -1,4 +1,4 @@
--- The regions that a station was given, read from the list of its events, the newest first.
+-- The blocks that a station was given, read from the list of its events, the newest first.
 use Rattle.std.specs.Prelude.{ℕ, ◌-◌, Bool, true, false, if◌then◌else◌, List, [], ◌∷◌, ◌++◌}
 use Rattle.std.specs.Int.{trailing_zeros, w64}
 use Rattle.atomic_table.specs.Seated.{TableId}
@@ -13,32 +13,36 @@ use Rattle.cube_tree.specs.declared.handles.TreeStation.{TreeStation}
 use Rattle.cube_tree.specs.declared.handles.Subcube.{Subcube}
 use Rattle.cube_tree.specs.Handles.{station_entry, subcube_entry}
 
--- a take begins with a look at its node
+-- Whether an event of this kind begins a take: it looks at the node of the take.
 abbrev pub is_look : Kind → Bool
 is_look Look = true
 is_look kind = false
 
--- and it ends with this note where the station holds the region from then on
+-- Whether an event with this note ends a take, after which the station holds the block.
 abbrev pub is_held : Note → Bool
 is_held Held = true
 is_held note = false
 
--- the node of the newest take
+-- The node of the newest take.
 abbrev pub newest_node : List Event → ℕ
 newest_node [] = 0
 newest_node (e ∷ earlier) = if is_look e.kind then e.node else newest_node earlier
 
--- the regions of the nodes that it came to hold, in order, in the machine of dimension n
+-- The blocks that the station was given, in order, in the machine of dimension `n`.
 abbrev pub grants_in : ℕ → List Event → List Region
 grants_in n [] = []
-grants_in n (e ∷ earlier) = if is_held e.note then grants_in n earlier ++ region_at n (newest_node earlier) ∷ [] else grants_in n earlier
+grants_in n (e ∷ earlier) =
+    if is_held e.note then grants_in n earlier
+    ++ region_at n (newest_node earlier) ∷ [] else grants_in n earlier
 
--- the dimension of the machine of a table: it has 2 ^ (n + 1) words
+-- The dimension of the machine of a table, which has `2^(n + 1)` words.
 abbrev pub dim_of : TableId → ℕ
 dim_of table = trailing_zeros w64 table.words - 1
 
+-- The blocks that a station was given, in order.
 abbrev pub station_grants : TreeStation → List Region
 station_grants station = grants_in (dim_of station.seat.table_id) (station_entry station).trail
 
+-- The blocks that the station of a held block was given, in order.
 abbrev pub subcube_grants : Subcube → List Region
 subcube_grants subcube = grants_in (dim_of subcube.seat.table_id) (subcube_entry subcube).trail

@@ -1,2 +1,2 @@
--- Definitions that only the tree floor's own contracts and proofs use.
+-- Definitions that only the contracts and proofs of `TreeFloor` use.
 pub mod Handle

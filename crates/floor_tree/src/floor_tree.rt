@@ -1,4 +1,4 @@
-// The tree as a floor.
+// The tree as an allocator.
 ghost use Rattle.std.specs.Prelude.{◌≡◌, ℕ, ◌<◌, ◌≤◌, ◌++◌, [], ◌∷◌, IfOk, length};
 ghost use Rattle.std.specs.List.{All};
 ghost use Rattle.cube_shape.specs.Region.{AreApart, IsAligned};
@@ -11,8 +11,8 @@ use floors::Floor;
 use std::alloc::{AllocError, Global};
 use std::sync::Wait;
 
-/// A floor that is the status tree of a machine, as shared words. It cannot be dropped, and is spent by
-/// `close`.
+/// An allocator that is the tree of status words of a machine. It cannot be dropped, and `close`
+/// consumes it.
 pub struct TreeFloor {
     cube: Cube,
 }

@@ -1,4 +1,4 @@
-// The contract of a floor.
+// The contract of an allocator.
 ghost use Rattle.std.specs.Prelude.{◌≡◌, ℕ, ◌<◌, ◌≤◌, ◌++◌, [], ◌∷◌, IfOk, length};
 ghost use Rattle.std.specs.List.{All};
 ghost use Rattle.cube_shape.specs.Region.{AreApart, IsAligned};
@@ -8,47 +8,56 @@ use cube_shape::{MAX_DIM, MAX_STATIONS, Region};
 use std::alloc::{AllocError, Global};
 use std::sync::Wait;
 
-/// A machine whose stations take subcubes of it and give them back, from many threads at once.
+/// An allocator: a machine whose stations take and release blocks, from many threads at once.
 ///
-/// A station holds one subcube at most: a take turns it into what is held, and a release turns that
-/// back. Both carry the station's grants, the regions that it was given, in order, which only its
-/// own takes add to. Stations and what they hold are given only to calls of the floor that made
+/// A station holds at most one block. A take turns it into a held block, and a release turns that
+/// back. Both carry the station's grants: the blocks that it was given, in order. Only its own
+/// takes add to them. Stations and held blocks are passed only to calls of the allocator that made
 /// them.
 ///
-/// `is_closed` is what a floor says, besides, of the machine to which so many stations came back. Each
-/// floor has its own, and callers of any floor hand it on.
+/// `is_closed` is what an allocator says in addition of the machine to which this number of
+/// stations came back. Each allocator has its own, and callers of any allocator pass it on.
 pub trait Floor {
     ghost use Rattle.std.specs.Prelude.{List};
     ghost use Rattle.cube_shape.specs.declared.region.Region.{Region as HeldRegion};
     ghost use Rattle.floors.specs.Floor.{FloorId};
 
-    /// One who may take a subcube, and has none at the moment.
+    /// A station (allocator handle) that holds nothing at the moment.
     type Station;
-    /// A station with the subcube that it holds.
+    /// A station with the block that it holds.
     type Held;
-    /// The words of a machine that is wholly free.
+    /// The words of a machine in which every block is free.
     type Machine;
 
+    // The allocator's identity, its dimension and its number of stations.
     ghost id: { Self → FloorId };
 
+    // The station is one of this allocator.
     ghost is_station: { FloorId → Self.Station → Type 0 };
 
+    // The held block is one of this allocator.
     ghost is_held: { FloorId → Self.Held → Type 0 };
 
+    // The blocks that the station was granted, in order.
     ghost grants: { Self.Station → List HeldRegion };
 
+    // The blocks that the station of a held block was granted, in order.
     ghost held_grants: { Self.Held → List HeldRegion };
 
+    // The block that is held.
     ghost held_region: { Self.Held → HeldRegion };
 
+    // The dimension of a machine that was closed.
     ghost machine_dim: { Self.Machine → ℕ };
 
+    // The words of a machine that was closed. `IsWhollyFree` reads them.
     ghost machine_words: { Self.Machine → List ℕ };
 
+    // What this allocator says in addition of a closed machine, with its number of stations.
     ghost is_closed: { ℕ → Self.Machine → Type 0 };
 
-    /// Opens a machine of dimension `n`, wholly free, with this many stations. It reserves the words
-    /// of the machine too, so that no other call takes memory.
+    /// Opens a machine of dimension `n` with this many stations, in which every block is free.
+    /// Reserves the words of the machine too, so no other call needs memory.
     fn open(alloc: Global, n: u32, stations: u32) -> Result<(Self, Vec<Self::Station>), AllocError>
         requires dim { n ≤ MAX_DIM }
         requires some { 0 < stations }
@@ -59,7 +68,7 @@ pub trait Floor {
         ensures of_floor { IfOk result (λ made. All (is_station (id made.0)) made.1.items) }
         ensures fresh { IfOk result (λ made. All (λ s. grants s ≡ []) made.1.items) };
 
-    /// Takes a subcube of dimension `k`. It tries until one is given, with a pause between tries.
+    /// Takes a block of dimension `k`. Tries until one is given, with a pause between tries.
     fn take<R: Wait>(&self, rt: &R, station: Self::Station, k: u32) -> Self::Held
         requires of_floor { is_station (id self.now) station }
         requires dim { k ≤ (id self.now).dim }
@@ -68,12 +77,12 @@ pub trait Floor {
         ensures dimension { (held_region result).dim ≡ k }
         ensures granted { held_grants result ≡ grants station ++ held_region result ∷ [] };
 
-    /// The region that is held.
+    /// Returns the block that is held.
     fn region(held: &Self::Held) -> Region
         ensures { result ≡ held_region held.now };
 
-    /// Gives back two held subcubes as they were, and promises that their regions have no processor
-    /// in common.
+    /// Shows that two held blocks have no processor in common. Returns both with the same blocks
+    /// and grants.
     fn apart(&self, a: Self::Held, b: Self::Held) -> (Self::Held, Self::Held)
         requires first { is_held (id self.now) a }
         requires second { is_held (id self.now) b }
@@ -84,14 +93,14 @@ pub trait Floor {
         ensures first_grants { held_grants result.0 ≡ held_grants a }
         ensures second_grants { held_grants result.1 ≡ held_grants b };
 
-    /// Gives the subcube back.
+    /// Releases the block.
     fn release<R: Wait>(&self, rt: &R, held: Self::Held) -> Self::Station
         requires { is_held (id self.now) held }
         ensures of_floor { is_station (id self.now) result }
         ensures grants { grants result ≡ held_grants held };
 
-    /// Ends the floor. It is given as many stations of the floor as the floor has, so these are all
-    /// of them, and no subcube is held. Each region that one of them was ever given is aligned.
+    /// Closes the allocator. It is given as many of its stations as it has, so these are all of
+    /// them, and no block is held. Each block that one of them was ever given is aligned.
     fn close(self, stations: Vec<Self::Station>) -> Self::Machine
         requires of_floor { All (is_station (id self)) stations.items }
         requires all { length stations.items ≡ (id self).stations }
@@ -100,11 +109,12 @@ pub trait Floor {
         ensures dim { machine_dim result ≡ (id self).dim }
         ensures free { IsWhollyFree (id self).dim (machine_words result) };
 
-    /// The dimension of a machine.
+    /// Returns the dimension of a machine.
     fn dim(machine: &Self::Machine) -> u32
         ensures { result ≡ machine_dim machine.now };
 
-    /// The words of a machine: word `v` is that of node `v`, and word `0` is no node's.
+    /// Returns the words of a machine, as the allocator reports them. Word `v` is that of node `v`,
+    /// and word `0` belongs to no node.
     fn words(machine: &Self::Machine) -> &[u64]
         ensures { result.now ≡ machine_words machine.now };
 }

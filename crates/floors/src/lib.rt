@@ -1,9 +1,8 @@
 //! The contract of a block allocator that many threads use at once (`Floor`).
 //!
-//! `Floor` is the contract of every floor: the regions that its stations hold at one moment are
-//! aligned and apart, each station has a record of the regions that it was given, and once all
-//! stations have come back the machine is wholly free. The floors that meet it stand in crates of
-//! their own, which this one does not know.
+//! Blocks that the stations of a `Floor` hold at the same time are aligned and do not overlap. Each
+//! station has a record of the blocks that it was given. Once all stations have come back, every
+//! block of the machine is free. The allocators that meet this contract are in crates of their own.
 #![tactic(auto)]
 
 mod floor;

@@ -8,14 +8,17 @@ pub accepted-append : (xs ys : List Entry) → accepted (xs ++ ys) ≡ accepted 
 accepted-append [] ys = refl
 accepted-append (x ∷ xs) ys = ap (accepted_with x.job) (accepted-append xs ys) ∙ accepted_with-append x.job (accepted xs) (accepted ys)
   where
-    accepted_with-append : (o : Option QueuedJob) (ps qs : List QueuedJob) → accepted_with o (ps ++ qs) ≡ accepted_with o ps ++ qs
+    accepted_with-append : (o : Option QueuedJob) (ps qs : List QueuedJob)
+        → accepted_with o (ps ++ qs) ≡ accepted_with o ps ++ qs
     accepted_with-append (Some job) ps qs = refl
     accepted_with-append None ps qs = refl
 
-pub accepted-push : (xs : List Entry) (number : ℕ) (job : QueuedJob) → accepted (xs ++ entry number (Some job) ∷ []) ≡ accepted xs ++ job ∷ []
+pub accepted-push : (xs : List Entry) (number : ℕ) (job : QueuedJob)
+    → accepted (xs ++ entry number (Some job) ∷ []) ≡ accepted xs ++ job ∷ []
 accepted-push xs number job = accepted-append xs (entry number (Some job) ∷ [])
 
-pub accepted-full : (xs : List Entry) (number : ℕ) → accepted (xs ++ entry number None ∷ []) ≡ accepted xs
+pub accepted-full : (xs : List Entry) (number : ℕ)
+    → accepted (xs ++ entry number None ∷ []) ≡ accepted xs
 accepted-full xs number = accepted-append xs (entry number None ∷ []) ∙ append-nil (accepted xs)
   where
     append-nil : (ps : List QueuedJob) → ps ++ [] ≡ ps
@@ -26,6 +29,8 @@ pub accepted-length : (xs : List Entry) → length (accepted xs) ≤ length xs
 accepted-length [] = omega arith
 accepted-length (x ∷ xs) = with_job x.job (accepted xs) (accepted-length xs)
   where
-    with_job : {n : ℕ} (o : Option QueuedJob) (ps : List QueuedJob) → length ps ≤ n → length (accepted_with o ps) ≤ suc n
+    with_job : {n : ℕ} (o : Option QueuedJob) (ps : List QueuedJob)
+        → length ps ≤ n
+        → length (accepted_with o ps) ≤ suc n
     with_job (Some job) ps le = omega arith
     with_job None ps le = omega arith

@@ -13,8 +13,9 @@ use Rattle.job_queue.specs.Record.{entry, Ascend, number_of}
 use Rattle.job_queue.specs.History.{Deed, enters, accepts_job, takes_first, closes_line, comes_out, entered, with_job, entries_by, May, Lists}
 use Rattle.job_queue.proofs.ListLemmas.{ascend-push}
 
--- an entry that gets its job keeps its number
-with_job_keeps : (n : ℕ) (job : QueuedJob) (es : List Entry) → map number_of (with_job n job es) ≡ map number_of es
+-- An entry that gets its job keeps its number.
+with_job_keeps : (n : ℕ) (job : QueuedJob) (es : List Entry)
+    → map number_of (with_job n job es) ≡ map number_of es
 with_job_keeps n job [] = refl
 with_job_keeps n job (e ∷ es) =
     let here : Bool → List ℕ = λ b. map number_of (cond b (entry n (Some job) ∷ es) (e ∷ with_job n job es)) in
@@ -22,13 +23,16 @@ with_job_keeps n job (e ∷ es) =
     (λ same. ap here (eq-eqb e.number n same) ∙ ap (λ (m : ℕ). m ∷ map number_of es) (sym same))
     (λ other. ap here (ne_eqb e.number n other) ∙ ap (λ (ms : List ℕ). e.number ∷ ms) (with_job_keeps n job es))
 
-numbers-push : (es : List Entry) (n : ℕ) (job : Option QueuedJob) → map number_of (es ++ entry n job ∷ []) ≡ map number_of es ++ n ∷ []
+numbers-push : (es : List Entry) (n : ℕ) (job : Option QueuedJob)
+    → map number_of (es ++ entry n job ∷ []) ≡ map number_of es ++ n ∷ []
 numbers-push [] n job = refl
 numbers-push (e ∷ es) n job = ap (λ (ms : List ℕ). e.number ∷ ms) (numbers-push es n job)
 
 module _ (lanes passes : ℕ) where
-  -- the numbers are below the count of entries
-  numbers_low : (h : List Deed) (k : ℕ) → Legal (May lanes passes) h → AllByRecursion (λ n. n < entered h) (map number_of (entries_by h k))
+  -- The numbers are below the count of entries.
+  numbers_low : (h : List Deed) (k : ℕ)
+      → Legal (May lanes passes) h
+      → AllByRecursion (λ n. n < entered h) (map number_of (entries_by h k))
   numbers_low [] k legal = tt
   numbers_low (enters lane number ∷ h) k legal =
       let es = entries_by h k in
@@ -49,7 +53,9 @@ module _ (lanes passes : ℕ) where
   numbers_low (closes_line number ∷ h) k legal = numbers_low h k legal.1
   numbers_low (comes_out job ∷ h) k legal = numbers_low h k legal.1
 
-  numbers_ascend : (h : List Deed) (k : ℕ) → Legal (May lanes passes) h → Ascend (map number_of (entries_by h k))
+  numbers_ascend : (h : List Deed) (k : ℕ)
+      → Legal (May lanes passes) h
+      → Ascend (map number_of (entries_by h k))
   numbers_ascend [] k legal = tt
   numbers_ascend (enters lane number ∷ h) k legal =
       let es = entries_by h k in
@@ -70,8 +76,11 @@ module _ (lanes passes : ℕ) where
   numbers_ascend (closes_line number ∷ h) k legal = numbers_ascend h k legal.1
   numbers_ascend (comes_out job ∷ h) k legal = numbers_ascend h k legal.1
 
--- it is so of every line whose records one legal history has
-pub all_ascend : (lanes : List LaneRecord) (passes : List PassRecord) (rest : List QueuedJob) (note : ℕ) → Lists lanes passes rest note → AllByRecursion (λ l. Ascend (map number_of l.entries)) lanes
+-- This holds of every queue whose records one legal history has.
+pub all_ascend : (lanes : List LaneRecord) (passes : List PassRecord) (rest : List QueuedJob)
+    (note : ℕ)
+    → Lists lanes passes rest note
+    → AllByRecursion (λ l. Ascend (map number_of l.entries)) lanes
 all_ascend lanes passes rest note lists =
     all_weaker (λ l. l.entries ≡ entries_by lists.history l.number) (λ l. Ascend (map number_of l.entries))
     (λ l is. subst (λ (es : List Entry). Ascend (map number_of es)) (sym is) (numbers_ascend (length lanes) (length passes) lists.history l.number lists.legal)) lanes lists.each_lane

@@ -1,4 +1,4 @@
-// The contract of a line of jobs.
+// The contract of a queue of jobs, and the values that its calls take and return.
 ghost use Rattle.std.specs.Prelude.{◌≡◌, ◌≢◌, ℕ, ◌<◌, ◌≤◌, List, Ok, Err, Some, None, IfOk, IfErr, OnErr, map, length, slice_index, ◌++◌};
 ghost use Rattle.std.specs.List.{All};
 ghost use Rattle.ghost_history.specs.Sums.{times};
@@ -14,7 +14,7 @@ use std::collections::VecDeque;
 use std::sync::Wait;
 use thiserror::Error;
 
-/// The sizes of a line.
+/// The sizes of a queue.
 #[derive(Clone, Copy, Debug, PartialEq, Eq)]
 pub struct Sizes {
     /// The dimension of the machine that its jobs are for.
@@ -23,41 +23,41 @@ pub struct Sizes {
     pub lanes: u32,
     /// The number of its passes, which are numbered from 0.
     pub passes: u32,
-    /// How many jobs it holds at most.
+    /// The largest number of jobs that it holds at once.
     pub capacity: usize,
 }
 
-/// A new line, with all that its callers need.
+/// A new queue, with the handles that belong to it.
 pub struct Opened<L, N, P, C> {
-    /// The line.
+    /// The queue.
     pub line: L,
     /// Its lanes, in the order of their numbers.
     pub lanes: Vec<N>,
     /// Its passes, in the order of their numbers.
     pub passes: Vec<P>,
-    /// What closes it.
+    /// The handle that closes it.
     pub closer: C,
 }
 
-/// The line accepted a job.
+/// The receipt for an accepted job.
 #[derive(Clone, Copy, Debug, PartialEq, Eq)]
 pub struct Receipt {
     /// The id that the job got.
     pub id: JobId,
-    /// The number of the entry that it came in by.
+    /// The number of the entry that brought it in.
     pub number: u64,
 }
 
-/// Why the line did not accept a job.
+/// The reason for which a queue refused a job.
 #[derive(Clone, Copy, Debug, PartialEq, Eq, Error)]
 pub enum Refused {
-    /// The line is closed.
+    /// The queue is closed.
     #[error("the line is closed")]
     Closed {
-        /// The count of entries that was found beside the closed mark.
+        /// The count of entries that was read together with the closed mark.
         seen: u64,
     },
-    /// The line was full when the job came. It cost an entry.
+    /// The queue was full when the job arrived. The try cost the lane an entry.
     #[error("the line is full")]
     Full,
     /// The lane has made `MAX_ENTRIES` entries.
@@ -65,18 +65,18 @@ pub enum Refused {
     LaneSpent,
 }
 
-/// What a pass took. `E` is what shows that a line has ended.
+/// The result of a take. A value of type `E` shows that the queue has ended.
 #[derive(Debug, Drop)]
 pub enum Taken<E> {
     /// A job, with its id.
     Job(JobId, Job),
-    /// The line was empty, and jobs may still come.
+    /// The queue was empty, and jobs may still come.
     EmptyNow,
-    /// The line was empty, and no job will come.
+    /// The queue was empty, and no job can come any more.
     Ended(E),
 }
 
-/// What is left of a line.
+/// The jobs left in a queue at its end.
 #[derive(Debug, Drop)]
 pub struct Rest {
     /// The jobs that no pass took, front first.
@@ -85,43 +85,52 @@ pub struct Rest {
     pub accepted: Vec<u64>,
 }
 
-/// A line of jobs with lanes, by which jobs come in, and passes, by which they are taken.
+/// A queue of jobs. Lanes submit jobs, and passes take them.
 ///
-/// Each lane and each pass has a record of what it is known to have done, which only its own calls
-/// change. Lanes, passes, closers and notes are given only to calls of the line that made them.
+/// Each lane and each pass has a record of what it is known to have done. Only its own calls change
+/// that record. Lanes, passes, closers and notes are passed only to calls of the queue that made
+/// them.
 pub trait JobLine {
     ghost use Rattle.job_queue.specs.declared.record.LaneRecord.{LaneRecord};
     ghost use Rattle.job_queue.specs.declared.record.PassRecord.{PassRecord};
 
-    /// The right to hand in jobs by one lane.
+    /// The right to submit jobs of one lane (producer handle).
     type Lane;
-    /// The right to take jobs.
+    /// The right to take jobs (consumer handle).
     type Pass;
-    /// The right to close the line.
+    /// The right to close the queue.
     type Closer;
-    /// Shows that the line is closed.
+    /// A token that shows that the queue is closed.
     type Note;
-    /// Shows that the line has ended. Only its own `take` makes one.
+    /// A token that shows that the queue has ended. Only its own `take` makes one.
     type End: Drop;
 
+    // Which queue it is.
     ghost id: { Self → LineId };
 
+    // The lane belongs to this queue.
     ghost is_lane: { LineId → Self.Lane → Type 0 };
 
+    // The pass belongs to this queue.
     ghost is_pass: { LineId → Self.Pass → Type 0 };
 
+    // The closer belongs to this queue.
     ghost is_closer: { LineId → Self.Closer → Type 0 };
 
+    // The note shows that this queue is closed.
     ghost is_note: { LineId → Self.Note → Type 0 };
 
+    // What the lane is known to have done.
     ghost lane_record: { Self.Lane → LaneRecord };
 
+    // What the pass is known to have done.
     ghost pass_record: { Self.Pass → PassRecord };
 
+    // The close number: how many entries came before the close.
     ghost note_number: { Self.Note → ℕ };
 
-    /// Opens a line for a machine of at most the largest dimension. It reserves all its room before it
-    /// makes a lane, a pass or the closer, and no other call takes memory.
+    /// Opens a queue. It reserves all its memory before it makes a handle, and no other call
+    /// allocates.
     fn open(
         alloc: Global,
         sizes: Sizes,
@@ -140,22 +149,22 @@ pub trait JobLine {
         ensures fresh_passes { IfOk result (λ made.
             map pass_record made.passes.items ≡ fresh_passes sizes.passes) };
 
-    /// The lane's number.
+    /// Returns the lane's number.
     fn lane_number(lane: &Self::Lane) -> u32
         ensures { result ≡ (lane_record lane.now).number };
 
-    /// How many entries the lane has made.
+    /// Returns the number of entries that the lane has made, with those that found the queue full.
     fn entry_count(lane: &Self::Lane) -> u64
         ensures { result ≡ length (lane_record lane.now).entries };
 
-    /// The close number: how many entries came before the close.
+    /// Returns the close number: how many entries came before the close.
     fn close_number(note: &Self::Note) -> u64
         ensures { result ≡ note_number note.now };
 
-    /// Hands in a job, which was made for the line's machine and for this lane.
+    /// Submits a job that was made for the queue's machine and for this lane.
     ///
-    /// An accepted job costs the lane one entry, and so does `Full`. A refusal gives the job back.
-    /// `LaneSpent` comes exactly where the lane has made `MAX_ENTRIES` entries.
+    /// An accepted job costs the lane one entry, and so does `Full`. A refusal returns the job.
+    /// `LaneSpent` comes exactly if the lane has made `MAX_ENTRIES` entries.
     fn submit<R: Wait>(
         &self,
         rt: &R,
@@ -178,21 +187,22 @@ pub trait JobLine {
         ensures spent_only { IfErr result (λ r. r.1 ≡ Refused.LaneSpent →
             MAX_ENTRIES ≤ length (lane_record lane.old).entries) };
 
-    /// Whether half of the line's places look free. It is a hint for a feeder that waits, and says nothing of
-    /// what a call will find. A line that cannot tell without a try answers that they do.
+    /// Returns whether half of the queue's places look free, as a hint for a producer that waits.
+    /// The hint promises nothing about a later call. A queue that cannot know without a try returns
+    /// true.
     fn room_hint<R: Wait>(&self, rt: &R, lane: &mut Self::Lane) -> bool
         requires { is_lane (id self.now) lane.old }
         ensures lane { is_lane (id self.now) lane.new }
         ensures unchanged { lane_record lane.new ≡ lane_record lane.old };
 
-    /// Whether a job looks waiting. It is a hint for a worker that waits, and says nothing of what a call
-    /// will find. A line that cannot tell without a try answers that one does.
+    /// Returns whether a job looks waiting, as a hint for a consumer that waits. The hint promises
+    /// nothing about a later call. A queue that cannot know without a try returns true.
     fn job_hint<R: Wait>(&self, rt: &R, pass: &mut Self::Pass) -> bool
         requires { is_pass (id self.now) pass.old }
         ensures pass { is_pass (id self.now) pass.new }
         ensures unchanged { pass_record pass.new ≡ pass_record pass.old };
 
-    /// Takes the job at the front of the line, if there is one.
+    /// Takes the job at the front of the queue, if there is one.
     fn take<R: Wait>(&self, rt: &R, pass: &mut Self::Pass) -> Taken<Self::End>
         requires { is_pass (id self.now) pass.old }
         ensures pass { is_pass (id self.now) pass.new }
@@ -203,13 +213,13 @@ pub trait JobLine {
             (pass_record pass.new).readings }
         ensures machine { TakesMadeFor (id self.now).sizes.machine result };
 
-    /// Closes the line.
+    /// Closes the queue.
     fn close<R: Wait>(&self, rt: &R, closer: Self::Closer) -> Self::Note
         requires { is_closer (id self.now) closer }
         ensures { is_note (id self.now) result };
 
-    /// Ends a closed line. It is given as many lanes and passes of the line as the line has, so
-    /// these are all of them.
+    /// Ends a closed queue. It needs as many lanes and passes of the queue as the queue has, which
+    /// are all of them.
     fn into_rest<R: Wait>(
         self,
         rt: &R,

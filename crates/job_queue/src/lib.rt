@@ -1,9 +1,10 @@
-//! The contract of a bounded queue of jobs with many producers and many consumers, which can be closed (`JobLine`).
+//! The contract of a bounded queue of jobs for many producers and many consumers that can be closed
+//! (`JobLine`).
 //!
-//! A line has lanes, by which jobs come in, and passes, by which they are taken. An accepted job is
-//! taken at most once and in the order of its lane, and no job enters after the close. `JobLine` is
-//! the contract of every line, in terms of what each lane and each pass is known to have done. Lines
-//! that meet it are crates of their own.
+//! A queue has lanes (producer handles), which submit jobs, and passes (consumer handles), which
+//! take them. An accepted job is taken at most once, and jobs of one lane are taken in order. No
+//! job enters after the close. Contracts speak of records: what each lane and each pass is known to
+//! have done. Queues that meet `JobLine` are crates of their own.
 #![tactic(auto)]
 
 mod job_line;

@@ -1,25 +1,26 @@
-// What a lane and a pass are known to have done: plain data, which contracts alone see.
+// The records of lanes and passes: plain data that only contracts see.
 use job_types::{Job, JobId};
 use std::collections::LinkedList;
 
-/// A job that a line has accepted, with its id.
+/// A job that a queue has accepted, with its id.
 #[derive(Debug, Drop)]
 pub struct QueuedJob {
-    /// The lane that it came in by, and how many of that lane's jobs were accepted before it.
+    /// Its lane, and the number of that lane's jobs that were accepted before it.
     pub id: JobId,
     /// The job.
     pub job: Job,
 }
 
-/// An entry of a lane into a line. No value of it is made.
+/// An entry (ticket) of a lane: one attempt to bring a job into the queue. No program makes a value
+/// of it.
 pub struct Entry {
-    /// How many entries of all lanes came before it.
+    /// The number of entries that all lanes made before it.
     pub number: u64,
-    /// The job that was accepted, or `None` where the line was full.
+    /// The job that was accepted, or `None` if the queue was full.
     pub job: Option<QueuedJob>,
 }
 
-/// What a lane is known to have done. No value of it is made.
+/// The record of a lane: what it is known to have done. No program makes a value of it.
 pub struct LaneRecord {
     /// The lane's number.
     pub number: u32,
@@ -27,28 +28,28 @@ pub struct LaneRecord {
     pub entries: LinkedList<Entry>,
     /// The number of an entry that is not settled yet.
     pub pending: Option<u64>,
-    /// Whether it entered after the close and has not undone that.
+    /// Whether it made an entry after the close and has not undone it.
     pub late: bool,
-    /// Each count of entries that it found beside the closed mark, in order.
+    /// Each count of entries that it read together with the closed mark, in order.
     pub seen: LinkedList<u64>,
 }
 
-/// What a pass found where the line was empty. No value of it is made.
+/// What a pass read when it found the queue empty. No program makes a value of it.
 pub struct Reading {
-    /// How many entries were settled.
+    /// The number of settled entries.
     pub settled: u64,
-    /// How many entries were counted, read after `settled`.
+    /// The number of counted entries, read after `settled`.
     pub counted: u64,
-    /// Whether the line was closed, read with `counted`.
+    /// Whether the queue was closed, read with `counted`.
     pub closed: bool,
 }
 
-/// What a pass is known to have done. No value of it is made.
+/// The record of a pass: what it is known to have done. No program makes a value of it.
 pub struct PassRecord {
     /// The pass's number.
     pub number: u32,
     /// The jobs that it took, in order.
     pub taken: LinkedList<QueuedJob>,
-    /// What it read, in order.
+    /// Its readings, in order.
     pub readings: LinkedList<Reading>,
 }

@@ -5,7 +5,7 @@ use Rattle.std.proofs.Math.Pow.{pow_mono}
 use Rattle.cube_shape.specs.declared.limits.TheConstants.{MAX_DIM}
 use Rattle.job_types.specs.declared.arrays.TheConstants.{SMALL_DIM, MIDDLE_DIM, LARGE_DIM, SMALL_PLACES, MIDDLE_PLACES, LARGE_PLACES, MOST_PLACES}
 
--- one item more in front of the units
+-- one item more before the units
 put_first : (front : List ℕ) (n rank u x : ℕ) → length front ≡ rank → rank < n
     → set (front ++ replicate (n - rank) u) rank x ≡ front ++ x ∷ [] ++ replicate (n - (rank + 1)) u
 put_first front n rank u x long within =
@@ -16,7 +16,7 @@ put_first front n rank u x long within =
     ∙ ap (λ (i : ℕ). front ++ set (u ∷ replicate (n - (rank + 1)) u) i x) here
     ∙ sym (append_assoc front (x ∷ []) (replicate (n - (rank + 1)) u))
 
--- how many places there are for so many dimensions
+-- the number of places of each size of array is large enough for its dimensions
 pub small_fit : (k : ℕ) → k ≤ SMALL_DIM → 2 ^ k ≤ SMALL_PLACES
 small_fit k within = pow_mono within
 
@@ -30,7 +30,10 @@ pub all_fit : (k : ℕ) → k ≤ MAX_DIM → 2 ^ k ≤ MOST_PLACES
 all_fit k within = pow_mono within
 
 -- the first of places that hold the unit hold it
-pub units_in_front : {M : Type 0} (unit : M) (places : List M) (m n : ℕ) → places ≡ replicate (length places) unit → n ≤ length places → m ≡ n
+pub units_in_front : {M : Type 0} (unit : M) (places : List M) (m n : ℕ)
+    → places ≡ replicate (length places) unit
+    → n ≤ length places
+    → m ≡ n
     → take m places ≡ replicate n unit
 units_in_front unit places m n all within same =
     ap (λ (count : ℕ). take count places) same ∙ ap (take n) all ∙ take-replicate n (length places) unit within

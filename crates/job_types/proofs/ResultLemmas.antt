@@ -17,7 +17,7 @@ use Rattle.job_types.specs.Collective.{join, unit_of, total_of, prefix_of}
 use Rattle.job_types.specs.Inner.Collective.{MakesResult}
 use Rattle.job_types.proofs.RefusalLemmas.{root_below}
 
--- an item is at its own place, whatever stands after the items
+-- an item is at its own place, whatever comes after the items
 item_in_front : (items after : List ℕ) (place : ℕ) → place < length items
     → slice_get (items ++ after) place ≡ slice_get items place
 item_in_front items after place within =

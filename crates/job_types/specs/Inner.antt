@@ -1,4 +1,4 @@
--- What no public contract reaches: how a job is held and how its rounds are tied to plain folds.
+-- How a job is stored, and how its rounds are tied to plain folds. No public contract cites these.
 pub mod Collective
 pub mod Job
 pub mod Kept

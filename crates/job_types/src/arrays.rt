@@ -1,4 +1,4 @@
-//! The arrays that the rounds of a job work on, which stand on the stack.
+//! The arrays on the stack that the rounds of a job work on.
 
 ghost use Rattle.std.specs.Prelude.{◌≡◌, ◌^◌, ◌≤◌};
 ghost use Rattle.job_types.specs.Collective.{join, unit_of};
@@ -13,12 +13,14 @@ use collectives::{
 };
 use cube_shape::MAX_DIM;
 
-// The dimensions up to which a job works on arrays of the smallest size and of the next ones. Each size is
-// four times the one below it, so that a job fills few places that it has no use for.
+// The largest dimension of a job that works on the smallest arrays. The next sizes are four times
+// as large as the one below, so that a job fills few places that it does not need.
 pub(crate) const SMALL_DIM: u32 = MAX_DIM - 6;
 
+// The largest dimension of a job that works on the second size of arrays.
 pub(crate) const MIDDLE_DIM: u32 = MAX_DIM - 4;
 
+// The largest dimension of a job that works on the third size of arrays.
 pub(crate) const LARGE_DIM: u32 = MAX_DIM - 2;
 
 pub(crate) const SMALL_PLACES: usize = 1 << SMALL_DIM;
@@ -46,7 +48,7 @@ pub(crate) fn answer_on<const N: usize>(items: &[u64], kind: Kind, k: u32, kept:
     }
 }
 
-// Does the same by the operator `O`, which joins as the job's operation does.
+// Runs it by the operator `O`, which joins as the job's operation does.
 fn answer_by<O: Operator, const N: usize>(items: &[u64], kind: Kind, k: u32, kept: &mut Kept)
     requires unit { O.unit ≡ unit_of (operation_of kind) }
     requires join { O.join ≡ join (operation_of kind) }

@@ -1,4 +1,4 @@
-//! Jobs: how they are made and answered.
+//! Jobs: how they are made and run.
 
 ghost use Rattle.std.specs.Prelude.{◌≡◌, ◌≢◌, ℕ, ◌^◌, ◌<◌, ◌≤◌, length, IfOk, IfErr, OnOk, Some, None};
 ghost use Rattle.cube_shape.specs.Region.{IsAligned};
@@ -14,7 +14,7 @@ use cube_shape::{MAX_DIM, MAX_LANES, Region};
 use std::alloc::Global;
 use std::marker::Model;
 
-/// A job that is not answered yet: a request, and the room for its result.
+/// A job that has not run yet: a request, and the memory for its result.
 #[derive(Debug, Drop)]
 pub struct Job {
     work: Box<Work>,
@@ -34,11 +34,13 @@ impl Model for Job {
 }
 
 impl Job {
-    /// A job for a machine of dimension `n` and one of its lanes, of 1 to `2^n` items. It reserves the
-    /// room for its result, so that answering it takes no memory.
+    /// Makes a job of 1 to `2^n` items, for a machine of dimension `n` and one of its lanes.
+    /// Reserves the memory for its result, so running it needs none.
     ///
-    /// An error gives the items back, as they were. It is the first reason of `JobRefused` that
-    /// holds, and `OutOfMemory` only where a reservation was refused.
+    /// # Errors
+    ///
+    /// Returns the items unchanged, with the first reason of `JobRefused` that holds. Returns
+    /// `OutOfMemory` only if a reservation failed.
     pub fn new(
         alloc: Global,
         n: u32,
@@ -74,7 +76,7 @@ impl Job {
         }
     }
 
-    /// The dimension of the machine, at most `MAX_DIM`.
+    /// Returns the dimension of the machine.
     pub fn machine(&self) -> u32
         ensures value { result ≡ self.now.machine }
         ensures limit { result ≤ MAX_DIM }
@@ -82,7 +84,7 @@ impl Job {
         self.work.request.machine()
     }
 
-    /// The lane that the job was made for, below `MAX_LANES`.
+    /// Returns the lane that the job was made for.
     pub fn lane(&self) -> u32
         ensures value { result ≡ self.now.lane }
         ensures below { result < MAX_LANES }
@@ -90,29 +92,28 @@ impl Job {
         self.work.request.lane()
     }
 
-    /// The collective.
+    /// Returns the collective.
     pub fn kind(&self) -> Kind
         ensures { result ≡ self.now.kind }
     {
         self.work.request.kind()
     }
 
-    /// The least dimension that holds the items: that of the smallest region that has a processor for
-    /// each.
+    /// Returns the least dimension that holds the items: that of the smallest block with a
+    /// processor for each.
     pub fn dim(&self) -> u32
         ensures least { IsLeastDim (length self.now.items) result }
         ensures value { result ≡ dim_of (length self.now.items) }
         ensures within { result ≤ self.now.machine }
         ensures limit { self.now.machine ≤ MAX_DIM }
 
-        // What `dim_of` means, of any number of items.
+        // What `dim_of` means, for any number of items.
         ensures means { (p : ℕ) → IsLeastDim p (dim_of p) }
     {
         self.work.request.dim()
     }
 
-    /// The items, from 1 to as many as the machine has processors. The `i`-th one is on the region's
-    /// `i`-th processor.
+    /// Returns the items. The `i`-th one is on the `i`-th processor of the block.
     pub fn items(&self) -> &[u64]
         ensures value { result.now ≡ self.now.items }
         ensures some { 0 < length result.now }
@@ -121,8 +122,8 @@ impl Job {
         self.work.request.items()
     }
 
-    /// Runs the job on a region of its machine: the smallest that has a processor for each item. It
-    /// takes no memory: its rounds work on the stack, and the room for its result was reserved before.
+    /// Runs the job on a block of its machine: the smallest with a processor for each item. Needs
+    /// no memory: the rounds work on the stack, and the memory for the result was reserved before.
     pub fn answer(self, id: JobId, region: Region) -> Reply
         requires aligned { IsAligned self.machine region }
         requires dimension { region.dim ≡ dim_of (length self.items) }

@@ -7,7 +7,7 @@ use crate::kind::Kind;
 use std::alloc::{AllocError, Global};
 use std::boxed::BoxedSlice;
 
-// The numbers that the places of the items hold in the end, so far as a reply shows them.
+// The numbers that the places of the items hold at the end, as far as a reply shows them.
 #[derive(Debug, Drop)]
 pub(crate) enum Kept {
     // The number of every place that is not empty.
@@ -17,7 +17,7 @@ pub(crate) enum Kept {
 }
 
 impl Kept {
-    // Room for the result of a collective on so many items.
+    // Reserves memory for the result of a collective on this many items.
     pub(crate) fn new(alloc: Global, kind: Kind, count: usize) -> Result<Self, AllocError>
         ensures { IfOk result (HasRoomFor kind count) }
     {
@@ -28,7 +28,7 @@ impl Kept {
         Ok(Kept::One(0))
     }
 
-    // The number that is kept for the place of a rank.
+    // Returns the number that is kept for the place of a rank.
     pub(crate) fn at(&self, rank: u64) -> Option<u64>
         ensures { result ≡ shown_at self.now rank }
     {

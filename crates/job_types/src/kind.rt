@@ -25,7 +25,7 @@ pub enum Op {
     Or,
 }
 
-/// Which collective a job asks for. Items are joined in the order of their ranks.
+/// The collective that a job asks for. Items are joined in the order of their ranks.
 #[derive(Clone, Copy, Debug, PartialEq, Eq, Hash)]
 pub enum Kind {
     /// Every processor that has an item receives the item of the root.
@@ -45,12 +45,12 @@ pub enum Kind {
         /// What joins them.
         op: Op,
     },
-    /// Each processor that has an item receives the items up to and with its own, joined.
+    /// Each processor that has an item receives the items up to and including its own, joined.
     Scan {
         /// What joins them.
         op: Op,
     },
-    /// Each processor that has an item receives the items before its own, joined; the first one
+    /// Each processor that has an item receives the items before its own, joined. The first one
     /// receives the unit of the operation.
     ExScan {
         /// What joins them.
@@ -59,7 +59,7 @@ pub enum Kind {
 }
 
 impl Kind {
-    // Whether the collective has a root that is none of the `places` places.
+    // Returns whether the collective has a root that is none of the `places` places.
     pub(crate) fn has_bad_root(self, places: u64) -> bool
         ensures { result ≡ has_bad_root self places }
     {
@@ -69,7 +69,7 @@ impl Kind {
         }
     }
 
-    // What joins the items. A broadcast joins none, and any operation serves it.
+    // Returns the operation that joins the items. A broadcast joins none, so any operation will do.
     pub(crate) fn operation(self) -> Op
         ensures { result ≡ operation_of self }
     {
@@ -82,7 +82,7 @@ impl Kind {
         }
     }
 
-    // Whether each place of an item may hold a number of its own in the end.
+    // Returns whether each place of an item may hold a number of its own at the end.
     pub(crate) fn is_scan(self) -> bool
         ensures { result ≡ is_scan self }
     {
@@ -92,7 +92,7 @@ impl Kind {
         }
     }
 
-    // A place that holds what the collective makes of all items, where it is no scan.
+    // Returns a place that holds the result of all items, if the collective is no scan.
     pub(crate) fn shown_place(self) -> u64
         ensures { result ≡ shown_place self }
     {
@@ -105,7 +105,7 @@ impl Kind {
         }
     }
 
-    // Which messages the collective sends.
+    // Returns which messages the collective sends.
     pub(crate) fn shape(self) -> Shape
         ensures { result ≡ shape_of self }
     {

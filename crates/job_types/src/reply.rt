@@ -23,8 +23,8 @@ pub struct JobId {
     pub seq: u64,
 }
 
-/// The reply to a job: the region that the job ran on, the collective's result on its items, and
-/// the rounds and messages that it took.
+/// The reply to a job: the block that the job ran on, the collective's result on its items, and the
+/// number of rounds and messages.
 #[derive(Debug, Drop)]
 pub struct Reply {
     id: JobId,
@@ -48,7 +48,7 @@ impl Model for Reply {
 }
 
 impl Reply {
-    // The reply with these parts, which fit together.
+    // Makes the reply of these parts, which fit together.
     pub(crate) fn new(id: JobId, work: Box<Work>) -> Self
         requires { IsAnswer work.value.request work.value.base work.value.kept }
         ensures { result ≡ record {
@@ -60,22 +60,21 @@ impl Reply {
         Reply { id, work }
     }
 
-    /// The id of the job.
+    /// Returns the id of the job.
     pub fn id(&self) -> JobId
         ensures { result ≡ self.now.id }
     {
         self.id
     }
 
-    /// What the job asked for.
+    /// Returns what the job asked for.
     pub fn job(&self) -> &Request
         ensures { result.now ≡ self.now.job }
     {
         &self.work.request
     }
 
-    /// The region that the job ran on: aligned, of its machine, and the smallest with a processor
-    /// for each item.
+    /// Returns the block that the job ran on, the smallest with a processor for each item.
     pub fn region(&self) -> Region
         ensures value { result ≡ self.now.region }
         ensures aligned { IsAligned self.now.job.machine result }
@@ -87,7 +86,7 @@ impl Reply {
         }
     }
 
-    /// The rounds and messages of the collective, on all processors of the region.
+    /// Returns the rounds and messages of the collective, on all processors of the block.
     pub fn tally(&self) -> Tally
         ensures { result ≡
             tally_of (shape_of self.now.job.kind) (dim_of (length self.now.job.items)) }
@@ -99,9 +98,9 @@ impl Reply {
             .tally(self.work.request.dim())
     }
 
-    /// What the region's processor of this rank holds in the end. It is `None` for a rank that has
-    /// no item, though the region may have a processor of it, and at every rank but the root of a
-    /// reduction.
+    /// Returns what the processor of this rank holds at the end. Returns `None` for a rank without
+    /// an item, even if the block has a processor of this rank. For a reduction it returns `None`
+    /// at every rank except the root.
     pub fn at(&self, rank: u64) -> Option<u64>
         ensures { result ≡ result_at self.now.job.kind self.now.job.items rank }
     {

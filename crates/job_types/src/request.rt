@@ -12,7 +12,8 @@ use cube_shape::{MAX_DIM, MAX_LANES};
 use std::marker::Model;
 use thiserror::Error;
 
-/// Why there is no job for some request. Where several reasons hold, the first one is reported.
+/// The reason why there is no job for a request. If several reasons hold, the first one is
+/// reported.
 #[derive(Clone, Copy, Debug, PartialEq, Eq, Hash, Error)]
 pub enum JobRefused {
     /// There are no items.
@@ -24,13 +25,13 @@ pub enum JobRefused {
     /// The root is not the place of an item. Places are counted from 0.
     #[error("the root is not the place of an item")]
     BadRoot,
-    /// Memory for the job was asked for, and the allocator refused it.
+    /// The allocator had no memory for the job.
     #[error("out of memory")]
     OutOfMemory,
 }
 
-/// What a job asks for. Every request can be met: it has an item at least, and its machine has regions of
-/// the least dimension that holds its items.
+/// What a job asks for. Every request can be met: it has at least one item, and its machine has
+/// blocks of the least dimension that holds its items.
 #[derive(Debug, Drop)]
 pub struct Request {
     machine: u32,
@@ -51,7 +52,7 @@ impl Model for Request {
     ghost invariant = { λ r. IsJob r.machine r.lane r.kind r.items.items };
 }
 
-// Why a machine of dimension `n` refuses these items: the first reason, in the order of
+// Returns why a machine of dimension `n` refuses these items: the first reason, in the order of
 // `JobRefused`.
 pub(crate) fn refusal(n: u32, kind: Kind, items: &[u64]) -> Option<JobRefused>
     requires { n ≤ MAX_DIM }
@@ -70,7 +71,7 @@ pub(crate) fn refusal(n: u32, kind: Kind, items: &[u64]) -> Option<JobRefused>
     None
 }
 
-// The least dimension that holds so many items.
+// Returns the least dimension that holds this many items.
 pub(crate) fn least_dim(count: usize) -> u32
     requires { 0 < count }
     ensures least { IsLeastDim count result }
@@ -80,7 +81,7 @@ pub(crate) fn least_dim(count: usize) -> u32
 }
 
 impl Request {
-    // A request for items that no reason refuses.
+    // Makes a request for items that no reason refuses.
     pub(crate) fn new(n: u32, lane: u32, kind: Kind, items: Vec<u64>) -> Self
         requires machine { n ≤ MAX_DIM }
         requires lane { lane < MAX_LANES }
@@ -103,14 +104,14 @@ impl Request {
         answer(&self.items, self.kind, self.dim(), kept);
     }
 
-    // The items.
+    // Returns the items.
     pub(crate) fn into_items(self) -> Vec<u64>
         ensures { result.items ≡ self.items }
     {
         self.items
     }
 
-    /// The dimension of the machine, at most `MAX_DIM`.
+    /// Returns the dimension of the machine.
     pub fn machine(&self) -> u32
         ensures value { result ≡ self.now.machine }
         ensures limit { result ≤ MAX_DIM }
@@ -118,7 +119,7 @@ impl Request {
         self.machine
     }
 
-    /// The lane that the job was made for, below `MAX_LANES`.
+    /// Returns the lane that the job was made for.
     pub fn lane(&self) -> u32
         ensures value { result ≡ self.now.lane }
         ensures below { result < MAX_LANES }
@@ -126,29 +127,28 @@ impl Request {
         self.lane
     }
 
-    /// The collective.
+    /// Returns the collective.
     pub fn kind(&self) -> Kind
         ensures { result ≡ self.now.kind }
     {
         self.kind
     }
 
-    /// The least dimension that holds the items: that of the smallest region that has a processor for
-    /// each.
+    /// Returns the least dimension that holds the items: that of the smallest block with a
+    /// processor for each.
     pub fn dim(&self) -> u32
         ensures least { IsLeastDim (length self.now.items) result }
         ensures value { result ≡ dim_of (length self.now.items) }
         ensures within { result ≤ self.now.machine }
         ensures limit { self.now.machine ≤ MAX_DIM }
 
-        // What `dim_of` means, of any number of items.
+        // What `dim_of` means, for any number of items.
         ensures means { (p : ℕ) → IsLeastDim p (dim_of p) }
     {
         least_dim(self.items.len())
     }
 
-    /// The items, from 1 to as many as the machine has processors. The `i`-th one is on the region's
-    /// `i`-th processor.
+    /// Returns the items. The `i`-th one is on the `i`-th processor of the block.
     pub fn items(&self) -> &[u64]
         ensures value { result.now ≡ self.now.items }
         ensures some { 0 < length result.now }

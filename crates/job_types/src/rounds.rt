@@ -1,4 +1,4 @@
-//! The rounds of a job. They work on the stack, on a place for each rank of its region.
+//! The rounds of a job. They work on the stack, on a place for each rank of its block.
 
 ghost use Rattle.std.specs.Prelude.{◌≡◌, ◌^◌, ◌<◌, ◌≤◌, false, length, replicate, take, All};
 ghost use Rattle.collectives.specs.Operations.{IsU64};
@@ -17,8 +17,8 @@ use crate::kind::Kind;
 use collectives::{Operand, Operator, all_reduce, broadcast, exscan, reduce, scan};
 use cube_shape::MAX_DIM;
 
-// Runs the collective on `2^k` places, with the items and then the unit, and keeps its result. It takes
-// no memory but the stack's.
+// Runs the collective on `2^k` places, which hold the items and then the unit, and keeps its
+// result. Uses the stack only.
 #[tactic(auto, using(crate::proofs::PlaceLemmas::small_fit, crate::proofs::PlaceLemmas::middle_fit, crate::proofs::PlaceLemmas::large_fit, crate::proofs::PlaceLemmas::all_fit))]
 pub(crate) fn answer(items: &[u64], kind: Kind, k: u32, kept: &mut Kept)
     requires job { CanRun kind k items.now kept.old }
@@ -35,7 +35,8 @@ pub(crate) fn answer(items: &[u64], kind: Kind, k: u32, kept: &mut Kept)
     }
 }
 
-// The same on the first `2^k` of places that hold the unit, and as many for scratch.
+// Runs it on the first `2^k` of these places, which hold the unit. Uses as many places of
+// `scratch`.
 pub(crate) fn on_front<O: Operator>(
     items: &[u64],
     kind: Kind,
@@ -62,7 +63,7 @@ pub(crate) fn on_front<O: Operator>(
     );
 }
 
-// The same on places that hold the unit, with as many for scratch.
+// Runs it on these places, which hold the unit. Uses as many places of `scratch`.
 fn on_places<O: Operator>(
     items: &[u64],
     kind: Kind,
@@ -83,7 +84,7 @@ fn on_places<O: Operator>(
     show(items, kind, places, kept);
 }
 
-// Puts the items at the first places, of which there are `2^k` with the unit.
+// Puts the items at the first of `2^k` places that hold the unit.
 fn put_items<O: Operator>(items: &[u64], k: u32, places: &mut [Operand<O>])
     requires units { places.old ≡ replicate (2 ^ k) O.unit }
     requires fits { length items.now ≤ 2 ^ k }
@@ -95,7 +96,8 @@ fn put_items<O: Operator>(items: &[u64], k: u32, places: &mut [Operand<O>])
     }
 }
 
-// Runs the collective on its `2^k` places. They may hold the items of a job, and the unit past these.
+// Runs the rounds of the collective on its `2^k` places. They may hold the items of a job, and then
+// the unit.
 fn run_rounds<O: Operator>(
     places: &mut [Operand<O>],
     scratch: &mut [Operand<O>],
@@ -121,7 +123,7 @@ fn run_rounds<O: Operator>(
     };
 }
 
-// Keeps of the places what is kept of the collective's result.
+// Keeps what a reply shows of the collective's result.
 fn show<O: Operator>(items: &[u64], kind: Kind, places: &[Operand<O>], kept: &mut Kept)
     requires rooted { has_bad_root kind (length items.now) ≡ false }
     requires some { 0 < length items.now }

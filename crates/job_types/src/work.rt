@@ -6,8 +6,8 @@ ghost use Rattle.job_types.specs.Inner.Kept.{HasRoomFor, IsShown};
 use crate::kept::Kept;
 use crate::request::Request;
 
-// A request, the least processor of the region that it ran on, and what is kept of its result. Jobs and
-// replies are moved often, and hold it in a box.
+// A request, the least processor of the block that it ran on, and what is kept of its result. Jobs
+// and replies hold it in a box, since they are moved often.
 #[derive(Debug, Drop)]
 pub(crate) struct Work {
     pub request: Request,

@@ -1,14 +1,18 @@
-//! Jobs, regions and schedules of a hypercube machine: `cubejobs run --dim N`,
-//! `cubejobs report --dim N`, `cubejobs place --dim N` and `cubejobs replay --dim N --stations S`.
+//! The program `cubejobs`: it reads jobs, commands or schedules, and writes the rows that answer
+//! them.
 //!
-//! The input comes as CSV from the file that the command names or from standard input, and its answer
-//! goes as CSV to the file that `--output` names, whole or not at all, or to standard output. Jobs are
-//! answered on threads, by the dispatchers and over the line that `--dispatchers` and `--capacity` ask
-//! for. Where standard error is a terminal that can write a line anew, it shows how far a long run is,
-//! unless `--quiet` is given. Where standard input is read and is a terminal, standard error says what is
-//! waited for.
-//! The whole program is `program::run` of `cli_commands`, over any words, reader and writers; this file
-//! ties them to the process, which ends by `program::exit_code`.
+//! The commands are `cubejobs run --dim N`, `cubejobs report --dim N`, `cubejobs place --dim N` and
+//! `cubejobs replay --dim N --stations S`. Each reads CSV from the file that it names, or from
+//! standard input. It writes CSV to the file that `--output` names, whole or not at all, or to
+//! standard output.
+//!
+//! Jobs run on threads. `--dispatchers` sets the number of workers, and `--capacity` that of the
+//! jobs that may wait. If standard error is a terminal that can rewrite a line, it shows the
+//! progress of a long run, unless `--quiet` is given. If standard input is read and is a terminal,
+//! standard error says what is waited for.
+//!
+//! The whole program is `program::run` of `cli_commands`, over any words, files and streams. This
+//! file ties it to the process, which ends by `program::exit_code`.
 #![tactic(auto)]
 
 use atomic_file::SystemFiles;
@@ -20,13 +24,13 @@ use std::process::ExitCode;
 use std::rt::Env;
 use std::{io, process};
 
-// The words of the command line, from the program's name on.
+// Returns the words of the command line, from the program's name on.
 fn words<R: Env + AllocGlobal>(rt: &R) -> io::Result<Vec<String>> {
     let words = std::env::args(rt)?.collect(rt.alloc())?;
     Ok(words)
 }
 
-// Reports words that could not be read: there was no memory, or they are not text.
+// Reports that the words could not be read: memory ran out, or they are not text.
 fn report_words(rt: &impl Eprint, error: &io::Error) -> Ending {
     if error.kind() == io::ErrorKind::OutOfMemory {
         let fault = Fault::no_memory();
@@ -37,7 +41,7 @@ fn report_words(rt: &impl Eprint, error: &io::Error) -> Ending {
     Ending::Rejected
 }
 
-// Whether the terminal says that it cannot write a line anew.
+// Returns whether the terminal says that it cannot rewrite a line.
 fn is_dumb(rt: &impl Env) -> bool {
     let mut term = [0u8; 4];
     rt.var("TERM", &mut term).is_ok() && term == *b"dumb"
@@ -72,7 +76,7 @@ fn main(rt: HostRuntime) -> ExitCode {
         prompt,
     };
     let ending = program::run(&rt, rt.alloc(), &words, &mut store, &mut console);
-    // The store holds nothing that has to end.
+    // The store holds nothing that must be ended.
     let SystemFiles {
         rt: _,
         process_id: _,

@@ -3,7 +3,9 @@ use Rattle.std.proofs.Common.{◌≡◌, ◌≢◌, ℕ, List, [], ◌∷◌, le
 use Rattle.jobs_csv.specs.declared.fault.FaultKind.TheVariants as what
 use Rattle.jobs_csv.specs.Place.{command_of}
 
-pub no_command : (n : ℕ) (fields : List (List ℕ)) → length fields ≢ 3 → command_of n fields ≡ Err what.Fields
+pub no_command : (n : ℕ) (fields : List (List ℕ))
+    → length fields ≢ 3
+    → command_of n fields ≡ Err what.Fields
 unfolding command_of
 no_command n [] d = refl
 no_command n (f0 ∷ []) d = refl

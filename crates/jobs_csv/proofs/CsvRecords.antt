@@ -8,15 +8,18 @@ use Rattle.csv.specs.declared.parser.Action.TheVariants as act
 use Rattle.csv.specs.Machine.{Read, ends_with, step, in_field, start_field, start_record, after_end, is_end, ends_at_end, fields_after, field_after, next_record}
 use Rattle.csv.specs.Reading.{default_config, records, records_from, records_next, Reached, AreRecords}
 
--- the machine stands between two records
+-- the parser is between two records
 abbrev Rests : State → Type 0
 Rests s = ends_at_end s ≡ false
 
--- a move that ends a record leaves the machine between two records
+-- a move that ends a record leaves the parser between two records
 record EndsAtRest (move : State × Action) : Type 0 where
   at_rest : is_end move.1 ≡ true → Rests move.0
 
-either : (b : Bool) (x y : State × Action) → EndsAtRest x → EndsAtRest y → EndsAtRest (if b then x else y)
+either : (b : Bool) (x y : State × Action)
+    → EndsAtRest x
+    → EndsAtRest y
+    → EndsAtRest (if b then x else y)
 either true x y p q = p
 either false x y p q = q
 
@@ -54,13 +57,17 @@ step-rests st.AfterQuote c = either (c == 34) (st.InQuoted, act.Copy) (in_field 
 step-rests st.InComment c = either (c == 10) (st.StartRecord, act.Skip) (st.InComment, act.Skip) (goes_on st.StartRecord act.Skip refl) (goes_on st.InComment act.Skip refl)
 step-rests st.AfterCr c = either (c == 10) (st.StartRecord, act.Skip) (start_record default_config c) (goes_on st.StartRecord act.Skip refl) (start_record-rests c)
 
--- a record leaves the machine at rest, with no more bytes than there were
+-- after a record the parser is between two records, with no more bytes than before
 record Leaves (size : ℕ) (p : Read) : Type 0 where
   rests : Rests p.1
   fewer : length p.2 ≤ size
 
--- what holds of either choice holds of what was chosen
-chosen : (b : Bool) (x y : Option Read) (p : Read) (P : Type 0) → (if b then x else y) ≡ Some p → (b ≡ true → x ≡ Some p → P) → (b ≡ false → y ≡ Some p → P) → P
+-- what holds for either choice holds for the chosen one
+chosen : (b : Bool) (x y : Option Read) (p : Read) (P : Type 0)
+    → (if b then x else y) ≡ Some p
+    → (b ≡ true → x ≡ Some p → P)
+    → (b ≡ false → y ≡ Some p → P)
+    → P
 chosen true x y p P e f g = f refl e
 chosen false x y p P e f g = g refl e
 
@@ -70,7 +77,9 @@ some_same x p size h e = let same : x ≡ p = cc in subst (Leaves size) same h
 weaker : (p : Read) (m n : ℕ) → m ≤ n → Leaves m p → Leaves n p
 weaker p m n h k = record { rests = k.rests; fewer = omega arith }
 
-leaves : (s : State) (fields : List (List ℕ)) (field xs : List ℕ) (p : Read) → next_record default_config s fields field xs ≡ Some p → Leaves (length xs) p
+leaves : (s : State) (fields : List (List ℕ)) (field xs : List ℕ) (p : Read)
+    → next_record default_config s fields field xs ≡ Some p
+    → Leaves (length xs) p
 unfolding next_record
 leaves s fields field [] p e =
     chosen (ends_at_end s) (Some (fields ++ (field ∷ []), st.StartRecord, [])) None p (Leaves 0 p) e
@@ -83,8 +92,11 @@ leaves s fields field (c ∷ rest) p e =
     (λ b d. some_same (fields_after move.1 fields field, move.0, rest) p (length (c ∷ rest)) (record { rests = (step-rests s c).at_rest b; fewer = omega arith }) d)
     (λ b d. weaker p (length rest) (length (c ∷ rest)) (omega arith) (leaves move.0 (fields_after move.1 fields field) (field_after move.1 c field) rest p d))
 
--- from rest, a record takes a byte at least
-takes : (s : State) (xs : List ℕ) (p : Read) → Rests s → next_record default_config s [] [] xs ≡ Some p → (length p.2 < length xs) × Rests p.1
+-- from there, a record takes at least one byte
+takes : (s : State) (xs : List ℕ) (p : Read)
+    → Rests s
+    → next_record default_config s [] [] xs ≡ Some p
+    → (length p.2 < length xs) × Rests p.1
 unfolding next_record
 takes s [] p rest e = chosen (ends_at_end s) (Some ([] ++ ([] ∷ []), st.StartRecord, [])) None p ((length p.2 < 0) × Rests p.1) e (λ b _. absurd (false≢true (sym rest ∙ b))) (λ _ d. absurd (cc))
 takes s (c ∷ bytes) p rest e =
@@ -96,12 +108,17 @@ takes s (c ∷ bytes) p rest e =
     (omega (arith, k.fewer), k.rests)
 
 -- the records of a text are those given so far and those of the bytes that are left
-record Split (n : ℕ) (s : State) (xs : List ℕ) (rows : List (List (List ℕ))) (s2 : State) (ys : List ℕ) : Type 0 where
+record Split (n : ℕ) (s : State) (xs : List ℕ) (rows : List (List (List ℕ))) (s2 : State)
+    (ys : List ℕ) : Type 0 where
   turns : ℕ
   enough : length ys < turns
   same : records_from default_config n s xs ≡ rows ++ records_from default_config turns s2 ys
 
-split : (rows : List (List (List ℕ))) (n : ℕ) (s : State) (xs : List ℕ) (s2 : State) (ys : List ℕ) → Rests s → length xs < n → Reached default_config s xs rows s2 ys → Split n s xs rows s2 ys
+split : (rows : List (List (List ℕ))) (n : ℕ) (s : State) (xs : List ℕ) (s2 : State) (ys : List ℕ)
+    → Rests s
+    → length xs < n
+    → Reached default_config s xs rows s2 ys
+    → Split n s xs rows s2 ys
 unfolding Reached records_from
 split [] n s xs s2 ys rest lt r = record { turns = n; enough = rw (sym r.1) lt; same = rw (r.0, r.1) refl }
 split (row ∷ rows) zero s xs s2 ys rest lt r = absurd (omega arith)
@@ -114,20 +131,27 @@ split (row ∷ rows) (suc n) s xs s2 ys rest lt r =
       same = ap (records_next (records_from default_config n)) r.1 ∙ ap (λ first. first ∷ records_from default_config n r.0.1 r.0.2) (sym r.2) ∙ ap (λ rest. row ∷ rest) more.same;
     }
 
--- no record is left where there is no next one
-ended : (turns : ℕ) (s : State) (ys : List ℕ) → length ys < turns → next_record default_config s [] [] ys ≡ None → records_from default_config turns s ys ≡ []
+-- if there is no next record, none is left
+ended : (turns : ℕ) (s : State) (ys : List ℕ)
+    → length ys < turns
+    → next_record default_config s [] [] ys ≡ None
+    → records_from default_config turns s ys ≡ []
 unfolding records_from
 ended zero s ys lt none = absurd (omega arith)
 ended (suc turns) s ys lt none = ap (records_next (records_from default_config turns)) none
 
 -- the records that were given are the first of all records
-pub first_records : (bytes : List ℕ) (rows : List (List (List ℕ))) (s : State) (left : List ℕ) → Reached default_config st.StartRecord bytes rows s left → (more : List (List (List ℕ))) × (records default_config bytes ≡ rows ++ more)
+pub first_records : (bytes : List ℕ) (rows : List (List (List ℕ))) (s : State) (left : List ℕ)
+    → Reached default_config st.StartRecord bytes rows s left
+    → (more : List (List (List ℕ))) × (records default_config bytes ≡ rows ++ more)
 first_records bytes rows s left r =
     let all = split rows (length bytes + 1) st.StartRecord bytes s left refl (omega arith) r in
     (records_from default_config all.turns s left, all.same)
 
--- where no more come, they are all
-pub whole_records : (bytes : List ℕ) (rows : List (List (List ℕ))) → AreRecords default_config st.StartRecord bytes rows → records default_config bytes ≡ rows
+-- if no more follow, they are all records
+pub whole_records : (bytes : List ℕ) (rows : List (List (List ℕ)))
+    → AreRecords default_config st.StartRecord bytes rows
+    → records default_config bytes ≡ rows
 whole_records bytes rows r =
     let all = split rows (length bytes + 1) st.StartRecord bytes r.0 r.1 refl (omega arith) r.2 in
     all.same ∙ ap (λ more. rows ++ more) (ended all.turns r.0 r.1 all.enough r.3) ∙ append-nil rows

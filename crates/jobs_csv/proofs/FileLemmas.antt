@@ -24,16 +24,24 @@ abbrev Rows : Type 0 → Type 0
 Rows Row = Record → Result Row FaultKind
 
 -- rows before those of a parse
-abbrev pub with_front : {Row : Type 0} → List Row → Result (List Row) Fault → Result (List Row) Fault
+abbrev pub with_front : {Row : Type 0}
+    → List Row
+    → Result (List Row) Fault
+    → Result (List Row) Fault
 with_front rows (Ok more) = Ok (rows ++ more)
 with_front rows (Err fault) = Err fault
 
 -- the first records have these rows, whatever comes after them
-pub record Passes {Row : Type 0} (row_of : Record → Result Row FaultKind) (front : List Record) (rows : List Row) : Type 0 where
-  pub all : (rest : List Record) → rows_from row_of 1 (front ++ rest) ≡ with_front rows (rows_from row_of (length front + 1) rest)
+pub record Passes {Row : Type 0} (row_of : Record → Result Row FaultKind) (front : List Record)
+    (rows : List Row) : Type 0 where
+  pub all : (rest : List Record)
+      → rows_from row_of 1 (front ++ rest)
+      ≡ with_front rows (rows_from row_of (length front + 1) rest)
 
 -- a reader has given a good header and then records of these rows; the next record has this number
-pub record HasRead {R Row : Type 0} (header_of : Record → Result (Unit {0}) FaultKind) (row_of : Record → Result Row FaultKind) (rem : R → Option (List ℕ)) (bytes : Option (List ℕ)) (number : ℕ) (rows : List Row) (reader : Reader R) : Type 0 where
+pub record HasRead {R Row : Type 0} (header_of : Record → Result (Unit {0}) FaultKind)
+    (row_of : Record → Result Row FaultKind) (rem : R → Option (List ℕ)) (bytes : Option (List ℕ))
+    (number : ℕ) (rows : List Row) (reader : Reader R) : Type 0 where
   pub header : Record
   pub front : List Record
   pub given : HasGiven rem bytes (header ∷ front) reader
@@ -50,7 +58,10 @@ none_pass {Row} row_of = record { all = λ rest. sym (in_front (rows_from row_of
     in_front (Err fault) = refl
 
 -- a refusal is the parse's error
-pub refusal_parsed : {A : Type 0} (answer : Result A FaultKind) (w : FaultKind) → is_refusal w ≡ true → IsParseError answer w → answer ≡ Err w
+pub refusal_parsed : {A : Type 0} (answer : Result A FaultKind) (w : FaultKind)
+    → is_refusal w ≡ true
+    → IsParseError answer w
+    → answer ≡ Err w
 refusal_parsed answer what.Fields is parse = parse
 refusal_parsed answer what.Number is parse = parse
 refusal_parsed answer what.Word is parse = parse
@@ -62,17 +73,29 @@ refusal_parsed answer what.TooMany is parse = parse
 refusal_parsed answer what.Spent is parse = absurd parse
 
 -- a file of no record
-pub no_record : {Row : Type 0} (header_of : Headers) (row_of : Rows Row) (bytes : Option (List ℕ)) → AreAll bytes [] → IfSome bytes (λ b. ReturnsFile (parse_file header_of row_of b) (Err (record { row = 0; what = what.Fields })))
+pub no_record : {Row : Type 0} (header_of : Headers) (row_of : Rows Row) (bytes : Option (List ℕ))
+    → AreAll bytes []
+    → IfSome bytes (λ b. ReturnsFile (parse_file header_of row_of b)
+    (Err (record { row = 0; what = what.Fields })))
 unfolding file_of
 no_record header_of row_of None all = tt
 no_record header_of row_of (Some bytes) all = λ _. ap (file_of header_of row_of) (whole_records (strip_bom bytes) [] all)
 
 -- the records that were given are the first of the file
-given_first : {R : Type 0} (rem : R → Option (List ℕ)) (bytes : List ℕ) (records : List Record) (reader : Reader R) → HasGiven rem (Some bytes) records reader → (more : List Record) × (all_records default_config (strip_bom bytes) ≡ records ++ more)
+given_first : {R : Type 0} (rem : R → Option (List ℕ)) (bytes : List ℕ) (records : List Record)
+    (reader : Reader R)
+    → HasGiven rem (Some bytes) records reader
+    → (more : List Record) × (all_records default_config (strip_bom bytes) ≡ records ++ more)
 given_first rem bytes records reader given = first_records (strip_bom bytes) records (reader_state reader) given.0 given.2
 
 -- a header that is refused
-pub bad_header : {R Row : Type 0} (header_of : Headers) (row_of : Rows Row) (rem : R → Option (List ℕ)) (bytes : Option (List ℕ)) (header : Record) (w : FaultKind) (reader : Reader R) → HasGiven rem bytes (header ∷ []) reader → IsParseError (header_of header) w → IfSome bytes (λ b. ReturnsFile (parse_file header_of row_of b) (Err (record { row = 0; what = w })))
+pub bad_header : {R Row : Type 0} (header_of : Headers) (row_of : Rows Row)
+    (rem : R → Option (List ℕ)) (bytes : Option (List ℕ)) (header : Record) (w : FaultKind)
+    (reader : Reader R)
+    → HasGiven rem bytes (header ∷ []) reader
+    → IsParseError (header_of header) w
+    → IfSome bytes (λ b. ReturnsFile (parse_file header_of row_of b)
+    (Err (record { row = 0; what = w })))
 unfolding file_of
 bad_header header_of row_of rem None header w reader given parse = tt
 bad_header header_of row_of rem (Some bytes) header w reader given parse = λ is.
@@ -80,7 +103,10 @@ bad_header header_of row_of rem (Some bytes) header w reader given parse = λ is
     ap (file_of header_of row_of) all.1 ∙ ap (λ (h : Result (Unit {0}) FaultKind). at_row 0 h >>= (λ _. rows_from row_of 1 all.0)) (refusal_parsed (header_of header) w is parse)
 
 -- the rows of a file with a good header
-file_rows : {Row : Type 0} (header_of : Headers) (row_of : Rows Row) (header : Record) (records : List Record) → header_of header ≡ Ok tt → file_of header_of row_of (header ∷ records) ≡ rows_from row_of 1 records
+file_rows : {Row : Type 0} (header_of : Headers) (row_of : Rows Row) (header : Record)
+    (records : List Record)
+    → header_of header ≡ Ok tt
+    → file_of header_of row_of (header ∷ records) ≡ rows_from row_of 1 records
 unfolding file_of
 file_rows header_of row_of header records good = ap (λ (h : Result (Unit {0}) FaultKind). at_row 0 h >>= (λ _. rows_from row_of 1 records)) good
 
@@ -88,30 +114,45 @@ no_more_rows : {Row : Type 0} (row_of : Rows Row) (number : ℕ) → rows_from r
 unfolding rows_from
 no_more_rows row_of number = refl
 
-first_fault : {Row : Type 0} (row_of : Rows Row) (number : ℕ) (fields : Record) (records : List Record) (fault : Fault) → numbered_row row_of number fields ≡ Err fault → rows_from row_of number (fields ∷ records) ≡ Err fault
+first_fault : {Row : Type 0} (row_of : Rows Row) (number : ℕ) (fields : Record)
+    (records : List Record) (fault : Fault)
+    → numbered_row row_of number fields ≡ Err fault
+    → rows_from row_of number (fields ∷ records) ≡ Err fault
 unfolding rows_from
 first_fault {Row} row_of number fields records fault e = ap (λ (r : Result Row Fault). r >>= (λ row. rows_from row_of (number + 1) records >>= (λ rows. Ok (row ∷ rows)))) e
 
-behind_row : {Row : Type 0} (row : Row) (rest : Result (List Row) Fault) → (rest >>= (λ rows. Ok (row ∷ rows))) ≡ with_front (row ∷ []) rest
+behind_row : {Row : Type 0} (row : Row) (rest : Result (List Row) Fault)
+    → (rest >>= (λ rows. Ok (row ∷ rows))) ≡ with_front (row ∷ []) rest
 behind_row row (Ok rows) = refl
 behind_row row (Err fault) = refl
 
-first_row : {Row : Type 0} (row_of : Rows Row) (number : ℕ) (fields : Record) (records : List Record) (row : Row) → numbered_row row_of number fields ≡ Ok row → rows_from row_of number (fields ∷ records) ≡ with_front (row ∷ []) (rows_from row_of (number + 1) records)
+first_row : {Row : Type 0} (row_of : Rows Row) (number : ℕ) (fields : Record)
+    (records : List Record) (row : Row)
+    → numbered_row row_of number fields ≡ Ok row
+    → rows_from row_of number (fields ∷ records)
+    ≡ with_front (row ∷ []) (rows_from row_of (number + 1) records)
 unfolding rows_from
 first_row {Row} row_of number fields records row e = ap (λ (r : Result Row Fault). r >>= (λ row. rows_from row_of (number + 1) records >>= (λ rows. Ok (row ∷ rows)))) e ∙ behind_row row (rows_from row_of (number + 1) records)
 
-both_fronts : {Row : Type 0} (rows : List Row) (row : Row) (rest : Result (List Row) Fault) → with_front rows (with_front (row ∷ []) rest) ≡ with_front (rows ++ row ∷ []) rest
+both_fronts : {Row : Type 0} (rows : List Row) (row : Row) (rest : Result (List Row) Fault)
+    → with_front rows (with_front (row ∷ []) rest) ≡ with_front (rows ++ row ∷ []) rest
 both_fronts rows row (Ok more) = ap Ok (sym (append_assoc rows (row ∷ []) more))
 both_fronts rows row (Err fault) = refl
 
--- a record of those that a file may have
-in_range : {Row : Type 0} (row_of : Rows Row) (number : ℕ) (fields : Record) → number ≤ MAX_RECORDS → numbered_row row_of number fields ≡ at_row number (row_of fields)
+-- a record whose number is within the limit of a file
+in_range : {Row : Type 0} (row_of : Rows Row) (number : ℕ) (fields : Record)
+    → number ≤ MAX_RECORDS
+    → numbered_row row_of number fields ≡ at_row number (row_of fields)
 in_range row_of number fields within =
     let inside : nat_lt MAX_RECORDS number ≡ false = grind (arith, nat_tests) in
     ap (λ (over : Bool). if over then Err (record { row = number; what = what.TooMany }) else at_row number (row_of fields)) inside
 
 -- the end of the file
-atomic_file : {R Row : Type 0} (header_of : Headers) (row_of : Rows Row) (rem : R → Option (List ℕ)) (bytes : List ℕ) (number : ℕ) (rows : List Row) (reader : Reader R) → (k : HasRead header_of row_of rem (Some bytes) number rows reader) → AreAll (Some bytes) (k.header ∷ k.front) → parse_file header_of row_of bytes ≡ Ok rows
+atomic_file : {R Row : Type 0} (header_of : Headers) (row_of : Rows Row) (rem : R → Option (List ℕ))
+    (bytes : List ℕ) (number : ℕ) (rows : List Row) (reader : Reader R)
+    → (k : HasRead header_of row_of rem (Some bytes) number rows reader)
+    → AreAll (Some bytes) (k.header ∷ k.front)
+    → parse_file header_of row_of bytes ≡ Ok rows
 atomic_file header_of row_of rem bytes number rows reader k all =
     ap (file_of header_of row_of) (whole_records (strip_bom bytes) (k.header ∷ k.front) all)
     ∙ file_rows header_of row_of k.header k.front k.good
@@ -121,12 +162,23 @@ atomic_file header_of row_of rem bytes number rows reader k all =
     ∙ ap Ok (append-nil rows)
 
 -- its rows are pushed
-pub all_gathered : {R Row G : Type 0} (contents : G → List Row → Type 0) (header_of : Headers) (row_of : Rows Row) (rem : R → Option (List ℕ)) (bytes : Option (List ℕ)) (number : ℕ) (rows : List Row) (gathered : G) (reader : Reader R) → contents gathered rows → (k : HasRead header_of row_of rem bytes number rows reader) → AreAll bytes (k.header ∷ k.front) → IfSome bytes (λ b. ReturnsRows contents (parse_file header_of row_of b) (Ok gathered))
+pub all_gathered : {R Row G : Type 0} (contents : G → List Row → Type 0) (header_of : Headers)
+    (row_of : Rows Row) (rem : R → Option (List ℕ)) (bytes : Option (List ℕ)) (number : ℕ)
+    (rows : List Row) (gathered : G) (reader : Reader R)
+    → contents gathered rows
+    → (k : HasRead header_of row_of rem bytes number rows reader)
+    → AreAll bytes (k.header ∷ k.front)
+    → IfSome bytes (λ b. ReturnsRows contents (parse_file header_of row_of b) (Ok gathered))
 all_gathered contents header_of row_of rem None number rows gathered reader held k all = tt
 all_gathered contents header_of row_of rem (Some bytes) number rows gathered reader held k all = (rows, atomic_file header_of row_of rem bytes number rows reader k all, held)
 
 -- the parse from the next record on
-from_next : {R Row : Type 0} (header_of : Headers) (row_of : Rows Row) (rem : R → Option (List ℕ)) (bytes : List ℕ) (number : ℕ) (rows : List Row) (reader next : Reader R) (fields : Record) → (k : HasRead header_of row_of rem (Some bytes) number rows reader) → HasGiven rem (Some bytes) ((k.header ∷ k.front) ++ fields ∷ []) next → (more : List Record) × (parse_file header_of row_of bytes ≡ with_front rows (rows_from row_of number (fields ∷ more)))
+from_next : {R Row : Type 0} (header_of : Headers) (row_of : Rows Row) (rem : R → Option (List ℕ))
+    (bytes : List ℕ) (number : ℕ) (rows : List Row) (reader next : Reader R) (fields : Record)
+    → (k : HasRead header_of row_of rem (Some bytes) number rows reader)
+    → HasGiven rem (Some bytes) ((k.header ∷ k.front) ++ fields ∷ []) next
+    → (more : List Record) × (parse_file header_of row_of bytes
+    ≡ with_front rows (rows_from row_of number (fields ∷ more)))
 from_next header_of row_of rem bytes number rows reader next fields k given =
     let all = given_first rem bytes ((k.header ∷ k.front) ++ fields ∷ []) next given in (
       all.0,
@@ -138,25 +190,53 @@ from_next header_of row_of rem bytes number rows reader next fields k given =
     )
 
 -- a record with a fault
-bad_record : {R Row : Type 0} (header_of : Headers) (row_of : Rows Row) (rem : R → Option (List ℕ)) (bytes : List ℕ) (number : ℕ) (rows : List Row) (reader next : Reader R) (fields : Record) (fault : Fault) → (k : HasRead header_of row_of rem (Some bytes) number rows reader) → HasGiven rem (Some bytes) ((k.header ∷ k.front) ++ fields ∷ []) next → numbered_row row_of number fields ≡ Err fault → parse_file header_of row_of bytes ≡ Err fault
+bad_record : {R Row : Type 0} (header_of : Headers) (row_of : Rows Row) (rem : R → Option (List ℕ))
+    (bytes : List ℕ) (number : ℕ) (rows : List Row) (reader next : Reader R) (fields : Record)
+    (fault : Fault)
+    → (k : HasRead header_of row_of rem (Some bytes) number rows reader)
+    → HasGiven rem (Some bytes) ((k.header ∷ k.front) ++ fields ∷ []) next
+    → numbered_row row_of number fields ≡ Err fault
+    → parse_file header_of row_of bytes ≡ Err fault
 bad_record header_of row_of rem bytes number rows reader next fields fault k given e =
     let rest = from_next header_of row_of rem bytes number rows reader next fields k given in
     rest.1 ∙ ap (with_front rows) (first_fault row_of number fields rest.0 fault e)
 
 -- a record whose fields are refused
-pub bad_row : {R Row : Type 0} (header_of : Headers) (row_of : Rows Row) (rem : R → Option (List ℕ)) (bytes : Option (List ℕ)) (number : ℕ) (rows : List Row) (reader next : Reader R) (fields : Record) (w : FaultKind) → (k : HasRead header_of row_of rem bytes number rows reader) → HasGiven rem bytes ((k.header ∷ k.front) ++ fields ∷ []) next → number ≤ MAX_RECORDS → IsParseError (row_of fields) w → IfSome bytes (λ b. ReturnsFile (parse_file header_of row_of b) (Err (record { row = (if is_refusal w then number else 0); what = w })))
+pub bad_row : {R Row : Type 0} (header_of : Headers) (row_of : Rows Row) (rem : R → Option (List ℕ))
+    (bytes : Option (List ℕ)) (number : ℕ) (rows : List Row) (reader next : Reader R)
+    (fields : Record) (w : FaultKind)
+    → (k : HasRead header_of row_of rem bytes number rows reader)
+    → HasGiven rem bytes ((k.header ∷ k.front) ++ fields ∷ []) next
+    → number ≤ MAX_RECORDS
+    → IsParseError (row_of fields) w
+    → IfSome bytes (λ b. ReturnsFile (parse_file header_of row_of b)
+    (Err (record { row = (if is_refusal w then number else 0); what = w })))
 bad_row header_of row_of rem None number rows reader next fields w k given within parse = tt
 bad_row header_of row_of rem (Some bytes) number rows reader next fields w k given within parse = λ is.
     rw is (bad_record header_of row_of rem bytes number rows reader next fields (record { row = number; what = w }) k given (in_range row_of number fields within ∙ ap (at_row number) (refusal_parsed (row_of fields) w is parse)))
 
 -- one record more than a file may have
-pub too_many : {R Row : Type 0} (header_of : Headers) (row_of : Rows Row) (rem : R → Option (List ℕ)) (bytes : Option (List ℕ)) (number : ℕ) (rows : List Row) (reader next : Reader R) (fields : Record) → (k : HasRead header_of row_of rem bytes number rows reader) → HasGiven rem bytes ((k.header ∷ k.front) ++ fields ∷ []) next → number ≡ MAX_RECORDS + 1 → IfSome bytes (λ b. ReturnsFile (parse_file header_of row_of b) (Err (record { row = MAX_RECORDS + 1; what = what.TooMany })))
+pub too_many : {R Row : Type 0} (header_of : Headers) (row_of : Rows Row)
+    (rem : R → Option (List ℕ)) (bytes : Option (List ℕ)) (number : ℕ) (rows : List Row)
+    (reader next : Reader R) (fields : Record)
+    → (k : HasRead header_of row_of rem bytes number rows reader)
+    → HasGiven rem bytes ((k.header ∷ k.front) ++ fields ∷ []) next
+    → number ≡ MAX_RECORDS + 1
+    → IfSome bytes (λ b. ReturnsFile (parse_file header_of row_of b)
+    (Err (record { row = MAX_RECORDS + 1; what = what.TooMany })))
 too_many header_of row_of rem None number rows reader next fields k given past = tt
 too_many header_of row_of rem (Some bytes) number rows reader next fields k given past = λ is.
     bad_record header_of row_of rem bytes number rows reader next fields (record { row = MAX_RECORDS + 1; what = what.TooMany }) k given (ap (λ (n : ℕ). numbered_row row_of n fields) past)
 
 -- one row more
-pub one_more_read : {R Row : Type 0} (header_of : Headers) (row_of : Rows Row) (rem : R → Option (List ℕ)) (bytes : Option (List ℕ)) (number : ℕ) (rows : List Row) (reader next : Reader R) (fields : Record) (row : Row) → (k : HasRead header_of row_of rem bytes number rows reader) → HasGiven rem bytes ((k.header ∷ k.front) ++ fields ∷ []) next → number ≤ MAX_RECORDS → row_of fields ≡ Ok row → HasRead header_of row_of rem bytes (number + 1) (rows ++ row ∷ []) next
+pub one_more_read : {R Row : Type 0} (header_of : Headers) (row_of : Rows Row)
+    (rem : R → Option (List ℕ)) (bytes : Option (List ℕ)) (number : ℕ) (rows : List Row)
+    (reader next : Reader R) (fields : Record) (row : Row)
+    → (k : HasRead header_of row_of rem bytes number rows reader)
+    → HasGiven rem bytes ((k.header ∷ k.front) ++ fields ∷ []) next
+    → number ≤ MAX_RECORDS
+    → row_of fields ≡ Ok row
+    → HasRead header_of row_of rem bytes (number + 1) (rows ++ row ∷ []) next
 one_more_read header_of row_of rem bytes number rows reader next fields row k given within e =
     let length_more : length (k.front ++ fields ∷ []) ≡ length k.front + 1 = length_push k.front fields in
     let good : numbered_row row_of (length k.front + 1) fields ≡ Ok row = in_range row_of (length k.front + 1) fields (omega (arith, k.count)) ∙ ap (at_row (length k.front + 1)) e in
@@ -177,5 +257,9 @@ one_more_read header_of row_of rem bytes number rows reader next fields row k gi
     }
 
 -- a good header, and no row yet
-pub header_read : {R Row : Type 0} (header_of : Headers) (row_of : Rows Row) (rem : R → Option (List ℕ)) (bytes : Option (List ℕ)) (header : Record) (reader : Reader R) → HasGiven rem bytes (header ∷ []) reader → header_of header ≡ Ok tt → HasRead header_of row_of rem bytes 1 [] reader
+pub header_read : {R Row : Type 0} (header_of : Headers) (row_of : Rows Row)
+    (rem : R → Option (List ℕ)) (bytes : Option (List ℕ)) (header : Record) (reader : Reader R)
+    → HasGiven rem bytes (header ∷ []) reader
+    → header_of header ≡ Ok tt
+    → HasRead header_of row_of rem bytes 1 [] reader
 header_read header_of row_of rem bytes header reader given good = record { header = header; front = []; given = given; count = refl; good = good; passes = none_pass row_of }

@@ -23,7 +23,9 @@ one_more_empty lanes count lane k none = record {
 pub no_lanes : AreEmpty [] 0
 no_lanes = record { length = refl; empty = λ k d lt. absurd (omega (arith, lt)) }
 
-pub none_in_lanes : (lanes : List (VecDeque JobData Global)) → AreEmpty lanes MAX_LANES → AreLanes lanes []
+pub none_in_lanes : (lanes : List (VecDeque JobData Global))
+    → AreEmpty lanes MAX_LANES
+    → AreLanes lanes []
 none_in_lanes lanes k = record {
   count = k.length;
   below = λ j d lt. absurd (omega (arith, lt));

@@ -17,7 +17,10 @@ length_zeros zero = refl
 length_zeros (suc n) = ap suc (length_zeros n)
 
 -- a name written over the first of 16 zeros
-pub padded : (text : List ℕ) → length text ≤ 16 → is_name text ≡ true → IsPadded (length text) (text ++ drop (length text) (zeros 16))
+pub padded : (text : List ℕ)
+    → length text ≤ 16
+    → is_name text ≡ true
+    → IsPadded (length text) (text ++ drop (length text) (zeros 16))
 padded text short name =
     let rest = drop_zeros (length text) 16 in
     record {

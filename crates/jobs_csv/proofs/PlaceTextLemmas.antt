@@ -16,7 +16,9 @@ range_push from (suc n) =
     ap (λ (rest : List ℕ). from ∷ rest) (range_push (from + 1) n ∙ ap (λ (k : ℕ). range_with_len (from + 1) n ++ k ∷ []) last)
 
 -- the text with the place of one more rank
-pub next_place : (rank : ℕ) (job : JobData) → places_text (rank + 1) job ≡ places_text rank job ++ ((if rank == 0 then [] else 32 ∷ []) ++ number_text (result_at job.kind job.items rank))
+pub next_place : (rank : ℕ) (job : JobData)
+    → places_text (rank + 1) job ≡ places_text rank job
+    ++ ((if rank == 0 then [] else 32 ∷ []) ++ number_text (result_at job.kind job.items rank))
 unfolding places_text
 next_place zero job = refl
 next_place (suc rank) job =

@@ -30,7 +30,7 @@ use Rattle.jobs_csv.specs.ReplayRows.{event_keyword, node_word_text, note_keywor
 use Rattle.jobs_csv.specs.Replies.{collective_keyword}
 use Rattle.jobs_csv.specs.Text.{IsPlainField, number_text}
 
--- bytes that call for none: a space, and those from the minus sign on
+-- bytes that need no quotes: a space, and those from the minus sign on
 plain_byte : (byte : ℕ) → (byte ≡ 32) ⊎ (45 ≤ byte) → needs_byte default_writer byte ≡ false
 plain_byte byte h = grind (arith, nat_tests)
 
@@ -43,7 +43,7 @@ all_both a b p q = record { each = All-append (λ byte. needs_byte default_write
 pub plain_nothing : IsPlainField []
 plain_nothing = record { each = λ k d lt. absurd (omega arith) }
 
--- a written number
+-- the digits of a number
 pub plain_decimal : (n : ℕ) → n < 2 ^ 64 → IsPlainField (decimal n)
 plain_decimal n lt =
     decimal_by_steps (λ _ digits. IsPlainField digits)
@@ -51,7 +51,7 @@ plain_decimal n lt =
     (λ more digits _ p. all_both digits ((48 + more % 10) ∷ []) p (all_one (48 + more % 10) (plain_byte (48 + more % 10) (inr (omega arith)))))
     n lt
 
--- a field with no such byte is written as it is
+-- a field of such bytes is written as it is
 pub as_it_is : (field : List ℕ) → IsPlainField field → field_text default_writer field ≡ field
 as_it_is field plain = ap (λ (quotes : Bool). if quotes then quoted default_writer field else field) (list_any_none (needs_byte default_writer) field plain.each)
 
@@ -63,13 +63,17 @@ second_false : (a b : Bool) → (a || b) ≡ false → b ≡ false
 second_false true b e = absurd (false≢true (sym e))
 second_false false b e = e
 
--- a text without such bytes, by a test
-plain_letter : (field : List ℕ) → list_any (needs_byte default_writer) field ≡ false → All (λ byte. needs_byte default_writer byte ≡ false) field
+-- a text of such bytes, by a test
+plain_letter : (field : List ℕ)
+    → list_any (needs_byte default_writer) field ≡ false
+    → All (λ byte. needs_byte default_writer byte ≡ false) field
 plain_letter [] e k d lt = absurd (omega arith)
 plain_letter (byte ∷ field) e zero d lt = first_false (needs_byte default_writer byte) (list_any (needs_byte default_writer) field) e
 plain_letter (byte ∷ field) e (suc k) d lt = plain_letter field (second_false (needs_byte default_writer byte) (list_any (needs_byte default_writer) field) e) k d (omega arith)
 
-pub plain_text : (field : List ℕ) → list_any (needs_byte default_writer) field ≡ false → IsPlainField field
+pub plain_text : (field : List ℕ)
+    → list_any (needs_byte default_writer) field ≡ false
+    → IsPlainField field
 plain_text field e = record { each = plain_letter field e }
 
 pub plain_dash : IsPlainField (number_text None)
@@ -78,7 +82,7 @@ plain_dash = plain_text (codes "-") refl
 pub plain_space : IsPlainField (32 ∷ [])
 plain_space = plain_text (32 ∷ []) refl
 
--- what stands before a place
+-- what is before a place
 pub plain_separator : (is_first : Bool) → IsPlainField (if is_first then [] else 32 ∷ [])
 plain_separator true = plain_nothing
 plain_separator false = plain_space
@@ -172,7 +176,10 @@ plain_why why.NotInCube = plain_text (codes "notincube") refl
 plain_why why.Resting = plain_text (codes "resting") refl
 
 -- a choice between two plain fields is plain
-either_plain : (b : Bool) (x y : List ℕ) → IsPlainField x → IsPlainField y → IsPlainField (if b then x else y)
+either_plain : (b : Bool) (x y : List ℕ)
+    → IsPlainField x
+    → IsPlainField y
+    → IsPlainField (if b then x else y)
 either_plain true x y p q = p
 either_plain false x y p q = q
 
@@ -192,7 +199,9 @@ plain_use w =
 plain_mark : (w station : ℕ) → station < 2 ^ 64 → IsPlainField (mark_text w station)
 plain_mark w station lt = plain_if w (mark_bit station) (codes "+" ++ decimal station) (all_both (codes "+") (decimal station) (plain_text (codes "+") refl) (plain_decimal station lt))
 
-plain_marks : (w from n : ℕ) → from + n ≤ 2 ^ 64 → IsPlainField (flat_map (mark_text w) (range_with_len from n))
+plain_marks : (w from n : ℕ)
+    → from + n ≤ 2 ^ 64
+    → IsPlainField (flat_map (mark_text w) (range_with_len from n))
 plain_marks w from zero le = plain_nothing
 plain_marks w from (suc n) le = all_both (mark_text w from) (flat_map (mark_text w) (range_with_len (from + 1) n)) (plain_mark w from (omega (arith, le))) (plain_marks w (from + 1) n (omega (arith, le)))
 

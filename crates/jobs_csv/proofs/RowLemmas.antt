@@ -10,7 +10,9 @@ use Rattle.jobs_csv.specs.ReplayRows.{replay_columns, replay_fields}
 use Rattle.jobs_csv.specs.Text.{number_text}
 
 -- a row that answers a command
-pub place_by_columns : (r : PlaceRow) → place_fields r ≡ command_text r ∷ name_in r ∷ number_text (dim_in r) ∷ number_text (base_in r) ∷ outcome_text r ∷ []
+pub place_by_columns : (r : PlaceRow)
+    → place_fields r ≡ command_text r ∷ name_in r ∷ number_text (dim_in r) ∷ number_text (base_in r)
+    ∷ outcome_text r ∷ []
 place_by_columns (row.Given name dim base) = refl
 place_by_columns (row.Held name dim) = refl
 place_by_columns (row.NoStation name dim) = refl
@@ -19,7 +21,9 @@ place_by_columns (row.Freed name dim base) = refl
 place_by_columns (row.NothingHeld name) = refl
 
 -- a row of a schedule
-pub replay_by_columns : (r : ReplayRow) → replay_fields r ≡ number_text (station_in r) ∷ event_text r ∷ number_text (node_in r) ∷ word_in r ∷ end_text r ∷ []
+pub replay_by_columns : (r : ReplayRow)
+    → replay_fields r ≡ number_text (station_in r) ∷ event_text r ∷ number_text (node_in r)
+    ∷ word_in r ∷ end_text r ∷ []
 replay_by_columns (line.Made event) = refl
 replay_by_columns (line.Refused station at why) = refl
 replay_by_columns (line.Word node word) = refl
@@ -41,9 +45,23 @@ replay_each (line.Word node word) = refl
 replay_each (line.End count) = refl
 
 -- two lists of five texts
-pub five_texts : {a b c d e a2 b2 c2 d2 e2 : List ℕ} → a ≡ a2 → b ≡ b2 → c ≡ c2 → d ≡ d2 → e ≡ e2 → a ∷ b ∷ c ∷ d ∷ e ∷ [] ≡ a2 ∷ b2 ∷ c2 ∷ d2 ∷ e2 ∷ []
+pub five_texts : {a b c d e a2 b2 c2 d2 e2 : List ℕ}
+    → a ≡ a2
+    → b ≡ b2
+    → c ≡ c2
+    → d ≡ d2
+    → e ≡ e2
+    → a ∷ b ∷ c ∷ d ∷ e ∷ [] ≡ a2 ∷ b2 ∷ c2 ∷ d2 ∷ e2 ∷ []
 five_texts p q r s t = cc
 
 -- two lists of seven texts
-pub seven_texts : {a b c d e f g a2 b2 c2 d2 e2 f2 g2 : List ℕ} → a ≡ a2 → b ≡ b2 → c ≡ c2 → d ≡ d2 → e ≡ e2 → f ≡ f2 → g ≡ g2 → a ∷ b ∷ c ∷ d ∷ e ∷ f ∷ g ∷ [] ≡ a2 ∷ b2 ∷ c2 ∷ d2 ∷ e2 ∷ f2 ∷ g2 ∷ []
+pub seven_texts : {a b c d e f g a2 b2 c2 d2 e2 f2 g2 : List ℕ}
+    → a ≡ a2
+    → b ≡ b2
+    → c ≡ c2
+    → d ≡ d2
+    → e ≡ e2
+    → f ≡ f2
+    → g ≡ g2
+    → a ∷ b ∷ c ∷ d ∷ e ∷ f ∷ g ∷ [] ≡ a2 ∷ b2 ∷ c2 ∷ d2 ∷ e2 ∷ f2 ∷ g2 ∷ []
 seven_texts p q r s t u v = cc

@@ -6,7 +6,8 @@ use Rattle.jobs_csv.specs.declared.fault.Fault.{Fault}
 use Rattle.jobs_csv.specs.declared.fault.FaultKind.{FaultKind}
 use Rattle.jobs_csv.specs.declared.fault.FaultKind.TheVariants as what
 
--- the input is refused; otherwise a device failed, or memory did, or a lane has no number left
+-- Whether the input is refused. Otherwise a device failed, memory ran out, or a lane has no number
+-- left.
 abbrev pub is_refusal : FaultKind → Bool
 is_refusal what.Read = false
 is_refusal what.Write = false
@@ -14,15 +15,15 @@ is_refusal what.OutOfMemory = false
 is_refusal what.Spent = false
 is_refusal _ = true
 
--- the exit status of a program that reports it
+-- The exit status of a program that reports the fault: 1 if the input is refused, else 3.
 abbrev pub status_of : FaultKind → ℕ
 status_of kind = if is_refusal kind then 1 else 3
 
--- the first word of the error message
+-- The first word of the error message: `refused` or `failed`.
 abbrev pub outcome_text : FaultKind → List ℕ
 outcome_text kind = if is_refusal kind then codes "refused" else codes "failed"
 
--- the name of the kind, and for a job the reason
+-- The name of the kind, and for a job the reason.
 abbrev pub kind_text : FaultKind → List ℕ
 kind_text what.Fields = codes "Fields"
 kind_text what.Number = codes "Number"
@@ -37,18 +38,24 @@ kind_text what.OutOfMemory = codes "OutOfMemory"
 kind_text what.TooMany = codes "TooMany"
 kind_text what.Spent = codes "Spent"
 
--- the error message, without the line feed
+-- The error message, without the line feed. It has `refused` or `failed`, the number of the record,
+-- and the name of the kind.
 abbrev pub fault_text : Fault → List ℕ
-fault_text fault = outcome_text fault.what ++ codes ": record " ++ decimal fault.row ++ codes ": " ++ kind_text fault.what
+fault_text fault =
+    outcome_text fault.what ++ codes ": record " ++ decimal fault.row ++ codes ": "
+    ++ kind_text fault.what
 
--- a device's count of failed calls rose, or stood at its end
+-- A device's count of failed calls rose, or was at its end before the call.
 abbrev pub has_failed : ℕ → ℕ → Bool
 has_failed before after = nat_lt before after || (before == 2 ^ 64 - 1)
 
--- the fault of a call that failed: the device's where it has failed, else out of memory
+-- The fault of a call that failed: the device's if the device has failed, else out of memory. Its
+-- record is 0.
 abbrev pub attribute : FaultKind → ℕ → ℕ → Fault
-attribute device before after = record { row = 0; what = if has_failed before after then device else what.OutOfMemory }
+attribute device before after =
+    record { row = 0; what = if has_failed before after then device else what.OutOfMemory }
 
--- the input is refused, or a call that read it failed
+-- The input is refused, or the fault is that of a call that read it, by `attribute`.
 abbrev pub IsInputFault : ℕ → ℕ → Fault → Type 0
-IsInputFault before after fault = (is_refusal fault.what ≡ true) ⊎ (fault ≡ attribute what.Read before after)
+IsInputFault before after fault =
+    (is_refusal fault.what ≡ true) ⊎ (fault ≡ attribute what.Read before after)

@@ -1,4 +1,5 @@
--- What no public contract reaches: how files are read and lines are written, and how a name is kept.
+-- How files are read and lines are written, and how a name is stored. No public contract cites
+-- these definitions.
 pub mod Columns
 pub mod Input
 pub mod Name

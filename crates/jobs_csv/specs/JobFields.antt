@@ -1,4 +1,4 @@
--- The parse of each field of a job's record.
+-- The parse of the fields of a job's record.
 use Rattle.std.specs.Prelude.{ℕ, ◌==◌, Bool, false, not, List, [], ◌∷◌, codes, Option, Some, option_and_then, Result, Ok, Err, if◌then◌else◌}
 use Rattle.std.specs.List.{slice_split}
 use Rattle.std.specs.Str.{bytes_eq}
@@ -11,13 +11,13 @@ use Rattle.jobs_csv.specs.declared.fault.FaultKind.TheVariants as what
 use Rattle.jobs_csv.specs.Fields.{among, any_number, dash_of, number_of}
 use Rattle.jobs_csv.specs.Outcome.{or_refuse, ◌>>=◌}
 
--- the operation
+-- The parse of the field of an operation.
 unfoldable pub op_of : List ℕ → Result Op FaultKind
 op_of field = among ((codes "add", op.Add) ∷ (codes "min", op.Min) ∷ (codes "max", op.Max)
     ∷ (codes "xor", op.Xor) ∷ (codes "and", op.And) ∷ (codes "or", op.Or) ∷ []) field
 
--- the collective of three fields; a broadcast has no operation, and an all-reduce, a scan and an exclusive
--- scan do not keep the root, which is a number all the same
+-- The parse of the three fields of a collective. A broadcast has a dash as its operation. The root
+-- is a number in every record, and an all-reduce, a scan and an exclusive scan do not keep it.
 unfoldable pub collective_of : List ℕ → List ℕ → List ℕ → Result Kind FaultKind
 collective_of word join root =
     if bytes_eq word (codes "broadcast")
@@ -32,22 +32,24 @@ collective_of word join root =
     then (op_of join >>= (λ op. any_number root >>= (λ r. Ok (kind.ExScan op))))
     else Err what.Word
 
--- the collective has no root, and the field of its root is not `0`
+-- Whether the collective has no root, and the field of its root is not `0`.
 abbrev pub has_superfluous_root : Kind → List ℕ → Bool
 has_superfluous_root (kind.Broadcast own) root = false
 has_superfluous_root (kind.Reduce op own) root = false
 has_superfluous_root _ root = not (bytes_eq root (codes "0"))
 
--- the numbers of all pieces, if each has one
+-- The numbers of all pieces, if each is a number.
 unfoldable pub all_numbers : List (List ℕ) → Option (List ℕ)
 all_numbers [] = Some []
-all_numbers (piece ∷ pieces) = option_and_then (λ x. option_and_then (λ xs. Some (x ∷ xs)) (all_numbers pieces)) (number_of piece)
+all_numbers (piece ∷ pieces) =
+    option_and_then (λ x. option_and_then (λ xs. Some (x ∷ xs)) (all_numbers pieces))
+    (number_of piece)
 
--- numbers with one space between each two; an empty field has none
+-- The numbers of a field, with one space between each two. An empty field has none.
 unfoldable pub numbers_of : List ℕ → Option (List ℕ)
 numbers_of [] = Some []
 numbers_of (first ∷ rest) = all_numbers (slice_split (λ byte. byte == 32) (first ∷ rest))
 
--- the items of a job
+-- The parse of the field of a job's items.
 unfoldable pub items_of : List ℕ → Result (List ℕ) FaultKind
 items_of field = or_refuse what.Number (numbers_of field)

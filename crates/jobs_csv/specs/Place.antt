@@ -1,4 +1,4 @@
--- The parse of a file of commands: takes and frees of regions under names.
+-- The parse of a file of commands: takes and releases of blocks under names.
 use Rattle.std.specs.Prelude.{◌≤◌, ℕ, ⊤, List, [], ◌∷◌, codes, Result, Ok, Err, if◌then◌else◌}
 use Rattle.std.specs.Str.{bytes_eq}
 use Rattle.jobs_csv.specs.declared.fault.Fault.{Fault}
@@ -12,24 +12,27 @@ use Rattle.jobs_csv.specs.Files.{Record, parse_file}
 use Rattle.jobs_csv.specs.Name.{is_name}
 use Rattle.jobs_csv.specs.Outcome.{◌>>=◌}
 
--- the name of a field
+-- The parse of the field of a name.
 unfoldable pub name_of : List ℕ → Result (List ℕ) FaultKind
 name_of field = if is_name field then Ok field else Err what.Word
 
--- the command of a record, on a machine of dimension n: a take of a dimension of at most n, or a free,
--- whose last field is a dash
+-- The parse of a command's record, on a machine of dimension `n`. A `take` has a dimension of at
+-- most `n`. The last field of a `free` is a dash.
 unfoldable pub command_of : ℕ → Record → Result Command FaultKind
 command_of n (verb ∷ name ∷ dim ∷ []) =
-    if bytes_eq verb (codes "take") then (name_of name >>= (λ text. number_within 0 n dim >>= (λ k. Ok (command.Take text k))))
-    else if bytes_eq verb (codes "free") then (name_of name >>= (λ text. dash_of dim >>= (λ nothing. Ok (command.Free text))))
+    if bytes_eq verb (codes "take") then
+    (name_of name >>= (λ text. number_within 0 n dim >>= (λ k. Ok (command.Take text k))))
+    else if bytes_eq verb (codes "free") then
+    (name_of name >>= (λ text. dash_of dim >>= (λ nothing. Ok (command.Free text))))
     else Err what.Word
 command_of n _ = Err what.Fields
 
--- the parse of a file of commands, for a machine of dimension n
+-- The parse of a file of commands, for a machine of dimension `n`.
 abbrev pub parse_commands : ℕ → List ℕ → Result (List Command) Fault
-parse_commands n bytes = parse_file (header_of (codes "command" ∷ codes "name" ∷ codes "dim" ∷ [])) (command_of n) bytes
+parse_commands n bytes =
+    parse_file (header_of (codes "command" ∷ codes "name" ∷ codes "dim" ∷ [])) (command_of n) bytes
 
--- a machine of dimension n has regions of the dimension of the take
+-- A machine of dimension `n` has blocks of the dimension of the take.
 abbrev pub Fits : ℕ → Command → Type 0
 Fits n (command.Take name dim) = dim ≤ n
 Fits n (command.Free name) = ⊤

@@ -17,7 +17,7 @@ pub(crate) struct ThreeFields<'a> {
     pub third: &'a [u8],
 }
 
-/// The field at an index.
+/// Returns the field at an index.
 pub(crate) fn field(row: &ByteRecord, index: usize) -> &[u8]
     requires { index < length (fields_of row.now) }
     ensures { field_at (fields_of row.now) index ≡ Some result.now }
@@ -25,7 +25,7 @@ pub(crate) fn field(row: &ByteRecord, index: usize) -> &[u8]
     row.get(index).unwrap()
 }
 
-/// The fields of a record, if there are three.
+/// Returns the fields of a record, if there are three.
 pub(crate) fn three_fields(row: &ByteRecord) -> Option<ThreeFields<'_>>
     ensures some { IfSome result (λ three.
         fields_of row.now ≡ three.first.now ∷ three.second.now ∷ three.third.now ∷ []) }
@@ -41,7 +41,7 @@ pub(crate) fn three_fields(row: &ByteRecord) -> Option<ThreeFields<'_>>
     })
 }
 
-// Whether the fields have these texts.
+// Returns whether the fields have these texts.
 fn are_texts(fields: &ThreeFields<'_>, first: &[u8], second: &[u8], third: &[u8]) -> bool
     ensures { result ≡ pointwise bytes_eq
         (fields.now.first.now ∷ fields.now.second.now ∷ fields.now.third.now ∷ [])

@@ -6,26 +6,26 @@ use job_types::JobRefused;
 use std::alloc::AllocError;
 use std::fmt;
 
-/// What is wrong.
+/// The kind of a fault.
 #[derive(Clone, Copy, Debug, PartialEq, Eq)]
 pub enum FaultKind {
     /// A record has too few or too many fields, or there is no header.
     Fields,
     /// A field is not the number, or the numbers, that it should be.
     Number,
-    /// A field is none of the keywords that it should be.
+    /// A field is none of the keywords that it may be.
     Word,
-    /// The fields are good, and no job can be made of them.
+    /// The fields are good, but no job can be made of them.
     Job(JobRefused),
     /// The input could not be read.
     Read,
     /// The output could not be written.
     Write,
-    /// A request for memory was refused.
+    /// Memory ran out.
     OutOfMemory,
     /// There are more records than a file may have.
     TooMany,
-    /// A lane has given all its numbers to jobs.
+    /// A lane has no number left for another job.
     Spent,
 }
 
@@ -35,16 +35,15 @@ pub struct Fault {
     /// The number of the refused record. The header is record 0 and the next one record 1.
     /// It is 0 for a fault of a device or of memory, and for a lane that is spent.
     pub row: u64,
-    /// What is wrong.
     pub what: FaultKind,
 }
 
-/// Writing stopped: the writer failed, or a request for memory was refused.
+/// The writer failed, or memory ran out.
 #[derive(Clone, Copy, Debug, PartialEq, Eq)]
 pub struct WriteError;
 
 impl FaultKind {
-    /// Whether the input is at fault, and not a device, memory or a spent lane.
+    /// Returns whether the input is at fault, and not a device, memory or a spent lane.
     pub fn is_refusal(&self) -> bool
         ensures { result ≡ is_refusal self.now }
     {
@@ -58,7 +57,7 @@ impl FaultKind {
         }
     }
 
-    // The first word of the error message.
+    // Returns the first word of the error message.
     fn outcome(&self) -> &'static str
         ensures { result.now ≡ outcome_text self.now }
     {
@@ -69,7 +68,7 @@ impl FaultKind {
         }
     }
 
-    // The name of the kind, and for a job the reason.
+    // Returns the name of the kind, and for a job the reason.
     fn text(&self) -> &'static str
         ensures { result.now ≡ kind_text self.now }
     {
@@ -102,7 +101,7 @@ impl fmt::Display for FaultKind {
 }
 
 impl Fault {
-    /// A request for memory was refused.
+    /// Returns the fault for memory that ran out.
     pub fn no_memory() -> Self
         ensures { result ≡ record { row = 0; what = FaultKind.OutOfMemory } }
     {
@@ -112,9 +111,11 @@ impl Fault {
         }
     }
 
-    /// The fault of a call that failed: the device's exactly where its count of failed calls rose,
-    /// or stood at `u64::MAX`, and out of memory otherwise. The counts are those before the call
-    /// and after it.
+    /// Returns the fault of a call that failed, from the device's counts of failed calls before and
+    /// after it.
+    ///
+    /// The device is at fault exactly if its count rose, or was `u64::MAX` before the call.
+    /// Otherwise memory ran out.
     pub fn attribute(device: FaultKind, before: u64, after: u64) -> Self
         ensures { result ≡ attribute device before after }
     {
@@ -127,7 +128,7 @@ impl Fault {
         Fault { row: 0, what }
     }
 
-    /// The exit status of a program that reports it: 1 where the input was refused, else 3.
+    /// Returns the exit status of a program that reports it: 1 if the input was refused, else 3.
     pub fn status(&self) -> u8
         ensures { result ≡ status_of self.now.what }
     {

@@ -1,4 +1,4 @@
-// The parse of single fields.
+// Parsers of single fields.
 ghost use Rattle.std.specs.Prelude.{◌≡◌, ◌≤◌, ◌&&◌, ◌^◌, IfOk, nat_lt, Some, None, if◌then◌else◌};
 ghost use Rattle.std.specs.List.{list_all};
 ghost use Rattle.std.specs.Char.{is_ascii_digit};
@@ -7,7 +7,7 @@ ghost use Rattle.jobs_csv.specs.Inner.Parse.{ReturnsParse};
 
 use crate::fault::FaultKind;
 
-// The number that digits write, if they are digits and it is below 2^64.
+// Returns the number that these bytes write, if they are digits and it is below `2^64`.
 fn digits(field: &[u8]) -> Option<u64>
     ensures { result ≡ (if list_all is_ascii_digit field.now && nat_lt (value_of field.now) (2 ^ 64)
         then Some (value_of field.now) else None) }
@@ -29,7 +29,8 @@ fn digits(field: &[u8]) -> Option<u64>
     Some(value)
 }
 
-/// The number of a field: `0`, or digits of which the first is not `0`, below 2^64.
+/// Returns the number of a field, if it is one: `0`, or digits of which the first is not `0`, below
+/// `2^64`.
 #[tactic(auto, unfolding(crate::specs::Fields::number_of))]
 pub(crate) fn number(field: &[u8]) -> Option<u64>
     ensures { result ≡ number_of field.now }
@@ -40,7 +41,7 @@ pub(crate) fn number(field: &[u8]) -> Option<u64>
     digits(field)
 }
 
-/// A field that is a number.
+/// Reads a field that is a number.
 #[tactic(auto, unfolding(crate::specs::Fields::any_number))]
 pub(crate) fn any_number(field: &[u8]) -> Result<u64, FaultKind>
     ensures { ReturnsParse (λ number. number) (any_number field.now) result }
@@ -48,7 +49,7 @@ pub(crate) fn any_number(field: &[u8]) -> Result<u64, FaultKind>
     number(field).ok_or(FaultKind::Number)
 }
 
-/// A field that is a number from `low` to `high`.
+/// Reads a field that is a number from `low` to `high`.
 #[tactic(auto, unfolding(crate::specs::Fields::number_within))]
 pub(crate) fn number_within(field: &[u8], low: u64, high: u64) -> Result<u64, FaultKind>
     ensures parse { ReturnsParse (λ number. number) (number_within low high field.now) result }
@@ -61,7 +62,7 @@ pub(crate) fn number_within(field: &[u8], low: u64, high: u64) -> Result<u64, Fa
     }
 }
 
-/// A field that is a dash, which stands for nothing.
+/// Checks that a field is a dash, which means that there is nothing.
 #[tactic(auto, unfolding(crate::specs::Fields::dash_of))]
 pub(crate) fn dash(field: &[u8]) -> Result<(), FaultKind>
     ensures { ReturnsParse (λ good. good) (dash_of field.now) result }

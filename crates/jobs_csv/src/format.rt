@@ -33,7 +33,8 @@ pub(crate) trait Format {
     fn header(&self, row: &ByteRecord) -> Result<(), FaultKind>
         ensures { ReturnsParse (λ good. good) (header_of (fields_of row.now)) result };
 
-    /// Reads a record: checks the number of its fields, and reads the fields from left to right.
+    /// Reads a record: checks the number of its fields, and then reads the fields from left to
+    /// right.
     fn row(&self, alloc: Global, row: &ByteRecord) -> Result<Self::Row, FaultKind>
         ensures parse { ReturnsParse (λ row. row) (row_of self.now (fields_of row.now)) result }
         ensures good { IfOk result (λ row. is_row self.now row) };
@@ -44,7 +45,6 @@ pub(crate) trait RowSink<Row>: Drop {
     // It holds these rows, in this order.
     ghost contents: { Self → List Row → Type 0 };
 
-    /// Pushes one more row.
     fn push(&mut self, row: Row) -> Result<(), AllocError>
         requires { (rows : List Row) × contents self.old rows }
         ensures { (rows : List Row) → contents self.old rows
@@ -60,7 +60,7 @@ impl<Row: Drop> RowSink<Row> for Vec<Row> {
     }
 }
 
-// Reads the header, which stands in `record` after it.
+// Reads the header into `record`, and checks it.
 fn read_header<F: Format, R: Read>(
     format: &F,
     reader: &mut Reader<R>,
@@ -85,8 +85,8 @@ fn read_header<F: Format, R: Read>(
     Ok(())
 }
 
-// Reads the records after a good header and pushes their rows into `rows`, which must be empty. `record` is
-// where each of them stands in turn.
+// Reads the records after a good header and pushes their rows into `rows`, which must be empty.
+// Each record is read into `record`.
 fn read_rows<F: Format, G: RowSink<F::Row>, R: Read>(
     alloc: Global,
     format: &F,
@@ -149,11 +149,10 @@ pub(crate) fn read_records<F: Format, G: RowSink<F::Row>, R: Read + Drop>(
     read_rows(alloc, format, rows, &mut reader, &mut record)
 }
 
-/// Reads a whole file from a reader that is lent, and pushes its rows into `rows`, which must be
-/// empty.
+/// Reads a whole file from a borrowed reader, and pushes its rows into `rows`, which must be empty.
 ///
-/// A failure is the reader's exactly where its count of failed calls rose in this call, or stood at
-/// `u64::MAX`, and is out of memory otherwise.
+/// A failure is `Read` exactly if the reader's count of failed calls rose in this call, or was
+/// `u64::MAX` before it. Otherwise memory ran out.
 pub(crate) fn read_file<F: Format, G: RowSink<F::Row>, R: Read + Device>(
     alloc: Global,
     format: &F,

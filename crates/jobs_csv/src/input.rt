@@ -11,10 +11,10 @@ use csv::{ByteRecord, ErrorKind, Reader, ReaderBuilder};
 use std::alloc::Global;
 use std::io::Read;
 
-/// How many records a file may have after its header.
+/// The most records that a file may have after its header.
 pub const MAX_RECORDS: u64 = 1_000_000;
 
-/// The fault of a record, or of memory, which has no record.
+/// Returns a fault, with the record's number if the input is refused, and else with 0.
 pub(crate) fn fault_at(row: u64, what: FaultKind) -> Fault
     ensures { result ≡ record { row = (if is_refusal what then row else 0); what = what } }
 {
@@ -22,7 +22,7 @@ pub(crate) fn fault_at(row: u64, what: FaultKind) -> Fault
     Fault { row, what }
 }
 
-// Why a reader of records has stopped: the reader underneath failed, or memory was refused.
+// Returns why a reader of records has stopped: the reader below it failed, or memory ran out.
 fn stopped_for(error: &csv::Error) -> FaultKind
     requires { stops_reader (error_kind error.now) ≡ true }
     ensures { result
@@ -34,7 +34,7 @@ fn stopped_for(error: &csv::Error) -> FaultKind
     }
 }
 
-/// A reader of the records of a text, which has read none of it.
+/// Returns a reader of the records of a text. It has read none of it.
 pub(crate) fn open_reader<R: Read>(alloc: Global, text: R) -> Reader<R>
     ensures plain { IsPlain result }
     ensures none { HasGiven R.remaining (R.remaining text) [] result }

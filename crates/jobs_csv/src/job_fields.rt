@@ -10,7 +10,7 @@ use cube_shape::MAX_LANES;
 use job_types::{Kind, Op};
 use std::alloc::Global;
 
-/// The lane of a field: a number below `MAX_LANES`.
+/// Reads the lane of a field: a number below `MAX_LANES`.
 pub(crate) fn lane(field: &[u8]) -> Result<u32, FaultKind>
     ensures parse { ReturnsParse (λ lane. lane) (number_within 0 (MAX_LANES - 1) field.now) result }
     ensures below { IfOk result (λ lane. lane < MAX_LANES) }
@@ -19,7 +19,6 @@ pub(crate) fn lane(field: &[u8]) -> Result<u32, FaultKind>
     Ok(lane as u32)
 }
 
-// The operation of a field.
 #[tactic(auto, unfolding(crate::specs::JobFields::op_of, crate::specs::Fields::among))]
 fn read_op(field: &[u8]) -> Result<Op, FaultKind>
     ensures { ReturnsParse (λ op. op) (op_of field.now) result }
@@ -43,7 +42,7 @@ fn read_op(field: &[u8]) -> Result<Op, FaultKind>
 
 /// Reads the collective of three fields, `kind`, `op` and `root`.
 ///
-/// The root is a number in every record. A collective with no root does not keep it.
+/// The root must be a number in every record. A collective with no root does not keep it.
 #[tactic(auto, unfolding(crate::specs::JobFields::collective_of))]
 pub(crate) fn read_collective(kind: &[u8], op: &[u8], root: &[u8]) -> Result<Kind, FaultKind>
     ensures { ReturnsParse (λ kind. kind) (collective_of kind.now op.now root.now) result }
@@ -76,7 +75,7 @@ pub(crate) fn read_collective(kind: &[u8], op: &[u8], root: &[u8]) -> Result<Kin
     Err(FaultKind::Word)
 }
 
-/// Returns whether a collective has no root and the field of its root is not `0`.
+/// Returns whether a collective has no root, and the field of its root is not `0`.
 pub(crate) fn has_superfluous_root(kind: Kind, root: &[u8]) -> bool
     ensures { result ≡ has_superfluous_root kind root.now }
 {
@@ -86,14 +85,14 @@ pub(crate) fn has_superfluous_root(kind: Kind, root: &[u8]) -> bool
     }
 }
 
-/// The items of a field: numbers with one space between two, or nothing at all.
+/// Reads the items of a field: numbers with one space between each two. An empty field has none.
 pub(crate) fn items(alloc: Global, field: &[u8]) -> Result<Vec<u64>, FaultKind>
     ensures { ReturnsParse (λ items. items.items) (items_of field.now) result }
 {
     if field.is_empty() {
         return Ok(Vec::new(alloc));
     }
-    // Room that doubles from 1 on is what the least region has room for, and no more.
+    // A capacity that doubles from 1 on is the size of the job's block, and no more.
     let Ok(mut items) = Vec::with_capacity(alloc, 1) else {
         return Err(FaultKind::OutOfMemory);
     };

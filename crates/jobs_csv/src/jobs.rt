@@ -33,10 +33,10 @@ struct Jobs {
     ghost limit: { n ≤ MAX_DIM },
 }
 
-// How many fields a record of jobs has.
+// The number of fields of a job's record.
 const COLUMNS: usize = 5;
 
-// Whether the five fields of a record are those of a header.
+// Returns whether the five fields of a record are those of the header.
 #[tactic(auto, using(crate::proofs::JobLemmas::five))]
 fn are_job_columns(row: &ByteRecord) -> bool
     requires { length (fields_of row.now) ≡ 5 }
@@ -74,7 +74,7 @@ fn read_fields(alloc: Global, n: u32, row: &ByteRecord) -> Result<Job, FaultKind
     accept(alloc, n, lane, kind, items, has_superfluous)
 }
 
-// The job, unless a rule refuses it. The rules of every job come first, and then the one that a
+// Makes the job, unless a rule refuses it. The rules of every job are first. The last one is that a
 // collective with no root has root 0.
 #[tactic(auto, unfolding(crate::specs::Jobs::accept_job))]
 fn accept(
@@ -141,9 +141,12 @@ impl Format for Jobs {
 
 /// Reads the jobs of a whole file, for a machine of dimension `n`.
 ///
-/// A refusal is the first fault of the file. `Read` comes only where the reader's count of failed
-/// calls rose in this call, or stood at `u64::MAX`; any other failure is `OutOfMemory`. At most
-/// `MAX_RECORDS + 1` records after the header are read.
+/// Reads at most `MAX_RECORDS + 1` records after the header.
+///
+/// # Errors
+///
+/// A refusal is the first fault of the file. Returns `Read` only if the reader's count of failed
+/// calls rose in this call, or was `u64::MAX` before it. Any other failure is `OutOfMemory`.
 pub fn read_jobs<R: Read + Device>(alloc: Global, n: u32, reader: &mut R) -> Result<Vec<Job>, Fault>
     requires { n ≤ MAX_DIM }
     ensures parse { IfSome (R.remaining reader.old) (λ bytes.
@@ -154,8 +157,8 @@ pub fn read_jobs<R: Read + Device>(alloc: Global, n: u32, reader: &mut R) -> Res
     format::read_list(alloc, &Jobs { n }, reader)
 }
 
-/// Reads the jobs of a whole file, as `read_jobs` does, into a queue for each lane, in which the
-/// lane's jobs are in the order of the file.
+/// Reads the jobs of a whole file, as `read_jobs` does, into a queue for each lane. The jobs of a
+/// lane are in the order of the file.
 pub fn read_lanes<R: Read + Device>(
     alloc: Global,
     n: u32,
@@ -172,8 +175,8 @@ pub fn read_lanes<R: Read + Device>(
     Ok(lanes)
 }
 
-/// Reads the jobs of a whole file, as `read_lanes` does, while an observer that has seen none sees
-/// each record that becomes a job. Returns the observer beside the lanes.
+/// Reads the jobs of a whole file, as `read_lanes` does. The observer, which has seen no record
+/// yet, sees each record that becomes a job. Returns the observer with the lanes.
 pub fn read_lanes_with<O: Observer, R: Read + Device>(
     alloc: Global,
     n: u32,

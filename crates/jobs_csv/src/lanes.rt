@@ -8,14 +8,14 @@ use job_types::Job;
 use std::alloc::{AllocError, Global};
 use std::collections::VecDeque;
 
-/// A queue of jobs for each lane, those of a lane in the order in which they were pushed.
+/// A queue of jobs for each lane. The jobs of a lane are in the order in which they were pushed.
 #[derive(Drop)]
 pub(crate) struct Lanes {
     pub jobs: Vec<VecDeque<Job>>,
 }
 
 impl Lanes {
-    /// Returns a queue with no job for each lane.
+    /// Returns an empty queue for each lane.
     pub fn new(alloc: Global) -> Result<Self, AllocError>
         ensures { IfOk result (λ lanes. AreLanes lanes.jobs.items []) }
     {

@@ -1,11 +1,12 @@
-//! CSV files of jobs, commands and schedules: their parsers, and the writers of the rows that answer them.
+//! Parsers of CSV files of jobs, commands and schedules, and writers of the rows that answer them.
 //!
 //! `read_jobs`, `read_place` and `read_schedule` read a whole file and return its rows or its first
-//! fault; `read_lanes` returns the jobs lane by lane. One loop reads every format: a format checks
+//! fault. `read_lanes` returns the jobs lane by lane. One loop reads every format: a format checks
 //! a header and reads a record. One buffer writes every row: a `Row` has columns and fields, and
-//! `LineBuffer` writes their lines to a writer that is lent. A reader or writer is a `Device` of the
-//! crate `devices`, which counts its failed calls; a fault is the device's exactly where that count
-//! rose.
+//! `LineBuffer` writes their lines to a borrowed writer.
+//!
+//! A reader or writer is a `Device` of the crate `devices`, which counts its failed calls. A fault
+//! is the device's exactly if that count rose, or had reached its end.
 #![tactic(auto)]
 
 mod columns;

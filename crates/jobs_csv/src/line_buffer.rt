@@ -1,4 +1,4 @@
-// The lines of a file, buffered on their way to a writer that is lent.
+// The lines of a file, buffered on their way to a borrowed writer.
 ghost use Rattle.std.specs.Prelude.{◌≡◌, [], ◌++◌, ℕ, List, IfOk, OnOk};
 ghost use Rattle.std.specs.Io.KnownBytes.{Appends, Keeps};
 ghost use Rattle.jobs_csv.specs.Text.{line_of};
@@ -10,15 +10,15 @@ use std::alloc::{AllocError, Global};
 use std::io::Write;
 use std::marker::Model;
 
-// The buffer is full once it has this many bytes.
+// The buffer is full if it has this many bytes.
 const FULL: usize = 65_536;
 
 /// The lines of one file on their way to a writer.
 ///
-/// A contract sees the text that is buffered. A call that fails drops the buffer.
+/// Contracts see the text that is buffered. A call that fails drops the buffer.
 #[derive(Drop)]
 pub struct LineBuffer {
-    // Both are large structs, and a buffer is passed by value.
+    // In boxes, since both are large and a buffer is passed by value.
     writer: Box<Writer<Vec<u8>>>,
     fields: Box<RowFields>,
     alloc: Global,
@@ -35,7 +35,7 @@ impl Model for LineBuffer {
     ghost invariant = { λ l. HasText items_held l.writer.value (buffered l.writer.value) };
 }
 
-// Writes out all of a text.
+// Writes all of a text.
 fn write_out<W: Write>(text: &[u8], writer: &mut W) -> Result<(), WriteError>
     ensures { OnOk result (Appends (W.contents writer.old) (W.contents writer.new) text.now) }
 {
@@ -45,7 +45,6 @@ fn write_out<W: Write>(text: &[u8], writer: &mut W) -> Result<(), WriteError>
     Ok(())
 }
 
-// Flushes the writer.
 fn flush_writer<W: Write>(writer: &mut W) -> Result<(), WriteError>
     ensures { OnOk result (Keeps (W.contents writer.old) (W.contents writer.new)) }
 {
@@ -56,7 +55,7 @@ fn flush_writer<W: Write>(writer: &mut W) -> Result<(), WriteError>
 }
 
 impl LineBuffer {
-    /// An empty buffer.
+    /// Creates an empty buffer.
     pub fn new(alloc: Global) -> Result<Self, AllocError>
         ensures { IfOk result (λ lines. lines ≡ []) }
     {
@@ -87,7 +86,7 @@ impl LineBuffer {
         Ok(self)
     }
 
-    /// Buffers the line of a row and drops the row. A full buffer is written out.
+    /// Buffers the line of a row and drops the row. Writes the buffer out if it is full.
     pub fn write_row<T: Row + Drop, W: Write>(
         self,
         row: T,

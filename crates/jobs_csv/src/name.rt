@@ -1,4 +1,4 @@
-// Names of held regions.
+// Names of held blocks.
 ghost use Rattle.std.specs.Prelude.{◌≡◌, Some, None, true, if◌then◌else◌};
 ghost use Rattle.std.specs.List.{list_all};
 ghost use Rattle.jobs_csv.specs.Name.{is_name};
@@ -6,10 +6,10 @@ ghost use Rattle.jobs_csv.specs.Inner.Name.{is_name_byte};
 
 use std::marker::Model;
 
-// How many bytes a name may have.
+// The most bytes that a name may have.
 const MAX_NAME: usize = 16;
 
-/// A name of a held region: 1 to 16 bytes, each of them `a` to `z` or a digit.
+/// A name of a held block: 1 to 16 bytes, each of them `a` to `z` or a digit.
 #[derive(Clone, Copy, Debug, PartialEq, Eq, Hash)]
 pub struct Name {
     bytes: [u8; MAX_NAME],
@@ -33,7 +33,7 @@ impl Model for Name {
         record { bytes = same_bytes n.len n.bytes h i; len = same_len n.len n.bytes h i } };
 }
 
-// Whether each byte is one that a name may have.
+// Returns whether each byte is one that a name may have.
 fn are_name_bytes(text: &[u8]) -> bool
     ensures { result ≡ list_all is_name_byte text.now }
 {
@@ -46,7 +46,7 @@ fn are_name_bytes(text: &[u8]) -> bool
 }
 
 impl Name {
-    /// The name of this text, if it is one.
+    /// Returns the name that has this text, if the text is a name.
     pub fn new(text: &[u8]) -> Option<Self>
         ensures { result ≡ (if is_name text.now then Some text.now else None) }
     {
@@ -61,7 +61,7 @@ impl Name {
         })
     }
 
-    /// The text.
+    /// Returns the text of the name.
     pub fn text(&self) -> &[u8]
         ensures value { result.now ≡ self.now }
         ensures name { is_name self.now ≡ true }

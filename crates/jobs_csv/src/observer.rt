@@ -1,12 +1,12 @@
-// What sees the records of a file while they are read.
+// Observers of the records of a file while they are read.
 ghost use Rattle.std.specs.Prelude.{◌≡◌, ◌+◌, ◌-◌, ◌^◌, ℕ, min};
 
 use crate::format::RowSink;
 use std::alloc::AllocError;
 
-/// Sees the records of a file while they are read, one after the other.
+/// An observer of the records of a file. It sees one after the other while they are read.
 pub trait Observer: Drop {
-    // How many records it has seen.
+    // The number of records that it has seen.
     ghost seen: { Self → ℕ };
 
     /// Sees one more record. The count saturates at `u64::MAX`.
@@ -21,7 +21,7 @@ pub struct RecordCount {
 }
 
 impl RecordCount {
-    /// It has seen no record.
+    /// Creates an observer that has seen no record.
     pub fn new() -> Self
         ensures { result.seen ≡ 0 }
     {

@@ -21,9 +21,9 @@ use std::io::Read;
 /// A command over a name.
 #[derive(Clone, Copy, Debug, PartialEq, Eq)]
 pub enum Command {
-    /// Take a region of dimension `dim` and hold it under a name.
+    /// Take a block of dimension `dim` and hold it under a name.
     Take { name: Name, dim: u32 },
-    /// Give the region of a name back.
+    /// Release the block of a name.
     Free { name: Name },
 }
 
@@ -33,7 +33,6 @@ struct Commands {
     n: u32,
 }
 
-// The name of a field.
 #[tactic(auto, unfolding(crate::specs::Place::name_of))]
 fn read_name(field: &[u8]) -> Result<Name, FaultKind>
     ensures { ReturnsParse (λ name. name) (name_of field.now) result }
@@ -41,7 +40,7 @@ fn read_name(field: &[u8]) -> Result<Name, FaultKind>
     Name::new(field).ok_or(FaultKind::Word)
 }
 
-// The command of three fields.
+// Reads the command of three fields.
 #[tactic(auto, unfolding(crate::specs::Place::command_of))]
 fn read_fields(n: u32, three: &ThreeFields<'_>) -> Result<Command, FaultKind>
     ensures parse { ReturnsParse (λ command. command) (command_of n (three.now.first.now
@@ -89,9 +88,12 @@ impl Format for Commands {
 
 /// Reads the commands of a whole file, for a machine of dimension `n`.
 ///
-/// A refusal is the first fault of the file. `Read` comes only where the reader's count of failed
-/// calls rose in this call, or stood at `u64::MAX`; any other failure is `OutOfMemory`. At most
-/// `MAX_RECORDS + 1` records after the header are read.
+/// Reads at most `MAX_RECORDS + 1` records after the header.
+///
+/// # Errors
+///
+/// A refusal is the first fault of the file. Returns `Read` only if the reader's count of failed
+/// calls rose in this call, or was `u64::MAX` before it. Any other failure is `OutOfMemory`.
 pub fn read_place<R: Read + Device>(
     alloc: Global,
     n: u32,

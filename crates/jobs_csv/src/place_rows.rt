@@ -10,22 +10,22 @@ use std::alloc::{AllocError, Global};
 /// A row that answers a command.
 #[derive(Clone, Copy, Debug, PartialEq, Eq)]
 pub enum PlaceRow {
-    /// The name holds the region of dimension `dim` from `base` on now.
+    /// The name now holds the block of dimension `dim` that begins at `base`.
     Given { name: Name, dim: u32, base: u64 },
-    /// The name holds a region already.
+    /// The name already holds a block.
     Held { name: Name, dim: u32 },
-    /// Each station holds a region.
+    /// Each station holds a block.
     NoStation { name: Name, dim: u32 },
-    /// No region of this dimension is free.
+    /// No block of this dimension is free.
     NoSubcube { name: Name, dim: u32 },
-    /// The region of dimension `dim` from `base` on is free again.
+    /// The block of dimension `dim` that begins at `base` is free again.
     Freed { name: Name, dim: u32, base: u64 },
     /// The name holds nothing.
     NothingHeld { name: Name },
 }
 
 impl PlaceRow {
-    // The keyword of the command.
+    // Returns the keyword of the command.
     #[tactic(auto, using(crate::proofs::PlainLemmas::plain_command))]
     fn command(&self) -> &'static str
         ensures text { result.now ≡ command_text self.now }
@@ -40,7 +40,6 @@ impl PlaceRow {
         }
     }
 
-    // The name.
     fn name(&self) -> Name
         ensures { result ≡ name_in self.now }
     {
@@ -54,7 +53,7 @@ impl PlaceRow {
         }
     }
 
-    // The dimension of the region, if the row has one.
+    // Returns the dimension of the block, if the row has one.
     fn dim(&self) -> Option<u64>
         ensures { result ≡ dim_in self.now }
     {
@@ -68,7 +67,7 @@ impl PlaceRow {
         }
     }
 
-    // The base of the region that was given or freed, if one was.
+    // Returns the base of the block that was given or freed, if one was.
     fn base(&self) -> Option<u64>
         ensures { result ≡ base_in self.now }
     {
@@ -78,7 +77,7 @@ impl PlaceRow {
         }
     }
 
-    // The keyword of the outcome.
+    // Returns the keyword of the outcome.
     #[tactic(auto, using(crate::proofs::PlainLemmas::plain_outcome))]
     fn outcome(&self) -> &'static str
         ensures text { result.now ≡ outcome_text self.now }

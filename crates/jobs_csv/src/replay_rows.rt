@@ -1,4 +1,4 @@
-// The rows that a schedule leads to.
+// The rows of the replay of a schedule.
 ghost use Rattle.std.specs.Prelude.{◌≡◌, ◌∷◌, [], ◌++◌, IfOk, OnOk, string_bytes};
 ghost use Rattle.jobs_csv.specs.Inner.Rows.{end_text, event_text, node_in, station_in, word_in};
 ghost use Rattle.jobs_csv.specs.ReplayRows.{event_keyword, node_word_text, note_keyword, reason_keyword};
@@ -9,7 +9,7 @@ use cube_core::{Event, Kind, Note, Refused};
 use status_word::Word;
 use std::alloc::{AllocError, Global};
 
-/// A row of a schedule.
+/// A row of the replay of a schedule.
 #[derive(Clone, Copy, Debug, PartialEq, Eq)]
 pub enum ReplayRow {
     /// A station made an event.
@@ -22,18 +22,18 @@ pub enum ReplayRow {
         node: Option<u64>,
         why: Refused,
     },
-    /// The word of a node in the end.
+    /// The word of a node at the end.
     Word {
         node: u64,
         word: u64,
     },
-    /// How many nodes have a word that is not 0 in the end.
+    /// The number of nodes whose word is not 0 at the end.
     End {
         count: u64,
     },
 }
 
-// The keyword of an event.
+// Returns the keyword of an event.
 #[tactic(auto, using(crate::proofs::PlainLemmas::plain_event))]
 fn event_keyword(kind: Kind) -> &'static str
     ensures text { result.now ≡ event_keyword kind }
@@ -53,7 +53,7 @@ fn event_keyword(kind: Kind) -> &'static str
     }
 }
 
-// The keyword of how an event ended.
+// Returns the keyword of how an event ended.
 #[tactic(auto, using(crate::proofs::PlainLemmas::plain_note))]
 fn note_keyword(note: Note) -> &'static str
     ensures text { result.now ≡ note_keyword note }
@@ -75,7 +75,7 @@ fn note_keyword(note: Note) -> &'static str
     }
 }
 
-// The keyword of a refusal.
+// Returns the keyword of a refusal.
 #[tactic(auto, using(crate::proofs::PlainLemmas::plain_why))]
 fn reason_keyword(why: Refused) -> &'static str
     ensures text { result.now ≡ reason_keyword why }
@@ -90,7 +90,7 @@ fn reason_keyword(why: Refused) -> &'static str
     }
 }
 
-// The text of a node's word; a dash for the roll, which is no node.
+// Returns the text of a node's word, or a dash for the roll, which is no node.
 #[tactic(auto, using(crate::proofs::PlainLemmas::plain_node_word))]
 fn node_word(alloc: Global, node: u64, word: u64) -> Result<String, AllocError>
     ensures text { IfOk result (λ text. string_bytes text ≡ node_word_text node word) }
@@ -104,7 +104,7 @@ fn node_word(alloc: Global, node: u64, word: u64) -> Result<String, AllocError>
 }
 
 impl ReplayRow {
-    // The station of the row, if it has one.
+    // Returns the station of the row, if it has one.
     fn station(&self) -> Option<u64>
         ensures { result ≡ station_in self.now }
     {
@@ -115,7 +115,7 @@ impl ReplayRow {
         }
     }
 
-    // The keyword of what happened.
+    // Returns the keyword of what happened.
     fn event(&self) -> &'static str
         ensures text { result.now ≡ event_text self.now }
         ensures plain { IsPlainField (event_text self.now) }
@@ -127,7 +127,7 @@ impl ReplayRow {
         }
     }
 
-    // The node of the row, if it has one.
+    // Returns the node of the row, if it has one.
     fn node(&self) -> Option<u64>
         ensures { result ≡ node_in self.now }
     {
@@ -139,7 +139,7 @@ impl ReplayRow {
         }
     }
 
-    // The text of the node's word, or a dash.
+    // Returns the text of the node's word, or a dash.
     fn word(&self, alloc: Global) -> Result<String, AllocError>
         ensures text { IfOk result (λ text. string_bytes text ≡ word_in self.now) }
         ensures plain { IsPlainField (word_in self.now) }
@@ -151,7 +151,7 @@ impl ReplayRow {
         }
     }
 
-    // Pushes the last field: how the event ended, or the count.
+    // Pushes the last field: how the event ended, why the call was refused, or the count.
     fn push_note(&self, line: &mut RowFields) -> Result<(), AllocError>
         ensures { OnOk result (line.new ≡ line.old ++ end_text self.now ∷ []) }
     {

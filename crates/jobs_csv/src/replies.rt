@@ -8,7 +8,7 @@ use itoa::Buffer;
 use job_types::{Kind, Reply};
 use std::alloc::{AllocError, Global};
 
-// The keyword of a collective.
+// Returns the keyword of a collective.
 #[tactic(auto, using(crate::proofs::PlainLemmas::plain_collective))]
 fn kind_keyword(kind: Kind) -> &'static str
     ensures text { result.now ≡ collective_keyword kind }
@@ -37,7 +37,7 @@ fn push_item(text: &mut String, item: Option<u64>) -> Result<(), AllocError>
     }
 }
 
-// Appends the item at the place of a rank, with a space before it where it is not the first.
+// Appends the item at the place of a rank, with a space before it if it is not the first.
 fn push_place(text: &mut String, rank: u64, item: Option<u64>) -> Result<(), AllocError>
     ensures text { OnOk result (string_bytes text.new ≡ string_bytes text.old
         ++ ((if rank == 0 then [] else 32 ∷ []) ++ number_text item)) }
@@ -50,7 +50,7 @@ fn push_place(text: &mut String, rank: u64, item: Option<u64>) -> Result<(), All
     Ok(())
 }
 
-// The items at the places in the end, by rank.
+// Returns what the places hold at the end, by rank, with a space between each two.
 fn places(alloc: Global, reply: &Reply) -> Result<String, AllocError>
     ensures text { IfOk result (λ text. string_bytes text
         ≡ places_text (length reply.now.job.items) reply.now.job) }

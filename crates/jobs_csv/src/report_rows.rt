@@ -10,29 +10,29 @@ use std::alloc::{AllocError, Global};
 /// A row of a report.
 #[derive(Clone, Copy, Debug, PartialEq, Eq)]
 pub enum ReportRow {
-    /// The jobs of a lane, the sum of the processors of their regions, and how many of these had no item
-    /// of their job.
+    /// The jobs of a lane, the processors of all their blocks, and how many of these had no item of
+    /// their job.
     Lane {
         lane: u32,
         jobs: u64,
         processors: u128,
         idle: u128,
     },
-    /// The jobs that ran on a region of this dimension, the sum of the processors of these, and how many
-    /// of these had no item of their job.
+    /// The jobs that ran on a block of this dimension, the processors of all these blocks, and how
+    /// many of these had no item.
     Dim {
         dim: u32,
         jobs: u64,
         processors: u128,
         idle: u128,
     },
-    /// The free regions of this dimension, and the processors that they have together.
+    /// The free blocks of this dimension, and the processors that they have together.
     Free {
         dim: u32,
         regions: u64,
         processors: u128,
     },
-    /// All jobs, the sum of the processors of their regions, and how many of these had no item of their
+    /// All jobs, the processors of all their blocks, and how many of these had no item of their
     /// job.
     Total {
         jobs: u64,
@@ -41,7 +41,7 @@ pub enum ReportRow {
     },
 }
 
-// A number of processors in decimal digits.
+// Returns a number of processors in decimal digits.
 fn digits(alloc: Global, processors: u128) -> Result<String, AllocError>
     ensures text { IfOk result (λ text. string_bytes text ≡ decimal processors) }
     ensures plain { IsPlainField (decimal processors) }
@@ -50,7 +50,7 @@ fn digits(alloc: Global, processors: u128) -> Result<String, AllocError>
 }
 
 impl ReportRow {
-    // The keyword of what is counted.
+    // Returns the keyword of what is counted.
     #[tactic(auto, using(crate::proofs::ReportLemmas::plain_group))]
     fn group(&self) -> &'static str
         ensures text { result.now ≡ group_text self.now }
@@ -64,7 +64,7 @@ impl ReportRow {
         }
     }
 
-    // The number of the lane or of the dimension, if the row has one.
+    // Returns the number of the lane or the dimension, if the row has one.
     fn key(&self) -> Option<u64>
         ensures { result ≡ key_in self.now }
     {
@@ -75,7 +75,7 @@ impl ReportRow {
         }
     }
 
-    // How many jobs or regions.
+    // Returns the number of jobs or blocks.
     fn count(&self) -> u64
         ensures { result ≡ count_in self.now }
     {
@@ -87,7 +87,7 @@ impl ReportRow {
         }
     }
 
-    // How many processors.
+    // Returns the number of processors.
     fn processors(&self) -> u128
         ensures { result ≡ processors_in self.now }
     {
@@ -99,7 +99,7 @@ impl ReportRow {
         }
     }
 
-    // How many processors stood idle: none of free regions, which no job had.
+    // Returns how many processors were idle: none of free blocks, which no job had.
     fn idle(&self) -> u128
         ensures { result ≡ idle_in self.now }
     {

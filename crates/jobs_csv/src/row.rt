@@ -34,7 +34,7 @@ pub trait Row {
 
 /// The fields of a line, none of which needs quotes.
 ///
-/// A contract sees the list of their texts. A push that fails leaves no field.
+/// Contracts see the list of their texts. A push that fails leaves no field.
 #[derive(Drop)]
 pub struct RowFields {
     fields: ByteRecord,
@@ -52,7 +52,7 @@ impl Model for RowFields {
     ghost invariant = { λ r. HasPlainFields r.fields };
 }
 
-// Pushes a field. Where there is no memory for it, no field is left.
+// Pushes a field. If there is no memory for it, no field is left.
 fn push_plain(fields: &mut ByteRecord, field: &[u8]) -> Result<(), AllocError>
     requires plain { IsPlainField field.now }
     requires had { HasPlainFields fields.old }
@@ -67,7 +67,7 @@ fn push_plain(fields: &mut ByteRecord, field: &[u8]) -> Result<(), AllocError>
 }
 
 impl RowFields {
-    /// No field yet.
+    /// Creates a line with no fields.
     pub(crate) fn new(alloc: Global) -> Self
         ensures { result ≡ [] }
     {
@@ -76,7 +76,7 @@ impl RowFields {
         }
     }
 
-    /// Takes all fields away.
+    /// Removes all fields.
     pub(crate) fn clear(&mut self)
         ensures { self.new ≡ [] }
     {

@@ -23,9 +23,9 @@ pub const MAX_STEPS: u64 = 100;
 /// One line of a schedule: a call of a station, or steps of it.
 #[derive(Clone, Copy, Debug, PartialEq, Eq)]
 pub enum Line {
-    /// The station begins to take the region of a node.
+    /// The station begins to take the block of a node.
     Take { station: u64, node: u64 },
-    /// The station begins to give its region back.
+    /// The station begins to release its block.
     Release { station: u64 },
     /// The station makes `times` steps, from 1 to `MAX_STEPS`.
     Step { station: u64, times: u64 },
@@ -39,7 +39,7 @@ pub enum Line {
 #[derive(Clone, Copy)]
 struct Schedule;
 
-// The line of a station with this keyword and this last field.
+// Reads the line of a station with this keyword and this last field.
 #[tactic(auto, unfolding(crate::specs::Schedule::keyword_line))]
 fn read_call(station: u64, keyword: &[u8], arg: &[u8]) -> Result<Line, FaultKind>
     ensures parse { ReturnsParse (λ line. line) (keyword_line station keyword.now arg.now) result }
@@ -68,7 +68,7 @@ fn read_call(station: u64, keyword: &[u8], arg: &[u8]) -> Result<Line, FaultKind
     Err(FaultKind::Word)
 }
 
-// The line of three fields.
+// Reads the line of three fields.
 #[tactic(auto, unfolding(crate::specs::Schedule::schedule_line))]
 fn read_fields(three: &ThreeFields<'_>) -> Result<Line, FaultKind>
     ensures parse { ReturnsParse (λ line. line) (schedule_line (three.now.first.now
@@ -107,9 +107,12 @@ impl Format for Schedule {
 
 /// Reads the lines of a whole schedule.
 ///
-/// A refusal is the first fault of the file. `Read` comes only where the reader's count of failed
-/// calls rose in this call, or stood at `u64::MAX`; any other failure is `OutOfMemory`. At most
-/// `MAX_RECORDS + 1` records after the header are read.
+/// Reads at most `MAX_RECORDS + 1` records after the header.
+///
+/// # Errors
+///
+/// A refusal is the first fault of the file. Returns `Read` only if the reader's count of failed
+/// calls rose in this call, or was `u64::MAX` before it. Any other failure is `OutOfMemory`.
 pub fn read_schedule<R: Read + Device>(alloc: Global, reader: &mut R) -> Result<Vec<Line>, Fault>
     ensures parse { IfSome (R.remaining reader.old) (λ bytes.
         ReturnsFile (parse_schedule bytes) result) }

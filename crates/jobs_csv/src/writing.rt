@@ -29,12 +29,12 @@ fn write_all_rows<R: Row + Drop, W: Write>(
 
 /// Writes the lines of these rows under their header, and drops each row once its line is made.
 ///
-/// The lines go out in pieces of about 64 KiB.
+/// The lines are written in pieces of about 64 KiB.
 ///
 /// # Errors
 ///
-/// A failure is the writer's where its count of failed calls rose in this call, or stood at
-/// `u64::MAX`, and is out of memory otherwise. After it the first lines may be out.
+/// Returns `Write` exactly if the writer's count of failed calls rose in this call, or was
+/// `u64::MAX` before it. Otherwise memory ran out. The first lines may have been written.
 pub fn write_rows<R: Row + Drop, W: Write + Device>(
     alloc: Global,
     rows: Vec<R>,

@@ -1,4 +1,4 @@
--- Views are dealt out when a gate is made, and come together when it ends.
+-- Views are given out when a gate opens, and joined when it ends.
 use Rattle.std.proofs.Common.{◌≡◌, ℕ, ◌≤◌, None, [], ◌∷◌, refl, arith}
 use Rattle.atomic_table.specs.Table.{opening, Splits, Joins}
 use Rattle.ghost_history.specs.Sums.{is_at}
@@ -13,8 +13,10 @@ use Rattle.line_gate.specs.Inner.Deed.{lane_part, pass_part, closer_part}
 use Rattle.line_gate.specs.Inner.Rule.{Keeps}
 use Rattle.line_gate.proofs.StepLemmas.{lanes_in, passes_in, closers_in, lane_number, pass_number, closer_number}
 
--- the table of a new gate meets the rule
-pub opens : (counts : Counts) → counts.lanes ≤ MAX_LANES → Keeps counts (opening (0 ∷ 0 ∷ []) [] (first_view counts))
+-- The table of a new gate meets the rule.
+pub opens : (counts : Counts)
+    → counts.lanes ≤ MAX_LANES
+    → Keeps counts (opening (0 ∷ 0 ∷ []) [] (first_view counts))
 opens counts few =
     let v = first_view counts in
     record {
@@ -29,7 +31,8 @@ opens counts few =
 
 -- ---- a view is cut
 
-pub deals_lane : (counts : Counts) (id : ℕ) (v : View) → Splits (Keeps counts) id v (without_lane v) (lane_alone v)
+pub deals_lane : (counts : Counts) (id : ℕ) (v : View)
+    → Splits (Keeps counts) id v (without_lane v) (lane_alone v)
 deals_lane counts id v s k me = record {
   history = k.history;
   legal = k.legal;
@@ -40,7 +43,8 @@ deals_lane counts id v s k me = record {
   closers = splits closers_in closer_number s.views k.closers id v me (without_lane v) (lane_alone v) (λ all. (all, tt)) (λ n. omega arith);
 }
 
-pub deals_pass : (counts : Counts) (id : ℕ) (v : View) → Splits (Keeps counts) id v (without_pass v) (pass_alone v)
+pub deals_pass : (counts : Counts) (id : ℕ) (v : View)
+    → Splits (Keeps counts) id v (without_pass v) (pass_alone v)
 deals_pass counts id v s k me = record {
   history = k.history;
   legal = k.legal;
@@ -51,9 +55,10 @@ deals_pass counts id v s k me = record {
   closers = splits closers_in closer_number s.views k.closers id v me (without_pass v) (pass_alone v) (λ all. (all, tt)) (λ n. omega arith);
 }
 
--- ---- two views come together
+-- ---- two views are joined
 
-pub joins_views : (counts : Counts) (id : ℕ) (v : View) (other : ℕ) (w : View) → Joins (Keeps counts) id v other w (joined v w) spent_view
+pub joins_views : (counts : Counts) (id : ℕ) (v : View) (other : ℕ) (w : View)
+    → Joins (Keeps counts) id v other w (joined v w) spent_view
 joins_views counts id v other w s k me apart there = record {
   history = k.history;
   legal = k.legal;

@@ -12,7 +12,7 @@ use Rattle.line_gate.specs.History.{Entering, makes, shuts, made, shut_at, numbe
 use Rattle.line_gate.specs.Inner.Deed.{LaneAct, looks, enters, comes_late, undoes, settles, PassAct, Deed, by_lane, by_pass, closes, entered, is_shut, lane_after, lane_part, closed_at, LaneMay, IsLegal}
 use Rattle.line_gate.proofs.HistoryLemmas.{lane_own, lane_other}
 
--- what a history has of entries and of the close
+-- The entries and the close in a history.
 abbrev pub entering : List Deed → List Entering
 entering [] = []
 entering (by_lane lane (looks count mark) ∷ h) = entering h
@@ -53,7 +53,7 @@ still_open (by_lane lane (settles number accepted) ∷ h) still = still_open h s
 still_open (by_pass pass act ∷ h) still = still_open h still
 still_open (closes number ∷ h) still = absurd (true≢false still)
 
--- the numbers of the entries that a lane made, the pending one last
+-- The numbers of the entries that a lane made, the pending one last.
 abbrev pending_number : Option ℕ → List ℕ
 pending_number (Some number) = number ∷ []
 pending_number None = []
@@ -61,19 +61,26 @@ pending_number None = []
 abbrev made_numbers : LaneEntries → List ℕ
 made_numbers r = map (λ (e : SettledEntry). e.number) r.entries ++ pending_number r.pending
 
-settled_numbers : (r : LaneEntries) (number : ℕ) (accepted : Bool) → r.pending ≡ Some number → made_numbers (lane_after (settles number accepted) r) ≡ made_numbers r
+settled_numbers : (r : LaneEntries) (number : ℕ) (accepted : Bool)
+    → r.pending ≡ Some number
+    → made_numbers (lane_after (settles number accepted) r) ≡ made_numbers r
 settled_numbers r number accepted pending =
     append-nil (map (λ (e : SettledEntry). e.number) (r.entries ++ entry number accepted ∷ []))
     ∙ (map-append (λ (e : SettledEntry). e.number) r.entries (entry number accepted ∷ [])
     ∙ ap (λ (o : Option ℕ). map (λ (e : SettledEntry). e.number) r.entries ++ pending_number o) (sym pending))
 
-entered_numbers : (r : LaneEntries) (number : ℕ) → r.pending ≡ None → made_numbers (lane_after (enters number) r) ≡ made_numbers r ++ number ∷ []
+entered_numbers : (r : LaneEntries) (number : ℕ)
+    → r.pending ≡ None
+    → made_numbers (lane_after (enters number) r) ≡ made_numbers r ++ number ∷ []
 entered_numbers r number none =
     let before : made_numbers r ≡ map (λ (e : SettledEntry). e.number) r.entries = ap (λ (o : Option ℕ). map (λ (e : SettledEntry). e.number) r.entries ++ pending_number o) none ∙ append-nil (map (λ (e : SettledEntry). e.number) r.entries) in
     ap (λ (ns : List ℕ). ns ++ number ∷ []) (sym before)
 
--- a deed that makes no entry leaves the numbers of each lane
-same_numbers : (lane : ℕ) (a : LaneAct) (h : List Deed) (k : ℕ) → (LaneMay h (lane_part h lane) a → made_numbers (lane_after a (lane_part h lane)) ≡ made_numbers (lane_part h lane)) → LaneMay h (lane_part h lane) a
+-- A step that makes no entry leaves the numbers of each lane.
+same_numbers : (lane : ℕ) (a : LaneAct) (h : List Deed) (k : ℕ)
+    → (LaneMay h (lane_part h lane) a → made_numbers (lane_after a (lane_part h lane))
+    ≡ made_numbers (lane_part h lane))
+    → LaneMay h (lane_part h lane) a
     → made_numbers (lane_part (by_lane lane a ∷ h) k) ≡ made_numbers (lane_part h k)
 same_numbers lane a h k same may =
     dite (ℕ_discrete k lane)
@@ -91,7 +98,9 @@ module _ (counts : Counts) where
   are_entries (by_pass pass act ∷ h) legal = are_entries h legal.1
   are_entries (closes number ∷ h) legal = ((legal.0.1 ∙ sym (made_entered h), still_open h legal.0.0), are_entries h legal.1)
 
-  numbers_made : (h : List Deed) (k : ℕ) → IsLegal counts h → numbers_by (entering h) k ≡ made_numbers (lane_part h k)
+  numbers_made : (h : List Deed) (k : ℕ)
+      → IsLegal counts h
+      → numbers_by (entering h) k ≡ made_numbers (lane_part h k)
   numbers_made [] k legal = refl
   numbers_made (by_lane lane (looks count true) ∷ h) k legal = numbers_made h k legal.1 ∙ sym (same_numbers lane (looks count true) h k (λ may. refl) legal.0.1)
   numbers_made (by_lane lane (looks count false) ∷ h) k legal = numbers_made h k legal.1 ∙ sym (same_numbers lane (looks count false) h k (λ may. refl) legal.0.1)
@@ -115,8 +124,13 @@ module _ (counts : Counts) where
   numbers_made (by_pass pass act ∷ h) k legal = numbers_made h k legal.1
   numbers_made (closes number ∷ h) k legal = numbers_made h k legal.1
 
-  -- the numbers of a settled lane's entries
-  pub lane_numbers : (h : List Deed) → IsLegal counts h → (r : LaneEntries) → r ≡ lane_part h r.number → r.pending ≡ None → numbers_by (entering h) r.number ≡ map (λ (e : SettledEntry). e.number) r.entries
+  -- The numbers of a settled lane's entries.
+  pub lane_numbers : (h : List Deed)
+      → IsLegal counts h
+      → (r : LaneEntries)
+      → r ≡ lane_part h r.number
+      → r.pending ≡ None
+      → numbers_by (entering h) r.number ≡ map (λ (e : SettledEntry). e.number) r.entries
   lane_numbers h legal r own none =
       let numbers = λ (es : List SettledEntry). map (λ (e : SettledEntry). e.number) es in
       numbers_made h r.number legal ∙ (ap made_numbers (sym own) ∙ (ap (λ (o : Option ℕ). numbers r.entries ++ pending_number o) none ∙ append-nil (numbers r.entries)))

@@ -16,28 +16,43 @@ use Rattle.line_gate.specs.declared.record.PassReadings.{PassReadings}
 use Rattle.line_gate.specs.Record.{entry, reading, Seals}
 use Rattle.line_gate.specs.Inner.Deed.{LaneAct, looks, enters, comes_late, undoes, settles, PassAct, reads_settled, reads_gate, Deed, by_lane, by_pass, closes, entered, counted, settled, is_shut, lane_after, pass_after, lane_part, pass_part, closed_at, LaneMay, PassMay, IsLegal}
 
--- ---- the part of a member after one more deed
+-- ---- the record of a member after one more step
 
-pub lane_own : (a : LaneAct) (h : List Deed) (l : ℕ) → lane_part (by_lane l a ∷ h) l ≡ lane_after a (lane_part h l)
+pub lane_own : (a : LaneAct) (h : List Deed) (l : ℕ)
+    → lane_part (by_lane l a ∷ h) l ≡ lane_after a (lane_part h l)
 lane_own a h l = ap (λ b. cond b (lane_after a (lane_part h l)) (lane_part h l)) (eq-eqb l l refl)
 
-pub lane_other : (lane : ℕ) (a : LaneAct) (h : List Deed) (l : ℕ) → l ≢ lane → lane_part (by_lane lane a ∷ h) l ≡ lane_part h l
+pub lane_other : (lane : ℕ) (a : LaneAct) (h : List Deed) (l : ℕ)
+    → l ≢ lane
+    → lane_part (by_lane lane a ∷ h) l ≡ lane_part h l
 lane_other lane a h l other = ap (λ b. cond b (lane_after a (lane_part h l)) (lane_part h l)) (ne_eqb lane l (λ e. other (sym e)))
 
-pub pass_own : (a : PassAct) (h : List Deed) (p : ℕ) → pass_part (by_pass p a ∷ h) p ≡ pass_after a (pass_part h p)
+pub pass_own : (a : PassAct) (h : List Deed) (p : ℕ)
+    → pass_part (by_pass p a ∷ h) p ≡ pass_after a (pass_part h p)
 pass_own a h p = ap (λ b. cond b (pass_after a (pass_part h p)) (pass_part h p)) (eq-eqb p p refl)
 
-pub pass_other : (pass : ℕ) (a : PassAct) (h : List Deed) (p : ℕ) → p ≢ pass → pass_part (by_pass pass a ∷ h) p ≡ pass_part h p
+pub pass_other : (pass : ℕ) (a : PassAct) (h : List Deed) (p : ℕ)
+    → p ≢ pass
+    → pass_part (by_pass pass a ∷ h) p ≡ pass_part h p
 pass_other pass a h p other = ap (λ b. cond b (pass_after a (pass_part h p)) (pass_part h p)) (ne_eqb pass p (λ e. other (sym e)))
 
--- what holds of a member's part before its own deed, and of others' parts, holds after it
-lane_cases : (P : LaneEntries → Type 0) (lane : ℕ) (a : LaneAct) (h : List Deed) (l : ℕ) → LaneMay h (lane_part h lane) a → P (lane_part h l) → (LaneMay h (lane_part h l) a → P (lane_after a (lane_part h l))) → P (lane_part (by_lane lane a ∷ h) l)
+-- What holds of a member's record before its own step, and of other members' records, holds after
+-- it.
+lane_cases : (P : LaneEntries → Type 0) (lane : ℕ) (a : LaneAct) (h : List Deed) (l : ℕ)
+    → LaneMay h (lane_part h lane) a
+    → P (lane_part h l)
+    → (LaneMay h (lane_part h l) a → P (lane_after a (lane_part h l)))
+    → P (lane_part (by_lane lane a ∷ h) l)
 lane_cases P lane a h l may before after =
     dite (ℕ_discrete l lane)
     (λ e. subst (λ k. P (lane_part (by_lane k a ∷ h) l)) e (subst P (sym (lane_own a h l)) (after (subst (λ k. LaneMay h (lane_part h k) a) (sym e) may))))
     (λ ne. subst P (sym (lane_other lane a h l ne)) before)
 
-pass_cases : (P : PassReadings → Type 0) (pass : ℕ) (a : PassAct) (h : List Deed) (p : ℕ) → PassMay h (pass_part h pass) a → P (pass_part h p) → (PassMay h (pass_part h p) a → P (pass_after a (pass_part h p))) → P (pass_part (by_pass pass a ∷ h) p)
+pass_cases : (P : PassReadings → Type 0) (pass : ℕ) (a : PassAct) (h : List Deed) (p : ℕ)
+    → PassMay h (pass_part h pass) a
+    → P (pass_part h p)
+    → (PassMay h (pass_part h p) a → P (pass_after a (pass_part h p)))
+    → P (pass_part (by_pass pass a ∷ h) p)
 pass_cases P pass a h p may before after =
     dite (ℕ_discrete p pass)
     (λ e. subst (λ k. P (pass_part (by_pass k a ∷ h) p)) e (subst P (sym (pass_own a h p)) (after (subst (λ k. PassMay h (pass_part h k) a) (sym e) may))))
@@ -52,7 +67,7 @@ pending_weight weight None = 0
 abbrev pub settled_weight : (ℕ → ℕ) → LaneEntries → ℕ
 settled_weight weight r = total (λ (e : SettledEntry). weight e.number) r.entries
 
--- the entries that the lane made
+-- The entries that the lane made.
 abbrev pub made_weight : (ℕ → ℕ) → LaneEntries → ℕ
 made_weight weight r = settled_weight weight r + pending_weight weight r.pending
 
@@ -63,16 +78,20 @@ late_weight false = 0
 abbrev pub one : ℕ → ℕ
 one k = 1
 
-pub total_ones : (xs : List SettledEntry) → total (λ (e : SettledEntry). one e.number) xs ≡ length xs
+pub total_ones : (xs : List SettledEntry)
+    → total (λ (e : SettledEntry). one e.number) xs ≡ length xs
 total_ones [] = refl
 total_ones (x ∷ xs) = omega (arith, total_ones xs)
 
--- what the gate counts of the lane
+-- What the gate counts for the lane.
 abbrev pub load : LaneEntries → ℕ
 load r = made_weight one r + late_weight r.late
 
--- a lane makes at most MAX_ENTRIES entries
-few_after : (a : LaneAct) (h : List Deed) (r : LaneEntries) → LaneMay h r a → made_weight one r ≤ MAX_ENTRIES → made_weight one (lane_after a r) ≤ MAX_ENTRIES
+-- A lane makes at most MAX_ENTRIES entries.
+few_after : (a : LaneAct) (h : List Deed) (r : LaneEntries)
+    → LaneMay h r a
+    → made_weight one r ≤ MAX_ENTRIES
+    → made_weight one (lane_after a r) ≤ MAX_ENTRIES
 few_after (looks count true) h r may few = few
 few_after (looks count false) h r may few = few
 few_after (enters number) h r may few = omega (arith, may.3, total_ones r.entries)
@@ -81,7 +100,9 @@ few_after undoes h r may few = few
 few_after (settles number accepted) h r may few = omega (arith, total-push (λ (e : SettledEntry). one e.number) r.entries (entry number accepted), ap (pending_weight one) may, few)
 
 module _ (counts : Counts) where
-  lane_few : (h : List Deed) (l : ℕ) → IsLegal counts h → made_weight one (lane_part h l) ≤ MAX_ENTRIES
+  lane_few : (h : List Deed) (l : ℕ)
+      → IsLegal counts h
+      → made_weight one (lane_part h l) ≤ MAX_ENTRIES
   lane_few [] l legal = omega arith
   lane_few (by_lane lane a ∷ h) l legal = let before = lane_few h l legal.1 in lane_cases (λ r. made_weight one r ≤ MAX_ENTRIES) lane a h l legal.0.1 before (λ may. few_after a h (lane_part h l) may before)
   lane_few (by_pass p a ∷ h) l legal = lane_few h l legal.1
@@ -89,19 +110,25 @@ module _ (counts : Counts) where
 
 -- ---- sums over the lanes
 
--- one lane's term grows, or shrinks
-grows : (m : LaneEntries → ℕ) (lane : ℕ) (a : LaneAct) (h : List Deed) (n more : ℕ) → lane < n → m (lane_after a (lane_part h lane)) ≡ m (lane_part h lane) + more
+-- The term of one lane grows or shrinks.
+grows : (m : LaneEntries → ℕ) (lane : ℕ) (a : LaneAct) (h : List Deed) (n more : ℕ)
+    → lane < n
+    → m (lane_after a (lane_part h lane)) ≡ m (lane_part h lane) + more
     → below (λ l. m (lane_part (by_lane lane a ∷ h) l)) n ≡ below (λ l. m (lane_part h l)) n + more
 grows m lane a h n more within here = below-grows (λ l. m (lane_part h l)) (λ l. m (lane_part (by_lane lane a ∷ h) l)) n lane more within (ap m (lane_own a h lane) ∙ here) (λ j ne. ap m (lane_other lane a h j ne))
 
-shrinks : (m : LaneEntries → ℕ) (lane : ℕ) (a : LaneAct) (h : List Deed) (n less : ℕ) → lane < n → m (lane_part h lane) ≡ m (lane_after a (lane_part h lane)) + less
+shrinks : (m : LaneEntries → ℕ) (lane : ℕ) (a : LaneAct) (h : List Deed) (n less : ℕ)
+    → lane < n
+    → m (lane_part h lane) ≡ m (lane_after a (lane_part h lane)) + less
     → below (λ l. m (lane_part h l)) n ≡ below (λ l. m (lane_part (by_lane lane a ∷ h) l)) n + less
 shrinks m lane a h n less within here =
     below-grows (λ l. m (lane_part (by_lane lane a ∷ h) l)) (λ l. m (lane_part h l)) n lane less within (here ∙ ap (λ (k : ℕ). k + less) (sym (ap m (lane_own a h lane)))) (λ j ne. sym (ap m (lane_other lane a h j ne)))
 
 module _ (counts : Counts) where
-  -- the entries of all lanes have the numbers below the count of entries
-  pub made_sum : (weight : ℕ → ℕ) (h : List Deed) → IsLegal counts h → below (λ l. made_weight weight (lane_part h l)) counts.lanes ≡ below weight (entered h)
+  -- The entries of all lanes have the numbers below the count of entries.
+  pub made_sum : (weight : ℕ → ℕ) (h : List Deed)
+      → IsLegal counts h
+      → below (λ l. made_weight weight (lane_part h l)) counts.lanes ≡ below weight (entered h)
   made_sum weight [] legal = below-zero counts.lanes
   made_sum weight (by_lane lane (looks count true) ∷ h) legal = omega (arith, grows (made_weight weight) lane (looks count true) h counts.lanes 0 legal.0.0 (omega arith), made_sum weight h legal.1)
   made_sum weight (by_lane lane (looks count false) ∷ h) legal = omega (arith, grows (made_weight weight) lane (looks count false) h counts.lanes 0 legal.0.0 (omega arith), made_sum weight h legal.1)
@@ -119,7 +146,9 @@ module _ (counts : Counts) where
   made_sum weight (by_pass p a ∷ h) legal = made_sum weight h legal.1
   made_sum weight (closes number ∷ h) legal = made_sum weight h legal.1
 
-  pub counted_sum : (h : List Deed) → IsLegal counts h → counted h ≡ below (λ l. load (lane_part h l)) counts.lanes
+  pub counted_sum : (h : List Deed)
+      → IsLegal counts h
+      → counted h ≡ below (λ l. load (lane_part h l)) counts.lanes
   counted_sum [] legal = sym (below-zero counts.lanes)
   counted_sum (by_lane lane (looks count true) ∷ h) legal = omega (arith, grows load lane (looks count true) h counts.lanes 0 legal.0.0 (omega arith), counted_sum h legal.1)
   counted_sum (by_lane lane (looks count false) ∷ h) legal = omega (arith, grows load lane (looks count false) h counts.lanes 0 legal.0.0 (omega arith), counted_sum h legal.1)
@@ -139,7 +168,9 @@ module _ (counts : Counts) where
   counted_sum (by_pass p a ∷ h) legal = counted_sum h legal.1
   counted_sum (closes number ∷ h) legal = counted_sum h legal.1
 
-  pub settled_sum : (h : List Deed) → IsLegal counts h → settled h ≡ below (λ l. settled_weight one (lane_part h l)) counts.lanes
+  pub settled_sum : (h : List Deed)
+      → IsLegal counts h
+      → settled h ≡ below (λ l. settled_weight one (lane_part h l)) counts.lanes
   settled_sum [] legal = sym (below-zero counts.lanes)
   settled_sum (by_lane lane (looks count true) ∷ h) legal = omega (arith, grows (settled_weight one) lane (looks count true) h counts.lanes 0 legal.0.0 (omega arith), settled_sum h legal.1)
   settled_sum (by_lane lane (looks count false) ∷ h) legal = omega (arith, grows (settled_weight one) lane (looks count false) h counts.lanes 0 legal.0.0 (omega arith), settled_sum h legal.1)
@@ -154,10 +185,14 @@ module _ (counts : Counts) where
 
   -- ---- how the counts compare
 
-  entered_sum : (h : List Deed) → IsLegal counts h → below (λ l. made_weight one (lane_part h l)) counts.lanes ≡ entered h
+  entered_sum : (h : List Deed)
+      → IsLegal counts h
+      → below (λ l. made_weight one (lane_part h l)) counts.lanes ≡ entered h
   entered_sum h legal = made_sum one h legal ∙ below-ones (entered h)
 
-  counted_parts : (h : List Deed) → IsLegal counts h → counted h ≡ entered h + below (λ l. late_weight (lane_part h l).late) counts.lanes
+  counted_parts : (h : List Deed)
+      → IsLegal counts h
+      → counted h ≡ entered h + below (λ l. late_weight (lane_part h l).late) counts.lanes
   counted_parts h legal = omega (arith, counted_sum h legal, below-plus (λ l. made_weight one (lane_part h l)) (λ l. late_weight (lane_part h l).late) counts.lanes, entered_sum h legal)
 
   pub entered_counted : (h : List Deed) → IsLegal counts h → entered h ≤ counted h
@@ -170,18 +205,27 @@ module _ (counts : Counts) where
   late_few true = omega arith
   late_few false = omega arith
 
-  -- the count stays far below the closed mark
-  pub counted_bounded : (h : List Deed) → IsLegal counts h → counted h ≤ counts.lanes * (MAX_ENTRIES + 1)
+  -- The count stays far below the closed mark.
+  pub counted_bounded : (h : List Deed)
+      → IsLegal counts h
+      → counted h ≤ counts.lanes * (MAX_ENTRIES + 1)
   counted_bounded h legal = omega (arith, counted_sum h legal, below-bounded (λ l. load (lane_part h l)) (MAX_ENTRIES + 1) counts.lanes (λ l. omega (arith, lane_few counts h l legal, late_few (lane_part h l).late)))
 
-  -- a lane whose late entry is not undone is counted
-  pub late_counted : (h : List Deed) (lane : ℕ) → IsLegal counts h → lane < counts.lanes → (lane_part h lane).late ≡ true → 1 ≤ counted h
+  -- A lane whose late entry is not undone is counted.
+  pub late_counted : (h : List Deed) (lane : ℕ)
+      → IsLegal counts h
+      → lane < counts.lanes
+      → (lane_part h lane).late ≡ true
+      → 1 ≤ counted h
   late_counted h lane legal within late =
       let was : late_weight (lane_part h lane).late ≡ 1 = ap late_weight late in
       omega (arith, shrinks load lane undoes h counts.lanes 1 within (omega arith), counted_sum h legal)
 
-  -- no lane is late before the close
-  none_late : (h : List Deed) (l : ℕ) → IsLegal counts h → is_shut h ≡ false → (lane_part h l).late ≡ false
+  -- No lane is late before the close.
+  none_late : (h : List Deed) (l : ℕ)
+      → IsLegal counts h
+      → is_shut h ≡ false
+      → (lane_part h l).late ≡ false
   none_late [] l legal still = refl
   none_late (by_lane lane (looks count true) ∷ h) l legal still = let before = none_late h l legal.1 still in lane_cases (λ r. r.late ≡ false) lane (looks count true) h l legal.0.1 before (λ may. before)
   none_late (by_lane lane (looks count false) ∷ h) l legal still = let before = none_late h l legal.1 still in lane_cases (λ r. r.late ≡ false) lane (looks count false) h l legal.0.1 before (λ may. before)
@@ -192,7 +236,7 @@ module _ (counts : Counts) where
   none_late (by_pass p a ∷ h) l legal still = none_late h l legal.1 still
   none_late (closes number ∷ h) l legal still = absurd (true≢false still)
 
-  -- before the close the gate counts the entries
+  -- Before the close the gate counts the entries.
   pub counted_open : (h : List Deed) → IsLegal counts h → is_shut h ≡ false → counted h ≡ entered h
   counted_open h legal still =
       let none : below (λ l. late_weight (lane_part h l).late) counts.lanes ≡ below (λ l. 0) counts.lanes = below-same (λ l. late_weight (lane_part h l).late) (λ l. 0) counts.lanes (λ l within. ap late_weight (none_late h l legal still)) in
@@ -209,7 +253,10 @@ module _ (counts : Counts) where
       some_none : {n : ℕ} → Some n ≡ None → ⊥
       some_none e = cc
 
-  pub closed_count : (h : List Deed) (number : ℕ) → IsLegal counts h → closed_at h ≡ Some number → (is_shut h ≡ true) × (entered h ≡ number)
+  pub closed_count : (h : List Deed) (number : ℕ)
+      → IsLegal counts h
+      → closed_at h ≡ Some number
+      → (is_shut h ≡ true) × (entered h ≡ number)
   closed_count [] number legal closed = absurd (none_some closed)
     where
       none_some : {n : ℕ} → None ≡ Some n → ⊥
@@ -222,19 +269,25 @@ module _ (counts : Counts) where
   closed_count (by_pass p a ∷ h) number legal closed = closed_count h number legal.1 closed
   closed_count (closes n ∷ h) number legal closed = (refl, sym legal.0.1 ∙ ap (pending_weight (λ k. k)) closed)
 
-  -- ---- counts that were seen beside the closed mark
+  -- ---- counts that were read with the closed mark
 
   abbrev pub Stands : List Deed → ℕ → Type 0
   Stands h n = (is_shut h ≡ true) × (entered h ≤ n)
 
-  -- where the gate is open no count was seen
-  none_stands : (h h' : List Deed) → is_shut h ≡ false → (ns : List ℕ) → AllByRecursion (Stands h) ns → AllByRecursion (Stands h') ns
+  -- While the gate is open, no count was seen.
+  none_stands : (h h' : List Deed)
+      → is_shut h ≡ false
+      → (ns : List ℕ)
+      → AllByRecursion (Stands h) ns
+      → AllByRecursion (Stands h') ns
   none_stands h h' still ns all = all_weaker (Stands h) (Stands h') (λ n stands. absurd (true≢false (sym stands.0 ∙ still))) ns all
 
   abbrev SeenStand : List Deed → LaneEntries → Type 0
   SeenStand h r = AllByRecursion (Stands h) r.seen
 
-  pub seen_stand : (h : List Deed) (l : ℕ) → IsLegal counts h → AllByRecursion (Stands h) (lane_part h l).seen
+  pub seen_stand : (h : List Deed) (l : ℕ)
+      → IsLegal counts h
+      → AllByRecursion (Stands h) (lane_part h l).seen
   seen_stand [] l legal = tt
   seen_stand (by_lane lane (looks count true) ∷ h) l legal =
       let before = seen_stand h l legal.1 in
@@ -253,7 +306,8 @@ module _ (counts : Counts) where
 
   -- ---- readings
 
-  -- a reading with the closed mark has at most the entries settled, and at least those counted
+  -- A reading with the closed mark shows at most the settled entries, and at least the counted
+  -- ones.
   abbrev pub Fixed : List Deed → Reading → Type 0
   Fixed h r = r.closed ≡ true → (is_shut h ≡ true) × (r.settled ≤ entered h) × (entered h ≤ r.counted)
 
@@ -264,14 +318,22 @@ module _ (counts : Counts) where
   abbrev IsRead : List Deed → PassReadings → Type 0
   IsRead h r = IsHalfRead h r.settled × AllByRecursion (Fixed h) r.readings
 
-  none_fixed : (h h' : List Deed) → is_shut h ≡ false → (rs : List Reading) → AllByRecursion (Fixed h) rs → AllByRecursion (Fixed h') rs
+  none_fixed : (h h' : List Deed)
+      → is_shut h ≡ false
+      → (rs : List Reading)
+      → AllByRecursion (Fixed h) rs
+      → AllByRecursion (Fixed h') rs
   none_fixed h h' still rs all = all_weaker (Fixed h) (Fixed h') (λ r fixed shut. absurd (true≢false (sym (fixed shut).0 ∙ still))) rs all
 
-  more_read : (h : List Deed) (l number : ℕ) (o : Option ℕ) → IsHalfRead h o → IsHalfRead (by_lane l (enters number) ∷ h) o
+  more_read : (h : List Deed) (l number : ℕ) (o : Option ℕ)
+      → IsHalfRead h o
+      → IsHalfRead (by_lane l (enters number) ∷ h) o
   more_read h l number (Some n) half = omega arith
   more_read h l number None half = tt
 
-  closed_read : (h : List Deed) (number : ℕ) (o : Option ℕ) → IsHalfRead h o → IsHalfRead (closes number ∷ h) o
+  closed_read : (h : List Deed) (number : ℕ) (o : Option ℕ)
+      → IsHalfRead h o
+      → IsHalfRead (closes number ∷ h) o
   closed_read h number (Some n) half = half
   closed_read h number None half = tt
 
@@ -295,6 +357,6 @@ module _ (counts : Counts) where
       let before = are_read h p legal.1 in
       let r = pass_part h p in (closed_read h number r.settled before.0, none_fixed h (closes number ∷ h) legal.0.0 r.readings before.1)
 
-  -- a reading that seals has all entries settled
+  -- A reading that seals has all entries settled.
   pub sealed : (h : List Deed) (r : Reading) → Fixed h r → Seals r → r.settled ≡ entered h
   sealed h r fixed seals = let t = fixed seals.0 in omega (arith, t.1, t.2, seals.1)

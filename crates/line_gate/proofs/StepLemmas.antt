@@ -41,7 +41,7 @@ pass_number r = r.number
 abbrev pub closer_number : CloserRecord → ℕ
 closer_number r = 0
 
--- the mark stands, or it does not
+-- The mark is set, or it is not.
 shut_or_open : (b : Bool) → (b ≡ true) ⊎ (b ≡ false)
 shut_or_open true = inl refl
 shut_or_open false = inr refl
@@ -55,21 +55,36 @@ module _ (h : List Deed) (ws : List ℕ) (is : ws ≡ words_of h) where
   settled_now : get_or ws 1 0 ≡ settled h
   settled_now = ap (λ (xs : List ℕ). get_or xs 1 0) is
 
-  -- the first word, and the second, after one more deed
-  gate_next : (d : Deed) (new : ℕ) → new ≡ gate_word (counted (d ∷ h)) (is_shut (d ∷ h)) → settled (d ∷ h) ≡ settled h → set ws 0 new ≡ words_of (d ∷ h)
+  -- The first word, and the second, after one more step.
+  gate_next : (d : Deed) (new : ℕ)
+      → new ≡ gate_word (counted (d ∷ h)) (is_shut (d ∷ h))
+      → settled (d ∷ h) ≡ settled h
+      → set ws 0 new ≡ words_of (d ∷ h)
   gate_next d new gate same = ap (λ (xs : List ℕ). set xs 0 new) is ∙ (ap (λ (x : ℕ). x ∷ settled h ∷ []) gate ∙ ap (λ (x : ℕ). gate_word (counted (d ∷ h)) (is_shut (d ∷ h)) ∷ x ∷ []) (sym same))
 
-  settled_next : (d : Deed) (new : ℕ) → new ≡ settled (d ∷ h) → counted (d ∷ h) ≡ counted h → is_shut (d ∷ h) ≡ is_shut h → set ws 1 new ≡ words_of (d ∷ h)
+  settled_next : (d : Deed) (new : ℕ)
+      → new ≡ settled (d ∷ h)
+      → counted (d ∷ h) ≡ counted h
+      → is_shut (d ∷ h) ≡ is_shut h
+      → set ws 1 new ≡ words_of (d ∷ h)
   settled_next d new count same_count same_mark = ap (λ (xs : List ℕ). set xs 1 new) is ∙ (ap (λ (x : ℕ). gate_word (counted h) (is_shut h) ∷ x ∷ []) count ∙ ap (λ (x : ℕ). x ∷ settled (d ∷ h) ∷ []) (sym (ap (λ (n : ℕ). gate_word n (is_shut (d ∷ h))) same_count ∙ ap (gate_word (counted h)) same_mark)))
 
--- ---- the history with one deed more
+-- ---- the history with one more step
 
 module _ (counts : Counts) (s : St) (k : Keeps counts s) (id : ℕ) where
-  closer_same : (d : Deed) → closed_at (d ∷ k.history) ≡ closed_at k.history → (j : ℕ) → closer_part (d ∷ k.history) j ≡ closer_part k.history j
+  closer_same : (d : Deed)
+      → closed_at (d ∷ k.history) ≡ closed_at k.history
+      → (j : ℕ)
+      → closer_part (d ∷ k.history) j ≡ closer_part k.history j
   closer_same d same zero = ap closer same
   closer_same d same (suc j) = refl
 
-  lane_next : (r : LaneEntries) → get_elem? s.views id ≡ some (lane_view r) → (a : LaneAct) (i new : ℕ) → (lane_after a r).number ≡ r.number → LaneMay k.history r a → set s.words i new ≡ words_of (by_lane r.number a ∷ k.history)
+  lane_next : (r : LaneEntries)
+      → get_elem? s.views id ≡ some (lane_view r)
+      → (a : LaneAct) (i new : ℕ)
+      → (lane_after a r).number ≡ r.number
+      → LaneMay k.history r a
+      → set s.words i new ≡ words_of (by_lane r.number a ∷ k.history)
       → Keeps counts (stepped s i new id [] (lane_view (lane_after a r)) keeps)
   lane_next r me a i new same_number may words =
       let v = lane_view r in
@@ -86,7 +101,12 @@ module _ (counts : Counts) (s : St) (k : Keeps counts s) (id : ℕ) where
         closers = stays closers_in closer_number s.views k.closers id v me (closer_part (d ∷ k.history)) w refl (closer_same d refl);
       }
 
-  pass_next : (r : PassReadings) → get_elem? s.views id ≡ some (pass_view r) → (a : PassAct) (i new : ℕ) → (pass_after a r).number ≡ r.number → PassMay k.history r a → set s.words i new ≡ words_of (by_pass r.number a ∷ k.history)
+  pass_next : (r : PassReadings)
+      → get_elem? s.views id ≡ some (pass_view r)
+      → (a : PassAct) (i new : ℕ)
+      → (pass_after a r).number ≡ r.number
+      → PassMay k.history r a
+      → set s.words i new ≡ words_of (by_pass r.number a ∷ k.history)
       → Keeps counts (stepped s i new id [] (pass_view (pass_after a r)) keeps)
   pass_next r me a i new same_number may words =
       let v = pass_view r in
@@ -107,7 +127,11 @@ module _ (counts : Counts) (s : St) (k : Keeps counts s) (id : ℕ) where
   only_closer d zero other = absurd (other refl)
   only_closer d (suc j) other = refl
 
-  closer_next : (number i new : ℕ) → get_elem? s.views id ≡ some (closer_view None) → May counts k.history (closes number) → set s.words i new ≡ words_of (closes number ∷ k.history) → Keeps counts (stepped s i new id [] (closer_view (Some number)) keeps)
+  closer_next : (number i new : ℕ)
+      → get_elem? s.views id ≡ some (closer_view None)
+      → May counts k.history (closes number)
+      → set s.words i new ≡ words_of (closes number ∷ k.history)
+      → Keeps counts (stepped s i new id [] (closer_view (Some number)) keeps)
   closer_next number i new me may words =
       let v = closer_view None in
       let w = closer_view (Some number) in
@@ -122,7 +146,7 @@ module _ (counts : Counts) (s : St) (k : Keeps counts s) (id : ℕ) where
         closers = steps closers_in closer_number s.views k.closers id v me (closer_part (d ∷ k.history)) w (closer None) (closer (Some number)) refl refl refl refl (only_closer d);
       }
 
-  -- ---- what the first word is, as the mark stands or not
+  -- ---- the first word, with and without the mark
 
   bounded : counted k.history + 1 < CLOSED
   bounded = omega (arith, counted_bounded counts k.history k.legal, k.few)
@@ -135,7 +159,9 @@ module _ (counts : Counts) (s : St) (k : Keeps counts s) (id : ℕ) where
 
 -- ---- the steps of a lane
 
-pub look_step : (counts : Counts) (n id : ℕ) (m : Sat) → IsLaneSeat m → Allows (Keeps counts) n id m 0 (λ x. x) (looks_at (step n 0 0 0 none) m)
+pub look_step : (counts : Counts) (n id : ℕ) (m : Sat)
+    → IsLaneSeat m
+    → Allows (Keeps counts) n id m 0 (λ x. x) (looks_at (step n 0 0 0 none) m)
 look_step counts n id m is = subst (λ (z : Sat). Allows (Keeps counts) n id z 0 (λ x. x) (looks_at (step n 0 0 0 none) z)) (sym is)
     (λ s k homes me small.
     let r = lane_in m.0.lanes in
@@ -163,7 +189,11 @@ look_step counts n id m is = subst (λ (z : Sat). Allows (Keeps counts) n id z 0
     ))
     (shut_or_open (is_shut h)))
 
-pub enter_step : (counts : Counts) (n id : ℕ) (m : Sat) → IsLaneSeat m → IsSettled (lane_in m.0.lanes) → length (lane_in m.0.lanes).entries < MAX_ENTRIES → Allows (Keeps counts) n id m 0 (λ x. (x + 1) % 2 ^ 64) (enters_at (step n 0 1 0 none) m)
+pub enter_step : (counts : Counts) (n id : ℕ) (m : Sat)
+    → IsLaneSeat m
+    → IsSettled (lane_in m.0.lanes)
+    → length (lane_in m.0.lanes).entries < MAX_ENTRIES
+    → Allows (Keeps counts) n id m 0 (λ x. (x + 1) % 2 ^ 64) (enters_at (step n 0 1 0 none) m)
 enter_step counts n id m is idle unspent = subst (λ (z : Sat). Allows (Keeps counts) n id z 0 (λ x. (x + 1) % 2 ^ 64) (enters_at (step n 0 1 0 none) z)) (sym is)
     (λ s k homes me small.
     let r = lane_in m.0.lanes in
@@ -195,7 +225,11 @@ enter_step counts n id m is idle unspent = subst (λ (z : Sat). Allows (Keeps co
     ))
     (shut_or_open (is_shut h)))
 
-pub undo_step : (counts : Counts) (n id : ℕ) (m : Sat) → IsLaneSeat m → (lane_in m.0.lanes).late ≡ true → Allows (Keeps counts) n id m 0 (λ x. (x + (2 ^ 64 - 1)) % 2 ^ 64) (undoes_at (step n 0 1 0 none) m)
+pub undo_step : (counts : Counts) (n id : ℕ) (m : Sat)
+    → IsLaneSeat m
+    → (lane_in m.0.lanes).late ≡ true
+    → Allows (Keeps counts) n id m 0 (λ x. (x + (2 ^ 64 - 1)) % 2 ^ 64)
+    (undoes_at (step n 0 1 0 none) m)
 undo_step counts n id m is late = subst (λ (z : Sat). Allows (Keeps counts) n id z 0 (λ x. (x + (2 ^ 64 - 1)) % 2 ^ 64) (undoes_at (step n 0 1 0 none) z)) (sym is)
     (λ s k homes me small.
     let r = lane_in m.0.lanes in
@@ -214,7 +248,11 @@ undo_step counts n id m is late = subst (λ (z : Sat). Allows (Keeps counts) n i
       refl,
     ))
 
-pub settle_step : (accepted : Bool) (counts : Counts) (n id : ℕ) (m : Sat) (number : ℕ) → IsLaneSeat m → (lane_in m.0.lanes).pending ≡ Some number → Allows (Keeps counts) n id m 1 (λ x. (x + 1) % 2 ^ 64) (settles_at accepted (step n 1 1 0 none) m)
+pub settle_step : (accepted : Bool) (counts : Counts) (n id : ℕ) (m : Sat) (number : ℕ)
+    → IsLaneSeat m
+    → (lane_in m.0.lanes).pending ≡ Some number
+    → Allows (Keeps counts) n id m 1 (λ x. (x + 1) % 2 ^ 64)
+    (settles_at accepted (step n 1 1 0 none) m)
 settle_step accepted counts n id m number is pending = subst (λ (z : Sat). Allows (Keeps counts) n id z 1 (λ x. (x + 1) % 2 ^ 64) (settles_at accepted (step n 1 1 0 none) z)) (sym is)
     (λ s k homes me small.
     let r = lane_in m.0.lanes in
@@ -235,7 +273,9 @@ settle_step accepted counts n id m number is pending = subst (λ (z : Sat). Allo
 or_mark : (count : ℕ) → count < CLOSED → bit_or count CLOSED ≡ count + CLOSED
 or_mark count small = let e : 1 * 2 ^ 63 + count ≡ count + CLOSED = omega arith in or_comm count CLOSED ∙ (or_shifted 1 63 count small ∙ e)
 
-pub close_step : (counts : Counts) (n id : ℕ) (m : Sat) → IsCloserSeat m → Allows (Keeps counts) n id m 0 (λ x. bit_or x CLOSED) (closes_at (step n 0 CLOSED 0 none) m)
+pub close_step : (counts : Counts) (n id : ℕ) (m : Sat)
+    → IsCloserSeat m
+    → Allows (Keeps counts) n id m 0 (λ x. bit_or x CLOSED) (closes_at (step n 0 CLOSED 0 none) m)
 close_step counts n id m is = subst (λ (z : Sat). Allows (Keeps counts) n id z 0 (λ x. bit_or x CLOSED) (closes_at (step n 0 CLOSED 0 none) z)) (sym is)
     (λ s k homes me small.
     let h = k.history in
@@ -255,7 +295,9 @@ close_step counts n id m is = subst (λ (z : Sat). Allows (Keeps counts) n id z 
 
 -- ---- the steps of a pass
 
-pub read_settled_step : (counts : Counts) (n id : ℕ) (m : Sat) → IsPassSeat m → Allows (Keeps counts) n id m 1 (λ x. x) (reads_settled_at (step n 1 0 0 none) m)
+pub read_settled_step : (counts : Counts) (n id : ℕ) (m : Sat)
+    → IsPassSeat m
+    → Allows (Keeps counts) n id m 1 (λ x. x) (reads_settled_at (step n 1 0 0 none) m)
 read_settled_step counts n id m is = subst (λ (z : Sat). Allows (Keeps counts) n id z 1 (λ x. x) (reads_settled_at (step n 1 0 0 none) z)) (sym is)
     (λ s k homes me small.
     let r = pass_in m.0.passes in
@@ -269,7 +311,10 @@ read_settled_step counts n id m is = subst (λ (z : Sat). Allows (Keeps counts) 
       refl,
     ))
 
-pub read_gate_step : (counts : Counts) (n id : ℕ) (m : Sat) (count : ℕ) → IsPassSeat m → (pass_in m.0.passes).settled ≡ Some count → Allows (Keeps counts) n id m 0 (λ x. x) (reads_gate_at (step n 0 0 0 none) m)
+pub read_gate_step : (counts : Counts) (n id : ℕ) (m : Sat) (count : ℕ)
+    → IsPassSeat m
+    → (pass_in m.0.passes).settled ≡ Some count
+    → Allows (Keeps counts) n id m 0 (λ x. x) (reads_gate_at (step n 0 0 0 none) m)
 read_gate_step counts n id m count is half = subst (λ (z : Sat). Allows (Keeps counts) n id z 0 (λ x. x) (reads_gate_at (step n 0 0 0 none) z)) (sym is)
     (λ s k homes me small.
     let r = pass_in m.0.passes in

@@ -1,10 +1,10 @@
-// An entry on its way: from the step that makes it to the one that settles it or takes it back.
+// An entry that is not settled: from the step that makes it to the step that settles or undoes it.
 ghost use Rattle.std.specs.Prelude.{◌≡◌};
 
 use std::marker::Model;
 
-/// An entry that its lane has made and not settled. Only `Gate::enter` makes one, and it has no
-/// `Drop`. Contracts see its number.
+/// An entry that its lane has made and not settled. Only `Gate::enter` makes one. It cannot be
+/// dropped. Contracts see its number.
 pub struct Entered {
     pub(crate) number: u64,
 }
@@ -17,8 +17,8 @@ impl Model for Entered {
     ghost view = { λ entered. entered.number };
 }
 
-/// An entry that its lane made after the close and has not taken back. Only `Gate::enter` makes one,
-/// and it has no `Drop`. Contracts see the count of entries that it found.
+/// An entry that its lane made after the close and has not undone. Only `Gate::enter` makes one. It
+/// cannot be dropped. Contracts see the count of entries that it found.
 pub struct EnteredLate {
     pub(crate) seen: u64,
 }
@@ -32,7 +32,7 @@ impl Model for EnteredLate {
 }
 
 impl Entered {
-    /// How many entries of all lanes came before it.
+    /// Returns the number of entries that all lanes made before this one.
     pub fn number(&self) -> u64
         ensures { result ≡ self.now }
     {
@@ -40,14 +40,14 @@ impl Entered {
     }
 }
 
-/// A token of what became of an entry outside the gate. It still has the entry, and a settle takes
-/// both.
+/// The outcome of a push outside the gate. It contains the entry, and a settle consumes both.
 pub trait Pushed {
     ghost use Rattle.std.specs.Prelude.{ℕ};
 
+    // The number of the entry.
     ghost entry: { Self → ℕ };
 
-    /// The entry.
+    /// Returns the entry.
     fn into_entry(self) -> Entered
         ensures { result ≡ entry self };
 }

@@ -1,4 +1,4 @@
-// The gate: it is made, its members are dealt out and come together again, and it ends.
+// The gate: opening it, giving out its handles, collecting them again, and its end.
 ghost use Rattle.std.specs.Prelude.{◌≡◌, ◌<◌, ◌≤◌, ◌∷◌, ◌++◌, [], length, IfOk};
 ghost use Rattle.std.specs.List.{All};
 ghost use Rattle.cube_shape.specs.declared.limits.TheConstants.{MAX_LANES};
@@ -13,15 +13,16 @@ use atomic_table::Table;
 use std::alloc::{AllocError, Global};
 use std::marker::{Model, PhantomData};
 
-// The closed mark of the first word; below it stands the count of entries.
+// The closed mark of the first word. The bits below it are the count of entries.
 pub(crate) const CLOSED: u64 = 1 << 63;
 
-// The first word, and the second, which counts the settled entries.
+// The index of the first word.
 pub(crate) const GATE: usize = 0;
 
+/// The index of the second word, which counts the settled entries.
 pub(crate) const SETTLED: usize = 1;
 
-/// How many lanes and passes a gate has.
+/// The numbers of lanes and passes of a gate.
 #[derive(Clone, Copy, Debug, PartialEq, Eq)]
 pub struct Counts {
     /// The number of lanes, which are numbered from 0.
@@ -30,13 +31,13 @@ pub struct Counts {
     pub passes: u32,
 }
 
-/// A token of what was found outside the gate, which one step at the gate spends.
+/// A token of what a call outside the gate found. One step at the gate consumes it.
 pub trait Witness {
     fn spend(self);
 }
 
-/// The gate of a line. `P` is the token of a push that put a job in, `F` that of one that found the
-/// line full, and `E` that of a pop that found it empty.
+/// The gate of a queue. The outcome of a push is a token: of type `P` if a job was put in, of type
+/// `F` if the queue was full. A pop that found the queue empty gives a token of type `E`.
 pub struct Gate<P: Pushed, F: Pushed, E: Witness> {
     pub(crate) table: Table<(), View, Counts, GateRule, Global>,
     marker: PhantomData<(P, F, E)>,
@@ -62,7 +63,7 @@ impl<P: Pushed, F: Pushed, E: Witness> Drop for Gate<P, F, E> {
 }
 
 impl<P: Pushed, F: Pushed, E: Witness> Gate<P, F, E> {
-    /// A gate at which nothing was done, with its lanes, its passes and its closer.
+    /// Opens a gate without entries. Returns it with its lanes, its passes and its closer.
     pub fn open(alloc: Global, counts: Counts) -> Result<(Gate<P, F, E>, GateMembers), AllocError>
         requires { counts.lanes ≤ MAX_LANES }
         ensures counts { IfOk result (λ made. made.0.counts ≡ counts) }
@@ -78,7 +79,7 @@ impl<P: Pushed, F: Pushed, E: Witness> Gate<P, F, E> {
         Ok((gate, GateMembers { seat }))
     }
 
-    /// The first lane of those that are not dealt out yet.
+    /// Returns the first lane that was not given out yet.
     pub fn deal_lane(&self, members: &mut GateMembers) -> GateLane
         requires gate { members.old.gate ≡ self.now.table }
         requires more { 0 < length members.old.lanes }
@@ -90,7 +91,7 @@ impl<P: Pushed, F: Pushed, E: Witness> Gate<P, F, E> {
         GateLane { seat }
     }
 
-    /// The first pass of those that are not dealt out yet.
+    /// Returns the first pass that was not given out yet.
     pub fn deal_pass(&self, members: &mut GateMembers) -> GatePass
         requires gate { members.old.gate ≡ self.now.table }
         requires more { 0 < length members.old.passes }
@@ -102,7 +103,7 @@ impl<P: Pushed, F: Pushed, E: Witness> Gate<P, F, E> {
         GatePass { seat }
     }
 
-    /// Takes in a lane.
+    /// Takes a lane back.
     pub fn gather_lane(&self, end: &mut GateEnd, lane: GateLane)
         requires gate { end.old.gate ≡ self.now.table }
         requires lane { lane.gate ≡ self.now.table }
@@ -115,7 +116,7 @@ impl<P: Pushed, F: Pushed, E: Witness> Gate<P, F, E> {
         self.table.shared.join_seat::<Gather>(&mut end.seat, seat);
     }
 
-    /// Takes in a pass.
+    /// Takes a pass back.
     pub fn gather_pass(&self, end: &mut GateEnd, pass: GatePass)
         requires gate { end.old.gate ≡ self.now.table }
         requires pass { pass.gate ≡ self.now.table }
@@ -128,7 +129,7 @@ impl<P: Pushed, F: Pushed, E: Witness> Gate<P, F, E> {
         self.table.shared.join_seat::<Gather>(&mut end.seat, seat);
     }
 
-    /// Ends a closed gate. It is given as many lanes and passes as it has, so these are all of
+    /// Ends a closed gate. It needs as many lanes and passes as the gate has, which are all of
     /// them.
     pub fn end(self, end: GateEnd)
         requires gate { end.gate ≡ self.table }

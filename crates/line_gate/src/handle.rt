@@ -1,11 +1,11 @@
-// What the callers of a gate hold. But for the members of a new gate, none of it has a `Drop`: it is
-// spent in the gate's end.
+// The handles of a gate. Only `GateMembers` can be dropped. The others are consumed by the gate's
+// end.
 use crate::view::View;
 use std::marker::Model;
 
 pub(crate) type Seat = atomic_table::Seat<(), View>;
 
-/// The lanes and passes of a new gate that are not dealt out yet, and its closer.
+/// The lanes and passes of a new gate that were not given out yet, and its closer.
 #[derive(Drop)]
 pub struct GateMembers {
     pub(crate) seat: Seat,
@@ -26,7 +26,7 @@ impl Model for GateMembers {
     ghost invariant = { λ m. IsMembersSeat m.seat.me };
 }
 
-/// The right to enter by one lane.
+/// The right to make entries of one lane.
 pub struct GateLane {
     pub(crate) seat: Seat,
 }
@@ -74,7 +74,7 @@ impl Model for GateCloser {
     ghost invariant = { λ c. IsCloserSeat c.seat.me };
 }
 
-/// Shows that the gate is closed.
+/// A token that shows that the gate is closed.
 pub struct GateNote {
     pub(crate) seat: Seat,
     pub(crate) number: u64,
@@ -91,7 +91,7 @@ impl Model for GateNote {
     ghost invariant = { λ n. IsNoteSeat n.seat.me n.number };
 }
 
-/// The lanes and passes of a closed gate that have come together again, with the note.
+/// The lanes and passes of a closed gate that were taken back, with the close note.
 pub struct GateEnd {
     pub(crate) seat: Seat,
     pub(crate) number: u64,
@@ -116,7 +116,7 @@ impl Model for GateEnd {
 impl GateMembers {
     ghost use Rattle.std.specs.Prelude.{◌≡◌, []};
 
-    /// The closer, once all lanes and passes are dealt out.
+    /// Returns the closer, once all lanes and passes were given out.
     pub fn into_closer(self) -> GateCloser
         requires lanes { self.lanes ≡ [] }
         requires passes { self.passes ≡ [] }
@@ -130,14 +130,14 @@ impl GateMembers {
 impl GateNote {
     ghost use Rattle.std.specs.Prelude.{◌≡◌, []};
 
-    /// The close number: how many entries came before the close.
+    /// Returns the close number: how many entries came before the close.
     pub fn number(&self) -> u64
         ensures { result ≡ self.now.number }
     {
         self.number
     }
 
-    /// The note, with no lane and no pass yet.
+    /// Begins the end of the gate: no lane and no pass was taken back yet.
     pub fn into_end(self) -> GateEnd
         ensures gate { result.gate ≡ self.gate }
         ensures number { result.number ≡ self.number }

@@ -1,11 +1,11 @@
-//! The gate of a lock-free queue: two words, by which producers enter and by which consumers learn that the queue
-//! has ended.
+//! A sequencer for a lock-free queue (`Gate`): producers take entry numbers (tickets) from it, and
+//! consumers learn from it that the queue has ended.
 //!
-//! A lane enters by one step on the first word, which counts entries and has the closed mark, and
-//! settles its entry by one step on the second. Between the two the entry is a value of its own,
-//! which only what came of its push can settle. The closer sets the mark. A pass that reads as many
-//! entries settled as counted, beside the closed mark, knows that all entries are settled. Each
-//! call is one atomic step, and waits for nobody.
+//! It is two words. The first counts entries and has the closed mark, the second counts settled
+//! entries. A lane makes an entry by one step on the first word and settles it by one step on the
+//! second. In between, the entry is a value: only the outcome of its push can settle it. The closer
+//! sets the mark. A pass that reads the mark, with as many entries settled as counted, knows that
+//! all entries are settled. Each call is one atomic step and never waits.
 #![tactic(auto)]
 
 mod entered;

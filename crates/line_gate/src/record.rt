@@ -1,15 +1,15 @@
-// What a lane and a pass are known to have done at a gate: plain data, which contracts alone see.
+// The records of lanes and passes at a gate: plain data that only contracts see.
 use std::collections::LinkedList;
 
-/// An entry of a lane, once it is settled. No value of it is made.
+/// A settled entry of a lane. No program makes a value of it.
 pub struct SettledEntry {
-    /// How many entries of all lanes came before it.
+    /// The number of entries that all lanes made before it.
     pub number: u64,
     /// Whether its job was accepted.
     pub accepted: bool,
 }
 
-/// What a lane is known to have done at the gate. No value of it is made.
+/// The record of a lane at the gate: what it is known to have done. No program makes a value of it.
 pub struct LaneEntries {
     /// The lane's number.
     pub number: u32,
@@ -17,28 +17,28 @@ pub struct LaneEntries {
     pub entries: LinkedList<SettledEntry>,
     /// The number of an entry that is not settled yet.
     pub pending: Option<u64>,
-    /// Whether it entered after the close and has not undone that.
+    /// Whether it made an entry after the close and has not undone it.
     pub late: bool,
-    /// Each count of entries that it found beside the closed mark, in order.
+    /// Each count of entries that it read together with the closed mark, in order.
     pub seen: LinkedList<u64>,
 }
 
-/// What a pass found at the gate. No value of it is made.
+/// What a pass read at the gate. No program makes a value of it.
 pub struct Reading {
-    /// How many entries were settled.
+    /// The number of settled entries.
     pub settled: u64,
-    /// How many entries were counted, read after `settled`.
+    /// The number of counted entries, read after `settled`.
     pub counted: u64,
     /// Whether the gate was closed, read with `counted`.
     pub closed: bool,
 }
 
-/// What a pass is known to have done at the gate. No value of it is made.
+/// The record of a pass at the gate: what it is known to have done. No program makes a value of it.
 pub struct PassReadings {
     /// The pass's number.
     pub number: u32,
-    /// How many entries it read to be settled, where it has not read the count since.
+    /// The number of settled entries that it read, if it has not read the count of entries since.
     pub settled: Option<u64>,
-    /// What it read, in order.
+    /// Its readings, in order.
     pub readings: LinkedList<Reading>,
 }

@@ -34,14 +34,14 @@ impl Play<(), View> for Undo {
     ghost then = { undoes_at };
 }
 
-// The entry is settled, and its job was accepted.
+// The step that settles an entry whose job was accepted.
 pub(crate) struct SettleAccepted;
 
 impl Play<(), View> for SettleAccepted {
     ghost then = { settles_at true };
 }
 
-// The entry is settled, and the line was full.
+// The step that settles an entry that found the queue full.
 pub(crate) struct SettleFull;
 
 impl Play<(), View> for SettleFull {
@@ -66,7 +66,7 @@ impl Play<(), View> for ReadGate {
     ghost then = { reads_gate_at };
 }
 
-// One lane's record is dealt out.
+// The step that gives out the record of one lane.
 pub(crate) struct DealLane;
 
 impl Split<View> for DealLane {
@@ -75,7 +75,7 @@ impl Split<View> for DealLane {
     ghost right = { lane_alone };
 }
 
-// One pass's record is dealt out.
+// The step that gives out the record of one pass.
 pub(crate) struct DealPass;
 
 impl Split<View> for DealPass {
@@ -84,7 +84,7 @@ impl Split<View> for DealPass {
     ghost right = { pass_alone };
 }
 
-// The records of two seats come together.
+// The step that joins the records of two seats.
 pub(crate) struct Gather;
 
 impl Join<View> for Gather {

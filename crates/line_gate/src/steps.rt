@@ -1,4 +1,4 @@
-// The steps at a gate, each one atomic step.
+// The calls at a gate. Each is one atomic step.
 ghost use Rattle.std.specs.Prelude.{◌≡◌, ◌<◌, Some, true, false, length, MatchOption, MatchResult};
 ghost use Rattle.cube_shape.specs.declared.limits.TheConstants.{MAX_ENTRIES};
 ghost use Rattle.line_gate.specs.Record.{IsSettled, after_look, after_enter, after_late_enter, after_undo, after_settle, after_read_settled, after_read_gate};
@@ -13,12 +13,12 @@ use crate::rule::{Close, Enter, Look, ReadGate, ReadSettled, SettleAccepted, Set
 pub struct EntryCount {
     /// The count of entries.
     pub entries: u64,
-    /// Whether the closed mark stands beside it.
+    /// Whether the word has the closed mark.
     pub closed: bool,
 }
 
 impl<P: Pushed, F: Pushed, E: Witness> Gate<P, F, E> {
-    /// Looks at the gate: the count of entries, where the closed mark stands beside it.
+    /// Looks at the gate. Returns the count of entries if the gate is closed, else `None`.
     pub fn look(&self, lane: &mut GateLane) -> Option<u64>
         requires { lane.old.gate ≡ self.now.table }
         ensures gate { lane.new.gate ≡ self.now.table }
@@ -33,7 +33,7 @@ impl<P: Pushed, F: Pushed, E: Witness> Gate<P, F, E> {
         }
     }
 
-    /// Enters: an entry, which is then pending, or after the close a late one.
+    /// Makes an entry, which is then pending. After the close, returns a late entry.
     pub fn enter(&self, lane: &mut GateLane) -> Result<Entered, EnteredLate>
         requires gate { lane.old.gate ≡ self.now.table }
         requires settled { IsSettled lane.old.known }
@@ -56,7 +56,7 @@ impl<P: Pushed, F: Pushed, E: Witness> Gate<P, F, E> {
         }
     }
 
-    /// Takes a late entry back, and answers the count that it found.
+    /// Undoes a late entry. Returns the count that it found.
     pub fn undo(&self, lane: &mut GateLane, late: EnteredLate) -> u64
         requires gate { lane.old.gate ≡ self.now.table }
         requires late { lane.old.known.late ≡ true }
@@ -69,7 +69,7 @@ impl<P: Pushed, F: Pushed, E: Witness> Gate<P, F, E> {
         seen
     }
 
-    /// Settles the pending entry, whose job the line has accepted.
+    /// Settles the pending entry, whose job the queue has accepted.
     pub fn settle_accepted(&self, lane: &mut GateLane, put: P)
         requires gate { lane.old.gate ≡ self.now.table }
         requires pending { lane.old.known.pending ≡ Some (P.entry put) }
@@ -82,7 +82,7 @@ impl<P: Pushed, F: Pushed, E: Witness> Gate<P, F, E> {
             .fetch_add::<SettleAccepted>(&mut lane.seat, SETTLED, 1);
     }
 
-    /// Settles the pending entry, whose job found the line full.
+    /// Settles the pending entry, whose job found the queue full.
     pub fn settle_full(&self, lane: &mut GateLane, full: F)
         requires gate { lane.old.gate ≡ self.now.table }
         requires pending { lane.old.known.pending ≡ Some (F.entry full) }
@@ -116,7 +116,7 @@ impl<P: Pushed, F: Pushed, E: Witness> Gate<P, F, E> {
             .load::<ReadSettled>(&mut pass.seat, SETTLED)
     }
 
-    /// Reads the count of entries and the closed mark, for a pass that found the line empty and has
+    /// Reads the count of entries and the closed mark. The pass has found the queue empty and has
     /// read how many entries are settled.
     pub fn read_gate(&self, pass: &mut GatePass, _settled: u64, empty: E) -> EntryCount
         requires gate { pass.old.gate ≡ self.now.table }

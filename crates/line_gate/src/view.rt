@@ -1,8 +1,8 @@
-// What a seat of a gate's table knows. No value of it is made.
+// What a seat of a gate's table knows. No program makes a value of it.
 use crate::record::{LaneEntries, PassReadings};
 use std::collections::LinkedList;
 
-// What the closer is known to have done.
+// The record of the closer: what it is known to have done.
 pub(crate) struct CloserRecord {
     pub closed_at: Option<u64>,
 }

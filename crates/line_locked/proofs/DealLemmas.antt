@@ -1,4 +1,4 @@
--- Views are dealt out when a line opens, and come together when it ends.
+-- Views are given out when a queue opens, and joined when it ends.
 use Rattle.std.proofs.Common.{◌≡◌, ℕ, zero, suc, ◌+◌, ◌<◌, ◌≤◌, None, List, [], ◌∷◌, ◌++◌, length, get_or, set, replicate, refl, ap, ◌∙◌, arith}
 use mathlib.Core.Option.{some}
 use lib.ListN.{get_elem?}
@@ -29,8 +29,11 @@ length-zeros : (n : ℕ) → length (replicate {A = ℕ} n 0) ≡ n
 length-zeros zero = refl
 length-zeros (suc n) = omega (arith, length-zeros n)
 
--- the table of a new line meets the rule
-pub opens : (sizes : Sizes) (x : Store) → sizes.lanes ≤ MAX_LANES → IsEmptyStore sizes x → Keeps sizes (opening (0 ∷ []) (x ∷ []) (first_view sizes))
+-- The table of a new queue meets the rule.
+pub opens : (sizes : Sizes) (x : Store)
+    → sizes.lanes ≤ MAX_LANES
+    → IsEmptyStore sizes x
+    → Keeps sizes (opening (0 ∷ []) (x ∷ []) (first_view sizes))
 opens sizes x few empty =
     let v = first_view sizes in
     let fits : Fits sizes [] x = record {
@@ -54,13 +57,26 @@ opens sizes x few empty =
 
 -- ---- a view is cut
 
--- the parts of a view that is cut, each of which has some of its records
-module _ (sizes : Sizes) (s : St) (k : Keeps sizes s) (id : ℕ) (v left right : View) (me : get_elem? s.views id ≡ some v) where
-  cuts : left.about ≡ v.about → right.about ≡ v.about → members left + members right ≡ members v → v.found ≡ None → left.found ≡ None → right.found ≡ None
-      → Tied lanes_in lane_number sizes.lanes (lane_part k.history) (set s.views id left ++ right ∷ [])
-      → Tied passes_in pass_number sizes.passes (pass_part k.history) (set s.views id left ++ right ∷ [])
+-- The parts of a view that is cut. Each has some of its records.
+module _ (sizes : Sizes) (s : St) (k : Keeps sizes s) (id : ℕ) (v left right : View)
+    (me : get_elem? s.views id ≡ some v) where
+  cuts : left.about ≡ v.about
+      → right.about ≡ v.about
+      → members left + members right ≡ members v
+      → v.found ≡ None
+      → left.found ≡ None
+      → right.found ≡ None
+      → Tied lanes_in lane_number sizes.lanes (lane_part k.history)
+      (set s.views id left ++ right ∷ [])
+      → Tied passes_in pass_number sizes.passes (pass_part k.history)
+      (set s.views id left ++ right ∷ [])
       → Tied closers_in closer_number 1 (closer_part k.history) (set s.views id left ++ right ∷ [])
-      → Keeps sizes (record { words = s.words; homes = s.homes; views = set s.views id left ++ right ∷ [] })
+      → Keeps sizes (record {
+        words = s.words;
+        homes = s.homes;
+        views = set s.views id left
+            ++ right ∷ [];
+      })
   cuts left_about right_about sums none left_none right_none lanes passes closers = record {
     history = k.history;
     legal = k.legal;
@@ -72,23 +88,31 @@ module _ (sizes : Sizes) (s : St) (k : Keeps sizes s) (id : ℕ) (v left right :
     cell = cuts_cell found_in members s k.cell id v me left right none left_none right_none;
   }
 
-pub deals_lane : (sizes : Sizes) (id : ℕ) (v : View) → v.found ≡ None → Splits (Keeps sizes) id v (without_lane v) (lane_alone v)
+pub deals_lane : (sizes : Sizes) (id : ℕ) (v : View)
+    → v.found ≡ None
+    → Splits (Keeps sizes) id v (without_lane v) (lane_alone v)
 deals_lane sizes id v none s k me =
     cuts sizes s k id v (without_lane v) (lane_alone v) me refl refl (omega (arith, cut-length v.lanes)) none refl refl
     (splits lanes_in lane_number s.views k.lanes id v me (without_lane v) (lane_alone v) (cut-all (True lanes_in lane_number sizes.lanes (lane_part k.history)) v.lanes) (λ n. cut-total (λ r. is_at n (lane_number r)) v.lanes))
     (splits passes_in pass_number s.views k.passes id v me (without_lane v) (lane_alone v) (λ all. (all, tt)) (λ n. omega arith))
     (splits closers_in closer_number s.views k.closers id v me (without_lane v) (lane_alone v) (λ all. (all, tt)) (λ n. omega arith))
 
-pub deals_pass : (sizes : Sizes) (id : ℕ) (v : View) → v.found ≡ None → Splits (Keeps sizes) id v (without_pass v) (pass_alone v)
+pub deals_pass : (sizes : Sizes) (id : ℕ) (v : View)
+    → v.found ≡ None
+    → Splits (Keeps sizes) id v (without_pass v) (pass_alone v)
 deals_pass sizes id v none s k me =
     cuts sizes s k id v (without_pass v) (pass_alone v) me refl refl (omega (arith, cut-length v.passes)) none refl refl
     (splits lanes_in lane_number s.views k.lanes id v me (without_pass v) (pass_alone v) (λ all. (all, tt)) (λ n. omega arith))
     (splits passes_in pass_number s.views k.passes id v me (without_pass v) (pass_alone v) (cut-all (True passes_in pass_number sizes.passes (pass_part k.history)) v.passes) (λ n. cut-total (λ r. is_at n (pass_number r)) v.passes))
     (splits closers_in closer_number s.views k.closers id v me (without_pass v) (pass_alone v) (λ all. (all, tt)) (λ n. omega arith))
 
--- ---- two views come together
+-- ---- two views are joined
 
-pub joins_views : (sizes : Sizes) (id : ℕ) (v : View) (other : ℕ) (w : View) → v.found ≡ None → w.found ≡ None → 0 < members v → Joins (Keeps sizes) id v other w (joined v w) spent_view
+pub joins_views : (sizes : Sizes) (id : ℕ) (v : View) (other : ℕ) (w : View)
+    → v.found ≡ None
+    → w.found ≡ None
+    → 0 < members v
+    → Joins (Keeps sizes) id v other w (joined v w) spent_view
 joins_views sizes id v other w none none_too member s k me apart there =
     let both : View = joined v w in
     record {

@@ -16,25 +16,36 @@ use Rattle.job_queue.specs.Line.{IsMadeFor}
 use Rattle.ghost_history.specs.Lists.{rest_of}
 use Rattle.line_locked.specs.Inner.Deed.{Deed, accepts, fills, finds_closed, takes_job, finds_empty, closes, entered, waiting, is_closed, is_by_lane, lane_after, lane_part, is_by_pass, pass_after, pass_part, closed_at, IsLegal}
 
--- ---- the part of a member after one more deed
+-- ---- the record of a member after one more step
 
-pub lane_own : (d : Deed) (h : List Deed) (l : ℕ) → is_by_lane d l ≡ true → lane_part (d ∷ h) l ≡ lane_after d (lane_part h l)
+pub lane_own : (d : Deed) (h : List Deed) (l : ℕ)
+    → is_by_lane d l ≡ true
+    → lane_part (d ∷ h) l ≡ lane_after d (lane_part h l)
 lane_own d h l own = ap (λ b. cond b (lane_after d (lane_part h l)) (lane_part h l)) own
 
-pub lane_other : (d : Deed) (h : List Deed) (l : ℕ) → is_by_lane d l ≡ false → lane_part (d ∷ h) l ≡ lane_part h l
+pub lane_other : (d : Deed) (h : List Deed) (l : ℕ)
+    → is_by_lane d l ≡ false
+    → lane_part (d ∷ h) l ≡ lane_part h l
 lane_other d h l other = ap (λ b. cond b (lane_after d (lane_part h l)) (lane_part h l)) other
 
-pub pass_own : (d : Deed) (h : List Deed) (p : ℕ) → is_by_pass d p ≡ true → pass_part (d ∷ h) p ≡ pass_after d (pass_part h p)
+pub pass_own : (d : Deed) (h : List Deed) (p : ℕ)
+    → is_by_pass d p ≡ true
+    → pass_part (d ∷ h) p ≡ pass_after d (pass_part h p)
 pass_own d h p own = ap (λ b. cond b (pass_after d (pass_part h p)) (pass_part h p)) own
 
-pub pass_other : (d : Deed) (h : List Deed) (p : ℕ) → is_by_pass d p ≡ false → pass_part (d ∷ h) p ≡ pass_part h p
+pub pass_other : (d : Deed) (h : List Deed) (p : ℕ)
+    → is_by_pass d p ≡ false
+    → pass_part (d ∷ h) p ≡ pass_part h p
 pass_other d h p other = ap (λ b. cond b (pass_after d (pass_part h p)) (pass_part h p)) other
 
 -- ---- counts
 
 module _ (sizes : Sizes) where
-  -- the entries of all lanes are as many as were made, and have their numbers
-  pub entries_below : (weight : ℕ → ℕ) (h : List Deed) → IsLegal sizes h → below (λ l. total (λ e. weight e.number) (lane_part h l).entries) sizes.lanes ≡ below weight (entered h)
+  -- The entries of all lanes are as many as were made, and have their numbers.
+  pub entries_below : (weight : ℕ → ℕ) (h : List Deed)
+      → IsLegal sizes h
+      → below (λ l. total (λ e. weight e.number) (lane_part h l).entries) sizes.lanes
+      ≡ below weight (entered h)
   entries_below weight [] legal = below-zero sizes.lanes
   entries_below weight (accepts lane number job ∷ h) legal =
       let f = λ (l : ℕ). total (λ (e : Entry). weight e.number) (lane_part h l).entries in
@@ -55,14 +66,19 @@ module _ (sizes : Sizes) where
       omega (arith, below-grows f g sizes.lanes lane (weight number) legal.0.0.0 mine others, entries_below weight h legal.1, up, ap weight legal.0.0.1)
   entries_below weight (finds_closed lane seen ∷ h) legal = below-same _ _ sizes.lanes (λ l within. seen_only lane seen h l) ∙ entries_below weight h legal.1
     where
-      seen_only : (lane seen : ℕ) (h : List Deed) (l : ℕ) → total (λ (e : Entry). weight e.number) (lane_part (finds_closed lane seen ∷ h) l).entries ≡ total (λ (e : Entry). weight e.number) (lane_part h l).entries
+      seen_only : (lane seen : ℕ) (h : List Deed) (l : ℕ)
+          → total (λ (e : Entry). weight e.number)
+          (lane_part (finds_closed lane seen ∷ h) l).entries
+          ≡ total (λ (e : Entry). weight e.number) (lane_part h l).entries
       seen_only lane seen h l = elim (eqb lane l) as (λ b. total (λ (e : Entry). weight e.number) (cond b (lane_after (finds_closed lane seen) (lane_part h l)) (lane_part h l)).entries ≡ total (λ (e : Entry). weight e.number) (lane_part h l).entries) [ true ↦ refl | false ↦ refl ]
   entries_below weight (takes_job pass job ∷ h) legal = entries_below weight h legal.1
   entries_below weight (finds_empty pass count closed ∷ h) legal = entries_below weight h legal.1
   entries_below weight (closes number ∷ h) legal = entries_below weight h legal.1
 
-  -- a lane makes at most MAX_ENTRIES entries
-  pub lane_entries : (h : List Deed) (l : ℕ) → IsLegal sizes h → length (lane_part h l).entries ≤ MAX_ENTRIES
+  -- A lane makes at most MAX_ENTRIES entries.
+  pub lane_entries : (h : List Deed) (l : ℕ)
+      → IsLegal sizes h
+      → length (lane_part h l).entries ≤ MAX_ENTRIES
   lane_entries [] l legal = omega arith
   lane_entries (accepts lane number job ∷ h) l legal =
       dite (ℕ_discrete lane l)
@@ -92,11 +108,15 @@ module _ (sizes : Sizes) where
 
   -- ---- the jobs that wait
 
-  all_rest : {A : Type 0} (P : A → Type 0) (xs : List A) → AllByRecursion P xs → AllByRecursion P (rest_of xs)
+  all_rest : {A : Type 0} (P : A → Type 0) (xs : List A)
+      → AllByRecursion P xs
+      → AllByRecursion P (rest_of xs)
   all_rest P [] all = tt
   all_rest P (x ∷ xs) all = all.1
 
-  pub waiting_made_for : (h : List Deed) → IsLegal sizes h → AllByRecursion (IsMadeFor sizes.machine) (waiting h)
+  pub waiting_made_for : (h : List Deed)
+      → IsLegal sizes h
+      → AllByRecursion (IsMadeFor sizes.machine) (waiting h)
   waiting_made_for [] legal = tt
   waiting_made_for (accepts lane number job ∷ h) legal = all_append (IsMadeFor sizes.machine) (waiting h) (job ∷ []) (waiting_made_for h legal.1) (legal.0.3, tt)
   waiting_made_for (fills lane number ∷ h) legal = waiting_made_for h legal.1
@@ -129,8 +149,11 @@ module _ (sizes : Sizes) where
   open_before (finds_empty pass count closed ∷ h) none = open_before h none
   open_before (closes number ∷ h) none = cc
 
-  -- once closed, the count of entries is the close number
-  pub closed_count : (h : List Deed) (n : ℕ) → IsLegal sizes h → closed_at h ≡ Some n → (is_closed h ≡ true) × (entered h ≡ n)
+  -- After the close, the count of entries is the close number.
+  pub closed_count : (h : List Deed) (n : ℕ)
+      → IsLegal sizes h
+      → closed_at h ≡ Some n
+      → (is_closed h ≡ true) × (entered h ≡ n)
   closed_count [] n legal some = cc
   closed_count (accepts lane number job ∷ h) n legal some = absurd (true≢false (sym (closed_count h n legal.1 some).0 ∙ legal.0.0.2))
   closed_count (fills lane number ∷ h) n legal some = absurd (true≢false (sym (closed_count h n legal.1 some).0 ∙ legal.0.0.2))

@@ -1,4 +1,5 @@
--- Once all members have come together, the state is at home, and their records say what the line did.
+-- When all members have come back, the state is in its slot, and their records say what the queue
+-- did.
 use Rattle.std.proofs.Common.{◌≡◌, ℕ, ◌<◌, ◌≤◌, true, Some, List, [], ◌∷◌, ◌++◌, length, get_or, sym, ap, ◌∙◌, subst, arith}
 use Rattle.std.specs.List.{AllByRecursion}
 use mathlib.Core.Option.{some}
@@ -32,7 +33,8 @@ use Rattle.line_locked.proofs.ListedLemmas.{listed, listed_closed, listed_waitin
 use Rattle.job_queue.proofs.RisingLemmas.{all_ascend}
 use Rattle.line_locked.proofs.KeepLemmas.{St, lanes_in, passes_in, closers_in, lane_number, pass_number, closer_number}
 
-module _ (sizes : Sizes) (s : St) (k : Keeps sizes s) (id : ℕ) (v : View) (me : get_elem? s.views id ≡ some v) (number : ℕ) (whole : IsWhole sizes v number) where
+module _ (sizes : Sizes) (s : St) (k : Keeps sizes s) (id : ℕ) (v : View)
+    (me : get_elem? s.views id ≡ some v) (number : ℕ) (whole : IsWhole sizes v number) where
   the_state : (x : Store) × (get_elem? s.homes 0 ≡ some (some x)) × Fits sizes k.history x
   the_state = at_home found_in members s k.cell id v me whole.found (λ j u apart there. omega (
     arith,
@@ -49,23 +51,29 @@ module _ (sizes : Sizes) (s : St) (k : Keeps sizes s) (id : ℕ) (v : View) (me 
   count_here : (is_closed k.history ≡ true) × (entered k.history ≡ number)
   count_here = closed_count sizes k.history number k.legal closed_here
 
-  each_lane : (P : LaneRecord → Type 0) → ((l : ℕ) → P (lane_part k.history l)) → AllByRecursion P v.lanes
+  each_lane : (P : LaneRecord → Type 0)
+      → ((l : ℕ) → P (lane_part k.history l))
+      → AllByRecursion P v.lanes
   each_lane P holds = all_weaker (True lanes_in lane_number sizes.lanes (lane_part k.history)) P (λ r true. subst P (sym true.0) (holds r.number)) v.lanes (k.lanes.each id v me)
 
-  each_pass : (P : PassRecord → Type 0) → ((p : ℕ) → P (pass_part k.history p)) → AllByRecursion P v.passes
+  each_pass : (P : PassRecord → Type 0)
+      → ((p : ℕ) → P (pass_part k.history p))
+      → AllByRecursion P v.passes
   each_pass P holds = all_weaker (True passes_in pass_number sizes.passes (pass_part k.history)) P (λ r true. subst P (sym true.0) (holds r.number)) v.passes (k.passes.each id v me)
 
-  sum_lanes : (f : LaneRecord → ℕ) → total f v.lanes ≡ below (λ l. f (lane_part k.history l)) sizes.lanes
+  sum_lanes : (f : LaneRecord → ℕ)
+      → total f v.lanes ≡ below (λ l. f (lane_part k.history l)) sizes.lanes
   sum_lanes f = total-below lane_number sizes.lanes (λ l. f (lane_part k.history l)) f v.lanes
       (all_weaker (True lanes_in lane_number sizes.lanes (lane_part k.history)) (λ r. (f r ≡ f (lane_part k.history r.number)) × (r.number < sizes.lanes)) (λ r true. (ap f true.0, true.1)) v.lanes (k.lanes.each id v me))
       (has_everyone lanes_in lane_number s.views k.lanes id v me whole.lanes)
 
-  sum_passes : (f : PassRecord → ℕ) → total f v.passes ≡ below (λ p. f (pass_part k.history p)) sizes.passes
+  sum_passes : (f : PassRecord → ℕ)
+      → total f v.passes ≡ below (λ p. f (pass_part k.history p)) sizes.passes
   sum_passes f = total-below pass_number sizes.passes (λ p. f (pass_part k.history p)) f v.passes
       (all_weaker (True passes_in pass_number sizes.passes (pass_part k.history)) (λ r. (f r ≡ f (pass_part k.history r.number)) × (r.number < sizes.passes)) (λ r true. (ap f true.0, true.1)) v.passes (k.passes.each id v me))
       (has_everyone passes_in pass_number s.views k.passes id v me whole.passes)
 
-  -- the history as the line's users see it, at the end of which all that waits comes out
+  -- The history as the queue's users see it. At its end all that waits comes out.
   lists : Lists v.lanes v.passes (waiting k.history) number
   lists =
       let h = k.history in
@@ -114,8 +122,11 @@ module _ (sizes : Sizes) (s : St) (k : Keeps sizes s) (id : ℕ) (v : View) (me 
     made_for = subst (AllByRecursion (IsMadeFor sizes.machine)) (sym fits.jobs) (waiting_made_for sizes k.history k.legal);
   }
 
--- the state at the end
-pub ends : (sizes : Sizes) (id : ℕ) (v : View) (number : ℕ) (x : Store) → Leaves (Keeps sizes) id v x → IsWhole sizes v number → IsEnd sizes v number x
+-- The state at the end.
+pub ends : (sizes : Sizes) (id : ℕ) (v : View) (number : ℕ) (x : Store)
+    → Leaves (Keeps sizes) id v x
+    → IsWhole sizes v number
+    → IsEnd sizes v number x
 ends sizes id v number x left whole =
     let s = left.0 in let k = left.1.0 in let me = left.1.1 in
     let t = the_state sizes s k id v me number whole in

@@ -22,24 +22,34 @@ use Rattle.line_locked.proofs.DeedLemmas.{lane_own, lane_other, pass_own, pass_o
 
 -- ---- lists of jobs
 
-seqs-push : (lane seq : ℕ) (xs : List QueuedJob) (x : QueuedJob) → AreSeqs lane seq xs → x.id ≡ job_id lane (seq + length xs) → AreSeqs lane seq (xs ++ x ∷ [])
+seqs-push : (lane seq : ℕ) (xs : List QueuedJob) (x : QueuedJob)
+    → AreSeqs lane seq xs
+    → x.id ≡ job_id lane (seq + length xs)
+    → AreSeqs lane seq (xs ++ x ∷ [])
 seqs-push lane seq [] x seqs next = (next ∙ (let e : seq + 0 ≡ seq = omega arith in ap (job_id lane) e), tt)
 seqs-push lane seq (y ∷ xs) x seqs next = (seqs.0, seqs-push lane (seq + 1) xs x seqs.1 (next ∙ (let e : seq + suc (length xs) ≡ (seq + 1) + length xs = omega arith in ap (job_id lane) e)))
 
--- the job x comes later than q, where they are of one lane
+-- Job `x` comes later than `q` if both are of one lane.
 abbrev Before : QueuedJob → QueuedJob → Type 0
 Before x q = q.id.lane ≡ x.id.lane → q.id.seq < x.id.seq
 
-rises-push : (xs : List QueuedJob) (x : QueuedJob) → Rises xs → AllByRecursion (Before x) xs → Rises (xs ++ x ∷ [])
+rises-push : (xs : List QueuedJob) (x : QueuedJob)
+    → Rises xs
+    → AllByRecursion (Before x) xs
+    → Rises (xs ++ x ∷ [])
 rises-push [] x rises later = (tt, tt)
 rises-push (y ∷ xs) x rises later =
     (all_append (λ q. q.id.lane ≡ y.id.lane → y.id.seq < q.id.seq) xs (x ∷ []) rises.0 ((λ same. later.0 (sym same)), tt), rises-push xs x rises.1 later.1)
 
-all-middle : {A : Type 0} (P : A → Type 0) (xs : List A) (y : A) (ys : List A) → AllByRecursion P (xs ++ y ∷ ys) → AllByRecursion P (xs ++ ys)
+all-middle : {A : Type 0} (P : A → Type 0) (xs : List A) (y : A) (ys : List A)
+    → AllByRecursion P (xs ++ y ∷ ys)
+    → AllByRecursion P (xs ++ ys)
 all-middle P [] y ys all = all.1
 all-middle P (x ∷ xs) y ys all = (all.0, all-middle P xs y ys all.1)
 
-rises-middle : (xs : List QueuedJob) (y : QueuedJob) (ys : List QueuedJob) → Rises (xs ++ y ∷ ys) → Rises (xs ++ ys)
+rises-middle : (xs : List QueuedJob) (y : QueuedJob) (ys : List QueuedJob)
+    → Rises (xs ++ y ∷ ys)
+    → Rises (xs ++ ys)
 rises-middle [] y ys rises = rises.1
 rises-middle (x ∷ xs) y ys rises = (all-middle (λ q. q.id.lane ≡ x.id.lane → x.id.seq < q.id.seq) xs y ys rises.0, rises-middle xs y ys rises.1)
 
@@ -52,36 +62,48 @@ rises-end (x ∷ xs) ys rises = rises-end xs ys rises.1
 abbrev pub accepted_by : List Deed → ℕ → List QueuedJob
 accepted_by h l = accepted (lane_part h l).entries
 
-accepted-own : (lane number : ℕ) (job : QueuedJob) (h : List Deed) → accepted_by (accepts lane number job ∷ h) lane ≡ accepted_by h lane ++ job ∷ []
+accepted-own : (lane number : ℕ) (job : QueuedJob) (h : List Deed)
+    → accepted_by (accepts lane number job ∷ h) lane ≡ accepted_by h lane ++ job ∷ []
 accepted-own lane number job h = ap (λ (r : LaneRecord). accepted r.entries) (lane_own (accepts lane number job) h lane (eq-eqb lane lane refl)) ∙ accepted-push (lane_part h lane).entries number job
 
-accepted-else : (lane number : ℕ) (job : QueuedJob) (h : List Deed) (l : ℕ) → l ≢ lane → accepted_by (accepts lane number job ∷ h) l ≡ accepted_by h l
+accepted-else : (lane number : ℕ) (job : QueuedJob) (h : List Deed) (l : ℕ)
+    → l ≢ lane
+    → accepted_by (accepts lane number job ∷ h) l ≡ accepted_by h l
 accepted-else lane number job h l other = ap (λ (r : LaneRecord). accepted r.entries) (lane_other (accepts lane number job) h l (ne_eqb lane l (λ e. other (sym e))))
 
-accepted-fills : (lane number : ℕ) (h : List Deed) (l : ℕ) → accepted_by (fills lane number ∷ h) l ≡ accepted_by h l
+accepted-fills : (lane number : ℕ) (h : List Deed) (l : ℕ)
+    → accepted_by (fills lane number ∷ h) l ≡ accepted_by h l
 accepted-fills lane number h l = elim (eqb lane l) as (λ b. accepted (cond b (lane_after (fills lane number) (lane_part h l)) (lane_part h l)).entries ≡ accepted_by h l) [ true ↦ accepted-full (lane_part h l).entries number | false ↦ refl ]
 
-accepted-seen : (lane seen : ℕ) (h : List Deed) (l : ℕ) → accepted_by (finds_closed lane seen ∷ h) l ≡ accepted_by h l
+accepted-seen : (lane seen : ℕ) (h : List Deed) (l : ℕ)
+    → accepted_by (finds_closed lane seen ∷ h) l ≡ accepted_by h l
 accepted-seen lane seen h l = elim (eqb lane l) as (λ b. accepted (cond b (lane_after (finds_closed lane seen) (lane_part h l)) (lane_part h l)).entries ≡ accepted_by h l) [ true ↦ refl | false ↦ refl ]
 
 -- ---- what a pass took
 
-taken-own : (pass : ℕ) (job : QueuedJob) (h : List Deed) → (pass_part (takes_job pass job ∷ h) pass).taken ≡ (pass_part h pass).taken ++ job ∷ []
+taken-own : (pass : ℕ) (job : QueuedJob) (h : List Deed)
+    → (pass_part (takes_job pass job ∷ h) pass).taken ≡ (pass_part h pass).taken ++ job ∷ []
 taken-own pass job h = ap (λ (r : PassRecord). r.taken) (pass_own (takes_job pass job) h pass (eq-eqb pass pass refl))
 
-taken-else : (pass : ℕ) (job : QueuedJob) (h : List Deed) (p : ℕ) → p ≢ pass → (pass_part (takes_job pass job ∷ h) p).taken ≡ (pass_part h p).taken
+taken-else : (pass : ℕ) (job : QueuedJob) (h : List Deed) (p : ℕ)
+    → p ≢ pass
+    → (pass_part (takes_job pass job ∷ h) p).taken ≡ (pass_part h p).taken
 taken-else pass job h p other = ap (λ (r : PassRecord). r.taken) (pass_other (takes_job pass job) h p (ne_eqb pass p (λ e. other (sym e))))
 
-taken-read : (pass count : ℕ) (closed : Bool) (h : List Deed) (p : ℕ) → (pass_part (finds_empty pass count closed ∷ h) p).taken ≡ (pass_part h p).taken
+taken-read : (pass count : ℕ) (closed : Bool) (h : List Deed) (p : ℕ)
+    → (pass_part (finds_empty pass count closed ∷ h) p).taken ≡ (pass_part h p).taken
 taken-read pass count closed h p = elim (eqb pass p) as (λ b. (cond b (pass_after (finds_empty pass count closed) (pass_part h p)) (pass_part h p)).taken ≡ (pass_part h p).taken) [ true ↦ refl | false ↦ refl ]
 
--- what a pass took, and then what waits
+-- What a pass took, and then what waits.
 abbrev pub line_of : List Deed → ℕ → List QueuedJob
 line_of h p = (pass_part h p).taken ++ waiting h
 
--- a job leaves the middle of the list, or it stays
-line-take : (pass : ℕ) (job : QueuedJob) (h : List Deed) (p : ℕ) → waiting h ≡ job ∷ rest_of (waiting h)
-    → (line_of (takes_job pass job ∷ h) p ≡ line_of h p) ⊎ ((line_of (takes_job pass job ∷ h) p ≡ (pass_part h p).taken ++ rest_of (waiting h)) × (line_of h p ≡ (pass_part h p).taken ++ job ∷ rest_of (waiting h)))
+-- A job leaves the middle of the list, or it stays.
+line-take : (pass : ℕ) (job : QueuedJob) (h : List Deed) (p : ℕ)
+    → waiting h ≡ job ∷ rest_of (waiting h)
+    → (line_of (takes_job pass job ∷ h) p ≡ line_of h p)
+    ⊎ ((line_of (takes_job pass job ∷ h) p ≡ (pass_part h p).taken ++ rest_of (waiting h))
+    × (line_of h p ≡ (pass_part h p).taken ++ job ∷ rest_of (waiting h)))
 line-take pass job h p front =
     let rest = rest_of (waiting h) in
     dite (ℕ_discrete p pass)
@@ -92,7 +114,10 @@ line-take pass job h p front =
 module _ (sizes : Sizes) where
   -- ---- each accepted job was taken or waits
 
-  pub balanced : (weight : QueuedJob → ℕ) (h : List Deed) → IsLegal sizes h → below (λ l. total weight (accepted_by h l)) sizes.lanes ≡ below (λ p. total weight (pass_part h p).taken) sizes.passes + total weight (waiting h)
+  pub balanced : (weight : QueuedJob → ℕ) (h : List Deed)
+      → IsLegal sizes h
+      → below (λ l. total weight (accepted_by h l)) sizes.lanes
+      ≡ below (λ p. total weight (pass_part h p).taken) sizes.passes + total weight (waiting h)
   balanced weight [] legal = omega (arith, below-zero sizes.lanes, below-zero sizes.passes)
   balanced weight (accepts lane number job ∷ h) legal =
       let f = λ (l : ℕ). total weight (accepted_by h l) in
@@ -132,11 +157,13 @@ module _ (sizes : Sizes) where
 
   -- ---- a lane's seqs rise in what a pass took, and then in what waits
 
-  -- each job in the list was accepted by its lane
+  -- Each job in the list was accepted by its lane.
   abbrev Known : List Deed → QueuedJob → Type 0
   Known h q = q.id.seq < length (accepted_by h q.id.lane)
 
-  known-accepts : (lane number : ℕ) (job : QueuedJob) (h : List Deed) (q : QueuedJob) → Known h q → Known (accepts lane number job ∷ h) q
+  known-accepts : (lane number : ℕ) (job : QueuedJob) (h : List Deed) (q : QueuedJob)
+      → Known h q
+      → Known (accepts lane number job ∷ h) q
   known-accepts lane number job h q known =
       dite (ℕ_discrete q.id.lane lane)
       (λ e. let more : length (accepted_by (accepts lane number job ∷ h) q.id.lane) ≡ length (accepted_by h q.id.lane ++ job ∷ []) =
@@ -144,7 +171,9 @@ module _ (sizes : Sizes) where
       omega (arith, more, length-append (accepted_by h q.id.lane) (job ∷ []), known))
       (λ ne. omega (arith, ap length (accepted-else lane number job h q.id.lane ne), known))
 
-  known-own : (lane number : ℕ) (job : QueuedJob) (h : List Deed) → job.id ≡ job_id lane (length (accepted_by h lane)) → Known (accepts lane number job ∷ h) job
+  known-own : (lane number : ℕ) (job : QueuedJob) (h : List Deed)
+      → job.id ≡ job_id lane (length (accepted_by h lane))
+      → Known (accepts lane number job ∷ h) job
   known-own lane number job h id =
       let at_lane : job.id.lane ≡ lane = ap (λ i. i.lane) id in
       let at_seq : job.id.seq ≡ length (accepted_by h lane) = ap (λ i. i.seq) id in
@@ -191,10 +220,16 @@ module _ (sizes : Sizes) where
   abbrev Entered : List Deed → Entry → Type 0
   Entered h e = e.number < entered h
 
-  entered-more : (h : List Deed) (more : ℕ) → entered h ≤ more → (es : List Entry) → AllByRecursion (Entered h) es → AllByRecursion (λ e. e.number < more) es
+  entered-more : (h : List Deed) (more : ℕ)
+      → entered h ≤ more
+      → (es : List Entry)
+      → AllByRecursion (Entered h) es
+      → AllByRecursion (λ e. e.number < more) es
   entered-more h more le es all = all_weaker (Entered h) (λ e. e.number < more) (λ e below_it. omega arith) es all
 
-  pub entered_before : (h : List Deed) (l : ℕ) → IsLegal sizes h → AllByRecursion (λ e. e.number < entered h) (lane_part h l).entries
+  pub entered_before : (h : List Deed) (l : ℕ)
+      → IsLegal sizes h
+      → AllByRecursion (λ e. e.number < entered h) (lane_part h l).entries
   entered_before [] l legal = tt
   entered_before (accepts lane number job ∷ h) l legal =
       let before = entered-more h (entered h + 1) (omega arith) (lane_part h l).entries (entered_before h l legal.1) in
@@ -217,15 +252,21 @@ module _ (sizes : Sizes) where
   entered_before (finds_empty pass count closed ∷ h) l legal = entered_before h l legal.1
   entered_before (closes number ∷ h) l legal = entered_before h l legal.1
 
-  -- a count that was seen beside the closed mark is the count that stays
+  -- A count that was read with the closed mark is the count that stays.
   abbrev pub Stands : List Deed → ℕ → Type 0
   Stands h n = (is_closed h ≡ true) × (n ≡ entered h)
 
-  -- where the line is open no count was seen
-  none_stands : (h h' : List Deed) → is_closed h ≡ false → (ns : List ℕ) → AllByRecursion (Stands h) ns → AllByRecursion (Stands h') ns
+  -- While the queue is open, no count was seen.
+  none_stands : (h h' : List Deed)
+      → is_closed h ≡ false
+      → (ns : List ℕ)
+      → AllByRecursion (Stands h) ns
+      → AllByRecursion (Stands h') ns
   none_stands h h' still ns all = all_weaker (Stands h) (Stands h') (λ n stands. absurd (true≢false (sym stands.0 ∙ still))) ns all
 
-  pub seen_stands : (h : List Deed) (l : ℕ) → IsLegal sizes h → AllByRecursion (Stands h) (lane_part h l).seen
+  pub seen_stands : (h : List Deed) (l : ℕ)
+      → IsLegal sizes h
+      → AllByRecursion (Stands h) (lane_part h l).seen
   seen_stands [] l legal = tt
   seen_stands (accepts lane number job ∷ h) l legal =
       let before = none_stands h (accepts lane number job ∷ h) legal.0.0.2 (lane_part h l).seen (seen_stands h l legal.1) in
@@ -246,10 +287,16 @@ module _ (sizes : Sizes) where
   abbrev pub Sealed : List Deed → Reading → Type 0
   Sealed h r = r.closed ≡ true → Stands h r.settled
 
-  none_sealed : (h h' : List Deed) → is_closed h ≡ false → (rs : List Reading) → AllByRecursion (Sealed h) rs → AllByRecursion (Sealed h') rs
+  none_sealed : (h h' : List Deed)
+      → is_closed h ≡ false
+      → (rs : List Reading)
+      → AllByRecursion (Sealed h) rs
+      → AllByRecursion (Sealed h') rs
   none_sealed h h' still rs all = all_weaker (Sealed h) (Sealed h') (λ r sealed shut. absurd (true≢false (sym (sealed shut).0 ∙ still))) rs all
 
-  pub readings_sealed : (h : List Deed) (p : ℕ) → IsLegal sizes h → AllByRecursion (Sealed h) (pass_part h p).readings
+  pub readings_sealed : (h : List Deed) (p : ℕ)
+      → IsLegal sizes h
+      → AllByRecursion (Sealed h) (pass_part h p).readings
   readings_sealed [] p legal = tt
   readings_sealed (accepts lane number job ∷ h) p legal = none_sealed h (accepts lane number job ∷ h) legal.0.0.2 (pass_part h p).readings (readings_sealed h p legal.1)
   readings_sealed (fills lane number ∷ h) p legal = none_sealed h (fills lane number ∷ h) legal.0.0.2 (pass_part h p).readings (readings_sealed h p legal.1)

@@ -1,4 +1,4 @@
--- The rule of a locked line's table, as words, homes and views change.
+-- The rule of a locked queue's table, as words, slots and views change.
 use Rattle.std.proofs.Common.{◌≡◌, ℕ, ◌<◌, Some, None, List, [], ◌∷◌, length, get_or, set, refl, ◌∙◌}
 use mathlib.Core.Option.{some}
 use lib.ListN.{get_elem?}
@@ -38,9 +38,15 @@ pass_number r = r.number
 abbrev pub closer_number : CloserRecord → ℕ
 closer_number r = 0
 
-module _ (sizes : Sizes) (s : St) (k : Keeps sizes s) (id : ℕ) (v : View) (me : get_elem? s.views id ≡ some v) where
-  -- a seat of a member takes the slot, where the word is 0
-  pub takes_slot : (x : Store) → get_or s.words 0 0 ≡ 0 → 0 < members v → v.found ≡ None → Fits sizes k.history x → Keeps sizes (stepped s 0 1 id [] (holding v x) (takes 0 x))
+module _ (sizes : Sizes) (s : St) (k : Keeps sizes s) (id : ℕ) (v : View)
+    (me : get_elem? s.views id ≡ some v) where
+  -- A member's seat takes the slot if the word is 0.
+  pub takes_slot : (x : Store)
+      → get_or s.words 0 0 ≡ 0
+      → 0 < members v
+      → v.found ≡ None
+      → Fits sizes k.history x
+      → Keeps sizes (stepped s 0 1 id [] (holding v x) (takes 0 x))
   takes_slot x free member none fits =
       let w : View = holding v x in
       record {
@@ -54,9 +60,15 @@ module _ (sizes : Sizes) (s : St) (k : Keeps sizes s) (id : ℕ) (v : View) (me 
         cell = takes_value found_in members s k.cell id v me w x free none refl member fits;
       }
 
-  -- A seat that found x gives y back, and its new view is w. The history has one deed more.
-  pub gives_slot : (x y : Store) (w : View) (d : Deed) → v.found ≡ Some x → w.found ≡ None → w.about ≡ v.about → 0 < members v → length s.homes ≡ 1
-      → May sizes k.history d → Fits sizes (d ∷ k.history) y
+  -- A seat that found `x` gives `y` back, and its new view is `w`. The history has one more step.
+  pub gives_slot : (x y : Store) (w : View) (d : Deed)
+      → v.found ≡ Some x
+      → w.found ≡ None
+      → w.about ≡ v.about
+      → 0 < members v
+      → length s.homes ≡ 1
+      → May sizes k.history d
+      → Fits sizes (d ∷ k.history) y
       → Tied lanes_in lane_number sizes.lanes (lane_part (d ∷ k.history)) (set s.views id w)
       → Tied passes_in pass_number sizes.passes (pass_part (d ∷ k.history)) (set s.views id w)
       → Tied closers_in closer_number 1 (closer_part (d ∷ k.history)) (set s.views id w)

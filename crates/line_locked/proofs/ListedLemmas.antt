@@ -1,4 +1,4 @@
--- The history of a locked line, as the history that its users see.
+-- The history of a locked queue, as the history that its users see.
 use Rattle.std.proofs.Common.{◌≡◌, ℕ, ◌+◌, ◌<◌, true, false, cond, eqb, eq-eqb, Some, None, List, [], ◌∷◌, ◌++◌, length, sym, refl, ap, ◌∙◌, subst}
 use Rattle.std.proofs.lemmas.Bool.{true≢false}
 use Rattle.std.specs.List.{AllByRecursion}
@@ -70,11 +70,15 @@ listed_left (closes number ∷ h) = listed_left h
 
 -- ---- the parts
 
-one_more : (lane number k : ℕ) (h : List LineDeed) → lane ≡ k → entries_by (enters lane number ∷ h) k ≡ entries_by h k ++ entry number None ∷ []
+one_more : (lane number k : ℕ) (h : List LineDeed)
+    → lane ≡ k
+    → entries_by (enters lane number ∷ h) k ≡ entries_by h k ++ entry number None ∷ []
 one_more lane number k h own = ap (λ b. cond b (entries_by h k ++ entry number None ∷ []) (entries_by h k)) (eq-eqb lane k own)
 
 module _ (sizes : Sizes) where
-  pub listed_entries : (h : List Deed) (k : ℕ) → IsLegal sizes h → entries_by (listed h) k ≡ (lane_part h k).entries
+  pub listed_entries : (h : List Deed) (k : ℕ)
+      → IsLegal sizes h
+      → entries_by (listed h) k ≡ (lane_part h k).entries
   listed_entries [] k legal = refl
   listed_entries (accepts lane number job ∷ h) k legal =
       let es = (lane_part h k).entries in
@@ -117,7 +121,9 @@ module _ (sizes : Sizes) where
 
   -- ---- it is legal
 
-  pub listed_legal : (h : List Deed) → IsLegal sizes h → Legal (LineMay sizes.lanes sizes.passes) (listed h)
+  pub listed_legal : (h : List Deed)
+      → IsLegal sizes h
+      → Legal (LineMay sizes.lanes sizes.passes) (listed h)
   listed_legal [] legal = tt
   listed_legal (accepts lane number job ∷ h) legal =
       let made = one_more lane number lane (listed h) refl in

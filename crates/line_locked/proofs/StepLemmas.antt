@@ -1,4 +1,4 @@
--- Each step of a seat on a locked line's table keeps the rule.
+-- Each step of a seat on a locked queue's table keeps the rule.
 use Rattle.std.proofs.Common.{◌≡◌, ◌≢◌, ℕ, zero, suc, ◌+◌, ◌<◌, true, false, eq-eqb, ne_eqb, Option, Some, None, List, [], ◌∷◌, ◌++◌, length, length-set, get_or, get_or-set_same, get_or-set_other, sym, refl, ap, ◌∙◌, subst, arith}
 use Rattle.std.specs.List.{AllByRecursion}
 use mathlib.Core.Logic.{dite}
@@ -30,7 +30,10 @@ use Rattle.line_locked.proofs.KeepLemmas.{St, lanes_in, passes_in, closers_in, l
 
 -- ---- the closer's part
 
-closer_same : (d : Deed) (h : List Deed) → closed_at (d ∷ h) ≡ closed_at h → (j : ℕ) → closer_part (d ∷ h) j ≡ closer_part h j
+closer_same : (d : Deed) (h : List Deed)
+    → closed_at (d ∷ h) ≡ closed_at h
+    → (j : ℕ)
+    → closer_part (d ∷ h) j ≡ closer_part h j
 closer_same d h same zero = ap (λ (o : Option ℕ). record { closed_at = o }) same
 closer_same d h same (suc j) = refl
 
@@ -40,7 +43,11 @@ only_closer d h (suc j) other = refl
 
 -- ---- the slot is taken
 
-learns : (sizes : Sizes) (s : St) (k : Keeps sizes s) (id : ℕ) (v : View) (me : get_elem? s.views id ≡ some v) (x : Store) → 0 < members v → Fits sizes k.history x → Knows v x
+learns : (sizes : Sizes) (s : St) (k : Keeps sizes s) (id : ℕ) (v : View)
+    (me : get_elem? s.views id ≡ some v) (x : Store)
+    → 0 < members v
+    → Fits sizes k.history x
+    → Knows v x
 learns sizes s k id v me x member fits =
     let about : v.about ≡ sizes = k.about id v me member in
     record {
@@ -52,7 +59,9 @@ learns sizes s k id v me x member fits =
           (subst (AllByRecursion (IsMadeFor sizes.machine)) (sym fits.jobs) (waiting_made_for sizes k.history k.legal));
     }
 
-pub enters : (sizes : Sizes) (n id : ℕ) (m : Sat) → IsIdle m → MayTry holding Knows (Keeps sizes) n id m
+pub enters : (sizes : Sizes) (n id : ℕ) (m : Sat)
+    → IsIdle m
+    → MayTry holding Knows (Keeps sizes) n id m
 enters sizes n id m idle = may_try holding Knows (Keeps sizes) n id m idle.0
     (λ s k me free.
     let t = k.cell.home free in let x : Store = t.0 in (
@@ -69,7 +78,9 @@ last-push [] job = refl
 last-push (x ∷ []) job = refl
 last-push (x ∷ y ∷ jobs) job = last-push (y ∷ jobs) job
 
-module _ (sizes : Sizes) (s : St) (k : Keeps sizes s) (id : ℕ) (about : Sizes) (r : LaneRecord) (x y : Store) (me : get_elem? s.views id ≡ some (view about (r ∷ []) [] [] (Some x))) (one_home : length s.homes ≡ 1) where
+module _ (sizes : Sizes) (s : St) (k : Keeps sizes s) (id : ℕ) (about : Sizes) (r : LaneRecord)
+    (x y : Store) (me : get_elem? s.views id ≡ some (view about (r ∷ []) [] [] (Some x)))
+    (one_home : length s.homes ≡ 1) where
   lane_fits : Fits sizes k.history x
   lane_fits = k.cell.taken id (view about (r ∷ []) [] [] (Some x)) x me refl
 
@@ -79,8 +90,15 @@ module _ (sizes : Sizes) (s : St) (k : Keeps sizes s) (id : ℕ) (about : Sizes)
   lane_about : about ≡ sizes
   lane_about = k.about id (view about (r ∷ []) [] [] (Some x)) me (omega arith)
 
-  gives_lane : (d : Deed) → is_by_lane d r.number ≡ true → ((j : ℕ) → j ≢ r.number → is_by_lane d j ≡ false) → ((p : ℕ) → is_by_pass d p ≡ false) → closed_at (d ∷ k.history) ≡ closed_at k.history
-      → (lane_after d r).number ≡ r.number → May sizes k.history d → Fits sizes (d ∷ k.history) y → Keeps sizes (stepped s 0 0 id ((0, y) ∷ []) (lane_view about (lane_after d r)) gives)
+  gives_lane : (d : Deed)
+      → is_by_lane d r.number ≡ true
+      → ((j : ℕ) → j ≢ r.number → is_by_lane d j ≡ false)
+      → ((p : ℕ) → is_by_pass d p ≡ false)
+      → closed_at (d ∷ k.history) ≡ closed_at k.history
+      → (lane_after d r).number ≡ r.number
+      → May sizes k.history d
+      → Fits sizes (d ∷ k.history) y
+      → Keeps sizes (stepped s 0 0 id ((0, y) ∷ []) (lane_view about (lane_after d r)) gives)
   gives_lane d own others no_pass same_close same_number may fits =
       let v : View = view about (r ∷ []) [] [] (Some x) in
       let w : View = lane_view about (lane_after d r) in
@@ -89,15 +107,23 @@ module _ (sizes : Sizes) (s : St) (k : Keeps sizes s) (id : ℕ) (about : Sizes)
       (stays passes_in pass_number s.views k.passes id v me (pass_part (d ∷ k.history)) w refl (λ p. pass_other d k.history p (no_pass p)))
       (stays closers_in closer_number s.views k.closers id v me (closer_part (d ∷ k.history)) w refl (closer_same d k.history same_close))
 
-  -- the count of accepted jobs of each lane
-  counts_on : (d : Deed) (others : (j : ℕ) → j ≢ r.number → is_by_lane d j ≡ false) → get_or y.accepted.items r.number 0 ≡ length (accepted (lane_part (d ∷ k.history) r.number).entries)
-      → ((j : ℕ) → j ≢ r.number → get_or y.accepted.items j 0 ≡ get_or x.accepted.items j 0) → (l : ℕ) → l < sizes.lanes → get_or y.accepted.items l 0 ≡ length (accepted (lane_part (d ∷ k.history) l).entries)
+  -- The count of accepted jobs of each lane.
+  counts_on : (d : Deed) (others : (j : ℕ) → j ≢ r.number → is_by_lane d j ≡ false)
+      → get_or y.accepted.items r.number 0
+      ≡ length (accepted (lane_part (d ∷ k.history) r.number).entries)
+      → ((j : ℕ) → j ≢ r.number → get_or y.accepted.items j 0 ≡ get_or x.accepted.items j 0)
+      → (l : ℕ)
+      → l < sizes.lanes
+      → get_or y.accepted.items l 0 ≡ length (accepted (lane_part (d ∷ k.history) l).entries)
   counts_on d others mine rest l within =
       dite (ℕ_discrete l r.number)
       (λ e. subst (λ (j : ℕ). get_or y.accepted.items j 0 ≡ length (accepted (lane_part (d ∷ k.history) j).entries)) (sym e) mine)
       (λ ne. rest l ne ∙ (lane_fits.accepted_by l within ∙ ap (λ (z : LaneRecord). length (accepted z.entries)) (sym (lane_other d k.history l (others l ne)))))
 
-  pub gives_entry : (job : QueuedJob) → Accepts about r x job y → Keeps sizes (stepped s 0 0 id ((0, y) ∷ []) (lane_view about (lane_after (accepts r.number x.entries job) r)) gives)
+  pub gives_entry : (job : QueuedJob)
+      → Accepts about r x job y
+      → Keeps sizes (stepped s 0 0 id ((0, y) ∷ [])
+      (lane_view about (lane_after (accepts r.number x.entries job) r)) gives)
   gives_entry job a =
       let d : Deed = accepts r.number x.entries job in
       let f = lane_fits in
@@ -128,7 +154,9 @@ module _ (sizes : Sizes) (s : St) (k : Keeps sizes s) (id : ℕ) (about : Sizes)
       length_push [] q = refl
       length_push (j ∷ js) q = omega (arith, length_push js q)
 
-  pub gives_full_entry : Fills r x y → Keeps sizes (stepped s 0 0 id ((0, y) ∷ []) (lane_view about (lane_after (fills r.number x.entries) r)) gives)
+  pub gives_full_entry : Fills r x y
+      → Keeps sizes (stepped s 0 0 id ((0, y) ∷ [])
+      (lane_view about (lane_after (fills r.number x.entries) r)) gives)
   gives_full_entry a =
       let d : Deed = fills r.number x.entries in
       let f = lane_fits in
@@ -148,7 +176,10 @@ module _ (sizes : Sizes) (s : St) (k : Keeps sizes s) (id : ℕ) (about : Sizes)
         capacity = a.mark.1 ∙ f.capacity;
       }
 
-  pub gives_seen : x.closed ≡ true → Same x y → Keeps sizes (stepped s 0 0 id ((0, y) ∷ []) (lane_view about (lane_after (finds_closed r.number x.entries) r)) gives)
+  pub gives_seen : x.closed ≡ true
+      → Same x y
+      → Keeps sizes (stepped s 0 0 id ((0, y) ∷ [])
+      (lane_view about (lane_after (finds_closed r.number x.entries) r)) gives)
   gives_seen shut a =
       let d : Deed = finds_closed r.number x.entries in
       let f = lane_fits in
@@ -165,7 +196,12 @@ module _ (sizes : Sizes) (s : St) (k : Keeps sizes s) (id : ℕ) (about : Sizes)
         capacity = a.mark.1 ∙ f.capacity;
       }
 
-pub accepts_step : (sizes : Sizes) (n : ℕ) → n ≡ 1 → (id : ℕ) (m : Sat) (r : LaneRecord) (x y : Store) (job : QueuedJob) → IsLaneOut m r x y → Accepts m.0.about r x job y → Allows (Keeps sizes) n id m 0 (λ _. 0) (λ _ w. w ≡ after_entry m)
+pub accepts_step : (sizes : Sizes) (n : ℕ)
+    → n ≡ 1
+    → (id : ℕ) (m : Sat) (r : LaneRecord) (x y : Store) (job : QueuedJob)
+    → IsLaneOut m r x y
+    → Accepts m.0.about r x job y
+    → Allows (Keeps sizes) n id m 0 (λ _. 0) (λ _ w. w ≡ after_entry m)
 accepts_step sizes n one id m r x y job is a = subst (λ (z : Sat). Allows (Keeps sizes) n id z 0 (λ _. 0) (λ _ w. w ≡ after_entry z)) (sym is)
     (λ s k homes me small. (
       lane_view m.0.about (lane_after (accepts r.number x.entries job) r),
@@ -175,25 +211,45 @@ accepts_step sizes n one id m r x y job is a = subst (λ (z : Sat). Allows (Keep
       ap (λ (o : Option QueuedJob). (lane_view m.0.about (record r { entries = r.entries ++ entry x.entries o ∷ [] }), [])) (sym (ap last_of a.jobs ∙ last-push x.jobs.items job)),
     ))
 
-pub fills_step : (sizes : Sizes) (n : ℕ) → n ≡ 1 → (id : ℕ) (m : Sat) (r : LaneRecord) (x y : Store) → IsLaneOut m r x y → Fills r x y → Allows (Keeps sizes) n id m 0 (λ _. 0) (λ _ w. w ≡ after_full_entry m)
+pub fills_step : (sizes : Sizes) (n : ℕ)
+    → n ≡ 1
+    → (id : ℕ) (m : Sat) (r : LaneRecord) (x y : Store)
+    → IsLaneOut m r x y
+    → Fills r x y
+    → Allows (Keeps sizes) n id m 0 (λ _. 0) (λ _ w. w ≡ after_full_entry m)
 fills_step sizes n one id m r x y is a = subst (λ (z : Sat). Allows (Keeps sizes) n id z 0 (λ _. 0) (λ _ w. w ≡ after_full_entry z)) (sym is)
     (λ s k homes me small. (lane_view m.0.about (lane_after (fills r.number x.entries) r), gives, tt, gives_full_entry sizes s k id m.0.about r x y me (homes ∙ one) a, refl))
 
-pub refuses_step : (sizes : Sizes) (n : ℕ) → n ≡ 1 → (id : ℕ) (m : Sat) (r : LaneRecord) (x y : Store) → IsLaneOut m r x y → x.closed ≡ true → Same x y → Allows (Keeps sizes) n id m 0 (λ _. 0) (λ _ w. w ≡ after_seen m)
+pub refuses_step : (sizes : Sizes) (n : ℕ)
+    → n ≡ 1
+    → (id : ℕ) (m : Sat) (r : LaneRecord) (x y : Store)
+    → IsLaneOut m r x y
+    → x.closed ≡ true
+    → Same x y
+    → Allows (Keeps sizes) n id m 0 (λ _. 0) (λ _ w. w ≡ after_seen m)
 refuses_step sizes n one id m r x y is shut a = subst (λ (z : Sat). Allows (Keeps sizes) n id z 0 (λ _. 0) (λ _ w. w ≡ after_seen z)) (sym is)
     (λ s k homes me small. (lane_view m.0.about (lane_after (finds_closed r.number x.entries) r), gives, tt, gives_seen sizes s k id m.0.about r x y me (homes ∙ one) shut a, refl))
 
 -- ---- the slot is given back by a pass
 
-module _ (sizes : Sizes) (s : St) (k : Keeps sizes s) (id : ℕ) (about : Sizes) (r : PassRecord) (x y : Store) (me : get_elem? s.views id ≡ some (view about [] (r ∷ []) [] (Some x))) (one_home : length s.homes ≡ 1) where
+module _ (sizes : Sizes) (s : St) (k : Keeps sizes s) (id : ℕ) (about : Sizes) (r : PassRecord)
+    (x y : Store) (me : get_elem? s.views id ≡ some (view about [] (r ∷ []) [] (Some x)))
+    (one_home : length s.homes ≡ 1) where
   pass_fits : Fits sizes k.history x
   pass_fits = k.cell.taken id (view about [] (r ∷ []) [] (Some x)) x me refl
 
   pass_mine : (r ≡ pass_part k.history r.number) × (r.number < sizes.passes)
   pass_mine = (k.passes.each id (view about [] (r ∷ []) [] (Some x)) me).0
 
-  gives_pass : (d : Deed) → is_by_pass d r.number ≡ true → ((j : ℕ) → j ≢ r.number → is_by_pass d j ≡ false) → ((l : ℕ) → is_by_lane d l ≡ false) → closed_at (d ∷ k.history) ≡ closed_at k.history
-      → (pass_after d r).number ≡ r.number → May sizes k.history d → Fits sizes (d ∷ k.history) y → Keeps sizes (stepped s 0 0 id ((0, y) ∷ []) (pass_view about (pass_after d r)) gives)
+  gives_pass : (d : Deed)
+      → is_by_pass d r.number ≡ true
+      → ((j : ℕ) → j ≢ r.number → is_by_pass d j ≡ false)
+      → ((l : ℕ) → is_by_lane d l ≡ false)
+      → closed_at (d ∷ k.history) ≡ closed_at k.history
+      → (pass_after d r).number ≡ r.number
+      → May sizes k.history d
+      → Fits sizes (d ∷ k.history) y
+      → Keeps sizes (stepped s 0 0 id ((0, y) ∷ []) (pass_view about (pass_after d r)) gives)
   gives_pass d own others no_lane same_close same_number may fits =
       let v : View = view about [] (r ∷ []) [] (Some x) in
       let w : View = pass_view about (pass_after d r) in
@@ -202,7 +258,10 @@ module _ (sizes : Sizes) (s : St) (k : Keeps sizes s) (id : ℕ) (about : Sizes)
       (steps passes_in pass_number s.views k.passes id v me (pass_part (d ∷ k.history)) w r (pass_after d r) refl refl same_number (pass_own d k.history r.number own ∙ ap (pass_after d) (sym pass_mine.0)) (λ j ne. pass_other d k.history j (others j ne)))
       (stays closers_in closer_number s.views k.closers id v me (closer_part (d ∷ k.history)) w refl (closer_same d k.history same_close))
 
-  pub gives_taken : (job : QueuedJob) → Hands x job y → Keeps sizes (stepped s 0 0 id ((0, y) ∷ []) (pass_view about (pass_after (takes_job r.number job) r)) gives)
+  pub gives_taken : (job : QueuedJob)
+      → Hands x job y
+      → Keeps sizes (stepped s 0 0 id ((0, y) ∷ [])
+      (pass_view about (pass_after (takes_job r.number job) r)) gives)
   gives_taken job a =
       let d : Deed = takes_job r.number job in
       let f = pass_fits in
@@ -218,7 +277,10 @@ module _ (sizes : Sizes) (s : St) (k : Keeps sizes s) (id : ℕ) (about : Sizes)
         capacity = a.mark.1 ∙ f.capacity;
       }
 
-  pub gives_reading : x.jobs.items ≡ [] → Same x y → Keeps sizes (stepped s 0 0 id ((0, y) ∷ []) (pass_view about (pass_after (finds_empty r.number x.entries x.closed) r)) gives)
+  pub gives_reading : x.jobs.items ≡ []
+      → Same x y
+      → Keeps sizes (stepped s 0 0 id ((0, y) ∷ [])
+      (pass_view about (pass_after (finds_empty r.number x.entries x.closed) r)) gives)
   gives_reading empty a =
       let d : Deed = finds_empty r.number x.entries x.closed in
       let f = pass_fits in
@@ -232,7 +294,12 @@ module _ (sizes : Sizes) (s : St) (k : Keeps sizes s) (id : ℕ) (about : Sizes)
         capacity = a.mark.1 ∙ f.capacity;
       }
 
-pub hands_step : (sizes : Sizes) (n : ℕ) → n ≡ 1 → (id : ℕ) (m : Sat) (r : PassRecord) (x y : Store) (job : QueuedJob) → IsPassOut m r x y → Hands x job y → Allows (Keeps sizes) n id m 0 (λ _. 0) (λ _ w. w ≡ after_taken m)
+pub hands_step : (sizes : Sizes) (n : ℕ)
+    → n ≡ 1
+    → (id : ℕ) (m : Sat) (r : PassRecord) (x y : Store) (job : QueuedJob)
+    → IsPassOut m r x y
+    → Hands x job y
+    → Allows (Keeps sizes) n id m 0 (λ _. 0) (λ _ w. w ≡ after_taken m)
 hands_step sizes n one id m r x y job is a = subst (λ (z : Sat). Allows (Keeps sizes) n id z 0 (λ _. 0) (λ _ w. w ≡ after_taken z)) (sym is)
     (λ s k homes me small. (
       pass_view m.0.about (pass_after (takes_job r.number job) r),
@@ -242,13 +309,24 @@ hands_step sizes n one id m r x y job is a = subst (λ (z : Sat). Allows (Keeps 
       ap (λ (js : List QueuedJob). (pass_view m.0.about (record r { taken = r.taken ++ js }), [])) (sym (ap front_of a.jobs)),
     ))
 
-pub reads_step : (sizes : Sizes) (n : ℕ) → n ≡ 1 → (id : ℕ) (m : Sat) (r : PassRecord) (x y : Store) → IsPassOut m r x y → x.jobs.items ≡ [] → Same x y → Allows (Keeps sizes) n id m 0 (λ _. 0) (λ _ w. w ≡ after_reading m)
+pub reads_step : (sizes : Sizes) (n : ℕ)
+    → n ≡ 1
+    → (id : ℕ) (m : Sat) (r : PassRecord) (x y : Store)
+    → IsPassOut m r x y
+    → x.jobs.items ≡ []
+    → Same x y
+    → Allows (Keeps sizes) n id m 0 (λ _. 0) (λ _ w. w ≡ after_reading m)
 reads_step sizes n one id m r x y is empty a = subst (λ (z : Sat). Allows (Keeps sizes) n id z 0 (λ _. 0) (λ _ w. w ≡ after_reading z)) (sym is)
     (λ s k homes me small. (pass_view m.0.about (pass_after (finds_empty r.number x.entries x.closed) r), gives, tt, gives_reading sizes s k id m.0.about r x y me (homes ∙ one) empty a, refl))
 
 -- ---- the slot is given back by the closer
 
-pub closes_step : (sizes : Sizes) (n : ℕ) → n ≡ 1 → (id : ℕ) (m : Sat) (x y : Store) → IsCloserOut m x y → Closes x y → Allows (Keeps sizes) n id m 0 (λ _. 0) (λ _ w. w ≡ after_close m)
+pub closes_step : (sizes : Sizes) (n : ℕ)
+    → n ≡ 1
+    → (id : ℕ) (m : Sat) (x y : Store)
+    → IsCloserOut m x y
+    → Closes x y
+    → Allows (Keeps sizes) n id m 0 (λ _. 0) (λ _ w. w ≡ after_close m)
 closes_step sizes n one id m x y is a = subst (λ (z : Sat). Allows (Keeps sizes) n id z 0 (λ _. 0) (λ _ w. w ≡ after_close z)) (sym is)
     (λ s k homes me small.
     let about = m.0.about in

@@ -1,11 +1,11 @@
-// What the callers of a locked line hold. None of it has a `Drop`: it is spent in the line's end.
+// The handles of a `LockedLine`. None of them can be dropped: they are consumed by the queue's end.
 ghost use Rattle.std.specs.Prelude.{◌≡◌, ℕ, [], ◌∷◌, None, Some, length};
 ghost use Rattle.line_locked.specs.Inner.View.{pass_view, closer_view};
 ghost use Rattle.line_locked.specs.Inner.Step.{IsLaneSeat, pass_in};
 
 use crate::store_lock::Seat;
 
-/// The right to hand in jobs by one lane of a `LockedLine`.
+/// The right to submit jobs of one lane to a `LockedLine`.
 pub struct LockedLane {
     pub(crate) seat: Seat,
     pub(crate) number: u32,
@@ -25,7 +25,7 @@ pub struct LockedCloser {
     ghost known: { seat.me ≡ (closer_view seat.me.0.about None, []) },
 }
 
-/// Shows that a `LockedLine` is closed.
+/// A token that shows that a `LockedLine` is closed.
 pub struct LockedNote {
     pub(crate) seat: Seat,
     pub(crate) number: u64,
@@ -35,14 +35,14 @@ pub struct LockedNote {
 impl LockedLane {
     ghost use Rattle.line_locked.specs.Inner.Handle.{lane_record};
 
-    /// The lane's number.
+    /// Returns the lane's number.
     pub fn number(&self) -> u32
         ensures { result ≡ (lane_record self.now).number }
     {
         self.number
     }
 
-    /// How many entries the lane has made.
+    /// Returns the number of entries that the lane has made.
     pub fn entry_count(&self) -> u64
         ensures { result ≡ length (lane_record self.now).entries }
     {
@@ -53,7 +53,7 @@ impl LockedLane {
 impl LockedNote {
     ghost use Rattle.line_locked.specs.Inner.Handle.{note_number};
 
-    /// The close number: how many entries came before the close.
+    /// Returns the close number: how many entries came before the close.
     pub fn number(&self) -> u64
         ensures { result ≡ note_number self.now }
     {

@@ -1,6 +1,7 @@
-//! A bounded queue of jobs under one lock (`LockedLine`), the plainest that meets the contract `JobLine`.
+//! A bounded queue of jobs under one lock (`LockedLine`), the plainest that meets the contract
+//! `JobLine`.
 //!
-//! A call takes the line's state, works on it alone, and gives it back.
+//! A call takes the queue's state, works on it alone, and gives it back.
 #![tactic(auto)]
 
 mod handle;

@@ -1,4 +1,4 @@
-// The locked line, and that it is a line of jobs.
+// `LockedLine`, and its calls, which meet the contract `JobLine`.
 ghost use Rattle.std.specs.Prelude.{◌≡◌, ◌≢◌, ℕ, ◌+◌, ◌-◌, ◌<◌, ◌≤◌, ◌++◌, [], ◌∷◌, List, Ok, Err, Some, None, IfOk, IfErr, map, length, slice_index};
 ghost use Rattle.std.specs.List.{All};
 ghost use Rattle.ghost_history.specs.Sums.{times};
@@ -17,7 +17,7 @@ use job_types::Job;
 use std::alloc::{AllocError, Global};
 use std::sync::Wait;
 
-/// A line of jobs under one lock.
+/// A queue of jobs under one lock.
 pub struct LockedLine {
     lock: StoreLock,
 }

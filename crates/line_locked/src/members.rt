@@ -1,4 +1,4 @@
-// The members of a locked line are made when it opens, and come together when it ends.
+// The members of a `LockedLine`: making them when it opens, collecting them when it ends.
 ghost use Rattle.std.specs.Prelude.{◌≡◌, ℕ, ◌<◌, ◌≤◌, ◌++◌, [], ◌∷◌, None, map, length};
 ghost use Rattle.std.specs.List.{All};
 ghost use Rattle.std.specs.Vec.{vec_capacity};
@@ -11,7 +11,7 @@ use crate::handle::{LockedLane, LockedPass};
 use crate::store_lock::{Seat, StoreLock};
 use std::collections::VecDeque;
 
-// Makes the lanes, of the first seat's records.
+// Makes the lanes from the records of the first seat.
 pub(crate) fn deal_lanes(
     lock: &StoreLock,
     seat: &mut Seat,
@@ -43,7 +43,7 @@ pub(crate) fn deal_lanes(
     lanes
 }
 
-// Makes the passes, once the lanes are made, and leaves the closer's record.
+// Makes the passes, after the lanes. Leaves the closer's record to the seat.
 pub(crate) fn deal_passes(
     lock: &StoreLock,
     seat: &mut Seat,
@@ -71,7 +71,7 @@ pub(crate) fn deal_passes(
     passes
 }
 
-// Takes in the records of the lanes.
+// Joins the records of the lanes to those of the seat.
 pub(crate) fn gather_lanes(lock: &StoreLock, seat: &mut Seat, lanes: Vec<LockedLane>)
     requires table { seat.old.table_id ≡ table_of lock.now }
     requires idle { IsIdle seat.old.me }
@@ -96,7 +96,7 @@ pub(crate) fn gather_lanes(lock: &StoreLock, seat: &mut Seat, lanes: Vec<LockedL
     lanes.destroy_empty();
 }
 
-// Takes in the records of the passes.
+// Joins the records of the passes to those of the seat.
 pub(crate) fn gather_passes(lock: &StoreLock, seat: &mut Seat, passes: Vec<LockedPass>)
     requires table { seat.old.table_id ≡ table_of lock.now }
     requires idle { IsIdle seat.old.me }

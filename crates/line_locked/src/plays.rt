@@ -1,4 +1,4 @@
-// The rule of a locked line's table, and the names of its steps.
+// The rule of a locked queue's table, and the names of its steps.
 ghost use Rattle.std.specs.Prelude.{◌≡◌};
 ghost use Rattle.line_locked.specs.Inner.View.{holding, first_view, without_lane, lane_alone, without_pass, pass_alone, joined, spent_view};
 ghost use Rattle.line_locked.specs.Inner.Rule.{Keeps};
@@ -60,7 +60,7 @@ impl Play<Store, View> for Shut {
     ghost then = { λ st before found after. after ≡ after_close before };
 }
 
-// One lane's record is dealt out.
+// The step that gives out the record of one lane.
 pub(crate) struct DealLane;
 
 impl Split<View> for DealLane {
@@ -69,7 +69,7 @@ impl Split<View> for DealLane {
     ghost right = { lane_alone };
 }
 
-// One pass's record is dealt out.
+// The step that gives out the record of one pass.
 pub(crate) struct DealPass;
 
 impl Split<View> for DealPass {
@@ -78,7 +78,7 @@ impl Split<View> for DealPass {
     ghost right = { pass_alone };
 }
 
-// The records of two seats come together.
+// The step that joins the records of two seats.
 pub(crate) struct Gather;
 
 impl Join<View> for Gather {

@@ -1,4 +1,4 @@
-// What a locked line holds, and the work on it: plain code, with no thread in sight.
+// The state of a `LockedLine`, and the work on it: sequential code.
 ghost use Rattle.std.specs.Prelude.{◌≡◌, ◌+◌, ◌<◌, ◌≤◌, ◌^◌, IfOk, length, slice_index, MatchOption, true, false};
 ghost use Rattle.std.specs.VecDeque.{deque_capacity};
 
@@ -7,7 +7,7 @@ use job_types::{Job, JobId};
 use std::alloc::{AllocError, Global};
 use std::collections::VecDeque;
 
-// The state of the line: its jobs, the count of its entries, its closed mark and the number of
+// The state of the queue: its jobs, the count of its entries, its closed mark, and the number of
 // accepted jobs of each lane.
 #[derive(Drop)]
 pub(crate) struct Store {
@@ -19,13 +19,15 @@ pub(crate) struct Store {
     ghost room: { capacity ≤ deque_capacity jobs },
 }
 
-// A push of this call found the line full. Only `Store::push` makes it, and it has no `Drop`.
+// A token of a push that found the queue full. Only `Store::push` makes it, and it cannot be
+// dropped.
 pub(crate) struct SawFull(());
 
-// A pop of this call found the line empty. Only `Store::pop` makes it, and it has no `Drop`.
+// A token of a pop that found the queue empty. Only `Store::pop` makes it, and it cannot be
+// dropped.
 pub(crate) struct SawEmpty(());
 
-/// Shows that a `LockedLine` has ended: it was closed when a pop of this call found it empty.
+/// A token that shows that a `LockedLine` has ended: it was closed when a pop found it empty.
 #[derive(Debug, Drop)]
 pub struct LockedEnd(());
 
@@ -56,7 +58,7 @@ impl Store {
         })
     }
 
-    // One entry, by which the job comes in unless the line is full.
+    // Makes an entry. Its job comes in unless the queue is full.
     pub(crate) fn push(&mut self, lane: u32, job: Job) -> Result<Receipt, (Job, SawFull)>
         requires lane { lane < length self.old.accepted.items }
         requires entries { self.old.entries + 1 < 2 ^ 64 }
@@ -75,7 +77,7 @@ impl Store {
         Ok(Receipt { id, number })
     }
 
-    // The job at the front.
+    // Takes the job at the front.
     pub(crate) fn pop(&mut self) -> Result<QueuedJob, SawEmpty>
         ensures { Pops self.old result self.new }
     {
@@ -85,7 +87,7 @@ impl Store {
         }
     }
 
-    // Sets the closed mark, and answers the count of entries.
+    // Sets the closed mark. Returns the count of entries.
     pub(crate) fn shut(&mut self) -> u64
         ensures { Shuts self.old result self.new }
     {
@@ -93,7 +95,7 @@ impl Store {
         self.entries
     }
 
-    // The count of entries, where the closed mark stands.
+    // Returns the count of entries if the queue is closed.
     pub(crate) fn closed_at(&self) -> Option<u64>
         ensures { MatchOption result (self.now.closed ≡ false) (λ n.
             (self.now.closed ≡ true) × (n ≡ self.now.entries)) }
@@ -104,7 +106,7 @@ impl Store {
             None
         }
     }
-    // The end, where the closed mark stands beside a failed pop.
+    // Returns the end if a pop has found the queue empty and it is closed.
     pub(crate) fn find_end(&self, _saw: &SawEmpty) -> Option<LockedEnd>
         ensures { MatchOption result (self.now.closed ≡ false) (λ _. self.now.closed ≡ true) }
     {

@@ -1,8 +1,8 @@
-// The lock of a line. Its state lies in a cell. A call takes it and gives it back, and as it does so the
-// record of its lane or pass gains what the call did.
+// The lock of a queue. Its state is in a cell. A call takes it and gives it back, and by that step
+// the record of its lane or pass gains what the call did.
 //
-// Only these stores change a record, and those that say that the line was full or empty take the
-// token of the push or pop that found it so.
+// Only these steps change a record. Those that record a full or empty queue consume the token of
+// the push or pop that found it so.
 ghost use Rattle.std.specs.Prelude.{◌≡◌, ℕ, ◌+◌, ◌<◌, ◌≤◌, ◌^◌, [], ◌∷◌, true, false, IfOk, MatchOption, length, slice_index};
 ghost use Rattle.job_queue.specs.declared.job_line.Sizes.{Sizes as LineSizes};
 ghost use Rattle.line_locked.specs.declared.store.Store.{Store as State};
@@ -25,6 +25,7 @@ use std::sync::Wait;
 
 pub(crate) type Seat = atomic_table::Seat<Store, View>;
 
+/// The lock of a queue, with its state.
 #[derive(Drop)]
 pub(crate) struct StoreLock {
     cell: LockedCell<Store, View, Sizes, LineRule>,
@@ -33,7 +34,7 @@ pub(crate) struct StoreLock {
 impl StoreLock {
     ghost use Rattle.line_locked.specs.Inner.Handle.{table_of, sizes_of};
 
-    // A lock with an empty state, and the seat that has the records of all members.
+    // Makes a lock with an empty state, and the seat that has the records of all members.
     pub fn new(alloc: Global, sizes: Sizes) -> Result<(StoreLock, Seat), AllocError>
         requires { sizes.lanes ≤ MAX_LANES }
         ensures sizes { IfOk result (λ made. sizes_of made.0 ≡ sizes) }
@@ -45,7 +46,7 @@ impl StoreLock {
         Ok((StoreLock { cell }, seat))
     }
 
-    // A seat with the record of one lane of those that `seat` has, the first.
+    // Splits off a seat with the record of the first lane that `seat` has.
     pub fn deal_lane(&self, seat: &mut Seat) -> Seat
         requires table { seat.old.table_id ≡ table_of self.now }
         requires idle { IsIdle seat.old.me }
@@ -57,7 +58,7 @@ impl StoreLock {
         self.cell.deal::<DealLane>(seat)
     }
 
-    // A seat with the record of one pass of those that `seat` has, the first.
+    // Splits off a seat with the record of the first pass that `seat` has.
     pub fn deal_pass(&self, seat: &mut Seat) -> Seat
         requires table { seat.old.table_id ≡ table_of self.now }
         requires idle { IsIdle seat.old.me }
@@ -69,7 +70,7 @@ impl StoreLock {
         self.cell.deal::<DealPass>(seat)
     }
 
-    // Takes in the records of another seat.
+    // Joins the records of another seat to those of `seat`.
     pub fn gather(&self, seat: &mut Seat, other: Seat)
         requires tables { (seat.old.table_id ≡ table_of self.now)
             × (other.table_id ≡ table_of self.now) }
@@ -80,7 +81,7 @@ impl StoreLock {
         self.cell.gather::<Gather>(seat, other);
     }
 
-    // Takes the state, and waits while another seat has it.
+    // Takes the state. Waits while another seat has it.
     pub fn enter<R: Wait>(&self, rt: &R, seat: &mut Seat)
         requires table { seat.old.table_id ≡ table_of self.now }
         requires idle { IsIdle seat.old.me }
@@ -90,8 +91,7 @@ impl StoreLock {
         self.cell.enter(rt, seat);
     }
 
-    // Work on the state that the seat has taken.
-
+    // Returns the count of entries if the state that the seat has taken is closed.
     pub fn closed_at(&self, seat: &mut Seat) -> Option<u64>
         requires table { seat.old.table_id ≡ table_of self.now }
         requires held { (x : State) × (seat.old.me.1 ≡ (0, x) ∷ []) }
@@ -103,6 +103,7 @@ impl StoreLock {
         seat.slot_mut(&self.cell.table.shared, 0).closed_at()
     }
 
+    // Returns the end if a pop has found the state empty and it is closed.
     pub fn find_end(&self, seat: &mut Seat, saw: &SawEmpty) -> Option<LockedEnd>
         requires table { seat.old.table_id ≡ table_of self.now }
         requires held { (x : State) × (seat.old.me.1 ≡ (0, x) ∷ []) }
@@ -114,6 +115,7 @@ impl StoreLock {
         seat.slot_mut(&self.cell.table.shared, 0).find_end(saw)
     }
 
+    // Makes an entry in the state that the seat has taken.
     pub fn push(&self, seat: &mut Seat, lane: u32, job: Job) -> Result<Receipt, (Job, SawFull)>
         requires table { seat.old.table_id ≡ table_of self.now }
         requires held { (x : State) × (seat.old.me.1 ≡ (0, x) ∷ [])
@@ -126,6 +128,7 @@ impl StoreLock {
         seat.slot_mut(&self.cell.table.shared, 0).push(lane, job)
     }
 
+    // Takes the job at the front of the state that the seat has taken.
     pub fn pop(&self, seat: &mut Seat) -> Result<QueuedJob, SawEmpty>
         requires table { seat.old.table_id ≡ table_of self.now }
         requires held { (x : State) × (seat.old.me.1 ≡ (0, x) ∷ []) }
@@ -136,6 +139,7 @@ impl StoreLock {
         seat.slot_mut(&self.cell.table.shared, 0).pop()
     }
 
+    // Sets the closed mark in the state that the seat has taken. Returns the count of entries.
     pub fn shut(&self, seat: &mut Seat) -> u64
         requires table { seat.old.table_id ≡ table_of self.now }
         requires held { (x : State) × (seat.old.me.1 ≡ (0, x) ∷ []) }
@@ -146,8 +150,7 @@ impl StoreLock {
         seat.slot_mut(&self.cell.table.shared, 0).shut()
     }
 
-    // The state is given back, and the record of the seat's member gains what the call did.
-
+    // Gives the state back. The lane's record gains an entry with the job that came in.
     pub fn accept(&self, seat: &mut Seat)
         requires table { seat.old.table_id ≡ table_of self.now }
         requires ready { (r : LaneRecord) × (x : State) × (y : State) × (job : Queued)
@@ -158,6 +161,7 @@ impl StoreLock {
         self.cell.give_back::<Accept>(seat);
     }
 
+    // Gives the state back. The lane's record gains an entry without a job.
     pub fn fill(&self, seat: &mut Seat, saw: SawFull)
         requires table { seat.old.table_id ≡ table_of self.now }
         requires ready { (r : LaneRecord) × (x : State) × (y : State)
@@ -169,6 +173,7 @@ impl StoreLock {
         self.cell.give_back::<Fill>(seat);
     }
 
+    // Gives the state back. The lane's record gains the count of a closed queue.
     pub fn refuse(&self, seat: &mut Seat)
         requires table { seat.old.table_id ≡ table_of self.now }
         requires ready { (r : LaneRecord) × (x : State) × (y : State)
@@ -179,6 +184,7 @@ impl StoreLock {
         self.cell.give_back::<Refuse>(seat);
     }
 
+    // Gives the state back. The pass's record gains the job that it took.
     pub fn hand_over(&self, seat: &mut Seat)
         requires table { seat.old.table_id ≡ table_of self.now }
         requires ready { (r : PassRecord) × (x : State) × (y : State) × (job : Queued)
@@ -189,6 +195,7 @@ impl StoreLock {
         self.cell.give_back::<Hand>(seat);
     }
 
+    // Gives the state back. The pass's record gains a reading of the empty queue.
     pub fn read(&self, seat: &mut Seat, saw: SawEmpty)
         requires table { seat.old.table_id ≡ table_of self.now }
         requires ready { (r : PassRecord) × (x : State) × (y : State)
@@ -200,6 +207,7 @@ impl StoreLock {
         self.cell.give_back::<Read>(seat);
     }
 
+    // Gives the state back. The closer's record gains the close.
     pub fn close(&self, seat: &mut Seat)
         requires table { seat.old.table_id ≡ table_of self.now }
         requires ready { (x : State) × (y : State) × IsCloserOut seat.old.me x y × Closes x y }
@@ -209,7 +217,7 @@ impl StoreLock {
         self.cell.give_back::<Shut>(seat);
     }
 
-    // The state, once one seat has the records of all members.
+    // Returns the state. The seat must have the records of all members.
     pub fn end(self, seat: Seat) -> Store
         requires table { seat.table_id ≡ table_of self }
         requires whole { (number : ℕ) × (seat.me.1 ≡ [])

@@ -1,4 +1,4 @@
--- Views are dealt out of the first, and come together again.
+-- Views are split off the first view, and joined again.
 use Rattle.std.proofs.Common.{◌≡◌, ◌≢◌, ℕ, zero, suc, ◌+◌, ◌-◌, ◌<◌, ⊎_elim, List, [], ◌∷◌, ◌++◌, length, append_assoc, set, sym, refl, ap, ◌∙◌, subst, arith}
 use Rattle.std.proofs.lemmas.List.{append-nil}
 use Rattle.std.specs.List.{AllByRecursion}
@@ -24,39 +24,53 @@ use Rattle.line_ring.proofs.EndLemmas.{runs_to}
 
 -- ---- a list is cut
 
-cut-all : {A : Type 0} (P : A → Type 0) (xs ys : List A) → AllByRecursion P (xs ++ ys) → AllByRecursion P (rest_of xs ++ ys) × AllByRecursion P (first_of xs)
+cut-all : {A : Type 0} (P : A → Type 0) (xs ys : List A)
+    → AllByRecursion P (xs ++ ys)
+    → AllByRecursion P (rest_of xs ++ ys) × AllByRecursion P (first_of xs)
 cut-all P [] ys all = (all, tt)
 cut-all P (x ∷ xs) ys all = (all.1, (all.0, tt))
 
-cut-total : {A : Type 0} (f : A → ℕ) (xs ys : List A) → total f (rest_of xs ++ ys) + total f (first_of xs) ≡ total f (xs ++ ys)
+cut-total : {A : Type 0} (f : A → ℕ) (xs ys : List A)
+    → total f (rest_of xs ++ ys) + total f (first_of xs) ≡ total f (xs ++ ys)
 cut-total f [] ys = omega arith
 cut-total f (x ∷ xs) ys = omega arith
 
-cut-length : {A : Type 0} (xs ys : List A) → length (rest_of xs ++ ys) + length (first_of xs) ≡ length (xs ++ ys)
+cut-length : {A : Type 0} (xs ys : List A)
+    → length (rest_of xs ++ ys) + length (first_of xs) ≡ length (xs ++ ys)
 cut-length [] ys = omega arith
 cut-length (x ∷ xs) ys = omega arith
 
 -- ---- fresh records
 
 module _ {T : Type 0} where
-  -- what a fresh record weighs, all fresh records do
-  pub fresh_lanes_weigh : (f : LaneRecord T → ℕ) → ((number : ℕ) → f (record { number = number; accepted = [] }) ≡ 0) → (first count : ℕ) → total f (lanes_from first count) ≡ 0
+  -- If a fresh record weighs nothing, neither do several.
+  pub fresh_lanes_weigh : (f : LaneRecord T → ℕ)
+      → ((number : ℕ) → f (record { number = number; accepted = [] }) ≡ 0)
+      → (first count : ℕ)
+      → total f (lanes_from first count) ≡ 0
   fresh_lanes_weigh f none first zero = refl
   fresh_lanes_weigh f none first (suc count) = omega (arith, none first, fresh_lanes_weigh f none (first + 1) count)
 
-  pub fresh_passes_weigh : (f : PassRecord T → ℕ) → ((number : ℕ) → f (record { number = number; taken = [] }) ≡ 0) → (first count : ℕ) → total f (passes_from first count) ≡ 0
+  pub fresh_passes_weigh : (f : PassRecord T → ℕ)
+      → ((number : ℕ) → f (record { number = number; taken = [] }) ≡ 0)
+      → (first count : ℕ)
+      → total f (passes_from first count) ≡ 0
   fresh_passes_weigh f none first zero = refl
   fresh_passes_weigh f none first (suc count) = omega (arith, none first, fresh_passes_weigh f none (first + 1) count)
 
-  -- the first view, once it is for the machine
+  -- The first view of a ring for this machine.
   abbrev pub whole_view : ℕ → View T
   whole_view machine = view machine (lanes_from 0 MAX_LANES) [] (passes_from 0 MAX_PASSES) [] (rest_record [] ∷ [])
 
   is_whole : (machine : ℕ) → IsWhole (whole_view machine)
   is_whole machine = record { lanes = refl; passes = refl; rests = refl }
 
-  -- one lane more is dealt, or one pass
-  pub lane_dealt : (lanes passes : ℕ) (v w : View T) → IsEndView lanes passes v → lanes < MAX_LANES → w ≡ without_lane v → IsEndView (lanes + 1) passes w
+  -- One more lane, or pass, is given out.
+  pub lane_dealt : (lanes passes : ℕ) (v w : View T)
+      → IsEndView lanes passes v
+      → lanes < MAX_LANES
+      → w ≡ without_lane v
+      → IsEndView (lanes + 1) passes w
   lane_dealt lanes passes v w is few dealt =
       let one_more : MAX_LANES - lanes ≡ suc (MAX_LANES - (lanes + 1)) = omega (arith, few) in
       subst (IsEndView (lanes + 1) passes) (sym dealt) (record {
@@ -67,7 +81,11 @@ module _ {T : Type 0} where
         rests = is.rests;
       })
 
-  pub pass_dealt : (lanes passes : ℕ) (v w : View T) → IsEndView lanes passes v → passes < MAX_PASSES → w ≡ without_pass v → IsEndView lanes (passes + 1) w
+  pub pass_dealt : (lanes passes : ℕ) (v w : View T)
+      → IsEndView lanes passes v
+      → passes < MAX_PASSES
+      → w ≡ without_pass v
+      → IsEndView lanes (passes + 1) w
   pass_dealt lanes passes v w is few dealt =
       let one_more : MAX_PASSES - passes ≡ suc (MAX_PASSES - (passes + 1)) = omega (arith, few) in
       subst (IsEndView lanes (passes + 1)) (sym dealt) (record {
@@ -102,15 +120,29 @@ module _ {T : Type 0} (lane_of seq_of : T → ℕ) (is_for : ℕ → T → Type 
 
   -- ---- a view is cut
 
-  module _ (items : List T) (views : List (View T)) (k : K items views) (id : ℕ) (v left right : View T) (me : get_elem? views id ≡ some v) where
-    cuts : left.machine ≡ v.machine → right.machine ≡ v.machine → members left + members right ≡ members v
+  module _ (items : List T) (views : List (View T)) (k : K items views) (id : ℕ)
+      (v left right : View T) (me : get_elem? views id ≡ some v) where
+    cuts : left.machine ≡ v.machine
+        → right.machine ≡ v.machine
+        → members left + members right ≡ members v
         → (AllByRecursion (True lanes_in lane_number MAX_LANES (lane_part k.history)) (lanes_in v)
-        → AllByRecursion (True lanes_in lane_number MAX_LANES (lane_part k.history)) (lanes_in left) × AllByRecursion (True lanes_in lane_number MAX_LANES (lane_part k.history)) (lanes_in right))
-        → (AllByRecursion (True passes_in pass_number MAX_PASSES (pass_part k.history)) (passes_in v)
-        → AllByRecursion (True passes_in pass_number MAX_PASSES (pass_part k.history)) (passes_in left) × AllByRecursion (True passes_in pass_number MAX_PASSES (pass_part k.history)) (passes_in right))
-        → ((n : ℕ) → total (λ r. is_at n (lane_number r)) (lanes_in left) + total (λ r. is_at n (lane_number r)) (lanes_in right) ≡ total (λ r. is_at n (lane_number r)) (lanes_in v))
-        → ((n : ℕ) → total (λ r. is_at n (pass_number r)) (passes_in left) + total (λ r. is_at n (pass_number r)) (passes_in right) ≡ total (λ r. is_at n (pass_number r)) (passes_in v))
-        → left.rests ≡ v.rests → right.rests ≡ [] → K items (set views id left ++ right ∷ [])
+        → AllByRecursion (True lanes_in lane_number MAX_LANES (lane_part k.history))
+        (lanes_in left) × AllByRecursion
+        (True lanes_in lane_number MAX_LANES (lane_part k.history)) (lanes_in right))
+        → (AllByRecursion (True passes_in pass_number MAX_PASSES (pass_part k.history))
+        (passes_in v) → AllByRecursion (True passes_in pass_number MAX_PASSES
+        (pass_part k.history)) (passes_in left)
+        × AllByRecursion (True passes_in pass_number MAX_PASSES (pass_part k.history))
+        (passes_in right))
+        → ((n : ℕ) → total (λ r. is_at n (lane_number r)) (lanes_in left) + total
+        (λ r. is_at n (lane_number r)) (lanes_in right)
+        ≡ total (λ r. is_at n (lane_number r)) (lanes_in v))
+        → ((n : ℕ) → total (λ r. is_at n (pass_number r)) (passes_in left) + total
+        (λ r. is_at n (pass_number r)) (passes_in right)
+        ≡ total (λ r. is_at n (pass_number r)) (passes_in v))
+        → left.rests ≡ v.rests
+        → right.rests ≡ []
+        → K items (set views id left ++ right ∷ [])
     cuts left_machine right_machine sums lanes passes lane_sums pass_sums left_rests right_rests =
         let rests_true = True rests_in rest_number 1 (rest_part k.history) in
         record {
@@ -167,9 +199,12 @@ module _ {T : Type 0} (lane_of seq_of : T → ℕ) (is_for : ℕ → T → Type 
             (at_snoc (set views id left) empty_view u j there);
       }
 
-  -- ---- two views come together
+  -- ---- two views are joined
 
-  gathers_here : (id : ℕ) (v : View T) (other m : ℕ) (ls : List (LaneRecord T)) (ps : List (PassRecord T)) → 0 < members v → Merges K id v other (view m [] ls [] ps []) (joined v (view m [] ls [] ps [])) empty_view
+  gathers_here : (id : ℕ) (v : View T) (other m : ℕ) (ls : List (LaneRecord T))
+      (ps : List (PassRecord T))
+      → 0 < members v
+      → Merges K id v other (view m [] ls [] ps []) (joined v (view m [] ls [] ps [])) empty_view
   gathers_here id v other m ls ps member items views k me apart there =
       let w : View T = view m [] ls [] ps [] in
       let both : View T = joined v w in
@@ -185,5 +220,8 @@ module _ {T : Type 0} (lane_of seq_of : T → ℕ) (is_for : ℕ → T → Type 
         about = in_joined (λ u. 0 < members u → u.machine ≡ k.machine) views id other both empty_view (λ _. k.about id v me member) (λ has. absurd (omega (arith, has))) k.about;
       }
 
-  pub gathers : (id : ℕ) (v : View T) (other : ℕ) (w : View T) → 0 < members v → w ≡ view w.machine [] w.lanes [] w.passes [] → Merges K id v other w (joined v w) empty_view
+  pub gathers : (id : ℕ) (v : View T) (other : ℕ) (w : View T)
+      → 0 < members v
+      → w ≡ view w.machine [] w.lanes [] w.passes []
+      → Merges K id v other w (joined v w) empty_view
   gathers id v other w member is = subst (λ (u : View T). Merges K id v other u (joined v u) empty_view) (sym is) (gathers_here id v other w.machine w.lanes w.passes member)

@@ -25,15 +25,22 @@ use Rattle.line_ring.proofs.HistoryLemmas.{lane_other, pass_other}
 use Rattle.line_ring.proofs.ListLemmas.{count_pieces, rises-front, rises-both}
 use Rattle.line_ring.proofs.DealLemmas.{fresh_lanes_weigh, fresh_passes_weigh}
 
-all_and : {A : Type 0} (P Q : A → Type 0) (xs : List A) → AllByRecursion P xs → AllByRecursion Q xs → AllByRecursion (λ x. P x × Q x) xs
+all_and : {A : Type 0} (P Q : A → Type 0) (xs : List A)
+    → AllByRecursion P xs
+    → AllByRecursion Q xs
+    → AllByRecursion (λ x. P x × Q x) xs
 all_and P Q [] left right = tt
 all_and P Q (x ∷ xs) left right = ((left.0, right.0), all_and P Q xs left.1 right.1)
 
-all_front : {A : Type 0} (P : A → Type 0) (xs ys : List A) → AllByRecursion P (xs ++ ys) → AllByRecursion P xs
+all_front : {A : Type 0} (P : A → Type 0) (xs ys : List A)
+    → AllByRecursion P (xs ++ ys)
+    → AllByRecursion P xs
 all_front P [] ys all = tt
 all_front P (x ∷ xs) ys all = (all.0, all_front P xs ys all.1)
 
-all_back : {A : Type 0} (P : A → Type 0) (xs ys : List A) → AllByRecursion P (xs ++ ys) → AllByRecursion P ys
+all_back : {A : Type 0} (P : A → Type 0) (xs ys : List A)
+    → AllByRecursion P (xs ++ ys)
+    → AllByRecursion P ys
 all_back P [] ys all = all
 all_back P (x ∷ xs) ys all = all_back P xs ys all.1
 
@@ -42,22 +49,26 @@ nothing [] none = refl
 nothing (x ∷ xs) none = absurd (omega arith)
 
 module _ {T : Type 0} where
-  -- the view of the end, once these pieces have come out
+  -- The view of the end after these pieces came out.
   abbrev pub with_rest : View T → List T → View T
   with_rest v out = view v.machine v.spare_lanes v.lanes v.spare_passes v.passes (rest_record out ∷ [])
 
   pub begins_with : (lanes passes : ℕ) (v : View T) → IsEndView lanes passes v → v ≡ with_rest v []
   begins_with lanes passes v is = ap (λ (rs : List (RestRecord T)). view v.machine v.spare_lanes v.lanes v.spare_passes v.passes rs) is.rests
 
-  -- as many lanes and passes have come back as were dealt, so the view has all
-  pub all_are_here : (lanes passes : ℕ) (v : View T) (out : List T) → IsEndView lanes passes v → length v.lanes ≡ lanes → length v.passes ≡ passes → IsWhole (with_rest v out)
+  -- As many lanes and passes have come back as were given out, so the view has all.
+  pub all_are_here : (lanes passes : ℕ) (v : View T) (out : List T)
+      → IsEndView lanes passes v
+      → length v.lanes ≡ lanes
+      → length v.passes ≡ passes
+      → IsWhole (with_rest v out)
   all_are_here lanes passes v out is lanes_back passes_back = record {
     lanes = omega (arith, length-append v.spare_lanes v.lanes, ap length is.spare_lanes, fresh-count (fresh_lane {T = T}) lanes (MAX_LANES - lanes), is.few_lanes, lanes_back);
     passes = omega (arith, length-append v.spare_passes v.passes, ap length is.spare_passes, fresh-count (fresh_pass {T = T}) passes (MAX_PASSES - passes), is.few_passes, passes_back);
     rests = refl;
   }
 
-  -- The view of the end, to which all lanes and passes have come back, beside what contracts see of the end.
+  -- The view of the end after all lanes and passes came back, with what contracts see of the end.
   pub record IsLast (end : EndOf T) (v : View T) : Type 0 where
     pub known : IsEndView end.dealt_lanes end.dealt_passes v
     pub machine : v.machine ≡ end.ring.machine
@@ -66,8 +77,14 @@ module _ {T : Type 0} where
     pub all_lanes : length v.lanes ≡ end.dealt_lanes
     pub all_passes : length v.passes ≡ end.dealt_passes
 
-  pub is_last : (ring : RingId) (lanes passes : ℕ) (v u : View T) (end : EndOf T) → end_of ring lanes passes v ≡ end → v.machine ≡ ring.machine → u ≡ v → IsEndView lanes passes v
-      → length end.back_lanes ≡ end.dealt_lanes → length end.back_passes ≡ end.dealt_passes → IsLast end u
+  pub is_last : (ring : RingId) (lanes passes : ℕ) (v u : View T) (end : EndOf T)
+      → end_of ring lanes passes v ≡ end
+      → v.machine ≡ ring.machine
+      → u ≡ v
+      → IsEndView lanes passes v
+      → length end.back_lanes ≡ end.dealt_lanes
+      → length end.back_passes ≡ end.dealt_passes
+      → IsLast end u
   is_last ring lanes passes v u end is machine same known all_lanes all_passes =
       let back : v.lanes ≡ end.back_lanes = ap (λ (e : EndOf T). e.back_lanes) is in
       let back_passes : v.passes ≡ end.back_passes = ap (λ (e : EndOf T). e.back_passes) is in
@@ -80,10 +97,13 @@ module _ {T : Type 0} where
         all_passes = ap length back_passes ∙ all_passes;
       })
 
-  pub all_in : (end : EndOf T) (v u : View T) (out : List T) → IsLast end v → u ≡ with_rest v out → IsWhole u
+  pub all_in : (end : EndOf T) (v u : View T) (out : List T)
+      → IsLast end v
+      → u ≡ with_rest v out
+      → IsWhole u
   all_in end v u out last is = subst IsWhole (sym is) (all_are_here end.dealt_lanes end.dealt_passes v out last.known last.all_lanes last.all_passes)
 
-  -- how many pieces the lanes put in, and how many the passes took
+  -- The number of pieces that the lanes put in, and that the passes took.
   abbrev put_in : View T → ℕ
   put_in v = total (λ l. total (λ (x : T). 1) l.accepted) (lanes_in v)
 
@@ -91,7 +111,7 @@ module _ {T : Type 0} where
   taken_out v = total (λ p. total (λ (x : T). 1) p.taken) (passes_in v)
 
 module _ {T : Type 0} (lane_of seq_of : T → ℕ) (is_for : ℕ → T → Type 0) where
-  -- The view was v₀, and is v now that these pieces have come out.
+  -- The view was `v₀`, and is `v` after these pieces came out.
   pub record Drained (capacity : ℕ) (v₀ v : View T) (out : List T) : Type 0 where
     pub is : v ≡ with_rest v₀ out
     pub fits : length out ≤ capacity
@@ -99,7 +119,11 @@ module _ {T : Type 0} (lane_of seq_of : T → ℕ) (is_for : ℕ → T → Type 
     pub rises : AllByRecursion (λ p. Rises lane_of seq_of (p.taken ++ out)) (passes_in v₀)
     pub made_for : AllByRecursion (is_for v₀.machine) out
 
-  begins_here : (capacity count : ℕ) (v : View T) → v ≡ with_rest v [] → count ≤ capacity → Held count (RunsTo lane_of seq_of v) → Drained capacity v v []
+  begins_here : (capacity count : ℕ) (v : View T)
+      → v ≡ with_rest v []
+      → count ≤ capacity
+      → Held count (RunsTo lane_of seq_of v)
+      → Drained capacity v v []
   begins_here capacity count v fresh few held =
       let items = held.0 in
       let run = held.2 in
@@ -112,20 +136,35 @@ module _ {T : Type 0} (lane_of seq_of : T → ℕ) (is_for : ℕ → T → Type 
         made_for = tt;
       }
 
-  pub begins : (capacity count : ℕ) (u v : View T) (out : List T) → v ≡ with_rest v [] → v ≡ u → out ≡ [] → count ≤ capacity → Held count (RunsTo lane_of seq_of u) → Drained capacity v v out
+  pub begins : (capacity count : ℕ) (u v : View T) (out : List T)
+      → v ≡ with_rest v []
+      → v ≡ u
+      → out ≡ []
+      → count ≤ capacity
+      → Held count (RunsTo lane_of seq_of u)
+      → Drained capacity v v out
   begins capacity count u v out fresh same none few held =
       subst (λ (xs : List T). Drained capacity v v xs) (sym none) (begins_here capacity count v fresh few (subst (λ (z : View T). Held count (RunsTo lane_of seq_of z)) (sym same) held))
 
-  -- what was at the front when this piece came out
-  drained_run : (capacity : ℕ) (v₀ v w : View T) (out : List T) (x : T) → Drained capacity v₀ v out → Drains lane_of seq_of is_for v x w → (items : List T) × RunsTo lane_of seq_of (with_rest v₀ out) (x ∷ items)
+  -- What the ring held when this piece came out at its front.
+  drained_run : (capacity : ℕ) (v₀ v w : View T) (out : List T) (x : T)
+      → Drained capacity v₀ v out
+      → Drains lane_of seq_of is_for v x w
+      → (items : List T) × RunsTo lane_of seq_of (with_rest v₀ out) (x ∷ items)
   drained_run capacity v₀ v w out x drained step = (step.2.0, subst (λ (u : View T). RunsTo lane_of seq_of u (x ∷ step.2.0)) drained.is step.2.1)
 
-  pub has_room : (capacity : ℕ) (v₀ v w : View T) (out : List T) (x : T) → Drained capacity v₀ v out → Drains lane_of seq_of is_for v x w → length out < capacity
+  pub has_room : (capacity : ℕ) (v₀ v w : View T) (out : List T) (x : T)
+      → Drained capacity v₀ v out
+      → Drains lane_of seq_of is_for v x w
+      → length out < capacity
   has_room capacity v₀ v w out x drained step =
       let run = drained_run capacity v₀ v w out x drained step in
       omega (arith, run.1.balance (λ _. 1), count_pieces out, drained.held)
 
-  drains_here : (capacity : ℕ) (v₀ v w : View T) (out : List T) (x : T) → Drained capacity v₀ v out → Drains lane_of seq_of is_for v x w → Drained capacity v₀ w (out ++ x ∷ [])
+  drains_here : (capacity : ℕ) (v₀ v w : View T) (out : List T) (x : T)
+      → Drained capacity v₀ v out
+      → Drains lane_of seq_of is_for v x w
+      → Drained capacity v₀ w (out ++ x ∷ [])
   drains_here capacity v₀ v w out x drained step =
       let items = (drained_run capacity v₀ v w out x drained step).0 in
       let run = (drained_run capacity v₀ v w out x drained step).1 in
@@ -139,68 +178,109 @@ module _ {T : Type 0} (lane_of seq_of : T → ℕ) (is_for : ℕ → T → Type 
         made_for = all_append (is_for v₀.machine) out (x ∷ []) drained.made_for (subst (λ (u : View T). is_for u.machine x) drained.is step.1, tt);
       }
 
-  pub drains_on : (capacity : ℕ) (v₀ v w : View T) (out new : List T) (x : T) → new ≡ out ++ x ∷ [] → Drained capacity v₀ v out → Drains lane_of seq_of is_for v x w → Drained capacity v₀ w new
+  pub drains_on : (capacity : ℕ) (v₀ v w : View T) (out new : List T) (x : T)
+      → new ≡ out ++ x ∷ []
+      → Drained capacity v₀ v out
+      → Drains lane_of seq_of is_for v x w
+      → Drained capacity v₀ w new
   drains_on capacity v₀ v w out new x more drained step = subst (λ (xs : List T). Drained capacity v₀ w xs) (sym more) (drains_here capacity v₀ v w out x drained step)
 
-  -- ---- lanes and passes that were not dealt
+  -- ---- lanes and passes that were not given out
 
-  spare_lane : (h : List (Deed T)) (first count k : ℕ) → AllByRecursion (λ l. l ≡ lane_part h l.number) (lanes_from first count) → first ≤ k → k < first + count → lane_part h k ≡ fresh_lane k
+  spare_lane : (h : List (Deed T)) (first count k : ℕ)
+      → AllByRecursion (λ l. l ≡ lane_part h l.number) (lanes_from first count)
+      → first ≤ k
+      → k < first + count
+      → lane_part h k ≡ fresh_lane k
   spare_lane h first zero k all low high = absurd (omega arith)
   spare_lane h first (suc count) k all low high =
       dite (ℕ_discrete first k)
       (λ here. subst (λ (n : ℕ). lane_part h n ≡ fresh_lane n) here (sym all.0))
       (λ later. spare_lane h (first + 1) count k all.1 (omega arith) (omega arith))
 
-  spare_pass : (h : List (Deed T)) (first count k : ℕ) → AllByRecursion (λ p. p ≡ pass_part h p.number) (passes_from first count) → first ≤ k → k < first + count → pass_part h k ≡ fresh_pass k
+  spare_pass : (h : List (Deed T)) (first count k : ℕ)
+      → AllByRecursion (λ p. p ≡ pass_part h p.number) (passes_from first count)
+      → first ≤ k
+      → k < first + count
+      → pass_part h k ≡ fresh_pass k
   spare_pass h first zero k all low high = absurd (omega arith)
   spare_pass h first (suc count) k all low high =
       dite (ℕ_discrete first k)
       (λ here. subst (λ (n : ℕ). pass_part h n ≡ fresh_pass n) here (sym all.0))
       (λ later. spare_pass h (first + 1) count k all.1 (omega arith) (omega arith))
 
-  -- no history has a deed of a lane or a pass that no ring deals
-  no_lane_past : (h : List (Deed T)) (k : ℕ) → IsLegal lane_of seq_of h → MAX_LANES ≤ k → lane_part h k ≡ fresh_lane k
+  -- No history has a step of a lane or pass that no ring gives out.
+  no_lane_past : (h : List (Deed T)) (k : ℕ)
+      → IsLegal lane_of seq_of h
+      → MAX_LANES ≤ k
+      → lane_part h k ≡ fresh_lane k
   no_lane_past [] k legal high = refl
   no_lane_past (accepts lane piece ∷ h) k legal high = lane_other lane piece h k (λ same. omega (arith, same, legal.0.0)) ∙ no_lane_past h k legal.1 high
   no_lane_past (takes_piece pass piece ∷ h) k legal high = no_lane_past h k legal.1 high
   no_lane_past (drains piece ∷ h) k legal high = no_lane_past h k legal.1 high
 
-  no_pass_past : (h : List (Deed T)) (k : ℕ) → IsLegal lane_of seq_of h → MAX_PASSES ≤ k → pass_part h k ≡ fresh_pass k
+  no_pass_past : (h : List (Deed T)) (k : ℕ)
+      → IsLegal lane_of seq_of h
+      → MAX_PASSES ≤ k
+      → pass_part h k ≡ fresh_pass k
   no_pass_past [] k legal high = refl
   no_pass_past (accepts lane piece ∷ h) k legal high = no_pass_past h k legal.1 high
   no_pass_past (takes_piece pass piece ∷ h) k legal high = pass_other pass piece h k (λ same. omega (arith, same, legal.0.0)) ∙ no_pass_past h k legal.1 high
   no_pass_past (drains piece ∷ h) k legal high = no_pass_past h k legal.1 high
 
-  no_other_lane : (h : List (Deed T)) (dealt : ℕ) (spare : List (LaneRecord T)) → spare ≡ lanes_from dealt (MAX_LANES - dealt) → dealt ≤ MAX_LANES → IsLegal lane_of seq_of h → AllByRecursion (λ l. l ≡ lane_part h l.number) spare
-      → (k : ℕ) → dealt ≤ k → lane_part h k ≡ fresh_lane k
+  no_other_lane : (h : List (Deed T)) (dealt : ℕ) (spare : List (LaneRecord T))
+      → spare ≡ lanes_from dealt (MAX_LANES - dealt)
+      → dealt ≤ MAX_LANES
+      → IsLegal lane_of seq_of h
+      → AllByRecursion (λ l. l ≡ lane_part h l.number) spare
+      → (k : ℕ)
+      → dealt ≤ k
+      → lane_part h k ≡ fresh_lane k
   no_other_lane h dealt spare is few legal all k high =
       dite (dec_le MAX_LANES k) (no_lane_past h k legal)
       (λ low. spare_lane h dealt (MAX_LANES - dealt) k (subst (λ (ls : List (LaneRecord T)). AllByRecursion (λ l. l ≡ lane_part h l.number) ls) is all) high (omega (arith, few)))
 
-  no_other_pass : (h : List (Deed T)) (dealt : ℕ) (spare : List (PassRecord T)) → spare ≡ passes_from dealt (MAX_PASSES - dealt) → dealt ≤ MAX_PASSES → IsLegal lane_of seq_of h → AllByRecursion (λ p. p ≡ pass_part h p.number) spare
-      → (k : ℕ) → dealt ≤ k → pass_part h k ≡ fresh_pass k
+  no_other_pass : (h : List (Deed T)) (dealt : ℕ) (spare : List (PassRecord T))
+      → spare ≡ passes_from dealt (MAX_PASSES - dealt)
+      → dealt ≤ MAX_PASSES
+      → IsLegal lane_of seq_of h
+      → AllByRecursion (λ p. p ≡ pass_part h p.number) spare
+      → (k : ℕ)
+      → dealt ≤ k
+      → pass_part h k ≡ fresh_pass k
   no_other_pass h dealt spare is few legal all k high =
       dite (dec_le MAX_PASSES k) (no_pass_past h k legal)
       (λ low. spare_pass h dealt (MAX_PASSES - dealt) k (subst (λ (ps : List (PassRecord T)). AllByRecursion (λ p. p ≡ pass_part h p.number) ps) is all) high (omega (arith, few)))
 
   -- ---- nothing is left
 
-  last_run : (capacity : ℕ) (v₀ v : View T) (out : List T) → Drained capacity v₀ v out → Held 0 (RunsTo lane_of seq_of v) → RunsTo lane_of seq_of (with_rest v₀ out) []
+  last_run : (capacity : ℕ) (v₀ v : View T) (out : List T)
+      → Drained capacity v₀ v out
+      → Held 0 (RunsTo lane_of seq_of v)
+      → RunsTo lane_of seq_of (with_rest v₀ out) []
   last_run capacity v₀ v out drained held =
       subst (λ (xs : List T). RunsTo lane_of seq_of (with_rest v₀ out) xs) (nothing held.0 held.1) (subst (λ (u : View T). RunsTo lane_of seq_of u held.0) drained.is held.2)
 
-  module _ (capacity lanes passes : ℕ) (v₀ v : View T) (out : List T) (end : IsEndView lanes passes v₀) (drained : Drained capacity v₀ v out) (held : Held 0 (RunsTo lane_of seq_of v)) where
+  module _ (capacity lanes passes : ℕ) (v₀ v : View T) (out : List T)
+      (end : IsEndView lanes passes v₀) (drained : Drained capacity v₀ v out)
+      (held : Held 0 (RunsTo lane_of seq_of v)) where
     run : RunsTo lane_of seq_of (with_rest v₀ out) []
     run = last_run capacity v₀ v out drained held
 
-    -- the lanes and passes that were not dealt have done nothing
-    lanes_weigh : (f : LaneRecord T → ℕ) → ((number : ℕ) → f (record { number = number; accepted = [] }) ≡ 0) → total f (lanes_in v₀) ≡ total f v₀.lanes
+    -- The lanes and passes that were not given out have done nothing.
+    lanes_weigh : (f : LaneRecord T → ℕ)
+        → ((number : ℕ) → f (record { number = number; accepted = [] }) ≡ 0)
+        → total f (lanes_in v₀) ≡ total f v₀.lanes
     lanes_weigh f none = omega (arith, total-append f v₀.spare_lanes v₀.lanes, ap (total f) end.spare_lanes, fresh_lanes_weigh f none lanes (MAX_LANES - lanes))
 
-    passes_weigh : (f : PassRecord T → ℕ) → ((number : ℕ) → f (record { number = number; taken = [] }) ≡ 0) → total f (passes_in v₀) ≡ total f v₀.passes
+    passes_weigh : (f : PassRecord T → ℕ)
+        → ((number : ℕ) → f (record { number = number; taken = [] }) ≡ 0)
+        → total f (passes_in v₀) ≡ total f v₀.passes
     passes_weigh f none = omega (arith, total-append f v₀.spare_passes v₀.passes, ap (total f) end.spare_passes, fresh_passes_weigh f none passes (MAX_PASSES - passes))
 
-    ring_run : length v₀.lanes ≡ lanes → length v₀.passes ≡ passes → RingRun lane_of seq_of v₀.lanes v₀.passes out
+    ring_run : length v₀.lanes ≡ lanes
+        → length v₀.passes ≡ passes
+        → RingRun lane_of seq_of v₀.lanes v₀.passes out
     ring_run all_lanes all_passes = record {
       balance = λ weight. omega (arith, run.balance weight, lanes_weigh (λ l. total weight l.accepted) (λ _. refl), passes_weigh (λ p. total weight p.taken) (λ _. refl));
       seqs = all_back (λ l. AreSeqs lane_of seq_of l.number 0 l.accepted) v₀.spare_lanes v₀.lanes run.seqs;
@@ -223,13 +303,16 @@ module _ {T : Type 0} (lane_of seq_of : T → ℕ) (is_for : ℕ → T → Type 
         let number = λ (l : LaneRecord T). is_at k l.number in
         omega (arith, run.numbers k (omega (arith, within, end.few_lanes)), total-append number v₀.spare_lanes v₀.lanes, ap (total number) end.spare_lanes, (fresh-once (fresh_lane {T = T}) (λ r. r.number) (λ _. refl) k lanes (MAX_LANES - lanes)).1 within)
 
-  -- what contracts see of the end says so
-  module _ (capacity : ℕ) (end : EndOf T) (v₀ v : View T) (out : List T) (last : IsLast end v₀) (drained : Drained capacity v₀ v out) (held : Held 0 (RunsTo lane_of seq_of v)) where
+  -- The same, for what contracts see of the end.
+  module _ (capacity : ℕ) (end : EndOf T) (v₀ v : View T) (out : List T) (last : IsLast end v₀)
+      (drained : Drained capacity v₀ v out) (held : Held 0 (RunsTo lane_of seq_of v)) where
     pub ring_ends : RingRun lane_of seq_of end.back_lanes end.back_passes out
     ring_ends =
         let run = ring_run capacity end.dealt_lanes end.dealt_passes v₀ v out last.known drained held last.all_lanes last.all_passes in
         subst (λ (ps : List (PassRecord T)). RingRun lane_of seq_of end.back_lanes ps out) last.passes (subst (λ (ls : List (LaneRecord T)). RingRun lane_of seq_of ls v₀.passes out) last.lanes run)
 
-    pub lanes_back : (k : ℕ) → k < end.dealt_lanes → total (λ l. is_at k l.number) end.back_lanes ≡ 1
+    pub lanes_back : (k : ℕ)
+        → k < end.dealt_lanes
+        → total (λ l. is_at k l.number) end.back_lanes ≡ 1
     lanes_back k within =
         ap (total (λ (l : LaneRecord T). is_at k l.number)) (sym last.lanes) ∙ lanes_there capacity end.dealt_lanes end.dealt_passes v₀ v out last.known drained held k within

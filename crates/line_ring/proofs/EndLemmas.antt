@@ -1,4 +1,4 @@
--- What the records of all members say together, once one view has them all.
+-- What the records of all members say together when one view has them all.
 use Rattle.std.proofs.Common.{◌≡◌, ◌≢◌, ℕ, zero, suc, ◌+◌, ◌<◌, List, [], ◌∷◌, ◌++◌, cond, ne_eqb, sym, refl, ap, ◌∙◌, subst, arith}
 use Rattle.std.specs.List.{AllByRecursion}
 use mathlib.Core.Option.{some}
@@ -25,19 +25,26 @@ module _ {T : Type 0} (lane_of seq_of : T → ℕ) (is_for : ℕ → T → Type 
   abbrev K : List T → List (View T) → Type 0
   K = Keeps lane_of seq_of is_for
 
-  module _ (items : List T) (views : List (View T)) (k : K items views) (id : ℕ) (v : View T) (me : get_elem? views id ≡ some v) (whole : IsWhole v) where
-    each_lane : (P : LaneRecord T → Type 0) → ((l : ℕ) → P (lane_part k.history l)) → AllByRecursion P (lanes_in v)
+  module _ (items : List T) (views : List (View T)) (k : K items views) (id : ℕ) (v : View T)
+      (me : get_elem? views id ≡ some v) (whole : IsWhole v) where
+    each_lane : (P : LaneRecord T → Type 0)
+        → ((l : ℕ) → P (lane_part k.history l))
+        → AllByRecursion P (lanes_in v)
     each_lane P holds = all_weaker (True lanes_in lane_number MAX_LANES (lane_part k.history)) P (λ r true. subst P (sym true.0) (holds r.number)) (lanes_in v) (k.lanes.each id v me)
 
-    each_pass : (P : PassRecord T → Type 0) → ((p : ℕ) → P (pass_part k.history p)) → AllByRecursion P (passes_in v)
+    each_pass : (P : PassRecord T → Type 0)
+        → ((p : ℕ) → P (pass_part k.history p))
+        → AllByRecursion P (passes_in v)
     each_pass P holds = all_weaker (True passes_in pass_number MAX_PASSES (pass_part k.history)) P (λ r true. subst P (sym true.0) (holds r.number)) (passes_in v) (k.passes.each id v me)
 
-    sum_lanes : (f : LaneRecord T → ℕ) → total f (lanes_in v) ≡ below (λ l. f (lane_part k.history l)) MAX_LANES
+    sum_lanes : (f : LaneRecord T → ℕ)
+        → total f (lanes_in v) ≡ below (λ l. f (lane_part k.history l)) MAX_LANES
     sum_lanes f = total-below lane_number MAX_LANES (λ l. f (lane_part k.history l)) f (lanes_in v)
         (all_weaker (True lanes_in lane_number MAX_LANES (lane_part k.history)) (λ r. (f r ≡ f (lane_part k.history r.number)) × (r.number < MAX_LANES)) (λ r true. (ap f true.0, true.1)) (lanes_in v) (k.lanes.each id v me))
         (has_everyone lanes_in lane_number views k.lanes id v me whole.lanes)
 
-    sum_passes : (f : PassRecord T → ℕ) → total f (passes_in v) ≡ below (λ p. f (pass_part k.history p)) MAX_PASSES
+    sum_passes : (f : PassRecord T → ℕ)
+        → total f (passes_in v) ≡ below (λ p. f (pass_part k.history p)) MAX_PASSES
     sum_passes f = total-below pass_number MAX_PASSES (λ p. f (pass_part k.history p)) f (passes_in v)
         (all_weaker (True passes_in pass_number MAX_PASSES (pass_part k.history)) (λ r. (f r ≡ f (pass_part k.history r.number)) × (r.number < MAX_PASSES)) (λ r true. (ap f true.0, true.1)) (passes_in v) (k.passes.each id v me))
         (has_everyone passes_in pass_number views k.passes id v me whole.passes)
@@ -47,8 +54,11 @@ module _ {T : Type 0} (lane_of seq_of : T → ℕ) (is_for : ℕ → T → Type 
         let all : AllByRecursion (True rests_in rest_number 1 (rest_part k.history)) (rest_record (drained_in v.rests) ∷ []) = subst (AllByRecursion (True rests_in rest_number 1 (rest_part k.history))) whole.rests (k.rests.each id v me) in
         ap (λ (r : RestRecord T). r.drained) all.0.0
 
-    sums_of : (weight : T → ℕ) (n m a b : ℕ) → n ≡ MAX_LANES → m ≡ MAX_PASSES
-        → a ≡ below (λ l. total weight (lane_part k.history l).accepted) n → b ≡ below (λ p. total weight (pass_part k.history p).taken) m
+    sums_of : (weight : T → ℕ) (n m a b : ℕ)
+        → n ≡ MAX_LANES
+        → m ≡ MAX_PASSES
+        → a ≡ below (λ l. total weight (lane_part k.history l).accepted) n
+        → b ≡ below (λ p. total weight (pass_part k.history p).taken) m
         → a ≡ b + total weight (drained_in v.rests) + total weight items
     sums_of weight n m a b few_lanes few_passes lanes passes =
         omega (arith, lanes, passes, balanced lane_of seq_of weight n m k.history k.legal few_lanes few_passes, ap (total weight) drained_is, ap (total weight) k.waits)
@@ -78,9 +88,12 @@ module _ {T : Type 0} (lane_of seq_of : T → ℕ) (is_for : ℕ → T → Type 
 
   -- ---- a piece comes out at the end
 
-  drain_here : (id m : ℕ) (spare_lanes lanes : List (LaneRecord T)) (spare_passes passes : List (PassRecord T)) (ds : List T)
+  drain_here : (id m : ℕ) (spare_lanes lanes : List (LaneRecord T))
+      (spare_passes passes : List (PassRecord T)) (ds : List T)
       → IsWhole (view m spare_lanes lanes spare_passes passes (rest_record ds ∷ []))
-      → Pops K id (view m spare_lanes lanes spare_passes passes (rest_record ds ∷ [])) (Drains lane_of seq_of is_for (view m spare_lanes lanes spare_passes passes (rest_record ds ∷ [])))
+      → Pops K id (view m spare_lanes lanes spare_passes passes (rest_record ds ∷ []))
+      (Drains lane_of seq_of is_for (view m spare_lanes lanes spare_passes passes
+      (rest_record ds ∷ [])))
   drain_here id m spare_lanes lanes spare_passes passes ds whole x items views k me =
       let v = view m spare_lanes lanes spare_passes passes (rest_record ds ∷ []) in
       let w = view m spare_lanes lanes spare_passes passes (rest_record (ds ++ x ∷ []) ∷ []) in
@@ -109,7 +122,9 @@ module _ {T : Type 0} (lane_of seq_of : T → ℕ) (is_for : ℕ → T → Type 
       others zero other = absurd (other refl)
       others (suc j) other = ap (λ b. cond b (rest_record ((rest_part k.history (suc j)).drained ++ x ∷ [])) (rest_part k.history (suc j))) (ne_eqb 0 (suc j) (λ e. omega arith))
 
-  pub drains_piece : (id : ℕ) (v : View T) → IsWhole v → Pops K id v (Drains lane_of seq_of is_for v)
+  pub drains_piece : (id : ℕ) (v : View T)
+      → IsWhole v
+      → Pops K id v (Drains lane_of seq_of is_for v)
   drains_piece id v whole =
       let same : v ≡ view v.machine v.spare_lanes v.lanes v.spare_passes v.passes (rest_record (drained_in v.rests) ∷ []) = ap (λ (rs : List (RestRecord T)). view v.machine v.spare_lanes v.lanes v.spare_passes v.passes rs) whole.rests in
       subst (λ (u : View T). Pops K id u (Drains lane_of seq_of is_for u)) (sym same) (drain_here id v.machine v.spare_lanes v.lanes v.spare_passes v.passes (drained_in v.rests) (subst IsWhole same whole))

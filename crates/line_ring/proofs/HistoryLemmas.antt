@@ -26,23 +26,33 @@ module _ {T : Type 0} where
   abbrev pub drained : List (Deed T) → List T
   drained h = (rest_part h 0).drained
 
-  -- the member's own record gains the deed, and no other does
-  pub lane_own : (lane : ℕ) (piece : T) (h : List (Deed T)) → lane_part (accepts lane piece ∷ h) lane ≡ lane_after (accepts lane piece) (lane_part h lane)
+  -- The member's own record gains the step, and no other record does.
+  pub lane_own : (lane : ℕ) (piece : T) (h : List (Deed T))
+      → lane_part (accepts lane piece ∷ h) lane ≡ lane_after (accepts lane piece) (lane_part h lane)
   lane_own lane piece h = ap (λ b. cond b (lane_after (accepts lane piece) (lane_part h lane)) (lane_part h lane)) (eq-eqb lane lane refl)
 
-  pub lane_other : (lane : ℕ) (piece : T) (h : List (Deed T)) (l : ℕ) → l ≢ lane → lane_part (accepts lane piece ∷ h) l ≡ lane_part h l
+  pub lane_other : (lane : ℕ) (piece : T) (h : List (Deed T)) (l : ℕ)
+      → l ≢ lane
+      → lane_part (accepts lane piece ∷ h) l ≡ lane_part h l
   lane_other lane piece h l other = ap (λ b. cond b (lane_after (accepts lane piece) (lane_part h l)) (lane_part h l)) (ne_eqb lane l (λ e. other (sym e)))
 
-  pub pass_own : (pass : ℕ) (piece : T) (h : List (Deed T)) → pass_part (takes_piece pass piece ∷ h) pass ≡ pass_after (takes_piece pass piece) (pass_part h pass)
+  pub pass_own : (pass : ℕ) (piece : T) (h : List (Deed T))
+      → pass_part (takes_piece pass piece ∷ h) pass
+      ≡ pass_after (takes_piece pass piece) (pass_part h pass)
   pass_own pass piece h = ap (λ b. cond b (pass_after (takes_piece pass piece) (pass_part h pass)) (pass_part h pass)) (eq-eqb pass pass refl)
 
-  pub pass_other : (pass : ℕ) (piece : T) (h : List (Deed T)) (p : ℕ) → p ≢ pass → pass_part (takes_piece pass piece ∷ h) p ≡ pass_part h p
+  pub pass_other : (pass : ℕ) (piece : T) (h : List (Deed T)) (p : ℕ)
+      → p ≢ pass
+      → pass_part (takes_piece pass piece ∷ h) p ≡ pass_part h p
   pass_other pass piece h p other = ap (λ b. cond b (pass_after (takes_piece pass piece) (pass_part h p)) (pass_part h p)) (ne_eqb pass p (λ e. other (sym e)))
 
-  accepted-own : (lane : ℕ) (piece : T) (h : List (Deed T)) → accepted_by (accepts lane piece ∷ h) lane ≡ accepted_by h lane ++ piece ∷ []
+  accepted-own : (lane : ℕ) (piece : T) (h : List (Deed T))
+      → accepted_by (accepts lane piece ∷ h) lane ≡ accepted_by h lane ++ piece ∷ []
   accepted-own lane piece h = ap (λ (r : LaneRecord T). r.accepted) (lane_own lane piece h)
 
-  accepted-else : (lane : ℕ) (piece : T) (h : List (Deed T)) (l : ℕ) → l ≢ lane → accepted_by (accepts lane piece ∷ h) l ≡ accepted_by h l
+  accepted-else : (lane : ℕ) (piece : T) (h : List (Deed T)) (l : ℕ)
+      → l ≢ lane
+      → accepted_by (accepts lane piece ∷ h) l ≡ accepted_by h l
   accepted-else lane piece h l other = ap (λ (r : LaneRecord T). r.accepted) (lane_other lane piece h l other)
 
   -- ---- what went out by some of the passes, or at the end
@@ -73,8 +83,13 @@ module _ {T : Type 0} (lane_of seq_of : T → ℕ) where
 
   -- ---- each accepted piece was taken, or came out at the end, or waits
 
-  pub balanced : (weight : T → ℕ) (lanes passes : ℕ) (h : List (Deed T)) → Legal h → lanes ≡ MAX_LANES → passes ≡ MAX_PASSES
-      → below (λ l. total weight (accepted_by h l)) lanes ≡ below (λ p. total weight (taken_by h p)) passes + total weight (drained h) + total weight (waiting h)
+  pub balanced : (weight : T → ℕ) (lanes passes : ℕ) (h : List (Deed T))
+      → Legal h
+      → lanes ≡ MAX_LANES
+      → passes ≡ MAX_PASSES
+      → below (λ l. total weight (accepted_by h l)) lanes
+      ≡ below (λ p. total weight (taken_by h p)) passes + total weight (drained h) + total
+      weight (waiting h)
   balanced weight lanes passes [] legal few_lanes few_passes = omega (arith, below-zero lanes, below-zero passes)
   balanced weight lanes passes (accepts lane piece ∷ h) legal few_lanes few_passes =
       let f = λ (l : ℕ). total weight (accepted_by h l) in
@@ -105,11 +120,13 @@ module _ {T : Type 0} (lane_of seq_of : T → ℕ) where
 
   -- ---- a lane's seqs rise in what went out one way, and then in what waits
 
-  -- the piece was accepted by its lane
+  -- The piece was accepted by its lane.
   abbrev Known : List (Deed T) → T → Type 0
   Known h q = seq_of q < length (accepted_by h (lane_of q))
 
-  known-accepts : (lane : ℕ) (piece : T) (h : List (Deed T)) (q : T) → Known h q → Known (accepts lane piece ∷ h) q
+  known-accepts : (lane : ℕ) (piece : T) (h : List (Deed T)) (q : T)
+      → Known h q
+      → Known (accepts lane piece ∷ h) q
   known-accepts lane piece h q known =
       dite (ℕ_discrete (lane_of q) lane)
       (λ e. let more : length (accepted_by (accepts lane piece ∷ h) (lane_of q)) ≡ length (accepted_by h (lane_of q) ++ piece ∷ []) =
@@ -117,7 +134,10 @@ module _ {T : Type 0} (lane_of seq_of : T → ℕ) where
       omega (arith, more, length-append (accepted_by h (lane_of q)) (piece ∷ []), known))
       (λ ne. omega (arith, ap length (accepted-else lane piece h (lane_of q) ne), known))
 
-  known-own : (lane : ℕ) (piece : T) (h : List (Deed T)) → lane_of piece ≡ lane → seq_of piece ≡ length (accepted_by h lane) → Known (accepts lane piece ∷ h) piece
+  known-own : (lane : ℕ) (piece : T) (h : List (Deed T))
+      → lane_of piece ≡ lane
+      → seq_of piece ≡ length (accepted_by h lane)
+      → Known (accepts lane piece ∷ h) piece
   known-own lane piece h at_lane at_seq =
       let more : length (accepted_by (accepts lane piece ∷ h) (lane_of piece)) ≡ length (accepted_by h lane ++ piece ∷ []) =
       ap (λ (k : ℕ). length (accepted_by (accepts lane piece ∷ h) k)) at_lane ∙ ap length (accepted-own lane piece h) in
@@ -145,7 +165,9 @@ module _ {T : Type 0} (lane_of seq_of : T → ℕ) where
     line_rises (takes_piece pass piece ∷ h) legal = leaves (Rises lane_of seq_of) (rises-middle lane_of seq_of) (by pass) (gone by at_end h) (waiting h) piece legal.0.1 (line_rises h legal.1)
     line_rises (drains piece ∷ h) legal = leaves (Rises lane_of seq_of) (rises-middle lane_of seq_of) at_end (gone by at_end h) (waiting h) piece legal.0 (line_rises h legal.1)
 
-  pub rises : (h : List (Deed T)) (p : ℕ) → Legal h → Rises lane_of seq_of (taken_by h p ++ waiting h)
+  pub rises : (h : List (Deed T)) (p : ℕ)
+      → Legal h
+      → Rises lane_of seq_of (taken_by h p ++ waiting h)
   rises h p legal = subst (λ (ps : List T). Rises lane_of seq_of (ps ++ waiting h)) (gone_by_pass p h) (line_rises (λ q. eqb q p) false h legal)
 
   pub rest_rises : (h : List (Deed T)) → Legal h → Rises lane_of seq_of (drained h ++ waiting h)

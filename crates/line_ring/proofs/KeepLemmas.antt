@@ -19,14 +19,24 @@ module _ {T : Type 0} (lane_of seq_of : T → ℕ) (is_for : ℕ → T → Type 
   abbrev K : List T → List (View T) → Type 0
   K = Keeps lane_of seq_of is_for
 
-  -- the seat's new view is for the same machine
-  pub about_set : {items : List T} (views : List (View T)) (k : K items views) (id : ℕ) (v w : View T) → get_elem? views id ≡ some v → 0 < members v → w.machine ≡ v.machine
-      → (j : ℕ) (u : View T) → get_elem? (set views id w) j ≡ some u → 0 < members u → u.machine ≡ k.machine
+  -- The seat's new view is for the same machine.
+  pub about_set : {items : List T} (views : List (View T)) (k : K items views) (id : ℕ)
+      (v w : View T)
+      → get_elem? views id ≡ some v
+      → 0 < members v
+      → w.machine ≡ v.machine
+      → (j : ℕ) (u : View T)
+      → get_elem? (set views id w) j ≡ some u
+      → 0 < members u
+      → u.machine ≡ k.machine
   about_set views k id v w me member same = in_changed (λ u. 0 < members u → u.machine ≡ k.machine) views id w (λ _. same ∙ k.about id v me member) k.about
 
   -- ---- a lane puts a piece in
 
-  push_here : (n id m : ℕ) (r : LaneRecord T) (x : T) → lane_of x ≡ r.number → seq_of x ≡ length r.accepted → is_for m x
+  push_here : (n id m : ℕ) (r : LaneRecord T) (x : T)
+      → lane_of x ≡ r.number
+      → seq_of x ≡ length r.accepted
+      → is_for m x
       → Pushes K n id (lane_view m r) x (λ w. w ≡ after_push (lane_view m r) x)
   push_here n id m r x own next for_machine items views room k me =
       let v = lane_view m r in
@@ -51,19 +61,26 @@ module _ {T : Type 0} (lane_of seq_of : T → ℕ) (is_for : ℕ → T → Type 
         refl,
       )
 
-  pub pushes : (n id number accepted : ℕ) (v : View T) (x : T) → IsLaneView number accepted v → lane_of x ≡ (lane_in v.lanes).number → seq_of x ≡ length (lane_in v.lanes).accepted → is_for v.machine x
+  pub pushes : (n id number accepted : ℕ) (v : View T) (x : T)
+      → IsLaneView number accepted v
+      → lane_of x ≡ (lane_in v.lanes).number
+      → seq_of x ≡ length (lane_in v.lanes).accepted
+      → is_for v.machine x
       → Pushes K n id v x (λ w. w ≡ after_push v x)
   pushes n id number accepted v x is own next for_machine =
       subst (λ (u : View T). Pushes K n id u x (λ w. w ≡ after_push u x)) (sym is.alone) (push_here n id v.machine (lane_in v.lanes) x own next for_machine)
 
-  pub lane_learns : (id number accepted : ℕ) (v : View T) → IsLaneView number accepted v → Learns K id v (LaneLearns lane_of seq_of v)
+  pub lane_learns : (id number accepted : ℕ) (v : View T)
+      → IsLaneView number accepted v
+      → Learns K id v (LaneLearns lane_of seq_of v)
   lane_learns id number accepted v is =
       subst (λ (u : View T). Learns K id u (LaneLearns lane_of seq_of u)) (sym is.alone)
       (λ items views k me. (k.history, k.legal, sym (k.lanes.each id (lane_view v.machine (lane_in v.lanes)) me).0.0, ap length (sym k.waits)))
 
   -- ---- a pass takes the piece at the front
 
-  take_here : (id m : ℕ) (r : PassRecord T) → Pops K id (pass_view m r) (Takes is_for (pass_view m r))
+  take_here : (id m : ℕ) (r : PassRecord T)
+      → Pops K id (pass_view m r) (Takes is_for (pass_view m r))
   take_here id m r x items views k me =
       let v = pass_view m r in
       let r' : PassRecord T = record r { taken = r.taken ++ x ∷ [] } in
@@ -91,7 +108,9 @@ module _ {T : Type 0} (lane_of seq_of : T → ℕ) (is_for : ℕ → T → Type 
   pub takes : (id : ℕ) (v : View T) → IsPassView v → Pops K id v (Takes is_for v)
   takes id v is = subst (λ (u : View T). Pops K id u (Takes is_for u)) (sym is) (take_here id v.machine (pass_in v.passes))
 
-  pub pass_learns : (id : ℕ) (v : View T) → IsPassView v → Learns K id v (PassLearns lane_of seq_of v)
+  pub pass_learns : (id : ℕ) (v : View T)
+      → IsPassView v
+      → Learns K id v (PassLearns lane_of seq_of v)
   pass_learns id v is =
       subst (λ (u : View T). Learns K id u (PassLearns lane_of seq_of u)) (sym is)
       (λ items views k me. (k.history, k.legal, sym (k.passes.each id (pass_view v.machine (pass_in v.passes)) me).0.0, ap length (sym k.waits)))

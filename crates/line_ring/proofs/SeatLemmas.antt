@@ -12,7 +12,7 @@ pub ring_is : {r s : RingOf} → r ≡ s → r.id ≡ s.id
 ring_is = ap (λ (r : RingOf). r.id)
 
 module _ {T : Type 0} where
-  -- of which ring the fields say that it is
+  -- The ring of a handle, as its fields say.
   pub lane_ring : {l m : LaneOf T} {s : RingId} → l ≡ m → m.ring ≡ s → l.ring ≡ s
   lane_ring is of = ap (λ (l : LaneOf T). l.ring) is ∙ of
 

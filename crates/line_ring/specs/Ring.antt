@@ -1,29 +1,31 @@
--- A ring and what its callers hold, as contracts see them.
+-- A ring and its handles, as contracts see them.
 use Rattle.std.specs.Prelude.{ℕ, List}
 use Rattle.atomic_table.specs.Seated.{TableId}
 use Rattle.line_ring.specs.declared.record.LaneRecord.{LaneRecord}
 use Rattle.line_ring.specs.declared.record.PassRecord.{PassRecord}
 
--- which ring it is: its table, and the machine that its pieces are for
+-- The identity of a ring: its table, and the machine that its pieces are for.
 pub record RingId : Type 0 where
   pub table : TableId
   pub machine : ℕ
 
--- a ring, and how many pieces it holds at most
+-- A ring, and the largest number of pieces that it holds at once.
 pub record RingOf : Type 0 where
   pub id : RingId
   pub capacity : ℕ
 
--- what a caller holds: of which ring it is, and what its lane or its pass is known to have done
+-- A lane: its ring and its record.
 pub record LaneOf (T : Type 0) : Type 0 where
   pub ring : RingId
   pub known : LaneRecord T
 
+-- A pass: its ring and its record.
 pub record PassOf (T : Type 0) : Type 0 where
   pub ring : RingId
   pub known : PassRecord T
 
--- how many lanes and passes were dealt, and the records of those that have come back
+-- The end of a ring: its ring, how many lanes and passes were given out, and the records of those
+-- that have come back.
 pub record EndOf (T : Type 0) : Type 0 where
   pub ring : RingId
   pub dealt_lanes : ℕ

@@ -1,4 +1,4 @@
-// Lanes and passes are dealt out of the end, and come back to it.
+// Lanes and passes are given out by the ring's end, and come back to it.
 ghost use Rattle.std.specs.Prelude.{◌≡◌, ◌+◌, ◌<◌, [], ◌∷◌, ◌++◌};
 ghost use Rattle.line_ring.specs.Record.{fresh_lane, fresh_pass};
 
@@ -9,7 +9,7 @@ use crate::rule::{DealLane, DealPass, Gather};
 use cube_shape::{MAX_LANES, MAX_PASSES};
 
 impl<T: Piece> Ring<T> {
-    /// Deals a lane, whose number is how many were dealt before it.
+    /// Gives out a lane. Its number is the count of lanes given out before it.
     pub fn deal_lane(&self, end: &mut RingEnd<T>) -> RingLane<T>
         requires end { end.old.ring ≡ self.now.id }
         requires few { end.old.dealt_lanes < MAX_LANES }
@@ -31,7 +31,7 @@ impl<T: Piece> Ring<T> {
         }
     }
 
-    /// Deals a pass, whose number is how many were dealt before it.
+    /// Gives out a pass. Its number is the count of passes given out before it.
     pub fn deal_pass(&self, end: &mut RingEnd<T>) -> RingPass<T>
         requires end { end.old.ring ≡ self.now.id }
         requires few { end.old.dealt_passes < MAX_PASSES }

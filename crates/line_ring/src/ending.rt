@@ -12,8 +12,8 @@ use std::collections::VecDeque;
 use std::sync::Wait;
 
 impl<T: Piece> Ring<T> {
-    /// Ends the ring, once as many lanes and passes have come back as were dealt, so that these are
-    /// all of them. It answers what no pass took, front first.
+    /// Ends the ring. As many lanes and passes have come back as were given out, which are all of
+    /// them. Returns the pieces that no pass took, front first.
     pub fn into_rest<R: Wait>(self, rt: &R, end: RingEnd<T>) -> VecDeque<T>
         requires end { end.ring ≡ self.id }
         requires lanes { length end.back_lanes ≡ end.dealt_lanes }
@@ -34,7 +34,7 @@ impl<T: Piece> Ring<T> {
             lanes: _,
             passes: _,
         } = end;
-        // The ring holds no more than there is room for, and nothing comes in any more.
+        // The ring holds no more pieces than `rest` has room for, and no further piece comes in.
         queue.len_as::<Drain, R>(rt, &mut seat);
         while let Some(piece) = queue.pop_as::<Drain, R>(rt, &mut seat) {
             rest.push_back_reserved(piece);

@@ -1,9 +1,9 @@
-// What the callers of a ring hold. None of it has a `Drop`: it is spent at the ring's end.
+// The handles of a ring. None of them can be dropped: they are consumed by the ring's end.
 use crate::rule::View;
 use crossbeam_queue::Pass;
 use std::marker::Model;
 
-/// The right to put pieces into a ring by one lane.
+/// The right to put in the pieces of one lane.
 pub struct RingLane<T> {
     pub(crate) seat: Pass<T, View<T>>,
     pub(crate) number: u32,
@@ -41,7 +41,7 @@ impl<T> Model for RingPass<T> {
     ghost invariant = { λ p. IsPassSeat p.seat };
 }
 
-/// The right to end a ring. There is one. Lanes and passes are dealt out of it and come back to it.
+/// The right to end a ring. There is one. It gives out lanes and passes, and takes them back.
 pub struct RingEnd<T> {
     pub(crate) seat: Pass<T, View<T>>,
     pub(crate) lanes: u32,
@@ -63,14 +63,14 @@ impl<T> Model for RingEnd<T> {
 impl<T> RingLane<T> {
     ghost use Rattle.std.specs.Prelude.{◌≡◌, length};
 
-    /// The lane's number.
+    /// Returns the lane's number.
     pub fn number(&self) -> u32
         ensures { result ≡ self.now.known.number }
     {
         self.number
     }
 
-    /// How many pieces the lane has put in, which is the seq of its next one.
+    /// Returns how many pieces the lane has put in, which is the number (seq) of its next one.
     pub fn accepted(&self) -> u64
         ensures { result ≡ length self.now.known.accepted }
     {

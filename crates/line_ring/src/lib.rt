@@ -1,11 +1,12 @@
-//! The ring buffer of a lock-free queue: a bounded first-in first-out queue for many producers and many consumers.
+//! The ring buffer of a lock-free queue (`Ring`): a bounded first-in first-out queue for many
+//! producers and many consumers.
 //!
-//! Pieces come in by lanes and are taken by passes. Each lane and each pass has a record of what it
-//! has put in or taken, which only its own calls change. Once all of them have come back, the ring
-//! ends, and the records say where each piece went: it was taken once, or is in the rest.
+//! Lanes put in elements (pieces), and passes take them. Each lane and each pass has a record of
+//! what it put in or took, which only its own calls change. The ring ends when all of them have
+//! come back. Then the records show where each piece went: it was taken once, or it is left.
 //!
-//! Each piece comes by an entry, a value of its maker. A push takes the entry, and hands it on in what
-//! shows that the piece is in, or that the ring was full.
+//! Each piece comes with an entry, a value of its maker. A push consumes the entry and returns it
+//! in a token, which shows that the piece is in or that the ring was full.
 #![tactic(auto)]
 
 mod dealing;

@@ -1,15 +1,15 @@
-// What may wait in a ring, and that the jobs of a line may.
+// What may wait in a ring. The jobs of a queue may.
 use job_queue::QueuedJob;
 use line_gate::Entered;
 
-/// A piece of work that waits in a ring.
+/// An element of a ring.
 ///
-/// Contracts see the lane that it comes in by, its seq, which is how many pieces of
-/// that lane come in before it, and which machines it is for, by their dimension.
+/// Contracts see the lane that puts a piece in, and its number in that lane (seq). They also see
+/// which machines it is for, by their dimension.
 pub trait Piece: Drop {
     ghost use Rattle.std.specs.Prelude.{ℕ};
 
-    /// What a piece comes by. A push takes it, and hands it on.
+    /// The entry that a piece comes with. A push consumes it and returns it in a token.
     type Entry;
 
     ghost lane: { Self → ℕ };

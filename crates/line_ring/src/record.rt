@@ -1,8 +1,7 @@
-// What a lane, a pass and the end of a ring are known to have done: plain data, which contracts
-// alone see.
+// The records of lanes, of passes and of the end of a ring: plain data that only contracts see.
 use std::collections::LinkedList;
 
-/// What a lane is known to have done. No value of it is made.
+/// The record of a lane: what it is known to have done. No program makes a value of it.
 pub struct LaneRecord<T> {
     /// The lane's number.
     pub number: u32,
@@ -10,7 +9,7 @@ pub struct LaneRecord<T> {
     pub accepted: LinkedList<T>,
 }
 
-/// What a pass is known to have done. No value of it is made.
+/// The record of a pass: what it is known to have done. No program makes a value of it.
 pub struct PassRecord<T> {
     /// The pass's number.
     pub number: u32,
@@ -18,7 +17,7 @@ pub struct PassRecord<T> {
     pub taken: LinkedList<T>,
 }
 
-/// What came out at the ring's end. No value of it is made.
+/// What came out at the ring's end. No program makes a value of it.
 pub struct RestRecord<T> {
     /// The pieces, in order.
     pub drained: LinkedList<T>,

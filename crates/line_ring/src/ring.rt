@@ -1,4 +1,4 @@
-// The ring.
+// The ring and its calls.
 ghost use Rattle.std.specs.Prelude.{◌≡◌, ◌+◌, ◌<◌, ◌≤◌, ◌^◌, [], ◌∷◌, ◌++◌, IfOk, IfErr, length};
 ghost use Rattle.line_ring.specs.History.{HeldBesideLane, HeldBesidePass};
 
@@ -12,7 +12,7 @@ use std::collections::VecDeque;
 use std::marker::Model;
 use std::sync::Wait;
 
-/// A ring of pieces of work, which threads share by `&`.
+/// A ring buffer of pieces, which threads share by reference.
 pub struct Ring<T: Piece> {
     pub(crate) queue: RuledArrayQueue<T, View<T>, RingRule<T>>,
     pub(crate) machine: u32,
@@ -37,8 +37,8 @@ impl<T: Piece> Model for Ring<T> {
         × (ruled_capacity r.queue ≤ deque_capacity r.room) };
 }
 
-/// A push of this call put a piece in. It has the entry that the piece came in by, which is what
-/// contracts see. Only `Ring::push` makes it, and it has no `Drop`.
+/// A token of a push that put a piece in. It has the entry that the piece came with, which is what
+/// contracts see. Only `Ring::push` makes it, and it cannot be dropped.
 pub struct DidPut<E> {
     entry: E,
 }
@@ -49,8 +49,8 @@ impl<E> Model for DidPut<E> {
     ghost view = { λ put. put.entry };
 }
 
-/// A push of this call found the ring full. It has the entry of that push, which is what contracts
-/// see. Only `Ring::push` makes it, and it has no `Drop`.
+/// A token of a push that found the ring full. It has the entry of that push, which is what
+/// contracts see. Only `Ring::push` makes it, and it cannot be dropped.
 pub struct SawFull<E> {
     entry: E,
 }
@@ -61,11 +61,11 @@ impl<E> Model for SawFull<E> {
     ghost view = { λ saw. saw.entry };
 }
 
-/// A pop of this call found the ring empty. Only `Ring::pop` makes it, and it has no `Drop`.
+/// A token of a pop that found the ring empty. Only `Ring::pop` makes it, and it cannot be dropped.
 pub struct SawEmpty(());
 
 impl<E> DidPut<E> {
-    /// The entry that the piece came in by.
+    /// Returns the entry that the piece came with.
     pub fn into_entry(self) -> E
         ensures { result ≡ self }
     {
@@ -75,7 +75,7 @@ impl<E> DidPut<E> {
 }
 
 impl<E> SawFull<E> {
-    /// The entry of the push that found the ring full.
+    /// Returns the entry of the push that found the ring full.
     pub fn into_entry(self) -> E
         ensures { result ≡ self }
     {
@@ -85,15 +85,15 @@ impl<E> SawFull<E> {
 }
 
 impl SawEmpty {
-    /// Records that the ring was empty.
+    /// Consumes the token.
     pub fn spend(self) {
         let SawEmpty(()) = self;
     }
 }
 
 impl<T: Piece> Ring<T> {
-    /// Opens a ring for pieces that are for the machine of dimension `machine`, of which it holds
-    /// `capacity` at most. It counts the dimension up in as many steps. No other call takes memory.
+    /// Opens a ring of at most `capacity` pieces for the machine of dimension `machine`. It counts
+    /// up to the dimension, in as many steps. No other call allocates memory.
     pub fn open(
         alloc: Global,
         machine: u32,
@@ -128,7 +128,7 @@ impl<T: Piece> Ring<T> {
     }
 
     /// Puts a piece in at the back, unless the ring is full. The piece is the lane's next one. Its
-    /// entry comes back in what shows that the piece is in, or that the ring was full.
+    /// entry comes back in a token, which shows that the piece is in or that the ring was full.
     pub fn push<R: Wait>(
         &self,
         rt: &R,
@@ -177,14 +177,14 @@ impl<T: Piece> Ring<T> {
         }
     }
 
-    /// How many pieces the ring holds at most.
+    /// Returns the largest number of pieces that the ring holds at once.
     pub fn capacity(&self) -> usize
         ensures { result ≡ self.now.capacity }
     {
         self.queue.capacity()
     }
 
-    /// How many pieces the ring holds at one moment of the call, as a lane finds it.
+    /// Returns how many pieces the ring holds at one moment of the call, as a lane finds it.
     pub fn len_by_lane<R: Wait>(&self, rt: &R, lane: &mut RingLane<T>) -> usize
         requires { lane.old.ring ≡ self.now.id }
         ensures lane { lane.new.ring ≡ self.now.id }
@@ -195,7 +195,7 @@ impl<T: Piece> Ring<T> {
         self.queue.len_as::<Put, R>(rt, &mut lane.seat)
     }
 
-    /// How many pieces the ring holds at one moment of the call, as a pass finds it.
+    /// Returns how many pieces the ring holds at one moment of the call, as a pass finds it.
     pub fn len<R: Wait>(&self, rt: &R, pass: &mut RingPass<T>) -> usize
         requires { pass.old.ring ≡ self.now.id }
         ensures pass { pass.new.ring ≡ self.now.id }

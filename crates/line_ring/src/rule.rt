@@ -9,14 +9,14 @@ use crossbeam_queue::protocol::{Join, Lesson, Outcome, Protocol, Split};
 use std::collections::LinkedList;
 use std::marker::PhantomData;
 
-// What a seat of a ring knows. No value of it is made.
+// What a seat of a ring knows. No program makes a value of it.
 pub(crate) struct View<T> {
     // The dimension of the machine that the pieces are for.
     pub machine: u32,
-    // The records of lanes that were not dealt, and of those that were.
+    // The records of lanes that were not given out, and of those that were.
     pub spare_lanes: LinkedList<LaneRecord<T>>,
     pub lanes: LinkedList<LaneRecord<T>>,
-    // The same of passes.
+    // The records of passes that were not given out, and of those that were.
     pub spare_passes: LinkedList<PassRecord<T>>,
     pub passes: LinkedList<PassRecord<T>>,
     // The record of the end.
@@ -36,7 +36,7 @@ impl<T: Piece> Protocol<T, View<T>> for RingRule<T> {
     ghost first = { first_view };
 }
 
-// A lane puts a piece in, or learns that the ring is full.
+// A lane's step: it puts a piece in, or learns that the ring is full.
 pub(crate) struct Put;
 
 impl<T: Piece> Outcome<T, View<T>> for Put {
@@ -47,7 +47,7 @@ impl<T: Piece> Lesson<T, View<T>> for Put {
     ghost fact = { LaneLearns T.lane T.seq };
 }
 
-// A pass takes a piece, or learns that there is none.
+// A pass's step: it takes a piece, or learns that there is none.
 pub(crate) struct Take;
 
 impl<T: Piece> Outcome<T, View<T>> for Take {
@@ -58,7 +58,7 @@ impl<T: Piece> Lesson<T, View<T>> for Take {
     ghost fact = { PassLearns T.lane T.seq };
 }
 
-// A piece comes out at the end, or all have come out.
+// A step of the end: it takes a piece out, or learns that none is left.
 pub(crate) struct Drain;
 
 impl<T: Piece> Outcome<T, View<T>> for Drain {
@@ -69,7 +69,7 @@ impl<T: Piece> Lesson<T, View<T>> for Drain {
     ghost fact = { RunsTo T.lane T.seq };
 }
 
-// The pieces to come are for the machine of the next dimension.
+// The step that raises the dimension of the pieces' machine by one.
 pub(crate) struct NextMachine;
 
 impl<T> Split<View<T>> for NextMachine {
@@ -78,7 +78,7 @@ impl<T> Split<View<T>> for NextMachine {
     ghost right = { λ _. empty_view };
 }
 
-// One lane's record is dealt out.
+// The step that gives out the record of one lane.
 pub(crate) struct DealLane;
 
 impl<T> Split<View<T>> for DealLane {
@@ -87,7 +87,7 @@ impl<T> Split<View<T>> for DealLane {
     ghost right = { lane_alone };
 }
 
-// One pass's record is dealt out.
+// The step that gives out the record of one pass.
 pub(crate) struct DealPass;
 
 impl<T> Split<View<T>> for DealPass {
@@ -96,7 +96,7 @@ impl<T> Split<View<T>> for DealPass {
     ghost right = { pass_alone };
 }
 
-// The records of two seats come together.
+// The step that joins the records of two seats.
 pub(crate) struct Gather;
 
 impl<T> Join<View<T>> for Gather {

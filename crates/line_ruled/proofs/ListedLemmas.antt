@@ -1,5 +1,5 @@
--- The histories of a gate and of a ring, joined to one of the line: all entries and the close first, and
--- then all that the ring did.
+-- The histories of a gate and of a ring, joined to one history of the queue. All entries and the
+-- close come first, and then all steps of the ring.
 use Rattle.std.proofs.Common.{◌≡◌, ◌≢◌, ℕ, ◌+◌, ◌<◌, ◌≤◌, inl, inr, Bool, true, false, cond, eqb, eq-eqb, ne_eqb, Some, None, List, [], ◌∷◌, ◌++◌, map, length, length-append, sym, refl, ap, ◌∙◌, subst, arith}
 use Rattle.std.specs.List.{AllByRecursion}
 use mathlib.Core.Logic.{dite}
@@ -31,7 +31,7 @@ numbers es = map (λ (e : SettledEntry). e.number) es
 
 -- ---- entries whose jobs come in one after the other
 
--- the number of the entry by which the next job comes
+-- The number of the entry by which the next job comes.
 abbrev chosen : Bool → List QueuedJob → ℕ → ℕ → ℕ
 chosen true [] here later = here
 chosen true (job ∷ jobs) here later = later
@@ -41,12 +41,19 @@ abbrev pub next_number : List SettledEntry → List QueuedJob → ℕ
 next_number [] jobs = 0
 next_number (e ∷ es) jobs = chosen e.accepted jobs e.number (next_number es (jobs_after e.accepted jobs))
 
--- it is the number of one of the entries
-next_is : (P : ℕ → Type 0) (es : List SettledEntry) (jobs : List QueuedJob) → length jobs < accepted_count es → AllByRecursion P (numbers es) → P (next_number es jobs)
+-- It is the number of one of the entries.
+next_is : (P : ℕ → Type 0) (es : List SettledEntry) (jobs : List QueuedJob)
+    → length jobs < accepted_count es
+    → AllByRecursion P (numbers es)
+    → P (next_number es jobs)
 next_is P [] jobs few all = absurd (omega arith)
 next_is P (e ∷ es) jobs few all = first e.accepted e.number es jobs (λ js some. next_is P es js some all.1) few all.0
   where
-    first : (b : Bool) (n : ℕ) (es : List SettledEntry) (jobs : List QueuedJob) → ((js : List QueuedJob) → length js < accepted_count es → P (next_number es js)) → length jobs < one_if b + accepted_count es → P n → P (chosen b jobs n (next_number es (jobs_after b jobs)))
+    first : (b : Bool) (n : ℕ) (es : List SettledEntry) (jobs : List QueuedJob)
+        → ((js : List QueuedJob) → length js < accepted_count es → P (next_number es js))
+        → length jobs < one_if b + accepted_count es
+        → P n
+        → P (chosen b jobs n (next_number es (jobs_after b jobs)))
     first true n es [] later few here = here
     first true n es (job ∷ jobs) later few here = later jobs (omega arith)
     first false n es jobs later few here = later jobs (omega arith)
@@ -55,18 +62,30 @@ none_yet : (es : List SettledEntry) → with_jobs es [] ≡ unfilled (numbers es
 none_yet [] = refl
 none_yet (e ∷ es) = first e.accepted e.number es (none_yet es)
   where
-    first : (b : Bool) (n : ℕ) (es : List SettledEntry) → with_jobs es [] ≡ unfilled (numbers es) → entry n (job_of_entry b []) ∷ with_jobs es (jobs_after b []) ≡ entry n None ∷ unfilled (numbers es)
+    first : (b : Bool) (n : ℕ) (es : List SettledEntry)
+        → with_jobs es [] ≡ unfilled (numbers es)
+        → entry n (job_of_entry b []) ∷ with_jobs es (jobs_after b [])
+        ≡ entry n None ∷ unfilled (numbers es)
     first true n es later = ap (λ (xs : List Entry). entry n None ∷ xs) later
     first false n es later = ap (λ (xs : List Entry). entry n None ∷ xs) later
 
--- the next job comes in
-one_job_more : (es : List SettledEntry) (jobs : List QueuedJob) (job : QueuedJob) → length jobs < accepted_count es → Ascend (numbers es) → with_job (next_number es jobs) job (with_jobs es jobs) ≡ with_jobs es (jobs ++ job ∷ [])
+-- The next job comes in.
+one_job_more : (es : List SettledEntry) (jobs : List QueuedJob) (job : QueuedJob)
+    → length jobs < accepted_count es
+    → Ascend (numbers es)
+    → with_job (next_number es jobs) job (with_jobs es jobs) ≡ with_jobs es (jobs ++ job ∷ [])
 one_job_more [] jobs job few up = absurd (omega arith)
 one_job_more (e ∷ es) jobs job few up = first e.accepted e.number es jobs job (λ js some. one_job_more es js job some up.1) few up.0
   where
-    first : (b : Bool) (n : ℕ) (es : List SettledEntry) (jobs : List QueuedJob) (job : QueuedJob) → ((js : List QueuedJob) → length js < accepted_count es → with_job (next_number es js) job (with_jobs es js) ≡ with_jobs es (js ++ job ∷ []))
-        → length jobs < one_if b + accepted_count es → AllByRecursion (λ m. n < m) (numbers es)
-        → with_job (chosen b jobs n (next_number es (jobs_after b jobs))) job (entry n (job_of_entry b jobs) ∷ with_jobs es (jobs_after b jobs)) ≡ entry n (job_of_entry b (jobs ++ job ∷ [])) ∷ with_jobs es (jobs_after b (jobs ++ job ∷ []))
+    first : (b : Bool) (n : ℕ) (es : List SettledEntry) (jobs : List QueuedJob) (job : QueuedJob)
+        → ((js : List QueuedJob) → length js < accepted_count es
+        → with_job (next_number es js) job (with_jobs es js) ≡ with_jobs es (js ++ job ∷ []))
+        → length jobs < one_if b + accepted_count es
+        → AllByRecursion (λ m. n < m) (numbers es)
+        → with_job (chosen b jobs n (next_number es (jobs_after b jobs))) job
+        (entry n (job_of_entry b jobs) ∷ with_jobs es (jobs_after b jobs))
+        ≡ entry n (job_of_entry b (jobs ++ job ∷ [])) ∷ with_jobs es
+        (jobs_after b (jobs ++ job ∷ []))
     first true n es [] job later few low = ap (λ b. cond b (entry n (Some job) ∷ with_jobs es []) (entry n None ∷ with_job n job (with_jobs es []))) (eq-eqb n n refl)
     first true n es (j ∷ js) job later few low =
         let m = next_number es js in
@@ -81,22 +100,32 @@ one_job_more (e ∷ es) jobs job few up = first e.accepted e.number es jobs job 
         ap (λ b. cond b (entry m (Some job) ∷ with_jobs es jobs) (entry n None ∷ with_job m job (with_jobs es jobs))) (ne_eqb n m (λ same. omega (arith, same, higher)))
         ∙ ap (λ (xs : List Entry). entry n None ∷ xs) (later jobs some)
 
-awaits_next : (es : List SettledEntry) (jobs : List QueuedJob) → length jobs < accepted_count es → AwaitsJob (next_number es jobs) (with_jobs es jobs)
+awaits_next : (es : List SettledEntry) (jobs : List QueuedJob)
+    → length jobs < accepted_count es
+    → AwaitsJob (next_number es jobs) (with_jobs es jobs)
 awaits_next [] jobs few = absurd (omega arith)
 awaits_next (e ∷ es) jobs few = first e.accepted e.number es jobs (awaits_next es) few
   where
-    first : (b : Bool) (n : ℕ) (es : List SettledEntry) (jobs : List QueuedJob) → ((js : List QueuedJob) → length js < accepted_count es → AwaitsJob (next_number es js) (with_jobs es js)) → length jobs < one_if b + accepted_count es
-        → AwaitsJob (chosen b jobs n (next_number es (jobs_after b jobs))) (entry n (job_of_entry b jobs) ∷ with_jobs es (jobs_after b jobs))
+    first : (b : Bool) (n : ℕ) (es : List SettledEntry) (jobs : List QueuedJob)
+        → ((js : List QueuedJob) → length js < accepted_count es
+        → AwaitsJob (next_number es js) (with_jobs es js))
+        → length jobs < one_if b + accepted_count es
+        → AwaitsJob (chosen b jobs n (next_number es (jobs_after b jobs)))
+        (entry n (job_of_entry b jobs) ∷ with_jobs es (jobs_after b jobs))
     first true n es [] later few = inl (refl, subst (AllByRecursion (λ (e : Entry). e.job ≡ None)) (sym (none_yet es)) (none_has (numbers es)))
     first true n es (job ∷ jobs) later few = inr (later jobs (omega arith))
     first false n es jobs later few = inr (later jobs (omega arith))
 
-had_jobs : (es : List SettledEntry) (jobs : List QueuedJob) → length jobs ≤ accepted_count es → accepted (with_jobs es jobs) ≡ jobs
+had_jobs : (es : List SettledEntry) (jobs : List QueuedJob)
+    → length jobs ≤ accepted_count es
+    → accepted (with_jobs es jobs) ≡ jobs
 had_jobs [] [] few = refl
 had_jobs [] (job ∷ jobs) few = absurd (omega arith)
 had_jobs (e ∷ es) jobs few = first e.accepted e.number es jobs (had_jobs es) few
   where
-    first : (b : Bool) (n : ℕ) (es : List SettledEntry) (jobs : List QueuedJob) → ((js : List QueuedJob) → length js ≤ accepted_count es → accepted (with_jobs es js) ≡ js) → length jobs ≤ one_if b + accepted_count es
+    first : (b : Bool) (n : ℕ) (es : List SettledEntry) (jobs : List QueuedJob)
+        → ((js : List QueuedJob) → length js ≤ accepted_count es → accepted (with_jobs es js) ≡ js)
+        → length jobs ≤ one_if b + accepted_count es
         → accepted (entry n (job_of_entry b jobs) ∷ with_jobs es (jobs_after b jobs)) ≡ jobs
     first true n es [] later few = later [] (omega arith)
     first true n es (job ∷ jobs) later few = ap (λ (js : List QueuedJob). job ∷ js) (later jobs (omega arith))
@@ -104,7 +133,9 @@ had_jobs (e ∷ es) jobs few = first e.accepted e.number es jobs (had_jobs es) f
 
 -- ---- the entries of the gate
 
-numbers_low : (lanes : ℕ) (g : List Entering) (k : ℕ) → AreEntries lanes g → AllByRecursion (λ n. n < made g) (numbers_by g k)
+numbers_low : (lanes : ℕ) (g : List Entering) (k : ℕ)
+    → AreEntries lanes g
+    → AllByRecursion (λ n. n < made g) (numbers_by g k)
 numbers_low lanes [] k legal = tt
 numbers_low lanes (makes lane number ∷ g) k legal =
     let before = all_weaker (λ n. n < made g) (λ n. n < made g + 1) (λ n low. omega arith) (numbers_by g k) (numbers_low lanes g k legal.1) in
@@ -115,8 +146,10 @@ numbers_low lanes (makes lane number ∷ g) k legal =
     ]
 numbers_low lanes (shuts number ∷ g) k legal = numbers_low lanes g k legal.1
 
--- a lane's entries have rising numbers
-pub numbers_ascend : (lanes : ℕ) (g : List Entering) (k : ℕ) → AreEntries lanes g → Ascend (numbers_by g k)
+-- A lane's entries have rising numbers.
+pub numbers_ascend : (lanes : ℕ) (g : List Entering) (k : ℕ)
+    → AreEntries lanes g
+    → Ascend (numbers_by g k)
 numbers_ascend lanes [] k legal = tt
 numbers_ascend lanes (makes lane number ∷ g) k legal =
     let before = numbers_ascend lanes g k legal.1 in
@@ -124,8 +157,11 @@ numbers_ascend lanes (makes lane number ∷ g) k legal =
     elim (eqb lane k) as (λ b. Ascend (cond b (numbers_by g k ++ number ∷ []) (numbers_by g k))) [ true ↦ ascend-push (numbers_by g k) number before low | false ↦ before ]
 numbers_ascend lanes (shuts number ∷ g) k legal = numbers_ascend lanes g k legal.1
 
--- no lane past the last has an entry
-pub no_numbers : (lanes : ℕ) (g : List Entering) (k : ℕ) → AreEntries lanes g → lanes ≤ k → numbers_by g k ≡ []
+-- No lane past the last has an entry.
+pub no_numbers : (lanes : ℕ) (g : List Entering) (k : ℕ)
+    → AreEntries lanes g
+    → lanes ≤ k
+    → numbers_by g k ≡ []
 no_numbers lanes [] k legal high = refl
 no_numbers lanes (makes lane number ∷ g) k legal high =
     ap (λ b. cond b (numbers_by g k ++ number ∷ []) (numbers_by g k)) (ne_eqb lane k (λ same. omega (arith, same, legal.0.0))) ∙ no_numbers lanes g k legal.1 high
@@ -161,7 +197,8 @@ first_taken [] k = refl
 first_taken (makes lane number ∷ g) k = first_taken g k
 first_taken (shuts number ∷ g) k = first_taken g k
 
-first_entries : (g : List Entering) (k : ℕ) → entries_by (entries_first g) k ≡ unfilled (numbers_by g k)
+first_entries : (g : List Entering) (k : ℕ)
+    → entries_by (entries_first g) k ≡ unfilled (numbers_by g k)
 first_entries [] k = refl
 first_entries (makes lane number ∷ g) k =
     let before = first_entries g k in
@@ -171,7 +208,9 @@ first_entries (makes lane number ∷ g) k =
     ]
 first_entries (shuts number ∷ g) k = first_entries g k
 
-first_legal : (lanes passes : ℕ) (g : List Entering) → AreEntries lanes g → Legal (May lanes passes) (entries_first g)
+first_legal : (lanes passes : ℕ) (g : List Entering)
+    → AreEntries lanes g
+    → Legal (May lanes passes) (entries_first g)
 first_legal lanes passes [] legal = tt
 first_legal lanes passes (makes lane number ∷ g) legal = ((legal.0.0, legal.0.1 ∙ sym (first_entered g), first_closed g ∙ legal.0.2), first_legal lanes passes g legal.1)
 first_legal lanes passes (shuts number ∷ g) legal = ((legal.0.0 ∙ sym (first_entered g), first_closed g ∙ legal.0.1), first_legal lanes passes g legal.1)
@@ -184,10 +223,13 @@ put_by h k = (lane_part h k).accepted
 abbrev pub taken_by : List (RingDeed QueuedJob) → ℕ → List QueuedJob
 taken_by h k = (pass_part h k).taken
 
-put_own : (lane : ℕ) (job : QueuedJob) (h : List (RingDeed QueuedJob)) → put_by (accepts lane job ∷ h) lane ≡ put_by h lane ++ job ∷ []
+put_own : (lane : ℕ) (job : QueuedJob) (h : List (RingDeed QueuedJob))
+    → put_by (accepts lane job ∷ h) lane ≡ put_by h lane ++ job ∷ []
 put_own lane job h = ap (λ (r : RingLaneRecord QueuedJob). r.accepted) (lane_own lane job h)
 
-put_else : (lane : ℕ) (job : QueuedJob) (h : List (RingDeed QueuedJob)) (k : ℕ) → k ≢ lane → put_by (accepts lane job ∷ h) k ≡ put_by h k
+put_else : (lane : ℕ) (job : QueuedJob) (h : List (RingDeed QueuedJob)) (k : ℕ)
+    → k ≢ lane
+    → put_by (accepts lane job ∷ h) k ≡ put_by h k
 put_else lane job h k other = ap (λ (r : RingLaneRecord QueuedJob). r.accepted) (lane_other lane job h k other)
 
 module _ (lanes passes : ℕ) (g : List Entering) (es : ℕ → List SettledEntry) where
@@ -228,24 +270,30 @@ module _ (lanes passes : ℕ) (g : List Entering) (es : ℕ → List SettledEntr
       ∙ (before ∙ sym (ap (λ (r : RingPassRecord QueuedJob). r.taken) (pass_other pass job h k other))))
   listed_taken (drains job ∷ h) k = listed_taken h k
 
-  -- each lane has an accepted entry for each job that it put in; no pass past the last took a job
+  -- Each lane has an accepted entry for each job that it put in; no pass past the last took a job.
   abbrev pub Enough : List (RingDeed QueuedJob) → Type 0
   Enough h = (k : ℕ) → length (put_by h k) ≤ accepted_count (es k)
 
   abbrev pub Few : List (RingDeed QueuedJob) → Type 0
   Few h = (k : ℕ) → passes ≤ k → length (taken_by h k) ≡ 0
 
-  enough_before : (lane : ℕ) (job : QueuedJob) (h : List (RingDeed QueuedJob)) → Enough (accepts lane job ∷ h) → Enough h
+  enough_before : (lane : ℕ) (job : QueuedJob) (h : List (RingDeed QueuedJob))
+      → Enough (accepts lane job ∷ h)
+      → Enough h
   enough_before lane job h enough k =
       dite (ℕ_discrete k lane)
       (λ here. subst (λ (n : ℕ). length (put_by h n) ≤ accepted_count (es n)) (sym here) (omega (arith, enough lane, ap length (put_own lane job h), length-append (put_by h lane) (job ∷ []))))
       (λ other. omega (arith, enough k, ap length (put_else lane job h k other)))
 
-  -- the entry by which this job came
-  enough_here : (lane : ℕ) (job : QueuedJob) (h : List (RingDeed QueuedJob)) → Enough (accepts lane job ∷ h) → length (put_by h lane) < accepted_count (es lane)
+  -- The entry by which this job came.
+  enough_here : (lane : ℕ) (job : QueuedJob) (h : List (RingDeed QueuedJob))
+      → Enough (accepts lane job ∷ h)
+      → length (put_by h lane) < accepted_count (es lane)
   enough_here lane job h enough = omega (arith, enough lane, ap length (put_own lane job h), length-append (put_by h lane) (job ∷ []))
 
-  few_before : (pass : ℕ) (job : QueuedJob) (h : List (RingDeed QueuedJob)) → Few (takes_piece pass job ∷ h) → Few h
+  few_before : (pass : ℕ) (job : QueuedJob) (h : List (RingDeed QueuedJob))
+      → Few (takes_piece pass job ∷ h)
+      → Few h
   few_before pass job h few k high =
       dite (ℕ_discrete k pass)
       (λ here. subst (λ (n : ℕ). length (taken_by h n) ≡ 0) (sym here)
@@ -253,7 +301,9 @@ module _ (lanes passes : ℕ) (g : List Entering) (es : ℕ → List SettledEntr
       omega (arith, none, ap (λ (r : RingPassRecord QueuedJob). length r.taken) (pass_own pass job h), length-append (taken_by h pass) (job ∷ []))))
       (λ other. omega (arith, few k high, ap (λ (r : RingPassRecord QueuedJob). length r.taken) (pass_other pass job h k other)))
 
-  few_here : (pass : ℕ) (job : QueuedJob) (h : List (RingDeed QueuedJob)) → Few (takes_piece pass job ∷ h) → pass < passes
+  few_here : (pass : ℕ) (job : QueuedJob) (h : List (RingDeed QueuedJob))
+      → Few (takes_piece pass job ∷ h)
+      → pass < passes
   few_here pass job h few =
       dite (dec_le passes pass)
       (λ high. absurd (omega (arith, few pass high, ap (λ (r : RingPassRecord QueuedJob). length r.taken) (pass_own pass job h), length-append (taken_by h pass) (job ∷ []))))
@@ -263,7 +313,9 @@ module _ (lanes passes : ℕ) (g : List Entering) (es : ℕ → List SettledEntr
     rising : (k : ℕ) → Ascend (numbers (es k))
     rising k = subst Ascend (same k) (numbers_ascend lanes g k entries)
 
-    pub listed_entries : (h : List (RingDeed QueuedJob)) (k : ℕ) → Enough h → entries_by (listed h) k ≡ with_jobs (es k) (put_by h k)
+    pub listed_entries : (h : List (RingDeed QueuedJob)) (k : ℕ)
+        → Enough h
+        → entries_by (listed h) k ≡ with_jobs (es k) (put_by h k)
     listed_entries [] k enough = first_entries g k ∙ (ap unfilled (same k) ∙ sym (none_yet (es k)))
     listed_entries (accepts lane job ∷ h) k enough =
         let sofar = enough_before lane job h enough in
@@ -279,12 +331,18 @@ module _ (lanes passes : ℕ) (g : List Entering) (es : ℕ → List SettledEntr
     listed_entries (takes_piece pass job ∷ h) k enough = listed_entries h k enough
     listed_entries (drains job ∷ h) k enough = listed_entries h k enough
 
-    front : (h : List (RingDeed QueuedJob)) (job : QueuedJob) → ring_waiting h ≡ job ∷ rest_of (ring_waiting h) → waiting (listed h) ≡ job ∷ rest_of (waiting (listed h))
+    front : (h : List (RingDeed QueuedJob)) (job : QueuedJob)
+        → ring_waiting h ≡ job ∷ rest_of (ring_waiting h)
+        → waiting (listed h) ≡ job ∷ rest_of (waiting (listed h))
     front h job first =
         let waits = listed_waiting h in
         waits ∙ (first ∙ ap (λ (js : List QueuedJob). job ∷ js) (ap rest_of (sym waits)))
 
-    pub listed_legal : (h : List (RingDeed QueuedJob)) → IsLegal lane_id seq_id h → Enough h → Few h → Legal (May lanes passes) (listed h)
+    pub listed_legal : (h : List (RingDeed QueuedJob))
+        → IsLegal lane_id seq_id h
+        → Enough h
+        → Few h
+        → Legal (May lanes passes) (listed h)
     listed_legal [] legal enough few = first_legal lanes passes g entries
     listed_legal (accepts lane job ∷ h) legal enough few =
         let sofar = enough_before lane job h enough in

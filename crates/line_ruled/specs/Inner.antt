@@ -1,3 +1,3 @@
--- Definitions that only the ruled line's own contracts and proofs use.
+-- Definitions that only private contracts and proofs of `line_ruled` use.
 pub mod Join
 pub mod Handle

@@ -1,11 +1,11 @@
-// What the callers of a ruled line hold. None of it has a `Drop`: it is spent in the line's end.
+// The handles of a `RuledLine`. None of them can be dropped: they are consumed by the queue's end.
 ghost use Rattle.line_ruled.specs.Inner.Join.{IsJoined};
 
 use job_queue::QueuedJob;
 use line_gate::{GateCloser, GateLane, GateNote, GatePass};
 use line_ring::{RingEnd, RingLane, RingPass};
 
-/// The right to hand in jobs by one lane of a `RuledLine`.
+/// The right to submit jobs of one lane to a `RuledLine`.
 pub struct RuledLane {
     pub(crate) gate: GateLane,
     pub(crate) ring: RingLane<QueuedJob>,
@@ -25,7 +25,7 @@ pub struct RuledCloser {
     pub(crate) ring: RingEnd<QueuedJob>,
 }
 
-/// Shows that a `RuledLine` is closed.
+/// A token that shows that a `RuledLine` is closed.
 pub struct RuledNote {
     pub(crate) gate: GateNote,
     pub(crate) ring: RingEnd<QueuedJob>,
@@ -35,14 +35,14 @@ impl RuledLane {
     ghost use Rattle.std.specs.Prelude.{◌≡◌, length};
     ghost use Rattle.line_ruled.specs.Inner.Handle.{lane_record};
 
-    /// The lane's number.
+    /// Returns the lane's number.
     pub fn number(&self) -> u32
         ensures { result ≡ (lane_record self.now).number }
     {
         self.ring.number()
     }
 
-    /// How many entries the lane has made.
+    /// Returns the number of entries that the lane has made.
     pub fn entry_count(&self) -> u64
         ensures { result ≡ length (lane_record self.now).entries }
     {
@@ -54,7 +54,7 @@ impl RuledNote {
     ghost use Rattle.std.specs.Prelude.{◌≡◌};
     ghost use Rattle.line_ruled.specs.Inner.Handle.{note_number};
 
-    /// The close number: how many entries came before the close.
+    /// Returns the close number: how many entries came before the close.
     pub fn number(&self) -> u64
         ensures { result ≡ note_number self.now }
     {

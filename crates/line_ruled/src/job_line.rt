@@ -1,4 +1,4 @@
-// The ruled line, and that it is a line of jobs.
+// The calls of `RuledLine`, which meet the contract `JobLine`.
 ghost use Rattle.std.specs.Prelude.{◌≡◌, ◌≢◌, ℕ, ◌+◌, ◌-◌, ◌<◌, ◌≤◌, ◌++◌, [], ◌∷◌, List, Ok, Err, Some, None, IfOk, IfErr, map, length, slice_index};
 ghost use Rattle.std.specs.List.{All};
 ghost use Rattle.ghost_history.specs.Sums.{times};
@@ -20,7 +20,7 @@ use std::sync::Wait;
 impl RuledLine {
     ghost use Rattle.line_ruled.specs.Inner.Handle.{is_closer as IsCloser, is_note as IsNote};
 
-    /// Closes the line, and waits for nobody.
+    /// Closes the queue. Never waits.
     pub fn close(&self, closer: RuledCloser) -> RuledNote
         requires { IsCloser (line_id self.now) closer }
         ensures { IsNote (line_id self.now) result }

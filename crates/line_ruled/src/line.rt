@@ -1,4 +1,4 @@
-// The ruled line, and what a call does at its gate and in its ring together.
+// `RuledLine`, and what its calls do at the gate and in the ring together.
 ghost use Rattle.std.specs.Prelude.{◌≡◌, ◌+◌, ◌<◌, ◌++◌, ◌∷◌, ◌^◌, [], Some, None, IsSome, IfOk, IfErr, length};
 ghost use Rattle.line_gate.specs.Record.{Seals as SealsGate};
 ghost use Rattle.line_gate.specs.declared.record.Reading.{Reading as GateReading};
@@ -11,12 +11,13 @@ use line_gate::{Entered, Gate, GateLane, GatePass, Pushed, Witness};
 use line_ring::{DidPut, Ring, RingLane, RingPass, SawEmpty, SawFull};
 use std::sync::Wait;
 
-// The gate and the ring of a ruled line.
+// The gate of a `RuledLine`.
 pub(crate) type LineGate = Gate<RingTook, RingWasFull, RingWasEmpty>;
 
+/// The ring of a `RuledLine`.
 pub(crate) type LineRing = Ring<QueuedJob>;
 
-// A push of this call put a job in, by this entry: the entry is settled as accepted by it alone.
+// A token of a push that put a job in. Only it settles the push's entry as accepted.
 pub(crate) struct RingTook(DidPut<Entered>);
 
 impl Pushed for RingTook {
@@ -28,7 +29,7 @@ impl Pushed for RingTook {
     }
 }
 
-// A push of this call, by this entry, found the ring full: the entry is settled as full by it alone.
+// A token of a push that found the ring full. Only it settles the push's entry as full.
 pub(crate) struct RingWasFull(SawFull<Entered>);
 
 impl Pushed for RingWasFull {
@@ -40,7 +41,7 @@ impl Pushed for RingWasFull {
     }
 }
 
-// A pop of this call found the ring empty: the gate is read with it alone.
+// A token of a pop that found the ring empty. The gate is read only with it.
 pub(crate) struct RingWasEmpty(SawEmpty);
 
 impl Witness for RingWasEmpty {
@@ -50,25 +51,26 @@ impl Witness for RingWasEmpty {
     }
 }
 
-// The gate was read as sealed. Only `RuledLine::read` makes it, and it has no `Drop`.
+// A token of a reading that found the gate sealed. Only `RuledLine::read` makes it, and it cannot
+// be dropped.
 pub(crate) struct Sealed(());
 
-/// Shows that a `RuledLine` has ended: a pop found its ring empty after its gate was read as sealed.
-/// Only the pop that found it so makes one.
+/// A token that shows that a `RuledLine` has ended. Only a pop makes one, if it found the ring
+/// empty after the gate was read as sealed.
 #[derive(Debug, Drop)]
 pub struct RuledEnd(());
 
-/// A line of jobs with no lock: a ring, in which the jobs wait, and the gate beside it.
+/// A lock-free queue of jobs: a ring in which the jobs wait, and a gate that counts the entries.
 pub struct RuledLine {
     pub(crate) gate: LineGate,
     pub(crate) ring: LineRing,
-    // Where the number of accepted jobs of each lane goes at the end.
+    // Room for the numbers of accepted jobs of the lanes, which the end returns.
     pub(crate) accepted: Vec<u64>,
     ghost slots: { length accepted.items ≡ gate.counts.lanes },
 }
 
 impl RuledLine {
-    // Puts the job into the ring by the entry that was made for it, and settles that.
+    // Puts the job into the ring with its entry, and settles that entry.
     pub(crate) fn put<R: Wait>(
         &self,
         rt: &R,
@@ -105,7 +107,7 @@ impl RuledLine {
         }
     }
 
-    // Reads the gate, once the ring was found empty, and shows where it is sealed.
+    // Reads the gate after the ring was found empty. Returns a token if the gate is sealed.
     pub(crate) fn read(&self, gate: &mut GatePass, saw: SawEmpty) -> Option<Sealed>
         requires gate { gate.old.gate ≡ self.now.gate.table }
         ensures gate { gate.new.gate ≡ self.now.gate.table }
@@ -122,7 +124,7 @@ impl RuledLine {
         }
     }
 
-    // Takes the job at the front once the gate was read as sealed.
+    // Takes the job at the front after the gate was read as sealed.
     pub(crate) fn pop_at_last<R: Wait>(
         &self,
         rt: &R,

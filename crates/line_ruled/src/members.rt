@@ -1,4 +1,4 @@
-// The members of a ruled line are made when it opens, and come together when it ends.
+// The lanes and passes of a `RuledLine`: making them when it opens, collecting them when it ends.
 ghost use Rattle.std.specs.Prelude.{◌≡◌, ◌<◌, ◌≤◌, ◌++◌, [], map, length};
 ghost use Rattle.std.specs.List.{All};
 ghost use Rattle.std.specs.Vec.{vec_capacity};
@@ -83,7 +83,7 @@ pub(crate) fn deal_passes(
     passes
 }
 
-// Takes the lanes back, and puts the count of each lane's jobs into its place.
+// Takes the lanes back. Stores each lane's number of accepted jobs at the lane's number.
 pub(crate) fn gather_lanes(
     gate: &LineGate,
     ring: &LineRing,

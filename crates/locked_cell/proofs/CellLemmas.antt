@@ -1,4 +1,4 @@
--- The rule of a cell, as words, homes and views change.
+-- The rule of a cell, as words, slots and views change.
 use Rattle.std.proofs.Common.{◌≡◌, ◌≢◌, ℕ, ◌<◌, Option, Some, None, List, [], ◌∷◌, ◌++◌, length, length-set, get_or, get_or-set_same, set, sym, refl, ap, ◌∙◌, subst, arith}
 use mathlib.Core.Logic.{dite}
 use mathlib.Core.Option.{some, none, some-injective}
@@ -12,18 +12,26 @@ use Rattle.ghost_history.proofs.SumLemmas.{total-set, total-push, term_le, posit
 use Rattle.ghost_history.proofs.DealLemmas.{only_view, in_changed, in_cut, in_joined}
 use Rattle.locked_cell.specs.Cell.{out_of, is_out, IsCell, takes_at_0, MayTry}
 
--- a step that leaves the word and the view as they are changes nothing
-pub changes_nothing : {S V : Type 0} (holds : State S V → Type 0) (s : State S V) → holds s → (id : ℕ) (v : V) → get_elem? s.views id ≡ some v → holds (stepped s 0 (get_or s.words 0 0) id [] v keeps)
+-- A step that leaves the word and the view as they are changes nothing.
+pub changes_nothing : {S V : Type 0} (holds : State S V → Type 0) (s : State S V)
+    → holds s
+    → (id : ℕ) (v : V)
+    → get_elem? s.views id ≡ some v
+    → holds (stepped s 0 (get_or s.words 0 0) id [] v keeps)
 changes_nothing {S} {V} holds s k id v me =
     let words : set s.words 0 (get_or s.words 0 0) ≡ s.words = set-get_or s.words 0 0 in
     let views : set s.views id v ≡ s.views = set_again s.views id v me in
     let P : List ℕ → List V → Type 0 = λ ws vs. holds (record { words = ws; homes = s.homes; views = vs }) in
     subst (λ (ws : List ℕ). P ws (set s.views id v)) (sym words) (subst (P s.words) (sym views) k)
 
--- A seat may try where it would learn of what is at home, and the rule would stand once it took it.
-pub may_try : {S V : Type 0} (holding : V → S → V) (Learns : V → S → Type 0) (holds : State S V → Type 0) (n id : ℕ) (m : Me S V) → m.1 ≡ []
+-- A seat may try if it would learn of the value in the slot, and the rule would hold after the
+-- take.
+pub may_try : {S V : Type 0} (holding : V → S → V) (Learns : V → S → Type 0)
+    (holds : State S V → Type 0) (n id : ℕ) (m : Me S V)
+    → m.1 ≡ []
     → ((s : State S V) → holds s → get_elem? s.views id ≡ some m.0 → get_or s.words 0 0 ≡ 0
-    → (x : S) × (get_elem? s.homes 0 ≡ some (some x)) × holds (stepped s 0 1 id [] (holding m.0 x) (takes 0 x)) × Learns m.0 x)
+    → (x : S) × (get_elem? s.homes 0 ≡ some (some x))
+    × holds (stepped s 0 1 id [] (holding m.0 x) (takes 0 x)) × Learns m.0 x)
     → MayTry holding Learns holds n id m
 may_try {S} {V} holding Learns holds n id m no_slot at_0 s k homes me small =
     let G : ℕ → Type 0 = λ new. (w : V) × (a : Act S) × Valid s.homes m.1 a × holds (stepped s 0 new id m.1 w a) × takes_at_0 holding Learns (step n 0 0 1 none) m (get_or s.words 0 0) (w, carried_after m.1 a) in
@@ -39,8 +47,11 @@ may_try {S} {V} holding Learns holds n id m no_slot at_0 s k homes me small =
     (λ miss. (m.0, keeps, tt, here m.1 no_slot keeps (get_or s.words 0 0) m.0 (changes_nothing holds s k id m.0 me), ((λ hit. absurd (miss hit)), λ _. refl)))
 
 module _ {S V : Type 0} (found : V → Option S) (members : V → ℕ) where
-  -- a new table
-  pub opens : (Fits : S → Type 0) (v : V) (x : S) → found v ≡ None → Fits x → IsCell found members Fits (opening (0 ∷ []) (x ∷ []) v)
+  -- A new table.
+  pub opens : (Fits : S → Type 0) (v : V) (x : S)
+      → found v ≡ None
+      → Fits x
+      → IsCell found members Fits (opening (0 ∷ []) (x ∷ []) v)
   opens Fits v x idle fits =
       let is_in : is_out found members v ≡ 0 = ap out_of idle in
       record {
@@ -52,9 +63,16 @@ module _ {S V : Type 0} (found : V → Option S) (members : V → ℕ) where
         taken_by = only_view (λ (z : V). 0 < is_out found members z → 0 < members z) v (λ is. absurd (omega arith));
       }
 
-  module _ {Fits : S → Type 0} (s : State S V) (c : IsCell found members Fits s) (id : ℕ) (v : V) (me : get_elem? s.views id ≡ some v) where
-    -- a member's seat takes the value, where the word is 0
-    pub takes_value : (w : V) (x : S) → get_or s.words 0 0 ≡ 0 → found v ≡ None → found w ≡ Some x → 0 < members w → Fits x → IsCell found members Fits (stepped s 0 1 id [] w (takes 0 x))
+  module _ {Fits : S → Type 0} (s : State S V) (c : IsCell found members Fits s) (id : ℕ) (v : V)
+      (me : get_elem? s.views id ≡ some v) where
+    -- A member's seat takes the value if the word is 0.
+    pub takes_value : (w : V) (x : S)
+        → get_or s.words 0 0 ≡ 0
+        → found v ≡ None
+        → found w ≡ Some x
+        → 0 < members w
+        → Fits x
+        → IsCell found members Fits (stepped s 0 1 id [] w (takes 0 x))
     takes_value w x free idle some_x member fits =
         let moved = total-set (is_out found members) s.views id v w me in
         let was_in : is_out found members v ≡ 0 = ap out_of idle in
@@ -71,8 +89,13 @@ module _ {S V : Type 0} (found : V → Option S) (members : V → ℕ) where
           taken_by = in_changed (λ (z : V). 0 < is_out found members z → 0 < members z) s.views id w (λ _. member) c.taken_by;
         }
 
-    -- The seat gives a value back that fits from then on.
-    pub gives_value : (Fits' : S → Type 0) (x y : S) (w : V) → found v ≡ Some x → found w ≡ None → length s.homes ≡ 1 → Fits' y → IsCell found members Fits' (stepped s 0 0 id ((0, y) ∷ []) w gives)
+    -- The seat gives a value back, which fits then.
+    pub gives_value : (Fits' : S → Type 0) (x y : S) (w : V)
+        → found v ≡ Some x
+        → found w ≡ None
+        → length s.homes ≡ 1
+        → Fits' y
+        → IsCell found members Fits' (stepped s 0 0 id ((0, y) ∷ []) w gives)
     gives_value Fits' x y w some_x idle one_home fits =
         let moved = total-set (is_out found members) s.views id v w me in
         let was_out : is_out found members v ≡ 1 = ap out_of some_x in
@@ -88,8 +111,13 @@ module _ {S V : Type 0} (found : V → Option S) (members : V → ℕ) where
           taken_by = λ j u there is. absurd (omega (arith, is, nobody, term_le (is_out found members) (set s.views id w) j u there));
         }
 
-    -- a view is cut in two
-    pub cuts : (left right : V) → found v ≡ None → found left ≡ None → found right ≡ None → IsCell found members Fits (record { words = s.words; homes = s.homes; views = set s.views id left ++ right ∷ [] })
+    -- A view is cut in two.
+    pub cuts : (left right : V)
+        → found v ≡ None
+        → found left ≡ None
+        → found right ≡ None
+        → IsCell found members Fits (record
+        { words = s.words; homes = s.homes; views = set s.views id left ++ right ∷ [] })
     cuts left right idle left_none right_none =
         let was : is_out found members v ≡ 0 = ap out_of idle in
         let left_in : is_out found members left ≡ 0 = ap out_of left_none in
@@ -104,9 +132,15 @@ module _ {S V : Type 0} (found : V → Option S) (members : V → ℕ) where
           taken_by = in_cut (λ (z : V). 0 < is_out found members z → 0 < members z) s.views id left right (λ is. absurd (omega (arith, is, left_in))) (λ is. absurd (omega (arith, is, right_in))) c.taken_by;
         }
 
-    -- a view takes in another
-    pub joins : (other : ℕ) (w both spent : V) → found v ≡ None → found w ≡ None → found both ≡ None → found spent ≡ None → get_elem? (set s.views id both) other ≡ some w
-        → IsCell found members Fits (record { words = s.words; homes = s.homes; views = set (set s.views id both) other spent })
+    -- A view is joined with another one.
+    pub joins : (other : ℕ) (w both spent : V)
+        → found v ≡ None
+        → found w ≡ None
+        → found both ≡ None
+        → found spent ≡ None
+        → get_elem? (set s.views id both) other ≡ some w
+        → IsCell found members Fits (record
+        { words = s.words; homes = s.homes; views = set (set s.views id both) other spent })
     joins other w both spent idle none_too both_none spent_none there =
         let was : is_out found members v ≡ 0 = ap out_of idle in
         let was_too : is_out found members w ≡ 0 = ap out_of none_too in
@@ -122,8 +156,10 @@ module _ {S V : Type 0} (found : V → Option S) (members : V → ℕ) where
           taken_by = in_joined (λ (z : V). 0 < is_out found members z → 0 < members z) s.views id other both spent (λ is. absurd (omega (arith, is, both_in))) (λ is. absurd (omega (arith, is, spent_in))) c.taken_by;
         }
 
-    -- Where all members are in one view that has not taken the value, it is at home.
-    pub at_home : found v ≡ None → ((j : ℕ) (u : V) → j ≢ id → get_elem? s.views j ≡ some u → members u ≡ 0) → (x : S) × (get_elem? s.homes 0 ≡ some (some x)) × Fits x
+    -- If one view has all members and has not taken the value, the value is in its slot.
+    pub at_home : found v ≡ None
+        → ((j : ℕ) (u : V) → j ≢ id → get_elem? s.views j ≡ some u → members u ≡ 0)
+        → (x : S) × (get_elem? s.homes 0 ≡ some (some x)) × Fits x
     at_home idle nobody_else = c.home (sym c.out ∙ nobody_out)
       where
         nobody_out : total (is_out found members) s.views ≡ 0

@@ -1,4 +1,4 @@
-// The cell.
+// The cell and its calls.
 ghost use Rattle.std.specs.Prelude.{◌≡◌, ℕ, [], ◌∷◌, true, false, IfOk};
 ghost use mathlib.Core.Option.{none};
 ghost use Rattle.atomic_table.specs.Table.{step, opening, Allows, Splits, Joins};
@@ -11,16 +11,18 @@ use std::alloc::{AllocError, Global};
 use std::hint::spin_loop;
 use std::sync::{Mutex, Wait};
 
-// How often a call tries to take the value before it goes to the door. Most calls hold it for less time.
+// The number of tries before a call queues at the door. Most calls hold the value for a shorter
+// time.
 const TRIES: u32 = 30;
 
-// How often the one at the door tries between two pauses. The first pauses spin too, and are short.
+// The number of tries at the door between two pauses. The first pauses spin too, and are short.
 const TRIES_AT_DOOR: u32 = 8;
 
-/// A value that threads take and give back, which they share by `&`. Each has a seat of its own.
+/// A value that threads take and give back. Threads share the cell by reference, and each has a
+/// seat of its own.
 #[derive(Drop)]
 pub struct LockedCell<S: Drop, V, K, R: CellRule<S, V, K>> {
-    /// The table in whose slot 0 the value lies.
+    /// The table with the value in its slot 0.
     pub table: Table<S, V, K, R, Global>,
     door: Mutex<()>,
     ghost sized: { (table.shared.table_id.words ≡ 1) × (table.shared.table_id.slots ≡ 1) },
@@ -29,7 +31,8 @@ pub struct LockedCell<S: Drop, V, K, R: CellRule<S, V, K>> {
 impl<S: Drop, V, K, R: CellRule<S, V, K>> LockedCell<S, V, K, R> {
     ghost use Rattle.locked_cell.specs.Handle.{table_of, key_of};
 
-    /// A cell with this value, and the seat that has all records. No other call takes memory.
+    /// Makes a cell with this value, and the seat that has all records. No other call allocates
+    /// memory.
     pub fn new(
         alloc: Global,
         value: S,
@@ -50,7 +53,7 @@ impl<S: Drop, V, K, R: CellRule<S, V, K>> LockedCell<S, V, K, R> {
         Ok((LockedCell { table, door }, seat))
     }
 
-    /// A seat with some of the records that `seat` has.
+    /// Splits off a seat with some of the records that `seat` has.
     pub fn deal<D: Split<V>>(&self, seat: &mut Seat<S, V>) -> Seat<S, V>
         requires table { seat.old.table_id ≡ table_of self.now }
         requires cut { Splits (R.holds (key_of self.now)) seat.old.id seat.old.me.0
@@ -63,7 +66,7 @@ impl<S: Drop, V, K, R: CellRule<S, V, K>> LockedCell<S, V, K, R> {
         self.table.shared.split_seat::<D>(seat)
     }
 
-    /// Takes in the records of another seat.
+    /// Joins the records of another seat to those of `seat`.
     pub fn gather<J: Join<V>>(&self, seat: &mut Seat<S, V>, other: Seat<S, V>)
         requires tables { (seat.old.table_id ≡ table_of self.now)
             × (other.table_id ≡ table_of self.now) }
@@ -76,7 +79,7 @@ impl<S: Drop, V, K, R: CellRule<S, V, K>> LockedCell<S, V, K, R> {
         self.table.shared.join_seat::<J>(seat, other);
     }
 
-    /// Reads the word, by which the seat learns what the rule says.
+    /// Reads the word. The seat learns from it what the rule says.
     pub fn look<P: Play<S, V>>(&self, seat: &mut Seat<S, V>) -> u64
         requires table { seat.old.table_id ≡ table_of self.now }
         requires allows { Allows (R.holds (key_of self.now)) 1 seat.old.id seat.old.me 0 (λ n. n)
@@ -87,7 +90,7 @@ impl<S: Drop, V, K, R: CellRule<S, V, K>> LockedCell<S, V, K, R> {
         self.table.shared.load::<P>(seat, 0)
     }
 
-    // Takes the value, where no other seat has it.
+    // Takes the value if no other seat has it. Returns whether it did.
     fn try_enter(&self, seat: &mut Seat<S, V>) -> bool
         requires table { seat.old.table_id ≡ table_of self.now }
         requires may { MayTry R.holding R.learns (R.holds (key_of self.now)) 1 seat.old.id
@@ -103,7 +106,7 @@ impl<S: Drop, V, K, R: CellRule<S, V, K>> LockedCell<S, V, K, R> {
             == 0
     }
 
-    // Takes the value, where it comes home within this number of tries.
+    // Takes the value if it comes back within this number of tries. Returns whether it did.
     fn try_some(&self, seat: &mut Seat<S, V>, tries: u32) -> bool
         requires table { seat.old.table_id ≡ table_of self.now }
         requires may { MayTry R.holding R.learns (R.holds (key_of self.now)) 1 seat.old.id
@@ -122,8 +125,8 @@ impl<S: Drop, V, K, R: CellRule<S, V, K>> LockedCell<S, V, K, R> {
         false
     }
 
-    /// Takes the value. A thread that has tried some times waits at the door, and the first one there
-    /// tries on.
+    /// Takes the value. After some tries a thread waits at a door, a mutex, and only the first one
+    /// there tries again.
     pub fn enter<W: Wait>(&self, rt: &W, seat: &mut Seat<S, V>)
         requires table { seat.old.table_id ≡ table_of self.now }
         requires may { MayTry R.holding R.learns (R.holds (key_of self.now)) 1 seat.old.id
@@ -156,7 +159,7 @@ impl<S: Drop, V, K, R: CellRule<S, V, K>> LockedCell<S, V, K, R> {
         self.table.shared.store::<P>(seat, 0, 0);
     }
 
-    /// The value, as the rule says of the end.
+    /// Ends the cell and returns the value, of which the rule says what holds at the end.
     pub fn end(self, seat: Seat<S, V>) -> S
         requires { seat.table_id ≡ table_of self }
         ensures { Leaves (R.holds (key_of self)) seat.id seat.me.0 result }

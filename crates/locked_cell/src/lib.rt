@@ -1,8 +1,9 @@
-//! A value under a lock that threads take and give back, one at a time.
+//! A mutex around a value (`LockedCell`): threads take the value and give it back, one at a time.
 //!
-//! It lies in the one slot of a table with one word. A seat takes it by one exchange of that word, and
-//! gives it back by one store, in which the records that the seat carries gain what was done. What the
-//! records say is the matter of each user's rule. How a thread waits stands here alone.
+//! The value is in the one slot of a table with one word. A seat takes it by one compare-exchange
+//! of that word, and gives it back by one store. By that store the records that the seat carries,
+//! which only proofs see, gain what was done. Each user's rule says what the records mean. How a
+//! thread waits is decided here alone.
 #![tactic(auto)]
 
 mod cell;

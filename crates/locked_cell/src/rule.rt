@@ -1,17 +1,18 @@
-// The rule of a cell, and the step by which its value is taken.
+// The rule of a cell, and the step that takes its value.
 ghost use Rattle.locked_cell.specs.Cell.{takes_at_0};
 
 use atomic_table::{Play, TableRule};
 use std::marker::PhantomData;
 
-/// The rule of a cell with a value S. V is what a seat knows, and K what the cell is told once.
+/// The rule of a cell with a value of type `S`. `V` is what a seat knows, and `K` is the key that
+/// the cell gets when it is made.
 pub trait CellRule<S, V, K>: TableRule<S, V, K> {
     ghost holding: { V → S → V };
 
     ghost learns: { V → S → Type 0 };
 }
 
-// A seat tries to take the value.
+// The step by which a seat tries to take the value.
 pub(crate) struct Enter<K, R> {
     rule: PhantomData<(K, R)>,
 }

@@ -14,7 +14,12 @@ none_is_some : {a : Region} → ◌≡◌ {A = Option Region} None (Some a) → 
 none_is_some e = cc
 
 -- bits of which none is set represent a machine whose stations hold nothing
-pub Represents-new : (n : ℕ) (held : Holdings) (bits : List Bool) → n ≤ MAX_BITS_DIM → 2 ^ n ≤ length bits → ((p : ℕ) → bit_of bits p ≡ false) → ((s : ℕ) → held s ≡ None) → Represents n held bits
+pub Represents-new : (n : ℕ) (held : Holdings) (bits : List Bool)
+    → n ≤ MAX_BITS_DIM
+    → 2 ^ n ≤ length bits
+    → ((p : ℕ) → bit_of bits p ≡ false)
+    → ((s : ℕ) → held s ≡ None)
+    → Represents n held bits
 Represents-new n held bits fits enough clear idle = record {
   dim_in_limits = fits;
   bit_count = enough;
@@ -31,7 +36,9 @@ module _ (n : ℕ) (held : Holdings) (bits : List Bool) (represents : Represents
   pub clear_from_free : (r : Region) → IsFree held r → IsClear bits r
   clear_from_free r free p in_r = represents.clear p (λ s a is in_a. free s a is p in_a in_r)
 
-  pub no_fit : (k : ℕ) → ((m : ℕ) → m < 2 ^ (n - k) → IsClear bits (block k m) → ⊥) → HasNoFit n k held
+  pub no_fit : (k : ℕ)
+      → ((m : ℕ) → m < 2 ^ (n - k) → IsClear bits (block k m) → ⊥)
+      → HasNoFit n k held
   no_fit k none m within free = none m within (clear_from_free (block k m) free)
 
   pub first_fit : (k m : ℕ) → IsFirstClear n k bits m → IsFirstFit n k held m
@@ -42,8 +49,14 @@ module _ (n : ℕ) (held : Holdings) (bits : List Bool) (represents : Represents
   }
 
 -- a station that holds nothing and gets the first fit is given it
-pub Gives-first_fit : (n k m station : ℕ) (old new : Holdings) (r : Region) → k ≤ n → old station ≡ None → r ≡ block k m → IsFirstFit n k old m
-    → new station ≡ Some r → ((s : ℕ) → s ≢ station → new s ≡ old s) → Gives n station k old new r
+pub Gives-first_fit : (n k m station : ℕ) (old new : Holdings) (r : Region)
+    → k ≤ n
+    → old station ≡ None
+    → r ≡ block k m
+    → IsFirstFit n k old m
+    → new station ≡ Some r
+    → ((s : ℕ) → s ≢ station → new s ≡ old s)
+    → Gives n station k old new r
 Gives-first_fit n k m station old new r fits idle is first own others = record {
   idle = idle;
   aligned = subst (IsAligned n) (sym is) (IsAligned-block n k m fits first.in_cube);
@@ -72,7 +85,10 @@ module _ (n station : ℕ) (old new : Holdings) (bits bits' : List Bool) (r : Re
   enough = subst (λ x. 2 ^ n ≤ x) (sym same_length) represents.bit_count
 
   -- a station was given the region, and its bits were set
-  pub Represents-given : (k : ℕ) → Gives n station k old new r → ((p : ℕ) → Covers r p → bit_of bits' p ≡ true) → Represents n new bits'
+  pub Represents-given : (k : ℕ)
+      → Gives n station k old new r
+      → ((p : ℕ) → Covers r p → bit_of bits' p ≡ true)
+      → Represents n new bits'
   Represents-given k gives inside = record {
     dim_in_limits = represents.dim_in_limits;
     bit_count = enough;
@@ -91,7 +107,9 @@ module _ (n station : ℕ) (old new : Holdings) (bits bits' : List Bool) (r : Re
             outside p (gives.apart s a was p in_a) ∙ represents.set s p a was in_a
       ]
 
-      clear : (p : ℕ) → ((s : ℕ) (a : Region) → new s ≡ Some a → Covers a p → ⊥) → bit_of bits' p ≡ false
+      clear : (p : ℕ)
+          → ((s : ℕ) (a : Region) → new s ≡ Some a → Covers a p → ⊥)
+          → bit_of bits' p ≡ false
       clear p free =
           outside p (free station r gives.held) ∙ represents.clear p (λ s a was in_a. elim (cases_eq s station) [
             | inl at ↦ none_is_some (sym gives.idle ∙ ap old (sym at) ∙ was)
@@ -99,7 +117,9 @@ module _ (n station : ℕ) (old new : Holdings) (bits bits' : List Bool) (r : Re
           ])
 
   -- the region was taken back from its station, and its bits were cleared
-  pub Represents-taken_back : TakesBack station old new r → ((p : ℕ) → Covers r p → bit_of bits' p ≡ false) → Represents n new bits'
+  pub Represents-taken_back : TakesBack station old new r
+      → ((p : ℕ) → Covers r p → bit_of bits' p ≡ false)
+      → Represents n new bits'
   Represents-taken_back back inside = record {
     dim_in_limits = represents.dim_in_limits;
     bit_count = enough;
@@ -116,7 +136,9 @@ module _ (n station : ℕ) (old new : Holdings) (bits bits' : List Bool) (r : Re
             outside p (represents.lawful.apart s station a r other was back.held p in_a) ∙ represents.set s p a was in_a
       ]
 
-      clear : (p : ℕ) → ((s : ℕ) (a : Region) → new s ≡ Some a → Covers a p → ⊥) → bit_of bits' p ≡ false
+      clear : (p : ℕ)
+          → ((s : ℕ) (a : Region) → new s ≡ Some a → Covers a p → ⊥)
+          → bit_of bits' p ≡ false
       clear p free = elim (in_or_out r p) [
         | inl in_r ↦ inside p in_r
         | inr out ↦ outside p out ∙ represents.clear p (λ s a was in_a. elim (cases_eq s station) [

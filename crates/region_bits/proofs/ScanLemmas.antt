@@ -19,21 +19,32 @@ base_is k base begins =
     let parts : base / 2 ^ k * 2 ^ k + base % 2 ^ k ≡ base = div-add-mod' base (2 ^ k) in
     omega (arith, parts, begins)
 
-pub block_is : (k base : ℕ) → base % 2 ^ k ≡ 0 → ◌≡◌ {A = Region} (record { base = base; dim = k }) (block k (base / 2 ^ k))
+pub block_is : (k base : ℕ)
+    → base % 2 ^ k ≡ 0
+    → ◌≡◌ {A = Region} (record { base = base; dim = k }) (block k (base / 2 ^ k))
 block_is k base begins = ap (λ b. record { base = b; dim = k }) (base_is k base begins)
 
 number_within : (n k base : ℕ) → k ≤ n → base < 2 ^ n → base / 2 ^ k < 2 ^ (n - k)
 number_within n k base fits within = (div-lt_iff_lt-mul (pow_pos k)).1 (subst (λ x. base < x) (sym (all_regions n k fits)) within)
 
-pub IsAligned-at : (n k base : ℕ) → k ≤ n → base < 2 ^ n → base % 2 ^ k ≡ 0 → IsAligned n (record { base = base; dim = k })
+pub IsAligned-at : (n k base : ℕ)
+    → k ≤ n
+    → base < 2 ^ n
+    → base % 2 ^ k ≡ 0
+    → IsAligned n (record { base = base; dim = k })
 IsAligned-at n k base fits within begins = (fits, (base / 2 ^ k, number_within n k base fits within, block_is k base begins))
 
-module _ (n k base : ℕ) (bits : List Bool) (before : (i : ℕ) → i * 2 ^ k < base → IsClear bits (block k i) → ⊥) where
+module _ (n k base : ℕ) (bits : List Bool)
+    (before : (i : ℕ) → i * 2 ^ k < base → IsClear bits (block k i) → ⊥) where
   earlier : base % 2 ^ k ≡ 0 → (i : ℕ) → i < base / 2 ^ k → i * 2 ^ k < base
   earlier begins i less = subst (λ x. i * 2 ^ k < x) (sym (base_is k base begins)) (mul-lt-mul_of_pos_right less (pow_pos k))
 
   -- no region before this one was clear, and this one is
-  pub IsFirstClear-at : k ≤ n → base < 2 ^ n → base % 2 ^ k ≡ 0 → IsClear bits (record { base = base; dim = k }) → IsFirstClear n k bits (base / 2 ^ k)
+  pub IsFirstClear-at : k ≤ n
+      → base < 2 ^ n
+      → base % 2 ^ k ≡ 0
+      → IsClear bits (record { base = base; dim = k })
+      → IsFirstClear n k bits (base / 2 ^ k)
   IsFirstClear-at fits within begins clear = record {
     in_cube = number_within n k base fits within;
     clear = subst (IsClear bits) (block_is k base begins) clear;
@@ -41,7 +52,12 @@ module _ (n k base : ℕ) (bits : List Bool) (before : (i : ℕ) → i * 2 ^ k <
   }
 
   -- nor is this one
-  pub before_next : base % 2 ^ k ≡ 0 → (IsClear bits (record { base = base; dim = k }) → ⊥) → (i : ℕ) → i * 2 ^ k < base + 2 ^ k → IsClear bits (block k i) → ⊥
+  pub before_next : base % 2 ^ k ≡ 0
+      → (IsClear bits (record { base = base; dim = k }) → ⊥)
+      → (i : ℕ)
+      → i * 2 ^ k < base + 2 ^ k
+      → IsClear bits (block k i)
+      → ⊥
   before_next begins taken i below clear = elim (cases_lt i (base / 2 ^ k)) [
     | inl less ↦ before i (earlier begins i less) clear
     | inr from ↦

@@ -1,4 +1,4 @@
-//! Searching and writing the bits of regions.
+//! Searching and writing the bits of blocks.
 
 ghost use Rattle.std.specs.Prelude.{◌≡◌, ℕ, ◌+◌, ◌-◌, ◌^◌, ◌<◌, ◌≤◌, ◌↔◌, length, true, false, IsTrue, IfSome, IfNone};
 ghost use Rattle.cube_shape.specs.Region.{Covers, IsAligned, block};
@@ -8,9 +8,10 @@ ghost use Rattle.region_bits.specs.Bits.{HasNoClear, IsClear, IsFirstClear, IsSe
 use crate::limits::MAX_BITS_DIM;
 use cube_shape::Region;
 
-/// Returns the first region of dimension `k` that is clear: `(m, k)` for the least `m` such that none of its bits is set.
+/// Returns the first clear block of dimension `k`: block `(m, k)` for the least `m` such that none
+/// of its bits is set.
 ///
-/// `None` comes only where there is no such `m`.
+/// Returns `None` only if there is no such `m`.
 pub fn first_clear(bits: &[bool], n: u32, k: u32) -> Option<Region>
     requires machine { n ≤ MAX_BITS_DIM }
     requires dim { k ≤ n }
@@ -27,7 +28,7 @@ pub fn first_clear(bits: &[bool], n: u32, k: u32) -> Option<Region>
     None
 }
 
-/// Returns whether no bit of a region is set.
+/// Returns whether no bit of a block is set.
 pub fn is_clear(bits: &[bool], n: u32, region: Region) -> bool
     requires machine { n ≤ MAX_BITS_DIM }
     requires bits { 2 ^ n ≤ length bits.now }
@@ -38,14 +39,14 @@ pub fn is_clear(bits: &[bool], n: u32, region: Region) -> bool
     none_set(&bits[start..end])
 }
 
-// Whether none of these bits is set.
+// Returns whether none of these bits is set.
 fn none_set(bits: &[bool]) -> bool
     ensures { IsTrue result ↔ ((i : ℕ) → i < length bits.now → bit_of bits.now i ≡ false) }
 {
     bits.iter().all(|taken| !*taken)
 }
 
-/// Returns whether all bits of a region are set.
+/// Returns whether all bits of a block are set.
 pub fn is_set(bits: &[bool], n: u32, region: Region) -> bool
     requires machine { n ≤ MAX_BITS_DIM }
     requires bits { 2 ^ n ≤ length bits.now }
@@ -56,7 +57,7 @@ pub fn is_set(bits: &[bool], n: u32, region: Region) -> bool
     all_set(&bits[start..end])
 }
 
-// Whether each of these bits is set.
+// Returns whether each of these bits is set.
 fn all_set(bits: &[bool]) -> bool
     ensures { IsTrue result ↔ ((i : ℕ) → i < length bits.now → bit_of bits.now i ≡ true) }
 {
@@ -72,7 +73,7 @@ pub fn clear_all(bits: &mut [bool])
     bits.fill(false);
 }
 
-/// Sets the bits of a region, or clears them, as `taken` says. No other bit changes.
+/// Sets the bits of a block, or clears them, as `taken` says. No other bit changes.
 pub fn write(bits: &mut [bool], n: u32, region: Region, taken: bool)
     requires machine { n ≤ MAX_BITS_DIM }
     requires bits { 2 ^ n ≤ length bits.old }
@@ -83,7 +84,7 @@ pub fn write(bits: &mut [bool], n: u32, region: Region, taken: bool)
     bits[start..end].fill(taken);
 }
 
-// The first processor of a region, and the one after its last.
+// Returns the first processor of a block, and the one after its last.
 fn bit_range(n: u32, region: Region) -> (usize, usize)
     requires machine { n ≤ MAX_BITS_DIM }
     requires region { IsAligned n region }

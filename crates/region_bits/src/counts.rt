@@ -1,4 +1,4 @@
-//! How many regions of a dimension are clear, and the largest that is.
+//! Counting the clear blocks of a dimension, and finding the largest clear block.
 
 ghost use Rattle.std.specs.Prelude.{◌≡◌, ℕ, ◌-◌, ◌^◌, ◌<◌, ◌≤◌, length, IfSome, IfNone};
 ghost use Rattle.cube_shape.specs.Region.{IsAligned, block};
@@ -9,7 +9,7 @@ use crate::bits::{first_clear, is_clear};
 use crate::limits::MAX_BITS_DIM;
 use cube_shape::Region;
 
-// The region `(m, k)`.
+// Returns the block `(m, k)`.
 fn nth_region(n: u32, k: u32, m: u64) -> Region
     requires machine { n ≤ MAX_BITS_DIM }
     requires dim { k ≤ n }
@@ -23,7 +23,7 @@ fn nth_region(n: u32, k: u32, m: u64) -> Region
     }
 }
 
-/// Returns how many regions of dimension `k` are clear.
+/// Returns how many blocks of dimension `k` are clear.
 pub fn count_clear(bits: &[bool], n: u32, k: u32) -> u64
     requires machine { n ≤ MAX_BITS_DIM }
     requires dim { k ≤ n }
@@ -39,9 +39,9 @@ pub fn count_clear(bits: &[bool], n: u32, k: u32) -> u64
     count
 }
 
-/// Returns the first clear region of the largest dimension of which a region is clear.
+/// Returns the first clear block of the largest dimension that has a clear block.
 ///
-/// `None` comes only where no region of any dimension is clear.
+/// Returns `None` only if no block of any dimension is clear.
 pub fn largest_clear(bits: &[bool], n: u32) -> Option<Region>
     requires machine { n ≤ MAX_BITS_DIM }
     requires bits { 2 ^ n ≤ length bits.now }

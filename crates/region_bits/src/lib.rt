@@ -1,11 +1,12 @@
-//! First fit over the allocation bits of a hypercube machine, in memory that the caller keeps.
+//! First-fit allocation of aligned power-of-two blocks over a slice of bits that the caller keeps.
 //!
-//! The buddy strategy of Chen and Shin ("Processor Allocation in an N-Cube Multiprocessor Using
-//! Gray Codes", IEEE Transactions on Computers, 1987) keeps an allocation bit for each processor.
-//! A request for dimension `k` finds the least `m` such that all bits of the aligned region
-//! `(m, k)` are clear, and sets them; a release clears them. These are its three steps over a slice
-//! of bits. Who holds which region is the caller's to keep: a clause speaks of the holdings that
-//! the bits represent.
+//! The buddy strategy keeps an allocation bit for each processor. A request for dimension `k` finds
+//! the least `m` such that all bits of the aligned block `(m, k)` are clear, and sets them. A
+//! release clears them. Source: Chen and Shin, "Processor Allocation in an N-Cube Multiprocessor
+//! Using Gray Codes", IEEE Transactions on Computers, 1987.
+//!
+//! This crate has these three steps. The caller records which station holds which block: contracts
+//! speak of all holdings that the bits represent.
 #![tactic(auto)]
 
 mod bits;

@@ -9,10 +9,10 @@ use crate::counts::count_clear;
 use crate::limits::MAX_BITS_DIM;
 use cube_shape::Region;
 
-/// The first fit of dimension `k` in a machine of dimension `n`: the region `(m, k)` for the least
-/// `m` such that it is apart from every region that is held, as the bits represent it.
+/// Returns the first fit of dimension `k` in a machine of dimension `n`. That is block `(m, k)` for
+/// the least `m` such that it overlaps no held block. The bits represent what is held.
 ///
-/// `None` comes only where there is no such `m`.
+/// Returns `None` only if there is no such `m`.
 pub fn first_fit(bits: &[bool], n: u32, k: u32) -> Option<Region>
     requires machine { n ≤ MAX_BITS_DIM }
     requires dim { k ≤ n }
@@ -26,7 +26,7 @@ pub fn first_fit(bits: &[bool], n: u32, k: u32) -> Option<Region>
     bits::first_clear(bits, n, k)
 }
 
-/// Whether a region is apart from every region that is held, as the bits represent it.
+/// Returns whether a block overlaps no held block. The bits represent what is held.
 pub fn is_free(bits: &[bool], n: u32, region: Region) -> bool
     requires machine { n ≤ MAX_BITS_DIM }
     requires bits { 2 ^ n ≤ length bits.now }
@@ -37,7 +37,7 @@ pub fn is_free(bits: &[bool], n: u32, region: Region) -> bool
     bits::is_clear(bits, n, region)
 }
 
-/// How many regions of dimension `k` are apart from every region that is held, as the bits represent it.
+/// Returns how many blocks of dimension `k` overlap no held block. The bits represent what is held.
 pub fn count_free(bits: &[bool], n: u32, k: u32) -> u64
     requires machine { n ≤ MAX_BITS_DIM }
     requires dim { k ≤ n }
@@ -48,7 +48,7 @@ pub fn count_free(bits: &[bool], n: u32, k: u32) -> u64
     count_clear(bits, n, k)
 }
 
-/// Clears the bits of a machine whose stations hold nothing.
+/// Clears the bits of a machine in which no station holds a block.
 pub fn clear_all(bits: &mut [bool])
     ensures len { length bits.new ≡ length bits.old }
     ensures free { (n : ℕ) (held : Holdings) → n ≤ MAX_BITS_DIM → 2 ^ n ≤ length bits.old
@@ -57,7 +57,7 @@ pub fn clear_all(bits: &mut [bool])
     bits::clear_all(bits);
 }
 
-/// Sets the bits of a region that a station is given.
+/// Sets the bits of a block that a station gets.
 pub fn set_region(bits: &mut [bool], n: u32, region: Region)
     requires machine { n ≤ MAX_BITS_DIM }
     requires bits { 2 ^ n ≤ length bits.old }
@@ -69,7 +69,7 @@ pub fn set_region(bits: &mut [bool], n: u32, region: Region)
     bits::write(bits, n, region, true);
 }
 
-/// Clears the bits of a region that is taken back from its station.
+/// Clears the bits of a block that is taken from its station.
 pub fn clear_region(bits: &mut [bool], n: u32, region: Region)
     requires machine { n ≤ MAX_BITS_DIM }
     requires bits { 2 ^ n ≤ length bits.old }

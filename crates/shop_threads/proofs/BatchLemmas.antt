@@ -1,4 +1,4 @@
--- What is so of a run, in the words of the batch that it was.
+-- What holds of a run, in the words of the batch that it was.
 use Rattle.std.proofs.Common.{◌≡◌, ◌≢◌, Vec, Result, Some, None, Ok, Err, IfOk, IfErr, map, length, subst, ◌∙◌}
 use Rattle.std.specs.declared.alloc.Global.{Global}
 use Rattle.std.specs.declared.collections.VecDeque.{VecDeque}
@@ -23,7 +23,7 @@ use Rattle.shop_threads.proofs.DoneLemmas.{counts_all, answers_jobs}
 abbrev pub Jobs : Type 0
 Jobs = Vec (VecDeque JobData Global) Global
 
--- what a run returns
+-- The result of a run.
 abbrev pub Ran : Type 0 → Type 0
 Ran M = Result (RunEnd M) (ShopRefused × Jobs)
 
@@ -31,11 +31,14 @@ of_ended : {M : Type 0} (P : RunEnd M → Type 0) (ran : Ran M) (end : RunEnd M)
     → ran ≡ Ok end → IfOk ran P → P end
 of_ended {M} P ran end is so = subst (λ (r : Ran M). IfOk r P) is so
 
-of_refusal : {M : Type 0} (P : ShopRefused × Jobs → Type 0) (ran : Ran M) (why : ShopRefused) (back : Jobs)
-    → ran ≡ Err (why, back) → IfErr ran P → P (why, back)
+of_refusal : {M : Type 0} (P : ShopRefused × Jobs → Type 0) (ran : Ran M) (why : ShopRefused)
+    (back : Jobs)
+    → ran ≡ Err (why, back)
+    → IfErr ran P
+    → P (why, back)
 of_refusal {M} P ran why back is so = subst (λ (r : Ran M). IfErr r P) is so
 
--- what a batch is that was answered, and one that was not
+-- The batch was answered, or it was not.
 abbrev pub IsBatch : {M : Type 0} → Ran M → RunEnd M → Type 0
 IsBatch ran end = (ran ≡ Ok end) × IsDone end
 
@@ -43,15 +46,17 @@ abbrev pub IsRunError : {M : Type 0} → Ran M → RunError M → Type 0
 IsRunError ran stopped = MatchRunError stopped (λ why back. ran ≡ Err (why, back))
     (λ why end. (ran ≡ Ok end) × (why ≡ reason_of end) × (¬ IsDone end))
 
-module _ {L Lane Pass Closer Note End F Station Held Machine : Type 0} (line : LineWords L Lane Pass Closer Note End) (floor : FloorWords F Station Held Machine) (asked : ShopSizes) (jobs : JobLists) where
-  -- the sizes are refused for this, or for nothing
+module _ {L Lane Pass Closer Note End F Station Held Machine : Type 0}
+    (line : LineWords L Lane Pass Closer Note End) (floor : FloorWords F Station Held Machine)
+    (asked : ShopSizes) (jobs : JobLists) where
+  -- The sizes are refused for this reason, or for none.
   abbrev pub Refuses : ShopRefused → Type 0
   Refuses why = refusal_of asked.dim (length jobs) asked.dispatchers asked.capacity ≡ Some why
 
   abbrev pub RefusesNothing : Type 0
   RefusesNothing = refusal_of asked.dim (length jobs) asked.dispatchers asked.capacity ≡ None
 
-  -- what is so of a run is so of its batch
+  -- What holds of a run holds of its batch.
   pub outcome_of : (ran : Ran Machine) (result : Result (RunEnd Machine) (RunError Machine))
       → IfOk ran (IsRun floor.machine_words asked.dim (map (λ js. js.items) jobs))
       → IfOk ran (RanIn line floor asked (length jobs))

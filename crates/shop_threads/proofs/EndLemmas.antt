@@ -1,4 +1,4 @@
--- The end of a lane and the sizes of a shop, put together from their parts.
+-- The end of a lane and the sizes of a dispatcher, put together from their parts.
 use Rattle.std.proofs.Common.{◌≡◌, ℕ, List, sym, ap, ◌∙◌}
 use Rattle.job_types.specs.Job.{JobData}
 use Rattle.job_queue.specs.declared.record.LaneRecord.{LaneRecord}
@@ -8,7 +8,7 @@ use Rattle.shop_threads.specs.declared.running.LaneEnd.{LaneEnd}
 use Rattle.shop_threads.specs.InnerEnd.{HasEnded}
 use Rattle.shop_threads.specs.InnerNaming.{sizes_of}
 
--- the jobs of each lane by another name
+-- The jobs of each lane by another name.
 pub named_end : (jobs named : ℕ → List JobData) (lane : LaneRecord) (end : LaneEnd)
     → ((k : ℕ) → named k ≡ jobs k) → HasEnded jobs lane end → HasEnded named lane end
 named_end jobs named lane end same is = record {
@@ -19,7 +19,7 @@ named_end jobs named lane end same is = record {
   stopped = is.stopped;
 }
 
--- the sizes of a shop are those that were asked for
+-- The sizes of a dispatcher are those that were asked for.
 abbrev sized : ℕ → ℕ → ℕ → ShopSizes
 sized dim dispatchers capacity = record { dim = dim; dispatchers = dispatchers; capacity = capacity }
 

@@ -33,8 +33,10 @@ lanes_count (suc count) = length-append (fresh_lanes count) (fresh_lane count �
 
 -- ---- one lane
 
--- at most as many jobs as entries
-one_more : (job : Option QueuedJob) (jobs : List QueuedJob) (bound : ℕ) → length jobs ≤ bound → length (accepted_with job jobs) ≤ suc bound
+-- A lane has at most as many jobs as entries.
+one_more : (job : Option QueuedJob) (jobs : List QueuedJob) (bound : ℕ)
+    → length jobs ≤ bound
+    → length (accepted_with job jobs) ≤ suc bound
 one_more None jobs bound few = omega (arith, few)
 one_more (Some job) jobs bound few = omega (arith, few)
 
@@ -42,16 +44,23 @@ few_accepted : (entries : List Entry) → length (accepted entries) ≤ length e
 few_accepted [] = omega arith
 few_accepted (e ∷ entries) = one_more e.job (accepted entries) (length entries) (few_accepted entries)
 
--- what holds of each holds of the last
-of_last : (P : ℕ → Type 0) (xs before : List ℕ) (x : ℕ) → xs ≡ before ++ x ∷ [] → AllByRecursion P xs → P x
+-- What holds of each element holds of the last one.
+of_last : (P : ℕ → Type 0) (xs before : List ℕ) (x : ℕ)
+    → xs ≡ before ++ x ∷ []
+    → AllByRecursion P xs
+    → P x
 of_last P xs before x ends all = last before (subst (AllByRecursion P) ends all)
   where
     last : (before : List ℕ) → AllByRecursion P (before ++ x ∷ []) → P x
     last [] all = all.0
     last (y ∷ before) all = last before all.1
 
--- why a feed has stopped, by the record of its lane and by the values of its end
-stop_as : (close_number : ℕ) (lane : LaneRecord) (end : LaneEnd) (stop : Option FeedStop) → end.entries ≡ length lane.entries → AllByRecursion (λ count. close_number ≤ count) lane.seen → StopsBy lane end.back end.left.items stop → IsStopOf close_number end stop
+-- Why a feed has stopped, by the record of its lane and by the values of its end.
+stop_as : (close_number : ℕ) (lane : LaneRecord) (end : LaneEnd) (stop : Option FeedStop)
+    → end.entries ≡ length lane.entries
+    → AllByRecursion (λ count. close_number ≤ count) lane.seen
+    → StopsBy lane end.back end.left.items stop
+    → IsStopOf close_number end stop
 stop_as close_number lane end None entries seen by = (entries ∙ ap length by.0, by.1)
 stop_as close_number lane end (Some Done) entries seen by = by
 stop_as close_number lane end (Some (Closed count)) entries seen by = (by.0, of_last (λ c. close_number ≤ c) lane.seen by.1.0 count by.1.1 seen)
@@ -70,7 +79,9 @@ module _ {A : Type 0} (record_of : A → LaneRecord) (end_of : A → LaneEnd) (c
   abbrev pub Seen : ℕ → LaneRecord → Type 0
   Seen close_number l = AllByRecursion (λ count. close_number ≤ count) l.seen
 
-  counted_jobs : (x : A) → Counted (record_of x) → get_or counts (record_of x).number 0 ≡ length (accepted_jobs (record_of x))
+  counted_jobs : (x : A)
+      → Counted (record_of x)
+      → get_or counts (record_of x).number 0 ≡ length (accepted_jobs (record_of x))
   counted_jobs x counted = counted ∙ sym (length-map (accepted (record_of x).entries) job_of)
 
   one_end : (jobs : List (List JobData)) (close_number : ℕ) (x : A)
@@ -102,15 +113,19 @@ module _ {A : Type 0} (record_of : A → LaneRecord) (end_of : A → LaneEnd) (c
       (one_end jobs close_number x (All-head (IsEnd (λ k. get_or jobs k [])) x xs are) counted.0 seen.0)
       (all_ends jobs close_number xs (All-tail (IsEnd (λ k. get_or jobs k [])) x xs are) counted.1 seen.1)
 
-  -- the accepted jobs of each lane are the first ones of its list
-  accepted_at : (jobs : List (List JobData)) (ns : List ℕ) (k : ℕ) → length ns ≡ length jobs → get_or (accepted_of jobs ns) k [] ≡ take (get_or ns k 0) (get_or jobs k [])
+  -- The accepted jobs of each lane are the first ones of its list.
+  accepted_at : (jobs : List (List JobData)) (ns : List ℕ) (k : ℕ)
+      → length ns ≡ length jobs
+      → get_or (accepted_of jobs ns) k [] ≡ take (get_or ns k 0) (get_or jobs k [])
   accepted_at [] [] k same = refl
   accepted_at [] (n ∷ ns) k same = absurd (omega (arith, same))
   accepted_at (js ∷ jobs) [] k same = absurd (omega (arith, same))
   accepted_at (js ∷ jobs) (n ∷ ns) zero same = refl
   accepted_at (js ∷ jobs) (n ∷ ns) (suc k) same = accepted_at jobs ns k (omega (arith, same))
 
-  accepted_count : (jobs : List (List JobData)) (ns : List ℕ) → length ns ≡ length jobs → length (accepted_of jobs ns) ≡ length jobs
+  accepted_count : (jobs : List (List JobData)) (ns : List ℕ)
+      → length ns ≡ length jobs
+      → length (accepted_of jobs ns) ≡ length jobs
   accepted_count [] ns same = refl
   accepted_count (js ∷ jobs) [] same = absurd (omega (arith, same))
   accepted_count (js ∷ jobs) (n ∷ ns) same = omega (arith, accepted_count jobs ns (omega (arith, same)))
@@ -131,12 +146,15 @@ module _ {A : Type 0} (record_of : A → LaneRecord) (end_of : A → LaneEnd) (c
         all_accepted jobs xs same (All-tail (IsEnd (λ k. get_or jobs k [])) x xs are) counted.1,
       )
 
--- there is a reason for each worker's stop
-pub all_stopped : {E : Type 0} (stop : E → Stop) (replies : E → List ReplyData) → ((e : E) → stop e ≡ NotRun → replies e ≡ []) → (es : List E) → AllZip (λ s rs. s ≡ NotRun → rs ≡ []) (map stop es) (map replies es)
+-- There is a reason for each worker's stop.
+pub all_stopped : {E : Type 0} (stop : E → Stop) (replies : E → List ReplyData)
+    → ((e : E) → stop e ≡ NotRun → replies e ≡ [])
+    → (es : List E)
+    → AllZip (λ s rs. s ≡ NotRun → rs ≡ []) (map stop es) (map replies es)
 all_stopped stop replies own [] = tt
 all_stopped stop replies own (e ∷ es) = (own e, all_stopped stop replies own es)
 
--- a part of each end is that part of its lane
+-- A part of each end is that part of its lane.
 pub parts_are : {A N V : Type 0} (P : A → Type 0) (lane_of : A → N) (of_lane : N → V)
     (end_of : A → LaneEnd) (of_end : LaneEnd → V)
     → ((x : A) → P x → of_end (end_of x) ≡ of_lane (lane_of x))
@@ -146,13 +164,15 @@ pub parts_are : {A N V : Type 0} (P : A → Type 0) (lane_of : A → N) (of_lane
 parts_are {A} {N} {V} P lane_of of_lane end_of of_end same xs lanes ends are told all =
     ap (map of_end) told ∙ (map_twice end_of of_end xs ∙ (each xs all ∙ (sym (map_twice lane_of of_lane xs) ∙ sym (ap (map of_lane) are))))
   where
-    each : (xs : List A) → All P xs → map (λ x. of_end (end_of x)) xs ≡ map (λ x. of_lane (lane_of x)) xs
+    each : (xs : List A)
+        → All P xs
+        → map (λ x. of_end (end_of x)) xs ≡ map (λ x. of_lane (lane_of x)) xs
     each [] all = refl
     each (x ∷ xs) all =
         ap (λ (v : V). v ∷ map (λ y. of_end (end_of y)) xs) (same x (All-head P x xs all))
         ∙ ap (λ (vs : List V). of_lane (lane_of x) ∷ vs) (each xs (All-tail P x xs all))
 
--- the record of a run, from the theorem of its shop
+-- What the values of a run say together, from the theorem of its dispatcher.
 pub run_of : {A M : Type 0} (record_of : A → LaneRecord) (end_of : A → LaneEnd)
     (words_of : M → List ℕ) (n : ℕ) (jobs : List (List JobData)) (xs : List A)
     (grants : List (List Region)) (note : ℕ) (end : RunEnd M)

@@ -1,4 +1,5 @@
--- What is so of a batch that was answered, of one that was refused, and of one that was not finished.
+-- What holds of a batch that was answered, of one that was refused, and of one that was not
+-- finished.
 use Rattle.std.specs.Prelude.{◌≡◌, ◌≢◌, ℕ, List, Vec, Some, None, Result, IfOk, IfErr, ⊤, map, length}
 use Rattle.std.specs.declared.alloc.Global.{Global}
 use Rattle.std.specs.declared.collections.VecDeque.{VecDeque}
@@ -18,13 +19,15 @@ use Rattle.shop_threads.specs.Members.{RanIn}
 use Rattle.shop_threads.specs.Done.{IsDone, reason_of}
 use Rattle.shop_threads.specs.RunError.{MatchRunError}
 
--- the lists of jobs that a batch is given, one for each lane
+-- The lists of jobs that a batch gets, one for each lane.
 abbrev pub JobLists : Type 0
 JobLists = List (VecDeque JobData Global)
 
 module _ (asked : ShopSizes) (jobs : JobLists) where
-  -- nothing was run: the first size that is not within its limits, or no memory; the jobs are back
-  pub record IsRefusedBatch (why : ShopRefused) (back : Vec (VecDeque JobData Global) Global) : Type 0 where
+  -- No job of the batch ran. The reason is the first size that is not within its limits, or
+  -- `OutOfMemory` if all sizes are. The jobs came back.
+  pub record IsRefusedBatch (why : ShopRefused)
+      (back : Vec (VecDeque JobData Global) Global) : Type 0 where
     pub first : why ≢ OutOfMemory →
         refusal_of asked.dim (length jobs) asked.dispatchers asked.capacity ≡ Some why
     pub memory_last : why ≡ OutOfMemory →
@@ -32,7 +35,8 @@ module _ (asked : ShopSizes) (jobs : JobLists) where
     pub gives_back : back.items ≡ jobs
 
 module _ {M : Type 0} (words_of : M → List ℕ) (asked : ShopSizes) (jobs : JobLists) where
-  -- it was run by as many workers as were asked for, and not to its end
+  -- The batch ran with as many workers as were asked for, but not to its end. The reason is the
+  -- `reason_of` its run. All sizes are within their limits.
   pub record IsUnfinishedBatch (why : StopReason) (end : RunEnd M) : Type 0 where
     pub run : IsRun words_of asked.dim (map (λ js. js.items) jobs) end
     pub workers : length end.finished.by_worker.items ≡ asked.dispatchers
@@ -40,8 +44,11 @@ module _ {M : Type 0} (words_of : M → List ℕ) (asked : ShopSizes) (jobs : Jo
     pub not_done : ¬ IsDone end
     pub reason : why ≡ reason_of end
 
-module _ {M : Type 0} (words_of : M → List ℕ) (dim_of : M → ℕ) (is_closed : ℕ → M → Type 0) (asked : ShopSizes) (jobs : JobLists) where
-  -- each job has one right reply, and the machine is closed
+module _ {M : Type 0} (words_of : M → List ℕ) (dim_of : M → ℕ) (is_closed : ℕ → M → Type 0)
+    (asked : ShopSizes) (jobs : JobLists) where
+  -- The batch was answered: each job has one right reply. Each lane has accepted its whole list,
+  -- and each worker ran, as many as were asked for. The machine has the dimension that was asked
+  -- for, and is closed. All sizes are within their limits.
   pub record IsAnsweredBatch (end : RunEnd M) : Type 0 where
     pub run : IsRun words_of asked.dim (map (λ js. js.items) jobs) end
     pub workers : length end.finished.by_worker.items ≡ asked.dispatchers
@@ -53,9 +60,12 @@ module _ {M : Type 0} (words_of : M → List ℕ) (dim_of : M → ℕ) (is_close
     pub dim : dim_of end.finished.machine ≡ asked.dim
     pub closed : is_closed asked.dispatchers end.finished.machine
 
-module _ {L Lane Pass Closer Note End F Station Held Machine : Type 0} (line : LineWords L Lane Pass Closer Note End) (floor : FloorWords F Station Held Machine) where
-  -- what a batch returns, for the sizes that were asked for and the jobs of each lane
-  pub record IsBatchOutcome (asked : ShopSizes) (jobs : JobLists) (result : Result (RunEnd Machine) (RunError Machine)) : Type 0 where
+module _ {L Lane Pass Closer Note End F Station Held Machine : Type 0}
+    (line : LineWords L Lane Pass Closer Note End) (floor : FloorWords F Station Held Machine) where
+  -- What `answer_all` returns: the batch was answered, refused, or not finished. If it ran, `RanIn`
+  -- says in which dispatcher.
+  pub record IsBatchOutcome (asked : ShopSizes) (jobs : JobLists)
+      (result : Result (RunEnd Machine) (RunError Machine)) : Type 0 where
     pub answered : IfOk result
         (IsAnsweredBatch floor.machine_words floor.machine_dim floor.is_closed asked jobs)
     pub ran_in : IfOk result (RanIn line floor asked (length jobs))

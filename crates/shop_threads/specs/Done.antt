@@ -1,4 +1,4 @@
--- When all jobs of a run were handed in, and why they were not.
+-- When all jobs of a run were submitted, and why they were not.
 use Rattle.std.specs.Prelude.{◌≡◌, ◌≢◌, Bool, true, false, not, ◌&&◌, Option, Some, None, if◌then◌else◌}
 use Rattle.std.specs.List.{All, list_any}
 use Rattle.dispatcher.specs.declared.feeding.FeedStop.{FeedStop}
@@ -9,12 +9,12 @@ use Rattle.shop_threads.specs.declared.running.RunEnd.{RunEnd}
 use Rattle.shop_threads.specs.declared.answering.StopReason.{StopReason}
 use Rattle.shop_threads.specs.declared.answering.StopReason.TheVariants.{OutOfMemory, Spent}
 
--- each lane was fed to the end of its list, and each worker was run
+-- Each lane submitted its whole list, and each worker ran.
 pub record IsDone {M : Type 0} (end : RunEnd M) : Type 0 where
   pub lanes : All (λ l. l.stop ≡ Some Done) end.lanes.items
   pub workers : All (λ stop. stop ≢ NotRun) end.stops.items
 
--- the feed was never run, or found the line closed: memory or a thread was refused
+-- The feed never ran, or found the queue closed, since memory or a thread was refused.
 abbrev pub is_cut_off : Option FeedStop → Bool
 is_cut_off None = true
 is_cut_off (Some Done) = false
@@ -22,7 +22,7 @@ is_cut_off (Some (Closed seen)) = true
 is_cut_off (Some LaneSpent) = false
 is_cut_off (Some Turns) = false
 
--- the lane was spent
+-- The lane was spent: it has made as many entries as a lane may.
 abbrev pub is_spent : Option FeedStop → Bool
 is_spent None = false
 is_spent (Some Done) = false
@@ -30,15 +30,17 @@ is_spent (Some (Closed seen)) = false
 is_spent (Some LaneSpent) = true
 is_spent (Some Turns) = false
 
--- the worker was never run
+-- The worker never ran.
 abbrev pub is_idle : Stop → Bool
 is_idle Ended = false
 is_idle WorkerOutOfMemory = false
 is_idle NotRun = true
 is_idle Enough = false
 
--- It is Spent where a lane was spent, no other was cut off, and each worker was run. It is OutOfMemory in all other cases.
+-- Why not all jobs of a run were submitted. It is `Spent` if a lane was spent, no other lane was
+-- cut off, and each worker ran. In all other cases it is `OutOfMemory`.
 abbrev pub reason_of : {M : Type 0} → RunEnd M → StopReason
 reason_of end =
-    if list_any (λ l. is_spent l.stop) end.lanes.items && not (list_any (λ l. is_cut_off l.stop) end.lanes.items) && not (list_any is_idle end.stops.items)
+    if list_any (λ l. is_spent l.stop) end.lanes.items && not
+    (list_any (λ l. is_cut_off l.stop) end.lanes.items) && not (list_any is_idle end.stops.items)
     then Spent else OutOfMemory

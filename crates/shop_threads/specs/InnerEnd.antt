@@ -7,8 +7,8 @@ use Rattle.dispatcher.specs.Stop.{given_back}
 use Rattle.shop_threads.specs.declared.running.LaneEnd.{LaneEnd}
 use Rattle.shop_threads.specs.InnerStop.{StopsBy}
 
--- The values of the end are those of the record. What the lane has accepted, and what it did not hand in, are the jobs
--- of its number.
+-- The values of the end are those of the lane's record. What the lane has accepted, and what it did
+-- not submit, are the jobs of its number.
 pub record HasEnded (jobs : ℕ → List JobData) (lane : LaneRecord) (end : LaneEnd) : Type 0 where
   pub number : end.lane ≡ lane.number
   pub accepted : end.accepted ≡ length (accepted_jobs lane)

@@ -1,4 +1,4 @@
-//! A whole batch of jobs, answered on threads.
+//! Running a whole batch of jobs on threads.
 ghost use Rattle.std.specs.Prelude.{◌≡◌, ◌≢◌, ℕ, ◌^◌, ◌<◌, ◌↔◌, [], None, Some, Ok, Err, true, not, ◌&&◌, IfOk, IfErr, IsTrue, ⊤, if◌then◌else◌, map, length, slice_index_or};
 ghost use Rattle.std.specs.List.{All, list_any};
 ghost use Rattle.job_queue.specs.Line.{IsFor};
@@ -19,7 +19,7 @@ use std::sync::Wait;
 use std::thread::Threads;
 use thiserror::Error;
 
-/// Why a batch has stopped before all of its jobs were answered.
+/// The reason why a batch stopped before all of its jobs ran.
 #[derive(Clone, Copy, Debug, PartialEq, Eq, Hash, Error)]
 pub enum StopReason {
     /// Memory or a thread was refused.
@@ -30,54 +30,54 @@ pub enum StopReason {
     Spent,
 }
 
-/// A batch that was not answered. It has the jobs, or the end of its run.
+/// A batch that was not finished. It has the jobs, or the end of its run.
 #[derive(Drop)]
 pub enum RunError<M> {
-    /// Nothing was run.
+    /// No job ran.
     Refused {
         /// The first size that is not within its limits, or `OutOfMemory`.
         why: ShopRefused,
-        /// The jobs, as they were given.
+        /// The jobs, as they were passed in.
         jobs: Vec<VecDeque<Job>>,
     },
-    /// Some jobs may not have been handed in.
+    /// Some jobs may not have been submitted.
     Unfinished {
-        /// Whether it was memory or a thread that was refused, or a lane that was spent.
+        /// Whether memory or a thread was refused, or a lane was spent.
         why: StopReason,
-        /// The end of the run: the replies, and what each lane did not hand in.
+        /// The end of the run: the replies, and what each lane did not submit.
         end: RunEnd<M>,
     },
 }
 
-// Whether the feed was never run, or found the line closed.
+// Returns whether the feed never ran, or found the queue closed.
 fn is_cut_off(stop: Option<FeedStop>) -> bool
     ensures { result ≡ is_cut_off stop }
 {
     matches!(stop, None | Some(FeedStop::Closed { .. }))
 }
 
-// Whether the lane of the feed was spent.
+// Returns whether the lane of the feed was spent.
 fn is_spent(stop: Option<FeedStop>) -> bool
     ensures { result ≡ is_spent stop }
 {
     matches!(stop, Some(FeedStop::LaneSpent))
 }
 
-// Whether the worker was never run.
+// Returns whether the worker never ran.
 fn is_idle(stop: Stop) -> bool
     ensures { result ≡ is_idle stop }
 {
     stop == Stop::NotRun
 }
 
-// Whether the lane was fed to the end of its list.
+// Returns whether the lane submitted its whole list.
 fn is_fed(lane: &LaneEnd) -> bool
     ensures { IsTrue result ↔ (lane.now.stop ≡ Some FeedStop.Done) }
 {
     matches!(lane.stop, Some(FeedStop::Done))
 }
 
-// Whether some worker was never run.
+// Returns whether some worker never ran.
 fn any_idle(stops: &[Stop]) -> bool
     ensures { result ≡ list_any is_idle stops.now }
 {
@@ -89,7 +89,7 @@ fn any_idle(stops: &[Stop]) -> bool
     false
 }
 
-// Whether all lanes were fed to the end of their lists.
+// Returns whether all lanes submitted their whole lists.
 fn all_fed(lanes: &[LaneEnd]) -> bool
     ensures { IsTrue result ↔ All (λ l. l.stop ≡ Some FeedStop.Done) lanes.now }
 {
@@ -101,14 +101,14 @@ fn all_fed(lanes: &[LaneEnd]) -> bool
     true
 }
 
-// Whether each lane was fed to the end of its list, and each worker was run.
+// Returns whether each lane submitted its whole list and each worker ran.
 fn is_done<M>(end: &RunEnd<M>) -> bool
     ensures { IsTrue result ↔ IsDone end.now }
 {
     all_fed(&end.lanes) && !any_idle(&end.stops)
 }
 
-// Why not all jobs were handed in.
+// Returns why not all jobs were submitted.
 fn stop_reason<M>(end: &RunEnd<M>) -> StopReason
     ensures { result ≡ reason_of end.now }
 {
@@ -125,7 +125,7 @@ fn stop_reason<M>(end: &RunEnd<M>) -> StopReason
     }
 }
 
-// The batch that a run was: it is answered where all is done.
+// Returns the outcome of a batch from its run. It is `Ok` if all is done.
 fn batch_of<M>(
     ran: Result<RunEnd<M>, (ShopRefused, Vec<VecDeque<Job>>)>,
 ) -> Result<RunEnd<M>, RunError<M>>
@@ -144,16 +144,17 @@ fn batch_of<M>(
     }
 }
 
-/// Answers all jobs, the lists of the lanes from 0 on.
+/// Runs all jobs: the lists of the lanes, by number from 0 upwards.
 ///
-/// Opens a shop of these sizes with a lane for each list. Hands in all lists at once, while all workers
-/// answer jobs on threads. Finishes the shop. Each job then has one right reply, and the machine is wholly
-/// free.
+/// It opens a dispatcher of these sizes with a lane for each list. Threads submit all lists at
+/// once, while all workers run jobs. Then it finishes the dispatcher. Each job then has one right
+/// reply, and the machine is wholly free.
 ///
 /// # Errors
 ///
-/// Nothing is lost. `Refused` has the first size that is not within its limits, or `OutOfMemory`, and the
-/// jobs. `Unfinished` has the end of a run in which a thread or memory was refused, or a lane was spent.
+/// Nothing is lost. `Refused` has the jobs, and the first size that is not within its limits or
+/// `OutOfMemory`. `Unfinished` has the end of a run in which a thread or memory was refused, or a
+/// lane was spent.
 pub fn answer_all<
     R: Threads + Wait + Sync,
     L: JobLine + SharedLine,

@@ -1,8 +1,8 @@
-//! A thread pool that runs a shop: lists of jobs in, all of their replies out.
+//! A thread pool that runs a dispatcher: lists of jobs in, all of their replies out.
 //!
-//! The lanes are producers, and the workers are consumers. All are at work at once, each worker on a thread
-//! of its own and the lanes on as many as there are processors. Nothing is lost, also where a thread cannot
-//! be started or memory runs out.
+//! The lanes are producers, and the workers are consumers. All work at once. Each worker has a
+//! thread of its own, and the lanes share as many threads as there are processors. Nothing is lost,
+//! even if a thread cannot be started or memory runs out.
 #![tactic(auto)]
 
 mod answering;

@@ -1,5 +1,6 @@
-// What a thread has: a lane with its jobs, a worker, or the right to close. The type says what is known
-// of it, so it may lie under a lock, and no thread that was not started takes it along.
+// The slots of members: a lane with its jobs, a worker, or the right to close. The type of a slot
+// says what is known of its member, so it may be under a lock. A thread that was not started takes
+// no member with it.
 ghost use Rattle.std.specs.Prelude.{◌≡◌, ◌≢◌, ℕ, ◌+◌, ◌<◌, ◌≤◌, ◌↔◌, ◌++◌, [], List, None, Some, true, false, IsTrue, IsSome, MatchOption, length};
 ghost use Rattle.std.specs.List.{All};
 ghost use Rattle.std.specs.VecDeque.{deque_len, deque_capacity};
@@ -23,7 +24,7 @@ use std::collections::VecDeque;
 use std::marker::{Brand, Model, PhantomData};
 use std::sync::Wait;
 
-/// Names one run: its shop, and the jobs of each lane.
+/// A name for one run: its dispatcher, and the jobs of each lane.
 pub(crate) trait Naming {
     ghost use Rattle.std.specs.Prelude.{ℕ, List};
     ghost use Rattle.job_types.specs.Job.{JobData};
@@ -43,19 +44,19 @@ impl Naming for Brand {
     ghost jobs = { λ _. [] };
 }
 
-// How far a feeder is.
+// How far a lane's feed is.
 #[derive(Clone, Copy)]
 enum Progress {
-    // No job of it was handed in.
+    // No job of it was submitted.
     NotRun,
-    // Some were, and no job was refused for good.
+    // Some jobs were submitted, and none was refused for good.
     UnderWay,
     // It has stopped.
     Stopped(FeedStop),
 }
 
 impl Progress {
-    // Why the feed has stopped, if it has.
+    // Returns why the feed has stopped, if it has.
     fn stop(self) -> Option<FeedStop>
         ensures { result ≡ stop_in self }
     {
@@ -66,10 +67,10 @@ impl Progress {
     }
 }
 
-/// A lane, and the jobs that it has still to hand in.
+/// A lane, and the jobs that it has still to submit.
 pub(crate) struct LaneSlot<J: Naming, L: JobLine> {
     lane: L::Lane,
-    // The number of jobs that it was given.
+    // The number of jobs that it got at the beginning.
     given: usize,
     back: Option<Job>,
     left: VecDeque<Job>,
@@ -98,8 +99,8 @@ impl<J: Naming, L: JobLine> Model for LaneSlot<J, L> {
         × (f.given ≡ length (J.jobs (L.lane_record f.lane).number)) };
 }
 
-// Takes a job back that was refused. Where the line was full it is the next one again. Else it is the job that
-// came back, and the reason to stop is returned.
+// Takes back a job that was refused. If the queue was full, the job is the next one again.
+// Otherwise it is the job that came back, and the reason to stop is returned.
 fn take_back(
     left: &mut VecDeque<Job>,
     back: &mut Option<Job>,
@@ -121,7 +122,7 @@ fn take_back(
     Some(stop)
 }
 
-// Returns the number of accepted jobs: those that were given, less the one that came back and those that are left.
+// Returns the number of accepted jobs: those given, less the one that came back and those left.
 fn accepted_count(given: usize, back: &Option<Job>, left: &VecDeque<Job>) -> u64
     requires { length (given_back back.now ++ left.now.items) ≤ given }
     ensures { result + length (given_back back.now ++ left.now.items) ≡ given }
@@ -152,7 +153,7 @@ impl<J: Naming, L: JobLine> LaneSlot<J, L> {
         }
     }
 
-    // Hands in the next job, where the feed has not stopped, and waits where the line is full. Returns whether
+    // Submits the next job unless the feed has stopped. Waits if the queue is full. Returns whether
     // the feed goes on.
     pub fn turn<R: Wait, F: Floor>(&mut self, rt: &R, shop: &Shop<L, F>, pause: &mut Pause) -> bool
         requires { shop.now ≡ J.shop }
@@ -178,7 +179,7 @@ impl<J: Naming, L: JobLine> LaneSlot<J, L> {
         false
     }
 
-    // Hands in what is left, where the feed is under way.
+    // Submits what is left, if the feed is under way.
     fn finish<R: Wait, F: Floor>(&mut self, rt: &R, shop: &Shop<L, F>)
         requires { shop.now ≡ J.shop }
         ensures { self.new ≡ false }
@@ -194,7 +195,7 @@ impl<J: Naming, L: JobLine> LaneSlot<J, L> {
         }
     }
 
-    // Returns its lane, and the lane's end. One that is under way hands in the rest before.
+    // Returns the lane and its end. If its feed is under way, it submits the remaining jobs first.
     pub fn into_end<R: Wait, F: Floor>(self, rt: &R, shop: &Shop<L, F>) -> (L::Lane, LaneEnd)
         requires { shop.now ≡ J.shop }
         ensures lane { L.is_lane J.shop.line result.0 }
@@ -222,7 +223,7 @@ impl<J: Naming, L: JobLine> LaneSlot<J, L> {
     }
 }
 
-/// A worker, or what it was when it stopped.
+/// A worker that has not run, or one that has stopped.
 pub(crate) struct WorkerSlot<J: Naming, L: JobLine, F: Floor> {
     worker: Option<Worker<L, F>>,
     end: Option<WorkerEnd<L, F>>,
@@ -236,7 +237,7 @@ impl<J: Naming, L: JobLine, F: Floor> Model for WorkerSlot<J, L, F> {
     ghost use Rattle.dispatcher.specs.declared.stop.Stop.{Stop as StopData};
     ghost use Rattle.dispatcher.specs.declared.stop.Stop.TheVariants.{NotRun};
 
-    // Why it has stopped, or `None` where it was not run.
+    // Why it has stopped, or `None` if it has not run.
     ghost Value = { Option StopData };
 
     ghost view = { λ p. option_map stop_of p.end };
@@ -246,7 +247,7 @@ impl<J: Naming, L: JobLine, F: Floor> Model for WorkerSlot<J, L, F> {
         (λ w. IsWorkerOf J.shop w × (p.end ≡ None)) };
 }
 
-// Whether memory ran out in it.
+// Returns whether memory ran out in the worker.
 fn ran_out<L: JobLine, F: Floor>(end: &WorkerEnd<L, F>) -> bool
     ensures { IsTrue result ↔ (stop_of end.now ≡ Stop.OutOfMemory) }
 {
@@ -265,7 +266,8 @@ impl<J: Naming, L: JobLine, F: Floor> WorkerSlot<J, L, F> {
         }
     }
 
-    // Takes and answers jobs, where that was not done before. It tells whether memory ran out in it.
+    // Runs the worker until it stops, unless it has run already. Returns whether memory ran out in
+    // it.
     pub fn dispatch<R: Wait, T: Runner>(
         &mut self,
         rt: &R,
@@ -318,7 +320,7 @@ impl<J: Naming, L: JobLine, F: Floor> Model for CloserSlot<J, L, F> {
     ghost use Rattle.std.specs.Prelude.{◌≡◌, Bool, is_some, None, MatchOption};
     ghost use Rattle.dispatcher.specs.Members.{IsCloserOf, IsNoteOf};
 
-    // Whether the shop was closed.
+    // Whether the dispatcher was closed.
     ghost Value = { Bool };
 
     ghost view = { λ d. is_some d.note };
@@ -340,7 +342,7 @@ impl<J: Naming, L: JobLine, F: Floor> CloserSlot<J, L, F> {
         }
     }
 
-    // Closes the shop, where that was not done before.
+    // Closes the dispatcher, unless it is closed already.
     pub fn close<R: Wait>(&mut self, rt: &R, shop: &Shop<L, F>)
         requires { shop.now ≡ J.shop }
         ensures { self.new ≡ true }

@@ -1,4 +1,4 @@
-// A shop that is open for a run, with room for all that comes out of it.
+// A dispatcher that is open for a run, with memory reserved for all that comes out of it.
 ghost use Rattle.std.specs.Prelude.{◌≡◌, ◌≢◌, ℕ, ◌^◌, ◌<◌, ◌≤◌, [], None, Some, IfOk, IfErr, map, length, slice_index_or};
 ghost use Rattle.std.specs.List.{All};
 ghost use Rattle.std.specs.Vec.{vec_capacity};
@@ -16,7 +16,7 @@ use job_types::Job;
 use std::alloc::{AllocError, Global};
 use std::collections::VecDeque;
 
-// Room for what a run returns of its lanes and of its workers.
+// Room for what a run returns about its lanes and its workers.
 #[derive(Drop)]
 pub(crate) struct EndRoom {
     pub lanes: Vec<LaneEnd>,
@@ -39,7 +39,7 @@ impl EndRoom {
     }
 }
 
-// Room for the members of a run, when they come out of their slots.
+// Room for the members of a run when they come out of their slots.
 pub(crate) struct MemberRoom<L: JobLine, F: Floor> {
     pub ends: Vec<WorkerEnd<L, F>>,
     pub fed: Vec<(L::Lane, LaneEnd)>,
@@ -83,7 +83,7 @@ impl<L: JobLine, F: Floor> MemberRoom<L, F> {
     }
 }
 
-// A shop that is open, with all of its members, the jobs of its lanes, and room for what comes out.
+// An open dispatcher, with all of its members, the jobs of its lanes, and room for what comes out.
 pub(crate) struct Ready<L: JobLine, F: Floor> {
     pub opened: Opened<L, F>,
     pub jobs: Vec<VecDeque<Job>>,
@@ -106,7 +106,7 @@ pub(crate) struct Ready<L: JobLine, F: Floor> {
         × (opened.shop.line.sizes.passes ≤ vec_capacity room.returned.stops) },
 }
 
-// Opens a shop with a lane for each list of jobs. An error gives the jobs back.
+// Opens a dispatcher with a lane for each list of jobs. An error returns the jobs.
 pub(crate) fn make_ready<L: JobLine, F: Floor>(
     alloc: Global,
     sizes: ShopSizes,

@@ -1,4 +1,4 @@
-//! A whole run of a shop on threads.
+//! Running a whole dispatcher on threads.
 ghost use Rattle.std.specs.Prelude.{◌≡◌, ◌≢◌, ℕ, ◌^◌, ◌<◌, ◌≤◌, [], List, None, Some, IfOk, IfErr, map, length, slice_index_or};
 ghost use Rattle.std.specs.List.{All};
 ghost use Rattle.std.specs.Vec.{vec_capacity};
@@ -34,15 +34,16 @@ use std::thread::{Threads, available_parallelism};
 pub struct LaneEnd {
     /// The lane's number.
     pub lane: u32,
-    /// How many of its jobs were accepted: the first ones of its list.
+    /// The number of its accepted jobs, which are the first ones of its list.
     pub accepted: u64,
-    /// How many entries it has made: one for each accepted job, and one each time the line was full.
+    /// The number of entries that it made: one for each accepted job, and one each time the queue
+    /// was full.
     pub entries: u64,
-    /// The job that the line refused for good, if it did.
+    /// The job that the queue refused for good, if it refused one.
     pub back: Option<Job>,
     /// The jobs after it, in order.
     pub left: VecDeque<Job>,
-    /// Why its feed has stopped, or `None` where it was never run.
+    /// The reason why its feed has stopped, or `None` if it never ran.
     pub stop: Option<FeedStop>,
 }
 
@@ -55,11 +56,11 @@ pub struct RunEnd<M> {
     pub lanes: Vec<LaneEnd>,
     /// The close number: how many entries came before the close.
     pub close_number: u64,
-    /// Why each worker has stopped, in the order of their replies.
+    /// The reason why each worker has stopped, in the order of their replies.
     pub stops: Vec<Stop>,
 }
 
-// The members of a run, once they have stopped, and room for the lanes.
+// The members of a run, after they have stopped, and room for the lanes.
 struct Members<L: JobLine, F: Floor> {
     fed: Vec<(L::Lane, LaneEnd)>,
     ends: Vec<WorkerEnd<L, F>>,
@@ -67,7 +68,7 @@ struct Members<L: JobLine, F: Floor> {
     lanes: Vec<L::Lane>,
 }
 
-// Why each worker has stopped.
+// Returns why each worker has stopped.
 fn stops_of<L: JobLine, F: Floor>(ends: &[WorkerEnd<L, F>], stops: Vec<Stop>) -> Vec<Stop>
     requires empty { stops.items ≡ [] }
     requires room { length ends.now ≤ vec_capacity stops }
@@ -80,7 +81,7 @@ fn stops_of<L: JobLine, F: Floor>(ends: &[WorkerEnd<L, F>], stops: Vec<Stop>) ->
     stops
 }
 
-// Parts the lanes from their ends.
+// Separates the lanes from their ends.
 fn part<L: JobLine>(
     fed: Vec<(L::Lane, LaneEnd)>,
     mut lanes: Vec<L::Lane>,
@@ -102,7 +103,7 @@ fn part<L: JobLine>(
     (lanes, ends)
 }
 
-// How many processors there are for threads, or one where the system does not say.
+// Returns how many processors there are for threads, or 1 if the system does not say.
 fn processors<R: Threads>(rt: &R) -> usize {
     match available_parallelism(rt) {
         Ok(count) => count.get(),
@@ -110,7 +111,7 @@ fn processors<R: Threads>(rt: &R) -> usize {
     }
 }
 
-// Finishes a shop whose members have stopped, and returns the end of its run.
+// Finishes a dispatcher whose members have stopped, and returns the end of its run.
 fn run_end<J: Naming, R: Wait, L: JobLine, F: Floor, T: Runner>(
     rt: &R,
     runner: &T,
@@ -162,7 +163,7 @@ fn run_end<J: Naming, R: Wait, L: JobLine, F: Floor, T: Runner>(
     }
 }
 
-// The same as `run`, once the shop is open and the run has a name.
+// Does the work of `run`, after the dispatcher was opened and the run got a name.
 fn run_named<
     J: Naming + Send + Sync,
     R: Threads + Wait + Sync,
@@ -195,33 +196,25 @@ fn run_named<
         mut fed,
         returned: room,
     } = room;
-    let posts = slots_for_workers(alloc, workers, &mut ends);
-    let (feeders, lanes) = slots_for_lanes(rt, alloc, &shop, lanes, jobs, &mut fed);
+    let worker_slots = slots_for_workers(alloc, workers, &mut ends);
+    let (lane_slots, lanes) = slots_for_lanes(rt, alloc, &shop, lanes, jobs, &mut fed);
     let all_have_slots = ends.is_empty() && fed.is_empty();
-    let gang: ShopMembers<J, L, F, T> = ShopMembers {
+    let members: ShopMembers<J, L, F, T> = ShopMembers {
         shop: &shop,
         runner,
         alloc,
-        posts,
-        feeders,
+        worker_slots,
+        lane_slots,
         feeder_threads: processors(rt),
-        door: Mutex::new(CloserSlot::new(closer)),
+        closer_slot: Mutex::new(CloserSlot::new(closer)),
     };
     if all_have_slots {
-        run_threads(rt, &gang);
+        run_threads(rt, &members);
     }
-    let ShopMembers {
-        shop: _,
-        runner: _,
-        alloc: _,
-        posts,
-        feeders,
-        feeder_threads: _,
-        door,
-    } = gang;
-    workers_from_slots(alloc, posts, &mut ends);
-    let note = door.into_inner().into_note(rt, &shop);
-    lanes_from_slots(rt, &shop, feeders, &mut fed);
+    let (worker_slots, lane_slots, closer_slot) = members.into_slots();
+    workers_from_slots(alloc, worker_slots, &mut ends);
+    let note = closer_slot.into_inner().into_note(rt, &shop);
+    lanes_from_slots(rt, &shop, lane_slots, &mut fed);
     let members = Members {
         fed,
         ends,
@@ -231,20 +224,22 @@ fn run_named<
     run_end::<J, R, L, F, T>(rt, runner, shop, members, room)
 }
 
-/// Runs a shop of these sizes on threads, with a lane for each list of jobs.
+/// Runs a dispatcher of these sizes on threads, with a lane for each list of jobs.
 ///
-/// Opens the shop, hands in all lists at once while all workers answer jobs, closes the shop and finishes
-/// it. Each worker has a thread of its own. The lanes have as many threads as there are processors, and at
-/// most one each. A thread that has several lanes hands in a job of each in turn.
+/// It opens the dispatcher, submits all lists at once while all workers run jobs, closes the
+/// dispatcher and finishes it. Each worker has a thread of its own. The lanes have as many threads
+/// as there are processors, and at most one each. A thread with several lanes submits a job of each
+/// in turn.
 ///
-/// In the end each accepted job has one right reply. The jobs that a lane has accepted, followed by those
-/// that it did not hand in, are its list. Where a thread cannot be started, or there is no memory for one
-/// more reply, the shop closes early, and some jobs may not be handed in. A worker without a thread has
-/// stopped as `NotRun`, and a lane without one has no stop.
+/// In the end each accepted job has one right reply. The jobs that a lane has accepted, followed by
+/// those that it did not submit, are its list. If a thread cannot be started, or memory runs out
+/// for one more reply, the dispatcher closes early. Then some jobs may not be submitted. A worker
+/// without a thread has stopped as `NotRun`, and a lane without one has no stop.
 ///
 /// # Errors
 ///
-/// The error gives the jobs back. It is the first size that is not within its limits, or `OutOfMemory`.
+/// The error returns the jobs. It is the first size that is not within its limits, or
+/// `OutOfMemory`.
 pub fn run<
     R: Threads + Wait + Sync,
     L: JobLine + SharedLine,

@@ -1,8 +1,8 @@
-// Lines and floors whose members may go to other threads.
+// Queues and allocators whose handles may go to other threads.
 use floors::Floor;
 use job_queue::JobLine;
 
-/// A line that threads may share, and whose members may be sent to them.
+/// A queue that threads may share, and whose handles may be sent to them.
 pub trait SharedLine: JobLine<Lane: Send, Pass: Send, End: Send, Closer: Send, Note: Send> + Sync {}
 
 impl<L: JobLine + Sync> SharedLine for L
@@ -14,7 +14,8 @@ where
     L::Note: Send,
 {}
 
-/// A floor that threads may share, whose stations may be sent to them, and whose machine may be dropped.
+/// An allocator that threads may share, whose stations may be sent to them, and whose machine may
+/// be dropped.
 pub trait SharedFloor: Floor<Station: Send, Machine: Drop> + Sync {}
 
 impl<F: Floor + Sync> SharedFloor for F

@@ -1,4 +1,4 @@
-// How members go into their slots, and come out again.
+// How lanes and workers go into their slots, and come out again.
 ghost use Rattle.std.specs.Prelude.{◌≡◌, ◌≢◌, ℕ, ◌+◌, ◌<◌, ◌≤◌, [], List, map, length, slice_index_or};
 ghost use Rattle.std.specs.List.{All};
 ghost use Rattle.std.specs.Option.{MatchOption};
@@ -30,7 +30,7 @@ impl<J: Naming, L: JobLine, F: Floor> Model for WaitingWorkers<J, L, F> {
     ghost use Rattle.std.specs.List.{All};
     ghost use Rattle.dispatcher.specs.Members.{IsWorkerOf};
 
-    // How many they are.
+    // The number of these workers.
     ghost Value = { ℕ };
 
     ghost view = { λ i. length i.workers.items };
@@ -39,17 +39,17 @@ impl<J: Naming, L: JobLine, F: Floor> Model for WaitingWorkers<J, L, F> {
 }
 
 impl<J: Naming, L: JobLine, F: Floor> WaitingWorkers<J, L, F> {
-    // A slot for the last of them.
+    // Makes a slot for the last of them.
     #[tactic(auto, using(crate::proofs::SlotLemmas::all_last, crate::proofs::SlotLemmas::all_front))]
     fn next(&mut self) -> Option<WorkerSlot<J, L, F>>
         ensures fewer { MatchOption result ((self.old ≡ 0) × (self.new ≡ 0))
-            (λ post. self.old ≡ self.new + 1) }
+            (λ slot. self.old ≡ self.new + 1) }
     {
         let worker = self.workers.pop()?;
         Some(WorkerSlot::new(worker))
     }
 
-    // All of them have one.
+    // Ends the list: all of them have a slot.
     fn end(self)
         requires { self ≡ 0 }
     {
@@ -58,7 +58,7 @@ impl<J: Naming, L: JobLine, F: Floor> WaitingWorkers<J, L, F> {
     }
 }
 
-// A slot for each worker. One for which there is no memory stands down at once.
+// Puts each worker into a slot. A worker without memory for its slot stops without running.
 pub(crate) fn slots_for_workers<J: Naming, L: JobLine, F: Floor>(
     alloc: Global,
     workers: Vec<Worker<L, F>>,
@@ -75,31 +75,31 @@ pub(crate) fn slots_for_workers<J: Naming, L: JobLine, F: Floor>(
         workers,
         of: PhantomData,
     };
-    let mut posts = Vec::new(alloc);
-    while let Some(post) = idle.next() {
-        if let Err(failed) = posts.push(Mutex::new(post)) {
+    let mut worker_slots = Vec::new(alloc);
+    while let Some(slot) = idle.next() {
+        if let Err(failed) = worker_slots.push(Mutex::new(slot)) {
             ends.push_reserved(failed.value.into_inner().into_end(alloc));
         }
     }
     idle.end();
-    posts
+    worker_slots
 }
 
 // Takes the workers that have stopped out of their slots.
 pub(crate) fn workers_from_slots<J: Naming, L: JobLine, F: Floor>(
     alloc: Global,
-    mut posts: Vec<Mutex<WorkerSlot<J, L, F>>>,
+    mut worker_slots: Vec<Mutex<WorkerSlot<J, L, F>>>,
     ends: &mut Vec<WorkerEnd<L, F>>,
 )
-    requires room { length posts.items + length ends.old.items ≤ vec_capacity ends.old }
+    requires room { length worker_slots.items + length ends.old.items ≤ vec_capacity ends.old }
     requires ends { All (IsEndOf J.shop) ends.old.items }
-    ensures count { length ends.new.items ≡ length posts.items + length ends.old.items }
+    ensures count { length ends.new.items ≡ length worker_slots.items + length ends.old.items }
     ensures ends { All (IsEndOf J.shop) ends.new.items }
 {
-    while let Some(post) = posts.pop() {
-        ends.push_reserved(post.into_inner().into_end(alloc));
+    while let Some(slot) = worker_slots.pop() {
+        ends.push_reserved(slot.into_inner().into_end(alloc));
     }
-    posts.destroy_empty();
+    worker_slots.destroy_empty();
 }
 
 // Lanes with their jobs that have no slot yet.
@@ -116,7 +116,7 @@ impl<J: Naming, L: JobLine> Model for WaitingLanes<J, L> {
     ghost use Rattle.job_queue.specs.Record.{fresh_lanes};
     ghost use Rattle.job_queue.specs.Line.{IsFor};
 
-    // How many they are.
+    // The number of these lanes.
     ghost Value = { ℕ };
 
     ghost view = { λ u. length u.lanes.items };
@@ -147,10 +147,10 @@ impl<J: Naming, L: JobLine> WaitingLanes<J, L> {
         }
     }
 
-    // The last of them, with the last list.
+    // Makes a slot for the last of them, with the last list.
     fn next(&mut self) -> Option<LaneSlot<J, L>>
         ensures fewer { MatchOption result ((self.old ≡ 0) × (self.new ≡ 0))
-            (λ feeder. self.old ≡ self.new + 1) }
+            (λ slot. self.old ≡ self.new + 1) }
     {
         let lane = self.lanes.pop()?;
         let Some(list) = self.jobs.pop() else {
@@ -159,7 +159,7 @@ impl<J: Naming, L: JobLine> WaitingLanes<J, L> {
         Some(LaneSlot::new(lane, list))
     }
 
-    // Room for as many, once all of them have a slot.
+    // Returns the empty list, with room for as many lanes, after all of them got a slot.
     fn into_room(self) -> Vec<L::Lane>
         requires { self ≡ 0 }
         ensures { (result.items ≡ []) × (J.shop.line.sizes.lanes ≤ vec_capacity result) }
@@ -173,7 +173,7 @@ impl<J: Naming, L: JobLine> WaitingLanes<J, L> {
     }
 }
 
-// A slot for each lane with its jobs. One for which there is no memory hands in nothing.
+// Puts each lane with its jobs into a slot. A lane without memory for its slot submits nothing.
 pub(crate) fn slots_for_lanes<J: Naming, R: Wait, L: JobLine, F: Floor>(
     rt: &R,
     alloc: Global,
@@ -198,33 +198,33 @@ pub(crate) fn slots_for_lanes<J: Naming, R: Wait, L: JobLine, F: Floor>(
     ensures room { length lanes.items ≤ vec_capacity fed.new }
     ensures lane_room { (result.1.items ≡ []) × (length lanes.items ≤ vec_capacity result.1) }
 {
-    let mut unmanned: WaitingLanes<J, L> = WaitingLanes::new(lanes, jobs);
-    let mut feeders = Vec::new(alloc);
-    while let Some(feeder) = unmanned.next() {
-        if let Err(failed) = feeders.push(Mutex::new(feeder)) {
+    let mut idle: WaitingLanes<J, L> = WaitingLanes::new(lanes, jobs);
+    let mut lane_slots = Vec::new(alloc);
+    while let Some(slot) = idle.next() {
+        if let Err(failed) = lane_slots.push(Mutex::new(slot)) {
             fed.push_reserved(failed.value.into_inner().into_end(rt, shop));
         }
     }
-    (feeders, unmanned.into_room())
+    (lane_slots, idle.into_room())
 }
 
-// Takes the feeders out of their slots: each lane, and its end.
+// Takes the lanes out of their slots, each with its end.
 pub(crate) fn lanes_from_slots<J: Naming, R: Wait, L: JobLine, F: Floor>(
     rt: &R,
     shop: &Shop<L, F>,
-    mut feeders: Vec<Mutex<LaneSlot<J, L>>>,
+    mut lane_slots: Vec<Mutex<LaneSlot<J, L>>>,
     fed: &mut Vec<(L::Lane, LaneEnd)>,
 )
     requires shop { shop.now ≡ J.shop }
-    requires room { length feeders.items + length fed.old.items ≤ vec_capacity fed.old }
+    requires room { length lane_slots.items + length fed.old.items ≤ vec_capacity fed.old }
     requires lanes { All (λ f. L.is_lane J.shop.line f.0) fed.old.items }
     requires lane_ends { All (λ f. HasEnded J.jobs (L.lane_record f.0) f.1) fed.old.items }
-    ensures count { length fed.new.items ≡ length feeders.items + length fed.old.items }
+    ensures count { length fed.new.items ≡ length lane_slots.items + length fed.old.items }
     ensures lanes { All (λ f. L.is_lane J.shop.line f.0) fed.new.items }
     ensures lane_ends { All (λ f. HasEnded J.jobs (L.lane_record f.0) f.1) fed.new.items }
 {
-    while let Some(feeder) = feeders.pop() {
-        fed.push_reserved(feeder.into_inner().into_end(rt, shop));
+    while let Some(slot) = lane_slots.pop() {
+        fed.push_reserved(slot.into_inner().into_end(rt, shop));
     }
-    feeders.destroy_empty();
+    lane_slots.destroy_empty();
 }

@@ -1,41 +1,43 @@
-// The threads of a run. Nothing else in this crate starts one.
+// The threads of a run. Nothing else in this crate starts a thread.
 use std::sync::Wait;
 use std::thread;
 use std::thread::{Builder, Threads};
 
-// The bytes of each thread's stack, whatever the process's own limit is. A run was seen to need some 104 KB.
+// The size of each thread's stack in bytes, whatever the limit of the process is. A run was seen to
+// need some 104 KB.
 const STACK_BYTES: usize = 1 << 21;
 
 // Members that wait for threads, and what a thread does for them.
 pub(crate) trait ThreadWork {
     ghost is_ready: { Self → Type 0 };
 
-    // How many workers there are.
+    // Returns the number of workers.
     fn worker_count(&self) -> usize;
 
-    // How many threads feed.
+    // Returns the number of threads that feed lanes.
     fn feeder_count(&self) -> usize;
 
-    // What the thread of a worker does.
+    // Does the work of a worker's thread.
     fn work<R: Wait>(&self, rt: &R, index: usize)
         requires { is_ready self.now };
 
-    // What such a thread does.
+    // Does the work of a thread that feeds lanes.
     fn feed<R: Wait>(&self, rt: &R, index: usize)
         requires { is_ready self.now };
 
-    // Closes the shop, where that was not done before.
+    // Closes the dispatcher, unless it is closed already.
     fn close<R: Wait>(&self, rt: &R)
         requires { is_ready self.now };
 }
 
-// A thread to be started, with a stack of that size.
+// Describes a thread with a stack of this size.
 fn with_stack() -> Builder {
     Builder::new().stack_size(STACK_BYTES)
 }
 
-// Starts a thread for each worker, and then those that feed, each for some of the lanes; closes the shop
-// once all of these have ended, and waits for the workers. Where a thread cannot be started no other one is.
+// Starts a thread for each worker, and then those that feed, each for some of the lanes. When all
+// of these have ended, closes the dispatcher and waits for the workers. If a thread cannot be
+// started, no other one is.
 pub(crate) fn run_threads<R: Threads + Wait + Sync, C: ThreadWork + Sync>(rt: &R, members: &C)
     requires { C.is_ready members.now }
 {
@@ -66,8 +68,8 @@ pub(crate) fn run_threads<R: Threads + Wait + Sync, C: ThreadWork + Sync>(rt: &R
     );
 }
 
-// Starts the threads that feed, and waits for them. Where one cannot be started the shop is closed at
-// once, so that the others do not hand in what is not going to be a whole run.
+// Starts the threads that feed, and waits for them. If one cannot be started, closes the dispatcher
+// at once, so that the others stop early.
 fn feed_on_threads<R: Threads + Wait + Sync, C: ThreadWork + Sync>(rt: &R, members: &C)
     requires { C.is_ready members.now }
 {

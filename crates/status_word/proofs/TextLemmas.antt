@@ -15,12 +15,17 @@ range-push a (suc n) =
     let last : a + 1 + n ≡ a + suc n = omega arith in
     ap (range_with_len a) next ∙ ap (λ xs. a ∷ xs) (range-push (a + 1) n ∙ ap (λ x. range_with_len (a + 1) n ++ x ∷ []) last)
 
-pub marks_push : (w n : ℕ) → flat_map (mark_text w) (range_with_len 0 (n + 1)) ≡ flat_map (mark_text w) (range_with_len 0 n) ++ mark_text w n
+pub marks_push : (w n : ℕ)
+    → flat_map (mark_text w) (range_with_len 0 (n + 1))
+    ≡ flat_map (mark_text w) (range_with_len 0 n) ++ mark_text w n
 marks_push w n =
     ap (flat_map (mark_text w)) (range-push 0 n ∙ ap (λ x. range_with_len 0 n ++ x ∷ []) (zero-add n))
     ∙ flat_map-append (mark_text w) (range_with_len 0 n) (n ∷ []) ∙ ap (λ xs. flat_map (mark_text w) (range_with_len 0 n) ++ xs) (append-nil (mark_text w n))
 
-more_marks : (w n k : ℕ) → ((station : ℕ) → n ≤ station → station < n + k → mark_text w station ≡ []) → flat_map (mark_text w) (range_with_len 0 (n + k)) ≡ flat_map (mark_text w) (range_with_len 0 n)
+more_marks : (w n k : ℕ)
+    → ((station : ℕ) → n ≤ station → station < n + k → mark_text w station ≡ [])
+    → flat_map (mark_text w) (range_with_len 0 (n + k))
+    ≡ flat_map (mark_text w) (range_with_len 0 n)
 more_marks w n zero none = ap (λ end. flat_map (mark_text w) (range_with_len 0 end)) (add-zero n)
 more_marks w n (suc k) none =
     let next : n + suc k ≡ n + k + 1 = omega arith in
@@ -30,7 +35,10 @@ more_marks w n (suc k) none =
     ∙ more_marks w n k (λ station from below. none station from (omega arith))
 
 -- stations without a mark at the end add nothing
-pub marks_end : (w n end : ℕ) → n ≤ end → ((station : ℕ) → n ≤ station → station < end → mark_text w station ≡ []) → flat_map (mark_text w) (range_with_len 0 end) ≡ flat_map (mark_text w) (range_with_len 0 n)
+pub marks_end : (w n end : ℕ)
+    → n ≤ end
+    → ((station : ℕ) → n ≤ station → station < end → mark_text w station ≡ [])
+    → flat_map (mark_text w) (range_with_len 0 end) ≡ flat_map (mark_text w) (range_with_len 0 n)
 marks_end w n end within none =
     let whole : end ≡ n + (end - n) = omega arith in
     ap (λ last. flat_map (mark_text w) (range_with_len 0 last)) whole

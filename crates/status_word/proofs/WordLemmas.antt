@@ -64,7 +64,7 @@ IsSet-test w bit = (into, back)
     back : IsSet w bit → eqb (bit_and w (2 ^ bit)) (2 ^ bit) ≡ true
     back set = eq-eqb (bit_and w (2 ^ bit)) (2 ^ bit) (mask ∙ ap (λ b. b * 2 ^ bit) set ∙ one-mul (2 ^ bit))
 
--- a number of so many binary digits has no bit from there on
+-- a number below 2 ^ digits has no bit from there on
 pub bit_beyond : (w digits bit : ℕ) → w < 2 ^ digits → digits ≤ bit → bit_at w bit ≡ 0
 bit_beyond w digits bit short far =
     let big : 2 ^ digits ≤ 2 ^ bit = pow_mono far in
@@ -129,7 +129,12 @@ IsInUse-cases w in_use = elim (cases_eq (bit_at w 0) 1) [
         let clear : bit_at w bit ≡ 0 = zero_or_one (bit_at w bit) (bit_below w bit) not_set in
         omega (arith, bit_at_and w 7 bit, bit_at-zero bit)
 
-    bits : (IsSet w 0 → ⊥) → (IsSet w 1 → ⊥) → (IsSet w 2 → ⊥) → (bit : ℕ) → bit < 3 → bit_at (use_of w) bit ≡ bit_at 0 bit
+    bits : (IsSet w 0 → ⊥)
+        → (IsSet w 1 → ⊥)
+        → (IsSet w 2 → ⊥)
+        → (bit : ℕ)
+        → bit < 3
+        → bit_at (use_of w) bit ≡ bit_at 0 bit
     bits no_occ no_left no_right zero low = unset 0 no_occ
     bits no_occ no_left no_right (suc zero) low = unset 1 no_left
     bits no_occ no_left no_right (suc (suc zero)) low = unset 2 no_right
@@ -163,7 +168,10 @@ with_side-keeps side w bit set = IsSet-or_left w (2 ^ side_bit side) bit set
 pub with_side-same : (side : Side) (w : ℕ) → SameElsewhere (side_bit side) w (with_side side w)
 with_side-same side w = or_power-same w (side_bit side)
 
-pub with_side-others : (side : Side) (w bit : ℕ) → bit ≢ side_bit side → IsSet (with_side side w) bit → IsSet w bit
+pub with_side-others : (side : Side) (w bit : ℕ)
+    → bit ≢ side_bit side
+    → IsSet (with_side side w) bit
+    → IsSet w bit
 with_side-others side w bit other set = not_in_power w (side_bit side) bit other set
 
 -- ---- a mark more
@@ -177,7 +185,10 @@ with_mark-keeps station w bit set = IsSet-or_left w (2 ^ mark_bit station) bit s
 pub with_mark-same : (station w : ℕ) → SameElsewhere (mark_bit station) w (with_mark station w)
 with_mark-same station w = or_power-same w (mark_bit station)
 
-pub with_mark-others : (station w bit : ℕ) → bit ≢ mark_bit station → IsSet (with_mark station w) bit → IsSet w bit
+pub with_mark-others : (station w bit : ℕ)
+    → bit ≢ mark_bit station
+    → IsSet (with_mark station w) bit
+    → IsSet w bit
 with_mark-others station w bit other set = not_in_power w (mark_bit station) bit other set
 
 -- ---- a word without its marks and without the sides whose child was seen free
@@ -186,35 +197,44 @@ with_mark-others station w bit other set = not_in_power w (mark_bit station) bit
 kept_bit : (w mask bit : ℕ) → IsSet mask bit → IsSet (bit_and w mask) bit ↔ IsSet w bit
 kept_bit w mask bit has = (λ set. IsSet-and_left w mask bit set, λ set. IsSet-and w mask bit set has)
 
-stays : (w mask bit : ℕ) → IsSet mask bit → IsSet (bit_and w mask) bit ↔ (IsSet w bit × (◌≡◌ {A = Bool} false false))
+stays : (w mask bit : ℕ)
+    → IsSet mask bit
+    → IsSet (bit_and w mask) bit ↔ (IsSet w bit × (◌≡◌ {A = Bool} false false))
 stays w mask bit has = (λ set. (IsSet-and_left w mask bit set, refl), λ both. IsSet-and w mask bit both.0 has)
 
-goes : (w mask bit : ℕ) → bit_at mask bit ≡ 0 → IsSet (bit_and w mask) bit ↔ (IsSet w bit × (◌≡◌ {A = Bool} true false))
+goes : (w mask bit : ℕ)
+    → bit_at mask bit ≡ 0
+    → IsSet (bit_and w mask) bit ↔ (IsSet w bit × (◌≡◌ {A = Bool} true false))
 goes w mask bit lacks =
     (λ set. let has : bit_at mask bit ≡ 1 = IsSet-and_right w mask bit set in absurd (omega (arith, lacks, has)), λ both. absurd (true≢false both.1))
 
 -- OCC stays
-pub cleared-occupied : (w : ℕ) (left_free right_free : Bool) → IsOccupied (cleared w left_free right_free) ↔ IsOccupied w
+pub cleared-occupied : (w : ℕ) (left_free right_free : Bool)
+    → IsOccupied (cleared w left_free right_free) ↔ IsOccupied w
 cleared-occupied w false false = kept_bit w 7 0 refl
 cleared-occupied w true false = kept_bit w 5 0 refl
 cleared-occupied w false true = kept_bit w 3 0 refl
 cleared-occupied w true true = kept_bit w 1 0 refl
 
 -- a side stays exactly if it was there and its child was not seen free
-pub cleared-left : (w : ℕ) (left_free right_free : Bool) → HasSide Left (cleared w left_free right_free) ↔ (HasSide Left w × (left_free ≡ false))
+pub cleared-left : (w : ℕ) (left_free right_free : Bool)
+    → HasSide Left (cleared w left_free right_free) ↔ (HasSide Left w × (left_free ≡ false))
 cleared-left w false false = stays w 7 1 refl
 cleared-left w false true = stays w 3 1 refl
 cleared-left w true false = goes w 5 1 refl
 cleared-left w true true = goes w 1 1 refl
 
-pub cleared-right : (w : ℕ) (left_free right_free : Bool) → HasSide Right (cleared w left_free right_free) ↔ (HasSide Right w × (right_free ≡ false))
+pub cleared-right : (w : ℕ) (left_free right_free : Bool)
+    → HasSide Right (cleared w left_free right_free) ↔ (HasSide Right w × (right_free ≡ false))
 cleared-right w false false = stays w 7 2 refl
 cleared-right w true false = stays w 5 2 refl
 cleared-right w false true = goes w 3 2 refl
 cleared-right w true true = goes w 1 2 refl
 
 -- no mark stays
-pub cleared-unmarked : (w : ℕ) (left_free right_free : Bool) (station : ℕ) → IsMarked station (cleared w left_free right_free) → ⊥
+pub cleared-unmarked : (w : ℕ) (left_free right_free : Bool) (station : ℕ)
+    → IsMarked station (cleared w left_free right_free)
+    → ⊥
 cleared-unmarked w false false station marked = low_has_no_mark 7 (mark_bit station) (lit< tt) (omega arith) (IsSet-and_right w 7 (mark_bit station) marked)
 cleared-unmarked w true false station marked = low_has_no_mark 5 (mark_bit station) (lit< tt) (omega arith) (IsSet-and_right w 5 (mark_bit station) marked)
 cleared-unmarked w false true station marked = low_has_no_mark 3 (mark_bit station) (lit< tt) (omega arith) (IsSet-and_right w 3 (mark_bit station) marked)

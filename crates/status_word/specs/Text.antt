@@ -6,18 +6,19 @@ use Rattle.std.specs.Fmt.{decimal}
 use Rattle.cube_shape.specs.declared.limits.TheConstants.{MAX_STATIONS}
 use Rattle.status_word.specs.Word.{use_of, mark_bit}
 
--- the text, if the bit is set
+-- The text if the bit is set, else nothing.
 abbrev pub text_if : ℕ → ℕ → List ℕ → List ℕ
 text_if w bit text = if bit_at w bit == 1 then text else []
 
--- `O`, `L` and `R` for the bits of use that are set, or a dash for none
+-- The letters `O`, `L` and `R` for the bits of use that are set, or a dash for none.
 abbrev pub use_text : ℕ → List ℕ
 use_text w = if use_of w == 0 then codes "-"
     else text_if w 0 (codes "O") ++ text_if w 1 (codes "L") ++ text_if w 2 (codes "R")
 
--- a plus sign and the station's number, if its mark stands
+-- A plus sign and the station's number, if its mark is set.
 abbrev pub mark_text : ℕ → ℕ → List ℕ
 mark_text w station = text_if w (mark_bit station) (codes "+" ++ decimal station)
 
+-- The text of a word: that of its bits of use, then that of each mark by rising station.
 abbrev pub word_text : ℕ → List ℕ
 word_text w = use_text w ++ flat_map (mark_text w) (range_with_len 0 MAX_STATIONS)

@@ -2,7 +2,7 @@ ghost use Rattle.std.specs.Prelude.{⊤, [], ◌∷◌, codes};
 
 use bitflags::{Flag, Flags, bitflag_items};
 
-/// What a word says of its region: the set of its bits OCC, LEFT and RIGHT.
+/// The use of a node's block: the set of the bits OCC, LEFT and RIGHT of its word.
 #[derive(Clone, Copy, Debug, PartialEq, Eq, Hash)]
 pub struct UseBits(u64);
 

@@ -14,14 +14,14 @@ use std::fmt::Write;
 #[derive(Clone, Copy, Debug, PartialEq, Eq, Hash)]
 pub struct Word(pub u64);
 
-/// The bit of the first mark.
+/// The number of the bit of station 0's mark.
 const FIRST_MARK: u32 = 8;
 
 impl Word {
-    /// The word of a node that is given out as a whole: OCC and both sides, and no mark.
+    /// The word of a node that is claimed as a whole: OCC and both sides, and no mark.
     pub const BUSY: Word = Word(7);
 
-    /// The word that has the mark of a station and no other bit.
+    /// Returns the word with the mark of a station and no other bit.
     pub fn mark_mask(station: u32) -> Word
         requires { station < MAX_STATIONS }
         ensures value { result.0 ≡ 2 ^ mark_bit station }
@@ -30,7 +30,7 @@ impl Word {
         Word(1 << (FIRST_MARK + station))
     }
 
-    /// The word that has the bit of a side and no other.
+    /// Returns the word with the bit of a side and no other.
     pub fn side_mask(side: Side) -> Word
         ensures value { result.0 ≡ 2 ^ side_bit side }
         ensures alone { (bit : ℕ) → IsSet result.0 bit ↔ (bit ≡ side_bit side) }
@@ -41,28 +41,28 @@ impl Word {
         }
     }
 
-    /// What the word says of its region.
+    /// Returns the bits of use.
     pub fn use_bits(self) -> UseBits
         ensures { ⟦<UseBits as Flags>⟧.set_of result ≡ use_of self.0 }
     {
         UseBits::from_bits_retain(self.0 & 7)
     }
 
-    /// Whether none of OCC, LEFT and RIGHT is set.
+    /// Returns whether none of OCC, LEFT and RIGHT is set.
     pub fn is_free(self) -> bool
         ensures { IsTrue result ↔ IsFree self.0 }
     {
         self.0 & 7 == 0
     }
 
-    /// Whether OCC is set.
+    /// Returns whether OCC is set.
     pub fn is_occupied(self) -> bool
         ensures { IsTrue result ↔ IsOccupied self.0 }
     {
         self.0 & 1 == 1
     }
 
-    /// Whether the bit of a side is set.
+    /// Returns whether the bit of a side is set.
     pub fn has_side(self, side: Side) -> bool
         ensures { IsTrue result ↔ HasSide side self.0 }
     {
@@ -72,7 +72,7 @@ impl Word {
         }
     }
 
-    /// Whether the mark of a station stands.
+    /// Returns whether the mark of a station is set.
     pub fn is_marked(self, station: u32) -> bool
         requires { station < MAX_STATIONS }
         ensures { IsTrue result ↔ IsMarked station self.0 }
@@ -80,7 +80,7 @@ impl Word {
         self.0 >> (FIRST_MARK + station) & 1 == 1
     }
 
-    /// The word with the bit of a side set.
+    /// Returns the word with the bit of a side set.
     pub fn with_side(self, side: Side) -> Word
         ensures value { result.0 ≡ word_with_side side self.0 }
         ensures has { HasSide side result.0 }
@@ -89,7 +89,7 @@ impl Word {
         Word(self.0 | Word::side_mask(side).0)
     }
 
-    /// The word with no mark.
+    /// Returns the word without its marks.
     pub fn without_marks(self) -> Word
         ensures value { result.0 ≡ use_of self.0 }
         ensures bits { (bit : ℕ) → IsSet result.0 bit ↔ (IsSet self.0 bit × (bit < 3)) }
@@ -97,7 +97,7 @@ impl Word {
         Word(self.0 & 7)
     }
 
-    /// The word with the mark of a station.
+    /// Returns the word with the mark of a station set.
     pub fn mark(self, station: u32) -> Word
         requires { station < MAX_STATIONS }
         ensures value { result.0 ≡ with_mark station self.0 }
@@ -107,7 +107,7 @@ impl Word {
         Word(self.0 | Word::mark_mask(station).0)
     }
 
-    /// The word without its marks, and without each side whose child was seen free.
+    /// Returns the word without its marks, and without each side whose child was seen free.
     pub fn cleared(self, left_free: bool, right_free: bool) -> Word
         ensures value { result.0 ≡ cleared_word self.0 left_free right_free }
         ensures occupied { IsOccupied result.0 ↔ IsOccupied self.0 }
@@ -125,8 +125,8 @@ impl Word {
         }
     }
 
-    /// The word as text: the letters `O`, `L` and `R` of the bits that are set, or `-` if none is,
-    /// then `+` and the number of each station whose mark stands, by rising number.
+    /// Returns the word as text: the letters `O`, `L` and `R` of the bits that are set, or `-` if
+    /// none is. Then `+` and the number of each station whose mark is set, by rising number.
     pub fn show(self, alloc: Global) -> Result<String, AllocError>
         ensures { IfOk result (λ text. string_bytes text ≡ word_text self.0) }
     {
@@ -137,7 +137,7 @@ impl Word {
         Ok(text)
     }
 
-    // The number after that of the last station whose mark stands, and 0 if none stands.
+    // Returns the number after that of the last station whose mark is set, and 0 if none is.
     fn mark_end(self) -> u32
         ensures within { result ≤ MAX_STATIONS }
         ensures past { (station : ℕ) → result ≤ station → station < MAX_STATIONS
@@ -147,7 +147,7 @@ impl Word {
         digits.saturating_sub(FIRST_MARK).min(MAX_STATIONS)
     }
 
-    // The letters of the bits of use, or a dash for none.
+    // Returns the letters of the bits of use, or a dash for none.
     fn letters(self) -> &'static str
         ensures { result.now ≡ use_text self.0 }
     {
@@ -167,7 +167,7 @@ impl Word {
         }
     }
 
-    // Adds a plus sign and the number of a station, if its mark stands.
+    // Adds a plus sign and the number of a station, if its mark is set.
     fn push_mark(self, text: &mut String, station: u32) -> Result<(), AllocError>
         requires { station < MAX_STATIONS }
         ensures { OnOk result (string_bytes text.new
@@ -180,8 +180,8 @@ impl Word {
     }
 }
 
-/// The word of a node that is given out has OCC and both sides and no mark, and each flag of
-/// `UseBits` is the bit of its name.
+/// Proves that the word of a claimed node has OCC and both sides and no mark. Proves that each flag
+/// of `UseBits` is the bit of its name.
 pub fn flags_are_the_bits_of_use()
     ensures occupied { IsOccupied BUSY.0 }
     ensures sides { (side : Side) → HasSide side BUSY.0 }

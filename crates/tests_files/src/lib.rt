@@ -1,4 +1,4 @@
-//! The tests of collectives and jobs, of the files that hold them, of totals and reports, and of the
+//! Tests of collectives and jobs, of the files that hold them, of totals and reports, and of the
 //! program's commands over devices that fail.
 #![tactic(auto)]
 

@@ -1,4 +1,4 @@
-//! Expected values are worked out by hand.
+//! The tests. Expected values are worked out by hand.
 
 mod any_number;
 mod commands;

@@ -9,9 +9,15 @@ use Rattle.job_types.specs.Job.{JobData}
 pub longer : {A : Type 0} (xs ys : List A) (y : A) → ys ≡ xs ++ y ∷ [] → length ys ≡ length xs + 1
 longer xs ys y pushed = ap length pushed ∙ length-append xs (y ∷ [])
 
--- what holds of each list and its number holds once one more is there
-pub all_listed : {V : Type 0} (items_of : V → List JobData) (P : ℕ → List JobData → Type 0) (old new : List V) (list : V) → new ≡ old ++ list ∷ [] → ((k : ℕ) → k < length old → P k (get_or (map items_of old) k [])) → P (length old) (items_of list)
-    → (k : ℕ) → k < length new → P k (get_or (map items_of new) k [])
+-- what holds for each list and its number still holds with one more list
+pub all_listed : {V : Type 0} (items_of : V → List JobData) (P : ℕ → List JobData → Type 0)
+    (old new : List V) (list : V)
+    → new ≡ old ++ list ∷ []
+    → ((k : ℕ) → k < length old → P k (get_or (map items_of old) k []))
+    → P (length old) (items_of list)
+    → (k : ℕ)
+    → k < length new
+    → P k (get_or (map items_of new) k [])
 all_listed items_of P old new list pushed all own k below =
     let lists : map items_of new ≡ map items_of old ++ items_of list ∷ [] = ap (map items_of) pushed ∙ map-append items_of old (list ∷ []) in
     let len = length-map old items_of in

@@ -1,4 +1,4 @@
-//! Jobs, and lists of them for each lane of a line.
+//! Jobs, and lists of them for each lane of a queue.
 ghost use Rattle.std.specs.Prelude.{◌≡◌, ℕ, ◌<◌, ◌≤◌, [], IfOk, map, length, slice_index_or};
 ghost use Rattle.std.specs.List.{All};
 ghost use Rattle.job_queue.specs.Line.{IsFor};
@@ -8,10 +8,10 @@ use job_types::{Job, JobRefused, Kind, Op};
 use std::alloc::{AllocError, Global};
 use std::collections::VecDeque;
 
-/// What most jobs compute.
+/// The collective of most jobs: an all-reduce that adds.
 pub const SUM: Kind = Kind::AllReduce { op: Op::Add };
 
-/// A job of this kind and of these numbers.
+/// Makes a job of this kind on these numbers.
 pub fn job(
     alloc: Global,
     machine: u32,
@@ -32,7 +32,7 @@ pub fn job(
     }
 }
 
-// The list with one more job of its lane.
+// Adds one more job of its lane to a list.
 fn add(
     alloc: Global,
     jobs: &mut VecDeque<Job>,
@@ -53,10 +53,10 @@ fn add(
     Ok(())
 }
 
-/// What a job computes, and its numbers.
+/// The collective of a job, and its numbers.
 pub type Row<'a> = (Kind, &'a [u64]);
 
-/// The jobs of a lane, row by row.
+/// Returns the jobs of a lane, row by row.
 pub fn listed(
     alloc: Global,
     machine: u32,
@@ -74,28 +74,28 @@ pub fn listed(
     Ok(jobs)
 }
 
-/// Which jobs each lane has.
+/// The jobs of each lane.
 #[derive(Clone, Copy)]
 pub enum Plan {
     /// Jobs of several kinds, on three lanes.
     Kinds,
-    /// So many sums of 1 and 2.
+    /// This number of sums of 1 and 2.
     Same(u32),
-    /// So many sums: of the lane's number and 0, of it and 1, and so on.
+    /// This number of sums: of the lane's number and 0, of it and 1, and so on.
     Sums(u32),
-    /// So many sums on one lane, and one on each other.
+    /// This number of sums on one lane, and one on each other.
     OneHas {
         /// The lane.
         lane: u32,
-        /// How many it has.
+        /// The number of its jobs.
         count: u32,
     },
-    /// So many sums, of 1, 2, 4, 8 or 16 numbers in turn; the first lane begins with 1 number, the next one
-    /// with 2, and so on.
+    /// This number of sums, of 1, 2, 4, 8 or 16 numbers in turn. The first lane begins with 1
+    /// number, the next one with 2, and so on.
     Sizes(u32),
 }
 
-// The jobs of several kinds of a lane.
+// Returns the jobs of several kinds of a lane.
 fn kinds(alloc: Global, machine: u32, lane: u32) -> Result<VecDeque<Job>, JobRefused>
     requires machine { machine ≤ MAX_DIM }
     requires lane { lane < MAX_LANES }
@@ -114,7 +114,7 @@ fn kinds(alloc: Global, machine: u32, lane: u32) -> Result<VecDeque<Job>, JobRef
     }
 }
 
-// How many sums a lane has.
+// Returns how many sums a lane has.
 fn count_of(plan: Plan, lane: u32) -> u32 {
     match plan {
         Plan::Kinds => 0,
@@ -123,7 +123,7 @@ fn count_of(plan: Plan, lane: u32) -> u32 {
     }
 }
 
-// The numbers 1, 2 and so on: `2^dim` of them.
+// Returns the numbers 1, 2 and so on: `2^dim` of them.
 fn first_numbers(alloc: Global, dim: u32) -> Result<Vec<u64>, AllocError>
     requires { dim ≤ MAX_DIM }
 {
@@ -134,7 +134,7 @@ fn first_numbers(alloc: Global, dim: u32) -> Result<Vec<u64>, AllocError>
     Ok(numbers)
 }
 
-// The numbers of one of a lane's sums.
+// Returns the numbers of one of a lane's sums.
 fn numbers_of(alloc: Global, plan: Plan, lane: u32, seq: u32) -> Result<Vec<u64>, AllocError>
     requires { lane < MAX_LANES }
 {
@@ -145,7 +145,7 @@ fn numbers_of(alloc: Global, plan: Plan, lane: u32, seq: u32) -> Result<Vec<u64>
     }
 }
 
-// The sums of a lane.
+// Returns the sums of a lane.
 fn sums(alloc: Global, machine: u32, lane: u32, plan: Plan) -> Result<VecDeque<Job>, JobRefused>
     requires machine { machine ≤ MAX_DIM }
     requires lane { lane < MAX_LANES }
@@ -161,7 +161,7 @@ fn sums(alloc: Global, machine: u32, lane: u32, plan: Plan) -> Result<VecDeque<J
     Ok(jobs)
 }
 
-/// The jobs of a lane.
+/// Returns the jobs of a lane.
 pub fn jobs(alloc: Global, machine: u32, lane: u32, plan: Plan) -> Result<VecDeque<Job>, JobRefused>
     requires machine { machine ≤ MAX_DIM }
     requires lane { lane < MAX_LANES }
@@ -173,7 +173,7 @@ pub fn jobs(alloc: Global, machine: u32, lane: u32, plan: Plan) -> Result<VecDeq
     }
 }
 
-/// The jobs of all lanes.
+/// Returns the jobs of all lanes.
 pub fn lists(
     alloc: Global,
     machine: u32,

@@ -1,6 +1,7 @@
-//! What tests share: lists of jobs, lists of one member or two, a table of the processors that are in use,
-//! the members of a small shop, and runners that see what is inside them at one moment. Tests
-//! stand on this crate, and the measurements.
+//! Helpers that tests and measurements share.
+//!
+//! These are lists of jobs, lists of one member or two, and the members of a small dispatcher. A
+//! table shows which processors are in use, and runners see what is inside them at one moment.
 #![tactic(auto)]
 
 mod job_lists;

@@ -1,4 +1,4 @@
-//! Runners that keep jobs until others have come in.
+//! Runners that keep jobs until others have entered.
 use crate::waiting::wait_for;
 use dispatcher::Runner;
 use job_types::{Job, JobId, Region, Reply};
@@ -9,7 +9,8 @@ use std::sync::atomic::Ordering::SeqCst;
 // How often a job looks for another one before it goes on alone.
 const TURNS: u32 = 1_000_000;
 
-/// A runner that keeps each job until so many have come in, or until it has looked 1,000,000 times.
+/// A runner that keeps each job until the wanted number of jobs have entered, or until it has
+/// looked 1,000,000 times.
 #[derive(Drop)]
 pub struct Meeting {
     wanted: u64,
@@ -18,7 +19,7 @@ pub struct Meeting {
 }
 
 impl Meeting {
-    /// A meeting of so many jobs.
+    /// Makes a meeting of this number of jobs.
     pub fn of(wanted: u64) -> Meeting {
         Meeting {
             wanted,
@@ -27,17 +28,18 @@ impl Meeting {
         }
     }
 
-    /// Whether they have met: as many came in, and none went on alone.
+    /// Returns whether they have met: all have entered, and none went on alone.
     pub fn has_met(&self) -> bool {
         self.came.load(SeqCst) >= self.wanted && self.alone.load(SeqCst) == 0
     }
 
-    /// Waits until a job has come in, or until it has looked 1,000,000 times: whether one has.
+    /// Waits until a job has entered, or until it has looked 1,000,000 times. Returns whether one
+    /// has.
     pub fn wait_for_one(&self) -> bool {
         wait_for(&self.came, 1, TURNS)
     }
 
-    /// How many jobs came in.
+    /// Returns how many jobs have entered.
     pub fn came(&self) -> u64 {
         self.came.load(SeqCst)
     }
@@ -53,8 +55,8 @@ impl Runner for Meeting {
     }
 }
 
-/// A runner that keeps each job of one lane until one of another lane has come in, or until it has looked
-/// so often.
+/// A runner that keeps each job of one lane until one of another lane has entered, or until it has
+/// looked `turns` times.
 #[derive(Drop)]
 pub struct Keeper {
     lane: u32,
@@ -64,7 +66,7 @@ pub struct Keeper {
 }
 
 impl Keeper {
-    /// A runner that keeps the jobs of this lane, which look so often.
+    /// Makes a runner that keeps the jobs of this lane, each of which looks at most `turns` times.
     pub fn new(lane: u32, turns: u32) -> Keeper {
         Keeper {
             lane,
@@ -74,12 +76,12 @@ impl Keeper {
         }
     }
 
-    /// How many jobs of the lane came in before each job of another lane.
+    /// Returns how many jobs of the lane entered before each job of another lane.
     pub fn before(&self) -> u64 {
         self.before.load(SeqCst)
     }
 
-    /// How many jobs of other lanes came in.
+    /// Returns how many jobs of other lanes entered.
     pub fn others(&self) -> u64 {
         self.others.load(SeqCst)
     }

@@ -2,7 +2,7 @@
 ghost use Rattle.std.specs.Prelude.{◌≡◌, ◌≤◌, [], ◌∷◌, length};
 ghost use Rattle.std.specs.Vec.{vec_capacity};
 
-/// The only member of a list, which keeps its room.
+/// Takes the only member out of a list, which keeps its room.
 pub fn only<T>(members: &mut Vec<T>) -> T
     requires { length members.old.items ≡ 1 }
     ensures member { members.old.items ≡ result ∷ [] }
@@ -14,7 +14,7 @@ pub fn only<T>(members: &mut Vec<T>) -> T
     member
 }
 
-/// The list of one member.
+/// Puts one member into a list.
 pub fn sole<T>(mut room: Vec<T>, member: T) -> Vec<T>
     requires { (room.items ≡ []) × (1 ≤ vec_capacity room) }
     ensures { result.items ≡ member ∷ [] }
@@ -34,7 +34,7 @@ pub struct Pair<T> {
 }
 
 impl<T> Pair<T> {
-    /// The members of a list of two.
+    /// Takes a list of two apart.
     pub fn of(mut members: Vec<T>) -> Pair<T>
         requires { length members.items ≡ 2 }
         ensures members { members.items ≡ result.first ∷ result.second ∷ [] }
@@ -54,7 +54,7 @@ impl<T> Pair<T> {
     }
 }
 
-/// The list of both.
+/// Puts both members into their list.
 pub fn both<T>(pair: Pair<T>) -> Vec<T>
     requires { (pair.room.items ≡ []) × (2 ≤ vec_capacity pair.room) }
     ensures { result.items ≡ pair.first ∷ pair.second ∷ [] }

@@ -1,4 +1,4 @@
-//! The members of a new shop of one lane and one worker, taken out of their lists.
+//! The members of a new dispatcher of one lane and one worker, taken out of their lists.
 ghost use Rattle.std.specs.Prelude.{◌≡◌, ◌≤◌, [], map};
 ghost use Rattle.std.specs.List.{All};
 ghost use Rattle.std.specs.Vec.{vec_capacity};
@@ -10,7 +10,7 @@ use dispatcher::{Shop, Worker};
 use floors::Floor;
 use job_queue::JobLine;
 
-/// The only lane of a new shop.
+/// Takes the only lane of a new dispatcher out of its list.
 pub fn only_lane<L: JobLine, F: Floor>(shop: &Shop<L, F>, lanes: &mut Vec<L::Lane>) -> L::Lane
     requires lanes { All (L.is_lane shop.now.line) lanes.old.items }
     requires fresh { map L.lane_record lanes.old.items ≡ fresh_lanes 1 }
@@ -22,7 +22,7 @@ pub fn only_lane<L: JobLine, F: Floor>(shop: &Shop<L, F>, lanes: &mut Vec<L::Lan
     only(lanes)
 }
 
-/// The only worker of a new shop.
+/// Takes the only worker of a new dispatcher out of its list.
 pub fn only_worker<L: JobLine, F: Floor>(
     shop: &Shop<L, F>,
     workers: &mut Vec<Worker<L, F>>,

@@ -1,4 +1,4 @@
-//! Which processors are in use at one moment.
+//! The processors that are in use at one moment.
 use cube_shape::MAX_DIM;
 use dispatcher::Runner;
 use job_types::{Job, JobId, Region, Reply};
@@ -7,21 +7,21 @@ use std::sync::Wait;
 use std::sync::atomic::AtomicU64;
 use std::sync::atomic::Ordering::SeqCst;
 
-/// A counter for each processor of a machine, which is up while its region is in use. Threads may share
-/// it.
+/// A counter for each processor of a machine, which is up while its block is in use. Threads may
+/// share it.
 #[derive(Drop)]
 pub struct Table {
     counts: Vec<AtomicU64>,
     clashes: AtomicU64,
 }
 
-// Whether the processor is one of the region's. No dimension is above the largest one.
+// Returns whether the processor is one of the block's. No dimension is above the largest one.
 fn is_in(region: Region, processor: u64) -> bool {
     region.base <= processor && processor - region.base < 1 << region.dim.min(MAX_DIM)
 }
 
 impl Table {
-    /// A table of so many processors, of which none is in use.
+    /// Creates a table of this number of processors, none of which is in use.
     pub fn new(alloc: Global, processors: usize) -> Result<Table, AllocError> {
         let mut counts = Vec::new(alloc);
         for _ in 0..processors {
@@ -33,7 +33,8 @@ impl Table {
         })
     }
 
-    /// Counts up on the processors of a region that is held. It is a clash where one of them was in use.
+    /// Counts up on the processors of a block that is held. It is a clash if one of them was in
+    /// use.
     pub fn enter(&self, region: Region) {
         let mut found = 0u64;
         for (processor, count) in self.counts.iter().enumerate() {
@@ -46,7 +47,7 @@ impl Table {
         }
     }
 
-    /// Counts down again.
+    /// Counts down again on the processors of a block.
     pub fn leave(&self, region: Region) {
         for (processor, count) in self.counts.iter().enumerate() {
             if is_in(region, processor as u64) {
@@ -55,13 +56,13 @@ impl Table {
         }
     }
 
-    /// How many regions were entered of which a processor was in use.
+    /// Returns how many blocks were entered of which a processor was in use.
     pub fn clashes(&self) -> u64 {
         self.clashes.load(SeqCst)
     }
 }
 
-/// A runner that answers jobs by another one, and counts up on a job's processors while it is inside.
+/// A runner that runs jobs by another one, and counts up on a job's processors while it is inside.
 #[derive(Drop)]
 pub struct Tabled<T> {
     runner: T,
@@ -69,7 +70,7 @@ pub struct Tabled<T> {
 }
 
 impl<T> Tabled<T> {
-    /// Such a runner for a machine of so many processors.
+    /// Creates such a runner for a machine of this number of processors.
     pub fn new(alloc: Global, processors: usize, runner: T) -> Result<Tabled<T>, AllocError>
     where
         T: Drop,
@@ -80,12 +81,12 @@ impl<T> Tabled<T> {
         })
     }
 
-    /// The other runner.
+    /// Returns the other runner.
     pub fn runner(&self) -> &T {
         &self.runner
     }
 
-    /// How many jobs came in on a region of which a processor was in use.
+    /// Returns how many jobs entered on a block of which a processor was in use.
     pub fn clashes(&self) -> u64 {
         self.table.clashes()
     }

@@ -1,9 +1,10 @@
-//! Waiting for another thread, for a long time at most.
+//! Waiting for another thread, for a limited number of turns.
 use std::sync::atomic::AtomicU64;
 use std::sync::atomic::Ordering::SeqCst;
 use std::thread::yield_now;
 
-/// Waits until the count has come to this number, in so many turns at most: whether it has.
+/// Waits until the count is at least this number, for this number of turns at most. Returns whether
+/// it is.
 pub fn wait_for(count: &AtomicU64, number: u64, turns: u32) -> bool {
     for _ in 0..turns {
         if count.load(SeqCst) >= number {

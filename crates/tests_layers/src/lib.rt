@@ -1,5 +1,5 @@
-//! The tests of the layers below a shop: the machine's shape, the allocation bits and the tree, pure and running; and the
-//! line of jobs, from its gate and its ring to whole lines.
+//! Tests of the layers below a dispatcher. They try the machine's shape, the allocation bits, the
+//! tree and its model, and the queues with their gate and their ring.
 #![tactic(auto)]
 
 #[cfg(test)]

@@ -1,7 +1,17 @@
-//! Each crate below has its file: `cube_shape` in `shape`, `status_word` in `words`, `region_bits` and
-//! `alloc_bits` in `bits`, `cube_core` in `world`, `cube_tree` in `cube`, `line_gate` in `gate` and `line_ring` in
-//! `ring`; whole lines have `line`. The callers that stand on them are in `callers`, and the tree beside the bits in
-//! `beside_bits`. What is tried on many threads is in `gate_crowd`, `ring_crowd`, `line_crowd` and inside `cube`.
+//! Each crate or subject has its file:
+//!
+//! - `cube_shape` in `shape`
+//! - `status_word` in `words`
+//! - `region_bits` and `alloc_bits` in `bits`
+//! - `cube_core` in `world`
+//! - `cube_tree` in `cube`
+//! - the tree compared with the bits in `beside_bits`
+//! - `line_gate` in `gate`
+//! - `line_ring` in `ring`
+//! - whole queues in `line`
+//! - callers of these crates, from `uses`, in `callers`
+//!
+//! Tests with many threads are in `gate_crowd`, `ring_crowd`, `line_crowd` and inside `cube`.
 
 mod beside_bits;
 mod bits;

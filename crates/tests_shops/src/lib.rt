@@ -1,4 +1,4 @@
-//! The tests of the floors and the shop, from single calls to whole batches.
+//! Tests of the allocators and the dispatcher, from single calls to whole batches.
 #![tactic(auto)]
 
 #[cfg(test)]

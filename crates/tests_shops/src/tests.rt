@@ -1,4 +1,5 @@
-//! Each layer by itself, on one thread and on many: floors, shops, and batches of jobs.
+//! Tests of each layer by itself, on one thread and on many: allocators, dispatchers, and batches
+//! of jobs.
 
 mod at_rest;
 mod batches;

@@ -1,4 +1,4 @@
--- A load that tells what a word says, and the words of a path.
+-- A load that shows what a word says, and the words of a path.
 use Rattle.std.proofs.Common.{◌≡◌, ◌≢◌, ℕ, ◌/◌, ◌<◌, inl, inr, List, get_or, length, set, replicate, slice_index, refl, sym, ◌∙◌, ap, subst, arith}
 use Rattle.std.proofs.lemmas.Bool.{cases_eq, cases_lt}
 use Rattle.std.proofs.lemmas.List.{get_or-replicate, get_or_past, get_or-set_same, get_or-set_other, length-replicate}
@@ -17,17 +17,24 @@ use Rattle.tree_steps.specs.Alone.{IsAlone, TellsWord}
 use Rattle.tree_steps.proofs.AloneLemmas.{tells_at_rest}
 use Rattle.tree_steps.proofs.SeatLemmas.{loads_word}
 
-pub reads : (k : Size) (slots id : ℕ) (m : Known) (node : ℕ) → Allows (IsRuled k) slots id m node (λ w. w) (λ found after. (after ≡ m) × (IsAlone m → IsAtRest (first_of m).phase → 0 < node → TellsWord node found m.0.stations))
+pub reads : (k : Size) (slots id : ℕ) (m : Known) (node : ℕ)
+    → Allows (IsRuled k) slots id m node (λ w. w)
+    (λ found after. (after ≡ m) × (IsAlone m → IsAtRest (first_of m).phase → 0 < node
+    → TellsWord node found m.0.stations))
 reads k slots id m node = loads_word k slots id m.0 m.1 node (λ _. m.0) (λ found after. (after ≡ m) × (IsAlone m → IsAtRest (first_of m).phase → 0 < node → TellsWord node found m.0.stations)) (λ found s. refl) known
   where
-    known : (t : Table (Unit {0}) View) (ruled : IsRuled k t) → get_elem? t.views id ≡ some m.0 → IsView k ruled.acts m.0
-        → IsView k ruled.acts m.0 × ((m ≡ m) × (IsAlone m → IsAtRest (first_of m).phase → 0 < node → TellsWord node (get_or t.words node 0) m.0.stations))
+    known : (t : Table (Unit {0}) View) (ruled : IsRuled k t)
+        → get_elem? t.views id ≡ some m.0
+        → IsView k ruled.acts m.0
+        → IsView k ruled.acts m.0 × ((m ≡ m)
+        × (IsAlone m → IsAtRest (first_of m).phase → 0 < node
+        → TellsWord node (get_or t.words node 0) m.0.stations))
     known t ruled me had = (
       had,
       (refl, λ alone rest positive. subst (λ w. TellsWord node w m.0.stations) (ap (λ ws. get_or ws node 0) (sym ruled.words)) (tells_at_rest k ruled.acts m.0 had alone rest node positive)),
     )
 
--- of the path to a node, what is above the parent of an ancestor and is not that ancestor is below it
+-- nodes v and at are on one path; if v is below the parent of at and is not at, it is below at
 pub path_below : (v at node : ℕ) → OnPath v node → OnPath at node → at / 2 < v → v ≢ at → at < v
 path_below v at node on_v on_at above other = elim (cases_lt at v) [
   | inl below ↦ below
@@ -38,7 +45,14 @@ path_below v at node on_v on_at above other = elim (cases_lt at v) [
 
 -- a word that was read is written at its node
 module _ (room : List ℕ) (at node word : ℕ) (entries : List Entry) where
-  pub path_read : at < length room → OnPath at node → TellsWord at word entries → ((v : ℕ) → OnPath v node → at < v → TellsWord v (slice_index room v) entries) → (v : ℕ) → OnPath v node → at / 2 < v → TellsWord v (slice_index (set room at word) v) entries
+  pub path_read : at < length room
+      → OnPath at node
+      → TellsWord at word entries
+      → ((v : ℕ) → OnPath v node → at < v → TellsWord v (slice_index room v) entries)
+      → (v : ℕ)
+      → OnPath v node
+      → at / 2 < v
+      → TellsWord v (slice_index (set room at word) v) entries
   path_read there on_at tells below v on_v above = elim (cases_eq v at) [
     | inl here ↦ subst (λ x. TellsWord v x entries) (sym (ap (slice_index (set room at word)) here ∙ same)) (subst (λ x. TellsWord x word entries) (sym here) tells)
     | inr other ↦ subst (λ x. TellsWord v x entries) (sym (get_or-set_other room at v word 0 other)) (below v on_v (path_below v at node on_v on_at above other))
@@ -47,7 +61,10 @@ module _ (room : List ℕ) (at node word : ℕ) (entries : List Entry) where
       same : ◌≡◌ {A = ℕ} (get_or (set room at word) at 0) word
       same = get_or-set_same room at word 0 there
 
-  pub others_read : OnPath at node → (v : ℕ) → (OnPath v node → ⊥) → slice_index (set room at word) v ≡ slice_index room v
+  pub others_read : OnPath at node
+      → (v : ℕ)
+      → (OnPath v node → ⊥)
+      → slice_index (set room at word) v ≡ slice_index room v
   others_read on_at v off = get_or-set_other room at v word 0 (λ here. off (subst (λ x. OnPath x node) (sym here) on_at))
 
 pub zero_words : (count v : ℕ) → ◌≡◌ {A = ℕ} (get_or (replicate count 0) v 0) 0

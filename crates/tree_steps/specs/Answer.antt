@@ -7,13 +7,14 @@ use Rattle.tree_steps.specs.declared.why.Why.TheVariants.{InUse, Lost, Under}
 use Rattle.tree_steps.specs.declared.view.Entry.{Entry}
 use Rattle.tree_steps.specs.Steps.{Answered}
 
--- a look that found the node in use, a claim that was lost, or a raise at an occupied ancestor
+-- The event that refused the take is among the new ones. It is a look that found the node in use, a
+-- claim that was lost, or a raise at an occupied ancestor.
 abbrev pub IsAnswered : Why → ℕ → Entry → Entry → Type 0
 IsAnswered InUse node old new = Answered Look node note.InUse old new
 IsAnswered Lost node old new = Answered Claim node note.Lost old new
 IsAnswered (Under at) node old new = Answered Raise at.0 note.Under old new
 
--- the ancestor that a refusal names, if it names one
+-- The ancestor that a refusal names, if it names one.
 abbrev pub ancestor_of : Why → Option ℕ
 ancestor_of InUse = None
 ancestor_of Lost = None

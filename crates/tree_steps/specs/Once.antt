@@ -4,10 +4,10 @@ use Rattle.tree_steps.specs.declared.view.Entry.{Entry}
 use Rattle.tree_steps.specs.Rule.{times}
 use Rattle.tree_steps.specs.Steps.{Telling}
 
--- each station has one entry in the list at most
+-- Each station has at most one entry in the list.
 abbrev pub AreOnce : List Entry → Type 0
 AreOnce entries = (s : ℕ) → times s entries ≤ 1
 
--- a load that changes nothing, and tells that the stations of the seat are there once
+-- What is learned from a load that changes nothing: the seat has no station twice.
 abbrev pub tells_once : Telling
 tells_once step before found after = (after ≡ before) × AreOnce before.0.stations

@@ -14,10 +14,10 @@ use cube_core::{Kind, Note, Phase, Seen};
 use cube_shape::{MAX_STATIONS, Node, child_towards, side};
 use status_word::Word;
 
-// The bits of use: all that stays of a word whose marks go.
+// The bits of use: what remains of a word whose marks are removed.
 const USE_BITS: u64 = Word::BUSY.0;
 
-// The bit of a station in the roll, which is no status word.
+// Returns the bit of a station in the roll, which is no status word.
 fn bit_of_retirement(station: u32) -> u64
     requires { station < MAX_STATIONS }
     ensures { result ≡ 2 ^ station }
@@ -26,7 +26,7 @@ fn bit_of_retirement(station: u32) -> u64
 }
 
 impl Tree {
-    /// A load of the node that a take is about: its word, if it is free.
+    /// Loads the word of the node to take (event Look). Returns the word if it is free.
     pub fn look(&self, seat: &mut Seat, node: Node) -> Option<u64>
         requires seat { seat.old.table_id ≡ id_of self.now }
         requires phase { IsAt seat.old.me Phase.Idle }
@@ -48,7 +48,8 @@ impl Tree {
         }
     }
 
-    /// One exchange of the word that the look found: whether it was won.
+    /// Claims a node: replaces the word that the look found, by one compare-exchange (event Claim).
+    /// Returns whether it succeeded.
     pub fn claim(&self, seat: &mut Seat, node: Node, word: u64) -> bool
         requires seat { seat.old.table_id ≡ id_of self.now }
         requires phase { IsAt seat.old.me (Phase.Looked node.0 word) }
@@ -68,7 +69,7 @@ impl Tree {
             == word
     }
 
-    /// All marks of an ancestor go, before the side is raised there.
+    /// Removes all marks of an ancestor, before the side is set there (event Sweep).
     pub fn sweep(&self, seat: &mut Seat, _node: Node, at: Node)
         requires seat { seat.old.table_id ≡ id_of self.now }
         requires phase { IsAt seat.old.me (Phase.Climbing _node.0 at.0) }
@@ -82,7 +83,8 @@ impl Tree {
             .fetch_and::<Next>(seat, at.0 as usize, USE_BITS);
     }
 
-    /// The side towards the node is set at an ancestor: whether that was not occupied.
+    /// Sets the side towards the node at an ancestor (event Raise). Returns whether the ancestor
+    /// was not occupied.
     pub fn raise(&self, seat: &mut Seat, node: Node, at: Node) -> bool
         requires seat { seat.old.table_id ≡ id_of self.now }
         requires phase { IsAt seat.old.me (Phase.Swept node.0 at.0) }
@@ -106,7 +108,7 @@ impl Tree {
         !Word(found).is_occupied()
     }
 
-    /// The node of a region that is held is given back.
+    /// Gives back the node of a held block by writing 0 (event Zero).
     pub fn zero_held(&self, seat: &mut Seat, node: Node)
         requires seat { seat.old.table_id ≡ id_of self.now }
         requires phase { IsAt seat.old.me (Phase.Holding node.0) }
@@ -118,7 +120,7 @@ impl Tree {
         self.table.shared.store::<Zero>(seat, node.0 as usize, 0);
     }
 
-    /// A node is given back that an occupied ancestor stands above.
+    /// Gives back a node under an occupied ancestor by writing 0 (event Zero).
     pub fn zero_back(&self, seat: &mut Seat, node: Node, _at: Node)
         requires seat { seat.old.table_id ≡ id_of self.now }
         requires phase { IsAt seat.old.me (Phase.Backing node.0 _at.0) }
@@ -130,7 +132,7 @@ impl Tree {
         self.table.shared.store::<Next>(seat, node.0 as usize, 0);
     }
 
-    /// All marks of a node on the way up after a node was given back go.
+    /// Removes all marks of a node on the way up after a release or roll-back (event Unmark).
     pub fn unmark(&self, seat: &mut Seat, at: Node)
         requires seat { seat.old.table_id ≡ id_of self.now }
         requires phase { IsAt seat.old.me (Phase.Arriving at.0) }
@@ -145,7 +147,8 @@ impl Tree {
             .fetch_and::<Next>(seat, at.0 as usize, kept);
     }
 
-    /// The station's mark is set: the word that it made, unless the node is occupied.
+    /// Sets the station's mark (event Mark). Returns the word that it made, or `None` if the node
+    /// is occupied.
     pub fn mark(&self, seat: &mut Seat, station: u32, at: Node) -> Option<u64>
         requires seat { seat.old.table_id ≡ id_of self.now }
         requires phase { IsAt seat.old.me (Phase.Unmarked at.0) }
@@ -169,7 +172,7 @@ impl Tree {
         }
     }
 
-    /// A load of the left child of the node where the station is marked.
+    /// Loads the left child of the node where the station is marked (event Child).
     pub fn look_left(&self, seat: &mut Seat, at: Node, _word: u64) -> Seen
         requires seat { seat.old.table_id ≡ id_of self.now }
         requires phase { IsAt seat.old.me (Phase.Marked at.0 _word Seen.NotYet Seen.NotYet) }
@@ -182,7 +185,7 @@ impl Tree {
         Seen::of(Word(self.table.shared.load::<Next>(seat, 2 * at.0 as usize)))
     }
 
-    /// A load of the right child, once the left one was seen.
+    /// Loads the right child, once the left one was seen (event Child).
     pub fn look_right(&self, seat: &mut Seat, at: Node, _word: u64, _left: Seen) -> Seen
         requires seat { seat.old.table_id ≡ id_of self.now }
         requires phase { IsAt seat.old.me (Phase.Marked at.0 _word _left Seen.NotYet) }
@@ -196,8 +199,9 @@ impl Tree {
         Seen::of(Word(self.table.shared.load::<Next>(seat, 2 * at.0 as usize + 1)))
     }
 
-    /// One exchange of the word that the mark made for the word without its marks and without each
-    /// side whose child was seen free: whether the node has become free by it.
+    /// Replaces the word that the mark made, by one compare-exchange (event Clear). The new word
+    /// has no marks, and no side whose child was seen free. Returns whether the node became free by
+    /// this.
     pub fn clear(&self, seat: &mut Seat, at: Node, word: u64, left: Seen, right: Seen) -> bool
         requires seat { seat.old.table_id ≡ id_of self.now }
         requires phase { IsAt seat.old.me (Phase.Marked at.0 word left right) }
@@ -219,7 +223,8 @@ impl Tree {
         won & free
     }
 
-    /// The bit of an idle station is set in the roll; it makes no event any more.
+    /// Sets the bit of an idle station in the roll (event Retire). The station makes no further
+    /// event.
     pub fn retire(&self, seat: &mut Seat, station: u32)
         requires seat { seat.old.table_id ≡ id_of self.now }
         requires phase { IsAt seat.old.me Phase.Idle }

@@ -1,4 +1,4 @@
-//! A load that tells that no station steps with a seat twice.
+//! A load that shows that no station steps with a seat twice.
 ghost use Rattle.std.specs.Prelude.{◌≡◌};
 ghost use Rattle.tree_steps.specs.Once.{AreOnce, tells_once};
 ghost use Rattle.tree_steps.specs.Tree.{id_of};
@@ -7,7 +7,7 @@ use crate::tree::{Seat, Tree};
 use crate::view::View;
 use atomic_table::Play;
 
-/// A load that tells that no station steps with a seat twice.
+/// A load that shows that no station steps with a seat twice.
 pub(crate) struct Recount;
 
 impl Play<(), View> for Recount {
@@ -15,7 +15,7 @@ impl Play<(), View> for Recount {
 }
 
 impl Tree {
-    /// A load that changes nothing. No station steps with this seat twice.
+    /// Loads a word, which changes nothing. Shows that no station steps with this seat twice.
     pub fn recount(&self, seat: &mut Seat)
         requires { seat.old.table_id ≡ id_of self.now }
         ensures seat { seat.new.table_id ≡ seat.old.table_id }

@@ -1,4 +1,4 @@
-//! Seats are made, cut and joined, words are loaded by what is no event, and the tree is closed.
+//! Making, splitting and joining seats, loads that are no events, and closing the tree.
 ghost use Rattle.std.specs.Prelude.{◌≡◌, ℕ, ◌+◌, ◌^◌, ◌<◌, ◌≤◌, List, [], ◌∷◌, length, slice_index, vec_len, IfOk};
 ghost use Rattle.tree_steps.specs.Rule.{first_view};
 ghost use Rattle.tree_steps.specs.Steps.{KeepsLoad, IsOffAll, first_of, peek_at, HasWholeRoll, joined, only_first, without_first, without_stations};
@@ -15,7 +15,8 @@ use cube_shape::{MAX_DIM, MAX_STATIONS, Node};
 use std::alloc::{AllocError, Global};
 
 impl Tree {
-    /// A tree of this size whose words are all 0, and a seat that all its stations, idle, step with.
+    /// Opens a tree of this size whose words are all 0. Returns it with a seat that has all its
+    /// stations, which are idle.
     pub fn open(alloc: Global, size: Size) -> Result<(Tree, Seat), AllocError>
         requires dim { size.dim ≤ MAX_DIM }
         requires stations { size.stations ≤ MAX_STATIONS }
@@ -29,8 +30,8 @@ impl Tree {
         Ok((Tree { table, size, room }, seat))
     }
 
-    /// A word as it is at some moment of the call: word `0` is the roll, and word `v` that of node `v`. It
-    /// tells nothing to a proof.
+    /// Returns a word as it is at some moment of the call. Word `0` is the roll, and word `v` that
+    /// of node `v`. A proof learns nothing from it.
     pub fn word(&self, word: u64) -> u64
         requires { word < 2 ^ (dim_of self.now + 1) }
     {
@@ -48,14 +49,14 @@ impl Tree {
         drop(room);
     }
 
-    /// The dimension of the machine and the number of its stations.
+    /// Returns the dimension of the machine and the number of its stations.
     pub fn size(&self) -> Size
         ensures { result ≡ size_of self.now }
     {
         self.size
     }
 
-    /// The first station gets a seat of its own.
+    /// Gives the first station a seat of its own.
     pub fn cut_first(&self, seat: &mut Seat) -> Seat
         requires { seat.old.table_id ≡ id_of self.now }
         ensures seat { seat.new.table_id ≡ seat.old.table_id }
@@ -66,7 +67,7 @@ impl Tree {
         self.table.shared.split_seat::<CutFirst>(seat)
     }
 
-    /// A second seat that knows what was loaded.
+    /// Makes a second seat, which knows what was loaded.
     pub fn copy_loads(&self, seat: &mut Seat) -> Seat
         requires { seat.old.table_id ≡ id_of self.now }
         ensures seat { seat.new.table_id ≡ seat.old.table_id }
@@ -77,7 +78,7 @@ impl Tree {
         self.table.shared.split_seat::<CopyLoads>(seat)
     }
 
-    /// The stations of the other seat step with this one, after its own.
+    /// Adds the stations of the other seat to this one, after its own.
     pub fn merge(&self, seat: &mut Seat, other: Seat)
         requires seat { seat.old.table_id ≡ id_of self.now }
         requires other { other.table_id ≡ id_of self.now }
@@ -88,8 +89,8 @@ impl Tree {
         self.table.shared.join_seat::<Merge>(seat, other);
     }
 
-    /// A load that changes nothing. If the first station of this seat and another one both hold
-    /// regions, the node of neither is on the path to the other's.
+    /// Loads a word, which changes nothing. If the first station of this seat and another one both
+    /// hold blocks, the node of neither is on the path to the other's.
     pub fn compare(&self, seat: &mut Seat)
         requires { seat.old.table_id ≡ id_of self.now }
         ensures seat { seat.new.table_id ≡ seat.old.table_id }
@@ -99,21 +100,22 @@ impl Tree {
         self.table.shared.load::<Compare>(seat, 0);
     }
 
-    /// The record of a station comes first, in a seat that has all stations, each of them at rest.
+    /// Moves the record of a station to the front, in a seat that has all stations, each of them at
+    /// rest.
     pub fn turn(&self, seat: &mut Seat, station: u32)
         requires seat { seat.old.table_id ≡ id_of self.now }
         requires all { AreAllAtRest (station_count self.now) seat.old.me }
         ensures seat { seat.new.table_id ≡ seat.old.table_id }
         ensures turns { Turns station seat.old.me seat.new.me }
     {
-        // The exchange of a number for itself changes nothing; the number tells which station is meant.
+        // Exchanging a number for itself changes nothing. The number says which station is meant.
         let number = station as u64;
         self.table
             .shared
             .compare_exchange::<Turn>(seat, 0, number, number);
     }
 
-    /// The words as they were last read: word `v` is that of node `v`.
+    /// Returns the words as they were last read. Word `v` is that of node `v`.
     pub fn words(&self) -> &[u64]
         ensures words { result.now ≡ read_words self.now }
         ensures len { length result.now ≡ 2 ^ (dim_of self.now + 1) }
@@ -121,8 +123,8 @@ impl Tree {
         &self.room
     }
 
-    // A load of a node's word, which changes nothing. A seat that has all stations, all of them at rest,
-    // learns what the word says of them.
+    // Loads a node's word, which changes nothing. A seat that has all stations, all of them at
+    // rest, learns what the word says of them.
     fn read(&self, seat: &mut Seat, node: u64) -> u64
         requires seat { seat.old.table_id ≡ id_of self.now }
         requires node { IsInCube (dim_of self.now) node }
@@ -134,8 +136,8 @@ impl Tree {
         self.table.shared.load::<Tell>(seat, node as usize)
     }
 
-    /// Reads the words of a node and of its ancestors, and no other. A seat that has all stations, all
-    /// of them at rest, learns what these words say of them.
+    /// Reads the words of a node and of its ancestors, and no others. A seat that has all stations,
+    /// all of them at rest, learns what these words say of them.
     pub fn read_path(&mut self, seat: &mut Seat, node: Node)
         requires seat { seat.old.table_id ≡ id_of self.old }
         requires node { IsInCube (dim_of self.old) node.0 }
@@ -157,7 +159,7 @@ impl Tree {
         }
     }
 
-    /// A load of the roll, which the seat keeps.
+    /// Loads the roll. The seat keeps what was found.
     pub fn load_roll(&self, seat: &mut Seat) -> u64
         requires { seat.old.table_id ≡ id_of self.now }
         ensures seat { seat.new.table_id ≡ seat.old.table_id }
@@ -166,8 +168,8 @@ impl Tree {
         self.table.shared.load::<LoadRoll>(seat, 0)
     }
 
-    /// Peeks at a node. This loads its word, which is no event and changes no word. The first station
-    /// of the seat notes the word.
+    /// Peeks at a node: loads its word, which is no event and changes no word. The first station of
+    /// the seat notes the word.
     pub fn peek(&self, seat: &mut Seat, node: Node) -> u64
         requires seat { seat.old.table_id ≡ id_of self.now }
         requires node { IsInCube (dim_of self.now) node.0 }
@@ -177,8 +179,8 @@ impl Tree {
         self.table.shared.load::<LoadPeek>(seat, node.0 as usize)
     }
 
-    /// The words at the end, once a load of the roll has found the bit of each station. No word has
-    /// changed since that load.
+    /// Closes the tree and returns its words, once a load of the roll has found the bit of each
+    /// station. No word has changed since that load.
     pub fn close(self, seat: Seat) -> Vec<u64>
         requires seat { seat.table_id ≡ id_of self }
         requires retired { HasWholeRoll (station_count self) seat.me }

@@ -15,9 +15,11 @@ use cube_core::{Kind, Note, Phase};
 use cube_shape::{MAX_STATIONS, Node, parent};
 
 impl Tree {
-    /// One take of a node. Where an ancestor is occupied, the node is given back at once. With a seat
-    /// that has all stations it is refused only where another one holds a node above it, at it or
-    /// under it; where an ancestor is named, another one holds this ancestor.
+    /// Makes one take of a node. If an ancestor is occupied, the node is given back at once.
+    ///
+    /// With a seat that has all stations, it is refused only if another station holds a node above
+    /// it, at it or under it. If the refusal names an ancestor, another station holds this
+    /// ancestor.
     pub fn take(&self, seat: &mut Seat, station: u32, node: Node) -> Result<(), Why>
         requires seat { seat.old.table_id ≡ id_of self.now }
         requires phase { IsAt seat.old.me Phase.Idle }
@@ -50,7 +52,7 @@ impl Tree {
         Err(Why::Under(at))
     }
 
-    /// Gives back the region of a node that is held.
+    /// Releases the block of a node that is held.
     pub fn give_back(&self, seat: &mut Seat, station: u32, node: Node)
         requires seat { seat.old.table_id ≡ id_of self.now }
         requires phase { IsAt seat.old.me (Phase.Holding node.0) }
@@ -65,8 +67,8 @@ impl Tree {
         self.clear_path(seat, station, node);
     }
 
-    // Up from a node that was claimed: none where the station holds it, or the ancestor that was
-    // occupied.
+    // Marks the path from a claimed node to the root. Returns the occupied ancestor, or `None` if
+    // the station now holds the node.
     fn mark_path(&self, seat: &mut Seat, node: Node) -> Option<Node>
         requires seat { seat.old.table_id ≡ id_of self.now }
         requires phase { IsAt seat.old.me (phase_after_raise node.0 node.0) }
@@ -91,7 +93,7 @@ impl Tree {
         None
     }
 
-    // A sweep and a raise at one ancestor: whether it was not occupied.
+    // Makes a sweep and a raise at one ancestor. Returns whether it was not occupied.
     fn mark_ancestor(&self, seat: &mut Seat, node: Node, at: Node) -> bool
         requires seat { seat.old.table_id ≡ id_of self.now }
         requires phase { IsAt seat.old.me (Phase.Climbing node.0 at.0) }
@@ -111,7 +113,7 @@ impl Tree {
         self.raise(seat, node, at)
     }
 
-    // Gives back a node above which an ancestor was occupied.
+    // Gives back a node because an ancestor of it is occupied.
     fn roll_back(&self, seat: &mut Seat, station: u32, node: Node, at: Node)
         requires seat { seat.old.table_id ≡ id_of self.now }
         requires phase { IsAt seat.old.me (Phase.Backing node.0 at.0) }
@@ -126,7 +128,7 @@ impl Tree {
         self.clear_path(seat, station, node);
     }
 
-    // Up from a node that was given back, for as long as the ancestors become free.
+    // Clears the path above a node that was given back, as long as the ancestors become free.
     fn clear_path(&self, seat: &mut Seat, station: u32, node: Node)
         requires seat { seat.old.table_id ≡ id_of self.now }
         requires phase { IsAt seat.old.me (phase_after_zero node.0) }
@@ -146,7 +148,7 @@ impl Tree {
         }
     }
 
-    // Clears one ancestor: whether it became free by that.
+    // Clears one ancestor. Returns whether it became free by this.
     fn clear_ancestor(&self, seat: &mut Seat, station: u32, at: Node) -> bool
         requires seat { seat.old.table_id ≡ id_of self.now }
         requires phase { IsAt seat.old.me (Phase.Arriving at.0) }

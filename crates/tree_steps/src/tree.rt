@@ -7,15 +7,15 @@ use crate::view::{Size, View};
 use atomic_table::Table;
 use std::alloc::Global;
 
-/// A view of a tree, with which its stations step. It has no bytes.
+/// A seat of a tree, with which its stations step. It has no bytes.
 pub type Seat = atomic_table::Seat<(), View>;
 
-/// The shared words of a tree: word `0` is the roll, and word `v` is that of node `v`. It cannot be
+/// The shared words of a tree. Word `0` is the roll, and word `v` is that of node `v`. It cannot be
 /// dropped.
 pub struct Tree {
     pub(crate) table: Table<(), View, Size, TreeRule, Global>,
     pub(crate) size: Size,
-    // Where the words go at the end.
+    // The memory that receives the words at the end.
     pub(crate) room: Vec<u64>,
     ghost keyed: { table.shared.key ≡ size },
     ghost words: { table.shared.table_id.words ≡ 2 ^ (size.dim + 1) },

@@ -1,14 +1,15 @@
 use cube_core::{Event, Phase};
 use std::collections::LinkedList;
 
-/// What a peek found: the word of a node, by a load that is no event. No value of it is made.
+/// What a peek found: the word of a node, by a load that is no event. No program makes a value of
+/// it.
 pub struct Peek {
     pub node: u64,
     pub word: u64,
 }
 
-/// What a seat at the table knows of a station: its phase, and all its events and peeks, the newest
-/// first. No value of it is made.
+/// What a seat knows of a station: its number, its phase, and all its events and peeks, the newest
+/// first. No program makes a value of it.
 pub struct Entry {
     pub station: u64,
     pub phase: Phase,
@@ -16,13 +17,13 @@ pub struct Entry {
     pub peeks: LinkedList<Peek>,
 }
 
-/// What a seat at the table knows. No value of it is made.
+/// What a seat knows. No program makes a value of it.
 pub struct View {
     /// The stations that step with this seat, the one that steps next first.
     pub stations: LinkedList<Entry>,
     /// What its loads of the roll found, the newest first.
     pub loads: LinkedList<u64>,
-    /// Whether all stations are known to be with this seat, all but the first of them at rest.
+    /// Whether all stations are known to be with this seat, all except the first of them at rest.
     pub alone: bool,
 }
 

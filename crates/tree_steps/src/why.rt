@@ -1,7 +1,7 @@
 use cube_shape::Node;
 use thiserror::Error;
 
-/// Why a take of a node is refused.
+/// The reason why a take of a node is refused.
 #[derive(Clone, Copy, Debug, PartialEq, Eq, Hash, Error)]
 pub enum Why {
     /// The node's word was in use.

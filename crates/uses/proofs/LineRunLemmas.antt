@@ -1,4 +1,4 @@
--- What the end of a line with two lanes and two passes says of the jobs that were handed in.
+-- What the end of a queue with two lanes and two passes says of the jobs that were passed in.
 use Rattle.std.proofs.Common.{sym, ◌≡◌, ℕ, ◌+◌, ◌<◌, ◌⊎◌, ⊎_elim, inl, inr, List, [], ◌∷◌, ◌++◌, map, ap, arith}
 use Rattle.std.specs.List.{All}
 use Rattle.std.proofs.lemmas.List.Elements.{All-head, All-tail, All-same}
@@ -15,10 +15,16 @@ use Rattle.job_queue.specs.Run.{WholeRun}
 
 -- ---- lists of two
 
-pub first_of_two : {A : Type 0} (P : A → Type 0) (xs : List A) (a b : A) → xs ≡ a ∷ b ∷ [] → All P xs → P a
+pub first_of_two : {A : Type 0} (P : A → Type 0) (xs : List A) (a b : A)
+    → xs ≡ a ∷ b ∷ []
+    → All P xs
+    → P a
 first_of_two P xs a b is all = All-head P a (b ∷ []) (All-same P (a ∷ b ∷ []) xs (sym is) all)
 
-pub second_of_two : {A : Type 0} (P : A → Type 0) (xs : List A) (a b : A) → xs ≡ a ∷ b ∷ [] → All P xs → P b
+pub second_of_two : {A : Type 0} (P : A → Type 0) (xs : List A) (a b : A)
+    → xs ≡ a ∷ b ∷ []
+    → All P xs
+    → P b
 second_of_two P xs a b is all = All-head P b [] (All-tail P a (b ∷ []) (All-same P (a ∷ b ∷ []) xs (sym is) all))
 
 -- ---- a whole run
@@ -26,17 +32,24 @@ second_of_two P xs a b is all = All-head P b [] (All-tail P a (b ∷ []) (All-sa
 found_at : (k x : ℕ) → is_at k x ≡ 1 → x ≡ k
 found_at k x found = dite (ℕ_discrete x k) (λ e. e) (λ ne. absurd (omega (arith, is_at-other k x ne)))
 
--- two numbers among which 0 and 1 stand once each
-two_numbers : (m n : ℕ) → is_at 0 m + is_at 0 n ≡ 1 → is_at 1 m + is_at 1 n ≡ 1 → ((m ≡ 0) × (n ≡ 1)) ⊎ ((m ≡ 1) × (n ≡ 0))
+-- Two numbers that are 0 and 1, in some order.
+two_numbers : (m n : ℕ)
+    → is_at 0 m + is_at 0 n ≡ 1
+    → is_at 1 m + is_at 1 n ≡ 1
+    → ((m ≡ 0) × (n ≡ 1)) ⊎ ((m ≡ 1) × (n ≡ 0))
 two_numbers m n zero_once one_once =
     dite (ℕ_discrete m 0)
     (λ e. let none : is_at 1 m ≡ 0 = is_at-other 1 m (λ one. omega arith) in inl (e, found_at 1 n (omega arith)))
     (λ ne. let none = is_at-other 0 m ne in let last : n ≡ 0 = found_at 0 n (omega arith) in let not_one : is_at 1 n ≡ 0 = is_at-other 1 n (λ one. omega arith) in inr (found_at 1 m (omega arith), last))
 
-pub each_once : (weight : JobData → ℕ) (r s : LaneRecord) (p q : PassRecord) (rest : List QueuedJob) (note : ℕ) (jobs : ℕ → List JobData) (r_left s_left : List JobData)
-    → WholeRun (r ∷ s ∷ []) (p ∷ q ∷ []) rest note → ((k : ℕ) → k < 2 → times k (r.number ∷ s.number ∷ []) ≡ 1)
-    → accepted_jobs r ++ r_left ≡ jobs r.number → accepted_jobs s ++ s_left ≡ jobs s.number
-    → total weight (jobs 0 ++ jobs 1) ≡ total weight (map job_of (p.taken ++ q.taken ++ rest)) + total weight (r_left ++ s_left)
+pub each_once : (weight : JobData → ℕ) (r s : LaneRecord) (p q : PassRecord) (rest : List QueuedJob)
+    (note : ℕ) (jobs : ℕ → List JobData) (r_left s_left : List JobData)
+    → WholeRun (r ∷ s ∷ []) (p ∷ q ∷ []) rest note
+    → ((k : ℕ) → k < 2 → times k (r.number ∷ s.number ∷ []) ≡ 1)
+    → accepted_jobs r ++ r_left ≡ jobs r.number
+    → accepted_jobs s ++ s_left ≡ jobs s.number
+    → total weight (jobs 0 ++ jobs 1) ≡ total weight (map job_of (p.taken ++ q.taken ++ rest))
+    + total weight (r_left ++ s_left)
 each_once weight r s p q rest note jobs r_left s_left run numbers r_fed s_fed =
     let w : QueuedJob → ℕ = λ x. weight x.job in
     let all : total weight (jobs r.number) + total weight (jobs s.number) ≡ total weight (jobs 0) + total weight (jobs 1) =

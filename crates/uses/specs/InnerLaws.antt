@@ -5,9 +5,11 @@ use Rattle.collectives.specs.Laws.{MonoidLaws}
 use Rattle.uses.specs.declared.extent.Extent.{Extent}
 use Rattle.uses.specs.Extent.{extent_unit, extent_join, IsExtentValue}
 
+-- Two extents are the same if their least and their greatest numbers are.
 same_extent : (x y : Extent) → x.least ≡ y.least → x.greatest ≡ y.greatest → x ≡ y
 same_extent x y least greatest i = record { least = least i; greatest = greatest i }
 
+-- `Extent` is a monoid.
 pub extent_laws : MonoidLaws IsExtentValue extent_unit extent_join
 extent_laws = record {
   unit_value = (omega arith, omega arith);

@@ -20,9 +20,9 @@ use std::collections::VecDeque;
 use std::sync::Wait;
 use std::thread::Threads;
 
-/// Answers the jobs of all lanes on a machine of dimension `n` by the runner, by four workers on
-/// threads of their own, and counts the processors that the jobs had together. There is no answer
-/// where memory or a thread was refused.
+/// Runs the jobs of all lanes on a machine of dimension `n` by the runner. Four workers do this on
+/// threads of their own. Counts the processors that the jobs had together. Returns `None` if memory
+/// or a thread was refused.
 pub fn answer_and_count<R: Threads + Wait + Sync, T: Runner + Sync>(
     rt: &R,
     alloc: Global,

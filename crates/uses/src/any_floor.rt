@@ -1,4 +1,4 @@
-//! A caller of any floor.
+//! A caller of any allocator.
 
 ghost use Rattle.std.specs.Prelude.{◌≡◌, ◌<◌, ◌≤◌, IfOk};
 ghost use Rattle.cube_shape.specs.Region.{AreApart, IsAligned};
@@ -9,8 +9,8 @@ use floors::Floor;
 use std::alloc::{AllocError, Global};
 use std::sync::Wait;
 
-/// Opens a machine of dimension `n` with two stations, each of which holds a subcube of dimension `k` at
-/// the same moment and gives it back. Answers both regions, which have no processor in common, and the
+/// Opens a machine of dimension `n` with two stations. Each holds a block of dimension `k` at the
+/// same moment and releases it. Returns both blocks, which have no processor in common, and the
 /// machine, which is wholly free.
 pub fn hold_pair<R: Wait, F: Floor>(
     rt: &R,

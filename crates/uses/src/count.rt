@@ -9,7 +9,8 @@ use cube_shape::MAX_DIM;
 use jobs_csv::{Counted, Fault, read_jobs};
 use std::alloc::Global;
 
-/// How many jobs a file has, for a machine of dimension `n`, or the first fault of the file.
+/// Returns how many jobs a file has, for a machine of dimension `n`, or the first fault of the
+/// file.
 pub fn count_jobs(alloc: Global, n: u32, file: &[u8]) -> Result<usize, Fault>
     requires { n ≤ MAX_DIM }
     ensures counted { IfOk result (λ count.

@@ -5,7 +5,7 @@ use job_types::{Job, JobId, Region, Reply};
 use std::sync::Wait;
 use std::sync::atomic::{AtomicU64, Ordering};
 
-/// Answers jobs by another runner, and counts them. Threads may share it.
+/// A runner that runs jobs by another runner and counts them. Threads may share it.
 #[derive(Drop)]
 pub struct Counting<T> {
     runner: T,
@@ -13,7 +13,7 @@ pub struct Counting<T> {
 }
 
 impl<T> Counting<T> {
-    /// A runner that has answered no job.
+    /// Makes a runner that has run no job.
     pub fn new(runner: T) -> Counting<T> {
         Counting {
             runner,
@@ -21,7 +21,7 @@ impl<T> Counting<T> {
         }
     }
 
-    /// How many jobs were answered, modulo `2^64`. No contract tells of it: that of a runner is about
+    /// Returns how many jobs ran, modulo `2^64`. No contract says it: that of a runner is about
     /// replies.
     pub fn answered(&self) -> u64 {
         self.answered.load(Ordering::Relaxed)

@@ -10,9 +10,9 @@ use collectives::{DIM_LIMIT, Monoid, all_reduce};
 /// The least and the greatest of some numbers.
 #[derive(Clone, Copy, Debug, PartialEq, Eq)]
 pub struct Extent {
-    /// The least.
+    /// The least number.
     pub least: u64,
-    /// The greatest.
+    /// The greatest number.
     pub greatest: u64,
 }
 
@@ -44,7 +44,7 @@ impl Monoid for Extent {
     ghost laws = { extent_laws };
 }
 
-/// Every rank of a subcube of dimension `k` receives the extent of all its ranks.
+/// Gives every rank of a block of dimension `k` the extent of all its ranks.
 pub fn share_extent(extents: &mut [Extent], k: u32)
     requires dim { k < DIM_LIMIT }
     requires places { length extents.old ≡ 2 ^ k }

@@ -1,4 +1,4 @@
-//! A caller of `floors` that is a floor itself, and shows what the contract of floors lets through.
+//! A caller of `floors` that is an allocator itself, and shows what the contract `Floor` allows.
 ghost use Rattle.std.specs.Prelude.{◌≡◌, ◌<◌, ◌≤◌, [], IfOk, length};
 ghost use Rattle.std.specs.List.{All};
 ghost use Rattle.cube_shape.specs.Region.{IsAligned};
@@ -11,12 +11,11 @@ use std::sync::Wait;
 use std::sync::atomic::{AtomicBool, Ordering};
 use std::thread::yield_now;
 
-/// A floor over another floor that hoards: once a subcube was released, no take is given one, and each
-/// waits for ever. It meets the contract of floors, which promises of a take only what it answers.
+/// An allocator over another one that hoards: after one block was released, every take waits for
+/// ever. It meets the contract `Floor`, which promises only what a take returns.
 ///
-/// What the contract does refuse of a hoarder: it answers no region that is not aligned or not of the
-/// dimension asked, no two that are held at one moment and have a processor in common, and at the end
-/// no machine with a word that is not 0.
+/// The contract does bind a hoarder. It returns only aligned blocks of the dimension asked, and two
+/// blocks held at one moment have no processor in common. At the end each word of the machine is 0.
 pub struct Hoarding<F> {
     floor: F,
     has_released: AtomicBool,

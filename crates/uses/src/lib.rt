@@ -1,6 +1,6 @@
-//! Small proved callers of this repository's crates, one or more for each.
+//! Proved examples: small callers of this repository's crates, one or more for each.
 //!
-//! Each caller is quoted in the `CALLING.md` of the crate that it calls.
+//! The `CALLING.md` of a crate quotes callers from here.
 #![tactic(auto)]
 
 mod answering;

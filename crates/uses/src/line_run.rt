@@ -1,5 +1,5 @@
-//! Callers of a line of jobs, proved from the contract of `JobLine` alone: a feeder, a taker, and a whole run
-//! with two of each on threads of their own.
+//! Callers of a queue of jobs, proved from the contract `JobLine` alone: a producer, a consumer,
+//! and a whole run. The run has two of each, on threads of their own.
 mod draining;
 mod feeding;
 mod member;

@@ -1,4 +1,4 @@
-//! A caller of `cube_tree` with all stations in one hand.
+//! A caller of `cube_tree` that has all stations.
 
 ghost use Rattle.std.specs.Prelude.{◌≡◌, ℕ, ◌≤◌, ◌↔◌, IsTrue};
 ghost use Rattle.cube_shape.specs.Machine.{HasNoFit};
@@ -6,7 +6,8 @@ ghost use Rattle.cube_tree.specs.Solo.{solo_dim, solo_size, held_by, AllHold};
 
 use cube_tree::Solo;
 
-/// Whether a region of dimension `k` would be given: one is taken and given back at once.
+/// Returns whether a take of a block of dimension `k` would succeed. It takes one and releases it
+/// at once.
 pub fn has_room(solo: &mut Solo, k: u32) -> bool
     requires dim { k ≤ solo_dim solo.old }
     ensures room { IsTrue result ↔ ((AllHold solo.old → ⊥)

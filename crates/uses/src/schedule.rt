@@ -10,9 +10,9 @@ use cube_core::{Act, World};
 use cube_shape::{MAX_DIM, MAX_STATIONS};
 use std::alloc::{AllocError, Global};
 
-/// The tree after these acts, from the first to the last, on a machine where nothing is held.
-/// Whatever the acts are, the regions that stations hold are aligned, and those of two stations are
-/// apart.
+/// Returns the tree after these acts, from the first to the last, on a machine where nothing is
+/// held. Whatever the acts are, the blocks that stations hold are aligned, and those of two
+/// stations are apart.
 pub fn play(alloc: Global, n: u32, stations: u32, acts: &[Act]) -> Result<World, AllocError>
     requires dim { n ≤ MAX_DIM }
     requires stations { stations ≤ MAX_STATIONS }

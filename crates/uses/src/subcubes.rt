@@ -8,9 +8,9 @@ ghost use Rattle.cube_tree.specs.Handles.{cube_dim, IsStationOf};
 use cube_shape::Region;
 use cube_tree::{Cube, FreeMachine, StillOut, TreeStation, apart};
 
-/// Two stations hold a region of dimension `k` and one of dimension `l` at the same moment, give them
-/// back and retire. The regions that they held are aligned, of the dimensions asked, and apart; none are
-/// told where a take was refused.
+/// Holds two blocks at the same moment, of dimensions `k` and `l`, on two stations. Then releases
+/// them and retires the stations. Returns the blocks, which are aligned and apart, or `None` if a
+/// take was refused.
 pub fn hold_two(
     cube: &Cube,
     first: TreeStation,
@@ -50,8 +50,8 @@ pub fn hold_two(
     Some(held)
 }
 
-/// The same on a cube of their own, which is closed after it: if no further station is out, the
-/// machine is wholly free.
+/// Holds two blocks as `hold_two` does, on a tree of its own, and closes that tree. If no other
+/// station is out, the machine is wholly free.
 pub fn hold_two_and_close(
     cube: Cube,
     first: TreeStation,

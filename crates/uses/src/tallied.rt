@@ -1,4 +1,4 @@
-//! A caller of `job_queue` that is a line itself, made from the contract of lines alone.
+//! A caller of `job_queue` that is a queue itself, made from the contract `JobLine` alone.
 ghost use Rattle.std.specs.Prelude.{◌≡◌, ℕ, ◌<◌, ◌≤◌, IfOk, map, length, slice_index};
 ghost use Rattle.std.specs.List.{All};
 ghost use Rattle.ghost_history.specs.Sums.{times};
@@ -14,13 +14,13 @@ use std::marker::Model;
 use std::sync::Wait;
 use std::sync::atomic::{AtomicU64, Ordering};
 
-/// A line over another line, which counts the jobs that its passes take.
+/// A queue over another queue that counts the jobs that its passes take.
 pub struct Tallied<L> {
     line: L,
     taken: AtomicU64,
 }
 
-/// Shows that a `Tallied` line has ended, with the count of the jobs that were taken by then. Only
+/// A token that shows that a `Tallied` queue has ended, with the count of jobs taken by then. Only
 /// its `take` makes one, and contracts see the count.
 #[derive(Drop)]
 pub struct Tally {
@@ -36,7 +36,7 @@ impl Model for Tally {
 }
 
 impl Tally {
-    /// How many jobs were taken, modulo `2^64`.
+    /// Returns how many jobs were taken, modulo `2^64`.
     pub fn taken(&self) -> u64
         ensures { result ≡ self.now }
     {

@@ -1,4 +1,5 @@
-//! A caller of `atomic_file` that is a store itself: two files in memory, of which the contract says each byte.
+//! A caller of `atomic_file` that is a file store itself: two files in memory, whose bytes the
+//! contract knows.
 ghost use Rattle.std.specs.Prelude.{◌≡◌};
 
 use atomic_file::{FileReason, FileStore};
@@ -6,8 +7,8 @@ use jobs_csv::Counted;
 use std::alloc::Global;
 use std::marker::Model;
 
-/// A file in memory that is read, and one that is written. The first cannot be written, the second cannot
-/// be read, and there is no other.
+/// A store of two files in memory. One can be read and not written, the other can be written and
+/// not read. There is no other file.
 #[derive(Drop)]
 pub struct TwoFiles<'a> {
     alloc: Global,
@@ -15,7 +16,7 @@ pub struct TwoFiles<'a> {
     read: &'a [u8],
     output: &'a str,
     written: Vec<u8>,
-    drafts: u64,
+    temp_files: u64,
 }
 
 impl<'a> Model for TwoFiles<'a> {
@@ -32,8 +33,8 @@ impl<'a> Model for TwoFiles<'a> {
 }
 
 impl<'a> TwoFiles<'a> {
-    /// A store of the file `input`, which has these bytes, and of the file `output`, which has those of
-    /// `written`.
+    /// Makes a store of the file `input`, which has the bytes `read`, and of the file `output`,
+    /// which has the bytes `written`.
     pub fn new(
         alloc: Global,
         input: &'a str,
@@ -50,20 +51,21 @@ impl<'a> TwoFiles<'a> {
             read,
             output,
             written,
-            drafts: 0,
+            temp_files: 0,
         }
     }
 
-    /// The bytes of the file that is written.
+    /// Returns the bytes of the file that is written.
     pub fn written(&self) -> &[u8]
         ensures { result.now ≡ self.now.written }
     {
         &self.written
     }
 
-    /// How many drafts were asked for, modulo `2^64`. No contract says it: a draft changes no file.
-    pub fn drafts(&self) -> u64 {
-        self.drafts
+    /// Returns how many temporary files were begun, modulo `2^64`. No contract says it: they change
+    /// no file.
+    pub fn temp_files(&self) -> u64 {
+        self.temp_files
     }
 }
 
@@ -73,7 +75,7 @@ impl<'a> FileStore for TwoFiles<'a> {
 
     type Reader = Counted<&'a [u8]>;
 
-    type Draft = Counted<Vec<u8>>;
+    type TempFile = Counted<Vec<u8>>;
 
     ghost bytes = { bytes_in };
 
@@ -89,8 +91,8 @@ impl<'a> FileStore for TwoFiles<'a> {
         }
     }
 
-    fn draft(&mut self, name: &str) -> Result<Counted<Vec<u8>>, FileReason> {
-        self.drafts = self.drafts.wrapping_add(1);
+    fn temp_file(&mut self, name: &str) -> Result<Counted<Vec<u8>>, FileReason> {
+        self.temp_files = self.temp_files.wrapping_add(1);
         if name == self.input {
             Err(FileReason::Denied)
         } else if name == self.output {
@@ -100,14 +102,14 @@ impl<'a> FileStore for TwoFiles<'a> {
         }
     }
 
-    fn publish(&mut self, draft: Counted<Vec<u8>>, name: &str) -> Result<(), FileReason> {
+    fn persist(&mut self, temp_file: Counted<Vec<u8>>, name: &str) -> Result<(), FileReason> {
         if name == self.input {
             return Err(FileReason::Denied);
         }
         if name != self.output {
             return Err(FileReason::Missing);
         }
-        match Vec::from_slice(self.alloc, draft.get_ref()) {
+        match Vec::from_slice(self.alloc, temp_file.get_ref()) {
             Ok(bytes) => {
                 self.written = bytes;
                 Ok(())
@@ -116,7 +118,7 @@ impl<'a> FileStore for TwoFiles<'a> {
         }
     }
 
-    fn discard(&mut self, draft: Counted<Vec<u8>>) {
-        drop(draft);
+    fn discard(&mut self, temp_file: Counted<Vec<u8>>) {
+        drop(temp_file);
     }
 }

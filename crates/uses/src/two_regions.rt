@@ -7,7 +7,7 @@ ghost use Rattle.alloc_bits.specs.Allocation.{held_in};
 use alloc_bits::{AllocBits, NoSubcube};
 use cube_shape::{MAX_STATIONS, Region};
 
-/// Two idle stations take a region of dimension `k` each. No processor is in both regions.
+/// Takes a block of dimension `k` for each of two idle stations. No processor is in both blocks.
 pub fn take_two(
     bits: &mut AllocBits,
     first: u32,

@@ -1,4 +1,4 @@
-//! A caller of `cubejobs`, which names no other crate.
+//! A caller of `cubejobs`, which uses no other crate of this repository.
 
 ghost use Rattle.std.specs.Prelude.{ℕ, ◌^◌, ◌<◌, [], IfSome, map, length, slice_index_or};
 ghost use Rattle.std.specs.List.{All};
@@ -10,8 +10,8 @@ use std::collections::VecDeque;
 use std::sync::Wait;
 use std::thread::Threads;
 
-/// The replies to the jobs of all lanes, one for each, lane by lane: four workers answer them on a
-/// machine of dimension `n`. There is no answer where memory or a thread was refused.
+/// Returns the replies to the jobs of all lanes, one for each, lane by lane. Four workers run the
+/// jobs on a machine of dimension `n`. Returns `None` if memory or a thread was refused.
 pub fn answer_in_order<R: Threads + Wait + Sync>(
     rt: &R,
     alloc: Global,

@@ -2,7 +2,7 @@
 use Rattle.std.specs.Prelude.{List, [], ◌∷◌, Option, Some, None}
 use Rattle.jobs_csv.specs.declared.replay_rows.ReplayRow.{ReplayRow}
 
--- at most one row, as a list
+-- A list of the row, if there is one.
 abbrev pub rows_in : Option ReplayRow → List ReplayRow
 rows_in None = []
 rows_in (Some r) = r ∷ []

@@ -10,7 +10,7 @@ use job_types::Job;
 use std::alloc::Global;
 use std::collections::VecDeque;
 
-/// The jobs of all lanes, each list at its lane's number.
+/// Makes the jobs of all lanes, each list at its lane's number.
 pub(crate) fn jobs_of_all(alloc: Global, invocation: Invocation) -> Option<Vec<VecDeque<Job>>>
     requires lanes { invocation.lanes ≤ MAX_LANES }
     requires dim { invocation.sizes.dim ≤ MAX_DIM }

@@ -1,4 +1,4 @@
-//! The words of a measurement of a dispatcher.
+//! The arguments of a measurement of a dispatcher.
 ghost use Rattle.std.specs.Prelude.{◌≤◌, IfSome};
 
 use cube_shape::{MAX_DIM, MAX_LANES};
@@ -10,17 +10,17 @@ const DIM: u32 = 10;
 /// The run that is to be measured.
 #[derive(Clone, Copy)]
 pub(crate) struct Invocation {
-    /// Whether the shop is the one with no lock.
+    /// Whether the dispatcher is the lock-free one.
     pub is_free: bool,
-    /// The numbers of each job: one for each processor at most.
+    /// The number of items of each job: at most one for each processor.
     pub items: usize,
     pub lanes: u32,
     pub sizes: ShopSizes,
-    /// The jobs of each lane.
+    /// The number of jobs of each lane.
     pub jobs: usize,
 }
 
-// Whether this is the shop with no lock, if it is one.
+// Returns whether this is the lock-free dispatcher, if it is one.
 fn is_free(name: &str) -> Option<bool> {
     match name {
         "free" => Some(true),
@@ -29,7 +29,7 @@ fn is_free(name: &str) -> Option<bool> {
     }
 }
 
-// The run that the words ask for, whatever its sizes are.
+// Returns the run that the arguments ask for, whatever its sizes are.
 fn asked_for(words: &[String]) -> Option<Invocation>
     ensures { IfSome result (λ it. it.sizes.dim ≤ MAX_DIM) }
 {
@@ -62,7 +62,8 @@ fn asked_for(words: &[String]) -> Option<Invocation>
     })
 }
 
-// Whether a shop of these sizes can be opened, and its machine has a processor for each number of a job.
+// Returns whether a dispatcher of these sizes can be opened, and its machine has a processor for
+// each item of a job.
 fn can_run(run: &Invocation) -> bool {
     let ShopSizes {
         dim,
@@ -74,7 +75,8 @@ fn can_run(run: &Invocation) -> bool {
         && refusal(dim, run.lanes, dispatchers, capacity).is_none()
 }
 
-/// The run that the words ask for, if they are well formed and a shop of these sizes can be opened.
+/// Returns the run that the arguments ask for, if they are well formed and a dispatcher of these
+/// sizes can be opened.
 pub(crate) fn parse_words(words: &[String]) -> Option<Invocation>
     ensures lanes { IfSome result (λ it. it.lanes ≤ MAX_LANES) }
     ensures dim { IfSome result (λ it. it.sizes.dim ≤ MAX_DIM) }

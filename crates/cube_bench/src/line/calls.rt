@@ -1,4 +1,4 @@
-//! The calls of a line, and the times of those that had success, where calls are timed.
+//! The calls of a queue, and the times of the successful ones, if calls are timed.
 ghost use Rattle.std.specs.Prelude.{◌≡◌};
 
 use crate::outcome::nanos_since;
@@ -11,23 +11,23 @@ use std::rt::Clock;
 use std::sync::{Mutex, Wait};
 use std::time::Instant;
 
-/// The jobs of a feeder or of a taker, and the nanoseconds of its calls that had success, where they
+/// The jobs of a producer or of a consumer, and the nanoseconds of its successful calls, if they
 /// are timed.
 #[derive(Drop)]
 pub(crate) struct Timed<T> {
     pub jobs: T,
-    /// The number of calls that are to have success.
+    /// The number of calls that are to succeed.
     pub wanted: usize,
     pub times: Option<Vec<u64>>,
 }
 
-/// What a feeder hands in.
+/// The jobs that a producer submits.
 pub(crate) type Feeding = Timed<VecDeque<Job>>;
 
-/// What a taker has taken.
+/// The jobs that a consumer has taken.
 pub(crate) type Taking = Timed<Vec<QueuedJob>>;
 
-/// Room for the times of so many calls, where they are timed.
+/// Reserves room for the times of `count` calls, if they are timed.
 pub(crate) fn room_for_times(
     alloc: Global,
     is_timed: bool,
@@ -40,7 +40,7 @@ pub(crate) fn room_for_times(
     }
 }
 
-// The nanoseconds of a call that began at this reading of the clock.
+// Returns the nanoseconds of a call that began at this reading of the clock.
 fn call_nanos<R: Clock>(rt: &R, start: io::Result<Instant>) -> u64 {
     match nanos_since(rt, start) {
         Some(nanos) => u64::try_from(nanos).unwrap_or(u64::MAX),
@@ -48,14 +48,14 @@ fn call_nanos<R: Clock>(rt: &R, start: io::Result<Instant>) -> u64 {
     }
 }
 
-// Keeps a time, where there is room.
+// Keeps a time, if there is room.
 fn keep(times: &mut Vec<u64>, nanos: u64) {
     if times.reserve(1).is_ok() {
         times.push_reserved(nanos);
     }
 }
 
-/// Hands in one job, and keeps its time where it was accepted.
+/// Submits one job, and keeps its time if it was accepted.
 pub(crate) fn submit<R: Wait + Clock, L: JobLine>(
     rt: &R,
     line: &L,
@@ -80,7 +80,7 @@ pub(crate) fn submit<R: Wait + Clock, L: JobLine>(
     answer
 }
 
-/// Takes one job, and keeps its time where there was one.
+/// Takes one job, and keeps its time if there was one.
 pub(crate) fn take<R: Wait + Clock, L: JobLine>(
     rt: &R,
     line: &L,
@@ -102,7 +102,7 @@ pub(crate) fn take<R: Wait + Clock, L: JobLine>(
     answer
 }
 
-/// The times of all feeders, or of all takers, in order.
+/// Returns the times of all producers, or of all consumers, in order.
 pub(crate) fn times_of_all<R: Wait, T>(
     rt: &R,
     alloc: Global,

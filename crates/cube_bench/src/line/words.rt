@@ -1,4 +1,4 @@
-//! The words of a measurement of a line.
+//! The arguments of a measurement of a queue.
 ghost use Rattle.std.specs.Prelude.{◌≡◌, ◌<◌, ◌≤◌, IfSome};
 
 use cube_shape::{MAX_CAPACITY, MAX_LANES, MAX_PASSES};
@@ -7,20 +7,20 @@ use job_queue::Sizes;
 /// The dimension of the machine that the jobs are for.
 pub(crate) const MACHINE: u32 = 2;
 
-/// The most jobs of a lane.
+/// The largest number of jobs of a lane.
 pub(crate) const MAX_JOBS: usize = 1_000_000;
 
-/// The run that the words ask for.
+/// The run that the arguments ask for.
 #[derive(Clone, Copy)]
 pub(crate) struct Invocation {
     pub is_ruled: bool,
     pub sizes: Sizes,
-    /// The jobs of each lane.
+    /// The number of jobs of each lane.
     pub jobs: usize,
     pub times_calls: bool,
 }
 
-// The line and the numbers of a run, as they stand in the words.
+// The queue and the numbers of a run, as the arguments have them.
 struct Numbers {
     is_ruled: bool,
     lanes: u32,
@@ -29,7 +29,7 @@ struct Numbers {
     jobs: usize,
 }
 
-// The line and the numbers of these words.
+// Returns the queue and the numbers of these arguments.
 fn numbers_of(words: &[String]) -> Option<Numbers> {
     let [line, lanes, passes, capacity, jobs, ..] = words else {
         return None;
@@ -51,7 +51,7 @@ fn numbers_of(words: &[String]) -> Option<Numbers> {
     })
 }
 
-// Whether this is the line with no lock, if it is one.
+// Returns whether this is the lock-free queue, if it is one.
 fn is_ruled(name: &str) -> Option<bool> {
     match name {
         "ruled" => Some(true),
@@ -60,7 +60,8 @@ fn is_ruled(name: &str) -> Option<bool> {
     }
 }
 
-// The run of these numbers, if they are within the limits. The passes share the jobs evenly.
+// Returns the run of these numbers, if they are within the limits. The passes share the jobs
+// evenly.
 fn run_of(numbers: Numbers, times_calls: bool) -> Option<Invocation>
     ensures lanes { IfSome result (λ it. it.sizes.lanes ≤ MAX_LANES) }
     ensures passes { IfSome result (λ it.
@@ -97,7 +98,7 @@ fn run_of(numbers: Numbers, times_calls: bool) -> Option<Invocation>
     })
 }
 
-/// The run that the words ask for, if they are well formed.
+/// Returns the run that the arguments ask for, if they are well formed.
 pub(crate) fn parse_words(words: &[String]) -> Option<Invocation>
     ensures lanes { IfSome result (λ it. it.sizes.lanes ≤ MAX_LANES) }
     ensures passes { IfSome result (λ it.

@@ -1,4 +1,4 @@
-//! A cube is opened, and becomes one machine with all its stations.
+//! Opening a tree, and making one machine of it with all its stations.
 ghost use Rattle.std.specs.Prelude.{All};
 ghost use Rattle.cube_tree.specs.Ends.{HasAll};
 ghost use Rattle.cube_tree.specs.Handles.{cube_size, IsStationOf};
@@ -10,7 +10,7 @@ use std::io;
 
 const DIM: u32 = 2;
 
-// The numbers of three stations, or as many as there are.
+// Returns the numbers of three stations, or of as many as there are.
 fn numbers(stations: &[TreeStation]) -> [u64; 3] {
     let mut numbers = [u64::MAX; 3];
     for (place, station) in stations.iter().enumerate() {
@@ -21,7 +21,7 @@ fn numbers(stations: &[TreeStation]) -> [u64; 3] {
     numbers
 }
 
-// The first free region of a new machine is taken, and the machine is closed.
+// Takes the first free block of a new machine, and closes the machine.
 fn hold_and_close<R: Print>(rt: &R, solo: Solo) -> io::Result<()> {
     let mut solo = solo;
     let told = match solo.take(0) {
@@ -32,7 +32,7 @@ fn hold_and_close<R: Print>(rt: &R, solo: Solo) -> io::Result<()> {
     told
 }
 
-// Makes one machine of a cube, of whose opening was told before: how many calls had memory.
+// Makes one machine of a tree, whose opening was printed before. Returns how many calls had memory.
 fn call_new<R: Print>(
     rt: &R,
     alloc: Global,
@@ -53,7 +53,7 @@ fn call_new<R: Print>(
     }
 }
 
-/// Opens a cube of three stations and makes one machine of it.
+/// Opens a tree of three stations and makes one machine of it.
 pub(crate) fn call_all<R: Print>(rt: &R, alloc: Global) -> io::Result<u64> {
     match Cube::open(alloc, DIM, 3) {
         Ok((cube, stations)) => {

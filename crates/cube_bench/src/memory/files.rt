@@ -1,4 +1,4 @@
-//! The three files are read from memory.
+//! Reading the three kinds of files from memory.
 use crate::memory::told::{counted, tell_given, tell_refused};
 use jobs_csv::{Counted, Fault, FaultKind, read_jobs, read_place, read_schedule};
 use std::alloc::Global;
@@ -17,7 +17,8 @@ const COMMANDS: &[u8] = b"command,name,dim\n\
 const CALLS: &[u8] = b"station,call,arg\n\
     0,take,4\n0,run,-\n1,take,5\n1,step,3\n0,release,-\n0,run,-\n0,retire,-\n1,run,-\n2,retire,-\n";
 
-// Tells that a file was not read, where there was no memory for it; how many calls had memory.
+// Prints that a file was not read, if there was no memory for it. Returns how many calls had
+// memory.
 fn tell_fault<R: Print>(rt: &R, call: &str, fault: Fault) -> io::Result<u64> {
     if fault.what == FaultKind::OutOfMemory {
         counted(tell_refused(rt, call, &[fault.row]), 0)
@@ -26,7 +27,7 @@ fn tell_fault<R: Print>(rt: &R, call: &str, fault: Fault) -> io::Result<u64> {
     }
 }
 
-// Tells how many records a file has; how many calls had memory.
+// Prints how many records a file has. Returns how many calls had memory.
 fn tell_count<R: Print, T: Drop>(
     rt: &R,
     call: &str,

@@ -1,4 +1,4 @@
-//! A job of each kind is made of four items.
+//! Making a job of each kind, of four items.
 use crate::memory::told::{counted, tell_given, tell_refused};
 use job_types::{Job, JobRefused, Kind, Op};
 use std::alloc::Global;
@@ -17,7 +17,8 @@ const KINDS: &[Kind] = &[
     Kind::ExScan { op: Op::Add },
 ];
 
-// Tells the items of a job, or else those that came back where it had no memory; how many calls had memory.
+// Prints the items of a job, or those that came back if it had no memory. Returns how many calls
+// had memory.
 fn tell_job<R: Print>(rt: &R, made: Result<Job, (Vec<u64>, JobRefused)>) -> io::Result<u64> {
     match made {
         Ok(job) => counted(tell_given(rt, "Job::new", job.items()), 2),
@@ -28,7 +29,7 @@ fn tell_job<R: Print>(rt: &R, made: Result<Job, (Vec<u64>, JobRefused)>) -> io::
     }
 }
 
-// A job of this kind, which has its items, or else the items that came back.
+// Makes a job of this kind, and prints its items or those that came back.
 fn call_new<R: Print>(rt: &R, alloc: Global, kind: Kind) -> io::Result<u64> {
     let Ok(items) = Vec::from_slice(alloc, &ITEMS) else {
         return counted(tell_refused(rt, "items", &[]), 0);

@@ -1,4 +1,5 @@
-//! A shop of one lane and one worker answers the jobs of the lane once its line is closed.
+//! A dispatcher of one lane and one worker, which runs the jobs of the lane after its queue was
+//! closed.
 ghost use Rattle.std.specs.Prelude.{◌≡◌};
 ghost use Rattle.std.specs.List.{All};
 ghost use Rattle.job_queue.specs.Line.{IsFor};
@@ -22,7 +23,7 @@ use std::sync::Wait;
 
 const MACHINE: u32 = 2;
 
-// Tells how many of the jobs a feed left.
+// Prints how many of the jobs a feed left.
 fn tell_feed<R: Print>(rt: &R, stop: FeedStop, left: usize) -> io::Result<()> {
     match stop {
         FeedStop::Done => tell_given(rt, "feed Done", &[left as u64]),
@@ -30,7 +31,8 @@ fn tell_feed<R: Print>(rt: &R, stop: FeedStop, left: usize) -> io::Result<()> {
     }
 }
 
-// Tells why a worker stopped, and how many replies it has: how many calls had memory, up to this one.
+// Prints why a worker stopped, and how many replies it has. Returns how many calls had memory so
+// far.
 fn tell_dispatch<R: Print>(rt: &R, stop: Stop, replies: usize) -> io::Result<u64> {
     match stop {
         Stop::Ended => counted(tell_given(rt, "dispatch", &[replies as u64]), 3),
@@ -39,7 +41,7 @@ fn tell_dispatch<R: Print>(rt: &R, stop: Stop, replies: usize) -> io::Result<u64
     }
 }
 
-// Prints the seqs of replies.
+// Prints the numbers (seqs) of replies.
 fn print_seqs<R: Print>(rt: &R, replies: &[Reply]) -> io::Result<()> {
     for reply in replies {
         let seq = reply.id().seq;
@@ -48,7 +50,7 @@ fn print_seqs<R: Print>(rt: &R, replies: &[Reply]) -> io::Result<()> {
     Ok(())
 }
 
-// Tells the seqs of the replies of all workers, followed by those of the rest.
+// Prints the numbers (seqs) of the replies of all workers, followed by those of the rest.
 fn tell_replies<R: Print, M>(rt: &R, finished: &Finished<M>) -> io::Result<()> {
     rt.print("finish")?;
     for replies in &finished.by_worker {
@@ -58,7 +60,7 @@ fn tell_replies<R: Print, M>(rt: &R, finished: &Finished<M>) -> io::Result<()> {
     rt.println("")
 }
 
-// The ledger of a finished shop: how many calls had memory.
+// Makes the ledger of a finished dispatcher. Returns how many calls had memory.
 fn call_ledger<R: Print, M>(rt: &R, alloc: Global, finished: &Finished<M>) -> io::Result<u64> {
     match Ledger::of(alloc, finished) {
         Ok(ledger) => counted(tell_given(rt, "Ledger::of", &[ledger.total().jobs]), 1),
@@ -66,7 +68,7 @@ fn call_ledger<R: Print, M>(rt: &R, alloc: Global, finished: &Finished<M>) -> io
     }
 }
 
-// Feeds the jobs by the lane, and tells how many are left.
+// Feeds the jobs by the lane, and prints how many are left.
 fn call_feed<R: Wait + Print, L: JobLine, F: Floor>(
     rt: &R,
     shop: &Shop<L, F>,
@@ -83,7 +85,7 @@ fn call_feed<R: Wait + Print, L: JobLine, F: Floor>(
     tell_feed(rt, fed.stop, fed.left.len())
 }
 
-// Lets the worker run to its end, and tells why it stopped: how many calls had memory, up to this one.
+// Runs the worker to its end, and prints why it stopped. Returns how many calls had memory so far.
 fn call_dispatch<R: Wait + Print, L: JobLine, F: Floor>(
     rt: &R,
     alloc: Global,
@@ -98,8 +100,8 @@ fn call_dispatch<R: Wait + Print, L: JobLine, F: Floor>(
     (told, end)
 }
 
-// Feeds the jobs, closes the shop, lets the worker run to its end, and finishes the shop. Answers
-// how many calls had memory, if all could be told.
+// Feeds the jobs, closes the dispatcher, runs the worker to its end, and finishes the dispatcher.
+// Returns how many calls had memory, if all could be printed.
 fn run_out<R: Wait + Print, L: JobLine, F: Floor>(
     rt: &R,
     alloc: Global,
@@ -124,7 +126,7 @@ fn run_out<R: Wait + Print, L: JobLine, F: Floor>(
     (fed.and(told), finished)
 }
 
-// Tells that the shop was not opened: how many calls had memory.
+// Prints that the dispatcher was not opened. Returns how many calls had memory.
 fn tell_unopened<R: Print>(rt: &R, why: ShopRefused) -> io::Result<u64> {
     match why {
         ShopRefused::OutOfMemory => counted(tell_refused(rt, "Shop::open", &[]), 1),
@@ -132,8 +134,8 @@ fn tell_unopened<R: Print>(rt: &R, why: ShopRefused) -> io::Result<u64> {
     }
 }
 
-// Tells the replies and the ledger of a finished shop, if what came before could be told: how many calls had
-// memory.
+// Prints the replies and the ledger of a finished dispatcher, if all before could be printed.
+// Returns how many calls had memory.
 fn tell_finished<R: Print, M>(
     rt: &R,
     alloc: Global,
@@ -146,7 +148,7 @@ fn tell_finished<R: Print, M>(
     Ok(ledger.wrapping_add(before))
 }
 
-// Makes the calls on a shop that has room for all the jobs.
+// Makes the calls on a dispatcher that has room for all the jobs.
 fn call_open<R: Wait + Print, L: JobLine, F: Floor>(
     rt: &R,
     alloc: Global,
@@ -166,7 +168,7 @@ where
     }
 }
 
-/// Makes so many jobs, and a shop of this kind that answers them, one call after the other.
+/// Makes `count` jobs, and a dispatcher of this kind that runs them, one call after the other.
 pub(crate) fn call_all<R: Wait + Print, L: JobLine, F: Floor>(
     rt: &R,
     alloc: Global,

@@ -1,4 +1,4 @@
-//! A shop of one lane and one worker, whose members are out of their lists.
+//! A dispatcher of one lane and one worker, whose members are out of their lists.
 ghost use Rattle.std.specs.Prelude.{◌≡◌, ◌≤◌, [], IfOk};
 ghost use Rattle.std.specs.Vec.{vec_capacity};
 ghost use Rattle.dispatcher.specs.Members.{IsEndOf, IsNoteOf};
@@ -13,7 +13,7 @@ use std::marker::Model;
 use std::sync::Wait;
 use tests_kit::{only_lane, only_worker, sole};
 
-/// A new shop with its lane, its worker and its closer, and room for what its end is given.
+/// A new dispatcher with its lane, its worker and its closer, and room for what its end needs.
 pub(crate) struct Single<L: JobLine, F: Floor> {
     pub shop: Shop<L, F>,
     pub lane: L::Lane,
@@ -42,7 +42,7 @@ impl<L: JobLine, F: Floor> Model for Single<L, F> {
 }
 
 impl<L: JobLine, F: Floor> Single<L, F> {
-    /// Opens a shop of this kind.
+    /// Opens a dispatcher of this kind.
     pub fn open(alloc: Global, n: u32, capacity: usize) -> Result<Self, ShopRefused>
     where
         F::Machine: Drop,
@@ -78,7 +78,7 @@ impl<L: JobLine, F: Floor> Single<L, F> {
     }
 }
 
-/// The end of such a shop, given its lane and its worker with the emptied lists of each.
+/// Finishes such a dispatcher, from its lane and its worker with the emptied lists of each.
 pub(crate) fn finish<R: Wait, L: JobLine, F: Floor>(
     rt: &R,
     shop: Shop<L, F>,

@@ -1,5 +1,5 @@
-//! The turns of one station that no other thread disturbs: on the tree in one hand, and on the
-//! allocation bits.
+//! The turns of one station that no other thread disturbs. They run on a tree whose stations are
+//! all with one caller, and on the allocation bits.
 ghost use Rattle.std.specs.Prelude.{◌≡◌, ◌≤◌};
 ghost use Rattle.cube_tree.specs.Solo.{solo_dim};
 
@@ -10,7 +10,7 @@ use alloc_bits::AllocBits;
 use cube_tree::{Cube, CubeRefused, Solo};
 use std::alloc::{AllocError, Global};
 
-// One take with its release: whether it was given.
+// Makes one take with its release. Returns whether it succeeded.
 fn solo_turn(solo: &mut Solo, k: u32) -> bool
     requires { k ≤ solo_dim solo.old }
     ensures { solo_dim solo.new ≡ solo_dim solo.old }
@@ -22,7 +22,7 @@ fn solo_turn(solo: &mut Solo, k: u32) -> bool
     true
 }
 
-// Takes, each with its release: how many were given.
+// Makes takes, each with its release. Returns how many succeeded.
 fn solo_turns(solo: &mut Solo, workload: Workload) -> u64
     requires { solo_dim solo.old ≡ DIM }
 {
@@ -34,7 +34,7 @@ fn solo_turns(solo: &mut Solo, workload: Workload) -> u64
     given
 }
 
-/// How many takes are given by a tree in one hand.
+/// Returns how many takes succeed on a tree whose stations are all with one caller.
 pub(crate) fn given_by_solo(alloc: Global, workload: Workload) -> Result<u64, CubeRefused> {
     let stations = if workload.beside_half { 2 } else { 1 };
     match Cube::open(alloc, DIM, stations) {
@@ -56,7 +56,7 @@ pub(crate) fn given_by_solo(alloc: Global, workload: Workload) -> Result<u64, Cu
     }
 }
 
-/// How many takes are given by the allocation bits.
+/// Returns how many takes succeed on the allocation bits.
 pub(crate) fn given_by_bits(alloc: Global, workload: Workload) -> Result<u64, AllocError> {
     let mut bits = AllocBits::new(alloc, DIM)?;
     if workload.beside_half {
@@ -65,7 +65,7 @@ pub(crate) fn given_by_bits(alloc: Global, workload: Workload) -> Result<u64, Al
     Ok(bit_turns(&mut bits, workload))
 }
 
-// Takes, each with its release: how many were given.
+// Makes takes, each with its release. Returns how many succeeded.
 fn bit_turns(bits: &mut AllocBits, workload: Workload) -> u64
     requires { bits.old.dim ≡ DIM }
 {

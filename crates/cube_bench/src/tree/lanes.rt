@@ -15,14 +15,14 @@ use std::{mem, thread};
 /// The dimension of the machine.
 pub(crate) const DIM: u32 = 10;
 
-// A station that one thread steps with, and what came of its turns.
+// A station that one thread steps with, and the result of its turns.
 struct Lane {
     station: Option<TreeStation>,
-    // How many takes were given.
+    // The number of takes that succeeded.
     given: u64,
 }
 
-// The turns of the station of a lane, which has one before and after.
+// Makes the turns of the station of a lane. The lane has a station before and after.
 fn run(cube: &Cube, workload: Workload, lane: &mut Lane)
     requires station { HasStation cube.now lane.old }
     requires dim { cube_dim cube.now ≡ DIM }
@@ -37,7 +37,7 @@ fn run(cube: &Cube, workload: Workload, lane: &mut Lane)
     }
 }
 
-// The turns of all lanes, each on a thread of its own.
+// Makes the turns of all lanes, each on a thread of its own.
 fn run_all<R: Threads + Sync>(rt: &R, cube: &Cube, workload: Workload, lanes: &mut [Lane])
     requires stations { All (HasStation cube.now) lanes.old }
     requires dim { cube_dim cube.now ≡ DIM }
@@ -55,7 +55,7 @@ fn run_all<R: Threads + Sync>(rt: &R, cube: &Cube, workload: Workload, lanes: &m
     );
 }
 
-// Each station of the list gets a lane.
+// Gives each station of the list a lane.
 fn seat_all(cube: &Cube, list: &mut Vec<TreeStation>, lanes: &mut Vec<Lane>)
     requires stations { All (IsStationOf cube.now) list.old.items }
     requires empty { lanes.old.items ≡ [] }
@@ -71,7 +71,7 @@ fn seat_all(cube: &Cube, list: &mut Vec<TreeStation>, lanes: &mut Vec<Lane>)
     }
 }
 
-// All stations retire: how many takes they were given.
+// Retires all stations. Returns how many of their takes succeeded.
 fn retire_all(cube: &Cube, lanes: &mut Vec<Lane>) -> u64
     requires { All (HasStation cube.now) lanes.old.items }
     ensures { vec_len lanes.new ≡ 0 }
@@ -89,7 +89,7 @@ fn retire_all(cube: &Cube, lanes: &mut Vec<Lane>) -> u64
     sum
 }
 
-// The last station of the list.
+// Returns the last station of the list.
 fn last(cube: &Cube, list: &mut Vec<TreeStation>) -> TreeStation
     requires of_cube { All (IsStationOf cube.now) list.old.items }
     requires some { 0 < vec_len list.old }
@@ -100,7 +100,7 @@ fn last(cube: &Cube, list: &mut Vec<TreeStation>) -> TreeStation
     list.pop().unwrap()
 }
 
-// The station that has no thread: it takes a half of the machine where the run is beside one.
+// Takes half of the machine for the station without a thread, if the run is to have one.
 fn hold_half(cube: &Cube, station: TreeStation, beside_half: bool) -> Result<Subcube, TreeStation>
     requires cube { IsStationOf cube.now station }
     requires dim { cube_dim cube.now ≡ DIM }
@@ -115,7 +115,7 @@ fn hold_half(cube: &Cube, station: TreeStation, beside_half: bool) -> Result<Sub
     }
 }
 
-// It gives the half back and retires.
+// Releases the half and retires the station.
 fn leave(cube: &Cube, holder: Result<Subcube, TreeStation>)
     requires { MatchResult holder (IsSubcubeOf cube.now) (IsStationOf cube.now) }
 {
@@ -126,7 +126,7 @@ fn leave(cube: &Cube, holder: Result<Subcube, TreeStation>)
     station.retire(cube);
 }
 
-// Closes a cube of which all stations have retired.
+// Closes a tree whose stations have all retired.
 fn close(rt: &impl Wait, cube: Cube) {
     let mut cube = cube;
     for _ in rt.forever() {
@@ -143,7 +143,7 @@ fn close(rt: &impl Wait, cube: Cube) {
     unreachable!()
 }
 
-/// How many takes are given in the run that is asked for.
+/// Returns how many takes succeed in the run that is asked for.
 pub(crate) fn given_in<R: Threads + Wait + Sync>(
     rt: &R,
     alloc: Global,

@@ -16,7 +16,7 @@ pub(crate) enum Sizes {
     Wide,
 }
 
-/// The dimension that a station asks for in a turn.
+/// Returns the dimension that a station asks for in a turn.
 pub(crate) fn dim_of(sizes: Sizes, number: u32, turn: u64) -> u32
     ensures { result ≤ 9 }
 {
@@ -27,7 +27,7 @@ pub(crate) fn dim_of(sizes: Sizes, number: u32, turn: u64) -> u32
     }
 }
 
-// One take with its release: the station, and whether it was given the region.
+// Makes one take with its release. Returns the station, and whether the take succeeded.
 fn turn(cube: &Cube, station: TreeStation, k: u32) -> (TreeStation, bool)
     requires cube { IsStationOf cube.now station }
     requires dim { k ≤ cube_dim cube.now }
@@ -39,7 +39,7 @@ fn turn(cube: &Cube, station: TreeStation, k: u32) -> (TreeStation, bool)
     }
 }
 
-/// So many turns of a station: how many takes were given.
+/// Makes this many turns of a station. Returns it, and how many takes succeeded.
 pub(crate) fn turns(
     cube: &Cube,
     station: TreeStation,

@@ -1,4 +1,4 @@
-//! The words of a measurement of the tree.
+//! The arguments of a measurement of the tree.
 ghost use Rattle.std.specs.Prelude.{IfSome};
 ghost use Rattle.cube_bench.specs.TreeWords.{HasLanes};
 
@@ -8,25 +8,25 @@ use cube_shape::MAX_STATIONS;
 /// The run that is to be measured.
 #[derive(Clone, Copy)]
 pub(crate) enum TreeRun {
-    /// The tree, with a station on each of so many threads.
+    /// The tree, with a station on each of this many threads.
     Threads(u32, Workload),
-    /// The tree in one hand.
+    /// The tree, with all stations with one caller.
     Solo(Workload),
     /// The allocation bits.
     Bits(Workload),
 }
 
-/// What each station does.
+/// The work of each station.
 #[derive(Clone, Copy)]
 pub(crate) struct Workload {
     pub sizes: Sizes,
-    /// How many turns each station makes.
+    /// The number of turns that each station makes.
     pub turns: u64,
-    /// Whether one more station holds a half of the machine all the while.
+    /// Whether one more station holds half of the machine all the while.
     pub beside_half: bool,
 }
 
-// The sizes of this name.
+// Returns the sizes of this name.
 fn sizes_named(name: &str) -> Option<Sizes> {
     match name {
         "leaf" => Some(Sizes::Leaf),
@@ -36,7 +36,7 @@ fn sizes_named(name: &str) -> Option<Sizes> {
     }
 }
 
-// Whether the words after the third one ask for a half that is held.
+// Returns whether the arguments after the third one ask for a half that is held.
 fn asks_for_half(words: &[String]) -> Option<bool> {
     match words {
         [] => Some(false),
@@ -45,7 +45,7 @@ fn asks_for_half(words: &[String]) -> Option<bool> {
     }
 }
 
-// The turns of a tree on threads.
+// Returns the run of a tree on threads.
 fn on_threads(threads: &str, workload: Workload) -> Option<TreeRun>
     ensures { IfSome result HasLanes }
 {
@@ -56,7 +56,7 @@ fn on_threads(threads: &str, workload: Workload) -> Option<TreeRun>
     Some(TreeRun::Threads(threads, workload))
 }
 
-// What each station does, of these words.
+// Returns the work of each station by these arguments.
 fn workload_of(sizes: &str, turns: &str, rest: &[String]) -> Option<Workload> {
     let found = (
         sizes_named(sizes),
@@ -73,7 +73,7 @@ fn workload_of(sizes: &str, turns: &str, rest: &[String]) -> Option<Workload> {
     })
 }
 
-/// The run that the words ask for, if they are well formed.
+/// Returns the run that the arguments ask for, if they are well formed.
 pub(crate) fn parse_words(words: &[String]) -> Option<TreeRun>
     ensures { IfSome result HasLanes }
 {

@@ -1,10 +1,10 @@
--- A seat of a locked floor's table that has the records of all stations.
+-- A seat of a locked allocator's table that has the records of all stations.
 use Rattle.std.specs.Prelude.{◌≡◌, None, [], length}
 use Rattle.std.specs.List.{AllByRecursion as Each}
 use Rattle.floor_locked.specs.declared.view.Size.{Size}
 use Rattle.floor_locked.specs.Inner.Step.{Sat}
 
--- the seat has as many records as there are stations, and none of these holds a region
+-- The seat has the records of all stations, and none of these holds a block.
 pub record IsWhole (size : Size) (m : Sat) : Type 0 where
   pub slots : m.1 ≡ []
   pub stations : length m.0.stations ≡ size.stations

@@ -1,4 +1,5 @@
--- The rule of a locked floor's table. Its one word is 1 while a seat has taken the slot with the bits.
+-- The rule of a locked allocator's table. Its one word is 1 while a seat has taken the slot with
+-- the bits.
 use Rattle.std.specs.Prelude.{◌≡◌, ℕ, ◌<◌, List}
 use mathlib.Core.Option.{some}
 use lib.ListN.{get_elem?}
@@ -11,15 +12,17 @@ use Rattle.floor_locked.specs.declared.view.View.{View}
 use Rattle.floor_locked.specs.Inner.View.{found_in, members}
 use Rattle.floor_locked.specs.Inner.Deed.{Deed, station_part, held_after, IsLegal}
 
--- the bits are those that the history leaves
+-- The bits are those that the history leaves.
 pub record Fits (size : Size) (history : List Deed) (x : Allocation) : Type 0 where
   pub dim : x.dim ≡ size.dim
   pub held : (station : ℕ) → held_in x station ≡ held_after history station
 
+-- Some legal history leads to this table. Each record in a view is its station's part of it.
 pub record Keeps (size : Size) (s : State Allocation View) : Type 0 where
   pub history : List Deed
   pub legal : IsLegal size history
-  pub stations : Tied (λ (v : View). v.stations) (λ r. r.number) size.stations (station_part history) s.views
+  pub stations : Tied (λ (v : View). v.stations) (λ r. r.number) size.stations
+      (station_part history) s.views
   pub about : (id : ℕ) (v : View) → get_elem? s.views id ≡ some v → 0 < members v → v.about ≡ size
-  -- the bits that are at home, and those that a seat found, are what the history leaves
+  -- The bits in their slot, and bits that a seat found, are those that the history leaves.
   pub cell : IsCell found_in members (Fits size history) s

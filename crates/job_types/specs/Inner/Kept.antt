@@ -10,7 +10,7 @@ use Rattle.job_types.specs.Collective.{held_at}
 use Rattle.job_types.specs.Job.{has_bad_root}
 use Rattle.job_types.specs.Inner.Collective.{visible_at}
 
--- each place of an item may hold a number of its own in the end
+-- Whether each place of an item may hold a number of its own at the end.
 abbrev pub is_scan : Kind → Bool
 is_scan (Broadcast root) = false
 is_scan (Reduce op root) = false
@@ -18,7 +18,7 @@ is_scan (AllReduce op) = false
 is_scan (Scan op) = true
 is_scan (ExScan op) = true
 
--- a place that holds what the collective makes of all items, where it is no scan
+-- A place that holds the result of all items, if the collective is no scan.
 abbrev pub shown_place : Kind → ℕ
 shown_place (Broadcast root) = 0
 shown_place (Reduce op root) = root
@@ -26,21 +26,25 @@ shown_place (AllReduce op) = 0
 shown_place (Scan op) = 0
 shown_place (ExScan op) = 0
 
--- the number that is kept for a place
+-- The number that is kept for a place.
 abbrev pub shown_at : Kept → ℕ → Option ℕ
 shown_at (One number) place = Some number
 shown_at (Each numbers) place = slice_get (boxed_slice_items numbers) place
 
--- there is room for the result of the collective on so many items: a number for each where it is a scan, else one
+-- There is memory for the result of the collective on `count` items: a number for each if it is a
+-- scan, else one number.
 abbrev pub HasRoomFor : Kind → ℕ → Kept → Type 0
 HasRoomFor kind count (One number) = is_scan kind ≡ false
-HasRoomFor kind count (Each numbers) = (is_scan kind ≡ true) × (length (boxed_slice_items numbers) ≡ count)
+HasRoomFor kind count (Each numbers) =
+    (is_scan kind ≡ true) × (length (boxed_slice_items numbers) ≡ count)
 
--- what a reply shows of the kept numbers, at the place of each item, is the collective's result on these items
+-- At the place of each item, the kept numbers show the collective's result on the items.
 abbrev pub IsShown : Kind → List ℕ → Kept → Type 0
-IsShown kind items kept = (place : ℕ) → place < length items → visible_at kind place (shown_at kept place) ≡ held_at kind items place
+IsShown kind items kept =
+    (place : ℕ) → place < length items → visible_at kind place (shown_at kept place)
+    ≡ held_at kind items place
 
--- the collective can run on 2 ^ k places that hold these items, and there is room for its result
+-- The collective can run on `2^k` places that hold these items, and there is memory for its result.
 pub record CanRun (kind : Kind) (k : ℕ) (items : List ℕ) (kept : Kept) : Type 0 where
   pub dim : k ≤ MAX_DIM
   pub fits : length items ≤ 2 ^ k

@@ -6,31 +6,38 @@ use Rattle.csv.specs.Writing.{default_writer, fields_written, has_written, text_
 use Rattle.csv.specs.declared.writer.Writer.{Writer}
 use Rattle.jobs_csv.specs.Text.{IsPlainField, line_of}
 
--- a writer with the crate's defaults has written this text, and stands between two records
-pub record HasText {W : Type 0} (contents : W → Option (List ℕ)) (writer : Writer W) (text : List ℕ) : Type 0 where
+-- A writer with the crate's defaults has written this text, and is between two records.
+pub record HasText {W : Type 0} (contents : W → Option (List ℕ)) (writer : Writer W)
+    (text : List ℕ) : Type 0 where
   pub written : text_written contents writer ≡ Some text
   pub setup : writer_setup writer ≡ default_writer
   pub fields : fields_written writer ≡ 0
   pub between : has_written writer ≡ false
 
--- the line of these fields was written after the text
-abbrev pub AddsLine : {W : Type 0} → (W → Option (List ℕ)) → Writer W → Writer W → List (List ℕ) → Type 0
-AddsLine contents old new fields = (text : List ℕ) → HasText contents old text → HasText contents new (text ++ line_of fields)
+-- Whatever text the writer had written, it has now also written the line of these fields.
+abbrev pub AddsLine : {W : Type 0}
+    → (W → Option (List ℕ))
+    → Writer W
+    → Writer W
+    → List (List ℕ)
+    → Type 0
+AddsLine contents old new fields =
+    (text : List ℕ) → HasText contents old text → HasText contents new (text ++ line_of fields)
 
--- a record of plain fields, with no byte of another field
+-- A record of fields that need no quotes, with no byte of a further field.
 pub record HasPlainFields (fields : Row) : Type 0 where
   pub whole : partial_of fields ≡ []
   pub plain : All (λ field. IsPlainField field) (fields_of fields)
 
--- what a list of bytes holds, as a writer
+-- The bytes that a vector holds, as what a writer has written.
 abbrev pub items_held : Vec ℕ Global → Option (List ℕ)
 items_held bytes = Some bytes.items
 
--- the text, if it is known
+-- The text, or no byte if it is unknown.
 abbrev pub known : Option (List ℕ) → List ℕ
 known (Some text) = text
 known None = []
 
--- the text that was written into a list of bytes
+-- The text that was written into a vector of bytes.
 abbrev pub buffered : Writer (Vec ℕ Global) → List ℕ
 buffered writer = known (text_written items_held writer)

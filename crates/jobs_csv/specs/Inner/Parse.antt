@@ -3,7 +3,7 @@ use Rattle.std.specs.Prelude.{◌≡◌, ⊤, Result, Ok, Err}
 use Rattle.jobs_csv.specs.declared.fault.FaultKind.{FaultKind}
 use Rattle.jobs_csv.specs.declared.fault.FaultKind.TheVariants as what
 
--- `w` is the error that the parse gives, or OutOfMemory, which no parse gives
+-- The error is the one that the parse gives, or `OutOfMemory`, which no parse gives.
 abbrev pub IsParseError : {A : Type 0} → Result A FaultKind → FaultKind → Type 0
 IsParseError parse what.Fields = parse ≡ Err what.Fields
 IsParseError parse what.Number = parse ≡ Err what.Number
@@ -15,7 +15,11 @@ IsParseError parse what.OutOfMemory = ⊤
 IsParseError parse what.TooMany = parse ≡ Err what.TooMany
 IsParseError parse what.Spent = ⊥
 
--- the call returned the parse's value or its error, or ran out of memory
-abbrev pub ReturnsParse : {A B : Type 0} → (A → B) → Result B FaultKind → Result A FaultKind → Type 0
+-- The call returned the parse's value or its error, or ran out of memory.
+abbrev pub ReturnsParse : {A B : Type 0}
+    → (A → B)
+    → Result B FaultKind
+    → Result A FaultKind
+    → Type 0
 ReturnsParse view parse (Ok x) = parse ≡ Ok (view x)
 ReturnsParse view parse (Err w) = IsParseError parse w

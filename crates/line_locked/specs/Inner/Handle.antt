@@ -1,4 +1,4 @@
--- A locked line and its handles as plain data.
+-- A locked queue and its handles as plain data.
 use Rattle.std.specs.Prelude.{◌≡◌, ℕ, [], ◌∷◌}
 use Rattle.atomic_table.specs.Seated.{TableId}
 use Rattle.locked_cell.specs.Handle.{table_of as table_of_cell, key_of}
@@ -13,36 +13,46 @@ use Rattle.line_locked.specs.declared.handle.LockedNote.{LockedNote}
 use Rattle.job_queue.specs.Line.{LineId}
 use Rattle.line_locked.specs.Inner.Step.{lane_in, pass_in}
 
+-- The table of a lock.
 abbrev pub table_of : StoreLock → TableId
 table_of lock = table_of_cell lock.cell
 
+-- The sizes of the queue under a lock.
 abbrev pub sizes_of : StoreLock → Sizes
 sizes_of lock = key_of lock.cell
 
+-- The identity of the queue under a lock.
 abbrev pub line_id : StoreLock → LineId
 line_id lock = record { tables = table_of lock ∷ []; sizes = sizes_of lock }
 
--- a seat of this table, whose view is of a line of these sizes
+-- A handle with this table and these sizes belongs to the queue.
 abbrev pub IsOf : LineId → TableId → Sizes → Type 0
 IsOf id table about = (id.tables ≡ table ∷ []) × (about ≡ id.sizes)
 
+-- The lane belongs to the queue.
 abbrev pub is_lane : LineId → LockedLane → Type 0
 is_lane id lane = IsOf id lane.seat.table_id lane.seat.me.0.about
 
+-- The pass belongs to the queue.
 abbrev pub is_pass : LineId → LockedPass → Type 0
 is_pass id pass = IsOf id pass.seat.table_id pass.seat.me.0.about
 
+-- The closer belongs to the queue.
 abbrev pub is_closer : LineId → LockedCloser → Type 0
 is_closer id closer = IsOf id closer.seat.table_id closer.seat.me.0.about
 
+-- The close note belongs to the queue.
 abbrev pub is_note : LineId → LockedNote → Type 0
 is_note id note = IsOf id note.seat.table_id note.seat.me.0.about
 
+-- The record of a lane, which its seat knows.
 abbrev pub lane_record : LockedLane → LaneRecord
 lane_record lane = lane_in lane.seat.me.0.lanes
 
+-- The record of a pass, which its seat knows.
 abbrev pub pass_record : LockedPass → PassRecord
 pass_record pass = pass_in pass.seat.me.0.passes
 
+-- The close number of a note.
 abbrev pub note_number : LockedNote → ℕ
 note_number note = note.number

@@ -13,7 +13,7 @@ use std::thread::Threads;
 
 const OPS: [Op; 6] = [Op::Add, Op::Min, Op::Max, Op::Xor, Op::And, Op::Or];
 
-// Two numbers, joined.
+// Returns two numbers, joined.
 fn joined(op: Op, left: u64, right: u64) -> u64 {
     match op {
         Op::Add => left.wrapping_add(right),
@@ -25,7 +25,7 @@ fn joined(op: Op, left: u64, right: u64) -> u64 {
     }
 }
 
-// The first so many of these numbers, of which there is one or more, joined with no unit; nothing where
+// Returns the first `count` of these numbers, one or more, joined with no unit. Returns nothing if
 // there are fewer.
 fn fold(op: Op, numbers: &[u64], count: usize) -> Option<u64> {
     let mut total = *numbers.first()?;
@@ -35,7 +35,7 @@ fn fold(op: Op, numbers: &[u64], count: usize) -> Option<u64> {
     Some(total)
 }
 
-// What joins with a number and leaves it as it was.
+// Returns the number that, joined with another one, leaves it as it was.
 fn unit(op: Op) -> u64 {
     match op {
         Op::Add | Op::Max | Op::Xor | Op::Or => 0,
@@ -43,7 +43,7 @@ fn unit(op: Op) -> u64 {
     }
 }
 
-// What the place of this rank has in the end.
+// Returns what the place of this rank must hold at the end.
 fn wanted(kind: Kind, items: &[u64], rank: usize) -> Option<u64> {
     if rank >= items.len() {
         return None;
@@ -58,7 +58,7 @@ fn wanted(kind: Kind, items: &[u64], rank: usize) -> Option<u64> {
     }
 }
 
-// Numbers that are far apart.
+// Returns numbers that are far apart.
 fn numbers(rt: &impl Abort, alloc: Global, count: u64) -> Vec<u64> {
     let mut numbers = Vec::new(alloc);
     for number in 0..count {
@@ -68,21 +68,21 @@ fn numbers(rt: &impl Abort, alloc: Global, count: u64) -> Vec<u64> {
     numbers
 }
 
-// Whether a reply has at this rank what a plain fold gives.
+// Returns whether a reply has at this rank what a plain fold gives.
 fn is_plain(reply: &Reply, kind: Kind, items: &[u64], rank: usize) -> bool {
     reply.at(rank as u64) == wanted(kind, items, rank)
 }
 
-// A reply has at each rank what a plain fold gives. It has nothing past the items, as far as three
-// times their number.
+// Expects that a reply has at each rank what a plain fold gives. It has nothing past the items, as
+// far as three times their number.
 fn expect_plain(rt: &impl Abort, reply: &Reply, kind: Kind, items: &[u64]) {
     for rank in 0..items.len().saturating_mul(3) {
         expect_true(rt, is_plain(reply, kind, items, rank));
     }
 }
 
-// A job of this kind on these items, for a machine of dimension `n`, has a reply on a region of this
-// dimension that is the plain fold.
+// Expects that a job of this kind on these items, for a machine of dimension `n`, has the plain
+// fold as its reply. The reply is on a block of dimension `dim`.
 fn expect_kind(rt: &impl Abort, alloc: Global, n: u32, dim: u32, kind: Kind, items: &[u64]) {
     let job = made(rt, alloc, n, 0, kind, items);
     let is_asked = is_job(&job, n, 0, dim, kind, items);
@@ -91,14 +91,14 @@ fn expect_kind(rt: &impl Abort, alloc: Global, n: u32, dim: u32, kind: Kind, ite
     expect_plain(rt, &reply, kind, items);
 }
 
-// Jobs of these kinds.
+// Expects the same of jobs of these kinds.
 fn expect_each(rt: &impl Abort, alloc: Global, n: u32, dim: u32, kinds: &[Kind], items: &[u64]) {
     for kind in kinds {
         expect_kind(rt, alloc, n, dim, *kind, items);
     }
 }
 
-// Jobs of all kinds, with this operation and this root.
+// Expects the same of jobs of all kinds, with this operation and this root.
 fn expect_kinds(
     rt: &impl Abort,
     alloc: Global,
@@ -118,8 +118,8 @@ fn expect_kinds(
     expect_each(rt, alloc, n, dim, kinds, items);
 }
 
-// Each row is the dimension of a machine, a number of items, and the dimension of the least region that
-// has a processor for each.
+// Expects the same of all kinds for each row. A row is the dimension of a machine, a number of
+// items, and the dimension of the least block that has a processor for each.
 fn expect_rows(rt: &impl Abort, alloc: Global, rows: &[(u32, u64, u32)]) {
     for (n, count, dim) in rows {
         let items = numbers(rt, alloc, *count);
@@ -154,7 +154,7 @@ static SIZES: [(u32, u64, u32); 21] = [
     (12, 4096, 12),
 ];
 
-// Among them stand jobs that fill each size of the arrays that rounds work on, and jobs of one item more.
+// Some of these jobs fill each size of the arrays that rounds work on, and some have one item more.
 #[test]
 fn replies_are_plain_folds(rt: HostRuntime) {
     expect_rows(&rt, rt.alloc(), &SIZES);
@@ -173,7 +173,8 @@ const MIXED_REPLIES: &str = "lane,seq,kind,dim,result,rounds,messages\n\
     2,3,allreduce,3,8 8 8 8 8,3,24\n3,0,exscan,3,0 1 3 6 10 15 21 28,3,24\n\
     3,1,exscan,2,18446744073709551615 9 4,2,8\n";
 
-// Whether a run by these dispatchers gives these replies to a file, on a machine of dimension 3.
+// Returns whether a run by these dispatchers gives these replies to a file, on a machine of
+// dimension 3.
 fn gives(
     rt: &(impl AllocGlobal + Abort + Threads + Wait + Clone + Send + Sync + 'static),
     dispatchers: u32,

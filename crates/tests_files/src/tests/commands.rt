@@ -24,7 +24,7 @@ enum Command {
     Replay,
 }
 
-// These are the sizes of a shop.
+// Expects that these are the sizes of a dispatcher.
 fn expect_shop(rt: &impl Abort, sizes: ShopSizes)
     ensures { AreShopSizes sizes }
 {
@@ -37,7 +37,7 @@ fn expect_shop(rt: &impl Abort, sizes: ShopSizes)
     assert!(rt; 1 <= dispatchers && dispatchers <= MAX_DISPATCHERS);
 }
 
-// The sizes of a shop.
+// Returns the sizes of a dispatcher.
 pub(crate) fn sizes_of(dim: u32, dispatchers: u32, capacity: usize) -> ShopSizes
     ensures { result ≡ record { dim = dim; dispatchers = dispatchers; capacity = capacity } }
 {
@@ -48,7 +48,7 @@ pub(crate) fn sizes_of(dim: u32, dispatchers: u32, capacity: usize) -> ShopSizes
     }
 }
 
-// A run in a shop of these sizes.
+// Runs `run` in a dispatcher of these sizes.
 fn run_by<T: Runner + Sync, R: Read + Device, W: Write + Device>(
     rt: &(impl AllocGlobal + Abort + Threads + Wait + Clone + Send + Sync + 'static),
     sizes: ShopSizes,
@@ -75,7 +75,7 @@ fn run_by<T: Runner + Sync, R: Read + Device, W: Write + Device>(
     )
 }
 
-// A report in a shop of these sizes.
+// Runs `report` in a dispatcher of these sizes.
 fn report_by<T: Runner + Sync, R: Read + Device, W: Write + Device>(
     rt: &(impl AllocGlobal + Abort + Threads + Wait + Clone + Send + Sync + 'static),
     sizes: ShopSizes,
@@ -102,7 +102,7 @@ fn report_by<T: Runner + Sync, R: Read + Device, W: Write + Device>(
     )
 }
 
-// The commands of a file, on a machine of dimension 3.
+// Carries out the commands of a file, on a machine of dimension 3.
 fn places<R: Read + Device, W: Write + Device>(
     alloc: Global,
     reader: &mut R,
@@ -111,7 +111,7 @@ fn places<R: Read + Device, W: Write + Device>(
     place_on(alloc, 3, reader, writer)
 }
 
-// The schedule of a file, by one station on a machine of dimension 3.
+// Plays the schedule of a file, by one station on a machine of dimension 3.
 fn replays<R: Read + Device, W: Write + Device>(
     alloc: Global,
     reader: &mut R,
@@ -120,7 +120,7 @@ fn replays<R: Read + Device, W: Write + Device>(
     replay_on(alloc, 3, 1, reader, writer)
 }
 
-// A command on a machine of dimension 3.
+// Carries out a command of the program on a machine of dimension 3.
 fn answer<R: Read + Device, W: Write + Device>(
     rt: &(impl AllocGlobal + Abort + Threads + Wait + Clone + Send + Sync + 'static),
     command: Command,
@@ -135,7 +135,7 @@ fn answer<R: Read + Device, W: Write + Device>(
     }
 }
 
-// A good file for a command.
+// Returns a good file for a command.
 fn good_file(command: Command) -> &'static [u8] {
     match command {
         Command::Run | Command::Report => {
@@ -146,14 +146,14 @@ fn good_file(command: Command) -> &'static [u8] {
     }
 }
 
-// Whether an answer tells whether a device has failed: it is this fault of no record where one has, and
-// else it is good.
+// Returns whether an answer says whether a device has failed. It must be this fault of no record if
+// one has, and good if none has.
 pub(crate) fn tells(answer: Result<(), Fault>, has_failed: bool, what: FaultKind) -> bool {
     let fault = Fault { row: 0, what };
     ((answer == Err(fault)) == has_failed) & ((answer == Ok(())) != has_failed)
 }
 
-// The answer to the good file of a command.
+// Returns the answer to the good file of a command.
 fn good_answer(command: Command) -> &'static [u8] {
     match command {
         Command::Run => {
@@ -174,17 +174,18 @@ fn good_answer(command: Command) -> &'static [u8] {
     }
 }
 
-// Whether what was written in so many calls is the beginning of what is wanted, seven bytes a call.
+// Returns whether what was written in this number of calls is the beginning of what is wanted,
+// seven bytes a call.
 fn is_beginning(written: &[u8], wanted: &[u8], calls: u64) -> bool {
     let beginning = wanted.len().min(calls.saturating_mul(7) as usize);
     (written.len() == beginning) & wanted.starts_with(written)
 }
 
-// A call that no command comes to.
+// A call that no command makes.
 const NEVER: u64 = u64::MAX;
 
-// The calls at which a reader and a writer fail where a read or a write is to fail at this call, and the
-// fault that tells so.
+// Returns the calls at which a reader and a writer fail, and the fault that says so. A read or a
+// write must fail at this call.
 fn failing(is_read: bool, calls: u64) -> (u64, u64, FaultKind) {
     if is_read {
         (calls, NEVER, FaultKind::Read)
@@ -193,9 +194,11 @@ fn failing(is_read: bool, calls: u64) -> (u64, u64, FaultKind) {
     }
 }
 
-// Whether a command fails whose reader or writer fails at this call, with an error or by taking nothing.
-// The answer then tells so, and else it is good. What was written is the beginning of the good answer,
-// seven bytes a call; and it is nothing after a failed read.
+// Returns whether a command fails whose reader or writer fails at this call, with an error or by
+// taking nothing.
+//
+// The answer then says so, and is good otherwise. What was written is the beginning of the good
+// answer, seven bytes a call. After a failed read it is nothing.
 fn fails(
     rt: &(impl AllocGlobal + Abort + Threads + Wait + Clone + Send + Sync + 'static),
     command: Command,
@@ -220,8 +223,8 @@ fn fails(
     failed
 }
 
-// How many reads or writes a command makes, each of which is reported where it fails; and flushes too,
-// where they may fail. Zero where each of a thousand fails.
+// Returns how many reads or writes a command makes, each of which is reported if it fails. Counts
+// flushes too if they may fail. Returns 0 if each of a thousand calls fails.
 fn calls_of(
     rt: &(impl AllocGlobal + Abort + Threads + Wait + Clone + Send + Sync + 'static),
     command: Command,
@@ -249,7 +252,7 @@ fn reports_a_failed_read(rt: HostRuntime) {
     );
 }
 
-// Each of these commands makes so many writes, and then a flush.
+// Expects that each of these commands makes its number of writes, and then a flush.
 fn expect_writes(
     rt: &(impl AllocGlobal + Abort + Threads + Wait + Clone + Send + Sync + 'static),
     rows: &[(Command, u64)],
@@ -278,7 +281,7 @@ fn reports_a_failed_write(rt: HostRuntime) {
     );
 }
 
-// So many jobs of one item.
+// Returns a file of this number of jobs of one item.
 fn long_input(rt: &(impl AllocGlobal + Abort), count: u64) -> Vec<u8> {
     let mut input = Vec::new(rt.alloc());
     add(rt, &mut input, b"lane,kind,op,root,items\n");
@@ -288,7 +291,7 @@ fn long_input(rt: &(impl AllocGlobal + Abort), count: u64) -> Vec<u8> {
     input
 }
 
-// So many jobs of one item, and their replies.
+// Returns a file of this number of jobs of one item, and their replies.
 pub(crate) fn long_file(rt: &(impl AllocGlobal + Abort), count: u64) -> (Vec<u8>, String) {
     (
         long_input(rt, count),
@@ -296,7 +299,8 @@ pub(crate) fn long_file(rt: &(impl AllocGlobal + Abort), count: u64) -> (Vec<u8>
     )
 }
 
-// Whether a run or a report of this file in a shop of these sizes is good, and writes all of this.
+// Returns whether a run or a report of this file, in a dispatcher of these sizes, is good and
+// writes all of this.
 pub(crate) fn writes_all<T: Runner + Sync>(
     rt: &(impl AllocGlobal + Abort + Threads + Wait + Clone + Send + Sync + 'static),
     is_report: bool,
@@ -316,12 +320,14 @@ pub(crate) fn writes_all<T: Runner + Sync>(
     (answer == Ok(())) & (failures == 0) & (writer.get_ref().as_slice() == wanted)
 }
 
-// Whether this is a long beginning of this, of 20,000 calls of seven bytes at most.
+// Returns whether this is a long beginning of the wanted bytes, of 20,000 calls of seven bytes at
+// most.
 fn is_long_beginning(written: &[u8], wanted: &[u8]) -> bool {
     (written.len() > 139_900) & (written.len() <= 140_000) & wanted.starts_with(written)
 }
 
-// Whether a run of this file whose writer fails after 20,000 calls wrote the beginning of this.
+// Returns whether a run of this file, whose writer fails after 20,000 calls, wrote the beginning of
+// the wanted bytes.
 fn writes_beginning(
     rt: &(impl AllocGlobal + Abort + Threads + Wait + Clone + Send + Sync + 'static),
     input: &[u8],
@@ -334,7 +340,8 @@ fn writes_beginning(
     is_told & is_long_beginning(&writer.get_ref().device, wanted)
 }
 
-// The replies are written in several pieces; what came before a failed write is their beginning.
+// The replies are written in several pieces. What was written before a failed write is their
+// beginning.
 #[test]
 fn writes_long_files(rt: HostRuntime) {
     let (input, wanted) = long_file(&rt, 8_000);

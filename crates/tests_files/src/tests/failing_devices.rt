@@ -5,8 +5,8 @@ use std::io;
 use std::io::{Read, Write};
 use std::process::Abort;
 
-// A device that moves at most seven bytes a call, and fails at one call: with an error, or where it
-// gives zero by taking nothing.
+// A device that moves at most seven bytes a call, and fails at one call. There it gives an error,
+// or takes nothing if it gives zero.
 #[derive(Drop)]
 pub(crate) struct FailsAt<D> {
     pub device: D,
@@ -15,7 +15,7 @@ pub(crate) struct FailsAt<D> {
 }
 
 impl<D> FailsAt<D> {
-    // A device that fails at this call, and gives an error there.
+    // Makes a device that fails at this call, and gives an error there.
     pub fn new(device: D, calls: u64) -> Self {
         FailsAt {
             device,
@@ -24,7 +24,7 @@ impl<D> FailsAt<D> {
         }
     }
 
-    // Whether this call is the one that fails.
+    // Returns whether this call is the one that fails.
     fn fails(&mut self) -> bool {
         let fails = self.calls == 0;
         self.calls = self.calls.wrapping_sub(1);
@@ -62,17 +62,17 @@ impl<D: Write> Write for FailsAt<D> {
     }
 }
 
-// Puts an item behind a list.
+// Adds an item at the end of a list.
 pub(crate) fn push<T>(rt: &impl Abort, list: &mut Vec<T>, item: T) {
     list.push(item).expect(rt, "no memory");
 }
 
-// Puts these bytes behind a text.
+// Adds these bytes at the end of a text.
 pub(crate) fn add(rt: &impl Abort, text: &mut Vec<u8>, more: &[u8]) {
     text.extend_from_slice(more).expect(rt, "no memory");
 }
 
-// Two texts joined.
+// Returns two texts joined.
 pub(crate) fn joined(rt: &(impl AllocGlobal + Abort), a: &[u8], b: &[u8]) -> Vec<u8> {
     let mut text = Vec::new(rt.alloc());
     add(rt, &mut text, a);
@@ -80,19 +80,19 @@ pub(crate) fn joined(rt: &(impl AllocGlobal + Abort), a: &[u8], b: &[u8]) -> Vec
     text
 }
 
-// Whether this is told in these words.
+// Returns whether the value is displayed in these words.
 pub(crate) fn says<T: Display>(rt: &(impl AllocGlobal + Abort), what: &T, wanted: &str) -> bool {
     let told = what.to_string(rt.alloc()).expect(rt, "no memory");
     told.as_str() == wanted
 }
 
-// Puts these characters behind a text.
+// Adds these characters at the end of a text.
 fn add_str(rt: &impl Abort, text: &mut String, more: &str) {
     text.push_str(more).expect(rt, "no memory");
 }
 
-// The file of so many replies of a lane, each to a job of this kind on one item, which is its own number
-// or 1.
+// Returns the file of this number of replies of a lane. Each is to a job of this kind on one item,
+// which is its own number or 1.
 pub(crate) fn replies_text(
     rt: &(impl AllocGlobal + Abort),
     lane: &str,

@@ -8,12 +8,12 @@ use std::alloc::Global;
 use std::io::Write;
 use std::process::Abort;
 
-// Whether a fault has this status and this line.
+// Returns whether a fault has this status and this line.
 fn is_told(rt: &(impl AllocGlobal + Abort), fault: Fault, status: u8, line: &str) -> bool {
     (fault.status() == status) & (fault.what.is_refusal() == (status == 1)) & says(rt, &fault, line)
 }
 
-// Each of these faults, of a record, has this status and this line.
+// Expects that each of these faults, of a record, has this status and this line.
 fn expect_lines(rt: &(impl AllocGlobal + Abort), rows: &[(u64, FaultKind, u8, &str)]) {
     for (row, what, status, line) in rows {
         let (row, what) = (*row, *what);
@@ -80,7 +80,7 @@ fn blames_devices(rt: HostRuntime) {
     );
 }
 
-// A writer that fails at this call, counted.
+// Makes a writer that fails at this call, with a count.
 fn failing(alloc: Global, calls: u64, gives_zero: bool) -> Counted<FailsAt<Vec<u8>>> {
     Counted::new(FailsAt {
         device: Vec::new(alloc),
@@ -89,7 +89,8 @@ fn failing(alloc: Global, calls: u64, gives_zero: bool) -> Counted<FailsAt<Vec<u
     })
 }
 
-// Whether a write of these bytes takes so many, and so many calls have failed then.
+// Returns whether a write of these bytes takes this number of them, and this number of calls have
+// failed then.
 fn takes(
     writer: &mut Counted<FailsAt<Vec<u8>>>,
     bytes: &[u8],
@@ -99,12 +100,12 @@ fn takes(
     (writer.write(bytes).ok() == Some(taken)) & (writer.failures() == failures)
 }
 
-// Whether a flush is good, and one call has failed then.
+// Returns whether a flush is good, and one call has failed then.
 fn flushes(writer: &mut Counted<FailsAt<Vec<u8>>>) -> bool {
     writer.flush().is_ok() & (writer.failures() == 1)
 }
 
-// Whether a flush that is to fail does so, and is the one call that has failed then.
+// Returns whether a flush that must fail does so, and is the one call that has failed then.
 fn fails_to_flush(alloc: Global) -> bool {
     let mut writer = failing(alloc, 0, false);
     writer.flush().is_err() & (writer.failures() == 1)
@@ -126,7 +127,7 @@ fn counts_failures(rt: HostRuntime) {
     );
 }
 
-// Whether this text is a name, and the same one when it is made again.
+// Returns whether this text is a name, and the same one when it is made again.
 fn is_name(text: &[u8]) -> bool {
     match Name::new(text) {
         Some(name) => (name.text() == text) & (Some(name) == Name::new(text)),
@@ -134,7 +135,7 @@ fn is_name(text: &[u8]) -> bool {
     }
 }
 
-// Whether this text is no name.
+// Returns whether this text is no name.
 fn is_no_name(text: &[u8]) -> bool {
     Name::new(text) == None
 }

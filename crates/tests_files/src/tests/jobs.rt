@@ -1,4 +1,4 @@
-//! Jobs that are answered, and jobs that are refused.
+//! Jobs that run, and jobs that are refused.
 
 ghost use Rattle.std.specs.Prelude.{◌≡◌, ◌<◌, ◌≤◌, length};
 ghost use Rattle.cube_shape.specs.Region.{IsAligned};
@@ -22,7 +22,7 @@ const SUMS_BEFORE: Kind = Kind::ExScan { op: Op::Add };
 
 const ID: JobId = JobId { lane: 3, seq: 40 };
 
-// The first region that has a processor for each item of the job.
+// Returns the first block that has a processor for each item of the job.
 fn first_region(job: &Job) -> Region
     ensures aligned { IsAligned job.now.machine result }
     ensures dimension { result.dim ≡ dim_of (length job.now.items) }
@@ -33,13 +33,13 @@ fn first_region(job: &Job) -> Region
     }
 }
 
-// The reply to a job on the first region that has a processor for each of its items.
+// Returns the reply to a job on the first block that has a processor for each of its items.
 pub(crate) fn answered(job: Job, id: JobId) -> Reply {
     let region = first_region(&job);
     job.answer(id, region)
 }
 
-// This is the dimension of a machine, and this one of its lanes.
+// Expects that this is the dimension of a machine, and this one of its lanes.
 pub(crate) fn expect_lane(rt: &impl Abort, n: u32, lane: u32)
     ensures machine { n ≤ MAX_DIM }
     ensures lane { lane < MAX_LANES }
@@ -47,7 +47,7 @@ pub(crate) fn expect_lane(rt: &impl Abort, n: u32, lane: u32)
     assert!(rt; n <= MAX_DIM && lane < MAX_LANES);
 }
 
-// What is made of a request for a job of this kind on these items.
+// Returns what is made of a request for a job of this kind on these items.
 pub(crate) fn asked(
     rt: &impl Abort,
     alloc: Global,
@@ -61,7 +61,7 @@ pub(crate) fn asked(
     Job::new(alloc, n, lane, kind, items)
 }
 
-// The job of a request that is not refused.
+// Returns the job of a request that is not refused.
 pub(crate) fn made(
     rt: &impl Abort,
     alloc: Global,
@@ -73,7 +73,7 @@ pub(crate) fn made(
     asked(rt, alloc, n, lane, kind, items).expect(rt, "a job")
 }
 
-// The reply with this id to a job of this kind on these items.
+// Returns the reply with this id to a job of this kind on these items.
 pub(crate) fn reply_to(
     rt: &impl Abort,
     alloc: Global,
@@ -85,8 +85,8 @@ pub(crate) fn reply_to(
     answered(made(rt, alloc, n, id.lane, kind, items), id)
 }
 
-// The replies to jobs of this kind, for the machine of dimension 3. Each row is the lane and the number of
-// a job, and its items.
+// Returns the replies to jobs of this kind, for the machine of dimension 3. Each row is the lane
+// and the number of a job, and its items.
 pub(crate) fn replies_to(
     rt: &(impl AllocGlobal + Abort),
     kind: Kind,
@@ -104,7 +104,7 @@ pub(crate) fn replies_to(
     replies
 }
 
-// Whether a job is one of this kind on these items, with this machine, lane and dimension.
+// Returns whether a job is one of this kind on these items, with this machine, lane and dimension.
 pub(crate) fn is_job(
     job: &Job,
     machine: u32,
@@ -120,30 +120,30 @@ pub(crate) fn is_job(
         & (job.items() == items)
 }
 
-// Whether the place of this rank holds this.
+// Returns whether the place of this rank holds this.
 fn holds(reply: &Reply, rank: u64, held: Option<u64>) -> bool {
     reply.at(rank) == held
 }
 
-// Whether a reply took these rounds and messages.
+// Returns whether a reply took these rounds and messages.
 fn took(reply: &Reply, rounds: u32, messages: u64) -> bool {
     reply.tally() == Tally { rounds, messages }
 }
 
-// Whether a reply holds nothing at this rank and at the last one.
+// Returns whether a reply holds nothing at this rank and at the last one.
 fn ends_at(reply: &Reply, rank: u64) -> bool {
     holds(reply, rank, None) & holds(reply, u64::MAX, None)
 }
 
-// A reply holds these places.
+// Expects that a reply holds these places.
 fn expect_places(rt: &impl Abort, reply: &Reply, places: &[Option<u64>]) {
     for (rank, held) in places.iter().enumerate() {
         expect_true(rt, holds(reply, rank as u64, *held));
     }
 }
 
-// The reply to a job of this kind on these items holds these places and nothing past them, and took
-// these rounds and messages.
+// Expects that the reply to a job of this kind on these items holds these places, and nothing past
+// them. It took these rounds and messages.
 fn expect_reply(
     rt: &impl Abort,
     alloc: Global,
@@ -162,8 +162,8 @@ fn expect_reply(
     );
 }
 
-// Each row is the dimension of a machine, and the kind and the items of a job for it, and then what
-// its reply has: each place, and the rounds and messages.
+// Expects what each row says. A row is the dimension of a machine, and the kind and the items of a
+// job for it. Then follow the places of its reply, its rounds and its messages.
 fn expect_replies(
     rt: &impl Abort,
     alloc: Global,
@@ -195,7 +195,7 @@ const SECOND: Kind = Kind::Broadcast { root: 1 };
 
 const FIRST: Kind = Kind::Broadcast { root: 0 };
 
-// Jobs on the smallest arrays. Each row is as those of `expect_replies`.
+// Jobs on the smallest arrays. The rows are those of `expect_replies`.
 static SMALL_JOBS: [(u32, Kind, &[u64], &[Option<u64>], u32, u64); 18] = [
     (3, SUM, &[1, 2, 3, 4], &[Some(10); 4], 2, 8),
     (1, SUM, &[u64::MAX, 1], &[Some(0); 2], 1, 2),
@@ -282,7 +282,7 @@ fn answers_small_jobs(rt: HostRuntime) {
     expect_replies(&rt, rt.alloc(), &SMALL_JOBS);
 }
 
-// Jobs around the end of the smallest arrays. Each row is as those of `expect_replies`.
+// Jobs around the end of the smallest arrays. The rows are those of `expect_replies`.
 static JOBS_AT_ENDS: [(u32, Kind, &[u64], &[Option<u64>], u32, u64); 4] = [
     (6, SUM, &[1; 64], &[Some(64); 64], 6, 384),
     (7, SUM, &[1; 65], &[Some(65); 65], 7, 896),
@@ -296,7 +296,7 @@ fn answers_jobs_at_the_end_of_the_smallest_arrays(rt: HostRuntime) {
     expect_replies(&rt, rt.alloc(), &JOBS_AT_ENDS);
 }
 
-// The numbers 0 to 4095.
+// Returns the numbers 0 to 4095.
 fn numbers(rt: &impl Abort, alloc: Global) -> Vec<u64> {
     let mut items = Vec::new(alloc);
     for item in 0..4096 {
@@ -305,8 +305,8 @@ fn numbers(rt: &impl Abort, alloc: Global) -> Vec<u64> {
     items
 }
 
-// A job of this kind on these items, on the largest machine, holds these numbers at these places and
-// took these messages.
+// Expects that a job of this kind on these items, on the largest machine, holds these numbers at
+// these places and took these messages.
 fn expect_largest(
     rt: &impl Abort,
     alloc: Global,
@@ -322,8 +322,8 @@ fn expect_largest(
     expect_true(rt, took(&reply, 12, messages));
 }
 
-// Each row is the kind of a job on the items 0 to 4095, on the largest machine, the numbers that its
-// reply holds at some places, and the messages.
+// Expects what each row says of a job on the items 0 to 4095, on the largest machine. A row is its
+// kind, the numbers that its reply holds at some places, and the messages.
 fn expect_all_largest(rt: &impl Abort, alloc: Global, rows: &[(Kind, &[(u64, Option<u64>)], u64)]) {
     let items = numbers(rt, alloc);
     for (kind, places, messages) in rows {
@@ -331,8 +331,8 @@ fn expect_all_largest(rt: &impl Abort, alloc: Global, rows: &[(Kind, &[(u64, Opt
     }
 }
 
-// Jobs on the largest machine. Each row is as those of `expect_all_largest`. The items 0 to r add up to
-// r * (r + 1) / 2.
+// Jobs on the largest machine. The rows are those of `expect_all_largest`. The sum of the items 0
+// to r is r * (r + 1) / 2.
 static LARGEST_JOBS: [(Kind, &[(u64, Option<u64>)], u64); 5] = [
     (
         Kind::Broadcast { root: 700 },
@@ -382,12 +382,12 @@ fn answers_the_largest_jobs(rt: HostRuntime) {
     expect_all_largest(&rt, rt.alloc(), &LARGEST_JOBS);
 }
 
-// Whether a reply has this id and this region.
+// Returns whether a reply has this id and this block.
 fn is_reply(reply: &Reply, id: JobId, region: Region) -> bool {
     (reply.id() == id) & (reply.region() == region)
 }
 
-// Whether this kind on these items was asked for, with this machine, lane and dimension.
+// Returns whether this kind on these items was asked for, with this machine, lane and dimension.
 fn is_request(
     request: &Request,
     machine: u32,
@@ -416,7 +416,7 @@ fn a_job_keeps_what_was_asked(rt: HostRuntime) {
     expect_true(&rt, is_job(&job, 5, 12, 2, SUM, &[9, 8, 7, 6]));
 }
 
-// This request is refused for this reason, and its items come back.
+// Expects that this request is refused for this reason, and its items are returned.
 fn expect_refusal(
     rt: &impl Abort,
     alloc: Global,
@@ -430,7 +430,7 @@ fn expect_refusal(
     expect_true(rt, (why == wanted) & (back.as_slice() == items));
 }
 
-// Each of these requests is refused for this reason, and its items come back.
+// Expects that each of these requests is refused for its reason, and its items are returned.
 fn expect_refusals(rt: &impl Abort, alloc: Global, rows: &[(u32, Kind, &[u64], JobRefused)]) {
     for (n, kind, items, wanted) in rows {
         expect_refusal(rt, alloc, *n, *kind, items, *wanted);

@@ -25,7 +25,7 @@ const THREE_TOTALS: &str =
     "group,key,count,processors,idle\nlane,0,3,6,0\ndim,0,0,0,0\ndim,1,3,6,0\ndim,2,0,0,0\n\
     dim,3,0,0,0\nfree,0,8,8,0\nfree,1,4,8,0\nfree,2,2,8,0\nfree,3,1,8,0\ntotal,-,3,6,0\n";
 
-// Keeps each job until three have come in, or it has looked often enough.
+// A runner that keeps each job until three have entered, or it has looked `TURNS` times.
 #[derive(Drop)]
 struct Meeting {
     inside: AtomicU64,
@@ -50,7 +50,7 @@ impl Meeting {
         false
     }
 
-    // Whether three jobs came in, and none of them went on alone.
+    // Returns whether three jobs entered, and none of them went on alone.
     fn has_met(&self) -> bool {
         (self.inside.load(Ordering::SeqCst) == 3) & (self.alone.load(Ordering::SeqCst) == 0)
     }
@@ -66,7 +66,8 @@ impl Runner for Meeting {
     }
 }
 
-// Three jobs of a file are inside at once where three dispatchers answer them, in a run or a report, which writes this.
+// Expects that three jobs of a file are inside at once if three dispatchers run them, in a run or a
+// report, which writes this.
 fn expect_meeting(
     rt: &(impl AllocGlobal + Abort + Threads + Wait + Clone + Send + Sync + 'static),
     is_report: bool,
@@ -94,8 +95,8 @@ fn three_jobs_of_a_report_are_inside_at_once(rt: HostRuntime) {
     expect_meeting(&rt, true, THREE_TOTALS);
 }
 
-// The same of a run that shows its progress: it has the dispatchers that were asked, and its jobs are answered by the
-// runner that is lent.
+// The same of a run that shows its progress. It has the dispatchers that were asked, and its jobs
+// run by the runner that was passed in.
 #[test]
 fn three_jobs_of_a_shown_run_are_inside_at_once(rt: HostRuntime) {
     let meeting = Meeting::new();

@@ -1,4 +1,4 @@
-//! The line of progress: that the output is the same, and that a terminal is as it was in the end.
+//! The line of progress: the output is the same, and a terminal is as it was at the end.
 
 use crate::tests::commands::{long_file, sizes_of};
 use crate::tests::facts::expect_true;
@@ -12,14 +12,14 @@ use std::process::Abort;
 use std::sync::Wait;
 use std::thread::Threads;
 
-// A long run, of which something may be shown.
+// The jobs of a long run, of which something may be shown.
 const JOBS: u64 = 2_500;
 
-// What wipes the line.
+// The bytes that wipe the line.
 const WIPE: &str = "\r                               \r";
 
-// A run by two dispatchers of this file, which shows its progress on this terminal unless it is quiet,
-// writes all of this.
+// Expects that a run of this file by two dispatchers writes all of this. It shows its progress on
+// this terminal unless it is quiet.
 fn expect_run<H, P>(rt: &H, is_quiet: bool, input: &[u8], wanted: &[u8], terminal: &mut Option<P>)
 where
     H: AllocGlobal + Abort + Threads + Wait + Clone + Send + Sync + 'static,
@@ -42,8 +42,8 @@ where
     );
 }
 
-// A long run, which shows its progress on this terminal unless it is quiet. It writes all replies, and
-// the terminal is given back.
+// Makes a long run, which shows its progress on this terminal unless it is quiet. It writes all
+// replies, and the terminal is given back.
 fn run_on_terminal<H, P>(rt: &H, is_quiet: bool, terminal: P) -> Option<P>
 where
     H: AllocGlobal + Abort + Threads + Wait + Clone + Send + Sync + 'static,
@@ -55,7 +55,8 @@ where
     terminal
 }
 
-// Whether a terminal is there, and what it shows is nothing or ends with what wipes the line.
+// Returns whether a terminal is there, and what it shows is nothing or ends with what wipes the
+// line.
 fn is_wiped(shown: Option<Vec<u8>>) -> bool {
     match shown {
         Some(text) => text.is_empty() | text.as_slice().ends_with(WIPE.as_bytes()),
@@ -63,7 +64,7 @@ fn is_wiped(shown: Option<Vec<u8>>) -> bool {
     }
 }
 
-// Whether a terminal is there, and nothing is shown on it.
+// Returns whether a terminal is there, and nothing is shown on it.
 fn is_blank(shown: Option<Vec<u8>>) -> bool {
     match shown {
         Some(text) => text.is_empty(),

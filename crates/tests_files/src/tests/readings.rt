@@ -20,7 +20,7 @@ const COMMANDS: &[u8] = b"command,name,dim\n";
 
 const CALLS: &[u8] = b"station,call,arg\n";
 
-// The jobs of a file.
+// Returns the jobs of a file.
 fn jobs_of(rt: &(impl AllocGlobal + Abort), n: u32, input: &[u8]) -> Vec<Job> {
     expect_lane(rt, n, 0);
     let mut reader = Counted::new(input);
@@ -45,13 +45,13 @@ fn reads_jobs(rt: HostRuntime) {
     );
 }
 
-// Whether a job has one item, and that item is this.
+// Returns whether a job has one item, and that item is this.
 fn is_of(job: &Job, item: Option<&u64>) -> bool {
     let items = job.items();
     (items.len() == 1) & (items.first() == item)
 }
 
-// The jobs of a lane have these items, one each.
+// Expects that the jobs of a lane have these items, one each.
 fn expect_items(rt: &impl Abort, jobs: &VecDeque<Job>, wanted: &[u64]) {
     expect_true(rt, jobs.len() == wanted.len());
     for (place, job) in jobs.iter().enumerate() {
@@ -59,19 +59,20 @@ fn expect_items(rt: &impl Abort, jobs: &VecDeque<Job>, wanted: &[u64]) {
     }
 }
 
-// The jobs of a file for a machine of dimension 3, lane by lane.
+// Returns the jobs of a file for a machine of dimension 3, lane by lane.
 fn lanes_of(alloc: Global, input: &[u8]) -> Result<Vec<VecDeque<Job>>, Fault> {
     read_lanes(alloc, 3, &mut Counted::new(input))
 }
 
-// How many lanes a file for a machine of dimension 3 has, and how many jobs an observer saw.
+// Returns how many lanes a file for a machine of dimension 3 has, and how many jobs an observer
+// saw.
 fn lanes_and_jobs(alloc: Global, input: &[u8]) -> Result<(usize, u64), Fault> {
     let mut reader = Counted::new(input);
     let (lanes, count) = read_lanes_with(alloc, 3, RecordCount::new(), &mut reader)?;
     Ok((lanes.len(), count.seen))
 }
 
-// The items of the jobs of a lane in the file of five jobs, one each.
+// Returns the items of the jobs of a lane in the file of five jobs, one each.
 fn items_of_lane(lane: usize) -> &'static [u64] {
     match lane {
         0 => &[6],
@@ -81,7 +82,7 @@ fn items_of_lane(lane: usize) -> &'static [u64] {
     }
 }
 
-// There are 16 lanes, of these jobs.
+// Expects that there are 16 lanes, of these jobs.
 fn expect_lanes(rt: &impl Abort, lanes: &[VecDeque<Job>]) {
     expect_true(rt, lanes.len() == 16);
     for (lane, jobs) in lanes.iter().enumerate() {
@@ -105,20 +106,20 @@ fn reads_lanes(rt: HostRuntime) {
     );
 }
 
-// The reply to a job of a file, the first of its lane.
+// Returns the reply to a job of a file, the first of its lane.
 fn first_answered(job: Job) -> Reply {
     let lane = job.lane();
     answered(job, JobId { lane, seq: 0 })
 }
 
-// Whether the file of these replies is this.
+// Returns whether the file of these replies is this.
 pub(crate) fn writes(rt: &(impl AllocGlobal + Abort), replies: Vec<Reply>, wanted: &[u8]) -> bool {
     let mut writer = Counted::new(Vec::new(rt.alloc()));
     let answer = write_rows(rt.alloc(), replies, &mut writer);
     (answer == Ok(())) & (writer.failures() == 0) & (writer.get_ref().as_slice() == wanted)
 }
 
-// The replies to the jobs of a file.
+// Returns the replies to the jobs of a file.
 fn replies_to(rt: &(impl AllocGlobal + Abort), n: u32, input: &[u8]) -> Vec<Reply> {
     let mut replies = Vec::new(rt.alloc());
     for job in jobs_of(rt, n, input) {
@@ -127,22 +128,23 @@ fn replies_to(rt: &(impl AllocGlobal + Abort), n: u32, input: &[u8]) -> Vec<Repl
     replies
 }
 
-// These records of jobs, for a machine of dimension `n`, have replies with these records.
+// Expects that these records of jobs, for a machine of dimension `n`, have replies with these
+// records.
 fn expect_answer(rt: &(impl AllocGlobal + Abort), n: u32, records: &str, wanted: &str) {
     let replies = replies_to(rt, n, &joined(rt, JOBS, records.as_bytes()));
     let wanted = joined(rt, REPLIES, wanted.as_bytes());
     expect_true(rt, writes(rt, replies, &wanted));
 }
 
-// Each row is the dimension of a machine, records of jobs for it and the records of their replies.
-// The records are of as many lanes as there are records.
+// Expects what each row says. A row is the dimension of a machine, records of jobs for it and the
+// records of their replies. The records are of as many lanes as there are records.
 fn expect_replies(rt: &(impl AllocGlobal + Abort), rows: &[(u32, &str, &str)]) {
     for (n, records, wanted) in rows {
         expect_answer(rt, *n, records, wanted);
     }
 }
 
-// Jobs of each kind. Each row is as those of `expect_replies`.
+// Jobs of each kind. The rows are those of `expect_replies`.
 static ANSWERS: [(u32, &str, &str); 9] = [
     (3, "", ""),
     (
@@ -184,7 +186,7 @@ fn answers_jobs(rt: HostRuntime) {
     expect_replies(&rt, &ANSWERS);
 }
 
-// Jobs of each operation. Each row is as those of `expect_replies`.
+// Jobs of each operation. The rows are those of `expect_replies`.
 static OPERATIONS: [(u32, &str, &str); 11] = [
     (2, "0,scan,add,0,5 3 9 4\n", "0,0,scan,2,5 8 17 21,2,8\n"),
     (2, "0,scan,min,0,5 3 9 4\n", "0,0,scan,2,5 3 3 3,2,8\n"),
@@ -211,7 +213,7 @@ fn answers_all_operations(rt: HostRuntime) {
 
 const REPLY: &str = "0,0,allreduce,1,3 3,1,2\n";
 
-// One job, spelt in several ways. Each row is as those of `expect_replies`.
+// One job, spelt in several ways. The rows are those of `expect_replies`.
 static SPELLINGS: [(u32, &str, &str); 5] = [
     (3, "\"0\",allreduce,add,0,\"1 2\"\n", REPLY),
     (3, "0,allreduce,add,0,1 2", REPLY),
@@ -227,7 +229,7 @@ fn reads_what_csv_reads(rt: HostRuntime) {
     expect_true(&rt, jobs_of(&rt, 3, marked).len() == 1);
 }
 
-// Whether a file, for a machine of dimension 3, has these commands.
+// Returns whether a file, for a machine of dimension 3, has these commands.
 fn has_commands(alloc: Global, input: &[u8], wanted: &[Command]) -> bool {
     let mut reader = Counted::new(input);
     match read_place(alloc, 3, &mut reader) {
@@ -236,7 +238,7 @@ fn has_commands(alloc: Global, input: &[u8], wanted: &[Command]) -> bool {
     }
 }
 
-// Each of these texts of records is that of these commands.
+// Expects that each of these texts of records is that of these commands.
 fn expect_commands(rt: &(impl AllocGlobal + Abort), texts: &[&[u8]], wanted: &[Command]) {
     for records in texts {
         let input = joined(rt, COMMANDS, records);
@@ -244,7 +246,7 @@ fn expect_commands(rt: &(impl AllocGlobal + Abort), texts: &[&[u8]], wanted: &[C
     }
 }
 
-// The name that this text is.
+// Returns the name that has this text.
 pub(crate) fn name_of(rt: &impl Abort, text: &[u8]) -> Name {
     Name::new(text).expect(rt, "a name")
 }
@@ -267,7 +269,7 @@ fn reads_commands(rt: HostRuntime) {
     );
 }
 
-// Whether a file has these calls.
+// Returns whether a file has these calls.
 fn has_calls(alloc: Global, input: &[u8], wanted: &[Line]) -> bool {
     let mut reader = Counted::new(input);
     match read_schedule(alloc, &mut reader) {
@@ -276,7 +278,7 @@ fn has_calls(alloc: Global, input: &[u8], wanted: &[Line]) -> bool {
     }
 }
 
-// A file of these records has these calls.
+// Expects that a file of these records has these calls.
 fn expect_calls(rt: &(impl AllocGlobal + Abort), records: &[u8], wanted: &[Line]) {
     expect_true(
         rt,

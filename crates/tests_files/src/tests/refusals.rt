@@ -14,7 +14,7 @@ const COMMANDS: &[u8] = b"command,name,dim\n";
 
 const CALLS: &[u8] = b"station,call,arg\n";
 
-// What a file holds.
+// The format of a file.
 #[derive(Clone, Copy)]
 enum Format {
     Jobs,
@@ -22,7 +22,7 @@ enum Format {
     Calls,
 }
 
-// The fault of a file, for a machine of dimension 3, if it has one.
+// Returns the fault of a file, for a machine of dimension 3, if it has one.
 fn fault_of(alloc: Global, format: Format, input: &[u8]) -> Option<Fault> {
     let mut reader = Counted::new(input);
     match format {
@@ -32,12 +32,13 @@ fn fault_of(alloc: Global, format: Format, input: &[u8]) -> Option<Fault> {
     }
 }
 
-// Whether a file of this format has this fault.
+// Returns whether a file of this format has this fault.
 fn has_fault(alloc: Global, format: Format, input: &[u8], row: u64, what: FaultKind) -> bool {
     fault_of(alloc, format, input) == Some(Fault { row, what })
 }
 
-// A file that begins with this head and ends with any of these texts has this fault at this record.
+// Expects that a file that begins with this head and ends with any of these texts has this fault at
+// this record.
 fn expect_faults(
     rt: &(impl AllocGlobal + Abort),
     format: Format,
@@ -281,7 +282,7 @@ fn reports_the_first_fault(rt: HostRuntime) {
     expect_faults(&rt, Format::Commands, &head, 2, rows);
 }
 
-// A file of one command more than are read.
+// Returns a file of one command more than a file may have.
 fn too_many(rt: &(impl AllocGlobal + Abort)) -> Vec<u8> {
     let mut text = Vec::new(rt.alloc());
     add(rt, &mut text, COMMANDS);
@@ -301,14 +302,14 @@ fn refuses_too_many(rt: HostRuntime) {
     );
 }
 
-// Whether a fault tells whether a reader has failed: it is a failed read where one has, and else there
-// is none.
+// Returns whether a fault says whether a reader has failed. It must be a failed read if one has,
+// and there must be none otherwise.
 fn tells(fault: Option<Fault>, has_failed: bool) -> bool {
     let (row, what) = (0, FaultKind::Read);
     ((fault == Some(Fault { row, what })) == has_failed) & ((fault == None) != has_failed)
 }
 
-// Whether a reader that fails at this call has failed.
+// Returns whether a reader that fails at this call has failed.
 fn fails_to_read(rt: &(impl AllocGlobal + Abort), calls: u64) -> bool {
     let text = b"command,name,dim\ntake,a,1\nfree,a,-\n".as_slice();
     let mut reader = Counted::new(FailsAt::new(text, calls));
@@ -318,8 +319,8 @@ fn fails_to_read(rt: &(impl AllocGlobal + Abort), calls: u64) -> bool {
     failed
 }
 
-// How many reads there are, each of which is reported where it fails. Zero where each of a thousand
-// fails.
+// Returns how many reads there are, each of which is reported if it fails. Returns 0 if each of a
+// thousand fails.
 fn reads(rt: &(impl AllocGlobal + Abort)) -> u64 {
     for calls in 0..1000 {
         if !fails_to_read(rt, calls) {

@@ -17,7 +17,7 @@ const UNIT: Affine = Affine { a: 1, b: 0 };
 // All of the maps of `maps`, joined.
 const ALL_MAPS: Affine = Affine { a: 12, b: 23 };
 
-// Four maps that do not commute.
+// Returns four maps that do not commute.
 fn maps() -> [Affine; 4]
     ensures { All IsAffineValue result }
 {
@@ -29,12 +29,12 @@ fn maps() -> [Affine; 4]
     ]
 }
 
-// Whether a collective took these rounds and messages.
+// Returns whether a collective took these rounds and messages.
 fn took(tally: Tally, rounds: u32, messages: u64) -> bool {
     tally == Tally { rounds, messages }
 }
 
-// Whether these are values, and these two joined are this one.
+// Returns whether these are values, and the first two joined are the third.
 fn joins<M: Monoid + PartialEq>(left: M, right: M, joined: M) -> bool {
     left.is_value() && right.is_value() && left.join(right) == joined
 }
@@ -57,7 +57,7 @@ fn joined(rt: HostRuntime) {
     );
 }
 
-// Whether this is the unit.
+// Returns whether this is the unit.
 fn is_unit<M: Monoid + PartialEq>(unit: M) -> bool {
     M::unit() == unit
 }
@@ -92,7 +92,7 @@ fn values(rt: HostRuntime) {
     );
 }
 
-// Whether a broadcast of these items leaves them so, with these rounds and messages.
+// Returns whether a broadcast of these items leaves them so, with these rounds and messages.
 fn broadcasts<M: Copy + PartialEq>(
     items: &mut [M],
     k: u32,
@@ -126,7 +126,7 @@ fn broadcast_from_one(rt: HostRuntime) {
     );
 }
 
-// Whether a reduction of these items leaves them so, with these rounds and messages.
+// Returns whether a reduction of these items leaves them so, with these rounds and messages.
 fn reduces<M: Monoid + PartialEq>(
     items: &mut [M],
     k: u32,
@@ -156,7 +156,7 @@ fn reduce_to_one(rt: HostRuntime) {
     );
 }
 
-// Whether an all-reduce of these items leaves them so, with these rounds and messages.
+// Returns whether an all-reduce of these items leaves them so, with these rounds and messages.
 fn all_reduces<M: Monoid + PartialEq>(
     items: &mut [M],
     k: u32,
@@ -183,8 +183,8 @@ fn all_reduce_to_all(rt: HostRuntime) {
     );
 }
 
-// Whether a scan of these items leaves them so and their total at each place of the scratch, with
-// these rounds and messages.
+// Returns whether a scan of these items leaves them so, and their total at each place of the
+// scratch, with these rounds and messages.
 fn scans<M: Monoid + PartialEq>(
     items: &mut [M],
     scratch: &mut [M],
@@ -202,7 +202,7 @@ fn scans<M: Monoid + PartialEq>(
     took(scan(items, scratch, k), rounds, messages) & (*items == *after) & (*scratch == *totals)
 }
 
-// The numbers from 1 to 8.
+// Returns the numbers from 1 to 8.
 fn one_to_eight() -> [Add; 8]
     ensures { All IsU64 result }
 {
@@ -218,7 +218,7 @@ fn one_to_eight() -> [Add; 8]
     ]
 }
 
-// The sums of the first numbers, up to and with each place.
+// Returns the sums of the first numbers, up to and with each place.
 fn sums() -> [Add; 8] {
     [
         Add::new(1),
@@ -254,8 +254,8 @@ fn scan_of_all(rt: HostRuntime) {
     );
 }
 
-// Whether an exclusive scan of these items leaves them so and their total at each place of the
-// scratch, with these rounds and messages.
+// Returns whether an exclusive scan of these items leaves them so, and their total at each place of
+// the scratch, with these rounds and messages.
 fn exscans<M: Monoid + PartialEq>(
     items: &mut [M],
     scratch: &mut [M],
@@ -273,7 +273,7 @@ fn exscans<M: Monoid + PartialEq>(
     took(exscan(items, scratch, k), rounds, messages) & (*items == *after) & (*scratch == *totals)
 }
 
-// The sums of the numbers before each place.
+// Returns the sums of the numbers before each place.
 fn sums_before() -> [Add; 8] {
     [
         Add::new(0),
@@ -340,7 +340,7 @@ fn one_place(rt: HostRuntime) {
     );
 }
 
-// Whether these items, padded for a cube of this dimension, are these.
+// Returns whether these items, padded for a machine of this dimension, are the wanted ones.
 fn pads<M: Monoid + PartialEq>(
     rt: &(impl AllocGlobal + Abort),
     items: &[M],
@@ -373,7 +373,7 @@ fn units_past_the_items(rt: HostRuntime) {
     );
 }
 
-// Whether the message of this number goes in this round between these ranks.
+// Returns whether the message of this number goes in this round between these ranks.
 fn sends(shape: Shape, k: u32, root: u64, number: u64, round: u32, from: u64, to: u64) -> bool
     requires dim { k < DIM_LIMIT }
     requires root { root < 2 ^ k }

@@ -14,7 +14,7 @@ use jobs_csv::{
 use std::io::Write;
 use std::process::Abort;
 
-// Puts a row behind these lines, and writes them out where that is asked.
+// Adds a row after these lines, and writes them out if that is asked.
 fn push_row<T: Row, W: Write>(
     rt: &impl Abort,
     lines: LineBuffer,
@@ -45,7 +45,8 @@ fn write_text<T: Row, W: Write>(
     lines.finish(writer)
 }
 
-// These rows are written under their header, where the buffer is written out once, or after each too.
+// Expects that these rows are written under their header. The buffer is written out once, or after
+// each row too.
 fn expect_written<T: Row>(
     rt: &(impl AllocGlobal + Abort),
     rows: &[T],
@@ -62,7 +63,8 @@ fn expect_written<T: Row>(
     );
 }
 
-// These rows are written under their header, whether the buffer is written out once or after each.
+// Expects that these rows are written under their header, whether the buffer is written out once or
+// after each.
 fn expect_text<T: Row>(rt: &(impl AllocGlobal + Abort), rows: &[T], wanted: &str) {
     expect_written(rt, rows, false, wanted);
     expect_written(rt, rows, true, wanted);
@@ -153,7 +155,7 @@ fn writes_reports(rt: HostRuntime) {
     );
 }
 
-// The row of an event.
+// Returns the row of an event.
 fn made_row(station: u64, kind: Kind, node: u64, word: u64, note: Note) -> ReplayRow {
     ReplayRow::Made {
         event: Event {
@@ -166,7 +168,7 @@ fn made_row(station: u64, kind: Kind, node: u64, word: u64, note: Note) -> Repla
     }
 }
 
-// The row of a refused call.
+// Returns the row of a refused call.
 fn refused(station: u64, node: Option<u64>, why: Refused) -> ReplayRow {
     ReplayRow::Refused { station, node, why }
 }
@@ -275,8 +277,8 @@ fn write_many<W: Write>(
     Ok(lines)
 }
 
-// A buffer of 65,536 bytes is full: 180,000 bytes go out in two pieces, and the rest at the end. So two
-// full buffers are written before the end, and no third one.
+// A buffer of 65,536 bytes is full: 180,000 bytes are written in two pieces, and the rest at the
+// end. So two full buffers are written before the end, and no third one.
 #[test]
 fn writes_out_full_buffers(rt: HostRuntime) {
     let mut writer = Counted::new(Vec::new(rt.alloc()));
@@ -297,7 +299,7 @@ fn writes_out_full_buffers(rt: HostRuntime) {
 // Two replies.
 static TWO: [(u32, u64, &[u64]); 2] = [(1, 0, &[5, 6]), (1, 1, &[5, 6])];
 
-// A write of replies whose writer fails at this call, with an error or by taking nothing. Returns
+// Writes replies to a writer that fails at this call, with an error or by taking nothing. Returns
 // whether the writer failed.
 fn fails_to_write(rt: &(impl AllocGlobal + Abort), calls: u64, gives_zero: bool) -> bool {
     let device = FailsAt {
@@ -313,7 +315,7 @@ fn fails_to_write(rt: &(impl AllocGlobal + Abort), calls: u64, gives_zero: bool)
     failed
 }
 
-// Fourteen writes fail, each where its call does, and then a flush where it may fail.
+// Expects that fourteen writes fail, each at its call, and then a flush if it may fail.
 fn expect_failures(rt: &(impl AllocGlobal + Abort), gives_zero: bool) {
     for calls in 0..14 {
         expect_true(rt, fails_to_write(rt, calls, gives_zero));
@@ -329,7 +331,7 @@ fn reports_a_failed_write(rt: HostRuntime) {
     expect_failures(&rt, true);
 }
 
-// This many replies of lane 1, each to a broadcast of its own number.
+// Returns this many replies of lane 1, each to a broadcast of its own number.
 fn many_replies(rt: &(impl AllocGlobal + Abort), count: u64) -> Vec<Reply> {
     let mut replies = Vec::new(rt.alloc());
     for seq in 0..count {
@@ -341,7 +343,7 @@ fn many_replies(rt: &(impl AllocGlobal + Abort), count: u64) -> Vec<Reply> {
     replies
 }
 
-// Whether this many replies are written.
+// Returns whether this many replies are written.
 fn writes_many(rt: &(impl AllocGlobal + Abort), count: u64) -> bool {
     let wanted = replies_text(rt, "1", "broadcast", true, count);
     writes(rt, many_replies(rt, count), wanted.as_bytes())

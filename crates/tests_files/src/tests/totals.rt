@@ -1,4 +1,5 @@
-//! The totals and the report of a shop that has answered three jobs, and the words of a few machines.
+//! The totals and the report of a dispatcher that has run three jobs, and the words of a few
+//! machines.
 
 ghost use Rattle.std.specs.Prelude.{◌≡◌, ◌^◌, ◌+◌, ◌≤◌, IfOk, length};
 ghost use Rattle.floors.specs.Floor.{IsWhollyFree};
@@ -18,10 +19,10 @@ use jobs_csv::ReportRow;
 use std::alloc::{AllocError, Global};
 use std::process::Abort;
 
-// What is asked for is the greatest of some numbers.
+// The collective that is asked for: the greatest of some numbers.
 const GREATEST: Kind = Kind::Scan { op: Op::Max };
 
-// The replies of each worker.
+// Returns the replies of each worker.
 fn by_worker(
     rt: &(impl AllocGlobal + Abort),
     workers: &[&[(u32, u64, &[u64])]],
@@ -33,7 +34,7 @@ fn by_worker(
     by_worker
 }
 
-// One reply of the first worker, one of the third and one of the rest.
+// Returns one reply of the first worker, one of the third and one of the rest.
 fn finished(rt: &(impl AllocGlobal + Abort)) -> Finished<()> {
     let workers: &[&[(u32, u64, &[u64])]] = &[&[(1, 0, &[5, 6])], &[], &[(0, 0, &[2, 9, 4])]];
     Finished {
@@ -44,7 +45,8 @@ fn finished(rt: &(impl AllocGlobal + Abort)) -> Finished<()> {
     }
 }
 
-// Whether these totals count so many jobs on so many processors, of which so many were idle.
+// Returns whether these totals count this number of jobs on this number of processors, with this
+// number of idle ones.
 fn are(totals: Totals, jobs: u64, processors: u128, idle: u128) -> bool {
     totals
         == Totals {
@@ -54,7 +56,7 @@ fn are(totals: Totals, jobs: u64, processors: u128, idle: u128) -> bool {
         }
 }
 
-// What a ledger counts together: a lane, a dimension, or all.
+// The part that a ledger counts: a lane, a dimension, or all.
 #[derive(Clone, Copy)]
 enum Part {
     Lane(u32),
@@ -62,7 +64,7 @@ enum Part {
     All,
 }
 
-// What a ledger counts of a part.
+// Returns what a ledger counts of a part.
 fn counted(ledger: &Ledger, part: Part) -> Totals {
     match part {
         Part::Lane(lane) => ledger.lane(lane),
@@ -71,25 +73,27 @@ fn counted(ledger: &Ledger, part: Part) -> Totals {
     }
 }
 
-// Each of these parts of a ledger has so many jobs on so many processors, of which so many were idle.
+// Expects that each of these parts of a ledger has its numbers of jobs, of processors and of idle
+// ones.
 fn expect_totals(rt: &impl Abort, ledger: &Ledger, rows: &[(Part, u64, u128, u128)]) {
     for (part, jobs, processors, idle) in rows {
         expect_true(rt, are(counted(ledger, *part), *jobs, *processors, *idle));
     }
 }
 
-// The ledger of a finished shop.
+// Returns the ledger of a finished dispatcher.
 fn ledger_of(rt: &(impl AllocGlobal + Abort), finished: &Finished<()>) -> Ledger {
     Ledger::of(rt.alloc(), finished).expect(rt, "no memory")
 }
 
-// Whether the slip of a reply has this id, this region and so many idle processors.
+// Returns whether the slip of a reply has this id, this block and this number of idle processors.
 fn is_slip(reply: &Reply, id: JobId, region: Region, idle: u64) -> bool {
     let slip = Slip::of(reply);
     (slip.id == id) & (slip.region == region) & (slip.idle == idle)
 }
 
-// The first of these replies is the second of lane 1, on the whole machine, with three idle processors.
+// Expects that the first of these replies is the second of lane 1, on the whole machine, with three
+// idle processors.
 fn expect_slip(rt: &impl Abort, replies: &[Reply]) {
     let reply = replies.first().expect(rt, "a reply");
     let (id, region) = (JobId { lane: 1, seq: 1 }, Region { base: 0, dim: 3 });
@@ -117,7 +121,7 @@ fn totals_of_three_replies(rt: HostRuntime) {
     expect_totals(&rt, &ledger_of(&rt, &finished), &TOTALS);
 }
 
-// What these words say of the regions of their machine.
+// Returns what these words say of the blocks of their machine.
 fn said(n: u32, words: &[u64]) -> Occupancy
     requires machine { n ≤ MAX_DIM }
     requires words { length words.now ≡ 2 ^ (n + 1) }
@@ -125,13 +129,14 @@ fn said(n: u32, words: &[u64]) -> Occupancy
     occupancy(n, words)
 }
 
-// Whether so many free regions of a dimension are those of its place in a list, and none past its end.
+// Returns whether this number of free blocks of a dimension is that of its place in a list, and 0
+// past its end.
 fn is_free(count: u64, free: &[u64], dim: usize) -> bool {
     count == free.get(dim).copied().unwrap_or(0)
 }
 
-// The machine with these words has these free regions, by dimension, and none of a higher
-// dimension.
+// Expects that the machine with these words has these free blocks, by dimension, and none of a
+// higher dimension.
 fn expect_occupancy(
     rt: &impl Abort,
     n: u32,
@@ -166,7 +171,7 @@ fn occupancy_of_small_machines(rt: HostRuntime) {
     expect_occupancy(&rt, 1, &[u64::MAX, 256, 0, 256], &[2, 1], 0, Some(1));
 }
 
-// What is left of a floor that gave nothing out.
+// Returns what is left of an allocator that gave nothing out.
 fn free_machine<F: Floor>(alloc: Global, n: u32) -> Result<F::Machine, AllocError>
     requires { n ≤ MAX_DIM }
     ensures { IfOk result (λ machine. IsWhollyFree n (F.machine_words machine)) }
@@ -175,7 +180,8 @@ fn free_machine<F: Floor>(alloc: Global, n: u32) -> Result<F::Machine, AllocErro
     Ok(floor.close(stations))
 }
 
-// The rows of a shop with two lanes and a floor that gave nothing out, and with these replies.
+// Returns the rows of a dispatcher with two lanes and an allocator that gave nothing out, and with
+// these replies.
 fn rows_of<F: Floor>(
     rt: &(impl AllocGlobal + Abort),
     by_worker: Vec<Vec<Reply>>,
@@ -194,14 +200,15 @@ where
     report_rows::<F>(alloc, 3, &finished).expect(rt, "no memory")
 }
 
-// The rows of a shop with two lanes that answered two jobs by its workers and one at its end.
+// Returns the rows of a dispatcher with two lanes. Its workers ran two jobs, and one ran at its
+// end.
 fn rows(rt: &(impl AllocGlobal + Abort)) -> Vec<ReportRow> {
     let by_worker = by_worker(rt, &[&[(1, 0, &[5, 6]), (0, 0, &[2, 9, 4])]]);
     let rest = replies_to(rt, GREATEST, &[(1, 1, &[8, 1])]);
     rows_of::<LockedFloor>(rt, by_worker, rest)
 }
 
-// The rows are these.
+// Expects that the rows are these.
 fn expect_rows(rt: &(impl AllocGlobal + Abort), wanted: &[ReportRow]) {
     expect_true(rt, rows(rt).as_slice() == wanted);
 }

@@ -22,7 +22,7 @@ const BAD_JOBS: &[u8] = b"lane,kind,op,root,items\n0,allreduce,add,0,1 2 3 4\n0,
 
 const OLD: &str = "old\n";
 
-// The words of a line, with a space between two of them.
+// Returns the words of a line, with a space between two of them.
 fn words_of(rt: &(impl AllocGlobal + Abort), line: &str) -> Vec<String> {
     let mut words = Vec::new(rt.alloc());
     for word in line.split(' ') {
@@ -35,7 +35,8 @@ fn words_of(rt: &(impl AllocGlobal + Abort), line: &str) -> Vec<String> {
     words
 }
 
-// How the program ends, what it writes on standard output and on standard error, and how much of standard input it leaves.
+// How the program ends, what it writes on standard output and on standard error, and how much of
+// standard input it leaves.
 #[derive(Drop)]
 struct Ended {
     ending: Ending,
@@ -44,7 +45,7 @@ struct Ended {
     unread: usize,
 }
 
-// The program with these words over a store.
+// Runs the program with these words over a store.
 fn run_over<H, S: FileStore>(rt: &H, line: &str, store: &mut S) -> Ended
 where
     H: AllocGlobal + Abort + Threads + Wait + Clone + Send + Sync + 'static,
@@ -70,14 +71,17 @@ where
     }
 }
 
-// Whether the program with these words, over this file `jobs.csv` and an older `new.csv`, ends so, asks for this number of drafts,
-// leaves these bytes in `new.csv` and says this on standard error. It touches neither standard input nor output.
+// Returns whether the program with these words ends so, over this file `jobs.csv` and an older
+// `new.csv`.
+//
+// It begins this number of temporary files, leaves these bytes in `new.csv` and says this on
+// standard error. It touches neither standard input nor output.
 fn ends<H>(
     rt: &H,
     line: &str,
     jobs: &[u8],
     ending: Ending,
-    drafts: u64,
+    temp_files: u64,
     left: &str,
     said: &str,
 ) -> bool
@@ -88,14 +92,14 @@ where
     let mut store = TwoFiles::new(rt.alloc(), "jobs.csv", jobs, "new.csv", old);
     let ended = run_over(rt, line, &mut store);
     (ended.ending == ending)
-        & (store.drafts() == drafts)
+        & (store.temp_files() == temp_files)
         & (store.written() == left.as_bytes())
         & (ended.errors.as_slice() == said.as_bytes())
         & ended.out.is_empty()
         & (ended.unread == OLD.len())
 }
 
-// A file that could not be had, which is reported.
+// Returns a file that could not be opened or replaced, which is reported.
 fn no_file(side: FileSide, reason: FileReason) -> Ending {
     Ending::FileFailed {
         fault: FileFault { side, reason },

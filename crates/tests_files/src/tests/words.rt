@@ -1,4 +1,4 @@
-//! What good command lines ask for. Bad ones and the helps are seen by running the program.
+//! What good command lines ask for. Bad ones and the helps are tested by running the program.
 
 use crate::tests::commands::sizes_of;
 use crate::tests::facts::expect_true;
@@ -16,12 +16,12 @@ const REPLAY: Invocation = Invocation::Replay {
     stations: MAX_STATIONS,
 };
 
-// A text of its own that is this one.
+// Returns a new text with these characters.
 fn a_text(rt: &(impl AllocGlobal + Abort), text: &str) -> String {
     text.to_string(rt.alloc()).expect(rt, "no memory")
 }
 
-// The words of a line, with a space between two of them.
+// Returns the words of a line, with a space between two of them.
 fn words_of(rt: &(impl AllocGlobal + Abort), line: &str) -> Vec<String> {
     let mut words = Vec::new(rt.alloc());
     for word in line.split(' ') {
@@ -30,12 +30,12 @@ fn words_of(rt: &(impl AllocGlobal + Abort), line: &str) -> Vec<String> {
     words
 }
 
-// What the words of a line ask for.
+// Returns what the words of a line ask for.
 fn ask(rt: &(impl AllocGlobal + Abort), line: &str) -> Option<Request> {
     parse_args(rt.alloc(), &words_of(rt, line)).ok()
 }
 
-// The name of a file, where there is one.
+// Returns the name of a file, if there is one.
 fn a_name(rt: &(impl AllocGlobal + Abort), name: &str) -> Option<String> {
     if name.is_empty() {
         return None;
@@ -43,7 +43,7 @@ fn a_name(rt: &(impl AllocGlobal + Abort), name: &str) -> Option<String> {
     Some(a_text(rt, name))
 }
 
-// Whether a line asks for this, with files of these names. The name of no file is empty.
+// Returns whether a line asks for this, with files of these names. The name of no file is empty.
 fn asks_for(
     rt: &(impl AllocGlobal + Abort),
     line: &str,
@@ -58,14 +58,15 @@ fn asks_for(
     ask(rt, line) == Some(Request { invocation, files })
 }
 
-// Each of these lines asks for this, with files of these names.
+// Expects that each of these lines asks for this, with files of these names.
 fn expect_lines(rt: &(impl AllocGlobal + Abort), rows: &[(&str, Invocation, &str, &str)]) {
     for (line, wanted, input, output) in rows {
         expect_true(rt, asks_for(rt, line, *wanted, input, output));
     }
 }
 
-// A line of `run` or `report` with no file: whether it is a report, the sizes of its shop, and whether it is quiet.
+// A line of `run` or `report` with no file. The others are whether it is a report, the sizes of its
+// dispatcher, and whether it is quiet.
 type ShopLine = (&'static str, bool, u32, u32, usize, bool);
 
 static SHOP_LINES: [ShopLine; 8] = [
@@ -107,7 +108,7 @@ static SHOP_LINES: [ShopLine; 8] = [
     ),
 ];
 
-// Each of these lines asks for its command with its sizes.
+// Expects that each of these lines asks for its command with its sizes.
 fn expect_shops(rt: &(impl AllocGlobal + Abort), rows: &[ShopLine]) {
     for (line, is_report, dim, dispatchers, capacity, is_quiet) in rows {
         let options = ShopOptions {

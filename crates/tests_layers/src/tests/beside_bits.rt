@@ -1,4 +1,4 @@
-//! The running tree with all stations in one hand beside the allocation bits.
+//! A comparison of the allocation bits with the tree, whose stations are all in one caller's hands.
 
 ghost use Rattle.std.specs.Prelude.{◌≤◌};
 ghost use Rattle.cube_tree.specs.Solo.{solo_dim};
@@ -12,14 +12,14 @@ use std::test::Fail;
 
 const STATIONS: u32 = 12;
 
-// The first number of the stream, and the rest of it.
+// Returns the next number of a linear congruential generator, with the constants of MMIX.
 fn next(stream: u64) -> u64 {
     stream
         .wrapping_mul(6_364_136_223_846_793_005)
         .wrapping_add(1_442_695_040_888_963_407)
 }
 
-// A take of the tree: the station and its region.
+// Takes a block of the tree. Returns the station and its block.
 fn tree_take(solo: &mut Solo, k: u32) -> Result<(u32, Option<Region>), SoloRefused>
     requires { k ≤ solo_dim solo.old }
 {
@@ -29,7 +29,8 @@ fn tree_take(solo: &mut Solo, k: u32) -> Result<(u32, Option<Region>), SoloRefus
     }
 }
 
-// A take of the bits by the lowest station that holds nothing, with the answer that the tree would give.
+// Takes a block of the bits for the lowest station that holds none. Returns the result in the form
+// of `tree_take`.
 fn bits_take(bits: &mut AllocBits, k: u32) -> Result<(u32, Option<Region>), SoloRefused>
     requires { k ≤ bits.old.dim }
 {
@@ -44,7 +45,7 @@ fn bits_take(bits: &mut AllocBits, k: u32) -> Result<(u32, Option<Region>), Solo
     Err(SoloRefused::NoStation)
 }
 
-// The region of a station of the tree, which is given back.
+// Releases the block of a station of the tree. Returns this block.
 fn tree_release(solo: &mut Solo, station: u32) -> Option<Region> {
     let station = station as usize;
     let region = solo.region(station);
@@ -54,7 +55,8 @@ fn tree_release(solo: &mut Solo, station: u32) -> Option<Region> {
     region
 }
 
-// The region of a station of the bits, and the one that is given back.
+// Releases the block of a station of the bits. Returns the block that the station held, and the one
+// that was released.
 fn bits_release(bits: &mut AllocBits, station: u32) -> (Option<Region>, Option<Region>) {
     let region = bits.region(station);
     match bits.release(station) {
@@ -63,18 +65,19 @@ fn bits_release(bits: &mut AllocBits, station: u32) -> (Option<Region>, Option<R
     }
 }
 
-// Whether a take of both has one answer.
+// Takes a block of both. Returns whether the results are equal.
 fn takes_agree(solo: &mut Solo, bits: &mut AllocBits, k: u32) -> bool {
     k <= solo.dim() && k <= bits.dim() && tree_take(solo, k) == bits_take(bits, k)
 }
 
-// Whether a release of both has one answer.
+// Releases a block of both. Returns whether the results are equal.
 fn releases_agree(solo: &mut Solo, bits: &mut AllocBits, station: u32) -> bool {
     let region = tree_release(solo, station);
     bits_release(bits, station) == (region, region)
 }
 
-// Whether so many takes and releases of both, by a stream of numbers, have one answer each.
+// Makes `count` pseudo-random takes and releases of both. Returns whether the results are equal
+// each time.
 fn agree(solo: &mut Solo, bits: &mut AllocBits, count: u32) -> bool {
     let mut stream = 1u64;
     for _ in 0..count {

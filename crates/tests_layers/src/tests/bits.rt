@@ -1,4 +1,5 @@
-//! First fit over bits, and first fit and release of stations, on small machines.
+//! Tests of the allocation bits on small machines: first fit over bits, and takes and releases of
+//! stations.
 
 ghost use Rattle.std.specs.Prelude.{◌≡◌, ◌≤◌, length};
 
@@ -9,7 +10,7 @@ use region_bits::{clear_all, clear_region, first_fit, set_region};
 use std::alloc::Global;
 use std::process::Abort;
 
-// Whether this is the first fit in a machine of dimension 3.
+// Returns whether this is the first fit in a machine of dimension 3.
 fn fits(bits: &[bool], k: u32, region: Option<Region>) -> bool
     requires dim { k ≤ 3 }
     requires bits { length bits.now ≡ 8 }
@@ -17,7 +18,7 @@ fn fits(bits: &[bool], k: u32, region: Option<Region>) -> bool
     first_fit(bits, 3, k) == region
 }
 
-// The first two processors of a machine of dimension 3 are given.
+// Sets the bits of the first two processors of a machine of dimension 3.
 fn give_pair(bits: &mut [bool])
     requires { length bits.old ≡ 8 }
     ensures { length bits.new ≡ 8 }
@@ -25,7 +26,7 @@ fn give_pair(bits: &mut [bool])
     set_region(bits, 3, Region { base: 0, dim: 1 });
 }
 
-// They are taken back.
+// Clears these two bits again.
 fn take_pair_back(bits: &mut [bool])
     requires { length bits.old ≡ 8 }
     ensures { length bits.new ≡ 8 }
@@ -48,9 +49,9 @@ fn the_first_fit_is_the_first_clear_region(rt: HostRuntime) {
     expect_all(&rt, &[full, clear, behind, half, whole, again]);
 }
 
-// A line of a schedule: a take of a station and a dimension, with the base of the region; a release
-// of a station; the holder of a processor; the region of a station; whether a station holds one, and
-// whether none does.
+// A line of a schedule. `Takes` has a station, a dimension, and the base of the block. `GivesBack`
+// releases the block of a station. The others say the holder of a processor, the block of a
+// station, whether a station holds one, and whether no station does.
 enum Row {
     Takes(u32, u32, Option<u64>),
     GivesBack(u32, Result<Region, NothingHeld>),
@@ -60,7 +61,8 @@ enum Row {
     IsWhollyFree(bool),
 }
 
-// Whether a station, which may hold nothing, gets a region of dimension `k` with this base.
+// Takes a block of dimension `k` for a station. Returns whether it gets the block with this base.
+// With `None`, returns whether it gets none or holds one already.
 fn takes(machine: &mut AllocBits, station: u32, k: u32, base: Option<u64>) -> bool {
     if station >= MAX_STATIONS || k > machine.dim() {
         return false;
@@ -74,7 +76,7 @@ fn takes(machine: &mut AllocBits, station: u32, k: u32, base: Option<u64>) -> bo
     }
 }
 
-// A machine of this dimension has to go as these lines say, from the first to the last.
+// Asserts that a new machine of this dimension does what the lines say, in order.
 fn plays(rt: &impl Abort, alloc: Global, n: u32, rows: &[Row])
     requires { n ≤ MAX_DIM }
 {
@@ -82,7 +84,7 @@ fn plays(rt: &impl Abort, alloc: Global, n: u32, rows: &[Row])
     expect_all(rt, &[machine.dim() == n, follows(&mut machine, rows)]);
 }
 
-// Whether the machine goes as this line says.
+// Plays one line. Returns whether the machine does what it says.
 fn goes(machine: &mut AllocBits, row: &Row) -> bool {
     match row {
         Row::Takes(station, k, base) => takes(machine, *station, *k, *base),
@@ -94,7 +96,7 @@ fn goes(machine: &mut AllocBits, row: &Row) -> bool {
     }
 }
 
-// Whether the machine goes as these lines say.
+// Plays the lines in order. Returns whether the machine does what each says.
 fn follows(machine: &mut AllocBits, rows: &[Row]) -> bool {
     for row in rows {
         if !goes(machine, row) {

@@ -1,4 +1,4 @@
-//! Each caller once; the results are worked out by hand.
+//! Tests of callers from `uses`. The results are worked out by hand.
 
 ghost use Rattle.std.specs.Prelude.{All};
 ghost use Rattle.uses.specs.Extent.{IsExtentValue};
@@ -23,7 +23,7 @@ fn two_regions_are_apart(rt: HostRuntime) -> Result<(), Fail> {
     Ok(())
 }
 
-// The extents of four numbers, each alone.
+// Returns the extent of each of four numbers.
 fn extents() -> [Extent; 4]
     ensures { All IsExtentValue result }
 {
@@ -58,7 +58,7 @@ fn every_rank_has_the_extent_of_all(rt: HostRuntime) {
     assert!(rt; extents == [all; 4]);
 }
 
-// Station 0 holds node 2, the lower half, so station 1 finds it occupied and is idle again.
+// Station 0 holds the lower half, so station 1 finds this half in use and is idle again.
 #[test]
 fn a_schedule_leaves_lawful_holdings(rt: HostRuntime) -> Result<(), Fail> {
     let world = play(
@@ -102,7 +102,8 @@ fn a_file_has_two_jobs(rt: HostRuntime) {
     );
 }
 
-// Whether both processors of a machine of two were held at the same moment, and the machine is whole.
+// Returns whether both processors of a machine of two were held at the same moment, and the machine
+// is free in the end. Aborts if a station is still out.
 fn held_both(
     rt: &impl Abort,
     held: Option<(Region, Region)>,
@@ -115,7 +116,7 @@ fn held_both(
     }
 }
 
-// On a machine of two processors each station gets one, and both together are the machine.
+// Two stations hold one processor each of a machine of two, at the same moment.
 #[test]
 fn two_subcubes_are_apart(rt: HostRuntime) {
     let (cube, first, second) = opened_pair(&rt, rt.alloc(), 1);
@@ -123,17 +124,17 @@ fn two_subcubes_are_apart(rt: HostRuntime) {
     assert!(rt; held_both(&rt, held, end));
 }
 
-// Whether a take on a machine of dimension 2 or 3 has this answer.
+// Takes a block of dimension `k`. Returns whether the result is this one.
 fn takes(solo: &mut Solo, k: u32, answer: Result<usize, SoloRefused>) -> bool {
     k <= solo.dim() && solo.take(k) == answer
 }
 
-// Whether there is room for a region of dimension `k`, as is said.
+// Returns whether `has_room` gives this answer for dimension `k`.
 fn room_is(solo: &mut Solo, k: u32, room: bool) -> bool {
     k <= solo.dim() && has_room(solo, k) == room
 }
 
-// Three processors of four are held, so there is room for one more and for no pair.
+// With three of four processors held, there is room for one more and for no block of two.
 #[test]
 fn one_processor_is_left(rt: HostRuntime) {
     let mut solo = made(&rt, rt.alloc(), 2, 4);
@@ -152,7 +153,7 @@ fn one_processor_is_left(rt: HostRuntime) {
     );
 }
 
-// Whether the words of a machine of dimension 3 say this.
+// Returns whether the words of a machine of dimension 3 show this occupancy.
 fn words_say(solo: &Solo, free: [u64; 4], held: u64, largest: u32) -> bool {
     if solo.dim() != 3 {
         return false;
@@ -161,7 +162,7 @@ fn words_say(solo: &Solo, free: [u64; 4], held: u64, largest: u32) -> bool {
     said.free.starts_with(free.as_slice()) && said.held == held && said.largest == Some(largest)
 }
 
-// What the words of a machine in one hand say of its free regions.
+// The words of a machine in one caller's hands show how many blocks of each dimension are free.
 #[test]
 fn the_words_in_one_hand_say_what_is_free(rt: HostRuntime) {
     let mut solo = made(&rt, rt.alloc(), 3, 4);

@@ -1,4 +1,4 @@
-//! Takes and releases of stations on one thread, refused openings, and closings.
+//! Tests of the tree on one thread: takes and releases of stations, refused openings, and closings.
 
 ghost use Rattle.std.specs.Prelude.{◌≡◌, ◌+◌, ◌<◌, ◌≤◌, [], All, IfOk, IfErr, vec_len, vec_capacity};
 ghost use Rattle.cube_shape.specs.Node.{IsInCube};
@@ -18,7 +18,7 @@ use cube_tree::{
 use std::alloc::Global;
 use std::process::Abort;
 
-// A cube and its stations, or why there is none.
+// Opens a machine with its stations, or returns why it cannot.
 fn open(alloc: Global, n: u32, stations: u32) -> Result<(Cube, Vec<TreeStation>), CubeRefused>
     ensures size { IfOk result (λ made. cube_size made.0 ≡ size_with n stations) }
     ensures count { IfOk result (λ made. vec_len made.1 ≡ stations) }
@@ -28,7 +28,7 @@ fn open(alloc: Global, n: u32, stations: u32) -> Result<(Cube, Vec<TreeStation>)
     Cube::open(alloc, n, stations)
 }
 
-// A machine of dimension `n` with its stations.
+// Opens a machine of dimension `n` with its stations.
 pub(super) fn opened(
     rt: &impl Abort,
     alloc: Global,
@@ -43,7 +43,7 @@ pub(super) fn opened(
     open(alloc, n, stations).expect(rt, "no memory")
 }
 
-// The last station of the list, which has to have this number.
+// Takes the last station out of the list. Aborts unless it has this number.
 fn last(rt: &impl Abort, cube: &Cube, list: &mut Vec<TreeStation>, number: u32) -> TreeStation
     requires of_cube { All (IsStationOf cube.now) list.old.items }
     requires some { 0 < vec_len list.old }
@@ -56,7 +56,7 @@ fn last(rt: &impl Abort, cube: &Cube, list: &mut Vec<TreeStation>, number: u32) 
     station
 }
 
-// A machine of dimension `n` with two stations, the first of them and the second.
+// Opens a machine of dimension `n`. Returns it with its first and its second station.
 pub(super) fn opened_pair(
     rt: &impl Abort,
     alloc: Global,
@@ -73,7 +73,7 @@ pub(super) fn opened_pair(
     (cube, first, second)
 }
 
-// A try to take the region of a node.
+// Tries to take the block of a node.
 fn try_node(cube: &Cube, station: TreeStation, node: u64) -> Result<Subcube, (TreeStation, Why)>
     requires cube { IsStationOf cube.now station }
     requires node { IsInCube (cube_dim cube.now) node }
@@ -83,7 +83,7 @@ fn try_node(cube: &Cube, station: TreeStation, node: u64) -> Result<Subcube, (Tr
     station.try_node(cube, Node(node))
 }
 
-// A try to take any region of dimension `k`.
+// Tries to take any block of dimension `k`.
 fn try_take(cube: &Cube, station: TreeStation, k: u32) -> Result<Subcube, (TreeStation, Refusal)>
     requires cube { IsStationOf cube.now station }
     requires dim { k ≤ cube_dim cube.now }
@@ -93,7 +93,7 @@ fn try_take(cube: &Cube, station: TreeStation, k: u32) -> Result<Subcube, (TreeS
     station.try_take(cube, k)
 }
 
-// A search that passes over what is under an occupied node.
+// Searches for a block of dimension `k`, and skips what is under an occupied node.
 fn search(cube: &Cube, station: TreeStation, k: u32) -> Result<Subcube, (TreeStation, Refusal)>
     requires cube { IsStationOf cube.now station }
     requires dim { k ≤ cube_dim cube.now }
@@ -103,7 +103,7 @@ fn search(cube: &Cube, station: TreeStation, k: u32) -> Result<Subcube, (TreeSta
     station.search(cube, k)
 }
 
-// The subcube that was given, which has to be this region.
+// Returns the block that was taken. Aborts if it is another one, or none.
 fn given<W: Copy>(
     rt: &impl Abort,
     cube: &Cube,
@@ -123,7 +123,7 @@ fn given<W: Copy>(
     }
 }
 
-// The station that was refused, which has to be for this reason.
+// Returns the station that was refused. Aborts if it got a block, or the reason is another one.
 fn refused<W: Copy + PartialEq>(
     rt: &impl Abort,
     cube: &Cube,
@@ -142,7 +142,7 @@ fn refused<W: Copy + PartialEq>(
     }
 }
 
-// A region of dimension `k`, which has to be this one.
+// Takes a block of dimension `k`. Aborts if it gets none, or one with another base.
 fn given_any(rt: &impl Abort, cube: &Cube, station: TreeStation, k: u32, base: u64) -> Subcube
     requires cube { IsStationOf cube.now station }
     requires dim { k ≤ cube_dim cube.now }
@@ -151,7 +151,7 @@ fn given_any(rt: &impl Abort, cube: &Cube, station: TreeStation, k: u32, base: u
     given(rt, cube, try_take(cube, station, k), base, k)
 }
 
-// A region of dimension `k` by such a search, which has to be this one.
+// Does the same by a search.
 fn found(rt: &impl Abort, cube: &Cube, station: TreeStation, k: u32, base: u64) -> Subcube
     requires cube { IsStationOf cube.now station }
     requires dim { k ≤ cube_dim cube.now }
@@ -160,7 +160,7 @@ fn found(rt: &impl Abort, cube: &Cube, station: TreeStation, k: u32, base: u64) 
     given(rt, cube, search(cube, station, k), base, k)
 }
 
-// Both subcubes, as they were.
+// Returns both blocks unchanged, after `apart` has shown that they do not overlap.
 fn both(cube: &Cube, a: Subcube, b: Subcube) -> (Subcube, Subcube)
     requires first { IsSubcubeOf cube.now a }
     requires second { IsSubcubeOf cube.now b }
@@ -170,7 +170,7 @@ fn both(cube: &Cube, a: Subcube, b: Subcube) -> (Subcube, Subcube)
     apart(a, b, cube)
 }
 
-// The station, which gives its region back.
+// Releases a block. Returns its station.
 fn released(cube: &Cube, subcube: Subcube) -> TreeStation
     requires { IsSubcubeOf cube.now subcube }
     ensures { IsStationOf cube.now result }
@@ -178,14 +178,14 @@ fn released(cube: &Cube, subcube: Subcube) -> TreeStation
     subcube.release(cube)
 }
 
-// The region is given back, and its station retires.
+// Releases a block and retires its station.
 fn leave(cube: &Cube, subcube: Subcube)
     requires { IsSubcubeOf cube.now subcube }
 {
     subcube.release(cube).retire(cube);
 }
 
-// The cube, which has to close.
+// Closes the machine. Aborts if a station has not retired.
 fn closed(rt: &impl Abort, cube: Cube) -> FreeMachine {
     match cube.close() {
         Ok(machine) => machine,
@@ -193,7 +193,7 @@ fn closed(rt: &impl Abort, cube: Cube) -> FreeMachine {
     }
 }
 
-// The cube, which has to be given back with these stations missing.
+// Tries to close the machine. Aborts unless it comes back with this mask of missing stations.
 fn still_open(rt: &impl Abort, cube: Cube, out: u64) -> Cube
     ensures { IsSameCube cube result }
 {
@@ -206,12 +206,11 @@ fn still_open(rt: &impl Abort, cube: Cube, out: u64) -> Cube
     }
 }
 
-// Whether each node of the machine is free.
+// Returns whether each node of the machine is free.
 pub(super) fn is_free(machine: &FreeMachine) -> bool {
     machine.words().iter().skip(1).all(|word| *word == 0)
 }
 
-// Whether the machine has these words at its end.
 fn has_words(machine: &FreeMachine, words: &[u64]) -> bool {
     machine.words() == words
 }
@@ -293,11 +292,11 @@ fn a_search_peeks_at_what_refused_an_earlier_one(rt: HostRuntime) {
     let is_marked = cube.word(2) != 7;
     let first = given(&rt, &cube, try_node(&cube, released(&cube, first), 2), 0, 1);
     let is_anew = cube.word(2) == 7;
-    // No further search makes one, for a processor or for a half.
+    // No later search leaves a mark, neither for a processor nor for a half.
     let second = found(&rt, &cube, released(&cube, second), 0, 2);
     let second = found(&rt, &cube, released(&cube, second), 1, 2);
     let is_unmarked = cube.word(2) == 7;
-    // The half is free again, and is searched again.
+    // The half is free again, so the next search tries it.
     let first = released(&cube, first);
     let second = found(&rt, &cube, released(&cube, second), 0, 0);
     first.retire(&cube);
@@ -317,7 +316,7 @@ fn a_cube_with_a_station_out_is_given_back(rt: HostRuntime) {
     assert!(rt; has_words(&closed(&rt, cube), &[3, 0, 0, 0]));
 }
 
-// Whether no cube of this size is opened, for this reason.
+// Returns whether no machine of this size is opened, for this reason.
 fn is_refused(rt: &impl Abort, alloc: Global, n: u32, stations: u32, reason: CubeRefused) -> bool {
     match open(alloc, n, stations) {
         Ok(_) => panic!(rt; "the cube is opened"),
@@ -325,7 +324,7 @@ fn is_refused(rt: &impl Abort, alloc: Global, n: u32, stations: u32, reason: Cub
     }
 }
 
-// Each station of the list takes a processor: the first one that is free.
+// Takes the first free processor for each station of the list.
 fn take_all(rt: &impl Abort, cube: &Cube, list: &mut Vec<TreeStation>, held: &mut Vec<Subcube>)
     requires stations { All (IsStationOf cube.now) list.old.items }
     requires empty { held.old.items ≡ [] }
@@ -339,7 +338,7 @@ fn take_all(rt: &impl Abort, cube: &Cube, list: &mut Vec<TreeStation>, held: &mu
     }
 }
 
-// All is given back, and all stations retire.
+// Releases all blocks and retires all stations.
 fn give_all_back(cube: &Cube, held: &mut Vec<Subcube>)
     requires { All (IsSubcubeOf cube.now) held.old.items }
     ensures { vec_len held.new ≡ 0 }

@@ -1,4 +1,4 @@
-//! What a test asks of all that it found, of what it made, and of what it waits for.
+//! Assertions that tests share, and waiting for a count.
 ghost use Rattle.std.specs.Prelude.{◌≡◌, Ok};
 
 use std::alloc::Global;
@@ -9,12 +9,12 @@ use std::sync::atomic::AtomicU64;
 use std::sync::atomic::Ordering::SeqCst;
 use std::thread::yield_now;
 
-/// All of these have to hold.
+/// Asserts all of these facts.
 pub(crate) fn expect_all(rt: &impl Abort, facts: &[bool]) {
     assert!(rt; facts.iter().all(|it| *it));
 }
 
-/// Each value has to show as its text.
+/// Asserts that each value is shown as its text.
 pub(crate) fn expect_texts<T: Display>(rt: &impl Abort, alloc: Global, rows: &[(T, &str)]) {
     for (value, text) in rows {
         let shown = format!(in alloc; "{value}").expect(rt, "no memory");
@@ -22,7 +22,7 @@ pub(crate) fn expect_texts<T: Display>(rt: &impl Abort, alloc: Global, rows: &[(
     }
 }
 
-/// Waits until the count is so high.
+/// Waits until the count is at least `least`.
 pub(crate) fn await_count<R: Wait>(rt: &R, count: &AtomicU64, least: u64) {
     for _ in rt.forever() {
         if count.load(SeqCst) >= least {
@@ -33,7 +33,7 @@ pub(crate) fn await_count<R: Wait>(rt: &R, count: &AtomicU64, least: u64) {
     unreachable!()
 }
 
-/// What was made, for which there has to be memory.
+/// Returns what was made. Aborts if there was no memory for it.
 pub(crate) fn made<T, E: Debug>(rt: &impl Abort, it: Result<T, E>) -> T
     ensures { it ≡ Ok result }
 {

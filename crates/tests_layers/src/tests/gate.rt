@@ -1,4 +1,4 @@
-//! Steps at a gate of two lanes and one pass, by hand.
+//! Tests of the steps at a gate of two lanes and one pass, on one thread.
 ghost use Rattle.std.specs.Prelude.{◌≡◌, ◌+◌, ◌<◌, ◌≤◌, None, Some, true, false, length, MatchResult};
 ghost use Rattle.line_gate.specs.Record.{lanes_from, passes_from, fresh_lane, IsSettled};
 
@@ -11,7 +11,7 @@ use line_gate::{
 use std::alloc::Global;
 use std::process::Abort;
 
-// Nothing outside the gate was found.
+// A token that shows nothing: there is no queue here that a pop could find empty.
 pub(crate) struct Nothing(());
 
 impl Witness for Nothing {
@@ -20,7 +20,7 @@ impl Witness for Nothing {
     }
 }
 
-// What the test says of an entry's push.
+// The outcome of an entry's push, which the test chooses.
 pub(crate) struct Said(Entered);
 
 impl Pushed for Said {
@@ -39,7 +39,8 @@ const COUNTS: Counts = Counts {
     passes: 1,
 };
 
-// Settles or undoes what came of an entry: its number, or the count that a late one found.
+// Settles an entry, or undoes a late one. Returns the entry's number, or the count that the late
+// one found.
 fn leave(
     gate: &TestGate,
     lane: &mut GateLane,
@@ -68,7 +69,8 @@ fn leave(
     }
 }
 
-// What the pass reads.
+// Reads both words by the pass: the number of settled entries, then the count of entries with the
+// closed mark.
 pub(crate) fn read(gate: &TestGate, pass: &mut GatePass) -> (u64, EntryCount)
     requires { pass.old.gate ≡ gate.now.table }
     ensures { pass.new.gate ≡ gate.now.table }
@@ -78,7 +80,7 @@ pub(crate) fn read(gate: &TestGate, pass: &mut GatePass) -> (u64, EntryCount)
     (settled, counted)
 }
 
-// The members of a gate, each in a place of its own.
+// The handles of a gate, each in a field of its own.
 pub(crate) struct Table {
     pub first: GateLane,
     pub second: GateLane,
@@ -106,7 +108,7 @@ fn deal(gate: &TestGate, mut members: GateMembers) -> Table
     }
 }
 
-// A new gate, and its members.
+// Opens a gate with its handles.
 pub(crate) fn opened<R: Abort>(rt: &R, alloc: Global) -> (TestGate, Table)
     ensures counts { result.0.counts ≡ record { lanes = 2; passes = 1 } }
     ensures lanes { (result.1.first.gate ≡ result.0.table)
@@ -135,7 +137,7 @@ pub(crate) fn end(gate: TestGate, members: (GateLane, GateLane, GatePass), note:
     gate.end(end);
 }
 
-// One entry, which is settled, or undone where it is late.
+// Makes an entry and settles it, or undoes it if it is late.
 pub(crate) fn go_through(gate: &TestGate, lane: &mut GateLane, full: bool) -> Result<u64, u64>
     requires gate { lane.old.gate ≡ gate.now.table }
     requires settled { IsSettled lane.old.known }
@@ -148,7 +150,7 @@ pub(crate) fn go_through(gate: &TestGate, lane: &mut GateLane, full: bool) -> Re
     leave(gate, lane, entry, full)
 }
 
-// The same, and what the pass reads while it is pending.
+// Does the same. Also returns what the pass reads while the entry is pending.
 fn go_through_seen(
     gate: &TestGate,
     lane: &mut GateLane,
@@ -167,7 +169,7 @@ fn go_through_seen(
     (leave(gate, lane, entry, full), pending)
 }
 
-// The same with the close before the reading.
+// Does the same with an entry that finds the queue full. Closes the gate before the pass reads.
 fn close_inside(
     gate: &TestGate,
     lane: &mut GateLane,
@@ -188,7 +190,7 @@ fn close_inside(
     (leave(gate, lane, entry, true), unsettled, note)
 }
 
-// What the lane sees of the close.
+// Looks at the gate by the lane. Returns the count of entries if the gate is closed.
 fn look(gate: &TestGate, lane: &mut GateLane) -> Option<u64>
     requires gate { lane.old.gate ≡ gate.now.table }
     requires settled { IsSettled lane.old.known }
@@ -199,16 +201,18 @@ fn look(gate: &TestGate, lane: &mut GateLane) -> Option<u64>
     gate.look(lane)
 }
 
-// What entries give and what is read meanwhile.
+// The results of three entries, and what is read meanwhile.
 #[derive(Drop)]
 struct Steps {
-    // What comes of an entry whose push is accepted, of one that finds the line full, and of one around the close.
+    // The results of an entry that is accepted, of one that finds the queue full, and of one around
+    // the close.
     entries: [Result<u64, u64>; 3],
-    // What the pass reads before the first, inside it, after the second, inside the last, and after it.
+    // What the pass reads before the first entry, inside it, after the second, inside the last, and
+    // after it.
     read: [(u64, EntryCount); 5],
-    // What each lane sees after the second, and the second lane at the end.
+    // What each lane sees after the second entry, and what the second lane sees at the end.
     looks: [Option<u64>; 3],
-    // The number of the note.
+    // The close number.
     number: u64,
 }
 
@@ -238,7 +242,8 @@ fn enter_and_read<R: Abort>(rt: &R, alloc: Global) -> Steps {
     }
 }
 
-// Whether a pass has read this: how many entries are settled, how many there are, and whether the gate is closed.
+// Returns whether the pass read these counts of settled entries and of all entries, and this closed
+// mark.
 fn is_read(read: (u64, EntryCount), settled: u64, entries: u64, closed: bool) -> bool {
     let (found, count) = read;
     (found == settled) & (count.entries == entries) & (count.closed == closed)
@@ -266,14 +271,14 @@ fn entries_and_readings(rt: HostRuntime) {
     );
 }
 
-// What two late entries find, which are made and taken back one after the other.
+// What two late entries find. Both are made, and then they are undone one after the other.
 #[derive(Drop)]
 struct Late {
     // The counts that they find.
     found: [Result<u64, u64>; 2],
-    // What the pass reads while both are there, and once none is.
+    // What the pass reads while both are there, and after both are undone.
     read: [(u64, EntryCount); 2],
-    // What the first lane sees once its own is taken back.
+    // What the first lane sees after its own is undone.
     look: Option<u64>,
 }
 
@@ -305,8 +310,8 @@ fn enter_late(
     }
 }
 
-// What the first lane sees at the start, what comes of an entry then, and the number of the note; and what two late
-// entries find.
+// Makes an entry, closes the gate, and makes two late entries. Returns what the first lane sees at
+// the start, the result of the entry, the close number, and what the late entries find.
 fn enter_after_close<R: Abort>(
     rt: &R,
     alloc: Global,

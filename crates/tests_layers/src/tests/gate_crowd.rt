@@ -1,4 +1,5 @@
-//! Two lanes race with the close of their gate: each makes one entry after it, and takes that back.
+//! A test of two lanes that race with the close of their gate. Each makes one entry after the close
+//! and undoes it.
 ghost use Rattle.std.specs.Prelude.{◌≡◌, [], None, Some, IsSome, IsSomeAnd, MatchResult};
 ghost use Rattle.std.specs.List.{All};
 ghost use Rattle.line_gate.specs.Record.{IsSettled};
@@ -13,7 +14,7 @@ use std::sync::atomic::AtomicU64;
 use std::sync::atomic::Ordering::SeqCst;
 use std::thread::{Threads, for_each_mut};
 
-// What the lanes count: entries before the close, and those that came late and were taken back.
+// The counts of the lanes' entries before the close, and of late entries that were undone.
 #[derive(Drop)]
 struct Board {
     entered: AtomicU64,
@@ -21,7 +22,7 @@ struct Board {
 }
 
 impl Board {
-    // Counts what came of an entry: whether it was late.
+    // Counts the result of an entry. Returns whether the entry was late.
     fn count(&self, outcome: Result<u64, u64>) -> bool {
         match outcome {
             Ok(_) => {
@@ -36,7 +37,7 @@ impl Board {
     }
 }
 
-// Enters and settles until an entry comes after the close, and takes that one back.
+// Makes and settles entries until one comes after the close, and undoes that one.
 fn enter_until_late<R: Wait>(rt: &R, gate: &TestGate, lane: &mut GateLane, board: &Board)
     requires gate { lane.old.gate ≡ gate.now.table }
     requires settled { IsSettled lane.old.known }
@@ -54,7 +55,7 @@ fn enter_until_late<R: Wait>(rt: &R, gate: &TestGate, lane: &mut GateLane, board
     unreachable!()
 }
 
-// Closes the gate once fifty entries were made.
+// Closes the gate after at least fifty entries.
 fn close_late<R: Wait>(
     rt: &R,
     gate: &TestGate,
@@ -77,10 +78,10 @@ fn close_late<R: Wait>(
     }
 }
 
-// One of those that race: a lane, or what closes the gate, with the note that comes of it.
+// A member of the race: a lane, or the closer, which leaves a close note.
 type Member = Result<GateLane, (Option<GateCloser>, Option<GateNote>)>;
 
-// What the thread of a member does: it enters, or it closes the gate.
+// Does the part of a member: makes entries, or closes the gate.
 fn work<R: Wait>(rt: &R, gate: &TestGate, member: &mut Member, board: &Board)
     requires { MatchResult member.old
         (λ lane. (lane.gate ≡ gate.now.table) × IsSettled lane.known × (lane.known.entries ≡ []))
@@ -95,7 +96,7 @@ fn work<R: Wait>(rt: &R, gate: &TestGate, member: &mut Member, board: &Board)
     }
 }
 
-// All at once, each on a thread of its own.
+// Runs all members at once, each on a thread of its own.
 fn run<R: Threads + Wait + Sync>(rt: &R, gate: &TestGate, members: &mut [Member], board: &Board)
     requires { All (λ member. MatchResult member
         (λ lane. (lane.gate ≡ gate.now.table) × IsSettled lane.known × (lane.known.entries ≡ []))
@@ -119,7 +120,7 @@ fn run<R: Threads + Wait + Sync>(rt: &R, gate: &TestGate, members: &mut [Member]
     );
 }
 
-// The note, once the closer is spent.
+// Returns the close note, after the closer was used.
 fn spent(closer: Option<GateCloser>, note: Option<GateNote>) -> GateNote
     requires closer { closer ≡ None }
     requires note { IsSome note }
@@ -133,7 +134,7 @@ fn spent(closer: Option<GateCloser>, note: Option<GateNote>) -> GateNote
     }
 }
 
-// The lane that a member is.
+// Returns the lane of a member. Aborts if the member is not a lane.
 fn lane_of(rt: &impl Abort, gate: &TestGate, member: Member) -> GateLane
     requires { MatchResult member
         (λ lane. (lane.gate ≡ gate.now.table) × IsSettled lane.known)
@@ -148,7 +149,7 @@ fn lane_of(rt: &impl Abort, gate: &TestGate, member: Member) -> GateLane
     }
 }
 
-// The note that came of the member that closed the gate.
+// Returns the close note of a member. Aborts if the member is a lane.
 fn note_of(rt: &impl Abort, gate: &TestGate, member: Member) -> GateNote
     requires { MatchResult member
         (λ lane. (lane.gate ≡ gate.now.table) × IsSettled lane.known)
@@ -162,7 +163,7 @@ fn note_of(rt: &impl Abort, gate: &TestGate, member: Member) -> GateNote
     }
 }
 
-// What is left of a gate once both lanes have entered, while one more thread closed it.
+// Runs both lanes while a third thread closes the gate. Returns the lanes and the close note.
 fn race<R: Threads + Wait + Abort + Sync>(
     rt: &R,
     gate: &TestGate,

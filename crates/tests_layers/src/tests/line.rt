@@ -1,4 +1,5 @@
-//! Each line by its contract alone: scripts by hand, and a run on threads.
+//! Tests of whole queues through the contract `JobLine` alone: scripts by hand, and one run on
+//! threads.
 ghost use Rattle.std.specs.Prelude.{◌≡◌, ◌<◌, ◌≤◌, [], IfOk};
 ghost use Rattle.std.specs.Vec.{vec_capacity};
 
@@ -19,8 +20,7 @@ use uses::line_run::{Finished, run};
 
 pub(crate) const JOBS: usize = 100;
 
-// What comes of a job that is handed in, which comes back where it is refused: `LaneSpent` for one that is
-// not for this line and lane.
+// Submits a job. A refused job comes back, with `LaneSpent` if it is not for this queue and lane.
 pub(crate) fn hand_in<R: Wait, L: JobLine>(
     rt: &R,
     line: &L,
@@ -37,7 +37,7 @@ pub(crate) fn hand_in<R: Wait, L: JobLine>(
     line.submit(rt, lane, job)
 }
 
-// The receipt of a job, or why it was refused.
+// Returns the receipt of a job, or the reason of its refusal.
 fn outcome(answer: Result<Receipt, (Job, Refused)>) -> Result<Receipt, Refused> {
     match answer {
         Ok(receipt) => Ok(receipt),
@@ -45,12 +45,12 @@ fn outcome(answer: Result<Receipt, (Job, Refused)>) -> Result<Receipt, Refused> 
     }
 }
 
-// What is done at a line of two lanes and two passes, and what comes of it.
+// A call of a queue of two lanes and two passes, with the result that it should have.
 #[derive(Clone, Copy)]
 enum Row {
-    // The first lane hands in a job.
+    // The first lane submits a job.
     First(Result<Receipt, Refused>),
-    // The second lane hands in a job.
+    // The second lane submits a job.
     Second(Result<Receipt, Refused>),
     // The first pass takes the job at the front.
     TakeFirst(JobId),
@@ -58,7 +58,7 @@ enum Row {
     TakeSecond(JobId),
 }
 
-// Hands in a new job of the lane of this number: whether this comes of it.
+// Submits a new job of the lane with this number. Returns whether the result is this one.
 fn gives<R: Wait + Abort, L: JobLine>(
     rt: &R,
     alloc: Global,
@@ -76,7 +76,7 @@ fn gives<R: Wait + Abort, L: JobLine>(
     outcome(hand_in(rt, line, lane, job)) == due
 }
 
-// Takes the job at the front of the line: whether it is this one.
+// Takes the job at the front of the queue. Returns whether it has this id.
 fn takes<R: Wait, L: JobLine>(rt: &R, line: &L, pass: &mut L::Pass, due: JobId) -> bool
     requires { L.is_pass (L.id line.now) pass.old }
     ensures { L.is_pass (L.id line.now) pass.new }
@@ -84,7 +84,7 @@ fn takes<R: Wait, L: JobLine>(rt: &R, line: &L, pass: &mut L::Pass, due: JobId) 
     matches!(line.take(rt, pass), Taken::Job(id, _) if id == due)
 }
 
-// What is left of a line of two lanes and two passes.
+// Ends a queue of two lanes and two passes. Returns the jobs left in it.
 fn end<R: Wait, L: JobLine>(
     rt: &R,
     line: L,
@@ -104,7 +104,7 @@ fn end<R: Wait, L: JobLine>(
     line.into_rest(rt, lanes, passes, note)
 }
 
-// A line of two lanes and two passes, which are out of their lists.
+// A queue of two lanes and two passes, with its handles out of their lists.
 struct Hand<L: JobLine> {
     line: L,
     lanes: Pair<L::Lane>,
@@ -129,7 +129,7 @@ impl<L: JobLine> Model for Hand<L> {
 }
 
 impl<L: JobLine> Hand<L> {
-    // A new line with room for so many jobs, and what closes it.
+    // Opens a queue of this capacity. Returns it with its closer.
     fn open(alloc: Global, capacity: usize) -> Result<(Self, L::Closer), AllocError>
         requires { (0 < capacity) × (capacity ≤ MAX_CAPACITY) }
         ensures { IfOk result (λ made. L.is_closer made.0 made.1) }
@@ -154,7 +154,7 @@ impl<L: JobLine> Hand<L> {
         Ok((hand, closer))
     }
 
-    // Does what a row says: whether that comes of it.
+    // Makes the call of a row. Returns whether it has the row's result.
     fn plays<R: Wait + Abort>(&mut self, rt: &R, alloc: Global, row: Row) -> bool
         ensures { self.new ≡ self.old }
     {
@@ -166,7 +166,8 @@ impl<L: JobLine> Hand<L> {
         }
     }
 
-    // What the hints of the line are: whether a job looks waiting, and whether half of the places look free.
+    // Returns the hints of the queue: whether a job looks waiting, and whether half of the places
+    // look free.
     fn hints<R: Wait>(&mut self, rt: &R) -> (bool, bool)
         ensures { self.new ≡ self.old }
     {
@@ -174,7 +175,7 @@ impl<L: JobLine> Hand<L> {
         (has_job, self.line.room_hint(rt, &mut self.lanes.first))
     }
 
-    // Does what the rows say: whether that comes of each.
+    // Makes the calls of all rows. Returns whether each has its row's result.
     fn plays_all<R: Wait + Abort>(&mut self, rt: &R, alloc: Global, rows: &[Row]) -> bool
         ensures { self.new ≡ self.old }
     {
@@ -186,18 +187,19 @@ impl<L: JobLine> Hand<L> {
     }
 }
 
-// Whether the jobs have these ids, in order.
+// Returns whether the jobs have these ids, in order.
 fn have_ids(jobs: &VecDeque<QueuedJob>, ids: &[JobId]) -> bool {
     jobs.iter().map(|queued| queued.id).eq(ids.iter().copied())
 }
 
-// Whether so many jobs of each lane were accepted, and these are left.
+// Returns whether this number of jobs of each lane was accepted, and these are left.
 fn is_left(rest: &Rest, accepted: [u64; 2], left: &[JobId]) -> bool {
     have_ids(&rest.jobs, left) & (rest.accepted.as_slice() == accepted.as_slice())
 }
 
-// Whether this comes of the rows before the close of a new line and of those after it, with this close number, so many
-// accepted jobs of each lane, and these jobs left.
+// Makes the calls of `before` on a new queue, closes it, makes those of `after`, and ends it.
+// Returns whether each call has its row's result, and these are the close number, the accepted
+// counts, and the jobs left.
 fn plays<R: Wait + Abort, L: JobLine>(
     rt: &R,
     alloc: Global,
@@ -224,7 +226,7 @@ fn plays<R: Wait + Abort, L: JobLine>(
     is_so_before & is_number & is_so_after & is_left(&rest, accepted, left)
 }
 
-// The same has to be so of both lines.
+// Asserts the same of both queues.
 fn play<R: Wait + Abort>(
     rt: &R,
     alloc: Global,
@@ -245,12 +247,12 @@ fn play<R: Wait + Abort>(
     );
 }
 
-// The id of a lane's job.
+// Returns the id of a lane's job.
 fn at(lane: u32, seq: u64) -> JobId {
     JobId { lane, seq }
 }
 
-// A lane's job is accepted, by the entry of this number.
+// Returns the result of a submission that is accepted as the entry of this number.
 fn accepted(lane: u32, seq: u64, number: u64) -> Result<Receipt, Refused> {
     Ok(Receipt {
         id: JobId { lane, seq },
@@ -258,7 +260,8 @@ fn accepted(lane: u32, seq: u64, number: u64) -> Result<Receipt, Refused> {
     })
 }
 
-// The first job is accepted, the second finds the line full, and the third finds it closed.
+// With room for one job, a second submission finds the queue full, and one after the close finds it
+// closed.
 #[test]
 fn close_against_submit(rt: HostRuntime) {
     play(
@@ -291,7 +294,7 @@ fn refusals_as_text(rt: HostRuntime) {
     );
 }
 
-// A line holds nothing, then three jobs that were handed in, and then the two that were not taken.
+// The jobs left at the end are those that were submitted and not taken, in order.
 #[test]
 fn jobs_wait_in_order(rt: HostRuntime) {
     play(&rt, rt.alloc(), 4, &[], &[], (0, [0, 0]), &[]);
@@ -324,12 +327,13 @@ fn jobs_wait_in_order(rt: HostRuntime) {
     );
 }
 
-// The hints of the line with no lock count the jobs in its ring: none, then three, then two, with room for four. So the
-// jobs wait in the ring, and not in a list beside it. Its inherent `close` takes no runtime.
+// The hints of the lock-free queue count the jobs in its ring, so jobs wait there and not in a list
+// beside it.
 #[test]
 fn the_ring_holds_the_jobs(rt: HostRuntime) {
     let alloc = rt.alloc();
     let (mut hand, closer) = made(&rt, Hand::<RuledLine>::open(alloc, 4));
+    // The queue holds no job, then three, then two, with room for four.
     let none = hand.hints(&rt);
     let are_accepted = hand.plays_all(
         &rt,
@@ -343,6 +347,7 @@ fn the_ring_holds_the_jobs(rt: HostRuntime) {
     let three = hand.hints(&rt);
     let is_taken = hand.plays(&rt, alloc, Row::TakeFirst(at(0, 0)));
     let two = hand.hints(&rt);
+    // The inherent `close` takes no runtime.
     let note = RuledLine::close(&hand.line, closer);
     let Hand {
         line,
@@ -363,7 +368,7 @@ fn the_ring_holds_the_jobs(rt: HostRuntime) {
     );
 }
 
-// The jobs of two lanes come out, and are left, in the order in which they came in.
+// Jobs of two lanes are taken, and are left at the end, in the order in which they came in.
 #[test]
 fn rest_stands_in_order(rt: HostRuntime) {
     play(
@@ -385,8 +390,8 @@ fn rest_stands_in_order(rt: HostRuntime) {
     );
 }
 
-// Whether the jobs of each lane stand in the order of their seqs, none of them seen before. Marks
-// them as seen.
+// Marks the jobs as seen. Returns whether none was seen before, and the jobs of each lane are in
+// the order of their seqs.
 pub(crate) fn are_new_and_rise(seen: &mut [[bool; JOBS]], taken: &[QueuedJob]) -> bool {
     let mut next = [0; 16];
     for queued in taken {
@@ -404,7 +409,7 @@ pub(crate) fn are_new_and_rise(seen: &mut [[bool; JOBS]], taken: &[QueuedJob]) -
     true
 }
 
-// Whether the passes took all jobs, each lane's in their order.
+// Returns whether the passes took all jobs, and each pass took the jobs of each lane in order.
 fn are_all_taken(finished: &Finished) -> bool {
     let (first, second) = &finished.taken;
     let mut seen = [[false; JOBS]; 2];

@@ -1,4 +1,5 @@
-//! Many threads at one line: lanes that race with its close, and passes that share a small line.
+//! Tests of whole queues with many threads: lanes that race with the close, and passes that share a
+//! small queue.
 ghost use Rattle.std.specs.Prelude.{◌≡◌, ◌<◌, ◌≤◌, ◌++◌, ◌∷◌, [], MatchResult};
 ghost use Rattle.std.specs.List.{All};
 
@@ -24,17 +25,18 @@ use uses::line_run::{CloserSlot, Naming, drain};
 // What the lanes of a run found.
 #[derive(Drop)]
 struct Found {
-    // How many jobs were accepted, how many found the line closed, and how many a spent lane.
+    // The numbers of jobs that were accepted, that found the queue closed, and that found their
+    // lane spent.
     accepted: AtomicU64,
     closed: AtomicU64,
     spent: AtomicU64,
     // The greatest number of a receipt, and the least count that was seen with the closed mark.
     last: AtomicU64,
     least_seen: AtomicU64,
-    // 1 once the line is closed, which is when so many jobs were accepted.
+    // 1 once the queue is closed, and the number of accepted jobs after which it is closed.
     is_closed: AtomicU64,
     closes_after: u64,
-    // Whether each lane keeps its last job until then.
+    // Whether each lane keeps its last job until the queue is closed.
     keeps_last: bool,
 }
 
@@ -52,14 +54,14 @@ impl Found {
         }
     }
 
-    // Waits until the line is closed, where each lane keeps its last job and this is the last one.
+    // Waits until the queue is closed, if each lane keeps its last job and this is the last one.
     fn await_turn<R: Wait>(&self, rt: &R, is_last: bool) {
         if self.keeps_last && is_last {
             await_count(rt, &self.is_closed, 1);
         }
     }
 
-    // Counts what came of a submit: the job, where it is to be handed in again.
+    // Counts the result of a submission. Returns the job if it has to be submitted again.
     fn count(&self, answer: Result<Receipt, (Job, Refused)>) -> Option<Job> {
         match answer {
             Ok(receipt) => {
@@ -84,14 +86,14 @@ impl Found {
 // What the threads of a run share.
 #[derive(Drop)]
 struct Crowd {
-    // The jobs of each lane, at its number.
+    // The jobs of each lane, at the lane's number.
     jobs: Vec<Mutex<VecDeque<Job>>>,
-    // What each pass took. The last pass has no list.
+    // The jobs that each pass took. The last pass has no list.
     taken: Vec<Mutex<Vec<QueuedJob>>>,
     found: Found,
 }
 
-// The jobs of so many lanes, so many of each, at the lane's number.
+// Returns `count` jobs for each lane, at the lane's number.
 fn jobs_of_all<R: Abort>(rt: &R, alloc: Global, lanes: u32, count: u32) -> Vec<Mutex<VecDeque<Job>>>
     requires { lanes ≤ MAX_LANES }
 {
@@ -103,7 +105,8 @@ fn jobs_of_all<R: Abort>(rt: &R, alloc: Global, lanes: u32, count: u32) -> Vec<M
     all
 }
 
-// Hands in the next job, which stays the next one where the line is full: whether there was one.
+// Submits the next job, which stays the next one if the queue is full. Returns whether there was
+// one.
 fn hand_in_next<R: Wait, L: JobLine>(
     rt: &R,
     line: &L,
@@ -126,7 +129,7 @@ fn hand_in_next<R: Wait, L: JobLine>(
     true
 }
 
-// Hands in the jobs, again where the line is full.
+// Submits all jobs, each again while the queue is full.
 fn hand_in<R: Wait, L: JobLine>(
     rt: &R,
     line: &L,
@@ -146,7 +149,7 @@ fn hand_in<R: Wait, L: JobLine>(
     unreachable!()
 }
 
-// Hands in the jobs of the lane's number.
+// Submits the jobs of the lane's number.
 fn hand_in_own<R: Wait, L: JobLine>(rt: &R, line: &L, lane: &mut L::Lane, crowd: &Crowd)
     requires lane { L.is_lane (L.id line.now) lane.old }
     requires machine { (L.id line.now).sizes.machine ≡ 2 }
@@ -157,7 +160,7 @@ fn hand_in_own<R: Wait, L: JobLine>(rt: &R, line: &L, lane: &mut L::Lane, crowd:
     }
 }
 
-// A list with room for so many jobs for each pass.
+// Returns a list for each pass, with room for `count` jobs.
 fn room_of_all<R: Abort>(
     rt: &R,
     alloc: Global,
@@ -172,7 +175,7 @@ fn room_of_all<R: Abort>(
     all
 }
 
-// Closes the line once enough jobs were accepted.
+// Closes the queue once enough jobs were accepted.
 fn shut_late<R: Wait, J: Naming, L: JobLine>(
     rt: &R,
     line: &L,
@@ -186,7 +189,8 @@ fn shut_late<R: Wait, J: Naming, L: JobLine>(
     found.is_closed.store(1, SeqCst);
 }
 
-// What the thread of a pass does: it takes jobs, or, where there is no list for it, it closes the line.
+// Does the part of a pass. It takes jobs until the queue has ended. A pass without a list closes
+// the queue instead.
 fn take_or_close<R: Wait, J: Naming, L: JobLine>(
     rt: &R,
     line: &L,
@@ -205,7 +209,7 @@ fn take_or_close<R: Wait, J: Naming, L: JobLine>(
     }
 }
 
-// What the thread of a member does: it hands in the jobs of the lane, or it takes by the pass.
+// Does the part of a member. A lane submits its jobs, and a pass takes jobs or closes the queue.
 fn work<R: Wait, J: Naming, L: JobLine>(
     rt: &R,
     line: &L,
@@ -225,7 +229,7 @@ fn work<R: Wait, J: Naming, L: JobLine>(
     }
 }
 
-// One of the crowd: a lane, or a pass.
+// A member of the crowd: a lane or a pass.
 struct Member<J: Naming, L: JobLine> {
     own: Result<L::Lane, L::Pass>,
     of: PhantomData<J>,
@@ -273,7 +277,7 @@ impl<J: Naming, L: JobLine> Member<J, L> {
     }
 }
 
-// All at once, each on a thread of its own.
+// Runs all members at once, each on a thread of its own.
 fn act_all<R: Threads + Wait + Sync, J: Naming + Send + Sync, L: JobLine + Sync>(
     rt: &R,
     line: &L,
@@ -301,7 +305,7 @@ where
     );
 }
 
-// A list with one more, where there is memory for it.
+// Adds one value to a list. Aborts if there is no memory.
 fn add<T>(rt: &impl Abort, list: &mut Vec<T>, one: T)
     ensures { list.new.items ≡ list.old.items ++ one ∷ [] }
 {
@@ -311,7 +315,7 @@ fn add<T>(rt: &impl Abort, list: &mut Vec<T>, one: T)
     }
 }
 
-// Each pass is a member.
+// Makes a member of each pass.
 fn man_passes<J: Naming, L: JobLine>(
     rt: &impl Abort,
     passes: &mut Vec<L::Pass>,
@@ -325,7 +329,7 @@ fn man_passes<J: Naming, L: JobLine>(
     }
 }
 
-// Each lane is one too.
+// Makes a member of each lane.
 fn man_lanes<J: Naming, L: JobLine>(
     rt: &impl Abort,
     lanes: &mut Vec<L::Lane>,
@@ -339,7 +343,7 @@ fn man_lanes<J: Naming, L: JobLine>(
     }
 }
 
-// The lanes and the passes of all members, in lists that were empty.
+// Takes the lanes and the passes of all members back into lists that were empty.
 fn part<J: Naming, L: JobLine>(
     rt: &impl Abort,
     mut members: Vec<Member<J, L>>,
@@ -359,14 +363,14 @@ fn part<J: Naming, L: JobLine>(
     members.destroy_empty();
 }
 
-// What is left of a line after a run, and its close number.
+// The jobs left in a queue after a run, and its close number.
 #[derive(Drop)]
 struct Raced {
     rest: Rest,
     close_number: u64,
 }
 
-// The end of a line, which is given as many lanes and passes as it has.
+// Ends a queue. Aborts unless it gets as many lanes and passes as the queue has.
 fn finish<R: Wait + Abort, L: JobLine>(
     rt: &R,
     line: L,
@@ -389,7 +393,8 @@ fn finish<R: Wait + Abort, L: JobLine>(
     }
 }
 
-// Lets all lanes and all passes of a line run. There is one list fewer than there are passes.
+// Runs all lanes and all passes of a queue, and ends it. `crowd` has one list fewer than there are
+// passes.
 fn run_crowd<R: Threads + Wait + Abort + Sync, J: Naming + Send + Sync, L: JobLine + Sync>(
     rt: &R,
     alloc: Global,
@@ -427,7 +432,7 @@ where
     finish(rt, line, lanes, passes, note, counts)
 }
 
-// The same on a new line of these sizes.
+// Does the same with a new queue of these sizes.
 fn crowd_of<R: Threads + Wait + Abort + Sync, L: JobLine + Sync>(
     rt: &R,
     alloc: Global,
@@ -448,8 +453,8 @@ where
     run_crowd::<R, Brand, L>(rt, alloc, opened, (sizes.lanes, sizes.passes), crowd)
 }
 
-// So many lanes and passes of a line with no lock, or of one under a lock, with this capacity. The last pass
-// takes nothing.
+// Does the same with the lock-free queue or the one under a lock. The counts are those of lanes and
+// of passes, and the capacity. The last pass takes nothing.
 fn crowd_over<R: Threads + Wait + Abort + Sync>(
     rt: &R,
     alloc: Global,
@@ -473,38 +478,40 @@ fn crowd_over<R: Threads + Wait + Abort + Sync>(
     }
 }
 
-// What a run is made of.
+// The setting of a run.
 #[derive(Clone, Copy)]
 struct Setting {
-    // So many lanes, and jobs of each.
+    // The number of lanes, and the number of jobs of each.
     lanes: u32,
     jobs: u32,
-    // So many passes that take jobs. One more closes the line.
+    // The number of passes that take jobs. One more closes the queue.
     takers: u32,
     capacity: usize,
-    // The line is closed once so many jobs were accepted.
+    // The number of accepted jobs after which the queue is closed.
     closes_after: u64,
-    // Whether each lane keeps its last job until then.
+    // Whether each lane keeps its last job until the queue is closed.
     keeps_last: bool,
 }
 
-// What came of a run.
+// The outcome of a run.
 #[derive(Drop)]
 struct Came {
-    // How many jobs were accepted, how many found the line closed, and how many a spent lane.
+    // The numbers of jobs that were accepted, that found the queue closed, and that found their
+    // lane spent.
     accepted: u64,
     closed: u64,
     spent: u64,
     // The greatest number of a receipt, and the least count that was seen with the closed mark.
     last: u64,
     least_seen: u64,
-    // How many jobs the passes took, where they took each lane's in order and none twice.
+    // The number of jobs that the passes took. It is `None` if a job came twice, or a pass got the
+    // jobs of a lane out of order.
     taken: Option<u64>,
     raced: Raced,
 }
 
-// How many jobs the passes took, where the jobs of each lane came in the order of their seqs to each pass, and
-// none came twice.
+// Returns how many jobs the passes took. Returns `None` if a job came twice, or a pass got the jobs
+// of a lane out of order.
 fn count_in_order<R: Wait>(rt: &R, taken: &[Mutex<Vec<QueuedJob>>]) -> Option<u64> {
     let mut seen = [[false; JOBS]; 16];
     let mut count: u64 = 0;
@@ -518,7 +525,7 @@ fn count_in_order<R: Wait>(rt: &R, taken: &[Mutex<Vec<QueuedJob>>]) -> Option<u6
     Some(count)
 }
 
-// What comes of a run in this setting, over the line with no lock or the one under a lock.
+// Runs a crowd in this setting, over the lock-free queue or the one under a lock.
 fn run<R: Threads + Wait + Abort + Sync>(
     rt: &R,
     alloc: Global,
@@ -555,8 +562,9 @@ fn sum(counts: &[u64]) -> u64 {
     sum
 }
 
-// Whether no lane was spent, at least 20 jobs were accepted and at least 8 came late, of 400 in all, and the
-// receipts are below the close number and the counts that were seen are not.
+// Returns whether no lane was spent and, of 400 jobs, at least 20 were accepted and at least 8 came
+// late. The numbers of receipts have to be below the close number, and the counts that were seen
+// must not be.
 fn are_late(came: &Came) -> bool {
     let number = came.raced.close_number;
     (came.accepted >= 20)
@@ -567,8 +575,8 @@ fn are_late(came: &Came) -> bool {
         & (came.least_seen >= number)
 }
 
-// Eight lanes hand in fifty jobs each while a ninth thread closes the line, and each lane hands in its
-// last one after that.
+// Runs eight lanes of fifty jobs each while a ninth thread closes the queue. Each lane submits its
+// last job after the close. Returns whether `are_late` holds, and all accepted jobs are left.
 fn comes_late<R: Threads + Wait + Abort + Sync>(rt: &R, alloc: Global, over: Over) -> bool {
     let setting = Setting {
         lanes: 8,
@@ -596,8 +604,9 @@ fn late_entries(rt: HostRuntime) {
     );
 }
 
-// Four lanes hand in a hundred jobs each through room for three, and three passes take until the line
-// has ended. It is closed after the last job.
+// Runs four lanes of a hundred jobs each through room for three, while three passes take until the
+// queue has ended. The queue is closed after the last job. Returns whether all jobs were taken,
+// those of each lane in order.
 fn keeps_order<R: Threads + Wait + Abort + Sync>(rt: &R, alloc: Global, over: Over) -> bool {
     let setting = Setting {
         lanes: 4,
@@ -625,8 +634,9 @@ fn ring_order(rt: HostRuntime) {
     );
 }
 
-// Sixteen lanes hand in twenty jobs each and eight passes take until the line has ended, while one more
-// thread closes it. What was accepted was taken, and nothing is left.
+// Runs sixteen lanes of twenty jobs each and eight passes that take until the queue has ended,
+// while one more thread closes it. Returns whether all accepted jobs were taken, and nothing is
+// left.
 fn ends_empty<R: Threads + Wait + Abort + Sync>(
     rt: &R,
     alloc: Global,
@@ -653,7 +663,8 @@ fn ends_empty<R: Threads + Wait + Abort + Sync>(
         & (came.taken == Some(came.accepted))
 }
 
-// Closes after as many jobs as a row of numbers by chance says, with room for one job and for 1,024.
+// No job is left after the end, for ten pseudo-random times of the close, with room for one job and
+// for 1,024.
 #[test]
 fn nothing_is_left(rt: HostRuntime) {
     let mut chance: u32 = 2026;

@@ -1,10 +1,10 @@
-//! What the tests run over: the line with no lock, or the one under a lock.
+//! The queue that a test runs over.
 
-/// The line with no lock, or the one under a lock.
+/// The choice of the queue that a test runs over.
 #[derive(Clone, Copy)]
 pub(crate) enum Over {
-    /// The line with no lock.
+    /// The lock-free queue.
     NoLock,
-    /// The line under one lock.
+    /// The queue under one lock.
     Lock,
 }

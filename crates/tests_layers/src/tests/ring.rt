@@ -1,4 +1,4 @@
-//! A ring on one thread.
+//! Tests of the ring on one thread.
 ghost use Rattle.std.specs.Prelude.{◌≡◌, ◌<◌, ◌≤◌, [], MatchResult, length};
 ghost use Rattle.std.specs.List.{All};
 ghost use Rattle.std.specs.Vec.{vec_capacity};
@@ -30,7 +30,8 @@ impl Piece for Token {
     ghost is_for = { λ machine token. ⊤ };
 }
 
-// Whether the ring took the piece: it gives back this one where it is full.
+// Returns whether the ring accepted the piece. A refusal counts as one only if this piece comes
+// back.
 fn is_in(answer: Result<DidPut<()>, (Token, SawFull<()>)>, token: Token) -> bool {
     match answer {
         Ok(put) => {
@@ -44,7 +45,8 @@ fn is_in(answer: Result<DidPut<()>, (Token, SawFull<()>)>, token: Token) -> bool
     }
 }
 
-// Puts the lane's next piece in, or says that the ring is full. A lane puts 100 pieces in at most.
+// Pushes the lane's next piece. Returns whether the ring accepted it. A lane pushes at most 100
+// pieces.
 pub(crate) fn put<R: Wait>(rt: &R, ring: &Ring<Token>, lane: &mut RingLane<Token>) -> bool
     requires { lane.old.ring ≡ ring.now.id }
     ensures { lane.new.ring ≡ ring.now.id }
@@ -60,7 +62,7 @@ pub(crate) fn put<R: Wait>(rt: &R, ring: &Ring<Token>, lane: &mut RingLane<Token
     is_in(ring.push(rt, lane, token, ()), token)
 }
 
-// The lane and the seq of the piece that a pop took, if it took one.
+// Returns the lane and the seq of the piece that a pop took, if it took one.
 fn popped(answer: Result<Token, SawEmpty>) -> Option<(u32, u64)> {
     match answer {
         Ok(Token { lane, seq }) => Some((lane, seq)),
@@ -71,7 +73,7 @@ fn popped(answer: Result<Token, SawEmpty>) -> Option<(u32, u64)> {
     }
 }
 
-// The lane and the seq of the piece at the front, if there is one.
+// Takes the piece at the front, if there is one. Returns its lane and its seq.
 pub(crate) fn take<R: Wait>(
     rt: &R,
     ring: &Ring<Token>,
@@ -83,7 +85,6 @@ pub(crate) fn take<R: Wait>(
     popped(ring.pop(rt, pass))
 }
 
-// How many pieces the ring holds.
 fn len<R: Wait>(rt: &R, ring: &Ring<Token>, pass: &mut RingPass<Token>) -> usize
     requires { pass.old.ring ≡ ring.now.id }
     ensures { pass.new.ring ≡ ring.now.id }
@@ -91,10 +92,10 @@ fn len<R: Wait>(rt: &R, ring: &Ring<Token>, pass: &mut RingPass<Token>) -> usize
     ring.len(rt, pass)
 }
 
-// A lane of a ring, or a pass.
+// A lane or a pass of a ring.
 pub(crate) type Member = Result<RingLane<Token>, RingPass<Token>>;
 
-// A ring with its members, and the end that they come back to.
+// A ring with its lanes and passes, and the handle that collects them at the end.
 pub(crate) struct Hand {
     pub ring: Ring<Token>,
     pub end: RingEnd<Token>,
@@ -120,7 +121,7 @@ fn deal_lanes(ring: &Ring<Token>, end: &mut RingEnd<Token>, members: &mut Vec<Me
     }
 }
 
-// Deals three passes beside them.
+// Deals three passes, in addition to the lanes.
 fn deal_passes(ring: &Ring<Token>, end: &mut RingEnd<Token>, members: &mut Vec<Member>)
     requires end { end.old.ring ≡ ring.now.id }
     requires members { All (λ member. MatchResult member (λ lane. lane.ring ≡ ring.now.id)
@@ -140,7 +141,7 @@ fn deal_passes(ring: &Ring<Token>, end: &mut RingEnd<Token>, members: &mut Vec<M
     }
 }
 
-// Takes all members back: how many lanes and how many passes there were.
+// Takes all members back. Returns how many lanes and how many passes there were.
 fn gather(ring: &Ring<Token>, end: &mut RingEnd<Token>, members: Vec<Member>) -> (u32, u32)
     requires end { end.old.ring ≡ ring.now.id }
     requires members { All (λ member. MatchResult member (λ lane. lane.ring ≡ ring.now.id)
@@ -173,7 +174,7 @@ fn gather(ring: &Ring<Token>, end: &mut RingEnd<Token>, members: Vec<Member>) ->
 }
 
 impl Hand {
-    // A new ring for a machine, with this room, and with four lanes and three passes.
+    // Opens a ring of this capacity for a machine, with four lanes and three passes.
     pub fn open<R: Abort>(rt: &R, alloc: Global, machine: u32, capacity: usize) -> Hand
         requires machine { machine ≤ MAX_DIM }
         requires some { 0 < capacity }
@@ -192,7 +193,7 @@ impl Hand {
     }
 }
 
-// What is left in a ring, once its four lanes and three passes are back.
+// Takes the four lanes and three passes back, and ends the ring. Returns the pieces left in it.
 pub(crate) fn rest_of<R: Wait + Abort>(rt: &R, hand: Hand) -> VecDeque<Token>
     requires end { hand.end.ring ≡ hand.ring.id }
     requires none { (hand.end.back_lanes ≡ []) × (hand.end.back_passes ≡ []) }
@@ -211,7 +212,7 @@ pub(crate) fn rest_of<R: Wait + Abort>(rt: &R, hand: Hand) -> VecDeque<Token>
     ring.into_rest(rt, end)
 }
 
-// Puts pieces in by two lanes, in a ring with room for four, and takes two of them.
+// Pushes pieces by two lanes into a ring with room for four, and takes two of them.
 fn put_and_take<R: Wait + Abort>(
     rt: &R,
     ring: &Ring<Token>,
@@ -266,7 +267,7 @@ fn pieces_come_out_as_they_came_in(rt: HostRuntime) {
     expect_all(&rt, &[rest.len() == 3, rest.iter().eq(left.iter())]);
 }
 
-// Puts a piece in and takes it, in a ring with room for one.
+// Pushes a piece into a ring with room for one, and takes it.
 fn put_and_take_one<R: Wait + Abort>(
     rt: &R,
     ring: &Ring<Token>,
@@ -291,7 +292,7 @@ fn put_and_take_one<R: Wait + Abort>(
     );
 }
 
-// Whether there is no memory for a ring with so much room.
+// Returns whether there is no memory for a ring of this capacity.
 fn is_refused<R: Wait>(rt: &R, alloc: Global, capacity: usize) -> bool
     requires { 0 < capacity }
 {

@@ -1,4 +1,5 @@
-//! Four lanes and three passes, each on a thread of its own, share room for three pieces.
+//! A test of a ring with room for three pieces, which four lanes and three passes share on seven
+//! threads.
 ghost use Rattle.std.specs.Prelude.{◌≡◌, MatchResult, length};
 ghost use Rattle.std.specs.List.{All};
 
@@ -16,11 +17,12 @@ use std::thread::{Threads, for_each_mut, yield_now};
 // What the threads count.
 #[derive(Drop)]
 struct Board {
-    // How often each piece was taken: those of the first lane, and so on.
+    // How often each piece was taken. The pieces of the first lane come first, then those of the
+    // second, and so on.
     taken: Vec<AtomicU64>,
-    // How many were taken.
+    // How many pieces were taken.
     count: AtomicU64,
-    // How many were taken after a later one of their lane.
+    // How many pieces a pass took after a later one of their lane.
     late: AtomicU64,
 }
 
@@ -37,7 +39,8 @@ fn empty_board(rt: &impl Abort, alloc: Global) -> Board {
 }
 
 impl Board {
-    // Counts a piece that a pass took, for which no seq below that one of its lane is new.
+    // Counts a piece that a pass took. The piece is late if its seq is below its lane's number in
+    // `next`.
     fn count(&self, next: &mut [u64; 4], lane: u32, seq: u64) {
         self.count.fetch_add(1, SeqCst);
         if lane >= 4 || seq >= 100 || seq < next[lane as usize] {
@@ -50,7 +53,6 @@ impl Board {
         }
     }
 
-    // Whether each piece was taken, and no piece twice.
     fn is_each_taken_once(&self) -> bool {
         for taken in &self.taken {
             if taken.load(SeqCst) != 1 {
@@ -61,7 +63,7 @@ impl Board {
     }
 }
 
-// Puts 100 pieces in.
+// Pushes 100 pieces.
 fn feed<R: Wait>(rt: &R, ring: &Ring<Token>, lane: &mut RingLane<Token>)
     requires { lane.old.ring ≡ ring.now.id }
     ensures { lane.new.ring ≡ ring.now.id }
@@ -95,7 +97,7 @@ fn drain<R: Wait>(rt: &R, ring: &Ring<Token>, pass: &mut RingPass<Token>, board:
     unreachable!()
 }
 
-// What the thread of a member does.
+// Does the part of a member: a lane feeds, and a pass drains.
 fn work<R: Wait>(rt: &R, ring: &Ring<Token>, member: &mut Member, board: &Board)
     requires { MatchResult member.old (λ lane. lane.ring ≡ ring.now.id)
         (λ pass. pass.ring ≡ ring.now.id) }
@@ -108,7 +110,7 @@ fn work<R: Wait>(rt: &R, ring: &Ring<Token>, member: &mut Member, board: &Board)
     }
 }
 
-// Feeds by all lanes and drains by all passes at once.
+// Runs all lanes and all passes at once, each on a thread of its own.
 fn run<R: Threads + Wait + Sync>(rt: &R, ring: &Ring<Token>, members: &mut [Member], board: &Board)
     requires { All (λ member. MatchResult member (λ lane. lane.ring ≡ ring.now.id)
         (λ pass. pass.ring ≡ ring.now.id)) members.old }
@@ -129,7 +131,7 @@ fn run<R: Threads + Wait + Sync>(rt: &R, ring: &Ring<Token>, members: &mut [Memb
     );
 }
 
-// What is left in a ring once four lanes have fed it and three passes have drained it.
+// Runs four lanes and three passes on a new ring. Returns the pieces left in it.
 fn crowd<R: Threads + Wait + Abort + Sync>(
     rt: &R,
     alloc: Global,

@@ -1,4 +1,4 @@
-//! The public functions once each, on a machine of dimension 3 and at the limits.
+//! Tests of each public function of `cube_shape`, on a machine of dimension 3 and at the limits.
 
 use super::expect::expect_all;
 use cube_shape::{
@@ -6,7 +6,7 @@ use cube_shape::{
     region_of, regions_apart, side,
 };
 
-// Whether dimensions fit in machines as these rows say.
+// Returns whether dimensions fit in machines as these rows say.
 fn dims_fit(rows: &[(u32, u32, bool)]) -> bool {
     for (k, n, fits) in rows {
         if Dim(*k).fits(*n) != *fits {
@@ -30,12 +30,12 @@ fn dimensions(rt: HostRuntime) {
     );
 }
 
-// Whether a machine of this dimension, which is within the limits, has this node.
+// Returns whether a machine of this dimension, if it is within the limits, has this node.
 fn has_node(n: u32, node: u64) -> bool {
     n <= MAX_DIM && Node(node).is_in(n)
 }
 
-// Whether nodes are in machines as these rows say.
+// Returns whether nodes are in machines as these rows say.
 fn are_nodes(rows: &[(u64, u32, bool)]) -> bool {
     for (node, n, is_in) in rows {
         if has_node(*n, *node) != *is_in {
@@ -58,12 +58,12 @@ fn nodes_of_a_machine(rt: HostRuntime) {
     );
 }
 
-// Whether the aligned region `(m, k)` of a machine of dimension `n` has this node.
+// Returns whether the aligned block `(m, k)` of a machine of dimension `n` has this node.
 fn has_name(n: u32, k: u32, m: u64, node: u64) -> bool {
     n <= MAX_DIM && k <= n && m < 1 << (n - k) && node_of(n, k, m) == Node(node)
 }
 
-// Whether the node names this region of a machine of dimension `n`.
+// Returns whether the node names this block of a machine of dimension `n`.
 fn names(n: u32, node: u64, region: Region) -> bool {
     n <= MAX_DIM && Node(node).is_in(n) && region_of(n, Node(node)) == region
 }
@@ -85,17 +85,17 @@ fn nodes_name_regions(rt: HostRuntime) {
     );
 }
 
-// Whether a node is this child of this parent.
+// Returns whether a node is this child of this parent.
 fn is_child(node: u64, above: u64, own: Side) -> bool {
     node > 1 && parent(Node(node)) == Node(above) && side(Node(node)) == own
 }
 
-// Whether the first node is on the path from the root to the second.
+// Returns whether the first node is on the path from the root to the second.
 fn is_on_path(above: u64, node: u64) -> bool {
     above > 0 && node > 0 && on_path(Node(above), Node(node))
 }
 
-// Whether the path goes on from the first node to the second by this child.
+// Returns whether the path from the first node down to the second begins with this child.
 fn goes_by(above: u64, node: u64, child: u64) -> bool {
     0 < above
         && above < node
@@ -121,7 +121,7 @@ fn the_way_up_and_down(rt: HostRuntime) {
     );
 }
 
-// Whether two regions, which are within the limits, are apart as this row says.
+// Returns whether two blocks are within the limits, and overlap or not as `apart` says.
 fn are_apart(a: Region, b: Region, apart: bool) -> bool {
     if a.base >= 4096 || a.dim > MAX_DIM || b.base >= 4096 || b.dim > MAX_DIM {
         return false;
@@ -144,7 +144,7 @@ fn regions_that_share_processors(rt: HostRuntime) {
     );
 }
 
-// Whether the neighbour of a processor across this bit is this one.
+// Returns whether this is the neighbour of a processor across this bit.
 fn has_neighbour(processor: u64, bit: u32, other: u64) -> bool {
     bit < 64 && neighbour(processor, bit) == other
 }

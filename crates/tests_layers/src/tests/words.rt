@@ -1,4 +1,4 @@
-//! Words as text and by their tests. The texts are those of the words that the tree's documents show.
+//! Tests of words: their texts, their predicates and their changes.
 
 use super::expect::expect_all;
 use bitflags::Flags;
@@ -7,7 +7,7 @@ use status_word::{UseBits, Word};
 use std::alloc::Global;
 use std::process::Abort;
 
-// Words have to have these texts.
+// Asserts that each word has its text.
 fn expect_texts(rt: &impl Abort, alloc: Global, rows: &[(u64, &str)]) {
     for (word, text) in rows {
         let shown = Word(*word).show(alloc).expect(rt, "no memory");
@@ -53,7 +53,7 @@ fn tests_of_bits(rt: HostRuntime) {
     );
 }
 
-// A change of a word, with the word that it makes.
+// A change of a word, with its arguments.
 #[derive(Clone, Copy)]
 enum Change {
     WithSide(Side),
@@ -62,7 +62,7 @@ enum Change {
     Cleared(bool, bool),
 }
 
-// Whether the change of the first word makes the second.
+// Returns whether the change turns the word `word` into `made`.
 fn makes(word: u64, change: Change, made: u64) -> bool {
     let word = Word(word);
     match change {

@@ -1,6 +1,8 @@
-//! Each refusal, each act, and a machine of one node; whole schedules stand in `schedules`, short
-//! ones that show a wrong step in `interleavings`, outcomes that no clause pins in `outcomes`, and who
-//! is in the way where a try is refused in `causes`.
+//! Tests of the model of the tree (`cube_core`): each refusal, each act, and a machine of one node.
+//!
+//! Whole schedules are in `schedules`, and short ones that show a wrong step in `interleavings`.
+//! Outcomes that no clause pins are in `outcomes`. The stations that are in the way of a refused
+//! try are in `causes`.
 
 ghost use Rattle.std.specs.Prelude.{◌≡◌, ◌+◌, ◌^◌, ◌≤◌, length};
 ghost use Rattle.cube_core.specs.World.{HasShapeOf};
@@ -15,10 +17,11 @@ use cube_core::{Act, Event, Kind, MAX_DIM, MAX_STATIONS, Note, Phase, Refused, W
 use std::alloc::Global;
 use std::process::Abort;
 
-// A line of a schedule: a call that begins something, an event (its station, kind, node, word and
-// note), a step of a station at rest, an act that is refused, and a retirement with the roll that it
-// makes; or what the world then says: the phase of a station, the word of a node, and that the words of
-// all nodes are 0.
+// A line of a schedule: an act, or what the world says then. `Takes` and `Releases` begin a call.
+// `Makes` is an event: its station, kind, node, word and note. `Rests` is a step of a station at
+// rest, and `Refuses` is an act that is refused. `Retires` is a retirement, with the roll that it
+// makes. `Stands` says the phase of a station, `HasWord` the word of a node, and `IsClear` that the
+// words of all nodes are 0.
 #[derive(Clone, Copy)]
 enum Row {
     Takes(u64, u64),
@@ -32,7 +35,7 @@ enum Row {
     IsClear,
 }
 
-// Whether the next step of a station is this event.
+// Makes the next step of a station. Returns whether it is this event.
 fn makes(world: &mut World, station: u64, kind: Kind, node: u64, word: u64, note: Note) -> bool
     ensures { HasShapeOf world.old world.new }
 {
@@ -46,7 +49,7 @@ fn makes(world: &mut World, station: u64, kind: Kind, node: u64, word: u64, note
         })
 }
 
-// Whether an act is refused for this reason.
+// Tries an act. Returns whether it is refused for this reason.
 fn refuses(world: &mut World, act: Act, reason: Refused) -> bool
     ensures { HasShapeOf world.old world.new }
 {
@@ -58,7 +61,7 @@ fn refuses(world: &mut World, act: Act, reason: Refused) -> bool
     }
 }
 
-// Whether the station retires, and the roll is this one then.
+// Retires the station. Returns whether the roll is this one then.
 fn retires(world: &mut World, station: u64, roll: u64) -> bool
     ensures { HasShapeOf world.old world.new }
 {
@@ -72,7 +75,7 @@ fn retires(world: &mut World, station: u64, roll: u64) -> bool
         })
 }
 
-// Whether the words of the nodes from 1 on, below this one, are all 0.
+// Returns whether the words of the nodes from 1 to `end - 1` are all 0.
 fn is_clear(world: &World, end: u64) -> bool
     requires { end ≤ 2 ^ (world.now.dim + 1) }
 {
@@ -84,7 +87,8 @@ fn is_clear(world: &World, end: u64) -> bool
     true
 }
 
-// Whether the world of this dimension and with so many stations goes as this line says.
+// Plays a line in a world of dimension `n` with this number of stations. Returns whether the world
+// does what it says.
 fn goes(world: &mut World, n: u32, stations: u32, row: &Row) -> bool
     requires limit { n ≤ MAX_DIM }
     requires dim { world.old.dim ≡ n }
@@ -108,7 +112,7 @@ fn goes(world: &mut World, n: u32, stations: u32, row: &Row) -> bool
     }
 }
 
-// Whether it goes as these lines say, from the first to the last.
+// Plays the lines in order. Returns whether the world does what each says.
 fn follows(world: &mut World, n: u32, stations: u32, rows: &[Row]) -> bool
     requires limit { n ≤ MAX_DIM }
     requires dim { world.old.dim ≡ n }
@@ -122,7 +126,7 @@ fn follows(world: &mut World, n: u32, stations: u32, rows: &[Row]) -> bool
     true
 }
 
-// A new world has to go as these lines say once these acts have been run on it.
+// Runs these acts on a new world. Asserts that it then does what the lines say, in order.
 fn plays_after(rt: &impl Abort, alloc: Global, n: u32, stations: u32, acts: &[Act], rows: &[Row]) {
     assert!(rt; n <= MAX_DIM && stations <= MAX_STATIONS);
     let mut world = World::new(alloc, n, stations).expect(rt, "no memory");
@@ -130,7 +134,7 @@ fn plays_after(rt: &impl Abort, alloc: Global, n: u32, stations: u32, acts: &[Ac
     assert!(rt; follows(&mut world, n, stations, rows));
 }
 
-// A new world has to go as these lines say.
+// Asserts that a new world does what the lines say, in order.
 fn plays(rt: &impl Abort, alloc: Global, n: u32, stations: u32, rows: &[Row]) {
     plays_after(rt, alloc, n, stations, &[], rows);
 }
@@ -161,22 +165,18 @@ fn gives_back_under_a_held_root(rt: HostRuntime) {
     );
 }
 
-// An act that begins a take.
 fn take(station: u64, node: u64) -> Act {
     Act::Take { station, node }
 }
 
-// An act that begins a release.
 fn release(station: u64) -> Act {
     Act::Release { station }
 }
 
-// A step.
 fn step(station: u64) -> Act {
     Act::Step { station }
 }
 
-// A retirement.
 fn retire(station: u64) -> Act {
     Act::Retire { station }
 }

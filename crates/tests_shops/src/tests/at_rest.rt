@@ -1,16 +1,16 @@
-//! What a machine says once all of its stations have come back.
+//! The state of a machine after all of its stations have come back.
 use cube_shape::MAX_DIM;
 use floor_locked::LockedFloor;
 use floor_tree::TreeFloor;
 use floors::Floor;
 
-// A machine that can be asked.
+// A machine that was closed, of either allocator.
 pub(crate) trait AtRest {
-    // Whether it has this dimension and is wholly free.
+    // Returns whether it has this dimension and is wholly free.
     fn is_at_rest(&self, dim: u32) -> bool;
 }
 
-// Whether the machine has this dimension and a word for each node, and all of these are 0.
+// Returns whether the machine has this dimension and a word for each node, and all of these are 0.
 fn is_wholly_free<F: Floor>(machine: &F::Machine, dim: u32) -> bool {
     let words = F::words(machine);
     F::dim(machine) == dim
@@ -24,7 +24,7 @@ impl AtRest for floor_tree::FreeMachine {
     }
 }
 
-// Its bits say so too, and word 0 is 0.
+// The bits have to be free too, and word 0 has to be 0.
 impl AtRest for floor_locked::FreeMachine {
     fn is_at_rest(&self, dim: u32) -> bool {
         is_wholly_free::<LockedFloor>(self, dim)

@@ -1,4 +1,4 @@
-//! Batches: over the line and the floor with no lock, and over the two locks.
+//! Tests of batches, over the lock-free queue and allocator, and over those under one lock each.
 ghost use Rattle.std.specs.Prelude.{◌≡◌, ◌≤◌};
 
 use crate::tests::at_rest::AtRest;
@@ -27,19 +27,19 @@ const DIM: u32 = 3;
 // How many jobs each lane of a long batch has.
 const EACH: u32 = 5;
 
-// The replies of a batch.
+// The outcome of a batch.
 #[derive(Drop)]
 struct Batch {
     // The replies in the order of their ids.
     replies: Vec<Reply>,
-    // How many jobs each lane had accepted, and how many workers there were.
+    // The number of accepted jobs of each lane, and the number of workers.
     accepted: Vec<u64>,
     workers: usize,
     // Whether the machine is wholly free.
     is_at_rest: bool,
 }
 
-// The replies in the order of their ids, and what else is known of a batch.
+// Sorts the replies by their ids. Returns them with what else is known of a batch.
 fn sorted<M: Drop + AtRest>(rt: &impl Abort, alloc: Global, finished: Finished<M>) -> Batch {
     let workers = finished.by_worker.len();
     let is_at_rest = finished.machine.is_at_rest(DIM);
@@ -55,10 +55,10 @@ fn sorted<M: Drop + AtRest>(rt: &impl Abort, alloc: Global, finished: Finished<M
     }
 }
 
-// Why a batch is refused, and how many lists came back.
+// The reason why a batch is refused, and the number of lists that came back.
 type Refused = (ShopRefused, usize);
 
-// What became of a batch of which nothing but its sizes may be refused.
+// Returns the outcome of a batch, or its refusal. Aborts on every other failure.
 fn batch_from<M: Drop + AtRest>(
     rt: &impl Abort,
     alloc: Global,
@@ -71,7 +71,7 @@ fn batch_from<M: Drop + AtRest>(
     }
 }
 
-// The batch of these jobs, over this line and this floor.
+// Runs the jobs as a batch, over this queue and this allocator.
 fn batch_of<
     R: Threads + Wait + Abort + Sync,
     L: JobLine + SharedLine,
@@ -89,7 +89,7 @@ where
     batch_from(rt, alloc, answered)
 }
 
-// The batch of these jobs.
+// Runs the jobs as a batch, over the lock-free queue and allocator, or over those under locks.
 fn batch_over<R: Threads + Wait + Abort + Sync, T: Runner + Sync>(
     rt: &R,
     alloc: Global,
@@ -106,7 +106,7 @@ fn batch_over<R: Threads + Wait + Abort + Sync, T: Runner + Sync>(
     }
 }
 
-// The batch of these jobs, which is not refused.
+// Does the same. Aborts if the batch is refused.
 fn answer<R: Threads + Wait + Abort + Sync, T: Runner + Sync>(
     rt: &R,
     alloc: Global,
@@ -123,15 +123,15 @@ fn answer<R: Threads + Wait + Abort + Sync, T: Runner + Sync>(
     }
 }
 
-// Whether the reply is to this job, and its first four ranks hold this.
+// Returns whether the reply is to this job, and its first four ranks hold these values.
 fn is_row(reply: &Reply, id: JobId, at: &[Option<u64>; 4]) -> bool {
     reply.id() == id && [reply.at(0), reply.at(1), reply.at(2), reply.at(3)] == *at
 }
 
-// The lane, the seq, and what the first four ranks hold.
+// The lane, the seq, and the values at the first four ranks.
 type ReplyRow = (u32, u64, [Option<u64>; 4]);
 
-// Whether the replies are these.
+// Returns whether the replies are these rows, in order.
 fn are_rows(replies: &[Reply], rows: &[ReplyRow]) -> bool {
     for (k, (lane, seq, at)) in rows.iter().enumerate() {
         let id = JobId {
@@ -145,7 +145,7 @@ fn are_rows(replies: &[Reply], rows: &[ReplyRow]) -> bool {
     replies.len() == rows.len()
 }
 
-// Whether the replies are those to the long batch of 16 lanes.
+// Returns whether the replies are those to the long batch of 16 lanes.
 fn are_sums(replies: &[Reply]) -> bool {
     if replies.len() != 16 * EACH as usize {
         return false;
@@ -160,7 +160,7 @@ fn are_sums(replies: &[Reply]) -> bool {
     true
 }
 
-// Whether the machine is free again and each lane has had so many jobs accepted.
+// Returns whether the machine is free again and these are the numbers of accepted jobs, by lane.
 fn has_accepted(batch: &Batch, accepted: &[u64]) -> bool {
     batch.is_at_rest && batch.accepted.as_slice() == accepted
 }
@@ -187,7 +187,7 @@ fn replies_stand_in_the_order_of_their_ids(rt: HostRuntime) {
     }
 }
 
-// It is answered by as many workers as were asked, all by the runner that is lent.
+// Any number of workers that is asked for runs all jobs by the runner lent, with the same replies.
 #[test]
 fn any_number_of_workers_gives_the_same_replies(rt: HostRuntime) {
     for (over, workers) in [
@@ -218,7 +218,8 @@ fn any_number_of_workers_gives_the_same_replies(rt: HostRuntime) {
     }
 }
 
-// Whether a batch of jobs of several kinds is refused in a shop of these sizes for this reason, with all lists back.
+// Returns whether a batch in a dispatcher of these sizes is refused for this reason, and all lists
+// come back.
 fn is_refused<R: Threads + Wait + Abort + Sync>(
     rt: &R,
     alloc: Global,

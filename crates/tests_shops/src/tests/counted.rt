@@ -1,4 +1,4 @@
-//! The jobs of two lanes, answered on the tree; the results are worked out by hand.
+//! Tests that run jobs on the tree and count the replies. The results are worked out by hand.
 use crate::tests::at_rest::AtRest;
 use crate::tests::expect::expect_all;
 use crate::tests::over::sizes;
@@ -12,7 +12,7 @@ use std::thread::Threads;
 use tests_kit::{Meeting, Plan, lists};
 use uses::{Counting, answer_and_count};
 
-// The replies to the jobs of two lanes, and how many processors these had together.
+// The replies to the jobs of two lanes, and how many processors these jobs had together.
 type Outcome = Option<(Finished<FreeMachine>, u128)>;
 
 fn count_on_tree<R: Threads + Wait + Sync>(
@@ -24,7 +24,7 @@ fn count_on_tree<R: Threads + Wait + Sync>(
     Ok(answer_and_count(rt, alloc, 3, runner, lists))
 }
 
-// How many of the replies are to this job, with this at its first two ranks.
+// Returns how many of the replies are to this job and have these values at its first two ranks.
 fn count_of(replies: &[Reply], id: JobId, first: Option<u64>, second: Option<u64>) -> u32 {
     let mut count = 0u32;
     for reply in replies {
@@ -35,7 +35,8 @@ fn count_of(replies: &[Reply], id: JobId, first: Option<u64>, second: Option<u64
     count
 }
 
-// Whether this job of the lane has one reply in all, with this at its first two ranks.
+// Returns whether this job of the lane has one reply in all, with these values at its first two
+// ranks.
 fn is_once<M>(
     finished: &Finished<M>,
     lane: u32,
@@ -71,7 +72,7 @@ fn each_job_is_answered_once(rt: HostRuntime) -> Result<(), Fail> {
     Ok(())
 }
 
-// The same jobs and one of a third lane by one name, by three workers. The runner that is lent answers them.
+// `cubejobs` runs each job of three lanes once, by three workers and the runner that is lent.
 #[test]
 fn the_whole_by_one_name_answers_each_job_once(rt: HostRuntime) -> Result<(), Fail> {
     let runner = Counting::new(Plain);
@@ -95,16 +96,19 @@ fn the_whole_by_one_name_answers_each_job_once(rt: HostRuntime) -> Result<(), Fa
     Ok(())
 }
 
-// The line has the room that was asked. The only worker keeps its first job for long, so that the three others lie in the
-// line: with room for four each is accepted at its first entry, and with room for one some lane finds the line full.
+// `cubejobs` opens a queue of the capacity that was asked: no job finds it full with four places,
+// and some job with one.
 #[test]
 fn the_whole_by_one_name_has_room_for_four(rt: HostRuntime) -> Result<(), Fail> {
+    // The only worker keeps its first job for long, so the three others wait in the queue. With
+    // four places each is accepted at its first entry.
     let runner = Meeting::of(2);
     let jobs = lists(rt.alloc(), 3, 3, Plan::Kinds)?;
     let Ok(end) = cubejobs::answer_all(&rt, rt.alloc(), sizes(3, 1, 4), &runner, jobs) else {
         panic!(rt; "no memory, or no thread");
     };
     expect_all(&rt, &[runner.came() == 4, end.close_number == 4]);
+    // With one place some lane finds the queue full, which costs a further entry.
     let runner = Meeting::of(2);
     let jobs = lists(rt.alloc(), 3, 3, Plan::Kinds)?;
     let Ok(end) = cubejobs::answer_all(&rt, rt.alloc(), sizes(3, 1, 1), &runner, jobs) else {

@@ -1,5 +1,5 @@
-//! Many threads on one machine: what is held at one moment is checked by a counter for each processor. One
-//! program serves a cube, the floor without a lock and the floor under one.
+//! Tests of many threads on one machine. A counter for each processor checks that no two stations
+//! hold it at once. The same functions serve the tree itself and both allocators.
 ghost use Rattle.std.specs.Prelude.{◌≡◌, ℕ, ◌+◌, ◌<◌, ◌≤◌, [], All, IsSomeAnd, MatchResult, length};
 ghost use Rattle.cube_tree.specs.Handles.{cube_dim, IsStationOf};
 
@@ -22,7 +22,7 @@ use std::thread::{Threads, yield_now};
 use std::{mem, thread};
 use tests_kit::{Table, wait_for};
 
-// A machine whose stations take regions and give them back.
+// A machine whose stations take and release blocks.
 trait Regions {
     type Station;
 
@@ -34,7 +34,7 @@ trait Regions {
 
     ghost is_held: { Self → Self.Held → Type 0 };
 
-    // A region of dimension `k`, or the station where none is given.
+    // Takes a block of dimension `k`. Returns the station if it gets none.
     fn take<R: Wait>(
         &self,
         rt: &R,
@@ -47,7 +47,7 @@ trait Regions {
 
     fn region(held: &Self::Held) -> Region;
 
-    // Both as they were, which have no processor in common.
+    // Returns both blocks unchanged. They have no processor in common.
     fn apart(&self, a: Self::Held, b: Self::Held) -> (Self::Held, Self::Held)
         requires { is_held self.now a × is_held self.now b }
         ensures { is_held self.now result.0 × is_held self.now result.1 };
@@ -90,7 +90,7 @@ impl Regions for Cube {
     }
 }
 
-// A floor, whose takes wait until they are given a region.
+// An allocator, whose takes wait until they get a block.
 struct OnFloor<F: Floor> {
     floor: F,
 }
@@ -126,13 +126,13 @@ impl<F: Floor> Regions for OnFloor<F> {
 // What the stations do.
 #[derive(Clone, Copy)]
 struct Play {
-    // How many turns each station has, in which it takes a region and gives it back, and of how many
-    // dimensions, from 0 on, its takes are in turn.
+    // The number of turns of each station. In a turn it takes and releases a block. The dimensions
+    // of these blocks are 0 to `sizes - 1`, in turn.
     turns: u32,
     sizes: u32,
-    // The dimension of what it holds in the end.
+    // The dimension of the block that each station holds in the end.
     last: Option<u32>,
-    // Whether the first station holds the whole machine, and the other one comes for a part of it.
+    // Whether the first station holds the whole machine while the other one asks for a part of it.
     waits: bool,
 }
 
@@ -141,17 +141,17 @@ struct Play {
 struct Shared {
     play: Play,
     table: Table,
-    // A counter for the takes of each station.
+    // The number of takes of each station.
     given: Vec<AtomicU64>,
-    // Marks of the two that wait for each other.
+    // Marks of the two stations that wait for each other.
     holding: AtomicU64,
     coming: AtomicU64,
     giving_back: AtomicU64,
-    // Whether the other was given its part before the first gave back the machine.
+    // Whether the other station got its part before the first one began to release the machine.
     early: AtomicU64,
 }
 
-// So many counters at 0.
+// Returns this number of counters at 0.
 fn zeros(alloc: Global, number: u32) -> Result<Vec<AtomicU64>, AllocError> {
     let mut zeros = Vec::new(alloc);
     for _ in 0..number {
@@ -174,7 +174,7 @@ fn unused(rt: &impl Abort, alloc: Global, processors: usize, stations: u32, play
     }
 }
 
-// Counts a take of the station in this place, and up on its processors.
+// Counts a take of the station at index `first`, and enters its block in the table.
 fn enter(first: usize, region: Region, shared: &Shared) {
     if let Some(count) = shared.given.get(first) {
         count.fetch_add(1, SeqCst);
@@ -182,7 +182,7 @@ fn enter(first: usize, region: Region, shared: &Shared) {
     shared.table.enter(region);
 }
 
-// One take, which is given back.
+// Takes a block of dimension `k`, counts it, and releases it.
 fn turn<R: Wait, T: Regions>(
     rt: &R,
     machine: &T,
@@ -206,7 +206,7 @@ fn turn<R: Wait, T: Regions>(
     }
 }
 
-// The dimension of what a station takes in this turn.
+// Returns the dimension of the block that a station takes in this turn.
 fn dim_of(sizes: u32, first: usize, turn: u32) -> u32
     requires { 0 < sizes }
     ensures { result < sizes }
@@ -214,7 +214,7 @@ fn dim_of(sizes: u32, first: usize, turn: u32) -> u32
     ((first % 32) as u32 + turn % 1024) % sizes
 }
 
-// The turns of one station.
+// Makes all turns of one station.
 fn turns<R: Wait, T: Regions>(
     rt: &R,
     machine: &T,
@@ -236,10 +236,11 @@ fn turns<R: Wait, T: Regions>(
     station
 }
 
-// How often one looks for the mark of the other.
+// How often a station looks for the mark of the other one.
 const LOOKS: u32 = 1_000_000;
 
-// Holds the machine, of dimension `k`, until the other has come for a part of it, and some time longer.
+// Holds the machine, of dimension `k`, until the other station asks for a part of it, and for some
+// time more.
 fn hold<R: Wait, T: Regions>(
     rt: &R,
     machine: &T,
@@ -265,7 +266,7 @@ fn hold<R: Wait, T: Regions>(
     }
 }
 
-// Comes for one processor while the other holds them all.
+// Asks for one processor while the other station holds them all. Marks whether it got it too early.
 fn come<R: Wait, T: Regions>(
     rt: &R,
     machine: &T,
@@ -288,7 +289,7 @@ fn come<R: Wait, T: Regions>(
     }
 }
 
-// What a station does before the end.
+// Does the part of a station: its turns, or its part in the wait.
 fn act<R: Wait, T: Regions>(
     rt: &R,
     machine: &T,
@@ -311,7 +312,7 @@ fn act<R: Wait, T: Regions>(
     }
 }
 
-// What the station holds in the end, if anything. It stays in the table.
+// Takes the block that the station holds in the end, if there is one. The block stays in the table.
 fn keep<R: Wait, T: Regions>(
     rt: &R,
     machine: &T,
@@ -336,7 +337,7 @@ fn keep<R: Wait, T: Regions>(
     }
 }
 
-// What the one in this slot does, which has a station or holds a region before and after.
+// Does the part of the member in this slot, which has a station or holds a block before and after.
 fn run<R: Wait, T: Regions>(
     rt: &R,
     machine: &T,
@@ -364,7 +365,7 @@ fn run<R: Wait, T: Regions>(
     }
 }
 
-// All at once, each in a thread of its own.
+// Does the parts of all slots at once, each on a thread of its own.
 fn run_all<R: Threads + Wait + Sync, T: Regions + Sync>(
     rt: &R,
     machine: &T,
@@ -396,7 +397,7 @@ where
     );
 }
 
-// A list with one more slot, which has a station.
+// Adds a slot for a station to the list.
 fn seat<T: Regions>(
     rt: &impl Abort,
     machine: &T,
@@ -412,7 +413,7 @@ fn seat<T: Regions>(
     add(rt, slots, Some(Err(station)));
 }
 
-// Each station of the list gets a slot.
+// Puts each station of the list into a slot.
 fn seat_all<T: Regions>(
     rt: &impl Abort,
     machine: &T,
@@ -430,7 +431,7 @@ fn seat_all<T: Regions>(
     }
 }
 
-// The station, which holds nothing any more.
+// Returns the station, after a release of the block that it may hold.
 fn back<R: Wait, T: Regions>(rt: &R, machine: &T, one: Result<T::Held, T::Station>) -> T::Station
     requires { MatchResult one (T.is_held machine.now) (T.is_station machine.now) }
     ensures { T.is_station machine.now result }
@@ -441,7 +442,8 @@ fn back<R: Wait, T: Regions>(rt: &R, machine: &T, one: Result<T::Held, T::Statio
     }
 }
 
-// The stations of two, of which what they hold is apart.
+// Returns both stations, after a release of what they hold. If both hold a block, `apart` is called
+// before.
 fn part<R: Wait, T: Regions>(
     rt: &R,
     machine: &T,
@@ -461,7 +463,6 @@ fn part<R: Wait, T: Regions>(
     }
 }
 
-// A list with one more station.
 fn add_station<T: Regions>(
     rt: &impl Abort,
     machine: &T,
@@ -475,7 +476,7 @@ fn add_station<T: Regions>(
     add(rt, list, station);
 }
 
-// All come back into the list.
+// Takes all stations out of their slots, back into the list.
 fn unseat_all<R: Abort + Wait, T: Regions>(
     rt: &R,
     machine: &T,
@@ -500,7 +501,7 @@ fn unseat_all<R: Abort + Wait, T: Regions>(
     }
 }
 
-// What all stations of the list do, each on a thread of its own.
+// Does the parts of all stations of the list, each on a thread of its own.
 fn crowd<R: Abort + Threads + Wait + Sync, T: Regions + Sync>(
     rt: &R,
     alloc: Global,
@@ -523,7 +524,7 @@ where
     slots.destroy_empty();
 }
 
-// A cube and its stations.
+// Opens a machine of the tree with its stations.
 fn opened_cube(rt: &impl Abort, alloc: Global, n: u32, stations: u32) -> (Cube, Vec<TreeStation>)
     ensures dim { cube_dim result.0 ≡ n }
     ensures of_cube { All (IsStationOf result.0) result.1.items }
@@ -531,7 +532,7 @@ fn opened_cube(rt: &impl Abort, alloc: Global, n: u32, stations: u32) -> (Cube, 
     Cube::open(alloc, n, stations).expect(rt, "no memory")
 }
 
-// The machine of a cube of which all stations retire.
+// Retires all stations and closes the machine.
 fn closed_cube(rt: &impl Abort, cube: Cube, mut list: Vec<TreeStation>) -> FreeMachine
     requires { All (IsStationOf cube) list.items }
 {
@@ -545,8 +546,8 @@ fn closed_cube(rt: &impl Abort, cube: Cube, mut list: Vec<TreeStation>) -> FreeM
     }
 }
 
-// A floor of dimension 5 from its opening to its end, with what all its stations do between: one play, and
-// then another one. Whether the machine is wholly free in the end.
+// Opens an allocator of dimension 5, makes its stations do one play and then another one, and
+// closes it. Returns whether the machine is wholly free in the end.
 fn crowd_on_floor<R: Abort + Threads + Wait + Sync, F: Floor + Sync>(
     rt: &R,
     alloc: Global,
@@ -572,7 +573,7 @@ where
     floor.close(list).is_at_rest(5)
 }
 
-// The last station of a list.
+// Takes the last station out of a list.
 fn last<T: Regions>(machine: &T, list: &mut Vec<T::Station>) -> T::Station
     requires stations { All (T.is_station machine.now) list.old.items }
     requires some { 0 < length list.old.items }
@@ -582,7 +583,7 @@ fn last<T: Regions>(machine: &T, list: &mut Vec<T::Station>) -> T::Station
     list.pop().unwrap()
 }
 
-// The same beside a half of the machine, which one station holds all the while.
+// Does the same with one play, while one station holds half of the machine all the time.
 fn crowd_beside_half<R: Abort + Threads + Wait + Sync, F: Floor + Sync>(
     rt: &R,
     alloc: Global,
@@ -608,19 +609,21 @@ where
     floor.close(list).is_at_rest(5)
 }
 
-// Whether each station was given a region so often, and no processor twice.
+// Returns whether each station got a block this number of times, and no processor was held twice at
+// once.
 fn all_given(shared: &Shared, times: u64) -> bool {
     shared.table.clashes() == 0 && shared.given.iter().all(|count| count.load(SeqCst) == times)
 }
 
-// Whether the other came while the first held the machine, and was given its part after that.
+// Returns whether the other station asked while the first one held the machine, and got its part
+// only after the release had begun.
 fn came_after(shared: &Shared) -> bool {
     shared.holding.load(SeqCst) == 1
         && shared.giving_back.load(SeqCst) == 1
         && shared.early.load(SeqCst) == 0
 }
 
-// The turns of a station, with regions of so many dimensions.
+// Returns a play of this number of turns, with blocks of this number of dimensions.
 fn turning(turns: u32, sizes: u32) -> Play
     ensures { result.sizes ≡ sizes }
 {
@@ -648,7 +651,7 @@ fn a_crowd_on_a_cube_holds_no_processor_twice(rt: HostRuntime) {
     );
 }
 
-// Two plays on the floor with no lock, or on the one under a lock.
+// Makes two plays on the lock-free allocator, or on the one under a lock.
 fn crowd_over<R: Abort + Threads + Wait + Sync>(
     rt: &R,
     alloc: Global,
@@ -668,10 +671,12 @@ fn crowd_over<R: Abort + Threads + Wait + Sync>(
     }
 }
 
-// Eight stations take regions of all sizes. Then they take small ones, and in the end each holds an eighth
-// of the machine, while others still take small ones.
+// Eight stations that take and release blocks of all dimensions at once never hold a processor
+// twice.
 #[test]
 fn a_crowd_holds_no_processor_twice(rt: HostRuntime) {
+    // In the second play the stations take small blocks. In the end each holds an eighth of the
+    // machine, while others still take small blocks.
     let holding = Play {
         turns: 500,
         sizes: 3,
@@ -692,9 +697,10 @@ fn a_crowd_holds_no_processor_twice(rt: HostRuntime) {
     }
 }
 
-// The other half has a processor for each of them, so each take comes to an end.
+// Sixteen stations that take a processor each all end while one more holds half of the machine.
 #[test]
 fn sixteen_stations_beside_a_held_half_end(rt: HostRuntime) {
+    // The other half has a processor for each of the sixteen.
     let shared = unused(&rt, rt.alloc(), 32, 16, turning(200, 1));
     let also_shared = unused(&rt, rt.alloc(), 32, 16, turning(200, 1));
     expect_all(
@@ -708,7 +714,7 @@ fn sixteen_stations_beside_a_held_half_end(rt: HostRuntime) {
     );
 }
 
-// One station holds the whole machine while the other comes for a processor of it, and then they take turns.
+// A take of one processor waits until the station that holds the whole machine releases it.
 #[test]
 fn a_take_waits_for_a_release(rt: HostRuntime) {
     let waiting = Play {

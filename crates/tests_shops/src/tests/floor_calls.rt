@@ -1,4 +1,4 @@
-//! Calls of both floors by the contract of every floor, on one thread.
+//! Tests of both allocators through the contract `Floor`, on one thread.
 ghost use Rattle.std.specs.Prelude.{◌≡◌, ◌<◌, ◌≤◌, [], length};
 ghost use Rattle.std.specs.List.{All};
 ghost use Rattle.std.specs.Vec.{vec_capacity};
@@ -15,7 +15,7 @@ use std::sync::Wait;
 use tests_kit::{Pair, both, only, sole};
 use uses::{Hoarding, hold_pair};
 
-// A floor with its stations.
+// Opens an allocator with its stations.
 pub(crate) fn opened<F: Floor>(
     rt: &impl Abort,
     alloc: Global,
@@ -33,7 +33,7 @@ pub(crate) fn opened<F: Floor>(
     F::open(alloc, n, stations).expect(rt, "no memory")
 }
 
-// Both stations are given two processors each.
+// Takes two processors for each station.
 fn take_pairs<R: Wait, F: Floor>(
     rt: &R,
     floor: &F,
@@ -50,7 +50,8 @@ fn take_pairs<R: Wait, F: Floor>(
     floor.apart(first, second)
 }
 
-// Gives back what is held, and takes one processor in its place: its region, and the station.
+// Releases a block, and takes and releases one processor instead. Returns the block of this
+// processor, and the station.
 fn take_one_anew<R: Wait, F: Floor>(rt: &R, floor: &F, held: F::Held) -> (Region, F::Station)
     requires { F.is_held (F.id floor.now) held }
     ensures { F.is_station (F.id floor.now) result.1 }
@@ -59,7 +60,7 @@ fn take_one_anew<R: Wait, F: Floor>(rt: &R, floor: &F, held: F::Held) -> (Region
     (F::region(&held), floor.release(rt, held))
 }
 
-// The end of a floor of two stations, which come back in this order.
+// Closes an allocator of two stations, which come back in this order.
 fn close_pair<F: Floor>(
     floor: F,
     first: F::Station,
@@ -79,8 +80,8 @@ fn close_pair<F: Floor>(
     floor.close(stations)
 }
 
-// Three takes and as many releases by two stations, and the end of the floor, to which the stations
-// come back in their order or turned round: the regions that were given, and the machine.
+// Takes and releases three blocks by two stations, and closes the allocator. The stations come back
+// in their order, or turned round. Returns the three blocks, and the machine.
 fn play<R: Wait, F: Floor>(
     rt: &R,
     floor: F,
@@ -109,14 +110,14 @@ fn play<R: Wait, F: Floor>(
     ([given.0, given.1, last], machine)
 }
 
-// The regions of `play`.
+// Returns whether these are the blocks that `play` has to get.
 fn are_first_regions(regions: &[Region; 3]) -> bool {
     regions[0] == Region { base: 0, dim: 1 }
         && regions[1] == Region { base: 2, dim: 1 }
         && regions[2] == Region { base: 0, dim: 0 }
 }
 
-// The stations come back in their order, and turned round.
+// Plays with the stations back in their order, and turned round. Asserts the outcome.
 fn each_call_once_over<R: Abort + Wait, F: Floor>(rt: &R, alloc: Global)
 where
     F::Machine: Drop + AtRest,
@@ -134,7 +135,8 @@ fn each_call_once(rt: HostRuntime) {
     each_call_once_over::<_, LockedFloor>(&rt, rt.alloc());
 }
 
-// A floor of one station, which holds the whole machine, and the list without it.
+// Opens an allocator of one station, which takes the whole machine. Returns the list without the
+// station too.
 fn held_whole<R: Abort + Wait, F: Floor>(
     rt: &R,
     alloc: Global,
@@ -150,7 +152,7 @@ fn held_whole<R: Abort + Wait, F: Floor>(
     (floor, held, stations)
 }
 
-// The end of such a floor.
+// Releases the whole machine and closes its allocator.
 fn close_whole<R: Wait, F: Floor>(
     rt: &R,
     floor: F,
@@ -165,7 +167,7 @@ fn close_whole<R: Wait, F: Floor>(
     floor.close(stations)
 }
 
-// Two floors of one station each, which holds the whole machine at the same moment.
+// Asserts that the stations of two allocators can hold their whole machines at the same moment.
 fn two_floors_share_nothing_over<R: Abort + Wait, F: Floor>(rt: &R, alloc: Global)
 where
     F::Machine: Drop + AtRest,
@@ -191,7 +193,7 @@ fn two_floors_share_nothing(rt: HostRuntime) {
     two_floors_share_nothing_over::<_, LockedFloor>(&rt, rt.alloc());
 }
 
-// The smallest floor and the largest, at their ends.
+// Asserts that the smallest and the largest machine are free when they are closed.
 fn smallest_floor_and_largest_over<R: Abort, F: Floor>(rt: &R, alloc: Global)
 where
     F::Machine: Drop + AtRest,
@@ -213,8 +215,8 @@ fn smallest_floor_and_largest(rt: HostRuntime) {
     smallest_floor_and_largest_over::<_, LockedFloor>(&rt, rt.alloc());
 }
 
-// Two stations of a machine of dimension 3 are given its first two regions of two processors each, and the
-// machine is wholly free then.
+// Asserts that two stations get the first two blocks of two processors on a machine of dimension 3,
+// which is wholly free in the end.
 fn a_pair_holds_the_first_regions_over<R: Abort + Wait, F: Floor>(rt: &R, alloc: Global)
 where
     F::Machine: Drop + AtRest,
@@ -234,6 +236,6 @@ where
 fn a_pair_holds_the_first_regions(rt: HostRuntime) {
     a_pair_holds_the_first_regions_over::<_, TreeFloor>(&rt, rt.alloc());
     a_pair_holds_the_first_regions_over::<_, LockedFloor>(&rt, rt.alloc());
-    // A floor that hoards meets the contract of floors too.
+    // An allocator that hoards meets the contract `Floor` too.
     a_pair_holds_the_first_regions_over::<_, Hoarding<TreeFloor>>(&rt, rt.alloc());
 }

@@ -1,4 +1,5 @@
-//! A crowd at one shop: sixteen feeders, four workers and one who closes, each on a thread of its own.
+//! A test of one dispatcher with many threads: sixteen feeders, four workers, and one that closes
+//! it.
 ghost use Rattle.std.specs.Prelude.{◌≡◌, ◌++◌, [], ◌∷◌, None, IfSome, MatchOption, length};
 ghost use Rattle.std.specs.List.{All};
 ghost use Rattle.dispatcher.specs.Members.{IsCloserOf, IsEndOf, IsNoteOf, IsWorkerOf};
@@ -28,7 +29,8 @@ use std::thread::{Threads, for_each_mut, yield_now};
 use tests_kit::{Plan, Tabled, jobs};
 use uses::Counting;
 
-// The dimension of the machine, the sizes of the shop, and how many jobs each lane is to hand in.
+// The dimension of the machine, the numbers of lanes and workers, and the number of jobs of each
+// lane.
 const DIM: u32 = 4;
 
 const LANES: u32 = 16;
@@ -37,7 +39,7 @@ const WORKERS: u32 = 4;
 
 const EACH: u32 = 20;
 
-// Names the shop of a crowd.
+// A type that names the dispatcher of a crowd in contracts.
 pub(crate) trait Naming {
     ghost use Rattle.dispatcher.specs.Shop.{ShopId};
 
@@ -56,7 +58,7 @@ impl Naming for Brand {
     } };
 }
 
-// One of the crowd: a feeder, a worker, or who closes.
+// A member of the crowd: a feeder, a worker, or the closer.
 struct Member<J: Naming, L: JobLine, F: Floor> {
     lane: Option<L::Lane>,
     fed: Option<FeedEnd>,
@@ -82,7 +84,8 @@ impl<J: Naming, L: JobLine, F: Floor> Model for Member<J, L, F> {
         (λ c. IsCloserOf L.JobLine J.shop c × (m.note ≡ None)) };
 }
 
-// What the crowd shares beside the shop: its runner, and how many jobs are answered before the close.
+// What the crowd shares besides the dispatcher: its runner, and how many jobs are run before the
+// close.
 #[derive(Drop)]
 struct Shared {
     alloc: Global,
@@ -102,7 +105,7 @@ impl Shared {
     }
 }
 
-// Hands in the jobs of the lane: `2^((l + i) mod 5)` numbers in the `i`-th job of lane `l`.
+// Submits the jobs of the lane. Job `i` of lane `l` has `2^((l + i) mod 5)` numbers.
 fn feed_lane<R: Wait, L: JobLine, F: Floor>(
     rt: &R,
     shop: &Shop<L, F>,
@@ -123,7 +126,7 @@ fn feed_lane<R: Wait, L: JobLine, F: Floor>(
     Some(feed(rt, shop, lane, jobs))
 }
 
-// What a member leaves behind.
+// What is left of a member after its run.
 struct Left<L: JobLine, F: Floor> {
     lane: Option<L::Lane>,
     fed: Option<FeedEnd>,
@@ -131,7 +134,7 @@ struct Left<L: JobLine, F: Floor> {
     note: Option<CloseNote<L, F>>,
 }
 
-// The end of a worker, which stands down if it has not run.
+// Returns the end of a worker. A worker that has not run ends now.
 pub(crate) fn end_left<J: Naming, L: JobLine, F: Floor>(
     alloc: Global,
     worker: Option<Worker<L, F>>,
@@ -148,7 +151,7 @@ pub(crate) fn end_left<J: Naming, L: JobLine, F: Floor>(
     }
 }
 
-// The note of the close, which comes now if it has not come before.
+// Returns the close note. If the dispatcher is open, closes it now.
 fn note_left<R: Wait, J: Naming, L: JobLine, F: Floor>(
     rt: &R,
     shop: &Shop<L, F>,
@@ -210,7 +213,7 @@ impl<J: Naming, L: JobLine, F: Floor> Member<J, L, F> {
         }
     }
 
-    // Takes and answers jobs, if it is a worker.
+    // Takes and runs jobs, if the member is a worker.
     fn work<R: Wait>(&mut self, rt: &R, shop: &Shop<L, F>, shared: &Shared)
         requires { shop.now ≡ J.shop }
     {
@@ -221,7 +224,7 @@ impl<J: Naming, L: JobLine, F: Floor> Member<J, L, F> {
         fill(&mut self.end, end);
     }
 
-    // Closes the shop when it is time, if it is who closes.
+    // Closes the dispatcher when it is time, if the member is the closer.
     fn close<R: Wait>(&mut self, rt: &R, shop: &Shop<L, F>, shared: &Shared)
         requires { shop.now ≡ J.shop }
     {
@@ -232,7 +235,7 @@ impl<J: Naming, L: JobLine, F: Floor> Member<J, L, F> {
         fill(&mut self.note, shop.close(rt, closer));
     }
 
-    // Hands in jobs, if it is a feeder.
+    // Submits jobs, if the member is a feeder.
     fn feed<R: Wait>(&mut self, rt: &R, shop: &Shop<L, F>, shared: &Shared)
         requires shop { shop.now ≡ J.shop }
         requires machine { J.shop.line.sizes.machine ≡ DIM }
@@ -242,7 +245,7 @@ impl<J: Naming, L: JobLine, F: Floor> Member<J, L, F> {
         }
     }
 
-    // What it leaves behind, once the threads are done.
+    // Returns what is left of the member, once the threads are done.
     fn leave<R: Wait>(self, rt: &R, shop: &Shop<L, F>, alloc: Global) -> Left<L, F>
         requires { shop.now ≡ J.shop }
         ensures lane { IfSome result.lane (L.is_lane J.shop.line) }
@@ -267,7 +270,7 @@ impl<J: Naming, L: JobLine, F: Floor> Member<J, L, F> {
     }
 }
 
-// All at once, each on a thread of its own.
+// Runs all members at once, each on a thread of its own.
 fn act_all<
     R: Threads + Wait + Sync,
     J: Naming + Send + Sync,
@@ -295,7 +298,7 @@ where
     );
 }
 
-// A list with one more, where there is memory for it.
+// Adds one value to a list. Aborts if there is no memory.
 pub(crate) fn add<T>(rt: &impl Abort, list: &mut Vec<T>, one: T)
     ensures { list.new.items ≡ list.old.items ++ one ∷ [] }
 {
@@ -305,7 +308,7 @@ pub(crate) fn add<T>(rt: &impl Abort, list: &mut Vec<T>, one: T)
     }
 }
 
-// Each lane gets a feeder.
+// Makes a feeder of each lane.
 fn man_lanes<J: Naming, L: JobLine, F: Floor>(
     rt: &impl Abort,
     lanes: &mut Vec<L::Lane>,
@@ -319,7 +322,7 @@ fn man_lanes<J: Naming, L: JobLine, F: Floor>(
     }
 }
 
-// Each worker is a member.
+// Makes a member of each worker.
 fn man_workers<J: Naming, L: JobLine, F: Floor>(
     rt: &impl Abort,
     workers: &mut Vec<Worker<L, F>>,
@@ -333,16 +336,16 @@ fn man_workers<J: Naming, L: JobLine, F: Floor>(
     }
 }
 
-// What all members leave behind.
+// What is left of all members after the run.
 struct Parts<L: JobLine, F: Floor> {
     lanes: Vec<L::Lane>,
     ends: Vec<WorkerEnd<L, F>>,
     note: Option<CloseNote<L, F>>,
-    // How many jobs each lane did not hand in.
+    // The number of jobs that each lane did not submit.
     unfed: [u64; 16],
 }
 
-// Counts what a lane did not hand in.
+// Counts the jobs that a lane did not submit.
 fn count_unfed<L: JobLine>(unfed: &mut [u64; 16], lane: &Option<L::Lane>, fed: Option<FeedEnd>) {
     let (Some(lane), Some(fed)) = (lane, fed) else {
         return;
@@ -354,7 +357,7 @@ fn count_unfed<L: JobLine>(unfed: &mut [u64; 16], lane: &Option<L::Lane>, fed: O
     }
 }
 
-// A lane is one of the lanes that come back.
+// Adds a lane, if there is one, to the lanes that come back.
 fn keep_lane<L: JobLine, F: Floor>(
     rt: &impl Abort,
     shop: &Shop<L, F>,
@@ -371,7 +374,7 @@ fn keep_lane<L: JobLine, F: Floor>(
     }
 }
 
-// The end of a worker is one of the ends.
+// Adds the end of a worker, if there is one, to the ends.
 pub(crate) fn keep_end<L: JobLine, F: Floor>(
     rt: &impl Abort,
     shop: &Shop<L, F>,
@@ -388,7 +391,7 @@ pub(crate) fn keep_end<L: JobLine, F: Floor>(
     }
 }
 
-// The note of the close is kept, of which there is one.
+// Keeps the close note, if there is one. Aborts if another one is kept already.
 fn keep_note<L: JobLine, F: Floor>(
     rt: &impl Abort,
     shop: &Shop<L, F>,
@@ -441,10 +444,10 @@ fn part<R: Wait + Abort, J: Naming, L: JobLine, F: Floor>(
     parts
 }
 
-// What became of a crowd.
+// The outcome of a crowd.
 #[derive(Clone, Copy)]
 struct Crowd {
-    // Whether each accepted job has one reply, and what was not accepted was not handed in.
+    // Whether each accepted job has one reply, and each other job stayed with its lane.
     is_answered: bool,
     // Whether the machine is wholly free.
     is_at_rest: bool,
@@ -478,7 +481,7 @@ where
     }
 }
 
-// The crowd of a new shop, once it has a name.
+// Runs the crowd of a new dispatcher, which `J` names.
 fn run_named<
     J: Naming + Send + Sync,
     R: Threads + Wait + Abort + Sync,
@@ -511,7 +514,7 @@ where
     finish(rt, shop, parts, shared)
 }
 
-// The crowd of a new shop, which is closed once so many jobs are answered.
+// Runs the crowd of a new dispatcher, which is closed once enough jobs were run.
 fn crowd_of<R: Threads + Wait + Abort + Sync, L: JobLine + SharedLine, F: Floor + SharedFloor>(
     rt: &R,
     alloc: Global,
@@ -526,7 +529,8 @@ where
     run_named::<Brand, R, L, F>(rt, alloc, opened, shared)
 }
 
-// Marks the replies' ids as seen: whether each is new, and of a job that was handed in.
+// Marks the ids of the replies as seen. Returns whether each is new, and is the id of one of the
+// jobs.
 fn are_new(replies: &[Reply], seen: &mut [[bool; 20]; 16]) -> bool {
     for reply in replies {
         let id = reply.id();
@@ -538,8 +542,8 @@ fn are_new(replies: &[Reply], seen: &mut [[bool; 20]; 16]) -> bool {
     true
 }
 
-// Whether the seqs seen in a lane are those of its accepted jobs, and with what was not handed in they are all
-// jobs of the lane.
+// Returns whether the seqs seen in a lane are those of its accepted jobs. With the jobs that were
+// not submitted they have to be all jobs of the lane.
 fn is_all(seen: &[bool], accepted: u64, unfed: u64) -> bool {
     for (seq, seen) in seen.iter().enumerate() {
         if *seen != ((seq as u64) < accepted) {
@@ -549,7 +553,7 @@ fn is_all(seen: &[bool], accepted: u64, unfed: u64) -> bool {
     accepted.saturating_add(unfed) == u64::from(EACH)
 }
 
-// Whether that is so of each lane.
+// Returns whether `is_all` is true of each lane.
 fn are_all(seen: &[[bool; 20]; 16], accepted: &[u64], unfed: &[u64; 16]) -> bool {
     for (lane, seen) in seen.iter().enumerate() {
         let Some(accepted) = accepted.get(lane) else {
@@ -565,7 +569,7 @@ fn are_all(seen: &[[bool; 20]; 16], accepted: &[u64], unfed: &[u64; 16]) -> bool
     true
 }
 
-// Whether each lane's accepted jobs have one reply each.
+// Returns whether the accepted jobs of each lane have one reply each.
 fn each_once<M>(finished: &Finished<M>, unfed: &[u64; 16]) -> bool {
     let mut seen = [[false; 20]; 16];
     for replies in finished.by_worker.iter() {
@@ -576,7 +580,7 @@ fn each_once<M>(finished: &Finished<M>, unfed: &[u64; 16]) -> bool {
     are_new(&finished.rest, &mut seen) && are_all(&seen, &finished.accepted, unfed)
 }
 
-// The same over the line and the floor with no lock, or over the two locks.
+// Runs the crowd over the lock-free queue and allocator, or over those under one lock each.
 fn crowd_over<R: Threads + Wait + Abort + Sync>(
     rt: &R,
     alloc: Global,
@@ -589,8 +593,8 @@ fn crowd_over<R: Threads + Wait + Abort + Sync>(
     }
 }
 
-// Each accepted job has one reply, and no processor was in use twice at one moment, where the shop closes
-// after all feeders and where it closes meanwhile.
+// Each accepted job gets one reply and no processor is used twice at once, whether the close comes
+// early or last.
 #[test]
 fn every_job_of_a_crowd_is_answered(rt: HostRuntime) {
     for (over, closes_after) in [

@@ -1,4 +1,4 @@
-//! A shop of two workers, of which the second one begins while the first one has a job inside.
+//! A dispatcher of two workers, of which the second one begins while the first one runs a job.
 ghost use Rattle.std.specs.Prelude.{◌≡◌, None, IfSome, MatchOption, length, map};
 ghost use Rattle.std.specs.List.{All};
 ghost use Rattle.job_queue.specs.Record.{fresh_lanes};
@@ -48,7 +48,7 @@ impl<J: Naming, L: JobLine, F: Floor> WorkerSlot<J, L, F> {
         }
     }
 
-    // Takes and answers jobs.
+    // Takes and runs jobs.
     fn work<R: Wait>(&mut self, rt: &R, shop: &Shop<L, F>, alloc: Global, runner: &Tabled<Meeting>)
         requires { shop.now ≡ J.shop }
     {
@@ -57,7 +57,6 @@ impl<J: Naming, L: JobLine, F: Floor> WorkerSlot<J, L, F> {
         }
     }
 
-    // The end of the worker.
     fn into_end(self, alloc: Global) -> Option<WorkerEnd<L, F>>
         ensures { IfSome result (IsEndOf J.shop) }
     {
@@ -66,7 +65,8 @@ impl<J: Naming, L: JobLine, F: Floor> WorkerSlot<J, L, F> {
     }
 }
 
-// All workers answer jobs, each on a thread of its own. All but the first begin once a job has come in.
+// Runs all workers, each on a thread of its own. All except the first begin once a job has entered
+// the runner.
 fn work_all<
     R: Threads + Wait + Sync,
     J: Naming + Send + Sync,
@@ -100,7 +100,7 @@ where
     );
 }
 
-// A post for each worker.
+// Puts each worker into a slot.
 fn slots_for_workers<J: Naming, L: JobLine, F: Floor>(
     rt: &impl Abort,
     alloc: Global,
@@ -116,7 +116,6 @@ fn slots_for_workers<J: Naming, L: JobLine, F: Floor>(
     posts
 }
 
-// The ends of all workers.
 fn ends_of<J: Naming, L: JobLine, F: Floor>(
     rt: &impl Abort,
     alloc: Global,
@@ -134,7 +133,7 @@ fn ends_of<J: Naming, L: JobLine, F: Floor>(
     ends
 }
 
-// The same as `late`, once the shop has a name.
+// Does the same as `late`, with a dispatcher that `J` names.
 fn late_named<
     J: Naming + Send + Sync,
     R: Threads + Wait + Abort + Sync,
@@ -167,7 +166,8 @@ fn late_named<
     shop.finish(rt, runner, sole(lanes, lane), ends, note)
 }
 
-// What becomes of two jobs of one lane, which lie in a closed line before two workers answer them by this runner.
+// Runs two jobs of one lane by this runner. They wait in a closed queue before two workers take
+// them.
 pub(crate) fn late<
     R: Threads + Wait + Abort + Sync,
     L: JobLine + SharedLine,

@@ -1,19 +1,19 @@
-//! What the tests run over: no lock at all, or locks; and what a run of threads is given.
+//! The queue and the allocator that a test runs over, and the sizes of a run.
 ghost use Rattle.std.specs.Prelude.{◌≡◌};
 
 use dispatcher::ShopSizes;
 use tests_kit::Plan;
 
-/// The line and the floor with no lock, or those under one lock each.
+/// The choice of the queue and the allocator that a test runs over.
 #[derive(Clone, Copy)]
 pub(crate) enum Over {
-    /// No lock.
+    /// The lock-free queue and allocator.
     NoLock,
-    /// Locks.
+    /// The queue and the allocator under one lock each.
     Locks,
 }
 
-/// One after the other.
+/// Both choices, for tests that try one after the other.
 pub(crate) const BOTH: [Over; 2] = [Over::NoLock, Over::Locks];
 
 /// Returns these sizes as one value.
@@ -27,10 +27,10 @@ pub(crate) fn sizes(dim: u32, dispatchers: u32, capacity: usize) -> ShopSizes
     }
 }
 
-/// What a run is given: the sizes of its shop, the number of its lanes, and the jobs of each.
+/// The sizes of a dispatcher, the number of its lanes, and the jobs of each.
 #[derive(Clone, Copy)]
 pub(crate) struct Asked {
-    /// The sizes of the shop.
+    /// The sizes of the dispatcher.
     pub sizes: ShopSizes,
     /// The number of lanes.
     pub lanes: u32,

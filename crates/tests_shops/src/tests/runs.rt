@@ -1,4 +1,5 @@
-//! Runs of a shop on threads: over the line and the floor with no lock, and over the two locks.
+//! Tests of runs on threads, over the lock-free queue and allocator, and over those under one lock
+//! each.
 ghost use Rattle.std.specs.Prelude.{◌≤◌};
 
 use crate::tests::at_rest::AtRest;
@@ -23,28 +24,28 @@ use std::thread::Threads;
 use tests_kit::{Keeper, Meeting, Plan, Tabled, lists};
 use uses::Counting;
 
-// What became of a run.
+// The outcome of a run.
 #[derive(Clone, Copy)]
 struct Ran {
-    // Whether all jobs were handed in, and each worker has found the line ended.
+    // Whether all jobs were submitted, and each worker has found that the queue had ended.
     is_whole: bool,
     // Whether the machine is wholly free.
     is_at_rest: bool,
-    // How many workers there were, how many replies there are, and how many of these no worker made.
+    // The numbers of workers, of replies, and of replies that no worker made.
     workers: usize,
     replies: usize,
     rest: usize,
-    // Whether two workers have a reply each, on regions of two processors that are not one.
+    // Whether two workers have a reply each, on two different blocks of two processors.
     is_by_two: bool,
 }
 
-// Whether the lane has handed in all of its jobs.
+// Returns whether the lane has submitted all of its jobs.
 fn is_fed(lane: &LaneEnd) -> bool {
     lane.stop == Some(FeedStop::Done) && lane.back.is_none() && lane.left.is_empty()
 }
 
-// Whether there are so many lanes and each has handed in all of its jobs, each worker has found the line
-// ended, and the close number is the count of all entries.
+// Returns whether there is this number of lanes and each has submitted all of its jobs. Each worker
+// has to have found the end of the queue, and the close number has to be the count of all entries.
 fn is_whole<M>(end: &RunEnd<M>, lanes: usize) -> bool {
     let mut entries = 0u64;
     for lane in &end.lanes {
@@ -58,7 +59,6 @@ fn is_whole<M>(end: &RunEnd<M>, lanes: usize) -> bool {
         && end.stops.iter().all(|stop| *stop == Stop::Ended)
 }
 
-// How many replies there are.
 fn reply_count<M>(finished: &Finished<M>) -> usize {
     let mut count = finished.rest.len();
     for replies in finished.by_worker.iter() {
@@ -67,7 +67,7 @@ fn reply_count<M>(finished: &Finished<M>) -> usize {
     count
 }
 
-// Whether the replies are one by each of two workers, on regions of two processors that are not one.
+// Returns whether two workers made one reply each, on two different blocks of two processors.
 fn are_of_two_workers(by_worker: &[Vec<Reply>]) -> bool {
     if by_worker.len() != 2 || by_worker[0].len() != 1 || by_worker[1].len() != 1 {
         return false;
@@ -80,7 +80,7 @@ fn are_of_two_workers(by_worker: &[Vec<Reply>]) -> bool {
         && second.at(1) == Some(3)
 }
 
-// What became of a run of a machine of dimension `n`.
+// Returns the outcome of a run on a machine of dimension `n`.
 fn told<M: AtRest>(end: &RunEnd<M>, lanes: u32, n: u32) -> Ran {
     Ran {
         is_whole: is_whole(end, lanes as usize),
@@ -92,10 +92,11 @@ fn told<M: AtRest>(end: &RunEnd<M>, lanes: u32, n: u32) -> Ran {
     }
 }
 
-// Why a run is refused, and how many lists came back.
+// The reason why a run is refused, and the number of lists that came back.
 type Refused = (ShopRefused, usize);
 
-// What became of a run of so many lanes on a machine of dimension `n`.
+// Returns the outcome of a run of this number of lanes on a machine of dimension `n`, or its
+// refusal.
 fn ran_from<M: Drop + AtRest>(
     ran: Result<RunEnd<M>, (ShopRefused, Vec<VecDeque<Job>>)>,
     lanes: u32,
@@ -107,7 +108,7 @@ fn ran_from<M: Drop + AtRest>(
     }
 }
 
-// The run of these jobs, over this line and this floor.
+// Runs the jobs over this queue and this allocator.
 fn run_of<
     R: Threads + Wait + Abort + Sync,
     L: JobLine + SharedLine,
@@ -125,7 +126,7 @@ where
     ran_from(ran, lanes, sizes.dim)
 }
 
-// The run of these jobs.
+// Runs the jobs over the lock-free queue and allocator, or over those under one lock each.
 fn run_over<R: Threads + Wait + Abort + Sync, T: Runner + Sync>(
     rt: &R,
     alloc: Global,
@@ -142,7 +143,7 @@ fn run_over<R: Threads + Wait + Abort + Sync, T: Runner + Sync>(
     }
 }
 
-// The run of these jobs, which is not refused.
+// Does the same. Aborts if the run is refused.
 fn run_through<R: Threads + Wait + Abort + Sync, T: Runner + Sync>(
     rt: &R,
     alloc: Global,
@@ -159,8 +160,8 @@ fn run_through<R: Threads + Wait + Abort + Sync, T: Runner + Sync>(
     }
 }
 
-// Whether the second of two workers began while the first one had a job inside, and met it there with another job, on
-// other processors.
+// Returns whether the second of two workers began while the first one ran a job, and ran another
+// job beside it on other processors.
 fn meets_late<R: Threads + Wait + Abort + Sync, L: JobLine + SharedLine, F: Floor + SharedFloor>(
     rt: &R,
     alloc: Global,
@@ -177,8 +178,8 @@ where
         && runner.clashes() == 0
 }
 
-// Two workers have a job each inside at once, on processors of its own. The second one begins when the first one has
-// its job inside.
+// Two workers, of which the second begins during the job of the first, run a job each at once on
+// different processors.
 #[test]
 fn two_jobs_are_inside_at_once(rt: HostRuntime) {
     expect_all(
@@ -190,7 +191,8 @@ fn two_jobs_are_inside_at_once(rt: HostRuntime) {
     );
 }
 
-// The same of a run, whose workers begin as they come.
+// Two workers of a run, which begin in any order, run a job each at the same time on different
+// processors.
 #[test]
 fn two_workers_of_a_run_meet(rt: HostRuntime) {
     for over in BOTH {
@@ -215,7 +217,7 @@ fn two_workers_of_a_run_meet(rt: HostRuntime) {
     }
 }
 
-// Each of so many workers has a job inside at once, and each job is answered by the runner that is lent.
+// A run has as many workers as were asked for, and the runner that is lent runs each job.
 #[test]
 fn as_many_workers_run_as_were_asked(rt: HostRuntime) {
     for (over, workers) in [
@@ -245,16 +247,19 @@ fn as_many_workers_run_as_were_asked(rt: HostRuntime) {
     }
 }
 
-// How many jobs one lane of the next run has, and how often each of them looks for one of the other lane.
+// The number of jobs of one lane in the next test, and how often each of them looks for a job of
+// the other lane.
 const MANY: u32 = 40;
 
 const TURNS: u32 = 100_000;
 
-// Two workers and room for one job. Both keep each job of one lane for some time, or until the only one of
-// the other lane has come in. With both lanes at work this one comes in long before the last of the many;
-// where one lane came after the other, all but the one in the line would be before it.
+// Both lanes submit at the same time: the only job of one lane enters before the last jobs of the
+// other.
 #[test]
 fn each_lane_has_a_feeder(rt: HostRuntime) {
+    // Two workers share room for one job. Both keep each job of one lane for some time, or until
+    // the only job of the other lane has entered. If the other lane came after this one, all jobs
+    // of this one except the one in the queue would enter first.
     for (over, lane) in [
         (Over::NoLock, 0),
         (Over::NoLock, 1),
@@ -280,8 +285,8 @@ fn each_lane_has_a_feeder(rt: HostRuntime) {
     }
 }
 
-// Sixteen feeders and four workers share room for one job. The workers take all, and no processor is
-// in use twice at one moment.
+// Four workers take all jobs of sixteen feeders through room for one job, and no processor is used
+// twice at once.
 #[test]
 fn many_feeders_share_room_for_one_job(rt: HostRuntime) {
     for over in BOTH {

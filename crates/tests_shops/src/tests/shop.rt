@@ -1,4 +1,5 @@
-//! A shop of one lane and one worker: over the line and the floor with no lock, and over the two locks.
+//! Tests of a dispatcher of one lane and one worker. They run over the lock-free queue and
+//! allocator, and over those under one lock each.
 use crate::tests::at_rest::AtRest;
 use crate::tests::expect::{expect_all, expect_texts};
 use crate::tests::stage::{Back, Stage};
@@ -17,10 +18,10 @@ use std::sync::Wait;
 use tests_kit::{Row, SUM};
 use uses::{Counting, Tallied};
 
-// The sizes of a shop, from its dimension to its capacity, and why it is refused.
+// The sizes of a dispatcher, from its dimension to its capacity, and the reason of its refusal.
 type Refusal = (u32, u32, u32, usize, ShopRefused);
 
-// Whether a shop of each of these sizes is refused for its reason.
+// Returns whether a dispatcher of each of these sizes is refused for its reason.
 fn are_refused<L: JobLine, F: Floor>(alloc: Global, rows: &[Refusal]) -> bool
 where
     F::Machine: Drop,
@@ -109,7 +110,7 @@ fn refusals_as_text(rt: HostRuntime) {
     );
 }
 
-// Whether this is a refusal for this reason, with a job of these numbers.
+// Returns whether this is a refusal for this reason, with a job of these numbers.
 fn gives_back(outcome: &Result<Receipt, Back>, why: Refused, numbers: &[u64]) -> bool {
     match outcome {
         Ok(_) => false,
@@ -117,7 +118,7 @@ fn gives_back(outcome: &Result<Receipt, Back>, why: Refused, numbers: &[u64]) ->
     }
 }
 
-// Whether this is the reply to the lane's first job, of the numbers 1 and 2.
+// Returns whether this is the reply to the lane's first job, of the numbers 1 and 2.
 fn answers_the_first(reply: &Reply) -> bool {
     reply.id() == (JobId { lane: 0, seq: 0 })
         && reply.region() == (Region { base: 0, dim: 1 })
@@ -125,7 +126,7 @@ fn answers_the_first(reply: &Reply) -> bool {
         && reply.at(1) == Some(3)
 }
 
-// Whether the worker answered nothing, and the only accepted job is answered at the end.
+// Returns whether the worker ran nothing, and the only accepted job was run at the end.
 fn has_rest<M: AtRest>(finished: &Finished<M>) -> bool {
     finished.by_worker.len() == 1
         && finished.by_worker[0].is_empty()
@@ -135,13 +136,14 @@ fn has_rest<M: AtRest>(finished: &Finished<M>) -> bool {
         && finished.machine.is_at_rest(2)
 }
 
-// Whether this is the receipt of lane 0's first entry, for its first job.
+// Returns whether this is the receipt of lane 0's first entry, for its first job.
 fn is_first_receipt(outcome: &Result<Receipt, Back>) -> bool {
     let id = JobId { lane: 0, seq: 0 };
     matches!(outcome, Ok(receipt) if *receipt == Receipt { id, number: 0 })
 }
 
-// Three submits to a shop with room for one job, and a close before the third. The worker does not run.
+// Submits three jobs to a dispatcher with room for one, and closes it before the third. The worker
+// does not run. Asserts the results.
 fn close_against_submit_over<R: Wait + Abort, L: JobLine, F: Floor>(rt: &R, alloc: Global)
 where
     F::Machine: Drop + AtRest,
@@ -168,7 +170,7 @@ fn close_against_submit(rt: HostRuntime) {
 // Jobs of one, two and four numbers.
 const THREE_JOBS: [Row<'static>; 3] = [(SUM, &[5]), (SUM, &[1, 2]), (SUM, &[1, 2, 3, 4])];
 
-// Whether these are the replies to lane 0's jobs from this seq on, in order.
+// Returns whether these are the replies to lane 0's jobs from this seq on, in order.
 fn are_seqs_from(seq: u64, replies: &[Reply]) -> bool {
     for (k, reply) in replies.iter().enumerate() {
         if reply.id()
@@ -183,7 +185,7 @@ fn are_seqs_from(seq: u64, replies: &[Reply]) -> bool {
     true
 }
 
-// Whether the seqs of these replies, followed by those of the rest, are 0, 1 and 2.
+// Returns whether the seqs of these replies, followed by those of the rest, are 0, 1 and 2.
 fn are_three_seqs(first: &[Reply], rest: &[Reply]) -> bool {
     first.len() <= 3
         && rest.len() == 3 - first.len()
@@ -191,12 +193,13 @@ fn are_three_seqs(first: &[Reply], rest: &[Reply]) -> bool {
         && are_seqs_from(first.len() as u64, rest)
 }
 
-// Whether all was handed in.
+// Returns whether all jobs were submitted.
 fn is_done(fed: &FeedEnd) -> bool {
     fed.stop == FeedStop::Done && fed.back.is_none() && fed.left.is_empty()
 }
 
-// Whether the feed gave back the first of the three jobs, and left the others, at the close.
+// Returns whether the feed stopped at the close, returned the first of the three jobs, and left the
+// others.
 fn stops_at_the_close(late: &FeedEnd) -> bool {
     late.stop == FeedStop::Closed { seen: 3 }
         && matches!(&late.back, Some(job) if job.items() == [5].as_slice())
@@ -204,7 +207,8 @@ fn stops_at_the_close(late: &FeedEnd) -> bool {
         && late.left[0].items() == [1, 2].as_slice()
 }
 
-// Whether the replies ran one after the other on the first regions of dimensions 0, 1 and 2.
+// Returns whether the three jobs ran one after the other on the first blocks of dimensions 0, 1 and
+// 2.
 fn have_first_regions(replies: &[Reply]) -> bool {
     if replies.len() != 3 {
         return false;
@@ -222,7 +226,7 @@ fn have_first_regions(replies: &[Reply]) -> bool {
     true
 }
 
-// Whether the only worker answered all three jobs, on the first regions.
+// Returns whether the only worker ran all three jobs, on the first blocks.
 fn has_first_regions<M: AtRest>(finished: &Finished<M>) -> bool {
     finished.by_worker.len() == 1
         && finished.rest.is_empty()
@@ -231,7 +235,8 @@ fn has_first_regions<M: AtRest>(finished: &Finished<M>) -> bool {
         && finished.machine.is_at_rest(2)
 }
 
-// The close comes between two feeds, and then the worker runs to its end.
+// Closes the dispatcher between two feeds, and then runs the worker to its end. Asserts the
+// results.
 fn feed_stops_at_the_close_over<R: Wait + Abort, L: JobLine, F: Floor>(rt: &R, alloc: Global)
 where
     F::Machine: Drop + AtRest,
@@ -252,7 +257,7 @@ fn feed_stops_at_the_close(rt: HostRuntime) {
     feed_stops_at_the_close_over::<_, Tallied<RuledLine>, LockedFloor>(&rt, rt.alloc());
 }
 
-// What no worker took is answered by the runner that is lent to the end.
+// Asserts that the runner lent to the end runs the jobs that no worker took.
 fn rest_is_answered_by_the_runner_lent_over<R: Wait + Abort, L: JobLine, F: Floor>(
     rt: &R,
     alloc: Global,
@@ -279,7 +284,7 @@ fn rest_is_answered_by_the_runner_lent(rt: HostRuntime) {
 // Three sums of 1 and 2.
 const THREE_SUMS: [Row<'static>; 3] = [(SUM, &[1, 2]), (SUM, &[1, 2]), (SUM, &[1, 2])];
 
-// How many jobs came back and how many are left, where the feed has stopped for its turns.
+// Returns how many jobs came back and how many are left, if the feed has stopped for its turns.
 fn left_by_turns(fed: &FeedEnd) -> Option<(usize, usize)> {
     if fed.stop == FeedStop::Turns {
         Some((usize::from(fed.back.is_some()), fed.left.len()))
@@ -288,12 +293,13 @@ fn left_by_turns(fed: &FeedEnd) -> Option<(usize, usize)> {
     }
 }
 
-// Whether one job was accepted, and is answered at the end.
+// Returns whether one job was accepted, and was run at the end.
 fn has_one_left<M>(finished: &Finished<M>) -> bool {
     finished.rest.len() == 1 && finished.accepted.as_slice() == [1].as_slice()
 }
 
-// A feed with no turn hands in nothing. One with five into room for one job makes six entries.
+// Asserts that a feed with no turn submits nothing, and one with five turns into room for one job
+// makes six entries.
 fn feed_stops_after_its_turns_over<R: Wait + Abort, L: JobLine, F: Floor>(rt: &R, alloc: Global)
 where
     F::Machine: Drop,
@@ -320,15 +326,16 @@ fn feed_stops_after_its_turns(rt: HostRuntime) {
     feed_stops_after_its_turns_over::<_, LockedLine, LockedFloor>(&rt, rt.alloc());
 }
 
-// Whether three jobs were accepted, and their seqs are those of the only worker's replies, followed by the rest.
+// Returns whether three jobs were accepted, and their seqs are those of the only worker's replies,
+// followed by the rest.
 fn has_three<M>(finished: &Finished<M>) -> bool {
     finished.accepted.as_slice() == [3].as_slice()
         && finished.by_worker.len() == 1
         && are_three_seqs(&finished.by_worker[0], &finished.rest)
 }
 
-// A worker that is to answer so many of three jobs stops when it is enough: whether each job is answered by the
-// runner that is lent at that moment.
+// Runs a worker that stops after `most` of three jobs. Returns whether each job was run by the
+// runner lent at that moment.
 fn stops_when_enough<R: Wait + Abort, L: JobLine, F: Floor>(
     rt: &R,
     alloc: Global,
@@ -355,8 +362,8 @@ where
     .all(|fact| *fact)
 }
 
-// A worker that is to answer two of three jobs leaves one to the end, and one that is to answer none leaves
-// all of them.
+// Asserts that a worker that stops after two of three jobs leaves one to the end, and one that
+// stops after none leaves all.
 fn worker_stops_when_it_is_enough_over<R: Wait + Abort, L: JobLine, F: Floor>(rt: &R, alloc: Global)
 where
     F::Machine: Drop,

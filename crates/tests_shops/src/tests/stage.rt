@@ -1,5 +1,5 @@
-//! A shop of one lane and one worker for a machine of four processors, and what is done to it, one call
-//! after the other.
+//! A dispatcher of one lane and one worker on a machine of four processors, which is called on one
+//! thread.
 ghost use Rattle.std.specs.Prelude.{◌≡◌, [], ◌∷◌, None, MatchOption, map};
 ghost use Rattle.std.specs.List.{All};
 ghost use Rattle.job_queue.specs.Line.{IsFor};
@@ -22,8 +22,8 @@ use std::process::Abort;
 use std::sync::Wait;
 use tests_kit::{Row, SUM, job, listed, only_lane, only_worker};
 
-// Such a shop. Its worker stands in one of two places, before it runs and after that, and so does the
-// right to close.
+// A dispatcher with its only lane and its only worker. The worker is in one of two fields, before
+// it runs and after that, and so is the right to close.
 pub(crate) struct Stage<L: JobLine, F: Floor> {
     shop: Shop<L, F>,
     lane: L::Lane,
@@ -51,7 +51,7 @@ impl<L: JobLine, F: Floor> Model for Stage<L, F> {
         (λ c. IsCloserOf L.JobLine s.shop c × (s.note ≡ None)) };
 }
 
-// A job that was given back, and why.
+// A job that came back, and the reason.
 pub(crate) type Back = (Job, Refused);
 
 impl<L: JobLine, F: Floor> Stage<L, F> {
@@ -62,7 +62,7 @@ impl<L: JobLine, F: Floor> Stage<L, F> {
         Stage::of(Shop::open(alloc, 2, 1, 1, capacity).expect(rt, "no memory"))
     }
 
-    // The stage of such a shop.
+    // Puts the members of a new dispatcher into a stage.
     fn of(opened: Opened<L, F>) -> Self
         requires machine { opened.shop.line.sizes.machine ≡ 2 }
         requires one_lane { opened.shop.line.sizes.lanes ≡ 1 }
@@ -93,7 +93,7 @@ impl<L: JobLine, F: Floor> Stage<L, F> {
         }
     }
 
-    // Hands in a sum of these numbers.
+    // Submits a sum of these numbers.
     pub fn submit<R: Wait + Abort>(
         &mut self,
         rt: &R,
@@ -104,7 +104,7 @@ impl<L: JobLine, F: Floor> Stage<L, F> {
         self.shop.submit(rt, &mut self.lane, job)
     }
 
-    // Feeds these jobs, and gives up once the line was full so often if that is asked.
+    // Feeds these jobs. With `turns`, gives up after this number of tries found the queue full.
     pub fn feed<R: Wait + Abort>(
         &mut self,
         rt: &R,
@@ -116,7 +116,7 @@ impl<L: JobLine, F: Floor> Stage<L, F> {
         feed_lane(rt, &self.shop, &mut self.lane, jobs, turns)
     }
 
-    // Closes the shop, where that was not done before: the close number.
+    // Closes the dispatcher, if this was not done before. Returns the close number.
     pub fn close<R: Wait>(&mut self, rt: &R) -> u64 {
         if let Some(closer) = self.closer.take() {
             fill(&mut self.note, self.shop.close(rt, closer));
@@ -127,8 +127,8 @@ impl<L: JobLine, F: Floor> Stage<L, F> {
         }
     }
 
-    // Lets the worker run, where that was not done before, for so many replies at most if that is asked: why it
-    // has stopped.
+    // Runs the worker, if this was not done before. With `most`, it makes at most this number of
+    // replies. Returns why it has stopped.
     pub fn dispatch<R: Wait, T: Runner>(
         &mut self,
         rt: &R,
@@ -146,7 +146,7 @@ impl<L: JobLine, F: Floor> Stage<L, F> {
         }
     }
 
-    // Ends the shop, which is closed now at the latest. A worker that has not run stands down.
+    // Ends the dispatcher, and closes it before if it is open. A worker that has not run ends now.
     pub fn finish<R: Wait + Abort, T: Runner>(
         self,
         rt: &R,
@@ -167,7 +167,7 @@ impl<L: JobLine, F: Floor> Stage<L, F> {
     }
 }
 
-// The list of one member.
+// Returns a list of this one member.
 fn list_of<T>(rt: &impl Abort, alloc: Global, member: T) -> Vec<T>
     ensures { result.items ≡ member ∷ [] }
 {
@@ -176,7 +176,7 @@ fn list_of<T>(rt: &impl Abort, alloc: Global, member: T) -> Vec<T>
     list
 }
 
-// Finishes a shop, given its lane and its worker.
+// Finishes a dispatcher with its only lane and its only worker.
 fn finish_one<R: Wait + Abort, L: JobLine, F: Floor, T: Runner>(
     rt: &R,
     alloc: Global,
@@ -197,7 +197,8 @@ fn finish_one<R: Wait + Abort, L: JobLine, F: Floor, T: Runner>(
     shop.finish(rt, runner, lanes, ends, note)
 }
 
-// Feeds jobs by the only lane, and gives up once the line was full so often if that is asked.
+// Feeds jobs by the only lane. With `turns`, gives up after this number of tries found the queue
+// full.
 fn feed_lane<R: Wait, L: JobLine, F: Floor>(
     rt: &R,
     shop: &Shop<L, F>,
@@ -218,7 +219,7 @@ fn feed_lane<R: Wait, L: JobLine, F: Floor>(
     }
 }
 
-// Runs a worker, for so many replies at most if that is asked.
+// Runs a worker. With `most`, it makes at most this number of replies.
 fn run_worker<R: Wait, L: JobLine, F: Floor, T: Runner>(
     rt: &R,
     alloc: Global,
@@ -236,7 +237,7 @@ fn run_worker<R: Wait, L: JobLine, F: Floor, T: Runner>(
     }
 }
 
-// The note of the close.
+// Returns the close note. If the dispatcher is open, closes it now.
 fn note_of<R: Wait, L: JobLine, F: Floor>(
     rt: &R,
     shop: &Shop<L, F>,
@@ -255,7 +256,7 @@ fn note_of<R: Wait, L: JobLine, F: Floor>(
     }
 }
 
-// The worker that has stopped.
+// Returns the end of the worker. A worker that has not run ends now.
 fn end_of<L: JobLine, F: Floor>(
     alloc: Global,
     shop: &Shop<L, F>,

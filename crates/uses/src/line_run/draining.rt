@@ -1,4 +1,4 @@
-// Takes jobs by one pass.
+// A consumer: taking jobs by one pass.
 ghost use Rattle.std.specs.Prelude.{◌≡◌, ◌++◌, List};
 ghost use Rattle.job_queue.specs.declared.record.QueuedJob.{QueuedJob};
 
@@ -6,8 +6,8 @@ use job_queue::{JobLine, QueuedJob, Taken};
 use std::sync::Wait;
 use std::thread::yield_now;
 
-/// Takes jobs until the line has ended, or until there is no memory for one more, and puts them at the
-/// end of a list. What the pass has taken before and the list does not hold stays so.
+/// Takes jobs until the queue has ended, or until memory runs out for one more, and adds them to
+/// the list. Whatever the pass took before and is not in the list stays so.
 pub fn drain<R: Wait, L: JobLine>(rt: &R, line: &L, pass: &mut L::Pass, taken: &mut Vec<QueuedJob>)
     requires pass { L.is_pass (L.id line.now) pass.old }
     ensures pass { L.is_pass (L.id line.now) pass.new }

@@ -1,4 +1,4 @@
-// Hands in jobs by one lane.
+// A producer: submitting the jobs of one lane.
 ghost use Rattle.std.specs.Prelude.{◌≡◌, ◌++◌};
 ghost use Rattle.std.specs.List.{All};
 ghost use Rattle.job_queue.specs.Record.{accepted_jobs};
@@ -10,8 +10,8 @@ use std::collections::VecDeque;
 use std::sync::Wait;
 use std::thread::yield_now;
 
-/// Hands in the jobs from the front, and tries again where the line is full. What it leaves was not
-/// accepted, since the line was closed or the lane spent.
+/// Submits the jobs from the front, and tries again if the queue is full. Jobs are left only if the
+/// queue was closed or the lane was spent. They were not accepted.
 pub fn feed<R: Wait, L: JobLine>(rt: &R, line: &L, lane: &mut L::Lane, jobs: &mut VecDeque<Job>)
     requires lane { L.is_lane (L.id line.now) lane.old }
     requires jobs { All (IsFor (L.id line.now).sizes.machine (L.lane_record lane.old).number)

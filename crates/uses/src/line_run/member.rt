@@ -1,5 +1,5 @@
-// What a thread has: a lane with its jobs, a pass with what it took, or the right to close. The type
-// says what is known of it, so it may lie under a lock.
+// The slots of a run's members: a lane with its jobs, a pass with what it took, or the right to
+// close. The type of a slot says what is known of its member, so it may be under a lock.
 ghost use Rattle.std.specs.Prelude.{◌≡◌, ℕ, ◌++◌, List, None, Some, IfSome, MatchOption, true, false};
 ghost use Rattle.std.specs.List.{All};
 ghost use Rattle.job_queue.specs.Record.{accepted_jobs};
@@ -13,7 +13,7 @@ use std::collections::VecDeque;
 use std::marker::{Brand, Model, PhantomData};
 use std::sync::Wait;
 
-/// Names one run: its line, and the jobs of each lane.
+/// A name for one run: its queue, and the jobs of each lane.
 pub trait Naming {
     ghost use Rattle.std.specs.Prelude.{ℕ, List};
     ghost use Rattle.job_types.specs.Job.{JobData};
@@ -33,7 +33,7 @@ impl Naming for Brand {
     ghost jobs = { λ _. [] };
 }
 
-/// A lane, and the jobs that it has still to hand in.
+/// A lane, and the jobs that it has still to submit.
 pub struct Feeder<J: Naming, L: JobLine> {
     lane: L::Lane,
     left: VecDeque<Job>,
@@ -150,7 +150,7 @@ impl<J: Naming, L: JobLine> Model for CloserSlot<J, L> {
     ghost use Rattle.std.specs.Prelude.{◌≡◌, Bool, None, MatchOption};
     ghost use Rattle.std.specs.Option.{is_some};
 
-    // whether it is closed
+    // Whether it is closed.
     ghost Value = { Bool };
 
     ghost view = { λ d. is_some d.note };

@@ -2,7 +2,7 @@
 ghost use Rattle.std.specs.Prelude.{◌≡◌, ◌≤◌, [], ◌∷◌, length};
 ghost use Rattle.std.specs.Vec.{vec_capacity};
 
-// Both members, and the list with its room.
+// Both members, and the empty list with room for them.
 pub(crate) struct Pair<T> {
     pub first: T,
     pub second: T,
@@ -27,9 +27,22 @@ impl<T> Pair<T> {
             room: members,
         }
     }
+
+    pub fn into_parts(self) -> (T, T, Vec<T>)
+        ensures first { result.0 ≡ self.first }
+        ensures second { result.1 ≡ self.second }
+        ensures room { result.2 ≡ self.room }
+    {
+        let Pair {
+            first,
+            second,
+            room,
+        } = self;
+        (first, second, room)
+    }
 }
 
-// The list of both.
+// Returns the list of both.
 pub(crate) fn both<T>(mut room: Vec<T>, first: T, second: T) -> Vec<T>
     requires { (room.items ≡ []) × (2 ≤ vec_capacity room) }
     ensures { result.items ≡ first ∷ second ∷ [] }

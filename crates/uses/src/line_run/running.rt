@@ -17,29 +17,29 @@ use std::marker::Brand;
 use std::sync::{Mutex, Wait};
 use std::thread::{Threads, join};
 
-/// What became of the jobs.
+/// The outcome of all jobs of a run.
 #[derive(Drop)]
 pub struct Finished {
-    /// What each pass took.
+    /// The jobs that each pass took.
     pub taken: (Vec<QueuedJob>, Vec<QueuedJob>),
-    /// What is left of the line.
+    /// The jobs left in the queue.
     pub rest: Rest,
-    /// What each lane did not hand in.
+    /// The jobs that each lane did not submit.
     pub unfed: (VecDeque<Job>, VecDeque<Job>),
 }
 
-// The threads of a run: each member stays in its slot, which says what is known of it.
-struct Gang<J: Naming, L: JobLine> {
+// The members of a run, each in a slot that its thread locks.
+struct Members<J: Naming, L: JobLine> {
     feeders: (Mutex<Feeder<J, L>>, Mutex<Feeder<J, L>>),
     takers: (Mutex<Taker<J, L>>, Mutex<Taker<J, L>>),
-    door: Mutex<CloserSlot<J, L>>,
+    closer: Mutex<CloserSlot<J, L>>,
 }
 
-// Feeds by both lanes and drains by both passes at once, and closes the line after the lanes.
+// Feeds both lanes and drains both passes at once. Closes the queue after the lanes.
 fn run_threads<R: Threads + Wait + Sync, J: Naming + Send + Sync, L: JobLine + SharedLine>(
     rt: &R,
     line: &L,
-    gang: &Gang<J, L>,
+    members: &Members<J, L>,
 )
     requires { L.id line.now ≡ J.line }
 {
@@ -52,12 +52,12 @@ fn run_threads<R: Threads + Wait + Sync, J: Naming + Send + Sync, L: JobLine + S
                 rt,
                 ||
                     requires { L.id line.now ≡ J.line }
-                { gang.feeders.0.lock(rt).feed(rt, line) },
+                { members.feeders.0.lock(rt).feed(rt, line) },
                 ||
                     requires { L.id line.now ≡ J.line }
-                { gang.feeders.1.lock(rt).feed(rt, line) },
+                { members.feeders.1.lock(rt).feed(rt, line) },
             );
-            gang.door.lock(rt).close(rt, line)
+            members.closer.lock(rt).close(rt, line)
         },
         ||
             requires { L.id line.now ≡ J.line }
@@ -66,16 +66,16 @@ fn run_threads<R: Threads + Wait + Sync, J: Naming + Send + Sync, L: JobLine + S
                 rt,
                 ||
                     requires { L.id line.now ≡ J.line }
-                { gang.takers.0.lock(rt).drain(rt, line) },
+                { members.takers.0.lock(rt).drain(rt, line) },
                 ||
                     requires { L.id line.now ≡ J.line }
-                { gang.takers.1.lock(rt).drain(rt, line) },
+                { members.takers.1.lock(rt).drain(rt, line) },
             );
         },
     );
 }
 
-// The same as `run`, once the run has a name.
+// Does the work of `run`, after the run got a name.
 fn run_named<J: Naming + Send + Sync, R: Threads + Wait + Sync, L: JobLine + SharedLine>(
     rt: &R,
     alloc: Global,
@@ -104,18 +104,10 @@ fn run_named<J: Naming + Send + Sync, R: Threads + Wait + Sync, L: JobLine + Sha
         passes,
         closer,
     } = opened;
-    let Pair {
-        first: lane,
-        second: other,
-        room: lane_room,
-    } = Pair::of(lanes);
-    let Pair {
-        first: pass,
-        second: another,
-        room: pass_room,
-    } = Pair::of(passes);
+    let (lane, other, lane_room) = Pair::of(lanes).into_parts();
+    let (pass, another, pass_room) = Pair::of(passes).into_parts();
     let (first_jobs, second_jobs) = jobs;
-    let gang: Gang<J, L> = Gang {
+    let members: Members<J, L> = Members {
         feeders: (
             Mutex::new(Feeder::new(lane, first_jobs)),
             Mutex::new(Feeder::new(other, second_jobs)),
@@ -124,19 +116,19 @@ fn run_named<J: Naming + Send + Sync, R: Threads + Wait + Sync, L: JobLine + Sha
             Mutex::new(Taker::new(pass, Vec::new(alloc))),
             Mutex::new(Taker::new(another, Vec::new(alloc))),
         ),
-        door: Mutex::new(CloserSlot::new(closer)),
+        closer: Mutex::new(CloserSlot::new(closer)),
     };
-    run_threads(rt, &line, &gang);
-    let Gang {
+    run_threads(rt, &line, &members);
+    let Members {
         feeders,
         takers,
-        door,
-    } = gang;
+        closer,
+    } = members;
     let (lane, unfed) = feeders.0.into_inner().into_parts();
     let (other, others_unfed) = feeders.1.into_inner().into_parts();
     let (pass, taken) = takers.0.into_inner().into_parts();
     let (another, others_taken) = takers.1.into_inner().into_parts();
-    let note = door.into_inner().into_note(rt, &line);
+    let note = closer.into_inner().into_note(rt, &line);
     let lanes = both(lane_room, lane, other);
     let passes = both(pass_room, pass, another);
     let rest = line.into_rest(rt, lanes, passes, note);
@@ -147,11 +139,11 @@ fn run_named<J: Naming + Send + Sync, R: Threads + Wait + Sync, L: JobLine + Sha
     }
 }
 
-/// Feeds both lanes of a new line and drains it by both passes, each on a thread of its own, closes
-/// it after the lanes, and ends it.
+/// Feeds both lanes of a new queue and drains it by both passes, each on a thread of its own.
+/// Closes the queue after the lanes, and ends it.
 ///
-/// However the jobs are weighed, those that were handed in weigh what was taken, what is left and
-/// what was not accepted. So each is there once.
+/// However jobs are weighed, those passed in weigh as much as those taken, left and not accepted
+/// together. So each is there once.
 pub fn run<R: Threads + Wait + Sync, L: JobLine + SharedLine>(
     rt: &R,
     alloc: Global,

@@ -8,6 +8,10 @@ use Rattle.cli_commands.proofs.lanes.open_count.Given as goal
 abbrev pub invariant-loop-lane : goal.invariant-loop-lane
 invariant-loop-lane l = record {
   range : (1 ≤ l.count) × (l.count ≤ l.lane);
-  past : (lane : ℕ) (none : VecDeque JobData Global) → l.count ≤ lane → lane < l.lane → (slice_index_or l.lanes lane none).items ≡ [];
-  last : (l.count ≡ 1) ⊎ ((none : VecDeque JobData Global) → (slice_index_or l.lanes (l.count - 1) none).items ≢ []);
+  past : (lane : ℕ) (none : VecDeque JobData Global)
+      → l.count ≤ lane
+      → lane < l.lane
+      → (slice_index_or l.lanes lane none).items ≡ [];
+  last : (l.count ≡ 1) ⊎ ((none : VecDeque JobData Global)
+      → (slice_index_or l.lanes (l.count - 1) none).items ≢ []);
 }

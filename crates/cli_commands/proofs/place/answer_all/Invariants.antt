@@ -13,6 +13,7 @@ abbrev pub invariant-loop-command : goal.invariant-loop-command
 invariant-loop-command g l = record {
   made : AreStations l.stations;
   dim : dim_of l.stations ≡ l.fn.n;
-  sent : (rows : List PlaceRow) × IsTrace (IsPlaced l.fn.n) l.yielded empty_table (named_holdings l.stations) rows
-      × IsSentOrBuffered (g.W.Write.contents l.fn.writer) (g.W.Write.contents l.writer) l.lines (file_text place_columns place_fields rows);
+  sent : (rows : List PlaceRow) × IsTrace (IsPlaced l.fn.n) l.yielded empty_table
+      (named_holdings l.stations) rows × IsSentOrBuffered (g.W.Write.contents l.fn.writer)
+      (g.W.Write.contents l.writer) l.lines (file_text place_columns place_fields rows);
 }

@@ -10,7 +10,8 @@ use Rattle.cli_commands.proofs.play.run.Given as goal
 abbrev pub invariant-loop-event : goal.invariant-loop-event
 invariant-loop-event l = record {
   there : l.station < length l.world.records;
-  moves : (steps : ℕ) × IsTrace AcceptedStep (replicate steps (act.Step l.station)) l.fn.world l.world l.rows.items;
+  moves : (steps : ℕ) × IsTrace AcceptedStep (replicate steps (act.Step l.station)) l.fn.world
+      l.world l.rows.items;
   shape : HasShapeOf l.fn.world l.world;
 }
 

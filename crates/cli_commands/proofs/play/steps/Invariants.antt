@@ -7,6 +7,7 @@ use Rattle.cli_commands.proofs.play.steps.Given as goal
 
 abbrev pub invariant-loop-made : goal.invariant-loop-made
 invariant-loop-made l = record {
-  acts : IsTrace ActStep (replicate l._made (act.Step l.fn.station)) l.fn.world l.world l.rows.items;
+  acts : IsTrace ActStep (replicate l._made (act.Step l.fn.station)) l.fn.world l.world
+      l.rows.items;
   shape : HasShapeOf l.fn.world l.world;
 }

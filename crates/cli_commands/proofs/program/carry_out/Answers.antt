@@ -19,8 +19,8 @@ returns-in-None-None-clause-outcome g c = from_reader g.S.FileStore.fresh (g.S.F
     c.answer.result c.answered.result c.answered.ensures.done c.answered.ensures.failed c.answer.ensures.answered c.answer.ensures.failed)
 
 -- from the reader to a file
-pub returns-in_ok-draft-in-None-Some-clause-outcome : goal.returns-in_ok-draft-in-None-Some-clause-outcome
-returns-in_ok-draft-in-None-Some-clause-outcome g c = from_reader g.S.FileStore.fresh (g.S.FileStore.bytes c.args.store.now) (g.S.FileStore.bytes c.settle_output.new.store)
+pub returns-in_ok-temp_file-in-None-Some-clause-outcome : goal.returns-in_ok-temp_file-in-None-Some-clause-outcome
+returns-in_ok-temp_file-in-None-Some-clause-outcome g c = from_reader g.S.FileStore.fresh (g.S.FileStore.bytes c.args.store.now) (g.S.FileStore.bytes c.settle_output.new.store)
     (g.R.Read.remaining c.args.console.now.reader) (g.W.Write.contents c.args.console.now.writer) (g.W.Write.contents c.args.console.now.writer)
     (g.R.Device.failures c.args.console.now.reader) (g.R.Device.failures c.answer-answer.new.reader)
     (g.W.Device.failures c.args.console.now.writer) (g.W.Device.failures c.args.console.now.writer)
@@ -37,9 +37,9 @@ returns-in_ok-draft-in-None-Some-clause-outcome g c = from_reader g.S.FileStore.
     (g.R.Device.failures c.args.console.now.reader) (g.R.Device.failures c.answer-answer.new.reader)
     (g.W.Device.failures c.args.console.now.writer) (g.W.Device.failures c.args.console.now.writer)
     c.deref-in-None-Some.result.now c.args.request.now.invocation (g.S.FileStore.bytes c.begin_output.new.store) c.begin_output.ensures.kept
-    (g.S.Draft.Write.contents c.in_ok-draft-in-None-Some.draft) (g.S.Draft.Write.contents c.answer-answer.new.writer)
-    (g.S.Draft.Device.failures c.in_ok-draft-in-None-Some.draft) (g.S.Draft.Device.failures c.answer-answer.new.writer)
-    c.answer-answer.result c.settle_output.result c.in_ok-draft-in-None-Some.ensures.fresh
+    (g.S.TempFile.Write.contents c.in_ok-temp_file-in-None-Some.temp_file) (g.S.TempFile.Write.contents c.answer-answer.new.writer)
+    (g.S.TempFile.Device.failures c.in_ok-temp_file-in-None-Some.temp_file) (g.S.TempFile.Device.failures c.answer-answer.new.writer)
+    c.answer-answer.result c.settle_output.result c.in_ok-temp_file-in-None-Some.ensures.fresh
     c.answer-answer.ensures.answered c.answer-answer.ensures.failed c.settle_output.ensures))
 
 -- from a file to the writer
@@ -62,8 +62,8 @@ returns-in_ok-file-in-Some-None-clause-outcome g c = from_file g.S.FileStore.fre
     c.answer-in-Some-None.ensures.answered c.answer-in-Some-None.ensures.failed)
 
 -- from a file to a file
-pub returns-in_ok-draft-in-Some-Some-clause-outcome : goal.returns-in_ok-draft-in-Some-Some-clause-outcome
-returns-in_ok-draft-in-Some-Some-clause-outcome g c = from_file g.S.FileStore.fresh (g.S.FileStore.bytes c.args.store.now) (g.S.FileStore.bytes c.settle_output-in-Some-Some.new.store)
+pub returns-in_ok-temp_file-in-Some-Some-clause-outcome : goal.returns-in_ok-temp_file-in-Some-Some-clause-outcome
+returns-in_ok-temp_file-in-Some-Some-clause-outcome g c = from_file g.S.FileStore.fresh (g.S.FileStore.bytes c.args.store.now) (g.S.FileStore.bytes c.settle_output-in-Some-Some.new.store)
     (g.R.Read.remaining c.args.console.now.reader) (g.W.Write.contents c.args.console.now.writer) (g.W.Write.contents c.args.console.now.writer)
     (g.R.Device.failures c.args.console.now.reader) (g.R.Device.failures c.args.console.now.reader)
     (g.W.Device.failures c.args.console.now.writer) (g.W.Device.failures c.args.console.now.writer)
@@ -83,7 +83,7 @@ returns-in_ok-draft-in-Some-Some-clause-outcome g c = from_file g.S.FileStore.fr
     (g.S.Reader.Device.failures c.in_ok-file-in-Some-Some.file) (g.S.Reader.Device.failures c.answer-answer-in-Some-Some.new.reader)
     (g.W.Device.failures c.args.console.now.writer) (g.W.Device.failures c.args.console.now.writer)
     c.deref-in-Some-Some-3.result.now c.args.request.now.invocation (g.S.FileStore.bytes c.begin_output-in-Some-Some.new.store) c.begin_output-in-Some-Some.ensures.kept
-    (g.S.Draft.Write.contents c.in_ok-draft-in-Some-Some.draft) (g.S.Draft.Write.contents c.answer-answer-in-Some-Some.new.writer)
-    (g.S.Draft.Device.failures c.in_ok-draft-in-Some-Some.draft) (g.S.Draft.Device.failures c.answer-answer-in-Some-Some.new.writer)
-    c.answer-answer-in-Some-Some.result c.settle_output-in-Some-Some.result c.in_ok-draft-in-Some-Some.ensures.fresh
+    (g.S.TempFile.Write.contents c.in_ok-temp_file-in-Some-Some.temp_file) (g.S.TempFile.Write.contents c.answer-answer-in-Some-Some.new.writer)
+    (g.S.TempFile.Device.failures c.in_ok-temp_file-in-Some-Some.temp_file) (g.S.TempFile.Device.failures c.answer-answer-in-Some-Some.new.writer)
+    c.answer-answer-in-Some-Some.result c.settle_output-in-Some-Some.result c.in_ok-temp_file-in-Some-Some.ensures.fresh
     c.answer-answer-in-Some-Some.ensures.answered c.answer-answer-in-Some-Some.ensures.failed c.settle_output-in-Some-Some.ensures))

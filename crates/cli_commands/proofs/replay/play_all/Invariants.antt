@@ -13,6 +13,7 @@ abbrev pub invariant-loop-line : goal.invariant-loop-line
 invariant-loop-line g l = record {
   dim : l.world.dim ≡ l.fn.n;
   stations : length l.world.records ≡ l.fn.stations;
-  sent : (rows : List ReplayRow) × IsTrace IsPlayed l.yielded (initial l.fn.n l.fn.stations) l.world rows
-      × IsSentOrBuffered (g.W.Write.contents l.fn.writer) (g.W.Write.contents l.writer) l.lines (file_text replay_columns replay_fields rows);
+  sent : (rows : List ReplayRow) × IsTrace IsPlayed l.yielded (initial l.fn.n l.fn.stations) l.world
+      rows × IsSentOrBuffered (g.W.Write.contents l.fn.writer) (g.W.Write.contents l.writer) l.lines
+      (file_text replay_columns replay_fields rows);
 }

@@ -12,7 +12,11 @@ record Numbers (k i all after last : ℕ) : Type 0 where
   pub lower : 2 ^ after ≤ all - 1 - i
   pub upper : all - 1 - i < 2 * 2 ^ after
 
-after_below : (k i all after : ℕ) → all ≡ 2 ^ k → i < 2 ^ k - 1 → 2 ^ after ≤ all - 1 - i → after < k
+after_below : (k i all after : ℕ)
+    → all ≡ 2 ^ k
+    → i < 2 ^ k - 1
+    → 2 ^ after ≤ all - 1 - i
+    → after < k
 after_below k i all after all_is number lower = exponent_below after k (omega arith)
 
 last_fits : (k i all after last : ℕ) → Numbers k i all after last → 2 * last ≤ all
@@ -31,7 +35,11 @@ place_fits k i all after last n =
 size_is : (k after half : ℕ) → half ≡ 2 ^ (k - 1 - after) → 2 * half ≡ 2 ^ (k - 1 - after + 1)
 size_is k after half half_is = let next = next_power (k - 1 - after) in omega arith
 
-all_sizes : (k after last half : ℕ) → after < k → last ≡ 2 ^ after → half ≡ 2 ^ (k - 1 - after) → 2 * half * last ≡ 2 ^ k
+all_sizes : (k after last half : ℕ)
+    → after < k
+    → last ≡ 2 ^ after
+    → half ≡ 2 ^ (k - 1 - after)
+    → 2 * half * last ≡ 2 ^ k
 all_sizes k after last half within last_is half_is =
     let exponent : k - 1 - after + 1 + after ≡ k = omega arith in
     ap (λ size. size * last) (size_is k after half half_is) ∙ ap (λ l. 2 ^ (k - 1 - after + 1) * l) last_is

@@ -24,7 +24,8 @@ turned_pair unit join root half low old next positive low_is within agree next_i
 -- pairs that differ from it stay
 kept_pairs : {M : Type 0} (unit : M) (join : M → M → M) (root half from bound : ℕ) (old : List M)
     → ((x : ℕ) → from ≤ x → x < bound → x % half ≢ root % half)
-    → TurnsPairsIn unit half from bound (reduced_low unit join root half) (reduced_high unit join root half) old old
+    → TurnsPairsIn unit half from bound (reduced_low unit join root half)
+    (reduced_high unit join root half) old old
 kept_pairs unit join root half from bound old differ =
     Turned-keep unit half from bound (reduced_low unit join root half) (reduced_high unit join root half) old
     (λ x above below low_is a b. (

@@ -6,8 +6,10 @@ use Rattle.collectives.proofs.rounds.scan_round.Given as goal
 -- the pairs of the blocks before this one have turned
 abbrev pub invariant-loop-block : goal.invariant-loop-block
 invariant-loop-block g l = let m = g.M.Monoid in record {
-  prepended : TurnsPairsIn m.unit l.half 0 (l.block * (2 * l.half)) (λ low a b. a) (λ low a b. m.join (item_at m.unit l.fn.totals low) b) l.fn.prefixes l.prefixes;
-  joined : TurnsPairsIn m.unit l.half 0 (l.block * (2 * l.half)) (λ low. m.join) (λ low. m.join) l.fn.totals l.totals;
+  prepended : TurnsPairsIn m.unit l.half 0 (l.block * (2 * l.half)) (λ low a b. a)
+      (λ low a b. m.join (item_at m.unit l.fn.totals low) b) l.fn.prefixes l.prefixes;
+  joined : TurnsPairsIn m.unit l.half 0 (l.block * (2 * l.half)) (λ low. m.join) (λ low. m.join)
+      l.fn.totals l.totals;
   values : All m.is_value l.prefixes;
   total_values : All m.is_value l.totals;
 }

@@ -4,7 +4,7 @@ use Rattle.cube_ledger.specs.Ledger.{totals_of}
 use Rattle.cube_ledger.specs.Inner.Group.{is_in}
 use Rattle.cube_ledger.proofs.ledger.sum.Given as goal
 
--- the totals are those of the slips so far
+-- The totals are those of the slips so far.
 abbrev pub invariant-loop-slip : goal.invariant-loop-slip
 invariant-loop-slip l = record {
   totals : l.totals ≡ totals_of (is_in l.group) (take l.slip-index l.slips);

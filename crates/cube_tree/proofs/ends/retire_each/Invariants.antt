@@ -16,5 +16,7 @@ invariant-loop-station l = record {
   loads : l.seat.me.0.loads ≡ l.initial.seat.me.0.loads;
   of_tree : All (HasTable (id_of l.tree)) l.stations.items;
   gone : All IsGone l.seat.me.0.stations;
-  there : (s : ℕ) → times s l.seat.me.0.stations + times s (map station_entry l.stations.items) ≡ times s (map station_entry l.initial.stations.items);
+  there : (s : ℕ)
+      → times s l.seat.me.0.stations + times s (map station_entry l.stations.items)
+      ≡ times s (map station_entry l.initial.stations.items);
 }

@@ -18,5 +18,8 @@ invariant-loop-node l = record {
   alone : IsAlone l.seat.me;
   told : IsTold (dim_of l.tree) (read_words l.tree) l.seat.me.0.stations;
   low : 2 ^ (dim_of l.fn.tree - l.k) ≤ l.node.0;
-  blocked : (v : ℕ) → 2 ^ (dim_of l.fn.tree - l.k) ≤ v → v < l.node.0 → IsBlocked v (unpicked l.station l.fn.seat.me.0.stations);
+  blocked : (v : ℕ)
+      → 2 ^ (dim_of l.fn.tree - l.k) ≤ v
+      → v < l.node.0
+      → IsBlocked v (unpicked l.station l.fn.seat.me.0.stations);
 }

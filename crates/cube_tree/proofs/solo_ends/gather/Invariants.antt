@@ -15,5 +15,7 @@ invariant-loop-station l = record {
   slots : l.seat.me.1 ≡ [];
   of_tree : All (HasTable (id_of l.tree)) l.list.items;
   idle : All (λ e. e.phase ≡ Idle) l.seat.me.0.stations;
-  all : (s : ℕ) → s < station_count l.tree → 0 < times s l.seat.me.0.stations + times s (map station_entry l.list.items);
+  all : (s : ℕ)
+      → s < station_count l.tree
+      → 0 < times s l.seat.me.0.stations + times s (map station_entry l.list.items);
 }

@@ -1,4 +1,4 @@
--- No bit is set, and no station holds a region.
+-- No bit is set, and no station holds a block.
 use Rattle.std.proofs.Common.{◌^◌, ◌≤◌, arith}
 use Rattle.std.proofs.Math.Nat.{pow-le-pow_right}
 use Rattle.cube_shape.specs.declared.limits.TheConstants.{MAX_DIM}

@@ -1,4 +1,4 @@
--- The region's bits and its station's slot are the only ones that change.
+-- Only the block's bits and its station's slot change.
 use Rattle.std.proofs.Common.{◌∙◌, sym}
 use Rattle.cubejobs_c.specs.Machine.{holdings}
 use Rattle.cubejobs_c.proofs.exports.cubejobs_release.Goals as goal

@@ -1,4 +1,4 @@
--- The first fit goes to the station, and its bits and its station's slot are the only ones that change.
+-- The station gets the first fit, and only the block's bits and the station's slot change.
 use Rattle.std.proofs.Common.{◌≡◌, sym, subst, None, arith, rules}
 use Rattle.cube_shape.specs.Machine.{Gives}
 use Rattle.region_bits.proofs.RepresentsLemmas.{Gives-first_fit}

@@ -1,4 +1,4 @@
--- Bits of which none is set represent a machine whose stations hold nothing.
+-- If no bit is set, the bits represent a machine whose stations hold nothing.
 use Rattle.std.proofs.Common.{sym, subst, arith}
 use Rattle.region_bits.specs.Represents.{Represents}
 use Rattle.region_bits.proofs.RepresentsLemmas.{Represents-new}

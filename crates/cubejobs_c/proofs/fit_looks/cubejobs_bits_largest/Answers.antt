@@ -1,4 +1,4 @@
--- A region is free exactly if a processor is.
+-- A block is free exactly if a processor is.
 use Rattle.std.proofs.Common.{◌<◌, subst, ap, arith}
 use Rattle.cube_shape.specs.declared.region.Region.{Region}
 use Rattle.cubejobs_c.proofs.FreeLemmas.{none_is_free, not_all_held}

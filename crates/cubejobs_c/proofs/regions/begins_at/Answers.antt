@@ -1,4 +1,4 @@
--- A region is aligned exactly where it begins in the machine, at a multiple of its size.
+-- A block is aligned exactly if it begins in the machine, at a multiple of its size.
 use Rattle.std.proofs.Common.{◌≡◌, ◌*◌, ◌%◌, ◌^◌, ◌<◌, refl, sym, ap, ◌∙◌, arith}
 use Rattle.std.proofs.lemmas.Bool.{true≢false}
 use Rattle.std.proofs.lemmas.Nat.{one_shl}

@@ -1,4 +1,4 @@
--- The region goes to the station, and its bits and its station's slot are the only ones that change.
+-- The station gets the block, and only the block's bits and the station's slot change.
 use Rattle.std.proofs.Common.{◌≡◌, refl, sym, subst, None, rules}
 use Rattle.cube_shape.specs.Machine.{Gives}
 use Rattle.cubejobs_c.specs.Machine.{holdings, region_from}

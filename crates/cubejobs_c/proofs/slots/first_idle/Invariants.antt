@@ -1,4 +1,4 @@
--- Each station so far holds a region.
+-- Each station so far holds a block.
 use Rattle.std.proofs.Common.{ℕ, ◌<◌}
 use Rattle.std.specs.Prelude.{IsSome}
 use Rattle.cubejobs_c.specs.Machine.{holdings}

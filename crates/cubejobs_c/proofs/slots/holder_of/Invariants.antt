@@ -1,4 +1,4 @@
--- No station so far has a region with the processor.
+-- No station so far has a block with the processor.
 use Rattle.std.proofs.Common.{◌≡◌, ℕ, ◌<◌, Some}
 use Rattle.cube_shape.specs.declared.region.Region.{Region}
 use Rattle.cube_shape.specs.Region.{Covers}

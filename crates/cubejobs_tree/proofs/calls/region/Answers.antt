@@ -1,4 +1,4 @@
--- The region is the one that the station holds.
+-- The block is the one that the station holds.
 use Rattle.std.proofs.Common.{◌∙◌, ap, Some}
 use Rattle.cubejobs_tree.proofs.calls.region.Goals as goal
 

@@ -1,4 +1,4 @@
--- The machine is the tree's, with all its stations.
+-- The machine is that of the tree, with all its stations.
 use Rattle.std.proofs.Common.{◌∙◌, ap, refl, map}
 use Rattle.cube_tree.specs.Handles.{cube_size, station_entry}
 use Rattle.cube_tree.specs.Ends.{reader_loads}

@@ -1,4 +1,4 @@
--- What stands behind the handle goes through the close by value.
+-- The content of the handle goes through the close by value.
 use Rattle.std.proofs.Common.{◌∙◌, ap, sym, subst, Some}
 use Rattle.cubejobs_tree.specs.Ends.{IsClosed, IsStillOpen}
 use Rattle.cubejobs_tree.specs.Handle.{content_of}

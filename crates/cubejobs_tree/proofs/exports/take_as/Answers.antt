@@ -1,4 +1,4 @@
--- What stands behind the handle goes through the call by value.
+-- The content of the handle goes through the call by value.
 use Rattle.std.proofs.Common.{sym, subst, Some}
 use Rattle.cubejobs_tree.specs.Calls.{Gives, Refuses}
 use Rattle.cubejobs_tree.specs.Handle.{content_of}

@@ -1,4 +1,4 @@
--- What both held before the call is apart.
+-- The blocks that both held before the call are apart.
 use Rattle.std.proofs.Common.{◌∙◌, ap, Some}
 use Rattle.cubejobs_tree.proofs.law.apart.Goals as goal
 

@@ -1,4 +1,4 @@
--- The regions are those that the tree's own comparison has found apart.
+-- The blocks are those that the tree's own comparison has found apart.
 use Rattle.std.proofs.Common.{◌∙◌, ap, subst}
 use Rattle.cube_shape.specs.Region.{AreApart}
 use Rattle.cube_tree.specs.Handles.{held_region}

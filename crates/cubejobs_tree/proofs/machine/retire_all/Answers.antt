@@ -1,4 +1,4 @@
--- What is left of the list is of the same cube.
+-- What is left of the list is of the same tree.
 use Rattle.std.proofs.Common.{sym, subst}
 use Rattle.std.specs.List.{All}
 use Rattle.std.proofs.lemmas.List.Elements.{All-drop}

@@ -1,4 +1,4 @@
--- The answer is that of what stands behind the handle.
+-- The answer is that of the handle's content.
 use Rattle.std.proofs.Common.{sym, subst}
 use Rattle.cubejobs_tree.specs.Calls.{Names}
 use Rattle.cubejobs_tree.proofs.readouts.cubejobs_tree_region.Goals as goal

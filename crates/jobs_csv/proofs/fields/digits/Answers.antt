@@ -13,15 +13,21 @@ at_least : (digits : List ℕ) (value : ℕ) → value ≤ fold step value digit
 at_least [] value = omega arith
 at_least (digit ∷ digits) value = omega (arith, at_least digits (10 * value + (digit - 48)))
 
--- a value that is too large as far as some digit is too large in the end
-too_large : (field : List ℕ) (i value : ℕ) → i < length field → fold step value (drop i field) ≡ value_of field → 2 ^ 64 ≤ 10 * value + (get_or field i 0 - 48) → 2 ^ 64 ≤ value_of field
+-- a value that is too large after some digit is too large at the end
+too_large : (field : List ℕ) (i value : ℕ)
+    → i < length field
+    → fold step value (drop i field) ≡ value_of field
+    → 2 ^ 64 ≤ 10 * value + (get_or field i 0 - 48)
+    → 2 ^ 64 ≤ value_of field
 too_large field i value within rest large =
     let next = at_drop_more (fold step value) field i 0 within in
     let grows = at_least (drop (i + 1) field) (10 * value + (get_or field i 0 - 48)) in
     omega (arith, next, grows, rest, large)
 
 -- a value that is too large is no answer
-no_number : (digits : Bool) (value : ℕ) → 2 ^ 64 ≤ value → None ≡ (if digits && nat_lt value (2 ^ 64) then Some value else None)
+no_number : (digits : Bool) (value : ℕ)
+    → 2 ^ 64 ≤ value
+    → None ≡ (if digits && nat_lt value (2 ^ 64) then Some value else None)
 no_number true value large = grind (arith, nat_tests)
 no_number false value large = refl
 

@@ -8,7 +8,10 @@ use Rattle.jobs_csv.proofs.format.read_rows.Given as goal
 abbrev pub invariant-loop-number : goal.invariant-loop-number
 invariant-loop-number g l = record {
   plain : IsPlain l.reader;
-  read : (rows : List g.row.F-Row.Denot) × g.G.RowSink.contents l.rows rows × All (λ row. g.F.Format.is_row l.format row) rows
-      × ((text : Option (List ℕ)) (header : Record) → HasGiven g.R.Read.remaining text (header ∷ []) l.fn.reader → g.F.Format.header_of header ≡ Ok tt
-      → HasRead g.F.Format.header_of (g.F.Format.row_of l.format) g.R.Read.remaining text l.number rows l.reader);
+  read : (rows : List g.row.F-Row.Denot) × g.G.RowSink.contents l.rows rows
+      × All (λ row. g.F.Format.is_row l.format row) rows
+      × ((text : Option (List ℕ)) (header : Record)
+      → HasGiven g.R.Read.remaining text (header ∷ []) l.fn.reader → g.F.Format.header_of header
+      ≡ Ok tt → HasRead g.F.Format.header_of (g.F.Format.row_of l.format) g.R.Read.remaining text
+      l.number rows l.reader);
 }

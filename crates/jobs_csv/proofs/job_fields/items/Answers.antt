@@ -20,7 +20,9 @@ no_items [] e = refl
 no_items (byte ∷ rest) e = cc
 
 -- the items of any other field are the numbers of its pieces
-items_of_pieces : (field : List ℕ) → 0 < length field → items_of field ≡ or_refuse what.Number (all_numbers (pieces_of field))
+items_of_pieces : (field : List ℕ)
+    → 0 < length field
+    → items_of field ≡ or_refuse what.Number (all_numbers (pieces_of field))
 unfolding items_of numbers_of
 items_of_pieces [] e = search rules
 items_of_pieces (byte ∷ rest) e = refl
@@ -29,19 +31,23 @@ items_of_pieces (byte ∷ rest) e = refl
 with_first : Option (List ℕ) → Option ℕ → Option (List ℕ)
 with_first rest first = option_and_then (λ x. option_and_then (λ xs. Some (x ∷ xs)) rest) first
 
-first_number : (piece : List ℕ) (pieces : List (List ℕ)) → all_numbers (piece ∷ pieces) ≡ with_first (all_numbers pieces) (number_of piece)
+first_number : (piece : List ℕ) (pieces : List (List ℕ))
+    → all_numbers (piece ∷ pieces) ≡ with_first (all_numbers pieces) (number_of piece)
 unfolding all_numbers with_first
 first_number piece pieces = refl
 
 -- the numbers of the pieces from k on
-numbers_from : (pieces : List (List ℕ)) (k : ℕ) (piece : List ℕ) → (k < length pieces) × (piece ≡ get_or pieces k piece) → all_numbers (drop k pieces) ≡ with_first (all_numbers (drop (k + 1) pieces)) (number_of piece)
+numbers_from : (pieces : List (List ℕ)) (k : ℕ) (piece : List ℕ)
+    → (k < length pieces) × (piece ≡ get_or pieces k piece)
+    → all_numbers (drop k pieces) ≡ with_first (all_numbers (drop (k + 1) pieces)) (number_of piece)
 numbers_from pieces k piece at = at_drop_more all_numbers pieces k piece at.0 ∙ first_number _ _ ∙ ap (λ p. with_first (all_numbers (drop (k + 1) pieces)) (number_of p)) (sym at.1)
 
 behind : List ℕ → Option (List ℕ) → Option (List ℕ)
 behind front rest = option_map (λ more. front ++ more) rest
 
--- an item passes from those that are left to those in front
-one_more : (items : List ℕ) (x : ℕ) (rest : Option (List ℕ)) → behind items (with_first rest (Some x)) ≡ behind (items ++ x ∷ []) rest
+-- one item moves from those that are left to those in front
+one_more : (items : List ℕ) (x : ℕ) (rest : Option (List ℕ))
+    → behind items (with_first rest (Some x)) ≡ behind (items ++ x ∷ []) rest
 unfolding with_first behind
 one_more items x None = refl
 one_more items x (Some xs) = ap Some (sym (append_assoc items (x ∷ []) xs))

@@ -8,12 +8,15 @@ use Rattle.region_bits.specs.Bits.{IsClear, IsFirstClear}
 use Rattle.region_bits.proofs.RepresentsLemmas as lemmas
 use Rattle.region_bits.proofs.regions.first_fit.Goals as goal
 
-first : (n k : ℕ) (bits : List Bool) (found : Option Region) → IfSome found (λ r. (m : ℕ) × (r ≡ block k m) × IsFirstClear n k bits m)
-    → IfSome found (λ r. (m : ℕ) × (r ≡ block k m) × ((held : Holdings) → Represents n held bits → IsFirstFit n k held m))
+first : (n k : ℕ) (bits : List Bool) (found : Option Region)
+    → IfSome found (λ r. (m : ℕ) × (r ≡ block k m) × IsFirstClear n k bits m)
+    → IfSome found (λ r. (m : ℕ) × (r ≡ block k m)
+    × ((held : Holdings) → Represents n held bits → IsFirstFit n k held m))
 first n k bits None is = is
 first n k bits (Some r) is = (is.0, is.1, λ held represents. lemmas.first_fit n held bits represents k is.0 is.2)
 
-none : (n k : ℕ) (bits : List Bool) (found : Option Region) → IfNone found ((m : ℕ) → m < 2 ^ (n - k) → IsClear bits (block k m) → ⊥)
+none : (n k : ℕ) (bits : List Bool) (found : Option Region)
+    → IfNone found ((m : ℕ) → m < 2 ^ (n - k) → IsClear bits (block k m) → ⊥)
     → IfNone found ((held : Holdings) → Represents n held bits → HasNoFit n k held)
 none n k bits None is = λ held represents. lemmas.no_fit n held bits represents k is
 none n k bits (Some r) is = is

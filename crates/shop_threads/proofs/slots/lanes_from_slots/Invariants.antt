@@ -4,12 +4,12 @@ use Rattle.std.specs.Vec.{vec_capacity}
 use Rattle.shop_threads.specs.InnerEnd.{HasEnded}
 use Rattle.shop_threads.proofs.slots.lanes_from_slots.Given as goal
 
-abbrev pub invariant-loop-feeder : goal.invariant-loop-feeder
-invariant-loop-feeder g l = let line = g.L.JobLine in let shop = g.J.Naming.shop in
+abbrev pub invariant-loop-slot : goal.invariant-loop-slot
+invariant-loop-slot g l = let line = g.L.JobLine in let shop = g.J.Naming.shop in
     All (λ f. line.is_lane shop.line f.0) l.fed.items
     × All (λ f. HasEnded g.J.Naming.jobs (line.lane_record f.0) f.1) l.fed.items
-    × (length l.feeders.items + length l.fed.items ≡ length l.fn.feeders.items + length l.fn.fed.items)
-    × (length l.fn.feeders.items + length l.fn.fed.items ≤ vec_capacity l.fed)
+    × (length l.lane_slots.items + length l.fed.items ≡ length l.fn.lane_slots.items + length l.fn.fed.items)
+    × (length l.fn.lane_slots.items + length l.fn.fed.items ≤ vec_capacity l.fed)
 
-abbrev pub decreases-loop-feeder : goal.decreases-loop-feeder
-decreases-loop-feeder g l = length l.feeders.items
+abbrev pub decreases-loop-slot : goal.decreases-loop-slot
+decreases-loop-slot g l = length l.lane_slots.items

@@ -3,11 +3,11 @@ use Rattle.shop_threads.specs.InnerEnd.{HasEnded}
 use Rattle.shop_threads.proofs.SlotLemmas.{all_pushed, longer}
 use Rattle.shop_threads.proofs.slots.slots_for_lanes.Goals as goal
 
-pub loop-feeder-preserved-in-Err : goal.loop-feeder-preserved-in-Err
-loop-feeder-preserved-in-Err g c =
+pub loop-slot-preserved-in-Err : goal.loop-slot-preserved-in-Err
+loop-slot-preserved-in-Err g c =
     let line = g.L.JobLine in
-    let inv = c.loop-feeder.invariant in
-    let old = c.loop-feeder.fed.items in
+    let inv = c.loop-slot.invariant in
+    let old = c.loop-slot.fed.items in
     let new = c.push_reserved.new.self.items in
     let one = c.into_end.result in
     let pushed = c.push_reserved.ensures.items in (
@@ -17,7 +17,7 @@ loop-feeder-preserved-in-Err g c =
       omega (arith, inv.3, c.push_reserved.ensures.capacity),
     )
 
-pub loop-feeder-preserved : goal.loop-feeder-preserved
-loop-feeder-preserved g c =
-    let inv = c.loop-feeder.invariant in
+pub loop-slot-preserved : goal.loop-slot-preserved
+loop-slot-preserved g c =
+    let inv = c.loop-slot.invariant in
     (inv.0, inv.1, omega (arith, inv.2, c.in_default-push.ensures.len, c.in-Some.ensures), inv.3)

@@ -3,10 +3,10 @@ use Rattle.dispatcher.specs.Members.{IsEndOf}
 use Rattle.shop_threads.proofs.SlotLemmas.{all_pushed, longer}
 use Rattle.shop_threads.proofs.slots.slots_for_workers.Goals as goal
 
-pub loop-post-preserved-in-Err : goal.loop-post-preserved-in-Err
-loop-post-preserved-in-Err g c =
-    let inv = c.loop-post.invariant in
-    let old = c.loop-post.ends.items in
+pub loop-slot-preserved-in-Err : goal.loop-slot-preserved-in-Err
+loop-slot-preserved-in-Err g c =
+    let inv = c.loop-slot.invariant in
+    let old = c.loop-slot.ends.items in
     let new = c.push_reserved.new.self.items in
     let end = c.into_end.result in
     let pushed = c.push_reserved.ensures.items in (
@@ -15,7 +15,7 @@ loop-post-preserved-in-Err g c =
       omega (arith, inv.2, c.push_reserved.ensures.capacity),
     )
 
-pub loop-post-preserved : goal.loop-post-preserved
-loop-post-preserved g c =
-    let inv = c.loop-post.invariant in
+pub loop-slot-preserved : goal.loop-slot-preserved
+loop-slot-preserved g c =
+    let inv = c.loop-slot.invariant in
     (inv.0, omega (arith, inv.1, c.in_default-push.ensures.len, c.in-Some.ensures), inv.2)

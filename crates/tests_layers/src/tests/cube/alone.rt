@@ -1,4 +1,4 @@
-//! A machine with all its stations in one hand.
+//! Tests of a machine with all its stations in one caller's hands.
 
 use super::{is_free, opened};
 use crate::tests::expect::expect_all;
@@ -7,7 +7,7 @@ use cube_tree::{FreeMachine, Solo, SoloRefused};
 use std::alloc::Global;
 use std::process::Abort;
 
-// A machine of dimension `n` with all its stations.
+// Makes a machine of dimension `n` with all its stations.
 pub(in crate::tests) fn made(rt: &impl Abort, alloc: Global, n: u32, stations: u32) -> Solo {
     let (cube, list) = opened(rt, alloc, n, stations);
     match Solo::new(alloc, cube, list) {
@@ -16,13 +16,14 @@ pub(in crate::tests) fn made(rt: &impl Abort, alloc: Global, n: u32, stations: u
     }
 }
 
-// Whether each node is free at the end of the machine.
+// Closes the machine. Returns whether each node is free in the end.
 pub(in crate::tests) fn ends_free(solo: Solo) -> bool {
     is_free(&solo.close())
 }
 
-// A line of a schedule: a take of a dimension, with the station and the base of its region; a release
-// of a station, which holds one; the region of a station; and the words.
+// A line of a schedule. `Takes` has a dimension, and the station and the base of the block.
+// `GivesBack` releases the block of a station. `HasRegion` says the block of a station, and
+// `HasWords` says all words.
 enum Row {
     Takes(u32, Result<(usize, u64), SoloRefused>),
     GivesBack(usize),
@@ -30,7 +31,8 @@ enum Row {
     HasWords([u64; 16]),
 }
 
-// Whether a take has this answer, after which the station holds a region of dimension `k`.
+// Takes a block of dimension `k`. Returns whether the result is this one, and the station holds a
+// block of this dimension.
 fn takes(solo: &mut Solo, k: u32, answer: Result<(usize, u64), SoloRefused>) -> bool {
     if k > solo.dim() {
         return false;
@@ -47,7 +49,7 @@ fn takes(solo: &mut Solo, k: u32, answer: Result<(usize, u64), SoloRefused>) -> 
     }
 }
 
-// Whether the station holds a region, which it gives back.
+// Releases the block of a station. Returns whether it held one.
 fn gives_back(solo: &mut Solo, station: usize) -> bool {
     let holds = solo.holds(station);
     if holds {
@@ -56,7 +58,7 @@ fn gives_back(solo: &mut Solo, station: usize) -> bool {
     holds
 }
 
-// Whether the machine goes as these lines say, from the first to the last.
+// Plays the lines in order. Returns whether the machine does what each says.
 fn follows(solo: &mut Solo, rows: &[Row]) -> bool {
     for row in rows {
         let went = match row {
@@ -98,7 +100,8 @@ fn the_lowest_station_gets_the_first_fit(rt: HostRuntime) {
     expect_all(&rt, &[dim == 3, went, ends_free(solo)]);
 }
 
-// Whether the stations below this number take a processor each, by rising numbers.
+// Takes a processor for each of `stations` stations. Returns whether station `i` gets processor
+// `i`.
 fn all_take(solo: &mut Solo, stations: u32) -> bool {
     for number in 0..stations {
         if !takes(solo, 0, Ok((number as usize, number as u64))) {
@@ -121,8 +124,8 @@ fn each_station_of_the_largest_machine_holds(rt: HostRuntime) {
     );
 }
 
-// The machine of dimension 2 with three stations at its end. Where memory for it is refused, the cube
-// and its stations are given back.
+// Makes a machine of dimension 2 with three stations, and closes it. If there is no memory for it,
+// closes the machine and the stations that come back.
 fn made_and_closed(rt: &impl Abort, alloc: Global) -> FreeMachine {
     let (cube, list) = opened(rt, alloc, 2, 3);
     match Solo::new(alloc, cube, list) {

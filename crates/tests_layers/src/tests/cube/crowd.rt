@@ -1,5 +1,5 @@
-//! Many threads at once: four stations hold a processor each at the same moment, and claims are lost to
-//! others.
+//! Tests of the tree with four threads: all hold a processor at the same moment, and claims are
+//! lost.
 
 ghost use Rattle.std.specs.Prelude.{◌≡◌, ◌≤◌, [], All, IsSomeAnd, vec_len, vec_capacity};
 ghost use Rattle.cube_tree.specs.Handles.{cube_dim, IsStationOf};
@@ -22,16 +22,17 @@ struct Shared {
     dim: u32,
     // How many stations hold a processor and wait for the others.
     waiting: AtomicU64,
-    // How many saw all four hold.
+    // How many stations saw that all four hold one.
     met: AtomicU64,
-    // How many tries of one node were lost to another station, and how many takes counted one as lost.
+    // How many tries of a node were lost to another station, and how many losses refused takes
+    // counted.
     lost_tries: AtomicU64,
     lost_takes: AtomicU64,
-    // How many takes of the only region there is counted anything but one refusal at its node.
+    // How many refused takes of the only block counted anything other than one refusal.
     miscounted: AtomicU64,
 }
 
-// The counters of a machine of dimension `dim`, all at 0.
+// Returns counters at 0, for a machine of dimension `dim`.
 fn unused(dim: u32) -> Shared
     ensures { result.dim ≡ dim }
 {
@@ -45,7 +46,7 @@ fn unused(dim: u32) -> Shared
     }
 }
 
-// Counts the caller, who holds a region, and waits for the others, four in all, to hold theirs.
+// Counts a station that holds a block, and waits for a long time at most until four do.
 fn meet_all(shared: &Shared) {
     shared.waiting.fetch_add(1, SeqCst);
     for _ in 0..1_000_000_000u64 {
@@ -57,7 +58,7 @@ fn meet_all(shared: &Shared) {
     }
 }
 
-// Takes the leaf of the station's own, and gives it back once all hold theirs.
+// Takes the station's own leaf, and releases it after all four hold theirs.
 fn hold(cube: &Cube, station: TreeStation, shared: &Shared) -> TreeStation
     requires cube { IsStationOf cube.now station }
     requires dim { cube_dim cube.now ≡ 2 }
@@ -73,7 +74,8 @@ fn hold(cube: &Cube, station: TreeStation, shared: &Shared) -> TreeStation
     }
 }
 
-// One try of the only node of a machine of one processor.
+// Tries once to take the only node of a machine of one processor, and releases it. Counts a lost
+// try.
 fn try_root(cube: &Cube, station: TreeStation, shared: &Shared) -> TreeStation
     requires cube { IsStationOf cube.now station }
     requires dim { cube_dim cube.now ≡ 0 }
@@ -90,7 +92,7 @@ fn try_root(cube: &Cube, station: TreeStation, shared: &Shared) -> TreeStation
     }
 }
 
-// One take of its only region.
+// Takes the only block of such a machine once, and releases it. Counts losses, and wrong counts.
 fn take_whole(cube: &Cube, station: TreeStation, shared: &Shared) -> TreeStation
     requires { IsStationOf cube.now station }
     ensures { IsStationOf cube.now result }
@@ -125,8 +127,8 @@ fn race(cube: &Cube, station: TreeStation, shared: &Shared) -> TreeStation
     station
 }
 
-// What each station does: one take of a processor on a machine of dimension 2, and takes of the whole on
-// a machine of one processor.
+// Does the part of a station. On a machine of dimension 2 it holds a processor. On a machine of one
+// processor it races for it.
 fn act(cube: &Cube, station: TreeStation, shared: &Shared) -> TreeStation
     requires cube { IsStationOf cube.now station }
     requires dim { cube_dim cube.now ≡ shared.now.dim }
@@ -139,7 +141,7 @@ fn act(cube: &Cube, station: TreeStation, shared: &Shared) -> TreeStation
     }
 }
 
-// The station in this slot, which has one before and after, does its part.
+// Does the part of the station in this slot, which has one before and after.
 fn run(cube: &Cube, slot: &mut Option<TreeStation>, shared: &Shared)
     requires station { IsSomeAnd slot.old (λ station. IsStationOf cube.now station) }
     requires dim { cube_dim cube.now ≡ shared.now.dim }
@@ -152,7 +154,7 @@ fn run(cube: &Cube, slot: &mut Option<TreeStation>, shared: &Shared)
     }
 }
 
-// The parts of all, in as many threads.
+// Does the parts of all stations, each on a thread of its own.
 fn run_all<R: Threads + Sync>(
     rt: &R,
     cube: &Cube,
@@ -177,7 +179,7 @@ fn run_all<R: Threads + Sync>(
     );
 }
 
-// Each station of the list gets a slot.
+// Puts each station of the list into a slot.
 fn seat_all(cube: &Cube, list: &mut Vec<TreeStation>, slots: &mut Vec<Option<TreeStation>>)
     requires stations { All (IsStationOf cube.now) list.old.items }
     requires empty { slots.old.items ≡ [] }
@@ -191,7 +193,6 @@ fn seat_all(cube: &Cube, list: &mut Vec<TreeStation>, slots: &mut Vec<Option<Tre
     }
 }
 
-// All stations retire.
 fn retire_all(cube: &Cube, slots: &mut Vec<Option<TreeStation>>)
     requires { All (λ slot. IsSomeAnd slot (λ station. IsStationOf cube.now station))
         slots.old.items }
@@ -207,8 +208,8 @@ fn retire_all(cube: &Cube, slots: &mut Vec<Option<TreeStation>>)
     }
 }
 
-// A machine of the dimension of the counters on which so many stations do their part, each on a thread
-// of its own; at its end each node has to be free.
+// Opens a machine, runs this number of stations, each on a thread of its own, and closes it. Aborts
+// unless each node is free in the end.
 fn play<R: Threads + Sync + Abort>(rt: &R, alloc: Global, stations: u32, shared: &Shared) {
     let mut slots = Vec::with_capacity(alloc, stations as usize).expect(rt, "no memory");
     let (cube, mut list) = opened(rt, alloc, shared.dim, stations);

@@ -1,11 +1,11 @@
-//! Each refusal of a try, and the other station that is in the way, with the node that it owns or is
+//! Tests of what is in the way of a refused try: another station, and the node that it owns or is
 //! to clear.
 
 use super::{Row, plays};
 use cube_core::{Kind, Note, Phase, Seen};
 
-// A Look is refused by the owner of a node under its own, and by the station that is to clear its own;
-// a Claim and a Raise by the owner of the word's node.
+// Another station is in the way of each refused Look, Claim and Raise: it owns a node there or is
+// to clear it.
 #[test]
 fn another_station_is_in_the_way(rt: HostRuntime) {
     plays(
@@ -49,8 +49,8 @@ fn another_station_is_in_the_way(rt: HostRuntime) {
     );
 }
 
-// A Claim is lost against the mark of a station that is to clear the node, and one that read that mark
-// is lost against the Clear: then nobody is in the way any more.
+// A Claim loses to a new mark, and one that read the mark loses to the Clear, after which no
+// station is in the way.
 #[test]
 fn a_mark_is_in_the_way(rt: HostRuntime) {
     plays(

@@ -1,10 +1,10 @@
-//! Short schedules in which a wrong step would do harm, with what the right one does.
+//! Short schedules in which a wrong step would do harm, and what the right step does.
 
 use super::{Row, plays};
 use cube_core::{Kind, Note};
 
-// A station takes a node again while another one is about to clear its parent: the Sweep takes the
-// mark away, so the Clear is lost and the parent stays in use.
+// A take below a node removes the mark of a release there, so the release loses its Clear and the
+// node stays in use.
 #[test]
 fn sweep_stops_a_clear(rt: HostRuntime) {
     plays(
@@ -37,7 +37,7 @@ fn sweep_stops_a_clear(rt: HostRuntime) {
     );
 }
 
-// A child is taken again after the Mark: its load finds it in use, and its side stays.
+// A release that finds a child in use keeps the side bit of this child.
 #[test]
 fn used_child_keeps_its_side(rt: HostRuntime) {
     plays(
@@ -69,7 +69,7 @@ fn used_child_keeps_its_side(rt: HostRuntime) {
     );
 }
 
-// The other child is taken between the looks at the two: the Clear is lost.
+// A take whose Raise comes between the reads of the two children makes the release lose its Clear.
 #[test]
 fn other_child_is_looked_at(rt: HostRuntime) {
     plays(
@@ -101,7 +101,7 @@ fn other_child_is_looked_at(rt: HostRuntime) {
     );
 }
 
-// A child is taken between the looks: the Sweep takes the mark away, and the Clear is lost.
+// A take of a child after its read removes the mark, so the release loses its Clear.
 #[test]
 fn mark_comes_before_the_looks(rt: HostRuntime) {
     plays(
@@ -133,8 +133,7 @@ fn mark_comes_before_the_looks(rt: HostRuntime) {
     );
 }
 
-// Two stations have marked the root, and a third takes a leaf: the Clear of the first one is lost,
-// since the word is not the one that its own mark made.
+// A release loses its Clear if the word has the mark of another station instead of its own.
 #[test]
 fn each_station_has_its_own_mark(rt: HostRuntime) {
     plays(
@@ -185,8 +184,8 @@ fn each_station_has_its_own_mark(rt: HostRuntime) {
     );
 }
 
-// A station comes to the root, where an old mark of the other one stands, and that one comes back
-// after it: each Unmark takes the mark of the other one away, and only the last Clear wins.
+// Each Unmark removes the mark of the other station, and only the last station to mark the root
+// wins its Clear.
 #[test]
 fn unmark_takes_all_marks(rt: HostRuntime) {
     plays(
@@ -242,7 +241,7 @@ fn unmark_takes_all_marks(rt: HostRuntime) {
     );
 }
 
-// A release alone clears all that its take has raised.
+// A release that nothing disturbs clears all bits that its take has set.
 #[test]
 fn release_goes_on_after_its_zero(rt: HostRuntime) {
     plays(

@@ -1,5 +1,9 @@
-//! Outcomes that only a test pins, worked out by hand: a Mark at an occupied node, a Clear that
-//! keeps the node in use, a Claim that loses to a mark, and a Raise that leaves a mark.
+//! Outcomes that only a test pins, worked out by hand:
+//!
+//! - a Mark at an occupied node
+//! - a Clear that keeps the node in use
+//! - a Claim that loses to a mark
+//! - a Raise that leaves a mark
 
 use super::{Row, plays};
 use cube_core::{Kind, Note};
@@ -80,7 +84,7 @@ fn clear_keeps_a_node_in_use(rt: HostRuntime) {
     );
 }
 
-// The root is free when a station looks at it, and has another one's mark when it claims it.
+// A Claim is lost if another station has marked the node since the Look.
 #[test]
 fn claim_loses_to_a_mark(rt: HostRuntime) {
     plays(
@@ -117,7 +121,7 @@ fn claim_loses_to_a_mark(rt: HostRuntime) {
     );
 }
 
-// A Raise after a Mark leaves the mark, so the Clear is lost; the next Sweep takes the mark away.
+// A Raise after a Mark leaves the mark, so the Clear is lost; the next Sweep removes the mark.
 #[test]
 fn raise_leaves_a_mark(rt: HostRuntime) {
     plays(

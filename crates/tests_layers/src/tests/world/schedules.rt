@@ -1,9 +1,9 @@
-//! Four whole schedules, event by event, after each of which every word is 0.
+//! Four whole schedules, event by event. After each of them the word of every node is 0.
 
 use super::{Row, plays};
 use cube_core::{Kind, Note};
 
-// Three stations take and give back two leaves in turn, and each of them clears what another one
+// Three stations take and release two leaves in turn, and the last release clears what the others
 // left.
 #[test]
 fn leaves_in_turn(rt: HostRuntime) {
@@ -72,8 +72,7 @@ fn leaves_in_turn(rt: HostRuntime) {
     );
 }
 
-// A take finds a node occupied on its way up, and clears up while its sibling is taken and given
-// back.
+// A take under a held node rolls back while the sibling of its leaf is taken and released.
 #[test]
 fn backs_out_beside_a_sibling(rt: HostRuntime) {
     plays(
@@ -129,7 +128,8 @@ fn backs_out_beside_a_sibling(rt: HostRuntime) {
     );
 }
 
-// A station comes back to a node where its old mark still stands.
+// A release that comes back to its station's old mark removes all marks, so an older release loses
+// its Clear.
 #[test]
 fn comes_back_to_its_old_mark(rt: HostRuntime) {
     plays(
@@ -216,7 +216,7 @@ fn comes_back_to_its_old_mark(rt: HostRuntime) {
     );
 }
 
-// A free word that holds a mark is claimed, and the marker's Clear is lost.
+// A free word with a mark is claimed, and the release that marked it loses its Clear.
 #[test]
 fn claims_a_marked_word(rt: HostRuntime) {
     plays(

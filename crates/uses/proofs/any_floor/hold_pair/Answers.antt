@@ -1,4 +1,4 @@
--- Both regions are those that were compared.
+-- Both blocks are those that were compared.
 use Rattle.uses.proofs.any_floor.hold_pair.Goals as goal
 
 pub returns-clause-apart : goal.returns-clause-apart

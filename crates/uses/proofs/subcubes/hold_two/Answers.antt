@@ -4,11 +4,11 @@ use Rattle.cube_shape.specs.Region.{IsAligned}
 use Rattle.cube_tree.specs.Handles.{cube_dim}
 use Rattle.uses.proofs.subcubes.hold_two.Goals as goal
 
--- what is told are the regions of the subcubes that `apart` gave back
+-- The blocks that are returned are those that `apart` gave back.
 pub returns-clause-apart : goal.returns-clause-apart
 returns-clause-apart c = rw (c.region.ensures, c.region-2.ensures) c.apart-subcube.ensures.apart
 
--- and these are those that were taken
+-- They are the blocks that were taken.
 pub returns-clause-aligned : goal.returns-clause-aligned
 returns-clause-aligned c = (
   subst (IsAligned (cube_dim c.args.cube.now)) (sym (c.region.ensures ∙ c.apart-subcube.ensures.first.region_is)) c.in-Ok.ensures.aligned,

@@ -1,4 +1,4 @@
--- The second region is apart from what is held, and the first station holds the first region.
+-- The second block is apart from what is held, and the first station holds the first block.
 use Rattle.uses.proofs.two_regions.take_two.Goals as goal
 
 pub returns : goal.returns

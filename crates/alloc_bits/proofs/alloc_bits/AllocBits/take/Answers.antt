@@ -1,4 +1,4 @@
--- The first fit goes to the station, and its bits and its station's slot are the only ones that change.
+-- The station gets the first fit. Only the bits of this block and the slot of this station change.
 use Rattle.std.proofs.Common.{◌≡◌, ℕ, ◌≤◌, sym, subst, None, ◌++◌, length, take, drop}
 use Rattle.std.specs.FinMap.{get}
 use Rattle.cube_shape.specs.Region.{block}

@@ -4,9 +4,10 @@ use Rattle.cube_ledger.specs.Ledger.{HasAllSlips}
 use Rattle.cube_ledger.specs.Inner.Group.{HasSmallDim}
 use Rattle.cube_ledger.proofs.ledger.Ledger.of.Given as goal
 
--- the slips of the workers so far are there
+-- The slips of the workers so far are there.
 abbrev pub invariant-loop-replies : goal.invariant-loop-replies
 invariant-loop-replies g l = record {
-  slips : HasAllSlips (map (λ replies. replies.items) (take l.replies-index l.finished.by_worker.items)) [] l.slips.items;
+  slips : HasAllSlips (map (λ replies. replies.items)
+      (take l.replies-index l.finished.by_worker.items)) [] l.slips.items;
   small : All HasSmallDim l.slips.items;
 }

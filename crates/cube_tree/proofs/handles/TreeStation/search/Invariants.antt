@@ -10,5 +10,6 @@ decreases-loop-node l = 2 * l.first - l.node.0
 abbrev pub invariant-loop-node : goal.invariant-loop-node
 invariant-loop-node l = record {
   of_cube : IsStationOf l.cube l.station;
-  search : IsSearch (cube_dim l.cube) (cube_dim l.cube - l.k) l.node.0 l.refusal (hint_of l.fn.self) (hint_of l.station) (station_entry l.fn.self) (station_entry l.station);
+  search : IsSearch (cube_dim l.cube) (cube_dim l.cube - l.k) l.node.0 l.refusal (hint_of l.fn.self)
+      (hint_of l.station) (station_entry l.fn.self) (station_entry l.station);
 }

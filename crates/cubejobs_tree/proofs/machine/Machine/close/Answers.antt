@@ -1,4 +1,5 @@
--- The first load found no station missing of those that got a handle, and then those that waited retired.
+-- The first load found no station missing among those that got a handle. Then those that waited
+-- retired.
 use Rattle.std.proofs.Common.{◌∙◌, ap, subst}
 use Rattle.cubejobs_tree.specs.Ownership.{cube_of, IsShared}
 use Rattle.cubejobs_tree.specs.Ends.{Looks}

@@ -1,4 +1,4 @@
--- What stands behind an address may go to another thread, and the address with it.
+-- The content at an address may go to another thread, and the address with it.
 use Rattle.std.proofs.Common.{Option, Some, None}
 use mir.Raw.{raw}
 use base.Shift.{Keyless}

@@ -1,4 +1,4 @@
--- `nothing` puts two fields together, and owns nothing beside them.
+-- `nothing` puts two fields together, and owns nothing more than these.
 use Rattle.std.proofs.Common.{List, [], ◌∷◌, refl, lit<, None}
 use mir.Val.{Val, vstruct, vcons, vnil}
 use base.Fml.{ftrue, fsep}

@@ -17,7 +17,7 @@ loop-preserved g c =
       λ zero. absurd (omega (arith, few 0 zero)),
     )
 
--- ---- where it takes no further job
+-- ---- it takes no further job
 
 pub invariant_of-result : goal.invariant_of-result
 invariant_of-result g c =
@@ -47,7 +47,7 @@ returns-in-Some-make_room-clause-fewer g c = λ most is other.
     below_limit c.args.limit (length c.make_room.new.replies.items) (λ m at. omega (arith, reserved, c.loop.invariant.3 m at))
     (c.in-Some-make_room.ensures.fewer (λ same. other (some_is c.in-Some-make_room.stop same))) most is
 
--- ---- where the line has ended
+-- ---- the queue has ended
 
 pub returns-in-Some-stop-clause-of_shop : goal.returns-in-Some-stop-clause-of_shop
 returns-in-Some-stop-clause-of_shop g c =

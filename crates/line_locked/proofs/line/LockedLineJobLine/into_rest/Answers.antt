@@ -17,33 +17,66 @@ use Rattle.line_locked.specs.Inner.Handle.{sizes_of, lane_record, pass_record}
 use Rattle.line_locked.specs.Inner.End.{IsWhole, IsEnd}
 use Rattle.line_locked.proofs.line.LockedLineJobLine.into_rest.Goals as goal
 
--- the seat has the records of all members
-all_records : (m gathered whole : Sat) (n : ℕ) (lanes : List LockedLane) (passes : List LockedPass) → m ≡ (closer_view m.0.about (Some n), [])
-    → gathered ≡ (view m.0.about (m.0.lanes ++ map lane_record lanes) m.0.passes m.0.closers None, [])
-    → whole ≡ (view gathered.0.about gathered.0.lanes (gathered.0.passes ++ map pass_record passes) gathered.0.closers None, [])
-    → whole ≡ (view m.0.about (map lane_record lanes) (map pass_record passes) (record { closed_at = Some n } ∷ []) None, [])
+-- The seat has the records of all members.
+all_records : (m gathered whole : Sat) (n : ℕ) (lanes : List LockedLane) (passes : List LockedPass)
+    → m ≡ (closer_view m.0.about (Some n), [])
+    → gathered ≡ (
+      view m.0.about (m.0.lanes ++ map lane_record lanes) m.0.passes m.0.closers None,
+      [],
+    )
+    → whole ≡ (
+      view gathered.0.about gathered.0.lanes (gathered.0.passes ++ map pass_record passes)
+          gathered.0.closers None,
+      [],
+    )
+    → whole ≡ (
+      view m.0.about (map lane_record lanes) (map pass_record passes)
+          (record { closed_at = Some n } ∷ []) None,
+      [],
+    )
 all_records m gathered whole n lanes passes closer with_lanes with_passes =
     let first : gathered ≡ (view m.0.about (map lane_record lanes) [] (record { closed_at = Some n } ∷ []) None, []) =
     with_lanes ∙ ap (λ (z : Sat). (view m.0.about (z.0.lanes ++ map lane_record lanes) z.0.passes z.0.closers None, [])) closer in
     with_passes ∙ ap (λ (z : Sat). (view z.0.about z.0.lanes (z.0.passes ++ map pass_record passes) z.0.closers None, [])) first
 
--- these are the records of all members
-is_whole : (S about : Sizes) (m : Sat) (n : ℕ) (lanes : List LockedLane) (passes : List LockedPass) → m ≡ (view about (map lane_record lanes) (map pass_record passes) (record { closed_at = Some n } ∷ []) None, [])
-    → length lanes ≡ S.lanes → length passes ≡ S.passes → IsWhole S m.0 n
+-- These are the records of all members.
+is_whole : (S about : Sizes) (m : Sat) (n : ℕ) (lanes : List LockedLane) (passes : List LockedPass)
+    → m ≡ (
+      view about (map lane_record lanes) (map pass_record passes)
+          (record { closed_at = Some n } ∷ []) None,
+      [],
+    )
+    → length lanes ≡ S.lanes
+    → length passes ≡ S.passes
+    → IsWhole S m.0 n
 is_whole S about m n lanes passes is all_lanes all_passes =
     subst (λ (z : Sat). IsWhole S z.0 n) (sym is) (record { lanes = length-map lanes lane_record ∙ all_lanes; passes = length-map passes pass_record ∙ all_passes; closers = refl; found = refl })
 
--- the end, in terms of the handles that came back
-ended : (S : Sizes) (m gathered whole : Sat) (n : ℕ) (lanes : List LockedLane) (passes : List LockedPass) (x : Store) → m ≡ (closer_view m.0.about (Some n), [])
-    → gathered ≡ (view m.0.about (m.0.lanes ++ map lane_record lanes) m.0.passes m.0.closers None, [])
-    → whole ≡ (view gathered.0.about gathered.0.lanes (gathered.0.passes ++ map pass_record passes) gathered.0.closers None, [])
-    → length lanes ≡ S.lanes → length passes ≡ S.passes → (IsWhole S whole.0 n → IsEnd S whole.0 n x)
-    → IsEnd S (view m.0.about (map lane_record lanes) (map pass_record passes) (record { closed_at = Some n } ∷ []) None) n x
+-- The end, in terms of the handles that came back.
+ended : (S : Sizes) (m gathered whole : Sat) (n : ℕ) (lanes : List LockedLane)
+    (passes : List LockedPass) (x : Store)
+    → m ≡ (closer_view m.0.about (Some n), [])
+    → gathered ≡ (
+      view m.0.about (m.0.lanes ++ map lane_record lanes) m.0.passes m.0.closers None,
+      [],
+    )
+    → whole ≡ (
+      view gathered.0.about gathered.0.lanes (gathered.0.passes ++ map pass_record passes)
+          gathered.0.closers None,
+      [],
+    )
+    → length lanes ≡ S.lanes
+    → length passes ≡ S.passes
+    → (IsWhole S whole.0 n → IsEnd S whole.0 n x)
+    → IsEnd S (view m.0.about (map lane_record lanes) (map pass_record passes)
+    (record { closed_at = Some n } ∷ []) None) n x
 ended S m gathered whole n lanes passes x closer with_lanes with_passes all_lanes all_passes ends =
     let is = all_records m gathered whole n lanes passes closer with_lanes with_passes in
     subst (λ (z : Sat). IsEnd S z.0 n x) is (ends (is_whole S m.0.about whole n lanes passes is all_lanes all_passes))
 
-by_lane : (P : LaneRecord → Type 0) (lanes : List LockedLane) → AllByRecursion P (map lane_record lanes) → AllByRecursion (λ l. P (lane_record l)) lanes
+by_lane : (P : LaneRecord → Type 0) (lanes : List LockedLane)
+    → AllByRecursion P (map lane_record lanes)
+    → AllByRecursion (λ l. P (lane_record l)) lanes
 by_lane P [] all = tt
 by_lane P (l ∷ lanes) all = (all.0, by_lane P lanes all.1)
 

@@ -36,7 +36,7 @@ returns-clause-run g c =
     (c.gather_passes.ensures.ring_passes ∙ ap (λ (xs : List (RingPassRecord QueuedJob)). xs ++ ring_passes ps) (c.gather_lanes.ensures.ring_same ∙ note.no_passes))
     c.end.ensures c.into_rest-jobs.ensures.run
 
--- each number below the count of lanes is there once
+-- Each number below the count of lanes is there once.
 pub returns-clause-numbers : goal.returns-clause-numbers
 returns-clause-numbers g c = λ k within.
     let ls = c.args.lanes.items in

@@ -7,7 +7,8 @@ use Rattle.tests_layers.proofs.tests.ring.deal_passes.Given as goal
 abbrev pub invariant-loop : goal.invariant-loop
 invariant-loop l = record {
   end : l.end.ring ≡ l.ring.id;
-  members : All (λ (member : Result (LaneOf Token) (PassOf Token)). MatchResult member (λ lane. lane.ring ≡ l.ring.id) (λ pass. pass.ring ≡ l.ring.id)) l.members.items;
+  members : All (λ (member : Result (LaneOf Token) (PassOf Token)). MatchResult member
+      (λ lane. lane.ring ≡ l.ring.id) (λ pass. pass.ring ≡ l.ring.id)) l.members.items;
   dealt : l.end.dealt_passes ≡ l.counter;
   count : length l.members.items ≡ 4 + l.counter;
   room : 7 ≤ vec_capacity l.members;

@@ -10,7 +10,8 @@ decreases-loop-member l = vec_len l.members
 abbrev pub invariant-loop-member : goal.invariant-loop-member
 invariant-loop-member l = record {
   end : l.end.ring ≡ l.ring.id;
-  members : All (λ (member : Result (LaneOf Token) (PassOf Token)). MatchResult member (λ lane. lane.ring ≡ l.ring.id) (λ pass. pass.ring ≡ l.ring.id)) l.members.items;
+  members : All (λ (member : Result (LaneOf Token) (PassOf Token)). MatchResult member
+      (λ lane. lane.ring ≡ l.ring.id) (λ pass. pass.ring ≡ l.ring.id)) l.members.items;
   lanes : length l.end.back_lanes ≡ l.lanes;
   passes : length l.end.back_passes ≡ l.passes;
   count : l.lanes + l.passes + length l.members.items ≡ 7;

@@ -8,5 +8,6 @@ decreases-loop-station g l = vec_len l.list
 abbrev pub invariant-loop-station : goal.invariant-loop-station
 invariant-loop-station g l = let machine = g.T.Regions in record {
   left : All (machine.is_station l.machine) l.list.items;
-  seated : All (λ slot. IsSomeAnd slot (λ one. MatchResult one (machine.is_held l.machine) (machine.is_station l.machine))) l.slots.items;
+  seated : All (λ slot. IsSomeAnd slot (λ one. MatchResult one (machine.is_held l.machine)
+      (machine.is_station l.machine))) l.slots.items;
 }

@@ -14,8 +14,15 @@ invariant-loop-at l = record {
   same : l.seat.me ≡ l.initial.seat.me;
   in_cube : l.at < 2 ^ (dim_of l.self + 1);
   on_path : 0 < l.at → OnPath l.at l.fn.node.0;
-  path : IsAlone l.initial.seat.me → IsAtRest (first_of l.initial.seat.me).phase → (v : ℕ) → OnPath v l.fn.node.0 → l.at < v → TellsWord v (slice_index (read_words l.self) v) l.initial.seat.me.0.stations;
-  others : (v : ℕ) → (OnPath v l.fn.node.0 → ⊥) → slice_index (read_words l.self) v ≡ slice_index (read_words l.initial.self) v;
+  path : IsAlone l.initial.seat.me
+      → IsAtRest (first_of l.initial.seat.me).phase
+      → (v : ℕ)
+      → OnPath v l.fn.node.0
+      → l.at < v
+      → TellsWord v (slice_index (read_words l.self) v) l.initial.seat.me.0.stations;
+  others : (v : ℕ)
+      → (OnPath v l.fn.node.0 → ⊥)
+      → slice_index (read_words l.self) v ≡ slice_index (read_words l.initial.self) v;
 }
 
 abbrev pub decreases-loop-at : goal.decreases-loop-at

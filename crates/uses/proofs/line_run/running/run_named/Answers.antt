@@ -11,36 +11,36 @@ use Rattle.ghost_history.specs.Sums.{total, times}
 use Rattle.uses.proofs.LineRunLemmas.{each_once, first_of_two, second_of_two}
 use Rattle.uses.proofs.line_run.running.run_named.Goals as goal
 
--- a fact of the line that was opened is one of the line that is named
+-- A fact about the queue that was opened holds of the one that is named.
 of_line : (P : LineId → Type 0) (opened named : LineId) → opened ≡ named → P opened → P named
 of_line P opened named same fact = subst P same fact
 
 pub new-requires-clause-lane : goal.new-requires-clause-lane
 new-requires-clause-lane g c = let line = g.L.JobLine in
-    of_line (λ z. line.is_lane z c.of-lane.result.first) _ _ c.requires.line (first_of_two (line.is_lane (line.id c.args.opened.line)) _ _ _ c.of-lane.ensures.members c.requires.lanes)
+    of_line (λ z. line.is_lane z c.of-lanes.result.first) _ _ c.requires.line (first_of_two (line.is_lane (line.id c.args.opened.line)) _ _ _ c.of-lanes.ensures.members c.requires.lanes)
 
 pub new-requires-3-clause-lane : goal.new-requires-3-clause-lane
 new-requires-3-clause-lane g c = let line = g.L.JobLine in
-    of_line (λ z. line.is_lane z c.of-lane.result.second) _ _ c.requires.line (second_of_two (line.is_lane (line.id c.args.opened.line)) _ _ _ c.of-lane.ensures.members c.requires.lanes)
+    of_line (λ z. line.is_lane z c.of-lanes.result.second) _ _ c.requires.line (second_of_two (line.is_lane (line.id c.args.opened.line)) _ _ _ c.of-lanes.ensures.members c.requires.lanes)
 
 pub new-requires-6-clause-pass : goal.new-requires-6-clause-pass
 new-requires-6-clause-pass g c = let line = g.L.JobLine in
-    of_line (λ z. line.is_pass z c.of-pass.result.first) _ _ c.requires.line (first_of_two (line.is_pass (line.id c.args.opened.line)) _ _ _ c.of-pass.ensures.members c.requires.passes)
+    of_line (λ z. line.is_pass z c.of-passes.result.first) _ _ c.requires.line (first_of_two (line.is_pass (line.id c.args.opened.line)) _ _ _ c.of-passes.ensures.members c.requires.passes)
 
 pub new-requires-9-clause-pass : goal.new-requires-9-clause-pass
 new-requires-9-clause-pass g c = let line = g.L.JobLine in
-    of_line (λ z. line.is_pass z c.of-pass.result.second) _ _ c.requires.line (second_of_two (line.is_pass (line.id c.args.opened.line)) _ _ _ c.of-pass.ensures.members c.requires.passes)
+    of_line (λ z. line.is_pass z c.of-passes.result.second) _ _ c.requires.line (second_of_two (line.is_pass (line.id c.args.opened.line)) _ _ _ c.of-passes.ensures.members c.requires.passes)
 
 pub new-requires-clause-made_for : goal.new-requires-clause-made_for
 new-requires-clause-made_for g c = let line = g.L.JobLine in let jobs = c.args.jobs.0.items in
-    let number : (line.lane_record c.of-lane.result.first).number ≡ 0 = ap (λ (rs : List LaneRecord). (get_or rs 0 (fresh_lane 9)).number) (ap (map line.lane_record) (sym c.of-lane.ensures.members) ∙ c.requires.two_lanes.1) in
-    of_line (λ z. All (IsFor z.sizes.machine (line.lane_record c.of-lane.result.first).number) jobs) _ _ c.requires.line
+    let number : (line.lane_record c.of-lanes.result.first).number ≡ 0 = ap (λ (rs : List LaneRecord). (get_or rs 0 (fresh_lane 9)).number) (ap (map line.lane_record) (sym c.of-lanes.ensures.members) ∙ c.requires.two_lanes.1) in
+    of_line (λ z. All (IsFor z.sizes.machine (line.lane_record c.of-lanes.result.first).number) jobs) _ _ c.requires.line
     (subst (λ (n : ℕ). All (IsFor (line.id c.args.opened.line).sizes.machine n) jobs) (sym number) c.requires.first_jobs)
 
 pub new-requires-3-clause-made_for : goal.new-requires-3-clause-made_for
 new-requires-3-clause-made_for g c = let line = g.L.JobLine in let jobs = c.args.jobs.1.items in
-    let number : (line.lane_record c.of-lane.result.second).number ≡ 1 = ap (λ (rs : List LaneRecord). (get_or rs 1 (fresh_lane 9)).number) (ap (map line.lane_record) (sym c.of-lane.ensures.members) ∙ c.requires.two_lanes.1) in
-    of_line (λ z. All (IsFor z.sizes.machine (line.lane_record c.of-lane.result.second).number) jobs) _ _ c.requires.line
+    let number : (line.lane_record c.of-lanes.result.second).number ≡ 1 = ap (λ (rs : List LaneRecord). (get_or rs 1 (fresh_lane 9)).number) (ap (map line.lane_record) (sym c.of-lanes.ensures.members) ∙ c.requires.two_lanes.1) in
+    of_line (λ z. All (IsFor z.sizes.machine (line.lane_record c.of-lanes.result.second).number) jobs) _ _ c.requires.line
     (subst (λ (n : ℕ). All (IsFor (line.id c.args.opened.line).sizes.machine n) jobs) (sym number) c.requires.second_jobs)
 
 pub returns : goal.returns

@@ -1,7 +1,8 @@
-// The files of the system, open to be read or written as a draft. They claim nothing of their bytes.
+// The system's files, open for reading or written as a temporary file. They claim nothing of their
+// bytes.
 use crate::file_fault::FileReason;
+use crate::named_temp_file::NamedTempFile;
 use crate::target::{Target, followed};
-use crate::temporary_file::TemporaryFile;
 use devices::{Counted, Device};
 use std::fs::{Files, OpenFile};
 use std::io;
@@ -9,14 +10,14 @@ use std::io::{ErrorKind, Read, Write};
 use std::os::fd::AsFd;
 use std::path::PathBuf;
 
-/// A file of the system that is open to be read.
+/// A file of the system that is open for reading.
 #[derive(Drop)]
 pub struct SystemReader<F> {
     file: Counted<F>,
 }
 
 impl<F> SystemReader<F> {
-    // Reads the file, of which no call has failed yet.
+    // Returns a reader of the file. None of its calls has failed yet.
     pub(crate) fn new(file: F) -> Self {
         SystemReader {
             file: Counted::new(file),
@@ -40,23 +41,24 @@ impl<F> Device for SystemReader<F> {
     }
 }
 
-// A temporary file beside the target, which the first write creates and a flush brings to its disk.
+// A temporary file beside the target. The first write creates it, and a flush writes it to its
+// disk.
 #[derive(Drop)]
 struct LateFile<'a, H: Files> {
     rt: &'a H,
     target: Target,
     process_id: u32,
-    // The name to be tried first, until it is.
-    first_name: Option<PathBuf>,
-    created: Option<TemporaryFile<H::File>>,
+    // The path to try first, until it has been tried.
+    first_path: Option<PathBuf>,
+    created: Option<NamedTempFile<H::File>>,
 }
 
 impl<'a, H: Files<File: AsFd> + AllocGlobal> LateFile<'a, H> {
-    // The file, which is created where it is not there yet.
+    // Returns the file, and creates it first if it does not exist yet.
     fn file(&mut self) -> io::Result<&mut H::File> {
         if self.created.is_none() {
-            let first = self.first_name.take();
-            match TemporaryFile::create(self.rt, &self.target, self.process_id, first) {
+            let first = self.first_path.take();
+            match NamedTempFile::create(self.rt, &self.target, self.process_id, first) {
                 Ok(created) => self.created = Some(created),
                 Err(_) => return Err(io::Error::from(ErrorKind::Other)),
             }
@@ -78,39 +80,43 @@ impl<'a, H: Files<File: AsFd> + AllocGlobal> Write for LateFile<'a, H> {
     }
 }
 
-/// A file of the system under a temporary name, which its first write creates and a flush brings to its
-/// disk.
-pub struct SystemDraft<'a, H: Files> {
+/// A file of the system under a temporary name. Its first write creates it, and a flush writes it
+/// to its disk.
+pub struct SystemTempFile<'a, H: Files> {
     file: Counted<LateFile<'a, H>>,
 }
 
-impl<'a, H: Files> SystemDraft<'a, H> {
-    // Writes to a file beside the target, under this name where it is new. No call of it has failed yet.
-    pub(crate) fn new(rt: &'a H, target: Target, process_id: u32, name: PathBuf) -> Self {
-        let first_name = Some(name);
+impl<'a, H: Files> SystemTempFile<'a, H> {
+    // Returns a writer to a file beside the target, at this path if it is new. None of its calls
+    // has failed yet.
+    pub(crate) fn new(rt: &'a H, target: Target, process_id: u32, path: PathBuf) -> Self {
+        let first_path = Some(path);
         let created = None;
-        SystemDraft {
+        SystemTempFile {
             file: Counted::new(LateFile {
                 rt,
                 target,
                 process_id,
-                first_name,
+                first_path,
                 created,
             }),
         }
     }
 }
 
-impl<'a, H: Files<File: AsFd> + AllocGlobal> SystemDraft<'a, H> {
-    // Puts the file in the place of the one of this name, which has to lead where it led before, or removes it.
-    pub(crate) fn put(self, name: &str) -> Result<(), FileReason> {
-        let SystemDraft { file } = self;
+impl<'a, H: Files<File: AsFd> + AllocGlobal> SystemTempFile<'a, H> {
+    // Renames the file to the target of this name, or removes it. The name must lead where it led
+    // before.
+    pub(crate) fn persist(self, name: &str) -> Result<(), FileReason> {
+        let SystemTempFile { file } = self;
         let late = file.get_ref();
         let Some(created) = &late.created else {
             return Err(FileReason::Other);
         };
         match followed(late.rt, name) {
-            Ok(path) if path.as_str() == late.target.path.as_str() => created.put(late.rt, &path),
+            Ok(path) if path.as_str() == late.target.path.as_str() => created.persist(
+                late.rt, &path,
+            ),
             Ok(_) => {
                 created.remove(late.rt);
                 Err(FileReason::Other)
@@ -122,9 +128,9 @@ impl<'a, H: Files<File: AsFd> + AllocGlobal> SystemDraft<'a, H> {
         }
     }
 
-    // Removes the file, where it was created.
+    // Removes the file, if it was created.
     pub(crate) fn remove(self) {
-        let SystemDraft { file } = self;
+        let SystemTempFile { file } = self;
         let late = file.get_ref();
         if let Some(created) = &late.created {
             created.remove(late.rt);
@@ -132,7 +138,7 @@ impl<'a, H: Files<File: AsFd> + AllocGlobal> SystemDraft<'a, H> {
     }
 }
 
-impl<'a, H: Files<File: AsFd> + AllocGlobal> Write for SystemDraft<'a, H> {
+impl<'a, H: Files<File: AsFd> + AllocGlobal> Write for SystemTempFile<'a, H> {
     fn write(&mut self, buf: &[u8]) -> io::Result<usize> {
         self.file.write(buf)
     }
@@ -142,10 +148,10 @@ impl<'a, H: Files<File: AsFd> + AllocGlobal> Write for SystemDraft<'a, H> {
     }
 }
 
-impl<'a, H: Files> Device for SystemDraft<'a, H> {
+impl<'a, H: Files> Device for SystemTempFile<'a, H> {
     ghost use Rattle.devices.specs.Device.{failures_of};
 
-    ghost failures = { λ draft. failures_of draft.file };
+    ghost failures = { λ temp_file. failures_of temp_file.file };
 
     fn failures(&self) -> u64 {
         self.file.failures()

@@ -1,4 +1,4 @@
-// A temporary file beside the file that it is to replace.
+// A temporary file in the folder of the file that it will replace.
 use crate::file_fault::FileReason;
 use crate::target::Target;
 use std::fs;
@@ -17,18 +17,18 @@ const GROUP_BITS: u32 = 0o070;
 // The bits of a mode by which a file runs as its owner or as its group.
 const IDENTITY_BITS: u32 = 0o6000;
 
-/// A file that this process has created, with its name.
+/// A file that this process has created, with its path.
 #[derive(Drop)]
-pub(crate) struct TemporaryFile<F> {
+pub(crate) struct NamedTempFile<F> {
     pub(crate) file: F,
-    pub(crate) name: PathBuf,
+    pub(crate) path: PathBuf,
 }
 
-impl<F: OpenFile + AsFd + Drop> TemporaryFile<F> {
-    /// Creates a file in the folder of the target, under the first name that is new. `first` is tried before
-    /// the names of this process number.
+impl<F: OpenFile + AsFd + Drop> NamedTempFile<F> {
+    /// Creates a file in the folder of the target, under the first name that is new. It tries
+    /// `first` before the names of this process number.
     ///
-    /// Where it is to replace a file, nobody else may open it until it has that file's permissions.
+    /// A file that will replace another has mode 0600 until it has that file's permissions.
     pub(crate) fn create<H: Files<File = F> + AllocGlobal>(
         rt: &H,
         target: &Target,
@@ -40,22 +40,23 @@ impl<F: OpenFile + AsFd + Drop> TemporaryFile<F> {
         if target.replaced.is_some() {
             options.mode(OWNER_ALONE);
         }
-        let mut name = match first {
-            Some(name) => name,
-            None => name_beside(rt, &target.path, process_id, 0)?,
+        let mut path = match first {
+            Some(path) => path,
+            None => path_beside(rt, &target.path, process_id, 0)?,
         };
         for number in 1..u64::MAX {
-            match options.open(rt, &name) {
-                Ok(file) => return TemporaryFile { file, name }.permitted(rt, &target.replaced),
+            match options.open(rt, &path) {
+                Ok(file) => return NamedTempFile { file, path }.permitted(rt, &target.replaced),
                 Err(error) if error.kind() == ErrorKind::AlreadyExists => {}
                 Err(error) => return Err(FileReason::of(error.kind())),
             }
-            name = name_beside(rt, &target.path, process_id, number)?;
+            path = path_beside(rt, &target.path, process_id, number)?;
         }
         Err(FileReason::Other)
     }
 
-    // Gives the file what it keeps of the one that it is to replace, or removes it.
+    // Gives the file the owner, group and permissions of the one that it will replace. Removes it
+    // if that fails.
     fn permitted<H: Files<File = F>>(
         self,
         rt: &H,
@@ -73,27 +74,32 @@ impl<F: OpenFile + AsFd + Drop> TemporaryFile<F> {
         }
     }
 
-    // Whether the file is still the one of its name.
-    fn is_named<H: Files<File = F>>(&self, rt: &H) -> bool {
-        match (self.file.metadata(), fs::symlink_metadata(rt, &self.name)) {
+    // Returns whether its path still leads to this file.
+    fn is_at_its_path<H: Files<File = F>>(&self, rt: &H) -> bool {
+        match (self.file.metadata(), fs::symlink_metadata(rt, &self.path)) {
             (Ok(own), Ok(found)) => own.dev() == found.dev() && own.ino() == found.ino(),
             _ => false,
         }
     }
 
-    /// Removes the file, unless another one has its name.
+    /// Removes the file, unless its path leads to another one.
     pub(crate) fn remove<H: Files<File = F>>(&self, rt: &H) {
-        if self.is_named(rt) {
-            let _removed = fs::remove_file(rt, &self.name);
+        if self.is_at_its_path(rt) {
+            let _removed = fs::remove_file(rt, &self.path);
         }
     }
 
-    /// Renames the file to this path, or removes it. Where another file has its name nothing is renamed.
-    pub(crate) fn put<H: Files<File = F>>(&self, rt: &H, path: &PathBuf) -> Result<(), FileReason> {
-        if !self.is_named(rt) {
+    /// Renames the file to this path, or removes it. Renames nothing if its path leads to another
+    /// file.
+    pub(crate) fn persist<H: Files<File = F>>(
+        &self,
+        rt: &H,
+        path: &PathBuf,
+    ) -> Result<(), FileReason> {
+        if !self.is_at_its_path(rt) {
             return Err(FileReason::Other);
         }
-        match fs::rename(rt, &self.name, path) {
+        match fs::rename(rt, &self.path, path) {
             Ok(()) => Ok(()),
             Err(error) => {
                 self.remove(rt);
@@ -103,8 +109,8 @@ impl<F: OpenFile + AsFd + Drop> TemporaryFile<F> {
     }
 }
 
-// Returns a name in the folder of a path, of this process and number.
-fn name_beside<H: Files + AllocGlobal>(
+// Returns the path of a temporary file in the folder of a path, for this process and number.
+fn path_beside<H: Files + AllocGlobal>(
     rt: &H,
     path: &PathBuf,
     process_id: u32,
@@ -119,8 +125,9 @@ fn name_beside<H: Files + AllocGlobal>(
     }
 }
 
-// Gives a file the owner, the group and the permissions of the one that it is to replace. Where the system
-// refuses the owner, the file stays this user's. Where it refuses the group, the group's bits are dropped.
+// Gives a file the owner, the group and the permissions of the one that it will replace. If the
+// system refuses the owner, the file keeps this user as its owner. If it also refuses the group,
+// the group's bits are dropped.
 fn permit<F: OpenFile + AsFd>(file: &F, replaced: &Metadata) -> Result<(), FileReason> {
     let group = Some(replaced.gid());
     let mut mode = replaced.permissions().mode();
