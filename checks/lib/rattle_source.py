@@ -52,6 +52,8 @@ class Item:
         self.kind, self.name, self.file, self.start = kind, name, file, start
         self.module, self.around = list(module), around
         self.visibility, self.head, self.text, self.inside, self.end = "", "", "", None, None
+        # Where its body begins, or the `;` that ends it.
+        self.until = start
         self.clauses, self.items = [], []
 
     @property
@@ -127,7 +129,7 @@ def read_end(clean, item, at):
     """Reads an item from the place after its name on: its clauses, its inside and its end."""
     head_end = None
     while part := CLAUSE.search(clean, at):
-        at = part.end()
+        at, item.until = part.end(), part.start()
         head_end = part.start() if head_end is None and part[0] not in "([" else head_end
         if part[0] == ";":
             item.end = None if item.kind == "fn" else at

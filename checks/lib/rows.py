@@ -75,6 +75,13 @@ def print_faults(faults):
     return 1 if faults else 0
 
 
+def blind(check, samples):
+    """Yields a fault where a check does not find in a known bad sample what it must: its faults, and words of each."""
+    for found, wanted in samples:
+        if len(found) != len(wanted) or not all(words in fault for words, fault in zip(wanted, found)):
+            yield f"{check} finds {found} in a known bad sample, and not {wanted}"
+
+
 def shown(data):
     return f"{data[:200]!r}{' ..' if len(data) > 200 else ''}"
 

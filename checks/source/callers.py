@@ -1,17 +1,22 @@
-"""Fails where a caller, or a proof of one, that a CALLING.md quotes does not stand, line for line, in the crate that
-has it, where the file of a quote is not named above it, where a file that is named does not exist, where a quote is
-empty, and where a library has no CALLING.md with a caller.
+"""Fails where a CALLING.md does not quote, line for line, its callers and the contracts of its crate.
 
-`checks/run callers --write` puts the callers as they stand into the files; the sentences above them are written by
-hand.
+A page has a part that is written by hand, `## Example` with the callers of QUOTES, each below the name of its file, and
+`## Contracts` with the public functions of the crate: comments, heads and clauses. Of a crate with many functions it
+has those that the first part names in backticks. This check also fails where a file that is named does not exist, and
+where a library has no page.
+
+`checks/run callers --write` writes the quotes and the contracts.
 """
+import functools
+import itertools
 import os
 import re
 import textwrap
 
-from checks.lib.rattle_source import all_items, items_in
+from checks.lib.rattle_source import all_items, is_of_trait, items_in, owner_of
 from checks.lib.repository import NO_LIBRARIES, crate_names, path, read, write
-from checks.lib.rows import Wrong, must, print_faults
+from checks.lib.rows import Wrong, blind, must, print_faults
+from checks.source.surface import exports, sources_of
 
 # Which callers and proofs the CALLING.md of a crate quotes, in their order: a file, or after a # the item of it whose
 # head begins with these words.
@@ -31,7 +36,7 @@ QUOTES = {
     "cubejobs_tree": ("../examples/threads.c",),
     "devices": (
         "jobs_csv/src/writing.rt#pub fn write_rows<",
-        "atomic_file/src/system_draft.rt#impl<F> Device for SystemReader",
+        "atomic_file/src/system_temp_file.rt#impl<F> Device for SystemReader",
     ),
     "dispatcher": ("uses/src/counting.rt",),
     "floors": ("uses/src/any_floor.rt",),
@@ -56,6 +61,10 @@ UNCALLED = {"ghost_history": "it has no code that runs"}
 OPENING = re.compile(r"\A(//.*\n)+\n?")
 BLOCK = re.compile(r"((?<=```rust\n)|(?<=```antt\n)|(?<=```c\n)).*?(?=```\n)", re.DOTALL)
 NAMED = re.compile(r"`((?:crates|examples)/[^`\s]+)`")
+EXAMPLE = "\n## Example\n"
+CONTRACTS = "\n## Contracts\n\n<!-- All below is written by checks/run callers --write. -->\n\n"
+# How many public functions a page has without that its first part names them.
+MOST_FUNCTIONS = 25
 
 
 def item(file, head):
@@ -97,30 +106,105 @@ def misnamed(where, names, text):
         file = os.path.normpath(os.path.join("crates", name.partition("#")[0]))
         if "/proofs/" not in file and file not in NAMED.findall(text[: block.start()]):
             yield f"{where} quotes {file} and does not name it above"
-    if not all(block[0] for block in BLOCK.finditer(text)):
-        yield f"{where} has an empty quote"
 
 
-def stale_quotes(crate, names, writes):
-    """Yields what is wrong with the page of a crate, which is written anew where that is asked."""
+@functools.cache
+def interface(crate):
+    """Returns the items of a crate's files without tests, and the names that it makes public."""
+    files = {file: items for file, items in sources_of(crate).items() if "tests" not in file}
+    return [item for items in files.values() for item in all_items(items)], exports(files) or set()
+
+
+def is_promised(function, names):
+    block = function.block
+    if block and block.kind == "trait":
+        return block.is_public and block.name in names
+    name = owner_of(block.head) if block else function.name
+    return function.is_public and not function.is_of_trait and name in names
+
+
+@functools.cache
+def traits():
+    """Returns the library that has each public trait."""
+    every = [(crate, *interface(crate)) for crate in crate_names() if crate not in NO_LIBRARIES]
+    return {it.name: crate for crate, items, names in every for it in items if it.kind == "trait" and it.name in names}
+
+
+def implemented(crate):
+    """Yields a sentence for each public type of a crate that implements a public trait of a library."""
+    items, names = interface(crate)
+    for item in (it for it in items if it.kind == "impl" and is_of_trait(it.head)):
+        trait, kind = re.search(r"(\w+)(?:<[^{]*>)?\s+for\s+&?(\w+)", item.head).groups()
+        if trait in traits() and kind in names:
+            page = f"../{traits()[trait]}/CALLING.md" if traits()[trait] != crate else ""
+            yield f"`{kind}` implements [`{trait}`]({page}#contracts)."
+
+
+def quoted(text, block, functions):
+    """Returns functions of a block, or of none, as Rust: comments, heads and clauses."""
+    parts = [text[it.beginning(text, ("///", "#")) : it.until].rstrip() + ";" for it in functions]
+    shown = re.sub(r"(?m)^ *#.*\n", "", "\n\n".join(parts))
+    return f"{text[text.rfind(chr(10), 0, block.start) + 1 : block.inside[0]]}\n{shown}\n}}" if block else shown
+
+
+def contracts(crate, by_hand):
+    """Returns the section of a page below its marker: what is implemented, and the public functions."""
+    items, names = interface(crate)
+    promised = [it for it in items if it.kind == "fn" and is_promised(it, names)]
+    if len(promised) > MOST_FUNCTIONS:
+        named = {word for code in re.findall(r"`[^`]+`", by_hand) for word in re.findall(r"\w+", code)}
+        promised = [it for it in promised if it.name in named]
+    parts = ["\n".join(sorted(set(implemented(crate))))]
+    for file, of_file in itertools.groupby(promised, lambda it: it.file):
+        text, inside = read(file), file.removeprefix(f"crates/{crate}/")
+        blocks = [quoted(text, *group) for group in itertools.groupby(of_file, lambda it: it.block)]
+        parts.append("\n\n".join([f"From [{inside}]({inside}):\n\n```rust\n{blocks[0]}", *blocks[1:]]) + "\n```")
+    return "\n\n".join(filter(None, parts)) + "\n"
+
+
+def page_faults(crate, names, text):
+    """Returns the text of a crate's page as it must be, and what only a writer can put right."""
     where = page_of(crate)
-    text = read(where)
-    if len(BLOCK.findall(text)) < len(names):
-        yield f"{where} has not as many quotes as this check has for it"
-    yield from misnamed(where, names, text)
+    by_hand, heading, example = text.partition(CONTRACTS)[0].partition(EXAMPLE)
+    if names and not heading or "\n## Contracts" in by_hand + example:
+        return text, [f"{where} has no '## Example', or a '## Contracts' without its marker"]
+    faults = [*misnamed(where, names, example)]
+    if len(BLOCK.findall(example)) != len(names):
+        faults.append(f"{where} has {len(BLOCK.findall(example))} quotes and not {len(names)}")
     callers = iter(names)
     try:
-        fresh = BLOCK.sub(lambda _: caller(next(callers)), text, count=len(names))
+        example = BLOCK.sub(lambda _: caller(next(callers)), example, count=len(names))
     except Wrong as wrong:
-        yield f"{where}: {wrong}"
-        return
-    if writes and fresh != text:
-        write(where, fresh)
-    elif fresh != text:
-        yield f"{where} does not quote {', '.join(f'crates/{name}' for name in names)}"
+        faults.append(f"{where}: {wrong}")
+    below = contracts(crate, by_hand)
+    return (by_hand + heading + example).rstrip("\n") + "\n" + (CONTRACTS + below if below.strip() else ""), faults
+
+
+# A source, what is quoted of it, and pages of `backoff` with the words of each fault.
+SOURCE = "impl A {\n    /// Gives it.\n    #[inline]\n    pub fn b(&self) -> u8\n        ensures { c }\n    {\n    }\n}"
+QUOTED = "impl A {\n    /// Gives it.\n    pub fn b(&self) -> u8\n        ensures { c };\n}"
+SAMPLES = (
+    ("# A\n\n## Contracts\n", ["no '## Example', or a '## Contracts'"]),
+    (f"# A\n{EXAMPLE}\n`crates/no`\n\n", ["crates/no, which does not exist", "has 0 quotes and not 1"]),
+    (f"# A\n{EXAMPLE}\n```rust\n```\n", ["quotes crates/floor_tree/src/floor_tree.rt and does not name it above"]),
+)
+
+
+def known_bad():
+    items = [*all_items(items_in("", SOURCE))]
+    yield [quoted(SOURCE, items[0], items[1:])], [QUOTED]
+    yield from ((page_faults("backoff", QUOTES["backoff"], text)[1], wanted) for text, wanted in SAMPLES)
 
 
 def main(words):
-    pages = [(crate, names) for crate, names in QUOTES.items() if os.path.exists(path(page_of(crate)))]
-    stale = [fault for crate, names in pages for fault in stale_quotes(crate, names, words == ["--write"])]
-    return print_faults([*uncalled(), *stale])
+    faults = [*uncalled(), *blind("callers", known_bad())]
+    for crate in crate_names():
+        if os.path.exists(path(page_of(crate))):
+            text = read(page_of(crate))
+            fresh, found = page_faults(crate, QUOTES.get(crate, ()), text)
+            faults += found
+            if words == ["--write"] and not found and fresh != text:
+                write(page_of(crate), fresh)
+            elif fresh != text:
+                faults.append(f"{page_of(crate)} is stale: checks/run callers --write renews it")
+    return print_faults(faults)

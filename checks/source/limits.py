@@ -35,13 +35,13 @@ WRITTEN = (
     ("include/cubejobs.h", r"#define CUBEJOBS_MAX_DIM (\d+)", "MAX_DIM"),
     ("include/cubejobs.h", r"#define CUBEJOBS_MAX_STATIONS (\d+)", "MAX_STATIONS"),
     ("include/cubejobs.h", r"A machine has (\d+) stations, so", "MAX_STATIONS"),
-    ("include/cubejobs.h", r"stations, so (\d+) regions at most", "MAX_STATIONS"),
+    ("include/cubejobs.h", r"at most (\d+) blocks are held", "MAX_STATIONS"),
     ("include/cubejobs.h", r"#define CUBEJOBS_FIT_MAX_DIM (\d+)", "MAX_BITS_DIM"),
     ("include/cubejobs.h", r"their numbers are 0 to (\d+)", "MAX_STATIONS - 1"),
     ("include/cubejobs_tree.h", r"#define CUBEJOBS_TREE_MAX_DIM (\d+)", "MAX_DIM"),
     ("include/cubejobs_tree.h", r"#define CUBEJOBS_TREE_MAX_STATIONS (\d+)", "MAX_STATIONS"),
     ("include/cubejobs_tree.h", r"up to (\d+) stations", "MAX_STATIONS"),
-    ("include/cubejobs_tree.h", r"has at most (\d+) regions", "MAX_STATIONS"),
+    ("include/cubejobs_tree.h", r"has at most (\d+) blocks", "MAX_STATIONS"),
     ("include/cubejobs_tree.h", r"uint64_t free\[(\d+)\];", "MAX_DIM + 1"),
     ("rust/src/ffi.rs", r"const MAX_DIM: usize = (\d+);", "MAX_DIM"),
     ("rust/src/ffi.rs", r"const MAX_STATIONS: usize = (\d+);", "MAX_STATIONS"),
@@ -54,9 +54,22 @@ WRITTEN = (
     ("checks/source/wrong-events/unmark_of_ones_own_mark.edit", r"\(station % (\d+)\)", "MAX_STATIONS"),
     ("README.md", r"A machine has dimension 0 to (\d+)", "MAX_DIM"),
     ("README.md", r"A machine has .* and (\d+) stations", "MAX_STATIONS"),
-    ("README.md", r"more than (\d+) regions at once", "MAX_STATIONS"),
+    ("README.md", r"more than (\d+) blocks at once", "MAX_STATIONS"),
+    ("README.md", r"blocks of 1 to ([\d,]+) processors", "2^MAX_DIM"),
+    ("README.md", r"A run has (\d+) lanes", "MAX_LANES"),
+    ("README.md", r"lanes, 1 to (\d+) dispatchers", "MAX_DISPATCHERS"),
+    ("README.md", r"a queue\s+of 1 to ([\d,]+) jobs", "MAX_CAPACITY"),
     ("README.md", r"each of up to 2\^(\d+) processors", "MAX_BITS_DIM"),
-    ("docs/HEADLINE.md", r"a machine of dimension 0 to (\d+)", "MAX_DIM"),
+    ("docs/theorem/top.md", r"dimension 0\s+to (\d+)", "MAX_DIM"),
+    ("docs/theorem/top.md", r"fixed: (\d+) lanes", "MAX_LANES"),
+    ("docs/theorem/top.md", r"lanes, (\d+) workers", "MAX_DISPATCHERS"),
+    ("docs/theorem/top.md", r"a queue of 1 to ([\d,]+) jobs", "MAX_CAPACITY"),
+    ("docs/C.md", r"more than (\d+) blocks at once", "MAX_STATIONS"),
+    ("docs/C.md", r"largest dimension \| (\d+)", "MAX_DIM"),
+    ("docs/C.md", r"largest dimension \| \d+ \| (\d+)", "MAX_BITS_DIM"),
+    ("docs/C.md", r"blocks at once \| (\d+)", "MAX_STATIONS"),
+    ("docs/RUST.md", r"FirstFit` \| dimension 0 to (\d+)", "MAX_BITS_DIM"),
+    ("docs/ALGORITHM.md", r"`n` is at most (\d+)", "MAX_DIM"),
     ("docs/GLOSSARY.md", r"one of at most (\d+) users of the machine", "MAX_STATIONS"),
 )
 SUFFIX = r"(?:[ui](?:8|16|32|64|128|size))?"
@@ -93,7 +106,7 @@ def miswritten(words):
         found = re.findall(pattern, read(file))
         if len(found) != 1:
             yield f"{file}: {name} stands {len(found)} times in the words {pattern!r}, and not once"
-        elif name not in words.get(int(found[0]), []):
+        elif name not in words.get(int(found[0].replace(",", "")), []):
             yield f"{file}: {found[0]} is not {name}"
 
 

@@ -1,27 +1,30 @@
 """Measures the believed surface: the definitions that the public contracts cite, directly or through others.
 
 It reads the contracts of the public items in crates/*/src and the definitions in crates/*/specs, and counts the
-definitions and lines of that closure, without comments, blank lines and imports. It fails where docs/DEFINITIONS.md
-does not name a definition of the closure in its crate's section, or names what is not there; where a library does not
-pass on a definition of a crate below that its public clauses cite (`pub use` in its specs/Lib.antt, of the name or of
-its module); and where what the theorem or the program reaches has more lines than its budget. The definitions that no
-public contract reaches belong among the proofs, or into a folder `inner` or a file `Inner*.antt`.
+definitions and lines of that closure, without comments, blank lines and imports. It fails where a definition of the
+closure has no comment; where docs/DEFINITIONS.md or docs/THEOREM.md is stale, or docs/theorem/top.md quotes code that
+no source has; where a library does not pass on a definition of a crate below that its public clauses cite (`pub use` in
+its specs/Lib.antt, of the name or of its module); and where what the theorem or the program reaches has more lines than
+its budget. The definitions that no public contract reaches belong among the proofs, or into a folder `inner` or a file
+`Inner*.antt`.
 
-checks/run surface the table, and what fails checks/run surface --list CRATE the crate's definitions of the closure,
-each after those that it cites checks/run surface --missing the definitions that docs/DEFINITIONS.md does not name
-checks/run surface --unreached the definitions that no public contract reaches
+    checks/run surface              what fails, and the definitions that no public contract reaches
+    checks/run surface --write      writes docs/DEFINITIONS.md: the closure, crate by crate, with its comments
+    checks/run surface --theorem    writes docs/THEOREM.md: docs/theorem/top.md, the contracts of the theorem, and the
+                                    types and definitions that these reach
 
 The invariants of types with a model count with `--invariants` alone: no caller sees the private fields of which they
 speak. Nor do the proofs that an `impl` gives for the laws of its trait: the law itself counts, in the trait.
 """
 import functools
+import itertools
 import os
 import re
 import sys
 
-from checks.lib.rattle_source import TYPES, all_items, blanked, items_in, passed_on, uncommented
-from checks.lib.repository import NO_LIBRARIES, crate_names, files_below, path, place, read
-from checks.lib.rows import print_faults
+from checks.lib.rattle_source import TYPES, all_items, items_in, owner_of, passed_on, uncommented
+from checks.lib.repository import LIMITS, NO_LIBRARIES, crate_names, files_below, path, place, read, write
+from checks.lib.rows import blind, print_faults
 
 # What a reader of a promise has to believe: the public items of these crates, or those of this name alone, and the most
 # lines that all of their clauses may reach, in whatever crate. The theorem is `Shop::finish`, with the contracts of the
@@ -30,9 +33,9 @@ from checks.lib.rows import print_faults
 OF_THE_THEOREM = (("dispatcher", "finish"), ("dispatcher", "run"), ("job_queue", None), ("floors", None),
                   ("job_types", "at"), ("job_types", "tally"), ("job_types", "dim"))
 WHOLES = {
-    "the theorem": (OF_THE_THEOREM, 320),
-    "the theorem over threads": ((*OF_THE_THEOREM, ("shop_threads", "run")), 400),
-    "the program": ((("cli_commands", None),), 1020),
+    "the theorem": (OF_THE_THEOREM, 340),
+    "the theorem over threads": ((*OF_THE_THEOREM, ("shop_threads", "run")), 430),
+    "the program": ((("cli_commands", None),), 1300),
 }
 
 # A name or a path of names: anything but spaces, brackets, commas and semicolons.
@@ -43,21 +46,40 @@ HEADER = re.compile(
 IMPORT = re.compile(
     r"(?P<words>(?:(?:pub|abbrev|unfoldable|ghost)\s+)*)use\s+(?P<path>[^\s;{]+?)\.?"
     r"(?:\{(?P<names>[^}]*)\})?(?:\s+as\s+(?P<alias>[^\s;]+))?\s*;?\s*$", re.S)
+# What the import of a type of src/ leads to, or of one of its variants.
+DECLARED = re.compile(r"Rattle\.(\w+)\.specs\.declared\.(?:[a-z]\w*\.)+([A-Z]\w*)")
 
 
 class Definition:
     """A definition of specs/: its module, its name, and its text with neither comments nor blank lines."""
 
-    def __init__(self, crate, module, name, place):
-        self.crate, self.module, self.name, self.place = crate, module, name, place
-        self.lines = []
+    def __init__(self, crate, module, name, file, number, block):
+        # The head of the block of parameters that it is in, if any.
+        self.crate, self.module, self.name, self.file, self.block = crate, module, name, place(file), block
+        # Where the comment above it begins, where it begins, and where it ends.
+        self.above = self.first = self.last = number
+        self.lines, self.comment = [], ""
         self.inside = module.partition(".specs")[2].lstrip(".")
 
     def __str__(self):
         return f"{self.inside or 'Lib'}.{self.name}"
 
+    @property
+    def place(self):
+        return f"{self.file}:{self.first}"
+
+    def link(self, text):
+        return f"[{text}](../{self.file}#L{self.first})"
+
     def is_inner(self):
         return any(part == "inner" or part.startswith("Inner") for part in self.inside.split("."))
+
+    def read_comment(self, lines):
+        """Reads the comment above it, of the lines of its file."""
+        while self.above > 1 and lines[self.above - 2].lstrip().startswith("--"):
+            self.above -= 1
+        marked = lines[self.above - 1 : self.first - 1]
+        self.comment = " ".join(" ".join(line.strip().lstrip("-") for line in marked).split())
 
 
 class Scope:
@@ -104,6 +126,39 @@ class Scope:
         return found
 
 
+def with_rest(lines, margin):
+    """Returns a line with the ones after it that are indented more than its margin."""
+    rest = itertools.takewhile(lambda line: line[margin : margin + 1].isspace(), lines[1:])
+    return "\n".join([lines[0][margin:], *rest])
+
+
+def read_definitions(text, crate, module, file):
+    """Returns the definitions of a file by their names, and what its imports mean."""
+    scope, found, current, pending, block = Scope(), {}, None, "", ""
+    lines = [line.rstrip() for line in uncommented(text, is_antt=True).splitlines()]
+    for number, line in enumerate(lines, 1):
+        if pending or re.match(r"((pub|abbrev|unfoldable)\s+)*use\s", line):
+            pending += " " + line
+            if pending.count("{") <= pending.count("}"):
+                scope.take(pending)
+                pending = ""
+            continue
+        if not line or re.match(r"((pub\s+)?mod\s|infix[lr]?\s)", line):
+            continue
+        block = block if line[0].isspace() else ""
+        whole = with_rest(lines[number - 1 :], 2 if block else 0)
+        if re.match(r"module\s+_\s", line):
+            current, block = None, re.match(r".*?\bwhere\b", whole, re.S)[0]
+            continue
+        header = None if whole[0].isspace() else HEADER.match(whole)
+        if header:
+            current = found[header["name"]] = Definition(crate, module, header["name"], file, number, block)
+        if current:
+            current.lines.append(line.removeprefix("  ") if block else line)
+            current.last = number
+    return found, scope
+
+
 class Specs:
     def __init__(self):
         self.modules, self.scopes = {}, {}
@@ -114,31 +169,11 @@ class Specs:
                 self.read_module(crate, f"Rattle.{crate}.specs.{inside}".removesuffix(".Lib"), file)
 
     def read_module(self, crate, module, file):
-        scope, found, current, pending, in_block = Scope(), {}, None, "", False
-        for number, raw in enumerate(uncommented(read(file), is_antt=True).splitlines(), 1):
-            line = raw.rstrip()
-            if pending or re.match(r"((pub|abbrev|unfoldable)\s+)*use\s", line):
-                pending += " " + line
-                if pending.count("{") <= pending.count("}"):
-                    scope.take(pending)
-                    pending = ""
-                continue
-            if not line or re.match(r"((pub\s+)?mod\s|infix[lr]?\s)", line):
-                continue
-            if re.match(r"module\s+_\s.*\bwhere$", line):
-                current, in_block = None, True
-                continue
-            in_block = in_block and line[0].isspace()
-            line = line.removeprefix("  ") if in_block else line
-            header = None if line[0].isspace() else HEADER.match(line)
-            if header:
-                current = Definition(crate, module, header["name"], f"{place(file)}:{number}")
-                found[current.name] = current
-            if current:
-                current.lines.append(line)
-        self.modules[module], self.scopes[module] = found, scope
-        for name in found:
-            scope.put(name, (module, name), None)
+        text = read(file)
+        self.modules[module], self.scopes[module] = read_definitions(text, crate, module, file)
+        for name, definition in self.modules[module].items():
+            self.scopes[module].put(name, (module, name), None)
+            definition.read_comment(text.splitlines())
 
     def at(self, target, seen=()):
         """The definition that a path leads to, through what modules pass on. A part of it leads to the whole."""
@@ -186,6 +221,12 @@ class Specs:
     def below(self, definition):
         text = "\n".join(definition.lines)
         return [it for it in self.cited(text, self.scopes[definition.module]) if it is not definition]
+
+    def types(self, definition):
+        """Returns the crate and the name of each type of src/ that a definition names."""
+        words = [it.partition(".")[0] for it in TOKEN.findall("\n".join(definition.lines))]
+        targets = filter(None, map(self.scopes[definition.module].get, words))
+        return {it.groups() for it in (DECLARED.match(".".join(target)) for target in targets) if it}
 
     def closure(self, roots):
         """The roots with all that they cite, each definition after those that it cites, where there is no cycle."""
@@ -285,46 +326,16 @@ def exports(files):
     return names.union(*(names for _, names in passed_on(all_items(lib))))
 
 
-def named_in_documents():
-    """The names in backquotes of docs/DEFINITIONS.md, by the crates whose specs/ the heading above them names."""
-    found, owners = {}, []
-    for line in read("docs/DEFINITIONS.md").splitlines():
-        if line.startswith("## "):
-            owners = re.findall(r"crates/(\w+)", line)
-        for quoted in re.findall(r"`([^`]+)`", line):
-            for crate in owners:
-                pieces = (piece for token in TOKEN.findall(quoted) for piece in [token, *token.split(".")])
-                found.setdefault(crate, set()).update(pieces)
-    return found
-
-
-def stale_names(definitions):
-    """What the first columns of the tables of docs/DEFINITIONS.md name, and neither specs/ nor src/ has."""
-    known = {it.name for it in definitions}
-    for file in (file for crate in crate_names() for file in files_below(f"crates/{crate}/src", ".rt")):
-        known |= set(re.findall(r"\b(?:struct|enum|trait|type|const|ghost|fn)\s+(\w+)", blanked(read(file))))
-    for number, line in enumerate(read("docs/DEFINITIONS.md").splitlines(), 1):
-        if line.startswith("| `"):
-            for quoted in re.findall(r"`([^`]+)`", line.split("|")[1]):
-                name = TOKEN.match(quoted)
-                if name and name[0].rpartition(".")[2] not in known:
-                    yield f"docs/DEFINITIONS.md names {name[0]}, which is not there (line {number})"
-
-
 class Surface:
-    """The closure of all public contracts, what the documents lack of it, and what it does not reach."""
+    """The closure of all public contracts, what is wrong with it, and what it does not reach."""
 
     def __init__(self):
         self.specs, self.crates = Specs(), crate_names()
         self.roots = {crate: Source(crate, self.specs).roots for crate in self.crates}
         self.closure = self.specs.closure([it for crate in self.crates for it in self.roots[crate]])
-        named, reached = named_in_documents(), set(self.closure)
-        self.missing = [it for it in self.closure if it.name not in named.get(it.crate, ())]
+        reached = set(self.closure)
         every = [it for module in self.specs.modules.values() for it in module.values()]
         self.unreached = [it for it in every if it not in reached and not it.is_inner()]
-        self.stale = list(stale_names(every))
-        libraries = [crate for crate in self.crates if crate not in NO_LIBRARIES]
-        self.kept_back = [why for crate in libraries for why in self.not_passed_on(crate)]
 
     def not_passed_on(self, crate):
         """What the public clauses of a library cite of the crates below, and the library does not pass on."""
@@ -332,29 +343,143 @@ class Surface:
             if it.crate != crate and not self.specs.passes_on(crate, it):
                 yield f"crates/{crate}/specs/Lib.antt does not pass on {it} of {it.crate}, which its clauses cite"
 
-    def table(self):
-        yield ("crate", "definitions", "lines", "with below", "lines", "not named", "unreached", "lines")
-        for crate in self.crates:
-            own, whole = of_crate(self.closure, crate), self.specs.closure(self.roots[crate])
-            left = of_crate(self.unreached, crate)
-            absent = of_crate(self.missing, crate)
-            yield (crate, len(own), lines_of(own), len(whole), lines_of(whole), len(absent), len(left), lines_of(left))
-        left = self.unreached
-        yield ("all", len(self.closure), lines_of(self.closure), "", "", len(self.missing), len(left), lines_of(left))
-
-    def over_budget(self):
-        for name, (_, lines, most) in self.wholes().items():
-            if lines > most:
-                yield f"{name} reaches {lines} lines, and at most {most} are allowed"
-
     @functools.cache
-    def wholes(self):
-        """How many definitions and lines each whole reaches, and the most lines that it may."""
-        found = {}
-        for name, (parts, most) in WHOLES.items():
-            reached = self.specs.closure([it for crate, only in parts for it in Source(crate, self.specs, only).roots])
-            found[name] = (len(reached), lines_of(reached), most)
-        return found
+    def reached(self, whole):
+        """Returns the definitions that a whole reaches, each after those that it cites."""
+        parts, _ = WHOLES[whole]
+        return self.specs.closure([it for crate, only in parts for it in Source(crate, self.specs, only).roots])
+
+    def definitions_page(self):
+        """Returns the text of docs/DEFINITIONS.md."""
+        yield TOP_OF_DEFINITIONS
+        of_theorem = self.reached("the theorem")
+        for crate in self.crates:
+            own = sorted(of_crate(self.closure, crate), key=lambda it: (it.file, it.first))
+            yield f"\n## {crate}\n\n| Definition | Says |\n|---|---|\n" if own else ""
+            for it in own:
+                yield f"| {it.link(f'`{it.name}`')}{' †' if it in of_theorem else ''} | {in_cell(it.comment)} |\n"
+
+    def theorem_page(self):
+        """Returns the text of docs/THEOREM.md: the top, the contracts, and the types and definitions that they name."""
+        own, whole_of_it = self.reached("the theorem"), self.reached("the theorem over threads")
+        more = [it for it in whole_of_it if it not in own]
+        contracts = [it for part in WHOLES["the theorem over threads"][0] for it in contracts_of(*part)]
+        yield read(TOP).rstrip("\n") + "\n\n<!-- All below is written by checks/run surface --theorem. -->\n"
+        yield TOP_OF_CONTRACTS
+        yield from (as_rust(*it) for it in contracts)
+        yield TOP_OF_TYPES
+        texts = [*(text for _, text in contracts), *map(source_of, whole_of_it)]
+        named = {word for text in texts for word in text.split()}
+        yield as_rust(LIMITS[0], "\n".join(it[0] for it in LIMIT.finditer(read(LIMITS[0])) if it[1] in named))
+        types = set().union(*map(self.specs.types, whole_of_it))
+        yield from (as_rust(*it) for crate in self.crates for it in types_of(crate, types, contracts))
+        yield TOP_OF_DEFINED.format(len(own), lines_of(own))
+        yield from self.in_full(own)
+        yield TOP_OF_THREADS.format(len(more), lines_of(more))
+        yield from self.in_full(more)
+
+    def in_full(self, definitions):
+        """Yields the text of these definitions, the lowest crate first."""
+        for crate in self.crates:
+            own = of_crate(definitions, crate)
+            yield f"\n### {crate}\n" if own else ""
+            for it in own:
+                inside = it.place.removeprefix(f"crates/{crate}/")
+                yield f"\n{it.link(inside)}\n\n```antt\n{source_of(it)}\n```\n"
+
+    def faults(self):
+        yield from uncommented_ones(self.closure)
+        for crate in self.crates:
+            yield from self.not_passed_on(crate) if crate not in NO_LIBRARIES else ()
+        for whole, (_, most) in WHOLES.items():
+            lines = lines_of(self.reached(whole))
+            if lines > most:
+                yield f"{whole} reaches {lines} lines, and at most {most} are allowed"
+        files = [file for crate in self.crates for part in ("src", "specs")
+                 for file in files_below(f"crates/{crate}/{part}", ".rt", ".antt")]
+        yield from misquoted(read(TOP), [squeezed(read(file), file.endswith(".antt")) for file in files])
+        for word, (file, page) in PAGES.items():
+            if read(file) != "".join(page(self)):
+                yield f"{file} is stale: checks/run surface {word} renews it"
+
+
+TOP = "docs/theorem/top.md"
+PAGES = {
+    "--write": ("docs/DEFINITIONS.md", Surface.definitions_page),
+    "--theorem": ("docs/THEOREM.md", Surface.theorem_page),
+}
+TOP_OF_DEFINITIONS = """# Definitions
+
+Public contracts cite these definitions, directly or through other definitions. A dagger (†) marks a
+definition that the theorem reaches, which [THEOREM.md](THEOREM.md) has in full.
+
+<!-- All is written by checks/run surface --write, from the comments in crates/*/specs. -->
+"""
+TOP_OF_CONTRACTS = """
+## The contracts
+
+A trait is shown whole. Of a function its comment, its head and its clauses are shown, and no body.
+`SharedLine` and `SharedFloor` are the same contracts, for handles that may go to other threads.
+"""
+TOP_OF_TYPES = """
+## The types
+
+The contracts and the definitions name these limits and types. They see a `Job` and a
+`Request` as a `JobData`, a `Reply` as a `ReplyData`, a `Shop` as a `ShopId`, and the room of a note
+as a `RoomSize`.
+"""
+TOP_OF_DEFINED = """
+## The definitions
+
+The contracts above, except that of `run` in `shop_threads`, cite these {} definitions, directly or
+through others. So some belong to calls of a queue, as `fresh_lanes` and `GainsRefusal`, and not to
+`finish`. They have {} lines, without comments, empty lines and imports. The lowest crate comes first,
+and each definition after those that it cites. Two are called `total`: `job_types` cites that of
+`collectives`, and the crates after it that of `ghost_history`.
+"""
+TOP_OF_THREADS = """
+## The definitions over threads
+
+The contract of `run` in `shop_threads` cites {} definitions more, directly or through others. They
+have {} lines.
+"""
+# A limit with its comment.
+LIMIT = re.compile(r"(?:^///.*\n)+^pub const (\w+):.*\n", re.M)
+
+
+def as_rust(file, text):
+    return f"\nFrom [{file.removeprefix('crates/')}](../{file}):\n\n```rust\n{text.strip()}\n```\n"
+
+
+def whole(text, item):
+    """Returns an item with the comments above it, but without attributes and imports."""
+    shown = text[item.beginning(text, ("///", "#")) : item.end]
+    return re.sub(r"\{\n\n", "{\n", re.sub(r"(?m)^ *(?:#\[|ghost use ).*\n", "", shown))
+
+
+def contracts_of(crate, only=None):
+    """Yields the file and the text of each trait, or of the functions of one name, that a crate makes public."""
+    from checks.source.callers import interface, is_promised, quoted  # which reads this module
+
+    items, names = interface(crate)
+    promised = [it for it in items if it.kind == "fn" and only in (None, it.name) and is_promised(it, names)]
+    for block, functions in itertools.groupby(promised, lambda it: it.block):
+        functions = [*functions]
+        text, is_trait = read(functions[0].file), block and block.kind == "trait"
+        yield functions[0].file, whole(text, block) if is_trait else quoted(text, block, functions)
+
+
+def types_of(crate, types, contracts):
+    """Yields each file of a crate and its types that are among these, or that its own contracts name and see as they
+    are: as no other value (`Model`)."""
+    own = " ".join(text for file, text in contracts if file.startswith(f"crates/{crate}/"))
+    for file, items in sources_of(crate).items():
+        blocks = {owner_of(it.head) for it in items if it.kind == "impl"}
+        shown = [it for it in items if it.kind in ("struct", "enum") and ((crate, it.name) in types or it.is_public
+                 and re.search(rf"\b{it.name}\b", own) and f"{it.name}Model" not in blocks)]
+        if shown:
+            text = read(shown[0].file)
+            yield shown[0].file, "\n\n".join(whole(text, it) for it in shown)
 
 
 def of_crate(definitions, crate):
@@ -365,34 +490,82 @@ def lines_of(definitions):
     return sum(len(it.lines) for it in definitions)
 
 
-def print_all(definitions):
-    for it in definitions:
-        print(f"{str(it):45} {len(it.lines):4}  {it.place}")
+def in_cell(comment):
+    """Returns a comment as the cell of a table, in which bars and stars are plain letters."""
+    return re.sub(r"`[^`]*`|[*<|]", lambda it: it[0].replace("|", "\\|") if len(it[0]) > 1 else "\\" + it[0], comment)
 
 
-def print_report(surface):
-    for name, *numbers in surface.table():
-        print(f"{name:14}" + "".join(f"{number:>12}" for number in numbers))
-    for it in surface.unreached:
-        print(f"note: no public contract reaches {it} ({it.place})")
-    missing = [f"docs/DEFINITIONS.md does not name {it} of {it.crate} ({it.place})" for it in surface.missing]
-    over = list(surface.over_budget())
-    status = print_faults([*missing, *surface.stale, *surface.kept_back, *over])
-    for name, (count, lines, most) in surface.wholes().items():
-        print(f"surface: {name} reaches {count} definitions, {lines} lines of at most {most}")
-    print(f"surface: {len(missing)} definitions not named, {len(surface.stale)} names stale,"
-          f" {len(surface.kept_back)} not passed on, {len(over)} budgets exceeded")
-    return status
+def source_of(definition):
+    """Returns a definition as it is in its file, with the comment above it, and with the head of its block."""
+    lines = read(definition.file).splitlines()[definition.above - 1 : definition.last]
+    return "\n".join([definition.block, *lines] if definition.block else lines)
+
+
+def uncommented_ones(definitions):
+    return (f"{it.place}: {it.name} has no comment above it" for it in definitions if not it.comment)
+
+
+def squeezed(text, is_antt):
+    """Returns a text with neither comments nor spaces, nor the comma after the last of a list."""
+    return re.sub(r",(?=[)}\]])", "", "".join(uncommented(text, is_antt).split()))
+
+
+def misquoted(page, known):
+    """Yields each code block of a page that none of the known texts has."""
+    for kind, block in re.findall(r"^```(\w*)\n(.*?)^```$", page, re.M | re.S):
+        if not any(squeezed(block, kind != "rust") in text for text in known):
+            yield f"{TOP}: no source has the block that begins with {block.splitlines()[0][:60]!r}"
+
+
+# A file of definitions, its names, and those that have no comment; and a block that is quoted, but for its layout.
+SAMPLE = """-- a file
+use Rattle.a.{b}
+
+-- A long head.
+pub record Head (n : ℕ)
+    (m : ℕ) : Type 0 where
+  -- a field
+  pub field : ℕ
+
+-- A group.
+
+abbrev pub none : ℕ
+none = 1
+module _ (n : ℕ)
+    (m : ℕ) where
+  -- Inside,
+  -- twice.
+  inside : ℕ
+"""
+BLOCK = "pub fn f(\n    a: u8, // here\n) { 1 }\n"
+TRAIT = "/// A.\n#[a]\npub trait A {\n    ghost use b;\n\n    fn c();\n}\n"
+
+
+def known_bad():
+    found, _ = read_definitions(SAMPLE, "a", "Rattle.a.specs.B", "crates/a/specs/B.antt")
+    for it in found.values():
+        it.read_comment(SAMPLE.splitlines())
+    yield [f"{it} {it.first} to {it.last}: {it.comment}" for it in found.values()], [
+        "B.Head 5 to 8: A long head.", "B.none 12 to 13: ", "B.inside 18 to 18: Inside, twice."]
+    yield [*uncommented_ones(found.values())], ["crates/a/specs/B.antt:12: none has no comment"]
+    page = f"```rust\n{BLOCK}```\n```\npub other : ℕ\n```\n"
+    yield [*misquoted(page, [squeezed("pub fn f(a: u8) { 1 }", False)])], ["begins with 'pub other"]
+    yield [whole(TRAIT, items_in("", TRAIT)[0])], ["/// A.\npub trait A {\n    fn c();\n}"]
 
 
 def main(words):
     words, surface = [word for word in words if word != "--invariants"], Surface()
-    shown = {"--missing": surface.missing, "--unreached": surface.unreached}
-    if words[:1] == ["--list"] and len(words) == 2 and words[1] in surface.crates:
-        print_all(of_crate(surface.closure, words[1]))
-    elif len(words) == 1 and words[0] in shown:
-        print_all(shown[words[0]])
-    elif words:
+    if len(words) == 1 and words[0] in PAGES:
+        file, page = PAGES[words[0]]
+        return write(file, "".join(page(surface)))
+    if words:
         print(__doc__, file=sys.stderr)
         return 2
-    return 0 if words else print_report(surface)
+    for it in surface.unreached:
+        print(f"note: no public contract reaches {it} ({it.place})")
+    status = print_faults([*surface.faults(), *blind("surface", known_bad())])
+    print(f"surface: public contracts reach {len(surface.closure)} definitions, {lines_of(surface.closure)} lines")
+    for whole, (_, most) in WHOLES.items():
+        of_whole = surface.reached(whole)
+        print(f"surface: {whole} reaches {len(of_whole)} definitions, {lines_of(of_whole)} lines of at most {most}")
+    return status

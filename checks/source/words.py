@@ -1,5 +1,6 @@
 """Fails where one word has two senses: a public type whose name stands in two crates, or a word of docs/GLOSSARY.md
-with two entries.
+with two entries; where a crate has no section of docs/STATUS.md with its three lists; and where docs/ALGORITHM.md does
+not name exactly the events of the tree.
 
 It reads the types that each library makes public and has itself, and the first column of the glossary's tables. ALLOWED
 says which crates may share a name, and why; an entry that is not needed fails too. Bare, the names of NOBODYS belong to
@@ -10,8 +11,8 @@ import os
 import re
 
 from checks.lib.rattle_source import TYPES, all_items, items_in, passed_on
-from checks.lib.repository import ROOT, files_below, read
-from checks.lib.rows import print_faults
+from checks.lib.repository import ROOT, crate_names, files_below, read
+from checks.lib.rows import blind, print_faults
 
 NOBODYS = ("Lane", "Pass", "Station")
 # Which crates have a type of this name, and why that misleads nobody.
@@ -30,6 +31,10 @@ ALLOWED = {
     "Row": ("jobs_csv tests_kit", "what is written as a line of CSV, and a row of a test"),
     "Tally": ("collectives uses", "rounds and messages, and what a stranger's line counts"),
 }
+
+
+# The lists of a section of docs/STATUS.md.
+LISTS = ("Proved", "Tested", "Neither")
 
 
 def types_in(items):
@@ -81,6 +86,57 @@ def glossary_faults(text):
         yield f"docs/GLOSSARY.md has {len(entries)} words alone"
 
 
+def status_faults(text, crates):
+    """Yields which crates have no section, or not its lists. A section without lists says why it has none."""
+    parts = [part.partition("\n") for part in re.split(r"^## ", text, flags=re.M)[1:]]
+    found = {name: below for heading, _, below in parts for name in re.findall(r"\w+", heading.partition("(")[0])}
+    for crate in crates:
+        why, *lists = re.split(r"^(?:### |\*\*)?(Proved|Tested|Neither)\b[*:.]*", found.get(crate, ""), flags=re.M)
+        for name in LISTS if lists or not why.strip() else ():
+            if not dict(zip(lists[::2], lists[1::2])).get(name, "").strip():
+                yield f"docs/STATUS.md has no list '{name}' below a heading '## {crate}'"
+
+
+def event_kinds(root):
+    """Returns the names of the tree's events, and the word that `cubejobs replay` prints for each."""
+    items = items_in("", read(root, "crates/cube_core/src/event.rt"))
+    kinds = next(re.findall(r"\w+", item.text) for item in items if item.name == "Kind")
+    return kinds, dict(re.findall(r"Kind::(\w+) => \"(\w+)\"", read(root, "crates/jobs_csv/src/replay_rows.rt")))
+
+
+def step_faults(text, kinds, printed):
+    """Yields where the names beside the lines of code are others than those of the events."""
+    code = "\n".join(re.findall(r"^```.*?^```$", text, re.M | re.S))
+    for name in sorted({*re.findall(r" {3}([A-Z][a-z]+)(?: {3}.*)?$", code, re.M)} - {*kinds}):
+        yield f"docs/ALGORITHM.md names the step {name}, which is no event"
+    for kind in kinds:
+        if not re.search(rf"\b{kind}\b", text) or printed.get(kind) != kind.lower():
+            yield f"docs/ALGORITHM.md has no step {kind}, or `cubejobs replay` prints another word for it"
+
+
+# Known bad pages, and the words of each fault.
+STATUS = """## a, b (two)
+Proved
+- all
+**Tested**: Nothing.
+### Neither
+## c
+Only tests.
+## d
+"""
+NOTHING = [f"no list '{name}' below a heading '## {crate}'" for crate in "de" for name in LISTS]
+ALGORITHM = "```\nw = load(h)         Look\nh            Leap     at Once\n```\n*Claim*"
+
+
+def known_bad():
+    yield [*status_faults(STATUS, "bcde")], ["no list 'Neither' below a heading '## b'", *NOTHING]
+    steps = [*step_faults(ALGORITHM, ["Look", "Claim", "Mark"], {"Look": "look", "Claim": "claims", "Mark": "mark"})]
+    yield steps, ["names the step Leap", "no step Claim", "no step Mark"]
+
+
 def main(words):
     root = os.path.realpath(words[0]) if words else ROOT
-    return print_faults([*type_faults(homes(root)), *glossary_faults(read(root, "docs", "GLOSSARY.md"))])
+    faults = [*type_faults(homes(root)), *glossary_faults(read(root, "docs", "GLOSSARY.md"))]
+    faults += status_faults(read(root, "docs", "STATUS.md"), crate_names())
+    faults += step_faults(read(root, "docs", "ALGORITHM.md"), *event_kinds(root))
+    return print_faults([*faults, *blind("words", known_bad())])

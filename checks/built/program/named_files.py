@@ -1,5 +1,5 @@
 """Rows of files that are named: what is read and written, and that nothing else is there in the end, against an output
-that is written in part, or is changed by a command that fails, and against a draft that stays."""
+that is written in part, or is changed by a command that fails, and against a temporary file that stays."""
 import os
 import shutil
 import tempfile
