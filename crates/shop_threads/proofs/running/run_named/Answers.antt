@@ -40,7 +40,7 @@ run_end-requires-clause-all_lanes g c =
     let ready = c.args.ready in
     let given = sym (length-map ready.opened.lanes.items g.L.JobLine.lane_record) ∙ (ap length ready.fresh_lanes ∙ lanes_count (length ready.jobs.items)) in
     at_line (λ i. length c.lanes_from_slots.new.fed.items ≡ i.sizes.lanes) _ _ c.requires.shop
-    (c.lanes_from_slots.ensures.count ∙ (c.slots_for_lanes-lane_slots.ensures.count ∙ (given ∙ sym ready.all_lanes)))
+    (omega (arith, c.lanes_from_slots.ensures.count, c.into_slots-worker_slots.ensures.lanes, c.slots_for_lanes-lane_slots.ensures.count, given, ready.all_lanes))
 
 pub run_end-requires-clause-lane_room : goal.run_end-requires-clause-lane_room
 run_end-requires-clause-lane_room g c =
