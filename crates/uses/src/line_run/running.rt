@@ -7,7 +7,7 @@ ghost use Rattle.job_queue.specs.Record.{fresh_lanes, fresh_passes, job_of};
 ghost use Rattle.job_queue.specs.Line.{IsFor};
 
 use crate::line_run::member::{CloserSlot, Feeder, Naming, Taker};
-use crate::line_run::pair::{Pair, both};
+use crate::line_run::pair::{both, two_of};
 use job_queue::{JobLine, Opened, QueuedJob, Rest};
 use job_types::Job;
 use shop_threads::SharedLine;
@@ -104,8 +104,8 @@ fn run_named<J: Naming + Send + Sync, R: Threads + Wait + Sync, L: JobLine + Sha
         passes,
         closer,
     } = opened;
-    let (lane, other, lane_room) = Pair::of(lanes).into_parts();
-    let (pass, another, pass_room) = Pair::of(passes).into_parts();
+    let (lane, other, lane_room) = two_of(lanes);
+    let (pass, another, pass_room) = two_of(passes);
     let (first_jobs, second_jobs) = jobs;
     let members: Members<J, L> = Members {
         feeders: (

@@ -17,30 +17,30 @@ of_line P opened named same fact = subst P same fact
 
 pub new-requires-clause-lane : goal.new-requires-clause-lane
 new-requires-clause-lane g c = let line = g.L.JobLine in
-    of_line (λ z. line.is_lane z c.of-lanes.result.first) _ _ c.requires.line (first_of_two (line.is_lane (line.id c.args.opened.line)) _ _ _ c.of-lanes.ensures.members c.requires.lanes)
+    of_line (λ z. line.is_lane z c.two_of-lane.result.0) _ _ c.requires.line (first_of_two (line.is_lane (line.id c.args.opened.line)) _ _ _ c.two_of-lane.ensures.members c.requires.lanes)
 
 pub new-requires-3-clause-lane : goal.new-requires-3-clause-lane
 new-requires-3-clause-lane g c = let line = g.L.JobLine in
-    of_line (λ z. line.is_lane z c.of-lanes.result.second) _ _ c.requires.line (second_of_two (line.is_lane (line.id c.args.opened.line)) _ _ _ c.of-lanes.ensures.members c.requires.lanes)
+    of_line (λ z. line.is_lane z c.two_of-lane.result.1) _ _ c.requires.line (second_of_two (line.is_lane (line.id c.args.opened.line)) _ _ _ c.two_of-lane.ensures.members c.requires.lanes)
 
 pub new-requires-6-clause-pass : goal.new-requires-6-clause-pass
 new-requires-6-clause-pass g c = let line = g.L.JobLine in
-    of_line (λ z. line.is_pass z c.of-passes.result.first) _ _ c.requires.line (first_of_two (line.is_pass (line.id c.args.opened.line)) _ _ _ c.of-passes.ensures.members c.requires.passes)
+    of_line (λ z. line.is_pass z c.two_of-pass.result.0) _ _ c.requires.line (first_of_two (line.is_pass (line.id c.args.opened.line)) _ _ _ c.two_of-pass.ensures.members c.requires.passes)
 
 pub new-requires-9-clause-pass : goal.new-requires-9-clause-pass
 new-requires-9-clause-pass g c = let line = g.L.JobLine in
-    of_line (λ z. line.is_pass z c.of-passes.result.second) _ _ c.requires.line (second_of_two (line.is_pass (line.id c.args.opened.line)) _ _ _ c.of-passes.ensures.members c.requires.passes)
+    of_line (λ z. line.is_pass z c.two_of-pass.result.1) _ _ c.requires.line (second_of_two (line.is_pass (line.id c.args.opened.line)) _ _ _ c.two_of-pass.ensures.members c.requires.passes)
 
 pub new-requires-clause-made_for : goal.new-requires-clause-made_for
 new-requires-clause-made_for g c = let line = g.L.JobLine in let jobs = c.args.jobs.0.items in
-    let number : (line.lane_record c.of-lanes.result.first).number ≡ 0 = ap (λ (rs : List LaneRecord). (get_or rs 0 (fresh_lane 9)).number) (ap (map line.lane_record) (sym c.of-lanes.ensures.members) ∙ c.requires.two_lanes.1) in
-    of_line (λ z. All (IsFor z.sizes.machine (line.lane_record c.of-lanes.result.first).number) jobs) _ _ c.requires.line
+    let number : (line.lane_record c.two_of-lane.result.0).number ≡ 0 = ap (λ (rs : List LaneRecord). (get_or rs 0 (fresh_lane 9)).number) (ap (map line.lane_record) (sym c.two_of-lane.ensures.members) ∙ c.requires.two_lanes.1) in
+    of_line (λ z. All (IsFor z.sizes.machine (line.lane_record c.two_of-lane.result.0).number) jobs) _ _ c.requires.line
     (subst (λ (n : ℕ). All (IsFor (line.id c.args.opened.line).sizes.machine n) jobs) (sym number) c.requires.first_jobs)
 
 pub new-requires-3-clause-made_for : goal.new-requires-3-clause-made_for
 new-requires-3-clause-made_for g c = let line = g.L.JobLine in let jobs = c.args.jobs.1.items in
-    let number : (line.lane_record c.of-lanes.result.second).number ≡ 1 = ap (λ (rs : List LaneRecord). (get_or rs 1 (fresh_lane 9)).number) (ap (map line.lane_record) (sym c.of-lanes.ensures.members) ∙ c.requires.two_lanes.1) in
-    of_line (λ z. All (IsFor z.sizes.machine (line.lane_record c.of-lanes.result.second).number) jobs) _ _ c.requires.line
+    let number : (line.lane_record c.two_of-lane.result.1).number ≡ 1 = ap (λ (rs : List LaneRecord). (get_or rs 1 (fresh_lane 9)).number) (ap (map line.lane_record) (sym c.two_of-lane.ensures.members) ∙ c.requires.two_lanes.1) in
+    of_line (λ z. All (IsFor z.sizes.machine (line.lane_record c.two_of-lane.result.1).number) jobs) _ _ c.requires.line
     (subst (λ (n : ℕ). All (IsFor (line.id c.args.opened.line).sizes.machine n) jobs) (sym number) c.requires.second_jobs)
 
 pub returns : goal.returns
