@@ -258,7 +258,7 @@ impl Limits {
         Ok(Limits {
             dim: format!(in alloc; "Dimension of the machine, of 2^N processors: 0 to {MAX_DIM}")?,
             dispatchers: format!(in alloc; "Dispatchers that run jobs: 1 to {MAX_DISPATCHERS}")?,
-            capacity: format!(in alloc; "Jobs that may wait in the queue: 1 to {MAX_CAPACITY}")?,
+            capacity: format!(in alloc; "Jobs that may wait: 1 to {MAX_CAPACITY}")?,
             stations: format!(in alloc;
                 "Number of stations, the first being 0: 1 to {MAX_STATIONS}"
             )?,
