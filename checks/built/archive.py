@@ -3,8 +3,7 @@ libcubejobs_c.a and libcubejobs_tree.a there, from what stands in the folders `o
 
 A library that asks for memory gets the allocator of the toolchain, three functions round malloc, realloc and free. Of
 what a file defines, the functions of its header alone stay visible, so a program can link it beside another library of
-Rattle and beside names of its own. The linker and the archiver are the toolchain's, so no other tool of the machine has
-a part in the bytes.
+Rattle and names of its own. The toolchain's linker and archiver make the bytes, and no other tool has a part in them.
 """
 import os
 import struct
@@ -12,7 +11,7 @@ import subprocess
 import tempfile
 
 from checks.lib.repository import path, read_bytes
-from checks.lib.rows import Wrong, must
+from checks.lib.rows import Wrong, must, put
 from checks.lib.toolchain import kit
 
 LIBRARIES = ("cubejobs_c", "cubejobs_tree")
@@ -31,8 +30,7 @@ class Object:
         self.data = bytearray(data)
         start, = struct.unpack_from("<Q", data, 40)
         size, count = struct.unpack_from("<HH", data, 58)
-        # Of each section: its place in the table, its kind, where its bytes begin, how many they are, and the section
-        # that it names.
+        # Of each section: its place in the table, its kind, where its bytes begin, their number, and the section named.
         self.sections = []
         for at in range(start, start + size * count, size):
             kind, = struct.unpack_from("<I", data, at + 4)
@@ -83,8 +81,7 @@ def make(name, out, room):
     defined, wanted = made.visible()
     has_others = not all(it.startswith(OWN) for it in defined) or any(it.startswith(b"rattle_") for it in wanted)
     must(defined and not has_others, f"archive: lib{name}.a defines {sorted(defined)} and asks for {sorted(wanted)}")
-    with open(whole, "wb") as file:
-        file.write(made.data)
+    put(whole, made.data)
     if os.path.exists(out):
         os.remove(out)
     subprocess.run([f"{tools}/llvm-ar", "rcsD", out, whole], check=True)

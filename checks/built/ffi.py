@@ -38,8 +38,7 @@ STATED = r"(\d+) \* 2\^dim \+ (\d+) \* stations \+ (\d+) bytes in (\d+) blocks f
 
 
 def build(crate, after_gate):
-    """Builds the library of a crate, unless the one that stands is newer than its sources and than what says which
-    processor it is for."""
+    """Builds the library of a crate, unless it is newer than its sources and than what says its processor."""
     file = path("crates", crate, "out", f"lib{crate}.a")
     sources = [it for name in (crate, *BELOW[crate]) for it in files_below(f"crates/{name}/src", "")]
     sources += [static.__file__, path("checks/lib/toolchain.py")]
@@ -116,8 +115,7 @@ def rows(room, longer):
     yield Row("a race is seen", must_be_seen, (room, race, b"WARNING: ThreadSanitizer: data race"))
     unmarked = Program(CALLS("tree"), [TREE], [*CLANG, f"-I{room}/unmarked"], [], ["20"], PLACED)
     yield Row("what is not written is seen", must_be_seen, (room, unmarked, b"WARNING: MemorySanitizer"))
-    # A library keeps its names to itself: it is linked whole beside the other one, and beside names of the program's
-    # own.
+    # A library keeps its names to itself: it is linked whole beside the other one, and beside a program's own names.
     for whole in ([EXACT, TREE], [TREE, EXACT], []):
         both = ["-Wl,--whole-archive", *whole, "-Wl,--no-whole-archive"] if whole else [TREE]
         names = Program("examples/threads.c", both, C, ["-xc", f"{room}/own.c", "-xnone"], shown="examples/threads.out")

@@ -1,10 +1,9 @@
 // Calls the library for C beside a plain model: on machines of dimension 0 to 12, random takes, releases and questions,
 // with bad arguments among them. `ffi_calls CALLS` makes CALLS on each machine. It is C and C++ alike. It exits with 0,
 // or says on standard error which call answered otherwise than the model.
-#include "calls.h"
 #include "cubejobs.h"
 
-enum { NOBODY = -1 };
+#include "calls.h"
 
 // Bytes on both sides of the machine, which no call may touch.
 struct guarded {
@@ -15,9 +14,7 @@ struct guarded {
 
 static struct guarded memory;
 static struct cubejobs_machine *const machine = &memory.machine;
-// The model: who holds each processor, and what each station holds.
-static int holder[1 << CUBEJOBS_MAX_DIM];
-static bool holds[CUBEJOBS_MAX_STATIONS];
+// The model: what each station holds. A station's number among the holders is one more than its own.
 static struct cubejobs_answer held[CUBEJOBS_MAX_STATIONS];
 
 static struct cubejobs_answer answer(uint32_t code, uint32_t k, uint64_t base) {
@@ -27,61 +24,37 @@ static struct cubejobs_answer answer(uint32_t code, uint32_t k, uint64_t base) {
 
 static struct cubejobs_answer refused(uint32_t code) { return answer(code, 0, 0); }
 
-static bool same(struct cubejobs_answer a, struct cubejobs_answer b) {
-    return a.code == b.code && a.dim == b.dim && a.base == b.base;
-}
-
-static void set_holder(unsigned base, unsigned size, int station) {
-    for (unsigned p = base; p < base + size; p++) holder[p] = station;
-}
-
-static bool is_free(unsigned base, unsigned size) {
-    for (unsigned p = base; p < base + size; p++)
-        if (holder[p] != NOBODY) return false;
-    return true;
-}
-
-static struct cubejobs_answer model_hold(unsigned station, unsigned k, unsigned base) {
-    set_holder(base, 1u << k, (int)station);
-    holds[station] = true;
-    return held[station] = answer(CUBEJOBS_DONE, k, base);
-}
-
-static struct cubejobs_answer model_take(unsigned station, unsigned k) {
-    if (station >= CUBEJOBS_MAX_STATIONS) return refused(CUBEJOBS_BAD_STATION);
-    if (k > dim) return refused(CUBEJOBS_BAD_DIMENSION);
-    if (holds[station]) return refused(CUBEJOBS_STATION_HOLDS);
-    for (unsigned base = 0; base < 1u << dim; base += 1u << k)
-        if (is_free(base, 1u << k)) return model_hold(station, k, base);
-    return refused(CUBEJOBS_NO_SUBCUBE);
-}
-
-static struct cubejobs_answer model_take_region(unsigned station, unsigned base, unsigned k) {
-    if (station >= CUBEJOBS_MAX_STATIONS) return refused(CUBEJOBS_BAD_STATION);
-    if (k > dim) return refused(CUBEJOBS_BAD_DIMENSION);
-    if (base % (1u << k) || base >= 1u << dim) return refused(CUBEJOBS_BAD_BASE);
-    if (holds[station]) return refused(CUBEJOBS_STATION_HOLDS);
-    return is_free(base, 1u << k) ? model_hold(station, k, base) : refused(CUBEJOBS_NO_SUBCUBE);
+#define expect_same(got, wanted, what) expect_as(__LINE__, (got), (wanted), (what))
+static void expect_as(int line, struct cubejobs_answer got, struct cubejobs_answer wanted, const char *what) {
+    expect_answer_at(__FILE__, line, got, wanted.code, wanted.dim, wanted.base, what);
 }
 
 static struct cubejobs_answer model_region(unsigned station) {
+    return station < CUBEJOBS_MAX_STATIONS ? held[station] : refused(CUBEJOBS_BAD_STATION);
+}
+
+static struct cubejobs_answer model_take_region(unsigned station, uint64_t base, unsigned k) {
     if (station >= CUBEJOBS_MAX_STATIONS) return refused(CUBEJOBS_BAD_STATION);
-    return holds[station] ? held[station] : refused(CUBEJOBS_NOTHING_HELD);
+    if (model_bad(base, k)) return refused(model_bad(base, k));
+    if (held[station].code == CUBEJOBS_DONE) return refused(CUBEJOBS_STATION_HOLDS);
+    if (!are_all(base, k, 0)) return refused(CUBEJOBS_NO_SUBCUBE);
+    memset(holder + base, (int)station + 1, 1u << k);
+    return held[station] = answer(CUBEJOBS_DONE, k, base);
+}
+
+// A take gets the first free region. Where there is none it is refused as a take of any one is.
+static struct cubejobs_answer model_take(unsigned station, unsigned k) {
+    uint64_t base = k > dim ? 0 : model_first(k);
+    return model_take_region(station, base == 1u << dim ? 0 : base, k);
 }
 
 static struct cubejobs_answer model_release(unsigned station) {
     struct cubejobs_answer was = model_region(station);
     if (was.code == CUBEJOBS_DONE) {
-        set_holder((unsigned)was.base, 1u << was.dim, NOBODY);
-        holds[station] = false;
+        memset(holder + was.base, 0, 1u << was.dim);
+        held[station] = refused(CUBEJOBS_NOTHING_HELD);
     }
     return was;
-}
-
-static uint64_t model_free_regions(unsigned k) {
-    uint64_t count = 0;
-    for (unsigned base = 0; k <= dim && base < 1u << dim; base += 1u << k) count += is_free(base, 1u << k);
-    return count;
 }
 
 // A take by the first station that holds nothing, and the same of the model.
@@ -89,24 +62,24 @@ static struct cubejobs_answer take_any(unsigned k) {
     struct cubejobs_station_answer got = cubejobs_take_any(machine, k);
     struct cubejobs_answer wanted = refused(CUBEJOBS_BAD_DIMENSION);
     unsigned station = 0;
-    while (station < CUBEJOBS_MAX_STATIONS && holds[station]) station++;
+    while (station < CUBEJOBS_MAX_STATIONS && held[station].code == CUBEJOBS_DONE) station++;
     if (k <= dim) wanted = station < CUBEJOBS_MAX_STATIONS ? model_take(station, k) : refused(CUBEJOBS_NO_STATION);
-    expect(same(answer(got.code, got.dim, got.base), wanted), "take by any station");
+    expect_same(answer(got.code, got.dim, got.base), wanted, "take by any station");
     expect(got.station == (got.code == CUBEJOBS_DONE ? station : 0), "the station of a take by any");
     return wanted;
 }
 
 static void expect_holder(uint64_t processor) {
     struct cubejobs_holder_answer found = cubejobs_holder(machine, processor);
-    int wanted = processor < 1u << dim ? holder[processor] : NOBODY;
-    expect(found.found == (wanted != NOBODY), "holder: found");
-    expect(found.station == (wanted == NOBODY ? 0 : (uint32_t)wanted), "holder: station");
+    unsigned wanted = processor < 1u << dim ? holder[processor] : 0;
+    expect(found.found == (wanted > 0), "holder: found");
+    expect(found.station == (wanted > 0 ? wanted - 1 : 0), "holder: station");
 }
 
 static void ask(unsigned station, unsigned k) {
     expect_holder(random_below((1u << dim) + 2));
-    expect(same(cubejobs_region(machine, station), model_region(station)), "region");
-    expect(cubejobs_is_wholly_free(machine) == is_free(0, 1u << dim), "wholly free");
+    expect_same(cubejobs_region(machine, station), model_region(station), "region");
+    expect(cubejobs_is_wholly_free(machine) == are_all(0, dim, 0), "wholly free");
     expect(cubejobs_free_regions(machine, k) == model_free_regions(k), "free regions");
 }
 
@@ -122,14 +95,14 @@ static void call_once(void) {
         ask(station, k);
         return;
     } else if (call < 5) {
-        expect(same(got = cubejobs_release(machine, station), model_release(station)), "release");
+        expect_same(got = cubejobs_release(machine, station), model_release(station), "release");
     } else if (call < 7) {
         got = cubejobs_take_region(machine, station, base, k);
-        expect(same(got, model_take_region(station, base, k)), "take of a region");
+        expect_same(got, model_take_region(station, base, k), "take of a region");
     } else if (call == 7) {
         got = take_any(k);
     } else {
-        expect(same(got = cubejobs_take(machine, station, k), model_take(station, k)), "take");
+        expect_same(got = cubejobs_take(machine, station, k), model_take(station, k), "take");
     }
     expect(got.code == CUBEJOBS_DONE || memcmp(&before, machine, sizeof before) == 0, "a refusal changed the machine");
 }
@@ -170,17 +143,17 @@ static void expect_regions(void) {
     const uint64_t left[] = {6, 3, 1, 0, 0};
     memset(machine, 1, sizeof *machine);
     expect(cubejobs_open(machine, 3) == CUBEJOBS_DONE, "open 3");
-    expect(same(cubejobs_take(machine, 0, 1), answer(CUBEJOBS_DONE, 1, 0)), "a pair at 0");
-    expect(same(cubejobs_take(machine, 1, 0), answer(CUBEJOBS_DONE, 0, 2)), "a processor at 2");
-    expect(same(cubejobs_take(machine, 2, 1), answer(CUBEJOBS_DONE, 1, 4)), "a pair at 4");
-    expect(same(cubejobs_release(machine, 1), answer(CUBEJOBS_DONE, 0, 2)), "the processor at 2 comes back");
-    expect(same(cubejobs_take(machine, 3, 1), answer(CUBEJOBS_DONE, 1, 2)), "a pair at 2");
-    expect(same(cubejobs_take(machine, 4, 2), refused(CUBEJOBS_NO_SUBCUBE)), "no four processors");
+    expect_answer(cubejobs_take(machine, 0, 1), CUBEJOBS_DONE, 1, 0, "a pair at 0");
+    expect_answer(cubejobs_take(machine, 1, 0), CUBEJOBS_DONE, 0, 2, "a processor at 2");
+    expect_answer(cubejobs_take(machine, 2, 1), CUBEJOBS_DONE, 1, 4, "a pair at 4");
+    expect_answer(cubejobs_release(machine, 1), CUBEJOBS_DONE, 0, 2, "the processor at 2 comes back");
+    expect_answer(cubejobs_take(machine, 3, 1), CUBEJOBS_DONE, 1, 2, "a pair at 2");
+    expect_answer(cubejobs_take(machine, 4, 2), CUBEJOBS_NO_SUBCUBE, 0, 0, "no four processors");
     expect(cubejobs_holder(machine, 3).found && cubejobs_holder(machine, 3).station == 3, "the holder of processor 3");
     expect(!cubejobs_holder(machine, 6).found && !cubejobs_is_wholly_free(machine), "nobody holds processor 6");
     expect(cubejobs_open(machine, 3) == CUBEJOBS_DONE, "open 3 again");
-    expect(same(cubejobs_take_region(machine, 0, 4, 1), answer(CUBEJOBS_DONE, 1, 4)), "the pair at 4");
-    expect(same(cubejobs_region(machine, 0), answer(CUBEJOBS_DONE, 1, 4)), "the region of station 0");
+    expect_answer(cubejobs_take_region(machine, 0, 4, 1), CUBEJOBS_DONE, 1, 4, "the pair at 4");
+    expect_answer(cubejobs_region(machine, 0), CUBEJOBS_DONE, 1, 4, "the region of station 0");
     expect(cubejobs_region(machine, 1).code == CUBEJOBS_NOTHING_HELD, "the region of station 1");
     expect(cubejobs_take_region(machine, 1, 3, 1).code == CUBEJOBS_BAD_BASE, "a pair at 3");
     expect(cubejobs_take_region(machine, 1, 8, 1).code == CUBEJOBS_BAD_BASE, "a pair at 8");
@@ -200,17 +173,17 @@ static void expect_codes(void) {
     expect(cubejobs_take(machine, 47, 13).code == CUBEJOBS_BAD_DIMENSION, "dimension 13");
     expect(cubejobs_release(machine, 47).code == CUBEJOBS_NOTHING_HELD, "a release of nothing");
     expect(cubejobs_release(machine, 48).code == CUBEJOBS_BAD_STATION, "a release of station 48");
-    expect(same(cubejobs_take(machine, 47, 12), answer(CUBEJOBS_DONE, 12, 0)), "the whole machine");
+    expect_answer(cubejobs_take(machine, 47, 12), CUBEJOBS_DONE, 12, 0, "the whole machine");
     expect(cubejobs_take(machine, 47, 0).code == CUBEJOBS_STATION_HOLDS, "a second take of station 47");
     expect(cubejobs_open(machine, 12) == CUBEJOBS_DONE, "open 12 again");
     for (unsigned station = 0; station < 48; station++)
-        expect(same(cubejobs_take(machine, station, 0), answer(CUBEJOBS_DONE, 0, station)), "48 takes");
+        expect_answer(cubejobs_take(machine, station, 0), CUBEJOBS_DONE, 0, station, "48 takes");
     expect(cubejobs_take(machine, 48, 0).code == CUBEJOBS_BAD_STATION, "a take of station 48");
     expect(cubejobs_free_regions(machine, 0) == 4048, "what 48 stations leave");
     expect(cubejobs_free_regions(machine, 11) == 1, "the largest region that they leave");
     expect(cubejobs_holder(machine, 47).found && cubejobs_holder(machine, 47).station == 47, "who has processor 47");
     for (unsigned station = 48; station-- > 0;)
-        expect(same(cubejobs_release(machine, station), answer(CUBEJOBS_DONE, 0, station)), "48 releases");
+        expect_answer(cubejobs_release(machine, station), CUBEJOBS_DONE, 0, station, "48 releases");
     expect(cubejobs_take(machine, 47, 12).code == CUBEJOBS_DONE, "the whole machine");
 }
 
@@ -221,7 +194,7 @@ static bool took(struct cubejobs_station_answer got, uint32_t code, uint32_t sta
 // Takes by any station: the first that holds nothing gets the region, and where none does that is the code.
 static void expect_any_station(void) {
     expect(cubejobs_open(machine, 7) == CUBEJOBS_DONE, "open 7");
-    expect(same(cubejobs_take(machine, 1, 2), answer(CUBEJOBS_DONE, 2, 0)), "four processors of station 1");
+    expect_answer(cubejobs_take(machine, 1, 2), CUBEJOBS_DONE, 2, 0, "four processors of station 1");
     expect(took(cubejobs_take_any(machine, 4), CUBEJOBS_DONE, 0, 4, 16), "station 0 gets the 16 at 16");
     expect(took(cubejobs_take_any(machine, 7), CUBEJOBS_NO_SUBCUBE, 0, 0, 0), "the machine is not free");
     for (unsigned station = 2; station < 48; station++) {
@@ -231,14 +204,14 @@ static void expect_any_station(void) {
     expect(took(cubejobs_take_any(machine, 0), CUBEJOBS_NO_STATION, 0, 0, 0), "no station is left");
     expect(cubejobs_take_any(machine, 7).code == CUBEJOBS_NO_STATION, "no station and no region");
     expect(cubejobs_take_any(machine, 8).code == CUBEJOBS_BAD_DIMENSION, "no station and dimension 8");
-    expect(same(cubejobs_release(machine, 47), answer(CUBEJOBS_DONE, 0, 65)), "station 47 held processor 65");
+    expect_answer(cubejobs_release(machine, 47), CUBEJOBS_DONE, 0, 65, "station 47 held processor 65");
     expect(cubejobs_take_any(machine, 0).station == 47, "the station that is idle again");
 }
 
 // Random calls on a machine of each dimension, beside the model.
 static void call_many(long calls) {
-    set_holder(0, 1u << CUBEJOBS_MAX_DIM, NOBODY);
-    memset(holds, 0, sizeof holds);
+    memset(holder, 0, sizeof holder);
+    for (unsigned s = 0; s < CUBEJOBS_MAX_STATIONS; s++) held[s] = refused(CUBEJOBS_NOTHING_HELD);
     expect(cubejobs_open(machine, dim) == CUBEJOBS_DONE, "open");
     expect(cubejobs_is_wholly_free(machine), "wholly free once opened");
     for (long call = 0; call < calls; call++) call_once();

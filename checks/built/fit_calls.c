@@ -8,78 +8,46 @@
 #include <sys/wait.h>
 #include <unistd.h>
 
-#include "calls.h"
 #include "cubejobs.h"
 
-enum { LARGEST = 20, GUARD = 64, FILL = 0xA5 };
+#include "calls.h"
+
+enum { GUARD = 64, FILL = 0xA5 };
 
 // The machine's bytes stand at an odd address, with bytes on both sides that no call may touch.
 static unsigned char memory[2 * GUARD + (1 << LARGEST) + 1];
 static unsigned char *const bytes = memory + GUARD + 1;
 static struct cubejobs_fit fit;
 
-// Whether each processor is held, by the model.
-static unsigned char held[1 << LARGEST];
-
-static void expect_of(int line, struct cubejobs_answer got, unsigned code, unsigned k, uint64_t base, const char *what)
-{
-    expect_at(__FILE__, line, got.code == code && got.dim == k && got.base == base, what);
-}
-#define expect_answer(got, code, k, base, what) expect_of(__LINE__, (got), (code), (k), (base), (what))
-
-// Whether all of these processors are held, or none of them.
-static bool are_all(unsigned base, unsigned k, int value) {
-    for (unsigned p = base; p < base + (1u << k); p++)
-        if (held[p] != value) return false;
-    return true;
-}
-
-// The first free region of dimension `k`, or the number of processors where there is none.
-static unsigned model_first(unsigned k) {
-    unsigned base = 0;
-    while (base < 1u << dim && memchr(held + base, 1, 1u << k)) base += 1u << k;
-    return base;
-}
-
-static unsigned model_bad(uint64_t base, unsigned k) {
-    if (k > dim) return CUBEJOBS_BAD_DIMENSION;
-    return base % (1u << k) || base >= 1u << dim ? CUBEJOBS_BAD_BASE : CUBEJOBS_DONE;
+// Sees that a take gets this region, or answers with this code, and does the same in the model.
+static void take(struct cubejobs_answer got, unsigned bad, unsigned k, uint64_t base, const char *what) {
+    expect_answer(got, bad, bad ? 0 : k, bad ? 0 : base, what);
+    if (!bad) memset(holder + base, 1, 1u << k);
 }
 
 static void take_first(unsigned k) {
-    struct cubejobs_answer got = cubejobs_fit_take(&fit, k);
-    unsigned base = k > dim ? 0 : model_first(k);
-    if (k > dim) {
-        expect_answer(got, CUBEJOBS_BAD_DIMENSION, 0, 0, "take past the machine");
-    } else if (base == 1u << dim) {
-        expect_answer(got, CUBEJOBS_NO_SUBCUBE, 0, 0, "take where nothing is free");
-    } else {
-        expect_answer(got, CUBEJOBS_DONE, k, base, "take");
-        memset(held + base, 1, 1u << k);
-    }
+    uint64_t base = k > dim ? 0 : model_first(k);
+    unsigned bad = k > dim ? CUBEJOBS_BAD_DIMENSION : base == 1u << dim ? CUBEJOBS_NO_SUBCUBE : CUBEJOBS_DONE;
+    take(cubejobs_fit_take(&fit, k), bad, k, base, "take");
 }
 
 static void take_at(uint64_t base, unsigned k) {
-    struct cubejobs_answer got = cubejobs_fit_take_region(&fit, base, k);
     unsigned bad = model_bad(base, k);
-    if (!bad && !are_all((unsigned)base, k, 0)) bad = CUBEJOBS_NO_SUBCUBE;
-    expect_answer(got, bad, bad ? 0 : k, bad ? 0 : base, "take of a region");
-    if (!bad) memset(held + base, 1, 1u << k);
+    if (!bad && !are_all(base, k, 0)) bad = CUBEJOBS_NO_SUBCUBE;
+    take(cubejobs_fit_take_region(&fit, base, k), bad, k, base, "take of a region");
 }
 
 static void give_back(uint64_t base, unsigned k) {
     unsigned bad = model_bad(base, k);
-    if (!bad && !are_all((unsigned)base, k, 1)) bad = CUBEJOBS_NOTHING_HELD;
+    if (!bad && !are_all(base, k, 1)) bad = CUBEJOBS_NOTHING_HELD;
     expect(cubejobs_fit_release(&fit, base, k) == bad, "release");
-    if (!bad) memset(held + base, 0, 1u << k);
+    if (!bad) memset(holder + base, 0, 1u << k);
 }
 
 static void ask(uint64_t base, unsigned k) {
-    uint64_t count = 0;
     unsigned largest = dim;
-    for (unsigned at = 0; k <= dim && at < 1u << dim; at += 1u << k) count += are_all(at, k, 0);
-    expect(cubejobs_fit_free_regions(&fit, k) == count, "free regions");
-    expect(cubejobs_fit_is_free(&fit, base, k) == (!model_bad(base, k) && are_all((unsigned)base, k, 0)), "is free");
+    expect(cubejobs_fit_free_regions(&fit, k) == model_free_regions(k), "free regions");
+    expect(cubejobs_fit_is_free(&fit, base, k) == (!model_bad(base, k) && are_all(base, k, 0)), "is free");
     while (largest > 0 && model_first(largest) == 1u << dim) largest--;
     if (model_first(largest) == 1u << dim)
         expect_answer(cubejobs_fit_largest(&fit), CUBEJOBS_NO_SUBCUBE, 0, 0, "the largest of none");
@@ -99,7 +67,7 @@ static void call_once(void) {
     case 4: give_back(base, k); break;
     default: take_first(k);
     }
-    expect(memcmp(bytes, held, (size_t)1 << dim) == 0, "the bytes are not those of the model");
+    expect(memcmp(bytes, holder, (size_t)1 << dim) == 0, "the bytes are not those of the model");
 }
 
 static void expect_guards(void) {
@@ -109,10 +77,10 @@ static void expect_guards(void) {
 
 static void open_both(void) {
     memset(memory, FILL, sizeof memory);
-    memset(held, 0, sizeof held);
+    memset(holder, 0, sizeof holder);
     expect(cubejobs_fit_bytes(dim) == (uint64_t)1 << dim, "bytes");
     expect(cubejobs_fit_open(&fit, bytes, (size_t)1 << dim, dim) == CUBEJOBS_DONE, "open");
-    expect(memcmp(bytes, held, (size_t)1 << dim) == 0, "a processor is held once opened");
+    expect(memcmp(bytes, holder, (size_t)1 << dim) == 0, "a processor is held once opened");
     expect_guards();
 }
 

@@ -2,8 +2,7 @@
 
 Each header stands alone, and both stand together in either order, under gcc and clang, and the sanitizers of which a
 header knows. A struct of a header has a name that C++ can say. A line names each compiler that is not there and each
-standard that it does not know. Headers with a fault must be refused, which is tried first. `checks/run headers FOLDER`
-takes other headers.
+standard that it does not know. Headers with a fault must be refused. `checks/run headers FOLDER` takes other headers.
 """
 import itertools
 import os

@@ -6,7 +6,7 @@
 import re
 
 from checks.lib.repository import read, write
-from checks.lib.rows import answer, must, print_faults
+from checks.lib.rows import must, output, print_faults
 from checks.lib.toolchain import program
 
 PAGE, MOST_COLUMNS = "docs/cubejobs.1", 80
@@ -14,30 +14,23 @@ PAGE, MOST_COLUMNS = "docs/cubejobs.1", 80
 COMMAND = re.compile(r"^  (\w+) +\S.*$", re.M)
 
 
-def output(built, *words):
-    status, out, err = answer([built, *words], "", text=True)
-    must(status == 0 and not err, f"{' '.join(words)}: status {status}, errors {err[:200]!r}")
-    return out
-
-
 def helps(built):
-    shown = {"": output(built, "--help")}
+    shown = {"": output([built, "--help"])}
     listed = shown[""].partition("Commands:\n")[2].partition("\n\n")[0]
-    shown.update({name: output(built, name, "--help") for name in COMMAND.findall(listed) if name != "help"})
+    shown.update({name: output([built, name, "--help"]) for name in COMMAND.findall(listed) if name != "help"})
     must(len(shown) >= 5, f"the help lists {len(shown) - 1} commands")
     return shown
 
 
 def verbatim(text):
-    """Returns lines that `man` shows as they are: backslashes, hyphens and first letters are kept apart from roff's
-    own."""
+    """Returns lines that `man` shows as they are: nothing in them is taken for roff's own."""
     lines = (line.rstrip().replace("\\", "\\e").replace("-", "\\-") for line in text.strip("\n").split("\n"))
     shown = (f"\\&{line}" if line[:1] in (".", "'") else line for line in lines)
     return "\n".join([".in 0", ".nf", *shown, ".fi"])
 
 
 def page(built):
-    name, version = output(built, "--version").split()
+    name, version = output([built, "--version"]).split()
     shown = helps(built)
     about, _, rest = shown.pop("").partition("\n")
     parts = [
@@ -53,7 +46,7 @@ def page(built):
 def long_lines(built):
     for command in helps(built):
         for words in ([command, "--help"], [command, "-h"]) if command else (["--help"], ["-h"]):
-            for line in output(built, *words).split("\n"):
+            for line in output([built, *words]).split("\n"):
                 if len(line) > MOST_COLUMNS:
                     yield f"{' '.join(words)}: {len(line)} columns: {line}"
 

@@ -4,9 +4,8 @@ For each input it runs the program once for each of its requests, with that one 
 two after it, and with all after it. The answer must be that of ample memory, or status 3 with OutOfMemory on standard
 error and at most the first lines of the output. A file that is named may be named there, and the output must be whole
 or as it was. A run in which a thread and all later ones cannot be started ends with that fault and no output. No run
-may hang. There must be a thread for each dispatcher, and as many that feed as there are lanes or processors, whichever
-are fewer. Where the second thread that feeds cannot be started, the first one must stop feeding at once. `checks/run
-memory FILE` tries the program FILE, with gcc.
+may hang. There must be a thread for each dispatcher, and as many that feed as there are lanes or, if fewer, processors.
+Where the second that feeds cannot start, the first must stop feeding at once. `checks/run memory FILE` tries FILE.
 """
 import os
 import subprocess
@@ -23,8 +22,7 @@ PROCESSORS = len(os.sched_getaffinity(0))
 LONG, REPLY_BYTES = 10_000, 16
 # How many requests are refused in a row: one alone; or three, and all from the first one on.
 ONE, EACH_WAY = [1], [1, 3, 0]
-# The names, among the words of a command, of a file with its input and of a file that it writes, which holds OLD
-# before.
+# The names, among a command's words, of a file with its input and of one that it writes, which holds OLD before.
 INPUT_FILE, OUTPUT_FILE, OLD = "jobs.csv", "old.csv", b"old\n"
 WANT = b"failed: record 0: OutOfMemory\n"
 WANT_OF_FILE = [b"failed: input: OutOfMemory: jobs.csv\n", b"failed: output: OutOfMemory: old.csv\n"]
@@ -50,8 +48,7 @@ def example(name):
 
 def inputs():
     """Returns the words of each command, its input, and how many requests are refused in a row."""
-    # Jobs of two lanes, enough for the list of all replies to grow some times; of all lanes, so that each list does;
-    # and large ones.
+    # Jobs of two lanes, enough for the list of all replies to grow; of all lanes, so that each grows; and large ones.
     few, many = jobs(20, 2), jobs(200, 16)
     rows = (row(at, kind, (it * 2**at for it in range(4096))) for at, kind in enumerate(LARGEST))
     large = (HEADER + "".join(rows)).encode()
@@ -106,8 +103,7 @@ class Command:
         return [int(number) for number in read_bytes(self.path("count")).split()]
 
     def threads(self):
-        """Returns how many threads it starts: one for each dispatcher, and for the open lanes one each, but no more
-        than there are processors."""
+        """Returns how many threads it starts: for each dispatcher, and for each open lane or processor, if fewer."""
         if self.words[1] not in ("run", "report"):
             return 0
         dispatchers = int(self.words[self.words.index("--dispatchers") + 1]) if "--dispatchers" in self.words else 2

@@ -17,14 +17,13 @@ import tempfile
 import urllib.parse
 
 from checks.lib.repository import path, read, write
-from checks.lib.rows import Skipped, answer, must, print_faults
+from checks.lib.rows import Skipped, answer, must, output, print_faults
 from checks.lib.toolchain import program
 
 PAGE, PICTURES = "view/index.html", "docs/pictures"
 BROWSERS = ("chromium", "chromium-browser", "google-chrome", "chrome")
 
-# Each schedule of examples/: its machine's dimension and stations, and the event of which docs/ has a picture, if it
-# has one.
+# Each schedule of examples/: its machine's dimension and stations, and the event of its picture in docs/, or None.
 SCHEDULES = {
     "schedules/overtaken-release": (2, 4, 30),
     "schedules/roll-back": (2, 3, 8),
@@ -120,15 +119,7 @@ def page_in_node(asked):
     with tempfile.NamedTemporaryFile("w", suffix=".js", encoding="utf-8") as script:
         script.write(STAND_IN + "\n".join(text.replace('"use strict";', "") for text in scripts) + DRIVER)
         script.flush()
-        status, out, err = answer(["node", script.name], json.dumps(asked), text=True)
-    must(status == 0, f"the page's scripts stopped:\n{err}")
-    return json.loads(out)
-
-
-def output(built, words, lines):
-    status, out, err = answer([built, *words.split()], "\n".join(lines) + "\n", text=True)
-    must(status == 0, f"{words}: status {status}: {err}")
-    return out
+        return json.loads(output(["node", script.name], json.dumps(asked)))
 
 
 def example(name):
@@ -160,7 +151,7 @@ class Schedule:
             self.cuts[len(rows)] = ", ".join(f"{row[2]} {row[3]}" for row in ends[:-1])
 
     def replay(self, lines):
-        return output(self.built, self.words, lines)
+        return output([self.built, *self.words.split()], "\n".join([*lines, ""]))
 
     def in_steps(self, lines):
         """Returns the schedule with each event by a step of its own, so that there is a cut after each."""
@@ -202,8 +193,7 @@ def compare_place(text, shown):
 
 
 def check_pictures(schedules, draws):
-    """Sees that docs/TREE.md has each of these schedules, with its command line and its picture, and that the page
-    draws it so."""
+    """Sees that docs/TREE.md has each of these schedules, with its command line and the picture that the page draws."""
     told_of = read("docs/TREE.md")
     asked = [{"text": one.text, "event": one.event, "n": one.n} for one in schedules]
     for one, told in zip(schedules, page_in_node(asked)):
@@ -239,7 +229,7 @@ def main(words):
         raise Skipped("there is no node")
     built = program(words)
     schedules = [Schedule(built, name) for name in SCHEDULES]
-    place = output(built, "place --dim 3", example("place"))
+    place = output([built, "place", "--dim", "3"], read("examples", "place.csv"))
     told = page_in_node([*({"text": one.text} for one in schedules), {"text": place}])
     for one, seen in zip(schedules, told):
         one.compare(seen["shown"])

@@ -2,27 +2,25 @@
 
 A long run shows how many records are read and how many replies are done, in one line that is wiped at the end; all else
 is as in a run with `--quiet`. Nothing is shown for short work, with `--quiet`, where TERM is dumb, and where standard
-error is no terminal. A terminal that nobody reads, or that is stopped, holds up a run by a second at most. With a
-terminal as standard input each command says in one line what it waits for. `checks/run progress FILE` tries the program
-FILE.
+error is no terminal. A terminal that is stopped or unread holds up a run by a second at most. With a terminal as
+standard input each command says in one line what it waits for. `checks/run progress FILE` tries the program FILE.
 """
 import contextlib
+import itertools
 import os
 import pty
 import re
 import subprocess
-import tempfile
 import threading
 import time
 import tty
 
-from checks.lib.rows import Row, Wrong, answer, methods, must, run_rows, title
+from checks.lib.rows import Row, Wrong, answer, comes, methods, must, run_rows, title
 from checks.lib.toolchain import program
 
 ENVIRONMENT = {**os.environ, "TERM": "xterm"}
 HEADER = "lane,kind,op,root,items\n"
-# Nothing is shown of fewer records than LEAST. The program looks at its counts ten times a second: LONG jobs take it
-# some tenths.
+# Nothing is shown of fewer records than LEAST. Counts are shown ten times a second: LONG jobs take some tenths.
 LEAST, SOME, LONG = 1000, 30_500, 400_500
 # A count that stays is shown within this many seconds.
 SHOWN_WITHIN = 30
@@ -34,27 +32,23 @@ def jobs(count, last=""):
 
 
 class Terminal:
-    """A terminal, and all that it is sent, unless nobody reads it."""
+    """A terminal, and all that it is sent. Where nobody reads it, it is full from the beginning."""
 
-    def __init__(self):
+    def __init__(self, is_read):
         self.master, self.slave = pty.openpty()
         tty.setraw(self.slave)
         self.sent = bytearray()
         self.listener = threading.Thread(target=self.read)
+        if is_read:
+            self.listener.start()
+        else:
+            self.fill()
 
     def read(self):
         # The read fails once the last writer has closed the terminal.
         with contextlib.suppress(OSError):
             while data := os.read(self.master, 65536):
                 self.sent += data
-
-    def start(self, command, env=None, with_output=False, **streams):
-        """Starts a command with this as standard error, and as standard output too if that is asked for."""
-        output = self.slave if with_output else subprocess.PIPE
-        env = {**ENVIRONMENT, **(env or {})}
-        started = subprocess.Popen(command, stdout=output, stderr=self.slave, env=env, **streams)
-        os.close(self.slave)
-        return started
 
     def fill(self):
         os.set_blocking(self.slave, False)
@@ -63,11 +57,9 @@ class Terminal:
                 pass
         os.set_blocking(self.slave, True)
 
-    def await_count(self, line):
-        end = time.monotonic() + SHOWN_WITHIN
-        while line not in self.sent:
-            must(time.monotonic() < end, f"the terminal was not sent {line}, but {self.sent[-60:]}")
-            time.sleep(0.01)
+    def must_show(self, records):
+        line = b"\r%d records read" % records
+        must(comes(lambda: line in self.sent, SHOWN_WITHIN), f"the terminal was not sent {line}, but {self.sent[-60:]}")
 
     def close(self):
         if self.listener.ident:
@@ -75,33 +67,24 @@ class Terminal:
         os.close(self.master)
 
 
-def on_terminal(command, given, **how):
-    """Runs a command with a terminal as standard error. Returns the status, standard output, and the bytes that the
-    terminal was sent."""
-    terminal = Terminal()
-    with tempfile.TemporaryFile() as file:
-        file.write(given)
-        file.seek(0)
-        started = terminal.start(command, stdin=file, **how)
-        terminal.listener.start()
-        out, _ = started.communicate(timeout=60)
-        terminal.close()
-    return started.returncode, out, bytes(terminal.sent)
-
-
-def slow_answer(command, parts, awaited):
-    """Runs a command with a terminal as standard error, which is given each part of its input once the terminal was
-    sent the line that is awaited after the part before."""
-    terminal = Terminal()
-    started = terminal.start(command, stdin=subprocess.PIPE)
-    terminal.listener.start()
+def on_terminal(command, given, cuts=(), is_read=True, env=(), with_output=False):
+    """Runs a command with a terminal as standard error, and as standard output too if that is asked for. After each of
+    these numbers of records its input pauses until the terminal shows that they are read, or for a second where nobody
+    reads it. Returns the status, standard output, and the bytes that the terminal was sent."""
+    terminal, lines = Terminal(is_read), iter(given.splitlines(keepends=True))
+    streams = {"stdin": subprocess.PIPE, "stdout": terminal.slave if with_output else subprocess.PIPE}
+    started = subprocess.Popen(command, stderr=terminal.slave, env={**ENVIRONMENT, **dict(env)}, **streams)
+    os.close(terminal.slave)
     try:
-        for part, line in zip(parts, awaited):
-            started.stdin.write(part)
+        for before, cut in zip((-1, *cuts), cuts):
+            started.stdin.writelines(itertools.islice(lines, cut - before))
             started.stdin.flush()
-            terminal.await_count(line)
-        out, _ = started.communicate(parts[-1], timeout=60)
-    except Wrong:
+            if is_read:
+                terminal.must_show(cut)
+            else:
+                time.sleep(1)
+        out, _ = started.communicate(b"".join(lines), timeout=60)
+    except (Wrong, subprocess.TimeoutExpired):
         started.kill()
         raise
     finally:
@@ -152,10 +135,7 @@ class Parts:
             must((status, out) == wanted[:2] and sent == b"", f"{when} the terminal is sent {sent[:60]}")
 
     def slow_input(self):
-        lines = jobs(SOME).splitlines(keepends=True)
-        cuts = [0, 1001, 2501, 2502, len(lines)]
-        parts = [b"".join(lines[start:end]) for start, end in zip(cuts, cuts[1:])]
-        got = slow_answer(self.command, parts, [b"\r%d records read" % (end - 1) for end in cuts[1:-1]])
+        got = on_terminal(self.command, jobs(SOME), cuts=(1000, 2500, 2501))
         must_be_wiped(got, answer(self.command, jobs(SOME)), SOME)
 
     def one_terminal(self):
@@ -166,13 +146,11 @@ class Parts:
         must(screen(sent) == screen(wanted), "the terminal shows something else after the run")
 
     def refused_file(self):
-        lines = jobs(SOME, "0,scan,plus,0,4\n").splitlines(keepends=True)
-        parts = [b"".join(lines[: LEAST + 1]), b"".join(lines[LEAST + 1 :])]
-        line = f"refused: record {SOME + 1}: Word"
-        status, out, sent = slow_answer(self.command, parts, [b"\r%d records read" % LEAST])
+        given, line = jobs(SOME, "0,scan,plus,0,4\n"), f"refused: record {SOME + 1}: Word"
+        status, out, sent = on_terminal(self.command, given, cuts=(LEAST,))
         must((status, out) == (1, b"") and COUNTED.search(sent), f"status {status}, terminal {sent[-60:]}")
         must(screen(sent) == [line, ""], f"the terminal shows {screen(sent)}")
-        must(answer(self.command, b"".join(lines)) == (1, b"", f"{line}\n".encode()), "a file gets another line")
+        must(answer(self.command, given) == (1, b"", f"{line}\n".encode()), "a file gets another line")
 
     def short_work(self):
         given = jobs(LEAST - 1)
@@ -190,22 +168,12 @@ class Parts:
     def unread_terminal(self):
         """Nobody reads the terminal, which takes no more. The run ends all the same: its line waits from the first
         records on, and the other records and all replies do not."""
-        lines = jobs(SOME).splitlines(keepends=True)
-        terminal = Terminal()
-        terminal.fill()
-        started = terminal.start(self.command, stdin=subprocess.PIPE)
+        given = jobs(SOME)
         try:
-            started.stdin.write(b"".join(lines[: LEAST + 1]))
-            started.stdin.flush()
-            time.sleep(1)
-            out, _ = started.communicate(b"".join(lines[LEAST + 1 :]), timeout=30)
+            status, out, _ = on_terminal(self.command, given, cuts=(LEAST,), is_read=False)
         except subprocess.TimeoutExpired:
-            started.kill()
             raise Wrong("a run waits for a terminal that nobody reads") from None
-        finally:
-            terminal.close()
-        wanted = answer(self.command, b"".join(lines))[:2]
-        must((started.returncode, out) == wanted, f"status {started.returncode}, and {len(out)} bytes of output")
+        must((status, out) == answer(self.command, given)[:2], f"status {status}, and {len(out)} bytes of output")
 
 
 # What is typed to each command, what it says before, and what it answers.

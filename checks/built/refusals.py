@@ -4,8 +4,7 @@ The program `cube_bench memory` makes calls one after the other, and after each 
 what came back. Each of its requests for memory is refused in turn, then each and the two after it, then each and all
 after it. A call must say OutOfMemory exactly where one of its own requests was refused, and give back what it got: all
 items of a job, all stations of a cube, all replies that a worker has. A call that is to take no memory makes no
-request. In the end the program must hold as many blocks of memory as in the beginning. `checks/run refusals FILE` tries
-the program FILE, with gcc.
+request. In the end the program holds as many blocks as in the beginning. `checks/run refusals FILE` tries FILE.
 """
 import os
 import tempfile
@@ -55,8 +54,7 @@ def told(out):
 
 
 def must_be(calls, lines):
-    """Sees that these are the lines of these calls, of which some are left out after one that was refused. Returns how
-    many calls were refused."""
+    """Sees that these lines are of these calls, some left out after a refused one. Returns how many were refused."""
     must(lines and lines[0][0] == "begin", "it does not begin")
     given = refused = left_out = 0
     before, lines = lines[0][1], iter(lines[1:])
@@ -103,8 +101,7 @@ def is_told(command, shims, calls, mode, refused, begin):
 
 
 def try_each(command, shims, calls):
-    """Refuses the requests of a run in turn, in each mode. Returns how many runs there were, and in how many a call was
-    refused."""
+    """Refuses the requests of a run in turn, in each mode. Returns how many runs there were, and refused a call."""
     status, ample = run(command, shims, 0, "1")
     must(status == 0 and must_be(calls, ample) == 0, f"status {status} with ample memory")
     begin, end = ample[0][1][0], ample[-1][1][0]

@@ -16,14 +16,8 @@
 #include <sys/syscall.h>
 #include <unistd.h>
 
-static unsigned long requests;
-static unsigned long refusals;
-static unsigned long held;
-static unsigned long first_refused;
-static unsigned long most_refused;
-static unsigned long starts;
-static unsigned long bytes_asked;
-static unsigned long first_refused_start;
+static _Atomic unsigned long requests, refusals, held, starts, bytes_asked;
+static unsigned long first_refused, most_refused, first_refused_start;
 static int tells;
 
 static unsigned long number_in(const char *name, unsigned long otherwise) {
@@ -40,12 +34,11 @@ __attribute__((constructor)) static void begin(void) {
 }
 
 __attribute__((destructor)) static void end(void) {
-    unsigned long total = __atomic_load_n(&requests, __ATOMIC_SEQ_CST);
-    unsigned long begun = __atomic_load_n(&starts, __ATOMIC_SEQ_CST);
+    const unsigned long total = requests, begun = starts, bytes = bytes_asked;
     const char *name = getenv("COUNT_FILE");
     FILE *file = name ? fopen(name, "w") : NULL;
     if (file) {
-        fprintf(file, "%lu %lu %lu\n", total, begun, __atomic_load_n(&bytes_asked, __ATOMIC_SEQ_CST));
+        fprintf(file, "%lu %lu %lu\n", total, begun, bytes);
         fclose(file);
     }
 }
@@ -58,12 +51,12 @@ void _exit(int status) {
 
 /* Whether this request, for `size` bytes, is one to refuse. */
 static int refuses(size_t size) {
-    __atomic_add_fetch(&bytes_asked, size, __ATOMIC_SEQ_CST);
-    unsigned long number = __atomic_add_fetch(&requests, 1, __ATOMIC_SEQ_CST);
-    int is_past = !first_refused || number < first_refused || (most_refused && number - first_refused >= most_refused);
-    int is_refused = !is_past;
-    if (is_refused) __atomic_add_fetch(&refusals, 1, __ATOMIC_SEQ_CST);
-    return is_refused;
+    const unsigned long number = ++requests;
+    bytes_asked += size;
+    if (!first_refused || number < first_refused) return 0;
+    if (most_refused && number - first_refused >= most_refused) return 0;
+    refusals++;
+    return 1;
 }
 
 /* The function of this name that comes after the one of this file. */
@@ -73,28 +66,27 @@ static int refuses(size_t size) {
 
 int pthread_create(pthread_t *thread, const pthread_attr_t *attributes, void *(*body)(void *), void *argument) {
     REAL(pthread_create);
-    unsigned long number = __atomic_add_fetch(&starts, 1, __ATOMIC_SEQ_CST);
-    if (first_refused_start && number >= first_refused_start) return EAGAIN;
-    return real(thread, attributes, body, argument);
+    const unsigned long number = ++starts;
+    return first_refused_start && number >= first_refused_start ? EAGAIN : real(thread, attributes, body, argument);
 }
 
 void *malloc(size_t size) {
     REAL(malloc);
     void *block = refuses(size) ? NULL : real(size);
-    if (block) __atomic_add_fetch(&held, 1, __ATOMIC_SEQ_CST);
+    held += block != NULL;
     return block;
 }
 
 void *realloc(void *block, size_t size) {
     REAL(realloc);
     void *grown = refuses(size) ? NULL : real(block, size);
-    if (grown && !block) __atomic_add_fetch(&held, 1, __ATOMIC_SEQ_CST);
+    held += grown && !block;
     return grown;
 }
 
 void free(void *block) {
     REAL(free);
-    if (block) __atomic_sub_fetch(&held, 1, __ATOMIC_SEQ_CST);
+    held -= block != NULL;
     real(block);
 }
 

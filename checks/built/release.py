@@ -15,7 +15,7 @@ import tempfile
 
 from checks.built import archive
 from checks.lib.repository import path, read, read_bytes, write
-from checks.lib.rows import Skipped, Wrong, must
+from checks.lib.rows import Skipped, Wrong, must, output, print_faults, put
 from checks.lib.toolchain import FOR_ANY, sum_of_sources
 
 RELEASE = path("release", "linux-x86_64")
@@ -27,6 +27,7 @@ FILES = {
 }
 LIBRARIES = [name for name in FILES if name.endswith(".a")]
 NEWEST_GLIBC = (2, 34)
+DIFFERS = "differs from what was built"
 # Where the Rust package has copies of the libraries: a package holds the files that it links.
 RUST = path("rust", "lib")
 # The instructions of each x86-64, as objdump writes them without a suffix of size: those of whole numbers, of the x87,
@@ -49,14 +50,14 @@ EVERYWHERE = re.compile(
 PREFIXES = re.compile(r"(?:(?:lock|repn?z?|repnz|bnd|notrack|data16|addr32|[cdefgs]s|rex(?:\.\w+)?)\s+)*")
 # Some that a processor may lack, of SSE3, SSSE3, SSE4, AVX, BMI and others.
 LACKED = """haddps addsubps lddqu fisttp pshufb palignr pabsd ptest pextrq pextrd extractps pcmpeqq pcmpgtq pmaxsd
-    blendvpd roundsd crc32 popcnt lzcnt tzcnt andn bextr mulx shlx rorx movbe cmpxchg16b lahf vaddps vpxor movntdqa pmuldq
-    packusdw""".split()
+    blendvpd roundsd crc32 popcnt lzcnt tzcnt andn bextr mulx shlx rorx movbe cmpxchg16b lahf vaddps vpxor movntdqa
+    pmuldq packusdw""".split()
 # pcmpeqq of two registers, an instruction of SSE4.1.
 NOT_EVERYWHERE = bytes.fromhex("660f3829c1")
 
 
 def build_here():
-    return subprocess.run(["rt", "version"], stdout=subprocess.PIPE, text=True, check=True).stdout.split()[0]
+    return output(["rt", "version"]).split()[0]
 
 
 def sum_of(data):
@@ -76,13 +77,9 @@ class Release:
         return read_bytes(self.folder, name)
 
     def take(self, files):
-        os.makedirs(self.folder, exist_ok=True)
-        how = {"stdout": subprocess.PIPE, "text": True, "check": True}
-        version = subprocess.run([files["cubejobs"], "--version"], **how).stdout.split()[1]
         for name, file in files.items():
-            shutil.copyfile(file, os.path.join(self.folder, name))
-            os.chmod(os.path.join(self.folder, name), 0o755 if name == "cubejobs" else 0o644)
-        self.write_sums(version, build_here())
+            put(os.path.join(self.folder, name), read_bytes(file), 0o755 if name == "cubejobs" else 0o644)
+        self.write_sums(output([files["cubejobs"], "--version"]).split()[1], build_here())
 
     def write_sums(self, version, by):
         """Writes the sums of the files that stand here, and what they were built from and by."""
@@ -90,39 +87,37 @@ class Release:
         write(self.sums, "\n".join([*lines, *(f"{sum_of(self.bytes_of(name))}  {name}" for name in FILES)]) + "\n")
 
     def faults(self, built):
-        """Yields each file that has a fault, with the fault."""
-        sums = dict(re.findall(r"^(\w{64})  (\S+)$", read(self.sums), re.M)) if os.path.exists(self.sums) else {}
-        sums = {name: total for total, name in sums.items()}
+        """Yields a sentence for each fault of a file, which begins with its name."""
+        sums = re.findall(r"^(\w{64})  (\S+)$", read(self.sums), re.M) if os.path.exists(self.sums) else []
+        sums = {name: total for total, name in sums}
         if sorted(sums) != sorted(FILES):
-            yield "SHA256SUMS", f"names {', '.join(sorted(sums))}, and not {', '.join(sorted(FILES))}"
+            yield f"SHA256SUMS names {', '.join(sorted(sums))}, and not {', '.join(sorted(FILES))}"
             return
         for name in FILES:
             if not os.path.exists(os.path.join(self.folder, name)):
-                yield name, "is not there"
+                yield f"{name} is not there"
                 continue
             data, own = self.bytes_of(name), read_bytes(built, name)
             if sum_of(data) != sums[name]:
-                yield name, "is not the file whose sum SHA256SUMS has"
+                yield f"{name} is not the file whose sum SHA256SUMS has"
             if data != own:
                 at = next((it for it, (a, b) in enumerate(zip(data, own)) if a != b), min(len(data), len(own)))
-                yield name, f"differs from what was built: {len(data)} and {len(own)} bytes, first at byte {at}"
+                yield f"{name} {DIFFERS}: {len(data)} and {len(own)} bytes, first at byte {at}"
             if newest_symbol(data) > NEWEST_GLIBC:
-                yield name, f"needs the C library {'.'.join(map(str, newest_symbol(data)))}"
+                yield f"{name} needs the C library {'.'.join(map(str, newest_symbol(data)))}"
 
     def differences(self, built):
         """Returns what is wrong with a release of these sources, and what is not compared since another build made
         other bytes."""
         wrong, skipped = [], []
         is_other = self.said("built by") not in ("", build_here())
-        for name, fault in self.faults(built):
-            (skipped if is_other and fault.startswith("differs") else wrong).append(f"{name} {fault}")
+        for fault in self.faults(built):
+            (skipped if is_other and DIFFERS in fault else wrong).append(fault)
         return wrong + [*lacking(self.folder)], skipped
 
     def change(self, name, at, new):
-        data = bytearray(self.bytes_of(name))
-        data[at : at + len(new)] = new
-        with open(os.path.join(self.folder, name), "wb") as file:
-            file.write(data)
+        data = self.bytes_of(name)
+        put(os.path.join(self.folder, name), data[:at] + new + data[at + len(new) :])
 
 
 def newest_symbol(data):
@@ -130,8 +125,7 @@ def newest_symbol(data):
 
 
 def is_everywhere(line):
-    """Answers whether each x86-64 has an instruction. A pextrw into memory is of SSE4.1, and one into a register is
-    not."""
+    """Answers whether each x86-64 has an instruction. A pextrw into memory is of SSE4.1, one into a register not."""
     line = line[PREFIXES.match(line).end() :]
     return not line or bool(EVERYWHERE.fullmatch(line.split()[0])) and not line.startswith("pextrw WORD")
 
@@ -139,8 +133,7 @@ def is_everywhere(line):
 def lacking(folder):
     """Yields a sentence on each library of a folder that has an instruction which a processor may lack."""
     for name in LIBRARIES if shutil.which("objdump") else ():
-        words = ["objdump", "-d", "-M", "intel", "--no-show-raw-insn", os.path.join(folder, name)]
-        text = subprocess.run(words, stdout=subprocess.PIPE, text=True, check=True).stdout
+        text = output(["objdump", "-d", "-M", "intel", "--no-show-raw-insn", os.path.join(folder, name)])
         lines = re.findall(r"^\s*[0-9a-f]+:\t(.*)$", text, re.M)
         found = {line for line in lines if not is_everywhere(line)}
         if found or len(lines) < 100:
@@ -162,9 +155,8 @@ def renew():
         subprocess.run(["rt", "lib", *FOR_ANY], cwd=path("crates", crate), check=True, stdout=subprocess.DEVNULL)
     archive.main([path("out")])
     Release(RELEASE).take({name: path(file) for name, file in FILES.items()})
-    os.makedirs(RUST, exist_ok=True)
     for name in LIBRARIES:
-        shutil.copyfile(os.path.join(RELEASE, name), os.path.join(RUST, name))
+        put(os.path.join(RUST, name), read_bytes(RELEASE, name))
 
 
 def not_seen(built):
@@ -176,24 +168,27 @@ def not_seen(built):
         yield from not_seen_of_instructions(release, built)
 
 
+def are_all_in(faults, words):
+    """Answers whether these faults have one of each file that begins with these words."""
+    return all(any(it.startswith(f"{name} {words}") for it in faults) for name in FILES)
+
+
 def not_seen_of_bytes(release, built):
     """Yields what is not seen where a byte of each file has changed, by the same build and by another one."""
-    if release.differences(built) != ([], []):
-        yield "that nothing has changed"
-    release.write_sums("0", "another-build")
-    if release.differences(built) != ([], []):
-        yield "that another build has made the same bytes"
+    builds = build_here(), "another-build"
+    for by in builds:
+        release.write_sums("0", by)
+        if release.differences(built) != ([], []):
+            yield f"that {by} has made the same bytes"
     for name in FILES:
         release.change(name, 1000, bytes([release.bytes_of(name)[1000] ^ 1]))
-    wrong, skipped = release.differences(built)
-    if skipped + wrong == [] or not all(any(it.startswith(f"{name} is not") for it in wrong) for name in FILES):
+    if not are_all_in(release.differences(built)[0], "is not"):
         yield "files whose sums are others"
-    for by in ("another-build", build_here()):
+    for by in builds:
         release.write_sums("0", by)
         wrong, skipped = release.differences(built)
         seen, rest = (skipped, wrong) if by == "another-build" else (wrong, skipped)
-        rest = [it for it in rest if "may lack" not in it]
-        if rest or not all(any(it.startswith(f"{name} differs") for it in seen) for name in FILES):
+        if any("may lack" not in it for it in rest) or not are_all_in(seen, "differs"):
             yield f"a changed byte where {by} has made it"
 
 
@@ -201,7 +196,7 @@ def not_seen_of_instructions(release, built):
     """Yields what is not seen where an instruction that a processor may lack replaces one of SSE2."""
     yield from (it for it in LACKED if is_everywhere(it))
     name = LIBRARIES[-1]
-    shutil.copyfile(os.path.join(built, name), os.path.join(release.folder, name))
+    put(os.path.join(release.folder, name), read_bytes(built, name))
     release.change(name, release.bytes_of(name).index(bytes.fromhex("660f6f")), NOT_EVERYWHERE)
     if shutil.which("objdump") and not any(it.startswith(name) and "pcmpeqq" in it for it in lacking(release.folder)):
         yield "an instruction of SSE4.1"
@@ -213,11 +208,12 @@ def compare(built):
         print("release: the files of release/ are of other sources; to renew them: checks/run release --renew")
         return wrong
     more, skipped = release.differences(built)
-    if skipped and not wrong + more:
+    wrong += more
+    if skipped and not wrong:
         by = f"{release.said('built by')} has made release/ and {build_here()} is here"
         raise Skipped(f"{by}, so what differs is not compared: {len(skipped)} files")
-    print(f"release: {len(FILES)} files are {'not all ' if wrong + more else ''}what these sources make")
-    return wrong + more
+    print(f"release: {len(FILES)} files are {'not all ' if wrong else ''}what these sources make")
+    return wrong
 
 
 def main(words):
@@ -229,7 +225,4 @@ def main(words):
         must(False, f"release: this check does not see {it}")
     if not shutil.which("objdump"):
         print("release: no objdump here, so nothing is said of the instructions of the libraries")
-    wrong = compare(words[0])
-    for it in wrong:
-        print(f"FAILED: release: {it}")
-    return 1 if wrong else 0
+    return print_faults(f"release: {it}" for it in compare(words[0]))

@@ -1,9 +1,7 @@
-"""Builds the static library of a crate, `checks/run static CRATE`, for any x86-64, over the libraries below it as `rt
-ci` has just left them.
+"""Builds the static library of a crate, for any x86-64, over what `rt ci` has just left: `checks/run static CRATE`.
 
-`rt lib` builds each of these once more, since `rt ci` leaves them with no stamp, which takes a processor a quarter of
-an hour. It also keeps what it proved of the crate for its next call, which takes half as long again as a build that
-keeps nothing.
+`rt lib` builds each library below once more, since `rt ci` leaves them with no stamp, which takes a processor a quarter
+of an hour. It also keeps what it proved for its next call, which takes half as long again as to keep nothing.
 """
 import os
 import subprocess

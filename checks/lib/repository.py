@@ -1,10 +1,13 @@
 """The files of this repository: where they stand, what they hold, the crates in their order, the limits."""
+import itertools
 import os
 import re
 
 ROOT = os.path.dirname(os.path.dirname(os.path.dirname(os.path.realpath(__file__))))
 # The mutants: a folder for each crate, in which each file is a mutant.
 MUTANTS = "mutants"
+# The folders of a crate: its sources, definitions and proofs.
+PARTS = ("src", "specs", "proofs")
 # The crates on which nobody builds: callers, programs, measurements and tests.
 NO_LIBRARIES = ("uses", "jobs_cli", "cube_bench", "tests_kit", "tests_layers", "tests_shops", "tests_files")
 LIMITS = ("crates/cube_shape/src/limits.rt", "crates/region_bits/src/limits.rt")
@@ -43,8 +46,14 @@ def files_below(folder, *endings):
     found = []
     for at, folders, files in os.walk(path(folder)):
         folders.sort()
-        found += [os.path.join(at, name) for name in sorted(files) if name.endswith(endings)]
+        found += [os.path.join(at, name) for name in sorted(files) if name.endswith(endings or "")]
     return found
+
+
+def crate_files(*endings):
+    """Yields the paths of the files of all crates with one of these endings, the lowest crate first."""
+    for crate, part in itertools.product(crate_names(), PARTS):
+        yield from files_below(f"crates/{crate}/{part}", *endings)
 
 
 def place(file):
@@ -53,7 +62,6 @@ def place(file):
 
 
 def limits():
-    """Returns each constant of the limits: its file, the sentence above it, its name, and its value as it is
-    written."""
+    """Returns each constant of the limits: its file, the sentence above it, its name, and its value as written."""
     pattern = r"(///.*\n)?pub const (\w+): \w+ = (.*);"
     return [(home, *found) for home in LIMITS for found in re.findall(pattern, read(home))]

@@ -1,10 +1,17 @@
-"""Runs rows: each is a name, a function, and what the function is called with. The function raises Wrong where the row
-fails."""
+"""Runs rows: each is a name, a function that raises Wrong where the row fails, and what it is called with."""
 import hashlib
 import inspect
 import os
+import signal
 import subprocess
+import time
 from typing import Any, Callable, NamedTuple, Tuple
+
+# The signals by which a user, a system or a terminal ends a command.
+ENDING = (signal.SIGINT, signal.SIGTERM, signal.SIGHUP)
+# The options of a start by a user without rights. Only the superuser can start as another user.
+NOBODY = 65534
+AS_NOBODY = {"user": NOBODY, "group": NOBODY, "extra_groups": []} if os.geteuid() == 0 else {}
 
 
 class Wrong(Exception):
@@ -100,6 +107,13 @@ def answer(command, given=b"", **how):
     return done.returncode, done.stdout or (b"" if not how.get("text") else ""), done.stderr
 
 
+def output(command, given="", **how):
+    """Returns the text that a command writes, which must end well and without a word on standard error."""
+    status, out, err = answer(command, given, text=True, **how)
+    must(status == 0 and not err, f"{' '.join(command)}: status {status}, errors {err[:600]!r}")
+    return out
+
+
 def must_be_answer(got, status, out, err):
     """Sees that an answer has this status and these whole outputs."""
     for name, one, wanted in zip(("status", "output", "errors"), got, (status, encoded(out), encoded(err))):
@@ -112,8 +126,23 @@ def must_answer(command, given, status, out, err, **how):
     must_be_answer(answer(command, given, **how), status, out, err)
 
 
+def comes(holds, seconds):
+    """Waits until something holds, and answers whether it does within these seconds."""
+    end = time.monotonic() + seconds
+    while not (is_so := holds()) and time.monotonic() < end:
+        time.sleep(0.001)
+    return is_so
+
+
+def heed_signals():
+    """Undoes what nohup and a shell's background do: a signal that is ignored when a shell starts is never trapped."""
+    for number in ENDING:
+        signal.signal(number, signal.SIG_DFL)
+
+
 def put(file, data=b"old\n", mode=0o644, owner=None):
-    """Writes a file with these bytes or this text, and gives it a mode and an owner."""
+    """Writes a file with these bytes or this text, and gives it a mode and an owner. Makes its folder if need be."""
+    os.makedirs(os.path.dirname(file) or ".", exist_ok=True)
     with open(file, "wb") as it:
         it.write(encoded(data) if isinstance(data, str) else data)
     if owner:

@@ -1,5 +1,5 @@
-"""What checks share that call the prover, a compiler or the program: the toolchain's own library, which knows the words
-of a check, the libraries of this repository as they stand, and the program that was built."""
+"""What calls of the prover, a compiler or the program need: the toolchain's own library, which knows the words of a
+check, the libraries of this repository as they stand, and the program that was built."""
 import importlib.machinery
 import importlib.util
 import os
@@ -9,9 +9,9 @@ import subprocess
 import sys
 
 from checks.lib.repository import ROOT, path, read
+from checks.lib.rows import output
 
-# The processor that the libraries for C are built for: any of this kind. A program can look for the processor that it
-# needs, as `cubejobs` does; a library cannot.
+# The libraries for C are built for any such processor: they cannot look for what they need, as `cubejobs` does.
 FOR_ANY = ["--cpu", "x86-64"]
 AFTER_GATE = "--after-gate"
 PROGRAM = "crates/jobs_cli/out/jobs_cli"
@@ -42,16 +42,14 @@ def build_below(tops, after_gate):
 
 
 def check_words(crate, functions, folder=None):
-    """Returns the words of a check of these functions of the crate, or of none where the one name is empty, over the
-    libraries that stand."""
+    """Returns the words of a check of these functions of the crate, or of none where the one name is empty."""
     words = [kit().RATTLE, "check", *crate.words(["--jobs", "1"], keeps=False)]
     words += [word for name in functions for word in ("--only", name)]
     return words + (["--incremental", folder] if folder else [])
 
 
 def program(words):
-    """Returns the program that the words name, or else the one that `rt ci` left, which is built where there is
-    none."""
+    """Returns the program that the words name, or else the one that `rt ci` left, which is built if need be."""
     named = [word for word in words if not word.startswith("-")]
     if not named and not os.path.exists(path(PROGRAM)):
         subprocess.run([path("cubejobs"), "--prove", "--version"], stdout=subprocess.DEVNULL, check=True)
@@ -73,5 +71,4 @@ def shim(source, folder):
 def sum_of_sources(root=ROOT):
     """Returns the checksum of the sources below a folder, as the launcher computes it."""
     function = re.search(r"^sources\(\) \{\n.*?^\}\n", read("cubejobs"), re.M | re.S)[0]
-    how = {"env": {**os.environ, "root": root}, "stdout": subprocess.PIPE, "text": True, "check": True}
-    return subprocess.run(["sh", "-c", f"{function}sources"], **how).stdout.strip()
+    return output(["sh", "-c", f"{function}sources"], env={**os.environ, "root": root}).strip()

@@ -5,20 +5,24 @@ one another: many share one copy of a crate and one check of it. A second mutant
 function, with a copy of its proof files, unless it is a trait's. One mutant can only hide another, which is looked for.
 The copy of a crate is read as a library by source: of a crate that is checked itself each open goal is searched twice.
 Crates of which none stands below another share a check. A mutant of a definition stands alone in its copy; a line
-`only: FUNCTION` names a function that it is to be refused for, and without one all functions are proved.
+`only: FUNCTION` names a function that it is to be refused for, and without one all functions are proved. A wrong event
+of the tree's algorithm, which is in definition and code alike, stands alone too. Its line `law:` names the law, which
+must be refused, by lemmas of its line `refused by:` and by nothing else. The functions of its line `code:` must be
+proved, unless they only call what stands on the law.
 
     checks/run edits [--stale | --plan] [--after-gate] [--anew] [--keep FOLDER] [--from FOLDER] [CRATE | CRATE/EDIT ..]
 
-With no name it tries all mutants of mutants/CRATE and crates/CRATE/must-fail. --stale only sees that each can be applied.
---plan shows which share a check. --after-gate takes the libraries below as `rt ci` has just left them; without it they
-are built first. What was refused is kept in ~/.cache/cubejobs/edits, by a sum of all that the verdict stands on, and
-with --anew each is tried. --keep puts what each check said into a folder. --from takes CRATE's mutants from
-FOLDER/CRATE. What is said of a mutant:
+With no name it tries all mutants of mutants/CRATE. --stale only sees that each can be applied. --plan shows which share
+a check. --after-gate takes the libraries below as `rt ci` has just left them; without it they are built first. What was
+refused is kept in ~/.cache/cubejobs/edits, by a sum of all that the verdict stands on, and with --anew each is tried.
+--keep puts what each check said into a folder. --from takes CRATE's mutants from FOLDER/CRATE. It says of a mutant:
 
-    refused   its function has a goal of its own that is not proved, or that its proof file does not meet
+    refused   its function has a goal of its own that is not proved, or that its proof file does not meet; or its law
+              is refused, as it must be
     PROVED    the prover let it through
     NAMES     it is refused, but only since a proof file names what the mutant took away, which says little
-    BAD       it cannot be applied, the front end does not read it, or the check does not speak of its function
+    BAD       it cannot be applied, the front end does not read it, the check does not speak of its function, or more
+              than its lemmas refuse it
 
 The status is 0 where each is refused and no function without a mutant is.
 """
@@ -31,9 +35,9 @@ import sys
 import tempfile
 from concurrent.futures import ThreadPoolExecutor
 
-from checks.lib.repository import read, write
+from checks.lib.repository import PARTS, read, write
 from checks.lib.toolchain import build_below, crates, kit
-from checks.mutants.mutant import PARTS, batches_of, edits_of, path_of, texts_of
+from checks.mutants.mutant import batches_of, edits_of, path_of, texts_of
 from checks.mutants.verdict import Kept, Tally, judge, names_of
 
 # The most memory that a check was seen to take.
@@ -68,18 +72,13 @@ def words_of(crates, room):
     return words
 
 
-def put_copies(turn, room):
+def run_check(turn, room, keep, tally, is_whole=False):
+    """Checks copies of crates, as a whole or the functions that hold a mutant, and returns what the check said."""
     for crate, batch in turn:
         for part in PARTS:
             shutil.rmtree(f"{room}/{crate.name}/{part}", ignore_errors=True)
         for file, text in batch.texts.items():
             write(f"{room}/{crate.name}/{file}", text)
-
-
-def run_check(turn, room, keep, tally, is_whole=False):
-    """Checks copies of crates with the texts of their batches, all of them or the functions that hold a mutant, and
-    returns what the check said."""
-    put_copies(turn, room)
     each = [(crate, edit) for crate, batch in turn for edit in batch.edits]
     named = ([*(path_of(it, crate) for it in edit.functions), *edit.only] for crate, edit in each)
     only = dict.fromkeys(it for names in named for it in names)
@@ -109,22 +108,13 @@ def by_itself(crate, batch, room, keep, tally, said):
     return said
 
 
-def are_alone(batch):
-    """Answers whether a check of this batch must prove all functions of its crate, so that no other crate stands in
-    it."""
-    return any(not it.functions and not it.only for it in batch.edits)
-
-
-def turns_of(left):
-    """Returns the next batch of each crate that has one left, in one check, or one of a crate that must stand alone."""
-    turn = [(crate, batches.pop(0)) for crate, batches, _ in left if batches and not are_alone(batches[0])]
-    return turn or next([(crate, batches.pop(0))] for crate, batches, _ in left if batches)
-
-
 def turns_in(left):
-    """Yields the checks of a track, and takes their batches away."""
+    """Yields the checks of a track, and takes their batches away: the next batch of each crate that has one left, or a
+    single one of which the check must prove all functions of its crate."""
     while any(batches for _, batches, _ in left):
-        yield turns_of(left)
+        ready = [(crate, batches) for crate, batches, _ in left if batches]
+        shared = [it for it in ready if all(edit.functions or edit.only for edit in it[1][0].edits)]
+        yield [(crate, batches.pop(0)) for crate, batches in shared or ready[:1]]
 
 
 def try_track(track, options, tally):
@@ -166,8 +156,7 @@ def lanes():
 
 
 def work_of(options, tally):
-    """Returns each crate with the batches of the mutants that are to be tried, and its texts. Tells of those that
-    cannot be."""
+    """Returns each crate with the batches of the mutants to be tried, and its texts. Reports those that cannot be."""
     work = []
     for crate in crates().values():
         wanted = [it.partition("/")[2] for it in options.names if it.partition("/")[0] == crate.name]

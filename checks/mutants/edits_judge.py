@@ -8,18 +8,18 @@ function that is proved over it, of which one does not read it. Words given here
 """
 import os
 import re
-import subprocess
 import tempfile
+from types import SimpleNamespace
 
 from checks.lib.rattle_source import functions_in, items_in, uncommented
 from checks.lib.repository import path, read, write
-from checks.mutants.verdict import NAMES_ONLY, lines_of
+from checks.lib.rows import answer
+from checks.mutants.verdict import NAMES_ONLY, lines_of, verdict_of_event
 
 BITS, MEANING = "src/bits.rt", "specs/Represents.antt"
 FILL, MEANS = "bits[start..end].fill(taken);", "a p → bit_of bits p ≡ true"
 NONE, WROTE = "none_set(&bits[start..end])", "write(bits, n, region, true);"
-# By crate and name: file, old text, new text, what must be said of it, and the function that is proved over a
-# definition.
+# By crate and name: file, old text, new text, the verdict, and the function that is proved over a definition.
 PLANTED = {
     "region_bits/wrong_body": (BITS, FILL, "bits[start..end].fill(!taken);", "refused"),
     "region_bits/hidden_and_unchanged": ("src/regions.rt", WROTE, WROTE, "PROVED"),
@@ -55,13 +55,25 @@ SOURCES = {
 }
 
 
+# What is said of a wrong event whose law is to be refused by lemma `b` of A.antt, with the states of law and code, and
+# the verdict.
+OPEN_LEMMA, OTHER_GOAL = "proofs/A.antt:1:2: error: `b` is open", "src/a.rt:1:2: error: a goal is open"
+EVENTS = (
+    (OPEN_LEMMA, "not proved", "proved", "refused"),
+    ("", "proved", "proved", "PROVED"),
+    ("", "not proved", "proved", "BAD"),
+    (OPEN_LEMMA.replace("b", "c"), "not proved", "proved", "BAD"),
+    (OPEN_LEMMA, "not proved", "not proved", "BAD"),
+    (f"{OPEN_LEMMA}\n{OTHER_GOAL}", "not proved", "proved", "BAD"),
+)
+
+
 def judged(folder, *words):
-    """Returns the status of `edits`, and what it says of each mutant of the folder. What it keeps stands in that folder
-    too."""
+    """Returns the status of `edits`, which keeps verdicts in the folder, and what it says of each mutant there."""
     env = {**os.environ, "XDG_CACHE_HOME": f"{folder}/cache"}
     command = [path("checks", "run"), "edits", "--from", folder, *words, "region_bits", "backoff"]
-    ran = subprocess.run(command, stdout=subprocess.PIPE, text=True, check=False, env=env)
-    return ran.returncode, dict(re.findall(r"(?m)^(\w+/\S+): (\w+): ", ran.stdout)), ran.stdout
+    status, said, _ = answer(command, "", text=True, env=env, stderr=None, timeout=None)
+    return status, dict(re.findall(r"(?m)^(\w+/\S+): (\w+): ", said)), said
 
 
 def plant(folder):
@@ -77,6 +89,10 @@ def of_the_reader():
     for text, wanted in SOURCES.items():
         found = [(it.owner, text[it.start : it.end]) for it in functions_in("src/lib.rt", text)]
         yield "a function ends with its body", found == wanted, found
+    event = SimpleNamespace(law=["law"], code=["code"], only=["law", "code"], lemmas=["A.b"])
+    for said, law, code, wanted in EVENTS:
+        word, why = verdict_of_event(event, {"law": (law, ""), "code": (code, "")}, said.split("\n"))
+        yield f"an event is {wanted}", word == wanted, (said, why)
     item = items_in("src/lib.rt", next(text for text in SOURCES if "ensures one" in text))[0]
     yield "clauses are read", [it.strip() for it in item.clauses] == ["a", "b"], item.clauses
     plain = uncommented('a "// b" // c\n/* d */ e')

@@ -1,18 +1,14 @@
-"""Mutants of a crate: small changes of its text, copies of a function that hold one, and the batches that share a
-check."""
+"""Mutants of a crate: small changes of its text, copies of functions that hold one, and batches that share a check."""
 import copy
 import os
 import re
 
 from checks.lib.rattle_source import functions_in
-from checks.lib.repository import MUTANTS, files_below, path, read
-
-PARTS = ("src", "specs", "proofs")
+from checks.lib.repository import MUTANTS, PARTS, files_below, path, read
 
 
 def path_of(function, crate=None):
-    """Returns a function's name, or the end of it where it is a method, for the module of its type is not known
-    here."""
+    """Returns a function's name, or the end of a method's, since the module of its type is not known here."""
     inside = [crate.name, *function.module] if crate and not crate.is_program else function.module
     return "::".join([*([function.owner] if function.owner else inside), function.name])
 
@@ -29,29 +25,29 @@ def names_for(function, crate, names):
 
 
 def texts_of(folder):
-    return {os.path.relpath(file, folder): read(file) for part in PARTS for file in files_below(f"{folder}/{part}", "")}
+    return {os.path.relpath(file, folder): read(file) for part in PARTS for file in files_below(f"{folder}/{part}")}
 
 
 class Edit:
     """A mutant: its pairs of texts, and the functions that hold them. One of specs/ alone is held by none, and may name
-    those that are to be proved over it."""
+    those that are to be proved over it. Nor is a wrong event, which is in definition and code alike: it names the law
+    that refuses it, the lemmas by which, and the code that meets the definition again."""
 
     def __init__(self, file, texts):
         self.name, self.text = os.path.basename(file)[: -len(".edit")], read(file)
         self.pairs, self.why, self.functions, self.source, self.only = [], None, [], self, []
-        named = old = None
+        said = {"file": "", "law": "", "code": "", "refused by": ""}
         # A text of several lines has the further ones after `   |`.
-        for word, rest in re.findall(r"^(file|old|new|only):(?: |$)(.*(?:\n   \|.*)*)", self.text, re.M):
+        for word, rest in re.findall(rf"^(old|new|only|{'|'.join(said)}):(?: |$)(.*(?:\n   \|.*)*)", self.text, re.M):
             rest = rest.replace("\n   |", "\n")
-            if word == "file":
-                named = rest.strip()
-            elif word == "old":
-                old = rest
-            elif word == "new":
-                self.pairs.append((named, old, rest))
-                old = None
-            else:
+            if word == "new":
+                self.pairs.append((said["file"].strip(), said.pop("old", ""), rest))
+            elif word == "only":
                 self.only.append(rest.strip())
+            else:
+                said[word] = rest
+        self.law, self.code, self.lemmas = (said[word].split() for word in ("law", "code", "refused by"))
+        self.only += [*self.law, *self.code]
         if not self.pairs or not all(named and old for named, old, _ in self.pairs):
             self.why = "it is no list of lines 'file:', 'old:' and 'new:'"
         else:
@@ -71,20 +67,19 @@ class Edit:
             texts = {**texts, file: texts[file].replace(old, new)}
         if not self.functions and any(file.startswith("src/") for file, _, _ in self.pairs):
             self.why = "no function holds it"
+        self.functions = [] if self.law else self.functions
 
     def apply(self, texts):
         """Returns the texts with the mutant, or None where an old: text does not stand once."""
-        texts = dict(texts)
         for file, old, new in self.pairs:
             if texts.get(file, "").count(old) != 1:
                 return None
-            texts[file] = texts[file].replace(old, new)
+            texts = {**texts, file: texts[file].replace(old, new)}
         return texts
 
 
 def proof_folders_of(function, texts):
-    """Returns the folders of proof files that may be this function's: where it has an owner, the module of that type
-    counts."""
+    """Returns the folders of proof files that may be this function's. Of a method the module of its type counts."""
     own = "/".join([*function.module, *([function.owner] if function.owner else []), function.name])
     ends = f"/{function.owner}/{function.name}" if function.owner else None
     found = {os.path.dirname(it) for it in texts if it.startswith("proofs/")}
@@ -154,13 +149,11 @@ class Batch:
 
 
 def edits_of(crate, texts, folder=None):
-    places = [f"{folder}/{crate}"] if folder else [path(MUTANTS, crate), path("crates", crate, "must-fail")]
-    return [Edit(file, texts) for at in places for file in files_below(at, ".edit")]
+    return [Edit(file, texts) for file in files_below(f"{folder or path(MUTANTS)}/{crate}", ".edit")]
 
 
 def batches_of(edits, crate, texts):
-    """Returns the mutants in as few checks as can be: first those that no copy can hold, then each in place of what it
-    changes, and then copies."""
+    """Returns the mutants in few checks: first those that no copy can hold, then each in its place, and then copies."""
     batches, left = [], []
     bound = [it for it in edits if not as_a_copy(it, 0, crate, texts)]
     for edit in [*bound, *(it for it in edits if it not in bound)]:

@@ -7,13 +7,18 @@ import threading
 
 from checks.lib import rattle_source
 from checks.lib.rattle_source import functions_in
-from checks.lib.repository import read, read_bytes
+from checks.lib.repository import PARTS, read, read_bytes
 from checks.mutants import mutant
-from checks.mutants.mutant import PARTS, names_for, path_of
+from checks.mutants.mutant import names_for, path_of
 
 NAMES_ONLY = re.compile(r"(\./)?proofs/.*(has no field|is not in scope|has no `|was not admitted|is not a name)")
 NAMED = re.compile(r"(?m)^fn (\S+): (proved|not proved|no proof|could not tell)(.*)")
 IN_A_PART = re.compile(rf"(?:note: )?(?:\./)?(?:{'|'.join(PARTS)})/\S+:\d+:\d+: ")
+CALLS = re.compile(r"[:;] it calls ")
+# A lemma that is refused, and anything else: a proof of the code, a goal of the code, or the code itself.
+LEMMA = re.compile(r"(?:\./)?proofs/([A-Za-z]*)\.antt:[0-9:]* error: `([^`]*)`")
+NO_LEMMA = re.compile(r"(\./)?(proofs/[a-z_]*/|src/)|(note: )?(\./)?(src|specs|proofs)/.*it is not proved that")
+STANDS_ON_ANOTHER = re.compile(r"declarations? that depends? on")
 
 
 def names_of(crate, said):
@@ -63,9 +68,27 @@ def told_of_edit(crate, batch, edit, names, lines):
     return states, shown, own, by_name
 
 
+def verdict_of_event(edit, names, lines):
+    """Returns what the check says of a wrong event. The law must be refused by lemmas that the event names and by no
+    others; and its code must be proved, unless it only calls what stands on the law."""
+    lemmas = {".".join(it.groups()) for it in map(LEMMA.match, lines) if it}
+    others = [it for it in lines if NO_LEMMA.match(it) and not STANDS_ON_ANOTHER.search(it)]
+    missing = [it for it in edit.only if it not in names]
+    if missing:
+        return "BAD", f"the check has no line of {missing[0]}"
+    if any(names[it][0] == "proved" for it in edit.law):
+        return "PROVED", ", ".join(edit.law)
+    others += [it for it in edit.code if names[it][0] != "proved" and not CALLS.match(names[it][1])]
+    if others:
+        return "BAD", f"the code does not meet the changed definition: {others[0][:200]}"
+    by = " ".join(sorted(lemmas))
+    return "refused" if lemmas and lemmas <= {*edit.lemmas} else "BAD", f"the lemmas that refuse it: {by or 'none'}"
+
+
 def verdict(crate, batch, edit, names, lines):
-    """Returns what the check says of one mutant of the batch, as a word and the reason, or None where another one hides
-    it."""
+    """Returns what the check says of a mutant of the batch, as a word and a reason, or None if another one hides it."""
+    if edit.law:
+        return verdict_of_event(edit, names, lines)
     states, shown, own, by_name = told_of_edit(crate, batch, edit, names, lines)
     what = ", ".join(shown)
     if not states:
@@ -82,8 +105,7 @@ def verdict(crate, batch, edit, names, lines):
 
 
 class Kept:
-    """What this machine's earlier runs said of mutants that they saw refused, each under a sum of all that this stands
-    on."""
+    """Why mutants were refused in earlier runs on this machine, each under a sum of all that this stands on."""
 
     def __init__(self, is_used):
         caches = os.environ.get("XDG_CACHE_HOME") or os.path.expanduser("~/.cache")
@@ -146,8 +168,7 @@ class Tally:
 
 
 def unreached(crate, batch, lines, tally):
-    """Returns lists of the mutants of a batch of which the check says nothing, each list for a check. Reports a single
-    one."""
+    """Returns lists of the mutants of which the check says nothing, each list for a check. Reports a single one."""
     if len(batch.edits) > 1:
         texts = batch.texts
         named = [it for it in batch.edits if any(told_of(held, "", texts, lines)[0] for held in it.functions)]
@@ -173,6 +194,6 @@ def judge(crate, batch, said, tally):
             tally.kept.keep(crate, edit.source, told[1])
     held = {name for edit in batch.edits for it in edit.functions for name in names_for(it, crate.name, names)}
     for name, (state, rest) in sorted(names.items()) if all(it.functions for it in batch.edits) else ():
-        if state != "proved" and name not in held and not re.match(r"[:;] it calls ", rest):
+        if state != "proved" and name not in held and not CALLS.match(rest):
             tally.tell(crate.name, name, "BAD", f"it holds no edit, and is {state}{rest[:160]}")
     return again

@@ -7,6 +7,7 @@ block. No call makes more steps than the page's bounds. Rows with wrong rules sh
 
 `checks/run algorithm [PROGRAM]` also plays schedules on the model and by `PROGRAM replay`, and compares the steps.
 """
+import functools
 import inspect
 import itertools
 import random
@@ -218,7 +219,8 @@ def standing(call):
 
 class Local:
     """What one station is in: how many calls of its program it has begun, its hint, the node that it holds between two
-    calls, and within a call the next step. `moves` has for each step that may come next its node and its outcomes."""
+    calls, and within a call the next step. `moves` has for each step that may come next its node and its outcome: by
+    the word that it finds, the word that it leaves, and what the station is in then."""
 
     def __init__(self, number, begun, hint, holds, step):
         self.number, self.begun, self.hint, self.holds, self.step, self.moves = number, begun, hint, holds, step, []
@@ -230,18 +232,6 @@ class Local:
         self.at, self.marked, self.mark = it.at, it.marked, mark_of(number)
         self.saw_clear = [bit for bit, saw in zip((LEFT, RIGHT), it.seen) if saw]
         self.can_clear = False not in it.seen
-
-
-class Outcomes(dict):
-    """For each word that a step may find: the word that it leaves, and what its station is in then."""
-
-    def __init__(self, step, follow):
-        super().__init__()
-        self.step, self.follow = step, follow
-
-    def __missing__(self, word):
-        self[word] = self.step.written(word), self.follow(word)
-        return self[word]
 
 
 class Tree:
@@ -308,10 +298,11 @@ class Tree:
     def add_move(self, local, begun, call, found):
         step = local.step or next(self.start(local.number, call, local.hint))
 
-        def follow(word):
-            return self.running(local.number, begun, local.hint, call, (*found, word))
+        @functools.cache
+        def outcome(word):
+            return step.written(word), self.running(local.number, begun, local.hint, call, (*found, word))
 
-        local.moves.append((step.node, Outcomes(step, follow)))
+        local.moves.append((step.node, outcome))
 
 
 def fixed_bits(tree, stations):
@@ -427,9 +418,9 @@ def explore(n, programs, rules=Rules(), watched=ALL):
         try:
             must_be_right(tree, state[:count], state[count:], watched)
             moves = [(place, *move) for place in range(count, len(state)) for move in state[place].moves]
-            for place_of_local, node, outcomes in moves:
+            for place_of_local, node, outcome in moves:
                 then = list(state)
-                then[node], then[place_of_local] = outcomes[state[node]]
+                then[node], then[place_of_local] = outcome(state[node])
                 then = tuple(then)
                 if then not in came_from:
                     came_from[then] = state

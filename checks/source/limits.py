@@ -9,7 +9,7 @@ says where they write it out, and each of these numbers must be that of its limi
 import re
 
 from checks.lib.rattle_source import uncommented
-from checks.lib.repository import LIMITS, crate_names, files_below, limits, place, read
+from checks.lib.repository import LIMITS, crate_files, limits, place, read
 from checks.lib.rows import print_faults
 
 # Where, in which words, and what the number is there.
@@ -49,9 +49,9 @@ WRITTEN = (
     ("rust/src/tree_ffi.rs", r"const FREE_PLACES: usize = (\d+);", "MAX_DIM + 1"),
     ("view/index.html", r"const MAX_DIM = (\d+);", "MAX_DIM"),
     ("view/index.html", r"const MAX_STATIONS = (\d+);", "MAX_STATIONS"),
-    ("checks/source/wrong-events/unmark_of_ones_own_mark.edit", r"\(u % (\d+)\)", "MAX_STATIONS"),
-    ("checks/source/wrong-events/unmark_of_ones_own_mark.edit", r"\(s % (\d+)\)", "MAX_STATIONS"),
-    ("checks/source/wrong-events/unmark_of_ones_own_mark.edit", r"\(station % (\d+)\)", "MAX_STATIONS"),
+    ("mutants/cube_core/unmark_of_ones_own_mark.edit", r"\(u % (\d+)\)", "MAX_STATIONS"),
+    ("mutants/cube_core/unmark_of_ones_own_mark.edit", r"\(s % (\d+)\)", "MAX_STATIONS"),
+    ("mutants/cube_core/unmark_of_ones_own_mark.edit", r"\(station % (\d+)\)", "MAX_STATIONS"),
     ("README.md", r"A machine has dimension 0 to (\d+)", "MAX_DIM"),
     ("README.md", r"A machine has .* and (\d+) stations", "MAX_STATIONS"),
     ("README.md", r"more than (\d+) blocks at once", "MAX_STATIONS"),
@@ -112,8 +112,7 @@ def miswritten(words):
 
 def sources():
     """Yields the lines that count: place, number and text without a comment."""
-    folders = [f"crates/{crate}/{part}" for crate in crate_names() for part in ("src", "specs", "proofs")]
-    for file in (file for folder in folders for file in files_below(folder, ".rt", ".antt")):
+    for file in crate_files(".rt", ".antt"):
         if place(file) not in LIMITS and not re.search(r"/tests_[a-z]+/|/tests\.rt$", file):
             for number, line in enumerate(uncommented(read(file), file.endswith(".antt")).splitlines(), 1):
                 yield place(file), number, line

@@ -9,19 +9,19 @@ must_not_compile [--after-gate]` takes the libraries below as `rt ci` has left t
 """
 import copy
 import re
-import shutil
 import subprocess
 import tempfile
-from functools import partial
 
-from checks.lib.repository import read, write
-from checks.lib.rows import Row, must, run_rows
+from checks.lib.repository import write
+from checks.lib.rows import Row, answer, must, run_rows
 from checks.lib.toolchain import AFTER_GATE, build_below, check_words, crates
+from checks.mutants.mutant import texts_of
 
 # The errors by which a function is refused. FINE is one that the compiler takes.
 FINE, DROPPED, TWICE, TYPES, FIELD = None, "linear-value-let-go", "borrow-e0382", "mismatched-types", "private-field"
 
-# Functions: the name, the error, the signature and the body. Those of one list are compiled together.
+# Functions: the name, the error, the signature and the body. Those of one list are compiled together, in this file.
+LIB = "src/lib.rt"
 OVER_TREE = """#![tactic(auto)]
 use cube_tree::{Cube, Solo, TreeStation, StillOut, Subcube};
 """
@@ -101,7 +101,7 @@ def entry(named="entered: Entered"):
     return f"(line: &RuledLine, gate: &mut GateLane, {named})"
 
 
-WRONG_STEPS = [
+STEPS = [
     {
         TAKES: [
             ("ends_on_the_reading", TYPES, READING,
@@ -138,62 +138,40 @@ WRONG_STEPS = [
 ]
 
 
-def source(functions, text):
-    """Returns the text with these functions after it, each on a line of its own, and the lines."""
-    lines = {text.count("\n") + 1 + at: name for at, (name, *_) in enumerate(functions)}
-    return text + "".join(f"fn {name}{signature} {{ {body} }}\n" for name, _, signature, body in functions), lines
+def compiled(head, uses, wrong):
+    """Compiles wrong functions at the ends of files: of the library with this head over these crates, or of the line
+    where there is no head. Returns the function and the error of each refusal, and what was said."""
+    crate, places = copy.copy(crates()["line_ruled"]), {}
+    texts = {LIB: head} if head else texts_of(crate.folder)
+    if head:
+        crate.name, crate.deps = "caller", [crates()[it] for it in uses]
+    with tempfile.TemporaryDirectory() as crate.folder:
+        for file, text in texts.items():
+            for name, _, signature, body in wrong.get(file, ()):
+                places[file, str(text.count("\n") + 1)] = name
+                text += f"fn {name}{signature} {{ {body} }}\n"
+            write(f"{crate.folder}/{file}", text)
+        how = {"cwd": crate.folder, "text": True, "stderr": subprocess.STDOUT, "timeout": 600}
+        _, said, _ = answer(check_words(crate, [""]), "", **how)
+    found = re.findall(r"(src/\w+\.rt):(\d+):\d+: error\[([\w-]+)\]", said)
+    return {(places.get((file, line), "the crate"), error) for file, line, error in found}, said
 
 
-def compiled(known, folder, name, uses):
-    """Returns the file, line and error of what is refused in the library of this name in this folder, and what was
-    said."""
-    crate = copy.copy(known["line_ruled"])
-    crate.folder, crate.name, crate.deps = folder, name, uses
-    how = {"stdin": subprocess.DEVNULL, "stdout": subprocess.PIPE, "stderr": subprocess.STDOUT, "text": True}
-    said = subprocess.run(check_words(crate, [""]), cwd=folder, check=False, **how).stdout
-    return re.findall(r"(src/\w+\.rt):(\d+):\d+: error\[([\w-]+)\]", said), said
-
-
-def must_refuse(functions, places, found, said):
-    """Sees that the functions were refused by their errors, and that nothing else was."""
-    wanted = sorted((name, error) for name, error, _, _ in functions if error)
-    got = sorted((places.get((file, int(line)), "the crate"), error) for file, line, error in found)
-    # A literal is refused once for each of its fields.
-    got = sorted(set(got)) if functions is MEMBERS else got
-    must(got == wanted, f"wanted {wanted}, and nothing else: {got}\n{said}")
-    return ", ".join(f"{name} ({error})" for name, error in wanted)
-
-
-def in_a_library(known, uses, head, functions):
-    with tempfile.TemporaryDirectory() as folder:
-        text, lines = source(functions, head)
-        write(f"{folder}/src/lib.rt", text)
-        found, said = compiled(known, folder, "caller", [known[it] for it in uses])
-        return must_refuse(functions, {("src/lib.rt", line): name for line, name in lines.items()}, found, said)
-
-
-def in_the_line(known, wrong):
-    line, places = known["line_ruled"], {}
-    with tempfile.TemporaryDirectory() as folder:
-        for part in ("src", "specs", "proofs"):
-            shutil.copytree(f"{line.folder}/{part}", f"{folder}/{part}")
-        for file, functions in wrong.items():
-            text, lines = source(functions, read(f"{folder}/{file}"))
-            write(f"{folder}/{file}", text)
-            places.update({(file, at): name for at, name in lines.items()})
-        found, said = compiled(known, folder, line.name, line.deps)
-        return must_refuse([it for functions in wrong.values() for it in functions], places, found, said)
+def must_refuse(head, uses, wrong):
+    """Sees that functions are refused by their errors, and that nothing else is."""
+    wanted = {(name, error) for functions in wrong.values() for name, error, _, _ in functions if error}
+    got, said = compiled(head, uses, wrong)
+    must(got == wanted, f"wanted {sorted(wanted)}, and nothing else: {sorted(got)}\n{said}")
+    return ", ".join(f"{name} ({error})" for name, error in sorted(wanted))
 
 
 def main(words):
-    known = crates()
-    build_below([known[it] for it in ("shop_threads", "floor_tree", "line_ruled")], AFTER_GATE in words)
-    library, line = partial(in_a_library, known), partial(in_the_line, known)
+    build_below([crates()[it] for it in ("shop_threads", "floor_tree", "line_ruled")], AFTER_GATE in words)
     rows = [
-        Row("handles that are dropped", library, (["cube_tree"], OVER_TREE, GOOD + DROPS)),
-        Row("handles that are used twice", library, (["cube_tree"], OVER_TREE, GOOD + USES)),
-        Row("takes under a lock", library, (["cube_tree"], OVER_LOCK, LOCKED)),
-        *(Row(f"steps of the line, list {number}", line, (wrong,)) for number, wrong in enumerate(WRONG_STEPS, 1)),
-        Row("ends that are put together", library, (OF_SHOP, OVER_SHOP, MEMBERS)),
+        Row("handles that are dropped", must_refuse, (OVER_TREE, ["cube_tree"], {LIB: GOOD + DROPS})),
+        Row("handles that are used twice", must_refuse, (OVER_TREE, ["cube_tree"], {LIB: GOOD + USES})),
+        Row("takes under a lock", must_refuse, (OVER_LOCK, ["cube_tree"], {LIB: LOCKED})),
+        *(Row(f"steps of the line, list {number}", must_refuse, ("", [], it)) for number, it in enumerate(STEPS, 1)),
+        Row("ends that are put together", must_refuse, (OVER_SHOP, OF_SHOP, {LIB: MEMBERS})),
     ]
     return run_rows("must_not_compile", rows, says_ok=True)

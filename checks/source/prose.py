@@ -62,8 +62,7 @@ def outside_code(numbered):
 
 
 def parts(numbered):
-    """Yields the paragraphs, list items, headings and cells of a text: the number of the first line, the text, and
-    whether it is a cell."""
+    """Yields each paragraph, list item, heading and cell: its line's number, its text, and whether it is a cell."""
     held, is_held_heading = [], False
     for number, line in [*numbered, (0, "")]:
         is_row, starts = line.lstrip().startswith("|"), ITEM.match(line)

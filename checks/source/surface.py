@@ -21,10 +21,11 @@ import itertools
 import os
 import re
 import sys
+from collections import ChainMap
 
 from checks.lib.rattle_source import TYPES, all_items, items_in, owner_of, passed_on, uncommented
 from checks.lib.repository import LIMITS, NO_LIBRARIES, crate_names, files_below, path, place, read, write
-from checks.lib.rows import blind, print_faults
+from checks.lib.rows import blind, must, print_faults
 
 # What a reader of a promise has to believe: the public items of these crates, or those of this name alone, and the most
 # lines that all of their clauses may reach, in whatever crate. The theorem is `Shop::finish`, with the contracts of the
@@ -83,10 +84,10 @@ class Definition:
 
 
 class Scope:
-    """What the names of a file or a block mean: (module, name), or a module alone."""
+    """What the names of a file or a block mean, each a module and a name in it, and those that the file passes on."""
 
-    def __init__(self, parent=None):
-        self.parent, self.names, self.passed_on, self.globs, self.globs_passed_on = parent, {}, {}, [], []
+    def __init__(self, around=None):
+        self.names, self.passed_on = around.names.new_child() if around else ChainMap(), {}
 
     def take(self, text):
         found = IMPORT.match(" ".join(text.split()))
@@ -96,34 +97,15 @@ class Scope:
         if found["names"] is None:
             module, _, name = at.rpartition(".")
             self.put(found["alias"] or name, (module, name), is_passed_on)
-            return
-        for item in found["names"].split(","):
-            words = item.split()
-            if words:
-                name = words[words.index("as") - 1] if "as" in words else words[-1]
-                self.put(words[-1], (at, name), is_passed_on)
+        for words in filter(None, map(str.split, (found["names"] or "").split(","))):
+            name = words[words.index("as") - 1] if "as" in words else words[-1]
+            self.put(words[-1], (at, name), is_passed_on)
 
     def put(self, name, target, is_passed_on):
-        if name == "*":
-            self.globs.append(target[0])
-            self.globs_passed_on += [target[0]] if is_passed_on else []
-            return
+        must(name != "*", f"an import takes all of {target[0]}: surface cannot tell what it names")
         self.names[name] = target
         if is_passed_on:
             self.passed_on[name] = target
-
-    def get(self, name):
-        if name in self.names:
-            return self.names[name]
-        return self.parent.get(name) if self.parent else None
-
-    def all_globs(self):
-        return self.globs + (self.parent.all_globs() if self.parent else [])
-
-    def operators(self):
-        found = dict(self.parent.operators()) if self.parent else {}
-        found.update({name: target for name, target in self.names.items() if "◌" in name})
-        return found
 
 
 def with_rest(lines, margin):
@@ -184,8 +166,7 @@ class Specs:
             return self.modules[module][name]
         if module in self.modules:
             further = self.scopes[module].passed_on.get(name)
-            ways = [further] if further else [(glob, name) for glob in self.scopes[module].globs_passed_on]
-            return next((it for it in (self.at(way, (*seen, target)) for way in ways) if it), None)
+            return self.at(further, (*seen, target)) if further else None
         above, _, last = module.rpartition(".")
         return self.at((above, last), (*seen, target)) if above.startswith("Rattle.") and ".specs" in above else None
 
@@ -200,17 +181,14 @@ class Specs:
         for match in TOKEN.finditer(text):
             if self.is_field(text, match):
                 continue
-            pieces = match[0].split(".")
-            target = scope.get(pieces[0])
-            targets = [target] if target else [(module, pieces[0]) for module in scope.all_globs()]
-            if target and len(pieces) > 1:
-                targets.append((".".join(target), pieces[1]))
-            found += [it for it in map(self.at, targets) if it][:1]
-        for name, target in scope.operators().items():
+            first, *rest = match[0].split(".")
+            if target := scope.names.get(first):
+                found.append(self.at(target) or (self.at((".".join(target), rest[0])) if rest else None))
+        for name in (it for it in scope.names if "◌" in it):
             words, parts = text.split(), [part for part in name.split("◌") if part]
             if all(part in words for part in parts) or (name == "◌>>=◌" and "do" in words):
-                found += [it for it in [self.at(target)] if it]
-        return [it for number, it in enumerate(found) if it not in found[:number]]
+                found.append(self.at(scope.names[name]))
+        return [*filter(None, dict.fromkeys(found))]
 
     @staticmethod
     def is_field(text, match):
@@ -225,7 +203,7 @@ class Specs:
     def types(self, definition):
         """Returns the crate and the name of each type of src/ that a definition names."""
         words = [it.partition(".")[0] for it in TOKEN.findall("\n".join(definition.lines))]
-        targets = filter(None, map(self.scopes[definition.module].get, words))
+        targets = filter(None, map(self.scopes[definition.module].names.get, words))
         return {it.groups() for it in (DECLARED.match(".".join(target)) for target in targets) if it}
 
     def closure(self, roots):

@@ -31,8 +31,6 @@ ALLOWED = {
     "Row": ("jobs_csv tests_kit", "what is written as a line of CSV, and a row of a test"),
     "Tally": ("collectives uses", "rounds and messages, and what a stranger's line counts"),
 }
-
-
 # The lists of a section of docs/STATUS.md.
 LISTS = ("Proved", "Tested", "Neither")
 

@@ -1,9 +1,8 @@
 """Rows of command lines that are refused, whatever the input is; and each help, and the version."""
 import re
-import subprocess
 
 from checks.built.program.texts import ANSWERS, BAD, CALLS, COMMANDS, EVENTS, JOBS, REPLIES, TOTALS, VERSION, WRITE
-from checks.lib.rows import Row, answer, must, must_answer, shown
+from checks.lib.rows import Row, answer, must, must_answer, output, shown
 
 COMMANDS_OF_CLI = ("run", "report", "place", "replay")
 N, D, C, S = "--dim <N>", "--dispatchers <D>", "--capacity <C>", "--stations <S>"
@@ -145,8 +144,7 @@ def must_help(program, words, patterns):
 
 
 def same_help(program, command):
-    wanted = subprocess.run([program, command, "--help"], capture_output=True, timeout=60, check=True).stdout
-    must_answer([program, "help", command], "", 0, wanted.decode(), "")
+    must_answer([program, "help", command], "", 0, output([program, command, "--help"]), "")
 
 
 def rows(program):

@@ -7,10 +7,10 @@ import signal
 import subprocess
 import tempfile
 import termios
-import time
 
 from checks.built.program.texts import ANSWERS, BAD, COMMANDS, GOOD, HEADERS, JOBS, READ, REPLY, WRITE
-from checks.lib.rows import Row, encoded, must, must_answer, must_be_answer, put, shown
+from checks.lib.repository import read_bytes
+from checks.lib.rows import Row, comes, encoded, must, must_answer, must_be_answer, put, shown
 
 # Redirections of the shell of `run` at dimension 3 on a file of one job: the status, and standard error.
 DEVICES = {
@@ -62,15 +62,6 @@ def must_have_first_rows(part):
     must(is_part, f"{len(part)} bytes of output, {shown(part)}")
 
 
-def must_be_read(pipe):
-    """Sees that each byte that was written into the pipe is read within two seconds."""
-    for _ in range(2000):
-        if not any(fcntl.ioctl(pipe, termios.FIONREAD, bytes(4))):
-            return
-        time.sleep(0.001)
-    must(False, "input that is not read")
-
-
 def closed_by_its_reader(command):
     inner, outer = os.pipe()
     os.close(inner)
@@ -98,7 +89,8 @@ def byte_by_byte(command, given, out):
             with contextlib.suppress(BrokenPipeError):
                 for byte in encoded(given):
                     started.stdin.write(bytes([byte]))
-                    must_be_read(started.stdin)
+                    is_read = comes(lambda: not any(fcntl.ioctl(started.stdin, termios.FIONREAD, bytes(4))), 2)
+                    must(is_read, "input that is not read")
             got = started.communicate(timeout=10)
         finally:
             started.kill()
@@ -137,8 +129,8 @@ def named_file_with_a_limit(place, name):
         old, command = os.path.join(folder, "old.csv"), [*place, "--output", os.path.join(folder, name)]
         put(old)
         must_answer(command, MANY_COMMANDS, 3, "", WRITE, preexec_fn=limit_files, restore_signals=False)
-        with open(old, "rb") as file:
-            must(os.listdir(folder) == ["old.csv"] and file.read() == b"old\n", f"the folder has {os.listdir(folder)}")
+        is_kept = os.listdir(folder) == ["old.csv"] and read_bytes(old) == b"old\n"
+        must(is_kept, f"the folder has {os.listdir(folder)}")
 
 
 def rows(program):

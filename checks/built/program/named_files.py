@@ -6,7 +6,8 @@ import tempfile
 
 from checks.built.program.devices import open_pipe
 from checks.built.program.texts import ANSWERS, BAD, CALLS, COMMANDS, EVENTS, GOOD, REPLY, TOTALS
-from checks.lib.rows import Row, encoded, must, must_answer, put
+from checks.lib.repository import read_bytes
+from checks.lib.rows import AS_NOBODY, Row, encoded, must, must_answer, put
 
 PLACED = f"{COMMANDS}\ntake,a,1\n", f"{ANSWERS}\ntake,a,1,0,given\n"
 PLAYED = f"{CALLS}\n0,take,1\n", f"{EVENTS}\n-,end,-,-,0\n"
@@ -86,7 +87,6 @@ def words_of(text):
 
 def put_in(folder, texts):
     for name, text in texts.items():
-        os.makedirs(os.path.dirname(os.path.join(folder, name)), exist_ok=True)
         put(os.path.join(folder, name), text)
 
 
@@ -96,8 +96,7 @@ def must_leave(folder, texts):
     for above, folders, names in os.walk(folder):
         for at in (os.path.join(above, name) for name in names + folders):
             if os.path.isfile(at) and not os.path.islink(at):
-                with open(at, "rb") as file:
-                    found[os.path.relpath(at, folder)] = file.read()
+                found[os.path.relpath(at, folder)] = read_bytes(at)
             else:
                 must(os.path.basename(at) in ("folder", "shut", "link.csv", "loop.csv", "pipe"), f"{at} is there")
     for name in sorted({*found, *texts}):
@@ -130,15 +129,13 @@ def without_leave(program, words, err):
         # The superuser may do all, so another user runs a copy that it can reach.
         os.chmod(beside, 0o755)
         runs = shutil.copy(program, os.path.join(beside, "cubejobs"))
-        user = {"user": 65534, "group": 65534, "extra_groups": []} if os.geteuid() == 0 else {}
-        must_answer([runs, *words], GOOD, 3, "", err, cwd=folder, **user)
+        must_answer([runs, *words], GOOD, 3, "", err, cwd=folder, **AS_NOBODY)
         os.chmod(os.path.join(folder, "secret.csv"), 0o600)
         must_leave(folder, held)
 
 
 def beside_open_input(program):
-    """Reads a named file while standard input stays open, against a command that reads standard input though FILE is
-    given."""
+    """Reads a named file while standard input stays open, against a command that reads standard input all the same."""
     with tempfile.TemporaryDirectory() as folder, open_pipe() as (inner, _):
         put_in(folder, {"jobs.csv": GOOD})
         must_answer([program, *words_of("jobs.csv")], None, 0, REPLY, "", stdin=inner, timeout=10, cwd=folder)

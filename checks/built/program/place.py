@@ -9,8 +9,7 @@ def given(rows):
     return [f"{word},{name},{dim if word == 'take' else '-'}" for word, name, dim, *_ in fields]
 
 
-# The dimension, and the rows of the answer. A command is the first fields of its row; that of a free has a dash for the
-# dimension.
+# The dimension, and the rows of the answer. A command is the first fields of its row, in a free with a dash.
 PLACES = {
     "no commands": ("3", ""),
     "takes and frees": ("3",

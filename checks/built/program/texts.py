@@ -41,8 +41,7 @@ def answered(program, words, header, given, of, out):
 
 
 def refused(program, command, table):
-    """Yields the rows of files that are refused: status 1, one line on standard error, and no output. A fault that
-    names no record is of the first."""
+    """Yields rows of refused files: status 1, one line of errors, no output. A fault with no record is of the first."""
     for name, (fault, *lines) in table.items():
         bare = lines[:1] == [NO_HEADER]
         given = "".join(f"{line}\n" for line in (lines[1:] if bare else [HEADERS[command], *lines]))
