@@ -9,8 +9,9 @@ MUTANTS = "mutants"
 # The folders of a crate: its sources, definitions and proofs.
 PARTS = ("src", "specs", "proofs")
 # The crates on which nobody builds: callers, programs, measurements and tests.
-NO_LIBRARIES = ("uses", "jobs_cli", "cube_bench", "tests_kit", "tests_layers", "tests_shops", "tests_files")
-LIMITS = ("crates/cube_shape/src/limits.rt", "crates/region_bits/src/limits.rt")
+NO_LIBRARIES = (
+    "uses", "jobs_cli", "cube_bench", "tests_kit", "tests_layers", "tests_shops", "tests_bitmap", "tests_files")
+LIMITS = ("crates/cube_shape/src/limits.rt", "crates/region_bits/src/limits.rt", "crates/bitmap_tree/src/limits.rt")
 
 
 def path(*names):

@@ -22,6 +22,7 @@ from checks.source.surface import exports, sources_of
 # head begins with these words.
 QUOTES = {
     "alloc_bits": ("uses/src/two_regions.rt",),
+    "bitmap_tree": ("tests_bitmap/src/tests/crowd.rt#fn work",),
     "cli_commands": ("jobs_cli/src/main.rt#fn main",),
     "cli_args": ("cli_commands/src/program.rt#pub fn run<",),
     "collectives": ("uses/src/extent.rt",),

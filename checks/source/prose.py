@@ -22,10 +22,10 @@ GENERATED = ("docs/DEFINITIONS.md", "docs/THEOREM.md")
 PAGES = "crates/*/CALLING.md"
 BUDGET = {
     "README.md": 1100, "CONTRIBUTING.md": 1000, "CHANGELOG.md": 1500, "docs/ALGORITHM.md": 1300,
-    "docs/theorem/top.md": 2300, "docs/READING.md": 700, "docs/STATUS.md": 2800, "docs/EVIDENCE.md": 1500,
+    "docs/theorem/top.md": 2300, "docs/READING.md": 700, "docs/STATUS.md": 2950, "docs/EVIDENCE.md": 1500,
     "docs/ARCHITECTURE.md": 2400, "docs/ADDING.md": 1000, "docs/DECISIONS.md": 4500, "docs/PROVING.md": 4000,
     "docs/PERFORMANCE.md": 1900, "docs/GUIDE.md": 1500, "docs/C.md": 1400, "docs/RUST.md": 900,
-    "docs/COMPARED.md": 1200, "docs/GLOSSARY.md": 1500, "docs/TREE.md": 900, PAGES: 3200,
+    "docs/COMPARED.md": 1200, "docs/GLOSSARY.md": 1500, "docs/TREE.md": 900, PAGES: 3400,
 }
 # Words that are not written, and what to say.
 BANNED = {

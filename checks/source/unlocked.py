@@ -18,7 +18,7 @@ from checks.lib.repository import ROOT, files_below, read
 from checks.lib.rows import print_faults
 from checks.lib.toolchain import crates
 
-TOPS = ("line_ruled", "floor_tree")
+TOPS = ("line_ruled", "bitmap_tree", "floor_tree")
 ALLOWED = {"std", "atomic_table", "bitflags", "crossbeam_queue", "crossbeam_utils", "thiserror"}
 LOCKS = re.compile(
     r"\b(?:\w*Mutex\w*|\w+Lock|\w+Lock(?:Read|Write)Guard|Condvar|Barrier|OnceCell|mpsc|(?:try_)?lock|locked_\w+)\b"

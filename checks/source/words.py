@@ -26,7 +26,7 @@ ALLOWED = {
     "Opened": ("dispatcher job_queue", "a new shop, and a new line, each with all that its callers need"),
     "PassRecord": ("job_queue line_ring", "what a pass has done, at a line and at its ring, which line_ruled joins"),
     "Reading": ("job_queue line_gate", "what a pass read of a line, and of its gate, which line_ruled joins"),
-    "Refused": ("cube_core job_queue", "a refused call of the pure machine, and a refused job of a line"),
+    "Refused": ("bitmap_tree cube_core job_queue", "a refused take, call of the pure machine, and job of a line"),
     "Request": ("cli_args job_types", "of a command line, and of a job; a caller of either sees one"),
     "Row": ("jobs_csv tests_kit", "what is written as a line of CSV, and a row of a test"),
     "Tally": ("collectives uses", "rounds and messages, and what a stranger's line counts"),

@@ -1,0 +1,6 @@
+use Rattle.std.proofs.Common.{rules}
+use Rattle.bitmap_tree.proofs.StepLemmas.{loses_step}
+use Rattle.bitmap_tree.proofs.handles.BitmapTree.clear_run.Goals as goal
+
+pub fetch_sub-requires : goal.fetch_sub-requires
+fetch_sub-requires c = (search rules, search rules, loses_step _ _ _ _ c.args.mask _ (search rules) c.ranges.mask.fits c.requires.loses)

@@ -1,0 +1,11 @@
+use Rattle.std.proofs.Common.{◌≡◌, ℕ, ◌<◌, slice_index, vec_len}
+use Rattle.std.specs.Mem.Slots.{slots_items}
+use Rattle.bitmap_tree.proofs.handles.BitmapTree.close.Given as goal
+
+abbrev pub invariant-loop-word : goal.invariant-loop-word
+invariant-loop-word l = record {
+  len : vec_len l.room ≡ vec_len l.initial.room;
+  copied : (k : ℕ)
+      → k < l.word
+      → slice_index l.room.items k ≡ slice_index (slots_items l.closed.words) k;
+}

@@ -1,0 +1,33 @@
+use Rattle.std.proofs.Common.{◌≡◌, ◌≢◌, ◌+◌, ◌*◌, ◌<◌, ◌≤◌, ◌^◌, ◌/◌, ◌%◌, min, max, ℕ, ◌-◌}
+use Rattle.bitmap_tree.specs.declared.limits.TheConstants.{MAX_BITMAP_DIM}
+use Rattle.bitmap_tree.specs.Rule.{first_word}
+use Rattle.bitmap_tree.specs.InnerLayout.{IsBlank, Grows}
+use Rattle.bitmap_tree.specs.InnerTrail.{KeepsRight, IsFullWord, StepsOn, left_by}
+use Rattle.bitmap_tree.specs.Trail.{WasDisturbed, WasEachTaken}
+use Rattle.bitmap_tree.specs.Handles.{id_of, dim_of}
+use Rattle.bitmap_tree.proofs.handles.BitmapTree.take_scanned.Given as goal
+
+abbrev pub invariant-loop-level : goal.invariant-loop-level
+invariant-loop-level l = record {
+  table : l.seat.table_id ≡ id_of l.self;
+  permits : l.seat.me.0.permits ≡ l.fn.seat.me.0.permits;
+  blank : IsBlank l.seat.me;
+  few : l.contended ≤ 2 ^ (MAX_BITMAP_DIM - 6) * l.level;
+  from : l.k / 6 ≤ l.level;
+  seen : l.contended ≡ 0
+      → (s : ℕ)
+      → l.k / 6 ≤ s
+      → s < l.level
+      → WasEachTaken (dim_of l.self) (max l.k (6 * s)) l.seat.me.0.trail;
+  full : l.contended ≡ 0
+      → (s w : ℕ)
+      → l.k / 6 ≤ s
+      → s < l.level
+      → w < 2 ^ (dim_of l.self - 6 * s - 6)
+      → IsFullWord (2 ^ min (dim_of l.self - 6 * s) 6) (max l.k (6 * s) % 6)
+      (left_by l.seat.me.0.trail (first_word (dim_of l.self / 6 - s) + w));
+  disturbed : l.contended ≢ 0 → WasDisturbed l.seat.me.0.trail;
+  kept : StepsOn 0 (first_word (dim_of l.self / 6 + 1 - l.k / 6)) l.fn.seat.me l.seat.me;
+  right : KeepsRight (dim_of l.self) l.fn.seat.me l.seat.me;
+  grows : Grows (9 * ((l.level - l.k / 6) * 2 ^ (dim_of l.self - 6))) l.fn.seat.me l.seat.me;
+}

@@ -1,0 +1,24 @@
+-- The steps of a call on the words at most. Those on marks and spares do not count.
+use Rattle.std.specs.Prelude.{ℕ, ◌+◌, ◌*◌, ◌-◌, ◌^◌}
+
+-- the words of the lowest level, and so at most those of any
+abbrev pub level_words : ℕ → ℕ
+level_words n = 2 ^ (n - 6)
+
+-- a take by the marks: two searches of at most 18 passes, of nine steps a word, and the spares that
+-- it shuts
+abbrev pub quick_steps : ℕ → ℕ
+quick_steps n = 64 + 2 * (18 * (9 * level_words n))
+
+-- A take: the same, and ten steps for each word of three levels that it shuts. Then it looks at
+-- each word of four levels, by at most nine steps.
+abbrev pub take_steps : ℕ → ℕ
+take_steps n = quick_steps n + 4 + 3 * (10 * level_words n) + 4 * (9 * level_words n)
+
+-- a take of one block: two ways up, and ten steps for each word below that it shuts
+abbrev pub block_steps : ℕ → ℕ
+block_steps n = 81 + 3 * (10 * level_words n)
+
+-- a release: two steps on each of four levels
+abbrev pub release_steps : ℕ
+release_steps = 4 * 2

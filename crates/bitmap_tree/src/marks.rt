@@ -1,0 +1,256 @@
+//! Summary bits (marks): where a search need not look. No proof rests on what they say.
+//!
+//! For each dimension at most 6 a word has a mark: no block of this dimension was found in it. The
+//! marks of 64 words are one number. The numbers of the seven dimensions are side by side in a line
+//! of eight. A second level of numbers has a bit for each number that is all ones.
+ghost use Rattle.std.specs.Prelude.{◌≡◌, ◌≤◌, ◌<◌, ◌*◌, ◌+◌, ◌-◌, ◌/◌, ◌^◌};
+ghost use Rattle.bitmap_tree.specs.declared.limits.TheConstants.{MAX_BITMAP_DIM};
+ghost use Rattle.bitmap_tree.specs.declared.mask.TheConstants.{WORD_DIM};
+ghost use Rattle.bitmap_tree.specs.InnerMarks.{holds_always, tells_nothing, first_mark};
+
+use crate::limits::MAX_BITMAP_DIM;
+use crate::mask::WORD_DIM;
+use crate::view::Run;
+use atomic_table::{Play, Table, TableRule};
+use std::alloc::{AllocError, Global};
+
+// The number of groups of 64 words at which a tight pass looks.
+const TIGHT_GROUPS: u32 = 64 / 4;
+
+// The rule of marks and spares, which says nothing.
+pub struct AnyMarks;
+
+impl TableRule<Run, u64, u64> for AnyMarks {
+    ghost holds = { holds_always };
+
+    ghost first = { first_mark };
+}
+
+// A step on marks or spares, which says nothing.
+pub struct MarkStep;
+
+impl Play<Run, u64> for MarkStep {
+    ghost then = { tells_nothing };
+}
+
+// The marks of a level.
+#[derive(Drop)]
+pub struct Marks {
+    table: Table<Run, u64, u64, AnyMarks, Global>,
+    // The count of numbers of 64 marks for a dimension, and of those of the second level.
+    groups: u32,
+    tops: u32,
+    ghost few_groups: { groups ≤ 2 ^ (MAX_BITMAP_DIM - 2 * WORD_DIM) },
+    ghost few_tops: { tops ≤ 2 ^ (MAX_BITMAP_DIM - 3 * WORD_DIM) },
+    ghost count: { table.shared.table_id.words ≡ 8 * (groups + tops) },
+    ghost some: { 0 < groups },
+}
+
+// The bits of a word at which an aligned block of dimension `k` can begin.
+fn starts(k: u32) -> u64 {
+    match k {
+        0 => u64::MAX,
+        1 => 0x5555_5555_5555_5555,
+        2 => 0x1111_1111_1111_1111,
+        3 => 0x0101_0101_0101_0101,
+        4 => 0x0001_0001_0001_0001,
+        5 => 0x0000_0001_0000_0001,
+        _ => 1,
+    }
+}
+
+// The number of groups of 64 words of a level of `2^n` units, and of groups of 64 groups.
+fn groups_of(n: u32) -> u32
+    requires { n ≤ MAX_BITMAP_DIM }
+    ensures some { 0 < result }
+    ensures limit { result ≤ 2 ^ (MAX_BITMAP_DIM - 2 * WORD_DIM) }
+{
+    1 << n.saturating_sub(2 * WORD_DIM)
+}
+
+fn tops_of(n: u32) -> u32
+    requires { n ≤ MAX_BITMAP_DIM }
+    ensures limit { result ≤ 2 ^ (MAX_BITMAP_DIM - 3 * WORD_DIM) }
+{
+    1 << n.saturating_sub(3 * WORD_DIM)
+}
+
+impl Marks {
+    // Makes the marks of a level of `2^n` units, each number as `first` says.
+    pub(crate) fn open(alloc: Global, n: u32, first: u64) -> Result<Marks, AllocError>
+        requires { n ≤ MAX_BITMAP_DIM }
+    {
+        let groups = groups_of(n);
+        let tops = tops_of(n);
+        let room = vec![in alloc; first; 8 * (groups as usize + tops as usize)]?;
+        let (table, _seat) = Table::of_words(alloc, &room, &0u64)?;
+        Ok(Marks {
+            table,
+            groups,
+            tops,
+        })
+    }
+
+    // The marks of one group of 64 words for a dimension, and those of 64 groups.
+    fn group(&self, k: u32, group: u32) -> u64
+        requires dim { k ≤ 6 }
+        requires group { group < self.now.groups }
+    {
+        self.table.shared.peek(8 * group as usize + k as usize)
+    }
+
+    fn top(&self, k: u32, top: u32) -> u64
+        requires dim { k ≤ 6 }
+        requires top { top < self.now.tops }
+    {
+        self.table
+            .shared
+            .peek(8 * (self.groups as usize + top as usize) + k as usize)
+    }
+
+    // Sets marks in a number, and returns what it was; or clears them.
+    fn set(&self, place: usize, marks: u64) -> u64
+        requires { place < 8 * (self.now.groups + self.now.tops) }
+    {
+        let (_found, mut seat) = self.table.shared.load_new_seat::<MarkStep>(place);
+        self.table
+            .shared
+            .fetch_or::<MarkStep>(&mut seat, place, marks)
+    }
+
+    fn clear(&self, place: usize, marks: u64)
+        requires { place < 8 * (self.now.groups + self.now.tops) }
+    {
+        let (_found, mut seat) = self.table.shared.load_new_seat::<MarkStep>(place);
+        self.table
+            .shared
+            .fetch_and::<MarkStep>(&mut seat, place, !marks);
+    }
+
+    // Whether each word has its mark for the dimension, by the second level.
+    pub(crate) fn is_full(&self, k: u32) -> bool
+        requires { k ≤ 6 }
+    {
+        for top in 0..self.tops {
+            if self.top(k, top) != u64::MAX {
+                return false;
+            }
+        }
+        true
+    }
+
+    // The next word, from one on, that has no mark for the dimension. Where there is none, a number
+    // that is no word's.
+    pub(crate) fn next(&self, k: u32, from: u32) -> u32
+        requires { k ≤ 6 }
+    {
+        let mut group = from / 64;
+        if group >= self.groups {
+            return u32::MAX;
+        }
+        let mut open = !self.group(k, group) & (u64::MAX << (from % 64));
+        for _ in 0..self.groups {
+            if open != 0 {
+                return 64 * group + open.trailing_zeros();
+            }
+            group = self.next_group(k, group + 1);
+            if group >= self.groups {
+                return u32::MAX;
+            }
+            open = !self.group(k, group);
+        }
+        u32::MAX
+    }
+
+    // The next word, from one on, that has the mark of dimension `k + 1` and none for `k`: a block
+    // taken there splits no larger one. It looks at `TIGHT_GROUPS` groups, up to one where no word
+    // has that mark.
+    pub(crate) fn next_tight(&self, k: u32, from: u32) -> u32
+        requires { k < 6 }
+    {
+        let mut group = from / 64;
+        if group >= self.groups {
+            return u32::MAX;
+        }
+        let mut larger = self.group(k + 1, group);
+        let mut tight = !self.group(k, group) & larger & (u64::MAX << (from % 64));
+        for _ in 0..TIGHT_GROUPS {
+            if tight != 0 {
+                return 64 * group + tight.trailing_zeros();
+            }
+            if larger == 0 {
+                return u32::MAX;
+            }
+            group = self.next_group(k, group + 1);
+            if group >= self.groups {
+                return u32::MAX;
+            }
+            larger = self.group(k + 1, group);
+            tight = !self.group(k, group) & larger;
+        }
+        u32::MAX
+    }
+
+    // The next group, from one on, that is not marked as a whole.
+    fn next_group(&self, k: u32, from: u32) -> u32
+        requires { k ≤ 6 }
+    {
+        for top in from / 64..self.tops {
+            let marks = !self.top(k, top);
+            let open = if top == from / 64 {
+                marks & (u64::MAX << (from % 64))
+            } else {
+                marks
+            };
+            if open != 0 {
+                return 64 * top + open.trailing_zeros();
+            }
+        }
+        u32::MAX
+    }
+
+    // Marks a word for a dimension, and its group where all 64 words of it have the mark.
+    pub(crate) fn mark(&self, k: u32, word: u32)
+        requires { k ≤ 6 }
+    {
+        let group = word / 64;
+        if group >= self.groups || group / 64 >= self.tops {
+            return;
+        }
+        let mark = 1u64 << (word % 64);
+        if self.group(k, group) & mark != 0 {
+            return;
+        }
+        let place = 8 * group as usize + k as usize;
+        if self.set(place, mark) | mark == u64::MAX {
+            let above = 8 * (self.groups as usize + (group / 64) as usize) + k as usize;
+            self.set(above, 1 << (group % 64));
+            if self.group(k, group) != u64::MAX {
+                self.clear(above, 1 << (group % 64));
+            }
+        }
+    }
+
+    // Clears the marks of words of one group for all dimensions for which `word` has room.
+    pub(crate) fn unmark(&self, group: u32, marks: u64, word: u64) {
+        if group >= self.groups || group / 64 >= self.tops {
+            return;
+        }
+        let mut free = !word;
+        for k in 0..7 {
+            if free & starts(k) == 0 {
+                return;
+            }
+            free &= free >> (1u32 << k).min(63);
+            if self.group(k, group) & marks != 0 {
+                self.clear(8 * group as usize + k as usize, marks);
+                if self.top(k, group / 64) & (1 << (group % 64)) != 0 {
+                    self.clear(
+                        8 * (self.groups as usize + (group / 64) as usize) + k as usize,
+                        1 << (group % 64),
+                    );
+                }
+            }
+        }
+    }
+}

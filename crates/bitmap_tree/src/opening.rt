@@ -1,0 +1,70 @@
+//! How a machine is opened.
+ghost use Rattle.std.specs.Prelude.{◌≡◌, ◌+◌, ◌/◌, ◌≤◌, [], vec_len, IfOk};
+ghost use Rattle.bitmap_tree.specs.Rule.{word_count};
+ghost use Rattle.bitmap_tree.specs.InnerRule.{first_view};
+ghost use Rattle.bitmap_tree.specs.Handles.{id_of, dim_of, permits_of};
+
+use crate::handles::{BitmapTree, Seat};
+use crate::layout::words_of;
+use crate::limits::MAX_BITMAP_DIM;
+use crate::marks::Marks;
+use crate::spares::Spares;
+use crate::view::Size;
+use atomic_table::Table;
+use std::alloc::{AllocError, Global};
+
+// Makes the marks of all levels. Each word has its marks except the top one.
+fn marks_of(alloc: Global, n: u32) -> Result<Vec<Marks>, AllocError>
+    requires { n ≤ MAX_BITMAP_DIM }
+    ensures { IfOk result (λ marks. vec_len marks ≡ n / 6 + 1) }
+{
+    let mut marks = Vec::new(alloc);
+    for level in 0..n / 6 + 1 {
+        let first = if level == n / 6 { !1 } else { u64::MAX };
+        marks.push(Marks::open(alloc, n - 6 * level, first)?)?;
+    }
+    Ok(marks)
+}
+
+impl BitmapTree {
+    /// Opens a machine of dimension `n` in which nothing is held, and where any caller may take.
+    pub fn open(alloc: Global, n: u32) -> Result<BitmapTree, AllocError>
+        requires { n ≤ MAX_BITMAP_DIM }
+        ensures dim { IfOk result (λ made. dim_of made ≡ n) }
+        ensures anyone { IfOk result (λ made. permits_of made ≡ 0) }
+    {
+        let (machine, _seat) = BitmapTree::open_sized(alloc, Size { dim: n, permits: 0 })?;
+        Ok(machine)
+    }
+
+    // Opens a machine of this size. The seat has all its permits.
+    pub(crate) fn open_sized(alloc: Global, size: Size) -> Result<(BitmapTree, Seat), AllocError>
+        requires { size.dim ≤ MAX_BITMAP_DIM }
+        ensures size { IfOk result (λ made. made.0.size ≡ size) }
+        ensures table { IfOk result (λ made. made.1.table_id ≡ id_of made.0) }
+        ensures seat { IfOk result (λ made. made.1.me ≡ (first_view size, [])) }
+    {
+        let mut words = vec![in alloc; u64::MAX; words_of(size.dim) as usize]?;
+        words[0] = 0;
+        let marks = marks_of(alloc, size.dim)?;
+        let spares = Spares::open(alloc)?;
+        let (table, seat) = Table::of_words(alloc, &words, &size)?;
+        Ok((
+            BitmapTree {
+                table,
+                size,
+                marks,
+                spares,
+                room: words,
+            },
+            seat,
+        ))
+    }
+
+    /// Returns the dimension of the machine.
+    pub fn dim(&self) -> u32
+        ensures { result ≡ dim_of self.now }
+    {
+        self.size.dim
+    }
+}

@@ -1,0 +1,165 @@
+//! Machines with permits. A take spends a permit and a release returns it, so nothing is held once
+//! all permits are back.
+ghost use Rattle.std.specs.Prelude.{◌≡◌, ◌≢◌, ℕ, ◌+◌, ◌<◌, ◌≤◌, ◌^◌, [], length, slice_index, vec_capacity, List, IfOk, IfErr};
+ghost use Rattle.std.specs.List.{All};
+ghost use Rattle.cube_shape.specs.Region.{IsAligned};
+ghost use Rattle.bitmap_tree.specs.InnerRule.{times};
+ghost use Rattle.bitmap_tree.specs.Ends.{IsFresh};
+ghost use Rattle.bitmap_tree.specs.Alone.{HasNoBlock};
+ghost use Rattle.bitmap_tree.specs.Bounds.{release_steps, take_steps};
+ghost use Rattle.bitmap_tree.specs.Layout.{run_of};
+ghost use Rattle.bitmap_tree.specs.Trail.{AreRightSteps, IsAlone, WasClaimed, WasDisturbed, WasRefused, WasReleased};
+ghost use Rattle.bitmap_tree.specs.Handles.{id_of, dim_of, permits_of, held_region, held_trail, permit_trail, IsHeldByPermit, IsPermitOf};
+
+use crate::handles::{BitmapTree, HeldBlock, Permit, Refused, Seat};
+use crate::limits::MAX_BITMAP_DIM;
+use crate::view::Size;
+use std::alloc::{AllocError, Global};
+
+impl BitmapTree {
+    /// Takes an aligned block of dimension `k` by a permit, which comes back where the take is
+    /// refused.
+    pub fn take_by_permit(
+        &self,
+        permit: Permit,
+        k: u32,
+        processor: u64,
+    ) -> Result<HeldBlock, (Permit, u32)>
+        requires permit { IsPermitOf self.now permit }
+        requires fits { k ≤ dim_of self.now }
+        requires processor { processor < 2 ^ dim_of self.now }
+        ensures held { IfOk result (IsHeldByPermit self.now) }
+        ensures aligned { IfOk result (λ held. IsAligned (dim_of self.now) (held_region held)) }
+        ensures dimension { IfOk result (λ held. (held_region held).dim ≡ k) }
+        ensures back { IfErr result (λ refused. IsPermitOf self.now refused.0) }
+        ensures claimed { IfOk result (λ held.
+            WasClaimed (run_of (dim_of self.now) (held_region held)) (held_trail held)) }
+        ensures refused { IfErr result (λ refused. refused.1 ≡ 0
+            → WasRefused (dim_of self.now) k (permit_trail refused.0)) }
+        ensures disturbed { IfErr result (λ refused. refused.1 ≢ 0
+            → WasDisturbed (permit_trail refused.0)) }
+        ensures alone { IfErr result (λ refused. (words : List ℕ)
+            → IsAlone (slice_index words) (permit_trail refused.0)
+            → HasNoBlock (dim_of self.now) k words) }
+        ensures steps { IfOk result (λ held.
+            AreRightSteps (dim_of self.now) (held_trail held)) }
+        ensures few { IfOk result (λ held.
+            length (held_trail held) ≤ take_steps (dim_of self.now)) }
+        ensures few_refused { IfErr result (λ refused.
+            length (permit_trail refused.0) ≤ take_steps (dim_of self.now)) }
+    {
+        let Permit { mut seat } = permit;
+        self.begin(&mut seat);
+        match self.take_by(seat, k, processor) {
+            Ok(held) => Ok(held),
+            Err(Refused { contended, seat }) => Err((Permit { seat }, contended)),
+        }
+    }
+
+    /// Releases a block. Returns its permit.
+    pub fn release_to_permit(&self, held: HeldBlock) -> Permit
+        requires { IsHeldByPermit self.now held }
+        ensures permit { IsPermitOf self.now result }
+        ensures released { WasReleased (run_of (dim_of self.now) (held_region held))
+            (held_trail held) (permit_trail result) }
+        ensures steps { AreRightSteps (dim_of self.now) (held_trail held)
+            → AreRightSteps (dim_of self.now) (permit_trail result) }
+        ensures few { length (permit_trail result) ≤ length (held_trail held) + release_steps }
+    {
+        let HeldBlock {
+            region,
+            dim: _,
+            mut seat,
+        } = held;
+        self.release_region(&mut seat, region);
+        Permit { seat }
+    }
+
+    /// Opens a machine of dimension `n` in which nothing is held, with this many permits.
+    pub fn open_with_permits(
+        alloc: Global,
+        n: u32,
+        count: u32,
+    ) -> Result<(BitmapTree, Vec<Permit>), AllocError>
+        requires dim { n ≤ MAX_BITMAP_DIM }
+        requires some { 0 < count }
+        ensures dim { IfOk result (λ made. dim_of made.0 ≡ n) }
+        ensures permits { IfOk result (λ made. permits_of made.0 ≡ count) }
+        ensures count { IfOk result (λ made. length made.1.items ≡ count) }
+        ensures of_machine { IfOk result (λ made. All (IsPermitOf made.0) made.1.items) }
+    {
+        let mut permits = Vec::with_capacity(alloc, count as usize)?;
+        let size = Size {
+            dim: n,
+            permits: count,
+        };
+        match BitmapTree::open_sized(alloc, size) {
+            Ok((machine, seat)) => {
+                machine.deal_all(seat, count, &mut permits);
+                Ok((machine, permits))
+            }
+            Err(error) => {
+                permits.destroy_empty();
+                Err(error)
+            }
+        }
+    }
+
+    // Deals the permits out.
+    fn deal_all(&self, mut seat: Seat, count: u32, permits: &mut Vec<Permit>)
+        requires table { seat.table_id ≡ id_of self.now }
+        requires nothing { (q : ℕ) → times q seat.me.0.runs ≡ 0 }
+        requires all { seat.me.0.permits ≡ count }
+        requires empty { permits.old.items ≡ [] }
+        requires room { count ≤ vec_capacity permits.old }
+        ensures count { length permits.new.items ≡ count }
+        ensures of_machine { All (IsPermitOf self.now) permits.new.items }
+    {
+        for _ in 0..count {
+            let seat = self.deal(&mut seat);
+            permits.push_reserved(Permit { seat });
+        }
+    }
+
+    /// Ends a machine of which all permits have come back. Nothing is held, and its words are as at
+    /// the start.
+    pub fn close_with_permits(self, permits: Vec<Permit>) -> Vec<u64>
+        requires of_machine { All (IsPermitOf self) permits.items }
+        requires all { length permits.items ≡ permits_of self }
+        requires some { 0 < permits_of self }
+        ensures { IsFresh result.items }
+    {
+        let seat = self.gather_all(permits);
+        self.close_by(seat)
+    }
+
+    // Adds a permit to a seat that has claimed nothing.
+    fn gather_one(&self, seat: &mut Seat, permit: Permit)
+        requires table { seat.old.table_id ≡ id_of self.now }
+        requires permit { IsPermitOf self.now permit }
+        requires nothing { (q : ℕ) → times q seat.old.me.0.runs ≡ 0 }
+        ensures table { seat.new.table_id ≡ id_of self.now }
+        ensures permits { seat.new.me.0.permits ≡ seat.old.me.0.permits + 1 }
+        ensures nothing { (q : ℕ) → times q seat.new.me.0.runs ≡ 0 }
+        ensures slots { seat.new.me.1 ≡ seat.old.me.1 }
+    {
+        let Permit { seat: other } = permit;
+        self.merge(seat, other);
+    }
+
+    // Makes one seat of all permits.
+    fn gather_all(&self, mut permits: Vec<Permit>) -> Seat
+        requires of_machine { All (IsPermitOf self.now) permits.items }
+        ensures table { result.table_id ≡ id_of self.now }
+        ensures permits { result.me.0.permits ≡ length permits.items }
+        ensures nothing { (q : ℕ) → times q result.me.0.runs ≡ 0 }
+        ensures slots { result.me.1 ≡ [] }
+    {
+        let mut seat = self.enter();
+        while let Some(permit) = permits.pop() {
+            self.gather_one(&mut seat, permit);
+        }
+        permits.destroy_empty();
+        seat
+    }
+}

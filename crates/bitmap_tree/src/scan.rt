@@ -1,0 +1,96 @@
+//! The search that looks at each word, so that a refusal has evidence.
+ghost use Rattle.std.specs.Prelude.{◌≡◌, ℕ, ◌+◌, ◌*◌, ◌/◌, ◌%◌, ◌^◌, ◌<◌, ◌≤◌, ◌-◌, ◌≢◌, min, max, IfOk, IfErr};
+ghost use Rattle.bitmap_tree.specs.Rule.{first_word, word_count};
+ghost use Rattle.bitmap_tree.specs.Layout.{HasRun, run_of};
+ghost use Rattle.bitmap_tree.specs.InnerLayout.{IsBlank, IsIn, Grows};
+ghost use Rattle.bitmap_tree.specs.InnerTrail.{KeepsRight, IsFullWord, StepsOn, left_by};
+ghost use Rattle.bitmap_tree.specs.Trail.{WasClaimed, WasDisturbed, WasEachTaken, WasRefused};
+ghost use Rattle.bitmap_tree.specs.Handles.{id_of, dim_of, MayClaim};
+
+use crate::handles::{BitmapTree, Seat};
+use crate::layout::words_in;
+use crate::limits::MAX_BITMAP_DIM;
+use crate::search::TRIES;
+use cube_shape::Region;
+
+impl BitmapTree {
+    // Takes a block of dimension `k` in the words of its level, one after another.
+    fn take_words(&self, seat: &mut Seat, k: u32) -> Result<Region, u32>
+        requires table { seat.old.table_id ≡ id_of self.now }
+        requires may { MayClaim self.now seat.old.me }
+        requires fits { k ≤ dim_of self.now }
+        requires blank { IsBlank seat.old.me }
+        ensures table { seat.new.table_id ≡ id_of self.now }
+        ensures permits { seat.new.me.0.permits ≡ seat.old.me.0.permits }
+        ensures taken { IfOk result (λ r. HasRun (run_of (dim_of self.now) r) seat.new.me
+            × IsIn (dim_of self.now) k r) }
+        ensures claimed { IfOk result (λ r.
+            WasClaimed (run_of (dim_of self.now) r) seat.new.me.0.trail) }
+        ensures blank { IfErr result (λ _. IsBlank seat.new.me) }
+        ensures refused { IfErr result (λ contended. contended ≡ 0
+            → WasEachTaken (dim_of self.now) k seat.new.me.0.trail) }
+        ensures full { IfErr result (λ contended. contended ≡ 0 → (w : ℕ)
+            → w < 2 ^ (dim_of self.now - 6 * (k / 6) - 6)
+            → IsFullWord (2 ^ min (dim_of self.now - 6 * (k / 6)) 6) (k % 6)
+            (left_by seat.new.me.0.trail (first_word (dim_of self.now / 6 - k / 6) + w))) }
+        ensures disturbed { IfErr result (λ contended. contended ≢ 0
+            → WasDisturbed seat.new.me.0.trail) }
+        ensures few { IfErr result (λ contended. contended ≤ 2 ^ (MAX_BITMAP_DIM - 6)) }
+        ensures steps { StepsOn (first_word (dim_of self.now / 6 - k / 6))
+            (first_word (dim_of self.now / 6 - k / 6) + 2 ^ (dim_of self.now - 6 * (k / 6) - 6))
+            seat.old.me seat.new.me }
+        ensures right { KeepsRight (dim_of self.now) seat.old.me seat.new.me }
+        ensures grows { Grows (9 * 2 ^ (dim_of self.now - 6 * (k / 6) - 6)) seat.old.me
+            seat.new.me }
+    {
+        let mut contended = 0;
+        for number in 0..words_in(self.size.dim - 6 * (k / 6)) {
+            match self.take_in(seat, number, k, TRIES) {
+                Ok(region) => return Ok(region),
+                Err(more) => contended += more,
+            }
+        }
+        Err(contended)
+    }
+
+    // Takes a block of dimension `k`, and looks at each word of its level and of those above.
+    pub(crate) fn take_scanned(&self, seat: &mut Seat, k: u32) -> Result<Region, u32>
+        requires table { seat.old.table_id ≡ id_of self.now }
+        requires may { MayClaim self.now seat.old.me }
+        requires fits { k ≤ dim_of self.now }
+        requires blank { IsBlank seat.old.me }
+        ensures table { seat.new.table_id ≡ id_of self.now }
+        ensures permits { seat.new.me.0.permits ≡ seat.old.me.0.permits }
+        ensures taken { IfOk result (λ r. HasRun (run_of (dim_of self.now) r) seat.new.me
+            × IsIn (dim_of self.now) k r) }
+        ensures claimed { IfOk result (λ r.
+            WasClaimed (run_of (dim_of self.now) r) seat.new.me.0.trail) }
+        ensures blank { IfErr result (λ _. IsBlank seat.new.me) }
+        ensures refused { IfErr result (λ contended. contended ≡ 0
+            → WasRefused (dim_of self.now) k seat.new.me.0.trail) }
+        ensures full { IfErr result (λ contended. contended ≡ 0 → (s w : ℕ)
+            → k / 6 ≤ s → s ≤ dim_of self.now / 6 → w < 2 ^ (dim_of self.now - 6 * s - 6)
+            → IsFullWord (2 ^ min (dim_of self.now - 6 * s) 6) (max k (6 * s) % 6)
+            (left_by seat.new.me.0.trail (first_word (dim_of self.now / 6 - s) + w))) }
+        ensures disturbed { IfErr result (λ contended. contended ≢ 0
+            → WasDisturbed seat.new.me.0.trail) }
+        ensures kept { IfErr result (λ _.
+            StepsOn 0 (first_word (dim_of self.now / 6 + 1 - k / 6)) seat.old.me seat.new.me) }
+        ensures right { KeepsRight (dim_of self.now) seat.old.me seat.new.me }
+        ensures grows { Grows (4 + 36 * 2 ^ (dim_of self.now - 6)) seat.old.me seat.new.me }
+    {
+        let mut contended = 0;
+        for level in k / 6..self.size.dim / 6 + 1 {
+            match self.take_words(seat, k.max(6 * level)) {
+                Ok(unit) => {
+                    if level == k / 6 {
+                        return Ok(unit);
+                    }
+                    return Ok(self.descend_first(seat, unit, k));
+                }
+                Err(more) => contended += more,
+            }
+        }
+        Err(contended)
+    }
+}

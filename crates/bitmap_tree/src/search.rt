@@ -1,0 +1,360 @@
+//! The search of one word, of the words of a level by their marks, and of the levels above.
+ghost use Rattle.std.specs.Prelude.{◌≡◌, ℕ, ◌+◌, ◌*◌, ◌/◌, ◌%◌, ◌^◌, ◌<◌, ◌≤◌, [], ◌∷◌, min, bit_and, ◌-◌, ◌≢◌, true, false, IfSome, IfNone, IfOk, IfErr};
+ghost use Rattle.cube_shape.specs.declared.region.Region.{Region as Block};
+ghost use Rattle.cube_shape.specs.Region.{IsAligned};
+ghost use Rattle.bitmap_tree.specs.Rule.{run, first_word, word_count};
+ghost use Rattle.bitmap_tree.specs.Layout.{HasRun, run_of};
+ghost use Rattle.bitmap_tree.specs.InnerLayout.{IsBlank, IsIn, Grows};
+ghost use Rattle.bitmap_tree.specs.InnerSteps.{note};
+ghost use Rattle.bitmap_tree.specs.InnerTrail.{KeepsRight, IsFull, IsFullWord, StepsOn, left_by};
+ghost use Rattle.bitmap_tree.specs.Trail.{WasClaimed, WasDisturbed};
+ghost use Rattle.bitmap_tree.specs.Handles.{id_of, dim_of, MayClaim};
+
+use crate::handles::{BitmapTree, Seat};
+use crate::layout::{block_at, first_word, words_in};
+use crate::mask::{WORD_DIM, fit_in, mask_of};
+use crate::view::Run;
+use cube_shape::Region;
+
+/// How many exchanges a call tries in one word before it gives the word up.
+pub(crate) const TRIES: u32 = 8;
+
+impl BitmapTree {
+    // The number of bits of a word of a level that count.
+    fn word_size(&self, level: u32) -> u32
+        requires { level ≤ dim_of self.now / 6 }
+        ensures value { result ≡ 2 ^ min (dim_of self.now - 6 * level) 6 }
+        ensures limit { result ≤ 64 }
+    {
+        1 << (self.size.dim - 6 * level).min(WORD_DIM)
+    }
+
+    // The bits of the words of a level that do not count.
+    fn pad_of(&self, level: u32) -> u64 {
+        if level == self.size.dim / 6 {
+            u64::MAX << (1u32 << (self.size.dim % 6))
+        } else {
+            0
+        }
+    }
+
+    // Clears the marks of a word for the dimensions for which it has room.
+    pub(crate) fn unmark(&self, level: u32, number: u32, word: u64)
+        requires { level ≤ dim_of self.now / 6 }
+    {
+        self.marks[level as usize].unmark(
+            number / 64,
+            1 << (number % 64),
+            word | self.pad_of(level),
+        );
+    }
+
+    // Marks a word in which a search found no room, unless it has room again.
+    fn mark(&self, level: u32, number: u32, k: u32)
+        requires level { level ≤ dim_of self.now / 6 }
+        requires number { number < 2 ^ (dim_of self.now - 6 * level - 6) }
+        requires dim { k ≤ WORD_DIM }
+    {
+        self.marks[level as usize].mark(k, number);
+        let word = self.peek(first_word(self.size.dim / 6 - level) + number);
+        self.unmark(level, number, word);
+    }
+
+    // The next word of a level at which a take looks.
+    fn next_number(&self, level: u32, k: u32, from: u32, tight: bool) -> u32
+        requires level { level ≤ dim_of self.now / 6 }
+        requires dim { k < WORD_DIM }
+    {
+        if tight {
+            self.marks[level as usize].next_tight(k, from)
+        } else {
+            self.marks[level as usize].next(k, from)
+        }
+    }
+
+    // One exchange for the bits of a block of dimension `k` at an offset, where the word that was
+    // found is clear. Returns what the exchange found.
+    pub(crate) fn claim_in(
+        &self,
+        seat: &mut Seat,
+        word: u32,
+        found: u64,
+        offset: u32,
+        k: u32,
+    ) -> u64
+        requires table { seat.old.table_id ≡ id_of self.now }
+        requires may { MayClaim self.now seat.old.me }
+        requires word { word < word_count (dim_of self.now) }
+        requires blank { IsBlank seat.old.me }
+        requires dim { k ≤ WORD_DIM }
+        requires within { offset + 2 ^ k ≤ 64 }
+        requires clear { bit_and found (2 ^ (offset + 2 ^ k) - 2 ^ offset) ≡ 0 }
+        ensures table { seat.new.table_id ≡ id_of self.now }
+        ensures permits { seat.new.me.0.permits ≡ seat.old.me.0.permits }
+        ensures won { result ≡ found → HasRun (run (64 * word + offset) (2 ^ k)) seat.new.me }
+        ensures claimed { result ≡ found
+            → WasClaimed (run (64 * word + offset) (2 ^ k)) seat.new.me.0.trail }
+        ensures lost { result ≢ found → IsBlank seat.new.me }
+        ensures noted { result ≢ found
+            → seat.new.me.0.trail ≡ note word result result ∷ seat.old.me.0.trail }
+        ensures steps { StepsOn word (word + 1) seat.old.me seat.new.me }
+        ensures right { (r : Block) → IsAligned (dim_of self.now) r
+            → run_of (dim_of self.now) r ≡ run (64 * word + offset) (2 ^ k)
+            → KeepsRight (dim_of self.now) seat.old.me seat.new.me }
+        ensures grows { Grows 1 seat.old.me seat.new.me }
+    {
+        let said = Run {
+            base: 64 * word as u64 + offset as u64,
+            len: 1 << k,
+        };
+        self.claim(seat, word, found, found | mask_of(offset, k), &said)
+    }
+
+    // Takes a block of dimension `k` in a word of its level.
+    // Where it takes none, the number is 1 if it gave up after `tries` lost exchanges, and else 0.
+    pub(crate) fn take_in(
+        &self,
+        seat: &mut Seat,
+        number: u32,
+        k: u32,
+        tries: u32,
+    ) -> Result<Region, u32>
+        requires table { seat.old.table_id ≡ id_of self.now }
+        requires may { MayClaim self.now seat.old.me }
+        requires fits { k ≤ dim_of self.now }
+        requires number { number < 2 ^ (dim_of self.now - 6 * (k / 6) - 6) }
+        requires blank { IsBlank seat.old.me }
+        requires some { 0 < tries }
+        requires tries { tries ≤ TRIES }
+        ensures table { seat.new.table_id ≡ id_of self.now }
+        ensures permits { seat.new.me.0.permits ≡ seat.old.me.0.permits }
+        ensures taken { IfOk result (λ r. HasRun (run_of (dim_of self.now) r) seat.new.me
+            × IsIn (dim_of self.now) k r) }
+        ensures claimed { IfOk result (λ r.
+            WasClaimed (run_of (dim_of self.now) r) seat.new.me.0.trail) }
+        ensures blank { IfErr result (λ _. IsBlank seat.new.me) }
+        ensures refused { IfErr result (λ contended. contended ≡ 0
+            → IsFull (2 ^ min (dim_of self.now - 6 * (k / 6)) 6) (k % 6)
+            (first_word (dim_of self.now / 6 - k / 6) + number) seat.new.me.0.trail) }
+        ensures full { IfErr result (λ contended. contended ≡ 0
+            → IsFullWord (2 ^ min (dim_of self.now - 6 * (k / 6)) 6) (k % 6)
+            (left_by seat.new.me.0.trail (first_word (dim_of self.now / 6 - k / 6) + number))) }
+        ensures disturbed { IfErr result (λ contended. contended ≢ 0
+            → WasDisturbed seat.new.me.0.trail) }
+        ensures few { IfErr result (λ contended. contended ≤ 1) }
+        ensures steps { StepsOn (first_word (dim_of self.now / 6 - k / 6) + number)
+            (first_word (dim_of self.now / 6 - k / 6) + number + 1) seat.old.me seat.new.me }
+        ensures right { KeepsRight (dim_of self.now) seat.old.me seat.new.me }
+        ensures grows { Grows (1 + TRIES) seat.old.me seat.new.me }
+    {
+        let level = k / 6;
+        let word = first_word(self.size.dim / 6 - level) + number;
+        let mut found = self.load_word(seat, word);
+        for _ in 0..tries {
+            let Some(offset) = fit_in(found, self.word_size(level), k % 6) else {
+                return Err(0);
+            };
+            let now = self.claim_in(seat, word, found, offset, k % 6);
+            if now == found {
+                return Ok(Region {
+                    base: (64 * number as u64 + offset as u64) << (6 * level),
+                    dim: k,
+                });
+            }
+            found = now;
+        }
+        Err(1)
+    }
+
+    // Takes a block of dimension `k` in the words of its level that have no mark, from one on. A
+    // tight pass looks only at words where it splits no larger block. Where it takes none, it says
+    // whether an exchange was lost.
+    fn take_marked(
+        &self,
+        seat: &mut Seat,
+        k: u32,
+        from: u32,
+        tight: bool,
+        tries: u32,
+    ) -> Result<Region, bool>
+        requires table { seat.old.table_id ≡ id_of self.now }
+        requires may { MayClaim self.now seat.old.me }
+        requires fits { k ≤ dim_of self.now }
+        requires blank { IsBlank seat.old.me }
+        requires some { 0 < tries }
+        requires tries { tries ≤ TRIES }
+        ensures table { seat.new.table_id ≡ id_of self.now }
+        ensures permits { seat.new.me.0.permits ≡ seat.old.me.0.permits }
+        ensures taken { IfOk result (λ r. HasRun (run_of (dim_of self.now) r) seat.new.me
+            × IsIn (dim_of self.now) k r) }
+        ensures claimed { IfOk result (λ r.
+            WasClaimed (run_of (dim_of self.now) r) seat.new.me.0.trail) }
+        ensures blank { IfErr result (λ _. IsBlank seat.new.me) }
+        ensures right { KeepsRight (dim_of self.now) seat.old.me seat.new.me }
+        ensures grows { Grows (9 * 2 ^ (dim_of self.now - 6 * (k / 6) - 6)) seat.old.me
+            seat.new.me }
+    {
+        let level = k / 6;
+        let count = words_in(self.size.dim - 6 * level);
+        let mut next = from;
+        let mut lost = false;
+        for _ in 0..count {
+            let number = self.next_number(level, k % 6, next, tight);
+            if number >= count {
+                return Err(lost);
+            }
+            match self.take_in(seat, number, k, tries) {
+                Ok(region) => return Ok(region),
+                Err(0) => self.mark(level, number, k % 6),
+                Err(_) => lost = true,
+            }
+            next = number + 1;
+        }
+        Err(lost)
+    }
+
+    // Takes a block of dimension `k` in the open words of its level. It looks first where it splits
+    // no larger block. Then it goes from the word of a processor on, and at last from the first
+    // word. With fewer than `TRIES` tries it ends at a lost exchange. Where it takes none, it says
+    // whether an exchange was lost.
+    fn take_here(&self, seat: &mut Seat, k: u32, processor: u64, tries: u32) -> Result<Region, bool>
+        requires table { seat.old.table_id ≡ id_of self.now }
+        requires may { MayClaim self.now seat.old.me }
+        requires fits { k ≤ dim_of self.now }
+        requires processor { processor < 2 ^ dim_of self.now }
+        requires blank { IsBlank seat.old.me }
+        requires some { 0 < tries }
+        requires tries { tries ≤ TRIES }
+        ensures table { seat.new.table_id ≡ id_of self.now }
+        ensures permits { seat.new.me.0.permits ≡ seat.old.me.0.permits }
+        ensures taken { IfOk result (λ r. HasRun (run_of (dim_of self.now) r) seat.new.me
+            × IsIn (dim_of self.now) k r) }
+        ensures claimed { IfOk result (λ r.
+            WasClaimed (run_of (dim_of self.now) r) seat.new.me.0.trail) }
+        ensures blank { IfErr result (λ _. IsBlank seat.new.me) }
+        ensures right { KeepsRight (dim_of self.now) seat.old.me seat.new.me }
+        ensures grows { Grows (27 * 2 ^ (dim_of self.now - 6)) seat.old.me seat.new.me }
+    {
+        if self.marks[(k / 6) as usize].is_full(k % 6) {
+            return Err(false);
+        }
+        let from = (processor >> (6 * (k / 6) + 6)) as u32;
+        let mut lost = false;
+        for pass in 0..3u32 {
+            let begin = if pass == 2 { 0 } else { from };
+            match self.take_marked(seat, k, begin, pass == 0, tries) {
+                Ok(region) => return Ok(region),
+                Err(more) => lost = lost || more,
+            }
+            if lost && tries < TRIES {
+                return Err(true);
+            }
+        }
+        Err(lost)
+    }
+
+    // Takes a unit of a level above, the lowest first, and in it the first block of dimension `k`.
+    fn take_above(&self, seat: &mut Seat, k: u32, processor: u64) -> Option<Region>
+        requires table { seat.old.table_id ≡ id_of self.now }
+        requires may { MayClaim self.now seat.old.me }
+        requires fits { k ≤ dim_of self.now }
+        requires processor { processor < 2 ^ dim_of self.now }
+        requires blank { IsBlank seat.old.me }
+        ensures table { seat.new.table_id ≡ id_of self.now }
+        ensures permits { seat.new.me.0.permits ≡ seat.old.me.0.permits }
+        ensures taken { IfSome result (λ r. HasRun (run_of (dim_of self.now) r) seat.new.me
+            × IsIn (dim_of self.now) k r) }
+        ensures claimed { IfSome result (λ r.
+            WasClaimed (run_of (dim_of self.now) r) seat.new.me.0.trail) }
+        ensures blank { IfNone result (IsBlank seat.new.me) }
+        ensures right { KeepsRight (dim_of self.now) seat.old.me seat.new.me }
+        ensures grows { Grows (4 + 108 * 2 ^ (dim_of self.now - 6)) seat.old.me seat.new.me }
+    {
+        for level in k / 6 + 1..self.size.dim / 6 + 1 {
+            if let Ok(unit) = self.take_here(seat, 6 * level, processor, TRIES) {
+                return Some(self.descend_first(seat, unit, k));
+            }
+        }
+        None
+    }
+
+    // Takes the unit around a processor one level up, where it is free, and in it the first block
+    // of dimension `k`.
+    fn take_own(&self, seat: &mut Seat, k: u32, processor: u64) -> Option<Region>
+        requires table { seat.old.table_id ≡ id_of self.now }
+        requires may { MayClaim self.now seat.old.me }
+        requires fits { k ≤ dim_of self.now }
+        requires processor { processor < 2 ^ dim_of self.now }
+        requires blank { IsBlank seat.old.me }
+        ensures table { seat.new.table_id ≡ id_of self.now }
+        ensures permits { seat.new.me.0.permits ≡ seat.old.me.0.permits }
+        ensures taken { IfSome result (λ r. HasRun (run_of (dim_of self.now) r) seat.new.me
+            × IsIn (dim_of self.now) k r) }
+        ensures claimed { IfSome result (λ r.
+            WasClaimed (run_of (dim_of self.now) r) seat.new.me.0.trail) }
+        ensures blank { IfNone result (IsBlank seat.new.me) }
+        ensures right { KeepsRight (dim_of self.now) seat.old.me seat.new.me }
+        ensures grows { Grows (4 + 9) seat.old.me seat.new.me }
+    {
+        if k / 6 >= self.size.dim / 6 {
+            return None;
+        }
+        let unit = block_at(processor, 6 * (k / 6) + 6);
+        match self.take_block(seat, unit, 1) {
+            Ok(()) => Some(self.descend_first(seat, unit, k)),
+            Err(_) => None,
+        }
+    }
+
+    // Takes a block of dimension `k` after a lost exchange: in a unit of its own. If that is not
+    // free, it goes over the words of its level again, and at last to the levels above.
+    fn take_elsewhere(&self, seat: &mut Seat, k: u32, processor: u64) -> Option<Region>
+        requires table { seat.old.table_id ≡ id_of self.now }
+        requires may { MayClaim self.now seat.old.me }
+        requires fits { k ≤ dim_of self.now }
+        requires processor { processor < 2 ^ dim_of self.now }
+        requires blank { IsBlank seat.old.me }
+        ensures table { seat.new.table_id ≡ id_of self.now }
+        ensures permits { seat.new.me.0.permits ≡ seat.old.me.0.permits }
+        ensures taken { IfSome result (λ r. HasRun (run_of (dim_of self.now) r) seat.new.me
+            × IsIn (dim_of self.now) k r) }
+        ensures claimed { IfSome result (λ r.
+            WasClaimed (run_of (dim_of self.now) r) seat.new.me.0.trail) }
+        ensures blank { IfNone result (IsBlank seat.new.me) }
+        ensures right { KeepsRight (dim_of self.now) seat.old.me seat.new.me }
+        ensures grows { Grows (18 + 135 * 2 ^ (dim_of self.now - 6)) seat.old.me seat.new.me }
+    {
+        if let Some(region) = self.take_own(seat, k, processor) {
+            return Some(region);
+        }
+        if let Ok(region) = self.take_here(seat, k, processor, TRIES) {
+            return Some(region);
+        }
+        self.take_above(seat, k, processor)
+    }
+
+    // Takes a block of dimension `k` by a seat with an empty run: in its level, and else in a unit
+    // of a level above.
+    pub(crate) fn take_region(&self, seat: &mut Seat, k: u32, processor: u64) -> Option<Region>
+        requires table { seat.old.table_id ≡ id_of self.now }
+        requires may { MayClaim self.now seat.old.me }
+        requires fits { k ≤ dim_of self.now }
+        requires processor { processor < 2 ^ dim_of self.now }
+        requires blank { IsBlank seat.old.me }
+        ensures table { seat.new.table_id ≡ id_of self.now }
+        ensures permits { seat.new.me.0.permits ≡ seat.old.me.0.permits }
+        ensures taken { IfSome result (λ r. HasRun (run_of (dim_of self.now) r) seat.new.me
+            × IsIn (dim_of self.now) k r) }
+        ensures claimed { IfSome result (λ r.
+            WasClaimed (run_of (dim_of self.now) r) seat.new.me.0.trail) }
+        ensures blank { IfNone result (IsBlank seat.new.me) }
+        ensures right { KeepsRight (dim_of self.now) seat.old.me seat.new.me }
+        ensures grows { Grows (18 + 162 * 2 ^ (dim_of self.now - 6)) seat.old.me seat.new.me }
+    {
+        match self.take_here(seat, k, processor, 1) {
+            Ok(region) => Some(region),
+            Err(true) => self.take_elsewhere(seat, k, processor),
+            Err(false) => self.take_above(seat, k, processor),
+        }
+    }
+}

@@ -1,0 +1,262 @@
+//! Takes: by the marks, with evidence where they refuse, and of one block that is named.
+ghost use Rattle.std.specs.Prelude.{◌≡◌, ℕ, ◌+◌, ◌*◌, ◌/◌, ◌%◌, ◌^◌, ◌<◌, ◌≤◌, ◌-◌, ◌≢◌, IfSome, IfNone, IfOk, IfErr, length, slice_index, List};
+ghost use Rattle.cube_shape.specs.Region.{IsAligned};
+ghost use Rattle.bitmap_tree.specs.Alone.{HasNoBlock, IsInUse};
+ghost use Rattle.bitmap_tree.specs.Bounds.{block_steps, quick_steps, take_steps};
+ghost use Rattle.bitmap_tree.specs.Rule.{first_word};
+ghost use Rattle.bitmap_tree.specs.Layout.{HasRun, run_of};
+ghost use Rattle.bitmap_tree.specs.InnerLayout.{IsBlank, IsIn, Grows};
+ghost use Rattle.bitmap_tree.specs.InnerTrail.{KeepsRight};
+ghost use Rattle.bitmap_tree.specs.Trail.{AreRightSteps, IsAlone, WasBlockTaken, WasClaimed, WasDisturbed, WasRefused};
+ghost use Rattle.bitmap_tree.specs.Handles.{id_of, dim_of, held_region, held_trail, refused_trail, permits_of, IsHeldOf, MayClaim};
+
+use crate::handles::{BitmapTree, HeldBlock, Refused, Seat};
+use cube_shape::Region;
+
+impl BitmapTree {
+    // Takes a block by the marks, by a seat with an empty run.
+    fn take_quickly(&self, seat: &mut Seat, k: u32, processor: u64) -> Option<Region>
+        requires table { seat.old.table_id ≡ id_of self.now }
+        requires may { MayClaim self.now seat.old.me }
+        requires fits { k ≤ dim_of self.now }
+        requires processor { processor < 2 ^ dim_of self.now }
+        requires blank { IsBlank seat.old.me }
+        ensures table { seat.new.table_id ≡ id_of self.now }
+        ensures permits { seat.new.me.0.permits ≡ seat.old.me.0.permits }
+        ensures taken { IfSome result (λ r. HasRun (run_of (dim_of self.now) r) seat.new.me
+            × IsIn (dim_of self.now) k r) }
+        ensures claimed { IfSome result (λ r.
+            WasClaimed (run_of (dim_of self.now) r) seat.new.me.0.trail) }
+        ensures blank { IfNone result (IsBlank seat.new.me) }
+        ensures right { KeepsRight (dim_of self.now) seat.old.me seat.new.me }
+        ensures grows { Grows (63 + 324 * 2 ^ (dim_of self.now - 6)) seat.old.me seat.new.me }
+    {
+        if let Some(region) = self.take_region(seat, k, processor) {
+            return Some(region);
+        }
+        if !self.shut_spares(seat, k / 6) {
+            return None;
+        }
+        self.take_region(seat, k, processor)
+    }
+
+    /// Takes an aligned block of dimension `k`, by a search that begins near a processor.
+    ///
+    /// It passes words with a mark by, so where it takes none, nothing is said.
+    pub fn take_quick(&self, k: u32, processor: u64) -> Option<HeldBlock>
+        requires anyone { permits_of self.now ≡ 0 }
+        requires fits { k ≤ dim_of self.now }
+        requires processor { processor < 2 ^ dim_of self.now }
+        ensures of_machine { IfSome result (IsHeldOf self.now) }
+        ensures aligned { IfSome result (λ held. IsAligned (dim_of self.now) (held_region held)) }
+        ensures dimension { IfSome result (λ held. (held_region held).dim ≡ k) }
+        ensures claimed { IfSome result (λ held.
+            WasClaimed (run_of (dim_of self.now) (held_region held)) (held_trail held)) }
+        ensures steps { IfSome result (λ held.
+            AreRightSteps (dim_of self.now) (held_trail held)) }
+        ensures few { IfSome result (λ held.
+            length (held_trail held) ≤ quick_steps (dim_of self.now)) }
+    {
+        let mut seat = self.enter();
+        match self.take_quickly(&mut seat, k, processor) {
+            Some(region) => Some(HeldBlock {
+                region,
+                dim: self.size.dim,
+                seat,
+            }),
+            None => None,
+        }
+    }
+
+    // Takes a block after the marks gave none. It shuts the empty words below the level of the
+    // dimension. Then it looks at each word of this level and of those above.
+    fn take_exactly(&self, seat: &mut Seat, k: u32) -> Result<Region, u32>
+        requires table { seat.old.table_id ≡ id_of self.now }
+        requires may { MayClaim self.now seat.old.me }
+        requires fits { k ≤ dim_of self.now }
+        requires blank { IsBlank seat.old.me }
+        ensures table { seat.new.table_id ≡ id_of self.now }
+        ensures permits { seat.new.me.0.permits ≡ seat.old.me.0.permits }
+        ensures taken { IfOk result (λ r. HasRun (run_of (dim_of self.now) r) seat.new.me
+            × IsIn (dim_of self.now) k r) }
+        ensures claimed { IfOk result (λ r.
+            WasClaimed (run_of (dim_of self.now) r) seat.new.me.0.trail) }
+        ensures blank { IfErr result (λ _. IsBlank seat.new.me) }
+        ensures refused { IfErr result (λ contended. contended ≡ 0
+            → WasRefused (dim_of self.now) k seat.new.me.0.trail) }
+        ensures disturbed { IfErr result (λ contended. contended ≢ 0
+            → WasDisturbed seat.new.me.0.trail) }
+        ensures alone { IfErr result (λ _. (words : List ℕ)
+            → IsAlone (slice_index words) seat.new.me.0.trail
+            → HasNoBlock (dim_of self.now) k words) }
+        ensures right { KeepsRight (dim_of self.now) seat.old.me seat.new.me }
+        ensures grows { Grows (4 + 66 * 2 ^ (dim_of self.now - 6)) seat.old.me seat.new.me }
+    {
+        let whole = Region {
+            base: 0,
+            dim: self.size.dim,
+        };
+        self.sweep(seat, whole, k / 6);
+        match self.take_scanned(seat, k) {
+            Ok(region) => Ok(region),
+            Err(contended) => Err(contended),
+        }
+    }
+
+    // Takes a block by a seat with an empty run, which it spends.
+    pub(crate) fn take_by(
+        &self,
+        mut seat: Seat,
+        k: u32,
+        processor: u64,
+    ) -> Result<HeldBlock, Refused>
+        requires table { seat.table_id ≡ id_of self.now }
+        requires blank { IsBlank seat.me }
+        requires may { MayClaim self.now seat.me }
+        requires fits { k ≤ dim_of self.now }
+        requires processor { processor < 2 ^ dim_of self.now }
+        ensures of_machine { IfOk result (IsHeldOf self.now) }
+        ensures aligned { IfOk result (λ held. IsAligned (dim_of self.now) (held_region held)) }
+        ensures dimension { IfOk result (λ held. (held_region held).dim ≡ k) }
+        ensures claimed { IfOk result (λ held.
+            WasClaimed (run_of (dim_of self.now) (held_region held)) (held_trail held)) }
+        ensures permits { IfOk result (λ held. held.seat.me.0.permits ≡ seat.me.0.permits) }
+        ensures refused { IfErr result (λ refused. refused.contended ≡ 0
+            → WasRefused (dim_of self.now) k (refused_trail refused)) }
+        ensures disturbed { IfErr result (λ refused. refused.contended ≢ 0
+            → WasDisturbed (refused_trail refused)) }
+        ensures alone { IfErr result (λ refused. (words : List ℕ)
+            → IsAlone (slice_index words) (refused_trail refused)
+            → HasNoBlock (dim_of self.now) k words) }
+        ensures blank { IfErr result (λ refused. IsBlank refused.seat.me) }
+        ensures table { IfErr result (λ refused. refused.seat.table_id ≡ id_of self.now) }
+        ensures back { IfErr result (λ refused. refused.seat.me.0.permits ≡ seat.me.0.permits) }
+        ensures right { IfOk result (λ held.
+            KeepsRight (dim_of self.now) seat.me held.seat.me) }
+        ensures right_refused { IfErr result (λ refused.
+            KeepsRight (dim_of self.now) seat.me refused.seat.me) }
+        ensures grows { IfOk result (λ held.
+            Grows (67 + 390 * 2 ^ (dim_of self.now - 6)) seat.me held.seat.me) }
+        ensures grows_refused { IfErr result (λ refused.
+            Grows (67 + 390 * 2 ^ (dim_of self.now - 6)) seat.me refused.seat.me) }
+    {
+        if let Some(region) = self.take_quickly(&mut seat, k, processor) {
+            return Ok(HeldBlock {
+                region,
+                dim: self.size.dim,
+                seat,
+            });
+        }
+        match self.take_exactly(&mut seat, k) {
+            Ok(region) => Ok(HeldBlock {
+                region,
+                dim: self.size.dim,
+                seat,
+            }),
+            Err(contended) => Err(Refused { contended, seat }),
+        }
+    }
+
+    /// Takes an aligned block of dimension `k` as `take_quick` does, and looks at each word before
+    /// it refuses.
+    ///
+    /// Where no word was given up after lost exchanges, a refusal has evidence. Of each block of
+    /// the dimension a step of this call found a bit set, and so of each unit of each level above.
+    /// And if no other call made a step, no block of the dimension is free.
+    pub fn take(&self, k: u32, processor: u64) -> Result<HeldBlock, Refused>
+        requires anyone { permits_of self.now ≡ 0 }
+        requires fits { k ≤ dim_of self.now }
+        requires processor { processor < 2 ^ dim_of self.now }
+        ensures of_machine { IfOk result (IsHeldOf self.now) }
+        ensures aligned { IfOk result (λ held. IsAligned (dim_of self.now) (held_region held)) }
+        ensures dimension { IfOk result (λ held. (held_region held).dim ≡ k) }
+        ensures claimed { IfOk result (λ held.
+            WasClaimed (run_of (dim_of self.now) (held_region held)) (held_trail held)) }
+        ensures refused { IfErr result (λ refused. refused.contended ≡ 0
+            → WasRefused (dim_of self.now) k (refused_trail refused)) }
+        ensures disturbed { IfErr result (λ refused. refused.contended ≢ 0
+            → WasDisturbed (refused_trail refused)) }
+        ensures alone { IfErr result (λ refused. (words : List ℕ)
+            → IsAlone (slice_index words) (refused_trail refused)
+            → HasNoBlock (dim_of self.now) k words) }
+        ensures steps { IfOk result (λ held.
+            AreRightSteps (dim_of self.now) (held_trail held)) }
+        ensures few { IfOk result (λ held.
+            length (held_trail held) ≤ take_steps (dim_of self.now)) }
+        ensures few_refused { IfErr result (λ refused.
+            length (refused_trail refused) ≤ take_steps (dim_of self.now)) }
+    {
+        self.take_by(self.enter(), k, processor)
+    }
+
+    // Takes one block by a seat with an empty run: a second time once the empty words under it are
+    // shut.
+    fn take_named(&self, seat: &mut Seat, block: Region) -> Result<(), u32>
+        requires table { seat.old.table_id ≡ id_of self.now }
+        requires may { MayClaim self.now seat.old.me }
+        requires block { IsIn (dim_of self.now) block.dim block }
+        requires blank { IsBlank seat.old.me }
+        ensures table { seat.new.table_id ≡ id_of self.now }
+        ensures permits { seat.new.me.0.permits ≡ seat.old.me.0.permits }
+        ensures taken { IfOk result (λ _. HasRun (run_of (dim_of self.now) block) seat.new.me) }
+        ensures claimed { IfOk result (λ _.
+            WasClaimed (run_of (dim_of self.now) block) seat.new.me.0.trail) }
+        ensures blank { IfErr result (λ _. IsBlank seat.new.me) }
+        ensures refused { IfErr result (λ contended. contended ≡ 0
+            → WasBlockTaken (dim_of self.now) block seat.new.me.0.trail) }
+        ensures disturbed { IfErr result (λ contended. contended ≢ 0
+            → WasDisturbed seat.new.me.0.trail) }
+        ensures alone { IfErr result (λ _. (words : List ℕ)
+            → IsAlone (slice_index words) seat.new.me.0.trail
+            → IsInUse (dim_of self.now) words block) }
+        ensures right { KeepsRight (dim_of self.now) seat.old.me seat.new.me }
+        ensures grows { Grows (80 + 30 * 2 ^ (dim_of self.now - 6)) seat.old.me seat.new.me }
+    {
+        if let Ok(()) = self.take_path(seat, block) {
+            return Ok(());
+        }
+        self.sweep(seat, block, block.dim / 6);
+        match self.take_path(seat, block) {
+            Ok(()) => Ok(()),
+            Err(contended) => Err(contended),
+        }
+    }
+
+    /// Takes one block, where it is free. It opens words above the block as it needs them, and
+    /// shuts empty words below.
+    ///
+    /// Where no word was given up after lost exchanges, a refusal has evidence. A step of this call
+    /// found a bit of the block set, and the bit of the unit around it in each level above. And if
+    /// no other call made a step, a part of the block is held.
+    pub fn take_at(&self, block: Region) -> Result<HeldBlock, Refused>
+        requires anyone { permits_of self.now ≡ 0 }
+        requires aligned { IsAligned (dim_of self.now) block }
+        ensures of_machine { IfOk result (IsHeldOf self.now) }
+        ensures region { IfOk result (λ held. held_region held ≡ block) }
+        ensures claimed { IfOk result (λ held.
+            WasClaimed (run_of (dim_of self.now) block) (held_trail held)) }
+        ensures refused { IfErr result (λ refused. refused.contended ≡ 0
+            → WasBlockTaken (dim_of self.now) block (refused_trail refused)) }
+        ensures disturbed { IfErr result (λ refused. refused.contended ≢ 0
+            → WasDisturbed (refused_trail refused)) }
+        ensures alone { IfErr result (λ refused. (words : List ℕ)
+            → IsAlone (slice_index words) (refused_trail refused)
+            → IsInUse (dim_of self.now) words block) }
+        ensures steps { IfOk result (λ held.
+            AreRightSteps (dim_of self.now) (held_trail held)) }
+        ensures few { IfOk result (λ held.
+            length (held_trail held) ≤ block_steps (dim_of self.now)) }
+        ensures few_refused { IfErr result (λ refused.
+            length (refused_trail refused) ≤ block_steps (dim_of self.now)) }
+    {
+        let mut seat = self.enter();
+        match self.take_named(&mut seat, block) {
+            Ok(()) => Ok(HeldBlock {
+                region: block,
+                dim: self.size.dim,
+                seat,
+            }),
+            Err(contended) => Err(Refused { contended, seat }),
+        }
+    }
+}

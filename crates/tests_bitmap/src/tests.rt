@@ -1,0 +1,5 @@
+mod alone;
+mod crowd;
+mod held;
+mod named;
+mod permits;

@@ -1,0 +1,73 @@
+//! A machine with permits.
+ghost use Rattle.std.specs.Prelude.{◌≡◌, ◌≤◌, length};
+ghost use Rattle.std.specs.List.{All};
+ghost use Rattle.bitmap_tree.specs.Handles.{dim_of, permits_of, IsPermitOf};
+
+use super::held::expect_fresh;
+use bitmap_tree::{BitmapTree, Permit, Region};
+use std::process::Abort;
+
+// Takes a block of dimension 3 by a permit, and releases it.
+fn take_and_release(rt: &impl Abort, tree: &BitmapTree, permit: Permit) -> Permit
+    requires permit { IsPermitOf tree.now permit }
+    requires dim { dim_of tree.now ≡ 9 }
+    ensures { IsPermitOf tree.now result }
+{
+    match tree.take_by_permit(permit, 3, 0) {
+        Ok(held) => {
+            assert!(rt; held.region() == Region { base: 0, dim: 3 });
+            tree.release_to_permit(held)
+        }
+        Err((permit, _)) => {
+            assert!(rt; false);
+            permit
+        }
+    }
+}
+
+// Takes a block by a permit, splits it by another, and joins the halves again. The first word is
+// open as a spare, so the block is that of the second.
+fn split_and_join(
+    rt: &impl Abort,
+    tree: &BitmapTree,
+    first: Permit,
+    second: Permit,
+) -> (Permit, Permit)
+    requires first { IsPermitOf tree.now first }
+    requires second { IsPermitOf tree.now second }
+    requires dim { dim_of tree.now ≡ 9 }
+    ensures { IsPermitOf tree.now result.0 × IsPermitOf tree.now result.1 }
+{
+    match tree.take_by_permit(first, 6, 0) {
+        Ok(held) => {
+            let (lower, upper) = tree.split_by_permit(held, second);
+            assert!(rt; upper.region() == Region { base: 96, dim: 5 });
+            let (whole, permit) = tree.join_to_permit(lower, upper);
+            assert!(rt; whole.region() == Region { base: 64, dim: 6 });
+            (tree.release_to_permit(whole), permit)
+        }
+        Err((permit, _)) => {
+            assert!(rt; false);
+            (permit, second)
+        }
+    }
+}
+
+#[test]
+fn all_permits_come_back(rt: HostRuntime) {
+    let Ok((tree, mut permits)) = BitmapTree::open_with_permits(rt.alloc(), 9, 2) else {
+        panic!(rt; "no memory")
+    };
+    let Some(permit) = permits.pop() else {
+        unreachable!()
+    };
+    let permit = take_and_release(&rt, &tree, permit);
+    let Some(other) = permits.pop() else {
+        unreachable!()
+    };
+    let (permit, other) = split_and_join(&rt, &tree, permit, other);
+    permits.push_reserved(permit);
+    permits.push_reserved(other);
+    let words = tree.close_with_permits(permits);
+    expect_fresh(&rt, &words);
+}
