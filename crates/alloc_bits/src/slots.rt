@@ -26,7 +26,8 @@ pub(crate) fn all_empty(slots: &[Option<Region>]) -> bool
 /// Returns the station whose block has the processor, the first one if there are several.
 pub(crate) fn holder_of(slots: &[Option<Region>], processor: u64) -> Option<u32>
     requires count { length slots.now < 2 ^ 32 }
-    requires limits { (s : ℕ) (a : HeldRegion) → slot_of slots.now s ≡ Some a → a.dim ≤ MAX_BITS_DIM }
+    requires limits { (s : ℕ) (a : HeldRegion) → slot_of slots.now s ≡ Some a
+        → a.dim ≤ MAX_BITS_DIM }
     ensures held { IfSome result (λ s. (a : HeldRegion) × (slot_of slots.now s ≡ Some a)
         × Covers a processor) }
     ensures free { IfNone result ((s : ℕ) (a : HeldRegion) → slot_of slots.now s ≡ Some a

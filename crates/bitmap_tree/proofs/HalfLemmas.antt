@@ -2,7 +2,7 @@
 use Rattle.std.proofs.Common.{inl, inr, ◌≡◌, ◌≢◌, ℕ, ◌+◌, ◌-◌, ◌*◌, ◌/◌, ◌%◌, ◌^◌, ◌<◌, ◌≤◌, [], ◌∷◌, refl, sym, ◌∙◌, ap, ap₂, subst, arith, mul_assoc, add-mul}
 use Rattle.std.proofs.lemmas.Bool.{cases_lt}
 use Rattle.std.proofs.lemmas.Nat.{one_shl, pow_pos, pow-add, div-add-mod'}
-use Rattle.bitmap_tree.specs.declared.limits.TheConstants.{MAX_BITMAP_DIM}
+use Rattle.cube_shape.specs.declared.limits.TheConstants.{MAX_BITMAP_DIM}
 use Rattle.std.proofs.Math.Nat.{mul-div_cancel}
 use Rattle.std.proofs.Math.Pow.{pow_mono}
 use Rattle.cube_shape.specs.declared.region.Region.{Region}

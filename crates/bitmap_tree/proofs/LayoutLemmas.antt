@@ -6,7 +6,7 @@ use Rattle.std.proofs.lemmas.Nat.{pow_pos, pow-add, div-add-mod', row_fits, mod_
 use Rattle.std.proofs.Math.Nat.{mod-eq_of_lt, mul-div_cancel, div-div-eq-div-mul}
 use Rattle.std.proofs.Math.Pow.{pow_mono}
 use Rattle.cube_shape.specs.declared.region.Region.{Region}
-use Rattle.bitmap_tree.specs.declared.limits.TheConstants.{MAX_BITMAP_DIM}
+use Rattle.cube_shape.specs.declared.limits.TheConstants.{MAX_BITMAP_DIM}
 use Rattle.cube_shape.specs.Region.{AreApart, Covers, IsAligned}
 use Rattle.ghost_history.specs.Lists.{rest_of}
 use Rattle.bitmap_tree.specs.declared.view.Run.{Run}

@@ -7,8 +7,8 @@ ghost use Rattle.bitmap_tree.specs.InnerRule.{times};
 ghost use Rattle.bitmap_tree.specs.Rule.{word_count};
 
 use crate::handles::{BitmapTree, Seat};
-use crate::limits::MAX_BITMAP_DIM;
 use crate::mask::mask_of;
+use cube_shape::MAX_BITMAP_DIM;
 
 // Shuts a word where it is 0, and clears the bit of its unit.
 fn shut_word(n: u32, words: &mut Vec<u64>, word: usize)

@@ -1,6 +1,6 @@
 //! A machine, and what its callers hold.
 ghost use Rattle.std.specs.Prelude.{◌≡◌, ◌+◌, ◌/◌, ◌%◌, ◌^◌, ◌≤◌, vec_len};
-ghost use Rattle.bitmap_tree.specs.declared.limits.TheConstants.{MAX_BITMAP_DIM};
+ghost use Rattle.cube_shape.specs.declared.limits.TheConstants.{MAX_BITMAP_DIM};
 ghost use Rattle.bitmap_tree.specs.Rule.{word_count};
 ghost use Rattle.bitmap_tree.specs.Layout.{HasNone, HasRun, run_of};
 

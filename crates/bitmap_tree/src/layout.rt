@@ -3,9 +3,8 @@ ghost use Rattle.std.specs.Prelude.{◌≡◌, ℕ, ◌+◌, ◌-◌, ◌*◌, �
 ghost use Rattle.cube_shape.specs.Region.{block};
 ghost use Rattle.bitmap_tree.specs.Rule.{first_word, word_count};
 
-use crate::limits::MAX_BITMAP_DIM;
 use crate::mask::WORD_DIM;
-use cube_shape::Region;
+use cube_shape::{MAX_BITMAP_DIM, Region};
 
 // The first word of the level that has this many levels above it.
 pub(crate) fn first_word(above: u32) -> u32

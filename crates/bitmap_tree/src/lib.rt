@@ -15,7 +15,6 @@ mod ends;
 mod halves;
 mod handles;
 mod layout;
-mod limits;
 mod marks;
 mod mask;
 mod opening;
@@ -31,6 +30,5 @@ mod sweep;
 mod takes;
 mod view;
 
-pub use cube_shape::Region;
+pub use cube_shape::{MAX_BITMAP_DIM, Region};
 pub use handles::{BitmapTree, HeldBlock, Permit, Refused, Released};
-pub use limits::MAX_BITMAP_DIM;

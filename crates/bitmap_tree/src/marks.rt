@@ -4,14 +4,14 @@
 //! marks of 64 words are one number. The numbers of the seven dimensions are side by side in a line
 //! of eight. A second level of numbers has a bit for each number that is all ones.
 ghost use Rattle.std.specs.Prelude.{◌≡◌, ◌≤◌, ◌<◌, ◌*◌, ◌+◌, ◌-◌, ◌/◌, ◌^◌};
-ghost use Rattle.bitmap_tree.specs.declared.limits.TheConstants.{MAX_BITMAP_DIM};
+ghost use Rattle.cube_shape.specs.declared.limits.TheConstants.{MAX_BITMAP_DIM};
 ghost use Rattle.bitmap_tree.specs.declared.mask.TheConstants.{WORD_DIM};
 ghost use Rattle.bitmap_tree.specs.InnerMarks.{holds_always, tells_nothing, first_mark};
 
-use crate::limits::MAX_BITMAP_DIM;
 use crate::mask::WORD_DIM;
 use crate::view::Run;
 use atomic_table::{Play, Table, TableRule};
+use cube_shape::MAX_BITMAP_DIM;
 use std::alloc::{AllocError, Global};
 
 // The number of groups of 64 words at which a tight pass looks.

@@ -6,11 +6,11 @@ ghost use Rattle.bitmap_tree.specs.Handles.{id_of, dim_of, permits_of};
 
 use crate::handles::{BitmapTree, Seat};
 use crate::layout::words_of;
-use crate::limits::MAX_BITMAP_DIM;
 use crate::marks::Marks;
 use crate::spares::Spares;
 use crate::view::Size;
 use atomic_table::Table;
+use cube_shape::MAX_BITMAP_DIM;
 use std::alloc::{AllocError, Global};
 
 // Makes the marks of all levels. Each word has its marks except the top one.

@@ -12,8 +12,8 @@ ghost use Rattle.bitmap_tree.specs.Trail.{AreRightSteps, IsAlone, WasClaimed, Wa
 ghost use Rattle.bitmap_tree.specs.Handles.{id_of, dim_of, permits_of, held_region, held_trail, permit_trail, IsHeldByPermit, IsPermitOf};
 
 use crate::handles::{BitmapTree, HeldBlock, Permit, Refused, Seat};
-use crate::limits::MAX_BITMAP_DIM;
 use crate::view::Size;
+use cube_shape::MAX_BITMAP_DIM;
 use std::alloc::{AllocError, Global};
 
 impl BitmapTree {

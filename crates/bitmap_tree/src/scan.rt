@@ -9,9 +9,8 @@ ghost use Rattle.bitmap_tree.specs.Handles.{id_of, dim_of, MayClaim};
 
 use crate::handles::{BitmapTree, Seat};
 use crate::layout::words_in;
-use crate::limits::MAX_BITMAP_DIM;
 use crate::search::TRIES;
-use cube_shape::Region;
+use cube_shape::{MAX_BITMAP_DIM, Region};
 
 impl BitmapTree {
     // Takes a block of dimension `k` in the words of its level, one after another.

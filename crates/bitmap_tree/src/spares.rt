@@ -1,11 +1,11 @@
 //! Spares: an empty word of each level that stays open. No proof rests on what they say.
 ghost use Rattle.std.specs.Prelude.{◌≡◌, ◌≤◌, ◌<◌, ◌*◌, ◌+◌, ◌/◌};
-ghost use Rattle.bitmap_tree.specs.declared.limits.TheConstants.{MAX_BITMAP_DIM};
+ghost use Rattle.cube_shape.specs.declared.limits.TheConstants.{MAX_BITMAP_DIM};
 
-use crate::limits::MAX_BITMAP_DIM;
 use crate::marks::{AnyMarks, MarkStep};
 use crate::view::Run;
 use atomic_table::Table;
+use cube_shape::MAX_BITMAP_DIM;
 use std::alloc::{AllocError, Global};
 
 // The word of each level that became empty last and stays open. Without it a take and its release

@@ -96,7 +96,8 @@ pub(crate) fn first_idle(slots: &[Slot]) -> Option<u32>
 /// Returns the station whose block has the processor, the first if there are several.
 pub(crate) fn holder_of(slots: &[Slot], processor: u64) -> Option<u32>
     requires count { length slots.now < 2 ^ 32 }
-    requires limits { (s : ℕ) (a : HeldRegion) → holdings slots.now s ≡ Some a → a.dim ≤ MAX_BITS_DIM }
+    requires limits { (s : ℕ) (a : HeldRegion) → holdings slots.now s ≡ Some a
+        → a.dim ≤ MAX_BITS_DIM }
     ensures held { IfSome result (λ s. (a : HeldRegion) × (holdings slots.now s ≡ Some a)
         × Covers a processor) }
     ensures free { IfNone result ((s : ℕ) (a : HeldRegion) → holdings slots.now s ≡ Some a

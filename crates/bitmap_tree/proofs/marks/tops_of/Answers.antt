@@ -1,7 +1,7 @@
 use Rattle.std.proofs.Common.{◌≡◌, ◌≤◌, ◌-◌, ◌*◌, ◌^◌, ◌%◌, arith}
 use Rattle.std.proofs.Math.Pow.{pow_mono}
 use Rattle.std.proofs.lemmas.Nat.{one_shl}
-use Rattle.bitmap_tree.specs.declared.limits.TheConstants.{MAX_BITMAP_DIM}
+use Rattle.cube_shape.specs.declared.limits.TheConstants.{MAX_BITMAP_DIM}
 use Rattle.bitmap_tree.specs.declared.mask.TheConstants.{WORD_DIM}
 use Rattle.bitmap_tree.proofs.marks.tops_of.Goals as goal
 

@@ -1,5 +1,5 @@
 use Rattle.std.proofs.Common.{◌≡◌, ◌≢◌, ◌+◌, ◌*◌, ◌<◌, ◌≤◌, ◌^◌, ◌/◌, ◌%◌, min, max, ℕ, ◌-◌}
-use Rattle.bitmap_tree.specs.declared.limits.TheConstants.{MAX_BITMAP_DIM}
+use Rattle.cube_shape.specs.declared.limits.TheConstants.{MAX_BITMAP_DIM}
 use Rattle.bitmap_tree.specs.Rule.{first_word}
 use Rattle.bitmap_tree.specs.InnerLayout.{IsBlank, Grows}
 use Rattle.bitmap_tree.specs.InnerTrail.{KeepsRight, IsFullWord, StepsOn, left_by}
