@@ -244,25 +244,24 @@ sweep_grows n k level count a b c fits is first then =
     let sum : (level + 1) * 2 ^ (n - 6) ≡ level * 2 ^ (n - 6) + 1 * 2 ^ (n - 6) = add-mul level 1 (2 ^ (n - 6)) in
     omega (arith, most, sum, is, first, then)
 
--- one pass more over a level
-pub pass_grows : (n x pass : ℕ) (a b c : Known)
-    → Grows (9 * (pass * 2 ^ (n - 6))) a b
-    → Grows (9 * 2 ^ (n - x - 6)) b c
-    → Grows (9 * ((pass + 1) * 2 ^ (n - 6))) a c
-pass_grows n x pass a b c first then =
+-- one search of the words of a level
+pub one_pass : (n x : ℕ) (a b : Known)
+    → Grows (9 * 2 ^ (n - x - 6)) a b
+    → Grows (18 * 2 ^ (n - 6)) a b
+one_pass n x a b grows =
     let less : n - x - 6 ≤ n - 6 = omega arith in
     let most : 2 ^ (n - x - 6) ≤ 2 ^ (n - 6) = pow_mono less in
-    let sum : (pass + 1) * 2 ^ (n - 6) ≡ pass * 2 ^ (n - 6) + 1 * 2 ^ (n - 6) = add-mul pass 1 (2 ^ (n - 6)) in
-    omega (arith, most, sum, first, then)
-
--- at most three passes
-pub three_passes : (n pass : ℕ) (a b : Known)
-    → pass ≤ 3
-    → Grows (9 * (pass * 2 ^ (n - 6))) a b
-    → Grows (27 * 2 ^ (n - 6)) a b
-three_passes n pass a b few grows =
-    let most = mul_le pass 3 (2 ^ (n - 6)) few in
     omega (arith, most, grows)
+
+-- two searches of the words of a level
+pub two_passes : (n x : ℕ) (a b c : Known)
+    → Grows (9 * 2 ^ (n - x - 6)) a b
+    → Grows (9 * 2 ^ (n - x - 6)) b c
+    → Grows (18 * 2 ^ (n - 6)) a c
+two_passes n x a b c first then =
+    let less : n - x - 6 ≤ n - 6 = omega arith in
+    let most : 2 ^ (n - x - 6) ≤ 2 ^ (n - 6) = pow_mono less in
+    omega (arith, most, first, then)
 
 -- a scan of the levels from one up leaves the words below as they are
 pub used_kept : (n low s w : ℕ) (old new : Known)

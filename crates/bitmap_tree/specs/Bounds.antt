@@ -1,14 +1,15 @@
 -- The steps of a call on the words at most. Those on marks and spares do not count.
+use Rattle.bitmap_tree.specs.declared.spares.TheConstants.{SPARES}
 use Rattle.std.specs.Prelude.{ℕ, ◌+◌, ◌*◌, ◌-◌, ◌^◌}
 
 -- the words of the lowest level, and so at most those of any
 abbrev pub level_words : ℕ → ℕ
 level_words n = 2 ^ (n - 6)
 
--- a take by the marks: two searches of at most 18 passes, of nine steps a word, and the spares that
--- it shuts
+-- A take by the marks. Each of its two searches looks at a level at most six times, twice at each
+-- word, by nine steps a word. Each spare of three levels that it shuts takes nine steps.
 abbrev pub quick_steps : ℕ → ℕ
-quick_steps n = 64 + 2 * (18 * (9 * level_words n))
+quick_steps n = 37 + 3 * (9 * SPARES) + 2 * (6 * (2 * (9 * level_words n)))
 
 -- A take: the same, and ten steps for each word of three levels that it shuts. Then it looks at
 -- each word of four levels, by at most nine steps.

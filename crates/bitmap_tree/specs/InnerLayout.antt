@@ -4,7 +4,8 @@ use Rattle.cube_shape.specs.declared.region.Region.{Region}
 use Rattle.bitmap_tree.specs.declared.view.Run.{Run}
 use Rattle.bitmap_tree.specs.Rule.{run}
 use Rattle.bitmap_tree.specs.Layout.{Known}
-use Rattle.bitmap_tree.specs.Layout.{place_in, HasRun}
+use Rattle.bitmap_tree.specs.Layout.{place_in, run_of, HasRun}
+use Rattle.bitmap_tree.specs.Trail.{WasClaimed}
 
 -- the seat has an empty run
 abbrev pub IsBlank : Known → Type 0
@@ -20,6 +21,13 @@ pub record IsIn (n k : ℕ) (r : Region) : Type 0 where
   pub begins : r.base % 2 ^ r.dim ≡ 0
   pub within : r.base + 2 ^ r.dim ≤ 2 ^ n
   pub fits : r.dim ≤ n
+
+-- The seat has just the run of the block, which is aligned and of dimension k. Its newest step
+-- claimed it.
+pub record HasTaken (n k : ℕ) (m : Known) (r : Region) : Type 0 where
+  pub run : HasRun (run_of n r) m
+  pub block : IsIn n k r
+  pub claimed : WasClaimed (run_of n r) m.0.trail
 
 -- the trail of a seat has grown by at most this number of steps
 abbrev pub Grows : ℕ → Known → Known → Type 0

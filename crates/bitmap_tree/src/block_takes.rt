@@ -2,7 +2,7 @@
 ghost use Rattle.std.specs.Prelude.{◌≡◌, ℕ, ◌+◌, ◌*◌, ◌/◌, ◌%◌, ◌^◌, ◌<◌, ◌≤◌, [], ◌∷◌, min, bit_and, ◌-◌, ◌≢◌, true, false, max, IfSome, IfNone, IfOk, IfErr, length};
 ghost use Rattle.bitmap_tree.specs.Rule.{first_word, word_count};
 ghost use Rattle.bitmap_tree.specs.Layout.{HasRun, run_of, unit_around};
-ghost use Rattle.bitmap_tree.specs.InnerLayout.{IsBlank, IsIn, Grows};
+ghost use Rattle.bitmap_tree.specs.InnerLayout.{HasTaken, IsBlank, IsIn, Grows};
 ghost use Rattle.bitmap_tree.specs.InnerTrail.{KeepsRight, IsSetIn, StepsOn, left_by};
 ghost use Rattle.bitmap_tree.specs.Trail.{WasClaimed, WasDisturbed, WasTaken};
 ghost use Rattle.bitmap_tree.specs.Handles.{id_of, dim_of, MayClaim};
@@ -26,9 +26,8 @@ impl BitmapTree {
         requires tries { tries ≤ TRIES }
         ensures table { seat.new.table_id ≡ id_of self.now }
         ensures permits { seat.new.me.0.permits ≡ seat.old.me.0.permits }
-        ensures taken { IfOk result (λ _. HasRun (run_of (dim_of self.now) block) seat.new.me) }
-        ensures claimed { IfOk result (λ _.
-            WasClaimed (run_of (dim_of self.now) block) seat.new.me.0.trail) }
+        ensures taken { IfOk result (λ _.
+            HasTaken (dim_of self.now) block.dim seat.new.me block) }
         ensures blank { IfErr result (λ _. IsBlank seat.new.me) }
         ensures refused { IfErr result (λ contended. contended ≡ 0
             → WasTaken (dim_of self.now) seat.new.me.0.trail block) }
@@ -103,8 +102,7 @@ impl BitmapTree {
         requires inside { block.base / 2 ^ unit.dim ≡ unit.base / 2 ^ unit.dim }
         ensures table { seat.new.table_id ≡ id_of self.now }
         ensures permits { seat.new.me.0.permits ≡ seat.old.me.0.permits }
-        ensures taken { HasRun (run_of (dim_of self.now) block) seat.new.me }
-        ensures claimed { WasClaimed (run_of (dim_of self.now) block) seat.new.me.0.trail }
+        ensures taken { HasTaken (dim_of self.now) block.dim seat.new.me block }
         ensures right { KeepsRight (dim_of self.now) seat.old.me seat.new.me }
         ensures grows { Grows (unit.dim / 6 - block.dim / 6) seat.old.me seat.new.me }
     {
@@ -128,9 +126,7 @@ impl BitmapTree {
             × IsIn (dim_of self.now) unit.dim unit }
         ensures table { seat.new.table_id ≡ id_of self.now }
         ensures permits { seat.new.me.0.permits ≡ seat.old.me.0.permits }
-        ensures taken { HasRun (run_of (dim_of self.now) result) seat.new.me
-            × IsIn (dim_of self.now) k result }
-        ensures claimed { WasClaimed (run_of (dim_of self.now) result) seat.new.me.0.trail }
+        ensures taken { HasTaken (dim_of self.now) k seat.new.me result }
         ensures right { KeepsRight (dim_of self.now) seat.old.me seat.new.me }
         ensures grows { Grows (unit.dim / 6 - k / 6) seat.old.me seat.new.me }
     {
@@ -151,9 +147,8 @@ impl BitmapTree {
         requires blank { IsBlank seat.old.me }
         ensures table { seat.new.table_id ≡ id_of self.now }
         ensures permits { seat.new.me.0.permits ≡ seat.old.me.0.permits }
-        ensures taken { IfOk result (λ _. HasRun (run_of (dim_of self.now) block) seat.new.me) }
-        ensures claimed { IfOk result (λ _.
-            WasClaimed (run_of (dim_of self.now) block) seat.new.me.0.trail) }
+        ensures taken { IfOk result (λ _.
+            HasTaken (dim_of self.now) block.dim seat.new.me block) }
         ensures blank { IfErr result (λ _. IsBlank seat.new.me) }
         ensures refused { IfErr result (λ contended. contended ≡ 0 → (s : ℕ)
             → block.dim / 6 ≤ s → s ≤ dim_of self.now / 6
@@ -188,16 +183,13 @@ impl BitmapTree {
     // Opens the words from a unit down to a block of it, unless the unit is the block.
     fn descend_to(&self, seat: &mut Seat, unit: Region, block: Region, level: u32)
         requires table { seat.old.table_id ≡ id_of self.now }
-        requires unit { HasRun (run_of (dim_of self.now) unit) seat.old.me
-            × IsIn (dim_of self.now) unit.dim unit }
+        requires unit { HasTaken (dim_of self.now) unit.dim seat.old.me unit }
         requires block { IsIn (dim_of self.now) block.dim block }
         requires low { block.dim / 6 ≤ level }
         requires around { unit ≡ unit_around level block }
-        requires claimed { WasClaimed (run_of (dim_of self.now) unit) seat.old.me.0.trail }
         ensures table { seat.new.table_id ≡ id_of self.now }
         ensures permits { seat.new.me.0.permits ≡ seat.old.me.0.permits }
-        ensures taken { HasRun (run_of (dim_of self.now) block) seat.new.me }
-        ensures claimed { WasClaimed (run_of (dim_of self.now) block) seat.new.me.0.trail }
+        ensures taken { HasTaken (dim_of self.now) block.dim seat.new.me block }
         ensures right { KeepsRight (dim_of self.now) seat.old.me seat.new.me }
         ensures grows { Grows (unit.dim / 6 - block.dim / 6) seat.old.me seat.new.me }
     {

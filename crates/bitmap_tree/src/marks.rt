@@ -1,7 +1,7 @@
 //! Summary bits (marks): where a search need not look. No proof rests on what they say.
 //!
-//! For each dimension at most 6 a word has a mark: no block of this dimension was found in it. The
-//! marks of 64 words are one number. The numbers of the seven dimensions are side by side in a line
+//! For each dimension below 6 a word has a mark: no block of this dimension was found in it. The
+//! marks of 64 words are one number. The numbers of the six dimensions are side by side in a line
 //! of eight. A second level of numbers has a bit for each number that is all ones.
 ghost use Rattle.std.specs.Prelude.{◌≡◌, ◌≤◌, ◌<◌, ◌*◌, ◌+◌, ◌-◌, ◌/◌, ◌^◌};
 ghost use Rattle.cube_shape.specs.declared.limits.TheConstants.{MAX_BITMAP_DIM};
@@ -13,9 +13,6 @@ use crate::view::Run;
 use atomic_table::{Play, Table, TableRule};
 use cube_shape::MAX_BITMAP_DIM;
 use std::alloc::{AllocError, Global};
-
-// The number of groups of 64 words at which a tight pass looks.
-const TIGHT_GROUPS: u32 = 64 / 4;
 
 // The rule of marks and spares, which says nothing.
 pub struct AnyMarks;
@@ -54,9 +51,30 @@ fn starts(k: u32) -> u64 {
         2 => 0x1111_1111_1111_1111,
         3 => 0x0101_0101_0101_0101,
         4 => 0x0001_0001_0001_0001,
-        5 => 0x0000_0001_0000_0001,
-        _ => 1,
+        _ => 0x0000_0001_0000_0001,
     }
+}
+
+// In how many groups of 64 words a search looks for one where it splits no larger block.
+const TIGHT_GROUPS: u32 = 64 / 4;
+
+// The first of some words of a group.
+fn word_in(group: u32, words: u64) -> u32 {
+    group.wrapping_mul(64).wrapping_add(words.trailing_zeros())
+}
+
+// The least dimension for which a word has no room, or 6.
+fn rooms_of(word: u64) -> u32
+    ensures { result ≤ WORD_DIM }
+{
+    let mut free = !word;
+    for k in 0..WORD_DIM {
+        if free & starts(k) == 0 {
+            return k;
+        }
+        free &= free >> (1u32 << k);
+    }
+    WORD_DIM
 }
 
 // The number of groups of 64 words of a level of `2^n` units, and of groups of 64 groups.
@@ -93,14 +111,14 @@ impl Marks {
 
     // The marks of one group of 64 words for a dimension, and those of 64 groups.
     fn group(&self, k: u32, group: u32) -> u64
-        requires dim { k ≤ 6 }
+        requires dim { k < WORD_DIM }
         requires group { group < self.now.groups }
     {
         self.table.shared.peek(8 * group as usize + k as usize)
     }
 
     fn top(&self, k: u32, top: u32) -> u64
-        requires dim { k ≤ 6 }
+        requires dim { k < WORD_DIM }
         requires top { top < self.now.tops }
     {
         self.table
@@ -129,7 +147,7 @@ impl Marks {
 
     // Whether each word has its mark for the dimension, by the second level.
     pub(crate) fn is_full(&self, k: u32) -> bool
-        requires { k ≤ 6 }
+        requires { k < WORD_DIM }
     {
         for top in 0..self.tops {
             if self.top(k, top) != u64::MAX {
@@ -139,61 +157,52 @@ impl Marks {
         true
     }
 
-    // The next word, from one on, that has no mark for the dimension. Where there is none, a number
-    // that is no word's.
+    // The next word, from one on, that has no mark for the dimension. One with the mark of
+    // dimension `k + 1` comes first, if the next groups have it: there a block splits no larger
+    // one. Where there is no word, the result is a number that is no word's.
     pub(crate) fn next(&self, k: u32, from: u32) -> u32
-        requires { k ≤ 6 }
+        requires { k < WORD_DIM }
     {
         let mut group = from / 64;
-        if group >= self.groups {
-            return u32::MAX;
-        }
-        let mut open = !self.group(k, group) & (u64::MAX << (from % 64));
-        for _ in 0..self.groups {
-            if open != 0 {
-                return 64 * group + open.trailing_zeros();
+        let mut later = u64::MAX << (from % 64);
+        let mut first = u32::MAX;
+        for looks in 0..self.groups {
+            if group >= self.groups {
+                return first;
+            }
+            let open = !self.group(k, group) & later;
+            let larger = self.larger(k, group);
+            let tight = open & larger;
+            if tight != 0 {
+                return word_in(group, tight);
+            }
+            if first == u32::MAX && open != 0 {
+                first = word_in(group, open);
+            }
+            if first != u32::MAX && (larger == 0 || looks + 1 >= TIGHT_GROUPS) {
+                return first;
             }
             group = self.next_group(k, group + 1);
-            if group >= self.groups {
-                return u32::MAX;
-            }
-            open = !self.group(k, group);
+            later = u64::MAX;
         }
-        u32::MAX
+        first
     }
 
-    // The next word, from one on, that has the mark of dimension `k + 1` and none for `k`: a block
-    // taken there splits no larger one. It looks at `TIGHT_GROUPS` groups, up to one where no word
-    // has that mark.
-    pub(crate) fn next_tight(&self, k: u32, from: u32) -> u32
-        requires { k < 6 }
+    // The marks of a group of words for dimension `k + 1`, if there is such a mark.
+    fn larger(&self, k: u32, group: u32) -> u64
+        requires dim { k < WORD_DIM }
+        requires group { group < self.now.groups }
     {
-        let mut group = from / 64;
-        if group >= self.groups {
-            return u32::MAX;
+        if k + 1 < WORD_DIM {
+            self.group(k + 1, group)
+        } else {
+            0
         }
-        let mut larger = self.group(k + 1, group);
-        let mut tight = !self.group(k, group) & larger & (u64::MAX << (from % 64));
-        for _ in 0..TIGHT_GROUPS {
-            if tight != 0 {
-                return 64 * group + tight.trailing_zeros();
-            }
-            if larger == 0 {
-                return u32::MAX;
-            }
-            group = self.next_group(k, group + 1);
-            if group >= self.groups {
-                return u32::MAX;
-            }
-            larger = self.group(k + 1, group);
-            tight = !self.group(k, group) & larger;
-        }
-        u32::MAX
     }
 
     // The next group, from one on, that is not marked as a whole.
     fn next_group(&self, k: u32, from: u32) -> u32
-        requires { k ≤ 6 }
+        requires { k < WORD_DIM }
     {
         for top in from / 64..self.tops {
             let marks = !self.top(k, top);
@@ -211,7 +220,7 @@ impl Marks {
 
     // Marks a word for a dimension, and its group where all 64 words of it have the mark.
     pub(crate) fn mark(&self, k: u32, word: u32)
-        requires { k ≤ 6 }
+        requires { k < WORD_DIM }
     {
         let group = word / 64;
         if group >= self.groups || group / 64 >= self.tops {
@@ -231,26 +240,67 @@ impl Marks {
         }
     }
 
+    // Marks a word for each dimension for which it has no room, unless this is `k` alone. Returns
+    // whether it did.
+    pub(crate) fn mark_lost(&self, k: u32, number: u32, word: u64) -> bool {
+        let group = number / 64;
+        if group >= self.groups {
+            return false;
+        }
+        let lost = rooms_of(word);
+        let mut marked = u64::MAX;
+        for dim in lost..WORD_DIM {
+            if dim != k {
+                marked &= self.group(dim, group);
+            }
+        }
+        if marked & (1 << (number % 64)) != 0 {
+            return false;
+        }
+        self.mark_from(lost, number);
+        true
+    }
+
+    // Marks a word for each dimension from one on.
+    fn mark_from(&self, lost: u32, number: u32) {
+        for dim in lost..WORD_DIM {
+            self.mark(dim, number);
+        }
+    }
+
+    // The marks of a group of words for any dimension.
+    fn any(&self, group: u32) -> u64
+        requires { group < self.now.groups }
+    {
+        let mut marks = 0;
+        for k in 0..WORD_DIM {
+            marks |= self.group(k, group);
+        }
+        marks
+    }
+
     // Clears the marks of words of one group for all dimensions for which `word` has room.
     pub(crate) fn unmark(&self, group: u32, marks: u64, word: u64) {
-        if group >= self.groups || group / 64 >= self.tops {
+        if group >= self.groups || group / 64 >= self.tops || self.any(group) & marks == 0 {
             return;
         }
-        let mut free = !word;
-        for k in 0..7 {
-            if free & starts(k) == 0 {
-                return;
-            }
-            free &= free >> (1u32 << k).min(63);
+        for k in 0..rooms_of(word) {
             if self.group(k, group) & marks != 0 {
-                self.clear(8 * group as usize + k as usize, marks);
-                if self.top(k, group / 64) & (1 << (group % 64)) != 0 {
-                    self.clear(
-                        8 * (self.groups as usize + (group / 64) as usize) + k as usize,
-                        1 << (group % 64),
-                    );
-                }
+                self.clear_mark(k, group, marks);
             }
+        }
+    }
+
+    // Clears marks of a group for a dimension, and the mark of the group.
+    fn clear_mark(&self, k: u32, group: u32, marks: u64)
+        requires dim { k < WORD_DIM }
+        requires group { group < self.now.groups }
+        requires top { group / 64 < self.now.tops }
+    {
+        self.clear(8 * group as usize + k as usize, marks);
+        if self.top(k, group / 64) & (1 << (group % 64)) != 0 {
+            let above = 8 * (self.groups as usize + (group / 64) as usize) + k as usize;
+            self.clear(above, 1 << (group % 64));
         }
     }
 }

@@ -1,5 +1,5 @@
 //! How a machine is opened.
-ghost use Rattle.std.specs.Prelude.{◌≡◌, ◌+◌, ◌/◌, ◌≤◌, [], vec_len, IfOk};
+ghost use Rattle.std.specs.Prelude.{◌≡◌, ◌+◌, ◌/◌, ◌^◌, ◌<◌, ◌≤◌, [], vec_len, IfOk};
 ghost use Rattle.bitmap_tree.specs.Rule.{word_count};
 ghost use Rattle.bitmap_tree.specs.InnerRule.{first_view};
 ghost use Rattle.bitmap_tree.specs.Handles.{id_of, dim_of, permits_of};
@@ -12,6 +12,14 @@ use crate::view::Size;
 use atomic_table::Table;
 use cube_shape::MAX_BITMAP_DIM;
 use std::alloc::{AllocError, Global};
+
+// The number of processors of a word of the lowest level, and of a cache line of such words.
+const WORD_SIZE: u64 = 64;
+
+const LINE_SIZE: u64 = 8 * WORD_SIZE;
+
+// How many threads have a start of their own: one for each cache line of 128 words.
+const STARTS: u32 = 128 / 8;
 
 // Makes the marks of all levels. Each word has its marks except the top one.
 fn marks_of(alloc: Global, n: u32) -> Result<Vec<Marks>, AllocError>
@@ -59,6 +67,17 @@ impl BitmapTree {
             },
             seat,
         ))
+    }
+
+    /// Returns a processor at which the searches of a thread may begin. Threads of different
+    /// numbers begin in different cache lines near the front, for 16 threads, as far as the machine
+    /// has them. So they seldom meet, and large blocks stay whole.
+    pub fn start_of(&self, thread: u32) -> u64
+        ensures { result < 2 ^ dim_of self.now }
+    {
+        let size = 1u64 << self.size.dim;
+        let first = LINE_SIZE * (thread % STARTS) as u64;
+        (first + WORD_SIZE * (first / size)) % size
     }
 
     /// Returns the dimension of the machine.

@@ -11,7 +11,7 @@ ghost use Rattle.bitmap_tree.specs.Layout.{run_of};
 ghost use Rattle.bitmap_tree.specs.Trail.{AreRightSteps, IsAlone, WasClaimed, WasDisturbed, WasRefused, WasReleased};
 ghost use Rattle.bitmap_tree.specs.Handles.{id_of, dim_of, permits_of, held_region, held_trail, permit_trail, IsHeldByPermit, IsPermitOf};
 
-use crate::handles::{BitmapTree, HeldBlock, Permit, Refused, Seat};
+use crate::handles::{BitmapTree, HeldBlock, Permit, Seat};
 use crate::view::Size;
 use cube_shape::MAX_BITMAP_DIM;
 use std::alloc::{AllocError, Global};
@@ -50,9 +50,9 @@ impl BitmapTree {
     {
         let Permit { mut seat } = permit;
         self.begin(&mut seat);
-        match self.take_by(seat, k, processor) {
-            Ok(held) => Ok(held),
-            Err(Refused { contended, seat }) => Err((Permit { seat }, contended)),
+        match self.take_by(&mut seat, k, processor) {
+            Ok(region) => Ok(self.hold(seat, region)),
+            Err(contended) => Err((Permit { seat }, contended)),
         }
     }
 

@@ -11,6 +11,7 @@ ghost use Rattle.bitmap_tree.specs.Handles.{id_of, dim_of, held_region, held_tra
 use crate::handles::{BitmapTree, HeldBlock, Released, Seat};
 use crate::layout::{first_word, words_in};
 use crate::mask::mask_of;
+use crate::spares::SPARES;
 use crate::view::Run;
 use cube_shape::Region;
 
@@ -138,11 +139,12 @@ impl BitmapTree {
         }
     }
 
-    // Shuts the spare of a level: whether it did.
-    fn shut_spare(&self, seat: &mut Seat, level: u32) -> bool
+    // Shuts the spare at a place of a level: whether it did.
+    fn shut_spare(&self, seat: &mut Seat, level: u32, place: u32) -> bool
         requires table { seat.old.table_id ≡ id_of self.now }
         requires may { MayClaim self.now seat.old.me }
         requires level { level < dim_of self.now / 6 }
+        requires place { place < SPARES }
         requires blank { IsBlank seat.old.me }
         ensures table { seat.new.table_id ≡ id_of self.now }
         ensures permits { seat.new.me.0.permits ≡ seat.old.me.0.permits }
@@ -150,7 +152,7 @@ impl BitmapTree {
         ensures right { KeepsRight (dim_of self.now) seat.old.me seat.new.me }
         ensures grows { Grows 9 seat.old.me seat.new.me }
     {
-        let Some(number) = self.spares.drain(level) else {
+        let Some(number) = self.spares.drain(level, place) else {
             return false;
         };
         if number >= words_in(self.size.dim - 6 * level) {
@@ -165,7 +167,7 @@ impl BitmapTree {
         }
     }
 
-    // Shuts the spares of the levels below one: whether it shut any.
+    // Shuts the spares of the levels below one, the lowest first: whether it shut any.
     pub(crate) fn shut_spares(&self, seat: &mut Seat, level: u32) -> bool
         requires table { seat.old.table_id ≡ id_of self.now }
         requires may { MayClaim self.now seat.old.me }
@@ -175,11 +177,11 @@ impl BitmapTree {
         ensures permits { seat.new.me.0.permits ≡ seat.old.me.0.permits }
         ensures blank { IsBlank seat.new.me }
         ensures right { KeepsRight (dim_of self.now) seat.old.me seat.new.me }
-        ensures grows { Grows 27 seat.old.me seat.new.me }
+        ensures grows { Grows (3 * (9 * SPARES)) seat.old.me seat.new.me }
     {
         let mut shut = false;
-        for lower in 0..level {
-            shut |= self.shut_spare(seat, lower);
+        for spare in 0..SPARES * level {
+            shut |= self.shut_spare(seat, spare / SPARES, spare % SPARES);
         }
         shut
     }

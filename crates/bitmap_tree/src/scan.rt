@@ -2,7 +2,7 @@
 ghost use Rattle.std.specs.Prelude.{◌≡◌, ℕ, ◌+◌, ◌*◌, ◌/◌, ◌%◌, ◌^◌, ◌<◌, ◌≤◌, ◌-◌, ◌≢◌, min, max, IfOk, IfErr};
 ghost use Rattle.bitmap_tree.specs.Rule.{first_word, word_count};
 ghost use Rattle.bitmap_tree.specs.Layout.{HasRun, run_of};
-ghost use Rattle.bitmap_tree.specs.InnerLayout.{IsBlank, IsIn, Grows};
+ghost use Rattle.bitmap_tree.specs.InnerLayout.{HasTaken, IsBlank, IsIn, Grows};
 ghost use Rattle.bitmap_tree.specs.InnerTrail.{KeepsRight, IsFullWord, StepsOn, left_by};
 ghost use Rattle.bitmap_tree.specs.Trail.{WasClaimed, WasDisturbed, WasEachTaken, WasRefused};
 ghost use Rattle.bitmap_tree.specs.Handles.{id_of, dim_of, MayClaim};
@@ -21,10 +21,7 @@ impl BitmapTree {
         requires blank { IsBlank seat.old.me }
         ensures table { seat.new.table_id ≡ id_of self.now }
         ensures permits { seat.new.me.0.permits ≡ seat.old.me.0.permits }
-        ensures taken { IfOk result (λ r. HasRun (run_of (dim_of self.now) r) seat.new.me
-            × IsIn (dim_of self.now) k r) }
-        ensures claimed { IfOk result (λ r.
-            WasClaimed (run_of (dim_of self.now) r) seat.new.me.0.trail) }
+        ensures taken { IfOk result (HasTaken (dim_of self.now) k seat.new.me) }
         ensures blank { IfErr result (λ _. IsBlank seat.new.me) }
         ensures refused { IfErr result (λ contended. contended ≡ 0
             → WasEachTaken (dim_of self.now) k seat.new.me.0.trail) }
@@ -60,10 +57,7 @@ impl BitmapTree {
         requires blank { IsBlank seat.old.me }
         ensures table { seat.new.table_id ≡ id_of self.now }
         ensures permits { seat.new.me.0.permits ≡ seat.old.me.0.permits }
-        ensures taken { IfOk result (λ r. HasRun (run_of (dim_of self.now) r) seat.new.me
-            × IsIn (dim_of self.now) k r) }
-        ensures claimed { IfOk result (λ r.
-            WasClaimed (run_of (dim_of self.now) r) seat.new.me.0.trail) }
+        ensures taken { IfOk result (HasTaken (dim_of self.now) k seat.new.me) }
         ensures blank { IfErr result (λ _. IsBlank seat.new.me) }
         ensures refused { IfErr result (λ contended. contended ≡ 0
             → WasRefused (dim_of self.now) k seat.new.me.0.trail) }

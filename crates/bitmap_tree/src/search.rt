@@ -4,7 +4,7 @@ ghost use Rattle.cube_shape.specs.declared.region.Region.{Region as Block};
 ghost use Rattle.cube_shape.specs.Region.{IsAligned};
 ghost use Rattle.bitmap_tree.specs.Rule.{run, first_word, word_count};
 ghost use Rattle.bitmap_tree.specs.Layout.{HasRun, run_of};
-ghost use Rattle.bitmap_tree.specs.InnerLayout.{IsBlank, IsIn, Grows};
+ghost use Rattle.bitmap_tree.specs.InnerLayout.{HasTaken, IsBlank, IsIn, Grows};
 ghost use Rattle.bitmap_tree.specs.InnerSteps.{note};
 ghost use Rattle.bitmap_tree.specs.InnerTrail.{KeepsRight, IsFull, IsFullWord, StepsOn, left_by};
 ghost use Rattle.bitmap_tree.specs.Trail.{WasClaimed, WasDisturbed};
@@ -53,22 +53,24 @@ impl BitmapTree {
     fn mark(&self, level: u32, number: u32, k: u32)
         requires level { level ≤ dim_of self.now / 6 }
         requires number { number < 2 ^ (dim_of self.now - 6 * level - 6) }
-        requires dim { k ≤ WORD_DIM }
+        requires dim { k < WORD_DIM }
     {
         self.marks[level as usize].mark(k, number);
         let word = self.peek(first_word(self.size.dim / 6 - level) + number);
         self.unmark(level, number, word);
     }
 
-    // The next word of a level at which a take looks.
-    fn next_number(&self, level: u32, k: u32, from: u32, tight: bool) -> u32
+    // Marks a word in which a block of dimension `k` was taken, for the dimensions for which it has
+    // no room now. If this is `k` alone it leaves that to the next search, since the block may be
+    // back by then.
+    fn mark_lost(&self, level: u32, number: u32, k: u32)
         requires level { level ≤ dim_of self.now / 6 }
-        requires dim { k < WORD_DIM }
+        requires number { number < 2 ^ (dim_of self.now - 6 * level - 6) }
     {
-        if tight {
-            self.marks[level as usize].next_tight(k, from)
-        } else {
-            self.marks[level as usize].next(k, from)
+        let word = first_word(self.size.dim / 6 - level) + number;
+        let left = self.peek(word) | self.pad_of(level);
+        if left >> 32 != 0 && self.marks[level as usize].mark_lost(k, number, left) {
+            self.unmark(level, number, self.peek(word));
         }
     }
 
@@ -128,10 +130,7 @@ impl BitmapTree {
         requires tries { tries ≤ TRIES }
         ensures table { seat.new.table_id ≡ id_of self.now }
         ensures permits { seat.new.me.0.permits ≡ seat.old.me.0.permits }
-        ensures taken { IfOk result (λ r. HasRun (run_of (dim_of self.now) r) seat.new.me
-            × IsIn (dim_of self.now) k r) }
-        ensures claimed { IfOk result (λ r.
-            WasClaimed (run_of (dim_of self.now) r) seat.new.me.0.trail) }
+        ensures taken { IfOk result (HasTaken (dim_of self.now) k seat.new.me) }
         ensures blank { IfErr result (λ _. IsBlank seat.new.me) }
         ensures refused { IfErr result (λ contended. contended ≡ 0
             → IsFull (2 ^ min (dim_of self.now - 6 * (k / 6)) 6) (k % 6)
@@ -166,17 +165,9 @@ impl BitmapTree {
         Err(1)
     }
 
-    // Takes a block of dimension `k` in the words of its level that have no mark, from one on. A
-    // tight pass looks only at words where it splits no larger block. Where it takes none, it says
-    // whether an exchange was lost.
-    fn take_marked(
-        &self,
-        seat: &mut Seat,
-        k: u32,
-        from: u32,
-        tight: bool,
-        tries: u32,
-    ) -> Result<Region, bool>
+    // Takes a block of dimension `k` in the words of its level that have no mark, from one on.
+    // Where it takes none, it says whether an exchange was lost.
+    fn take_marked(&self, seat: &mut Seat, k: u32, from: u32, tries: u32) -> Result<Region, bool>
         requires table { seat.old.table_id ≡ id_of self.now }
         requires may { MayClaim self.now seat.old.me }
         requires fits { k ≤ dim_of self.now }
@@ -185,10 +176,7 @@ impl BitmapTree {
         requires tries { tries ≤ TRIES }
         ensures table { seat.new.table_id ≡ id_of self.now }
         ensures permits { seat.new.me.0.permits ≡ seat.old.me.0.permits }
-        ensures taken { IfOk result (λ r. HasRun (run_of (dim_of self.now) r) seat.new.me
-            × IsIn (dim_of self.now) k r) }
-        ensures claimed { IfOk result (λ r.
-            WasClaimed (run_of (dim_of self.now) r) seat.new.me.0.trail) }
+        ensures taken { IfOk result (HasTaken (dim_of self.now) k seat.new.me) }
         ensures blank { IfErr result (λ _. IsBlank seat.new.me) }
         ensures right { KeepsRight (dim_of self.now) seat.old.me seat.new.me }
         ensures grows { Grows (9 * 2 ^ (dim_of self.now - 6 * (k / 6) - 6)) seat.old.me
@@ -199,24 +187,28 @@ impl BitmapTree {
         let mut next = from;
         let mut lost = false;
         for _ in 0..count {
-            let number = self.next_number(level, k % 6, next, tight);
+            let number = self.marks[level as usize].next(k % 6, next);
             if number >= count {
                 return Err(lost);
             }
             match self.take_in(seat, number, k, tries) {
-                Ok(region) => return Ok(region),
+                Ok(region) => {
+                    self.mark_lost(level, number, k % 6);
+                    return Ok(region);
+                }
                 Err(0) => self.mark(level, number, k % 6),
-                Err(_) => lost = true,
+                Err(_) => {
+                    lost = true;
+                    next = number + 1;
+                }
             }
-            next = number + 1;
         }
         Err(lost)
     }
 
-    // Takes a block of dimension `k` in the open words of its level. It looks first where it splits
-    // no larger block. Then it goes from the word of a processor on, and at last from the first
-    // word. With fewer than `TRIES` tries it ends at a lost exchange. Where it takes none, it says
-    // whether an exchange was lost.
+    // Takes a block of dimension `k` in the open words of its level. It goes from the word of a
+    // processor on, and then from the first word. With fewer than `TRIES` tries the round that lost
+    // an exchange is the last. Where it takes none, it says whether an exchange was lost.
     fn take_here(&self, seat: &mut Seat, k: u32, processor: u64, tries: u32) -> Result<Region, bool>
         requires table { seat.old.table_id ≡ id_of self.now }
         requires may { MayClaim self.now seat.old.me }
@@ -227,30 +219,43 @@ impl BitmapTree {
         requires tries { tries ≤ TRIES }
         ensures table { seat.new.table_id ≡ id_of self.now }
         ensures permits { seat.new.me.0.permits ≡ seat.old.me.0.permits }
-        ensures taken { IfOk result (λ r. HasRun (run_of (dim_of self.now) r) seat.new.me
-            × IsIn (dim_of self.now) k r) }
-        ensures claimed { IfOk result (λ r.
-            WasClaimed (run_of (dim_of self.now) r) seat.new.me.0.trail) }
+        ensures taken { IfOk result (HasTaken (dim_of self.now) k seat.new.me) }
         ensures blank { IfErr result (λ _. IsBlank seat.new.me) }
         ensures right { KeepsRight (dim_of self.now) seat.old.me seat.new.me }
-        ensures grows { Grows (27 * 2 ^ (dim_of self.now - 6)) seat.old.me seat.new.me }
+        ensures grows { Grows (18 * 2 ^ (dim_of self.now - 6)) seat.old.me seat.new.me }
     {
-        if self.marks[(k / 6) as usize].is_full(k % 6) {
-            return Err(false);
-        }
         let from = (processor >> (6 * (k / 6) + 6)) as u32;
-        let mut lost = false;
-        for pass in 0..3u32 {
-            let begin = if pass == 2 { 0 } else { from };
-            match self.take_marked(seat, k, begin, pass == 0, tries) {
-                Ok(region) => return Ok(region),
-                Err(more) => lost = lost || more,
-            }
-            if lost && tries < TRIES {
-                return Err(true);
-            }
+        let lost = match self.take_marked(seat, k, from, tries) {
+            Ok(region) => return Ok(region),
+            Err(lost) => lost,
+        };
+        if from == 0 || (lost && tries < TRIES) || self.marks[(k / 6) as usize].is_full(k % 6) {
+            return Err(lost);
         }
-        Err(lost)
+        match self.take_marked(seat, k, 0, tries) {
+            Ok(region) => Ok(region),
+            Err(more) => Err(lost || more),
+        }
+    }
+
+    // Takes a unit of a level in its open words, unless each word has its mark.
+    fn take_unit(&self, seat: &mut Seat, level: u32, processor: u64) -> Option<Region>
+        requires table { seat.old.table_id ≡ id_of self.now }
+        requires may { MayClaim self.now seat.old.me }
+        requires level { level ≤ dim_of self.now / 6 }
+        requires processor { processor < 2 ^ dim_of self.now }
+        requires blank { IsBlank seat.old.me }
+        ensures table { seat.new.table_id ≡ id_of self.now }
+        ensures permits { seat.new.me.0.permits ≡ seat.old.me.0.permits }
+        ensures taken { IfSome result (HasTaken (dim_of self.now) (6 * level) seat.new.me) }
+        ensures blank { IfNone result (IsBlank seat.new.me) }
+        ensures right { KeepsRight (dim_of self.now) seat.old.me seat.new.me }
+        ensures grows { Grows (18 * 2 ^ (dim_of self.now - 6)) seat.old.me seat.new.me }
+    {
+        if self.marks[level as usize].is_full(0) {
+            return None;
+        }
+        self.take_here(seat, 6 * level, processor, TRIES).ok()
     }
 
     // Takes a unit of a level above, the lowest first, and in it the first block of dimension `k`.
@@ -262,16 +267,13 @@ impl BitmapTree {
         requires blank { IsBlank seat.old.me }
         ensures table { seat.new.table_id ≡ id_of self.now }
         ensures permits { seat.new.me.0.permits ≡ seat.old.me.0.permits }
-        ensures taken { IfSome result (λ r. HasRun (run_of (dim_of self.now) r) seat.new.me
-            × IsIn (dim_of self.now) k r) }
-        ensures claimed { IfSome result (λ r.
-            WasClaimed (run_of (dim_of self.now) r) seat.new.me.0.trail) }
+        ensures taken { IfSome result (HasTaken (dim_of self.now) k seat.new.me) }
         ensures blank { IfNone result (IsBlank seat.new.me) }
         ensures right { KeepsRight (dim_of self.now) seat.old.me seat.new.me }
-        ensures grows { Grows (4 + 108 * 2 ^ (dim_of self.now - 6)) seat.old.me seat.new.me }
+        ensures grows { Grows (4 + 72 * 2 ^ (dim_of self.now - 6)) seat.old.me seat.new.me }
     {
         for level in k / 6 + 1..self.size.dim / 6 + 1 {
-            if let Ok(unit) = self.take_here(seat, 6 * level, processor, TRIES) {
+            if let Some(unit) = self.take_unit(seat, level, processor) {
                 return Some(self.descend_first(seat, unit, k));
             }
         }
@@ -288,10 +290,7 @@ impl BitmapTree {
         requires blank { IsBlank seat.old.me }
         ensures table { seat.new.table_id ≡ id_of self.now }
         ensures permits { seat.new.me.0.permits ≡ seat.old.me.0.permits }
-        ensures taken { IfSome result (λ r. HasRun (run_of (dim_of self.now) r) seat.new.me
-            × IsIn (dim_of self.now) k r) }
-        ensures claimed { IfSome result (λ r.
-            WasClaimed (run_of (dim_of self.now) r) seat.new.me.0.trail) }
+        ensures taken { IfSome result (HasTaken (dim_of self.now) k seat.new.me) }
         ensures blank { IfNone result (IsBlank seat.new.me) }
         ensures right { KeepsRight (dim_of self.now) seat.old.me seat.new.me }
         ensures grows { Grows (4 + 9) seat.old.me seat.new.me }
@@ -316,13 +315,10 @@ impl BitmapTree {
         requires blank { IsBlank seat.old.me }
         ensures table { seat.new.table_id ≡ id_of self.now }
         ensures permits { seat.new.me.0.permits ≡ seat.old.me.0.permits }
-        ensures taken { IfSome result (λ r. HasRun (run_of (dim_of self.now) r) seat.new.me
-            × IsIn (dim_of self.now) k r) }
-        ensures claimed { IfSome result (λ r.
-            WasClaimed (run_of (dim_of self.now) r) seat.new.me.0.trail) }
+        ensures taken { IfSome result (HasTaken (dim_of self.now) k seat.new.me) }
         ensures blank { IfNone result (IsBlank seat.new.me) }
         ensures right { KeepsRight (dim_of self.now) seat.old.me seat.new.me }
-        ensures grows { Grows (18 + 135 * 2 ^ (dim_of self.now - 6)) seat.old.me seat.new.me }
+        ensures grows { Grows (18 + 90 * 2 ^ (dim_of self.now - 6)) seat.old.me seat.new.me }
     {
         if let Some(region) = self.take_own(seat, k, processor) {
             return Some(region);
@@ -343,13 +339,10 @@ impl BitmapTree {
         requires blank { IsBlank seat.old.me }
         ensures table { seat.new.table_id ≡ id_of self.now }
         ensures permits { seat.new.me.0.permits ≡ seat.old.me.0.permits }
-        ensures taken { IfSome result (λ r. HasRun (run_of (dim_of self.now) r) seat.new.me
-            × IsIn (dim_of self.now) k r) }
-        ensures claimed { IfSome result (λ r.
-            WasClaimed (run_of (dim_of self.now) r) seat.new.me.0.trail) }
+        ensures taken { IfSome result (HasTaken (dim_of self.now) k seat.new.me) }
         ensures blank { IfNone result (IsBlank seat.new.me) }
         ensures right { KeepsRight (dim_of self.now) seat.old.me seat.new.me }
-        ensures grows { Grows (18 + 162 * 2 ^ (dim_of self.now - 6)) seat.old.me seat.new.me }
+        ensures grows { Grows (18 + 108 * 2 ^ (dim_of self.now - 6)) seat.old.me seat.new.me }
     {
         match self.take_here(seat, k, processor, 1) {
             Ok(region) => Some(region),

@@ -5,7 +5,7 @@ ghost use Rattle.bitmap_tree.specs.Alone.{HasNoBlock, IsInUse};
 ghost use Rattle.bitmap_tree.specs.Bounds.{block_steps, quick_steps, take_steps};
 ghost use Rattle.bitmap_tree.specs.Rule.{first_word};
 ghost use Rattle.bitmap_tree.specs.Layout.{HasRun, run_of};
-ghost use Rattle.bitmap_tree.specs.InnerLayout.{IsBlank, IsIn, Grows};
+ghost use Rattle.bitmap_tree.specs.InnerLayout.{HasTaken, IsBlank, IsIn, Grows};
 ghost use Rattle.bitmap_tree.specs.InnerTrail.{KeepsRight};
 ghost use Rattle.bitmap_tree.specs.Trail.{AreRightSteps, IsAlone, WasBlockTaken, WasClaimed, WasDisturbed, WasRefused};
 ghost use Rattle.bitmap_tree.specs.Handles.{id_of, dim_of, held_region, held_trail, refused_trail, permits_of, IsHeldOf, MayClaim};
@@ -23,13 +23,10 @@ impl BitmapTree {
         requires blank { IsBlank seat.old.me }
         ensures table { seat.new.table_id ≡ id_of self.now }
         ensures permits { seat.new.me.0.permits ≡ seat.old.me.0.permits }
-        ensures taken { IfSome result (λ r. HasRun (run_of (dim_of self.now) r) seat.new.me
-            × IsIn (dim_of self.now) k r) }
-        ensures claimed { IfSome result (λ r.
-            WasClaimed (run_of (dim_of self.now) r) seat.new.me.0.trail) }
+        ensures taken { IfSome result (HasTaken (dim_of self.now) k seat.new.me) }
         ensures blank { IfNone result (IsBlank seat.new.me) }
         ensures right { KeepsRight (dim_of self.now) seat.old.me seat.new.me }
-        ensures grows { Grows (63 + 324 * 2 ^ (dim_of self.now - 6)) seat.old.me seat.new.me }
+        ensures grows { Grows (252 + 216 * 2 ^ (dim_of self.now - 6)) seat.old.me seat.new.me }
     {
         if let Some(region) = self.take_region(seat, k, processor) {
             return Some(region);
@@ -59,11 +56,7 @@ impl BitmapTree {
     {
         let mut seat = self.enter();
         match self.take_quickly(&mut seat, k, processor) {
-            Some(region) => Some(HeldBlock {
-                region,
-                dim: self.size.dim,
-                seat,
-            }),
+            Some(region) => Some(self.hold(seat, region)),
             None => None,
         }
     }
@@ -77,10 +70,7 @@ impl BitmapTree {
         requires blank { IsBlank seat.old.me }
         ensures table { seat.new.table_id ≡ id_of self.now }
         ensures permits { seat.new.me.0.permits ≡ seat.old.me.0.permits }
-        ensures taken { IfOk result (λ r. HasRun (run_of (dim_of self.now) r) seat.new.me
-            × IsIn (dim_of self.now) k r) }
-        ensures claimed { IfOk result (λ r.
-            WasClaimed (run_of (dim_of self.now) r) seat.new.me.0.trail) }
+        ensures taken { IfOk result (HasTaken (dim_of self.now) k seat.new.me) }
         ensures blank { IfErr result (λ _. IsBlank seat.new.me) }
         ensures refused { IfErr result (λ contended. contended ≡ 0
             → WasRefused (dim_of self.now) k seat.new.me.0.trail) }
@@ -103,57 +93,48 @@ impl BitmapTree {
         }
     }
 
-    // Takes a block by a seat with an empty run, which it spends.
-    pub(crate) fn take_by(
-        &self,
-        mut seat: Seat,
-        k: u32,
-        processor: u64,
-    ) -> Result<HeldBlock, Refused>
-        requires table { seat.table_id ≡ id_of self.now }
-        requires blank { IsBlank seat.me }
-        requires may { MayClaim self.now seat.me }
+    // Takes a block: by the marks, and else by a look at each word.
+    pub(crate) fn take_by(&self, seat: &mut Seat, k: u32, processor: u64) -> Result<Region, u32>
+        requires table { seat.old.table_id ≡ id_of self.now }
+        requires may { MayClaim self.now seat.old.me }
         requires fits { k ≤ dim_of self.now }
         requires processor { processor < 2 ^ dim_of self.now }
-        ensures of_machine { IfOk result (IsHeldOf self.now) }
-        ensures aligned { IfOk result (λ held. IsAligned (dim_of self.now) (held_region held)) }
-        ensures dimension { IfOk result (λ held. (held_region held).dim ≡ k) }
-        ensures claimed { IfOk result (λ held.
-            WasClaimed (run_of (dim_of self.now) (held_region held)) (held_trail held)) }
-        ensures permits { IfOk result (λ held. held.seat.me.0.permits ≡ seat.me.0.permits) }
-        ensures refused { IfErr result (λ refused. refused.contended ≡ 0
-            → WasRefused (dim_of self.now) k (refused_trail refused)) }
-        ensures disturbed { IfErr result (λ refused. refused.contended ≢ 0
-            → WasDisturbed (refused_trail refused)) }
-        ensures alone { IfErr result (λ refused. (words : List ℕ)
-            → IsAlone (slice_index words) (refused_trail refused)
+        requires blank { IsBlank seat.old.me }
+        ensures table { seat.new.table_id ≡ id_of self.now }
+        ensures permits { seat.new.me.0.permits ≡ seat.old.me.0.permits }
+        ensures taken { IfOk result (HasTaken (dim_of self.now) k seat.new.me) }
+        ensures blank { IfErr result (λ _. IsBlank seat.new.me) }
+        ensures refused { IfErr result (λ contended. contended ≡ 0
+            → WasRefused (dim_of self.now) k seat.new.me.0.trail) }
+        ensures disturbed { IfErr result (λ contended. contended ≢ 0
+            → WasDisturbed seat.new.me.0.trail) }
+        ensures alone { IfErr result (λ _. (words : List ℕ)
+            → IsAlone (slice_index words) seat.new.me.0.trail
             → HasNoBlock (dim_of self.now) k words) }
-        ensures blank { IfErr result (λ refused. IsBlank refused.seat.me) }
-        ensures table { IfErr result (λ refused. refused.seat.table_id ≡ id_of self.now) }
-        ensures back { IfErr result (λ refused. refused.seat.me.0.permits ≡ seat.me.0.permits) }
-        ensures right { IfOk result (λ held.
-            KeepsRight (dim_of self.now) seat.me held.seat.me) }
-        ensures right_refused { IfErr result (λ refused.
-            KeepsRight (dim_of self.now) seat.me refused.seat.me) }
-        ensures grows { IfOk result (λ held.
-            Grows (67 + 390 * 2 ^ (dim_of self.now - 6)) seat.me held.seat.me) }
-        ensures grows_refused { IfErr result (λ refused.
-            Grows (67 + 390 * 2 ^ (dim_of self.now - 6)) seat.me refused.seat.me) }
+        ensures right { KeepsRight (dim_of self.now) seat.old.me seat.new.me }
+        ensures grows { Grows (256 + 282 * 2 ^ (dim_of self.now - 6)) seat.old.me seat.new.me }
     {
-        if let Some(region) = self.take_quickly(&mut seat, k, processor) {
-            return Ok(HeldBlock {
-                region,
-                dim: self.size.dim,
-                seat,
-            });
+        match self.take_quickly(seat, k, processor) {
+            Some(region) => Ok(region),
+            None => self.take_exactly(seat, k),
         }
-        match self.take_exactly(&mut seat, k) {
-            Ok(region) => Ok(HeldBlock {
-                region,
-                dim: self.size.dim,
-                seat,
-            }),
-            Err(contended) => Err(Refused { contended, seat }),
+    }
+
+    // Makes a held block of a block that a seat has taken.
+    pub(crate) fn hold(&self, seat: Seat, region: Region) -> HeldBlock
+        requires table { seat.table_id ≡ id_of self.now }
+        requires may { MayClaim self.now seat.me }
+        requires taken { HasTaken (dim_of self.now) region.dim seat.me region }
+        ensures of_machine { IsHeldOf self.now result }
+        ensures region { held_region result ≡ region }
+        ensures aligned { IsAligned (dim_of self.now) region }
+        ensures trail { held_trail result ≡ seat.me.0.trail }
+        ensures permits { result.seat.me.0.permits ≡ seat.me.0.permits }
+    {
+        HeldBlock {
+            region,
+            dim: self.size.dim,
+            seat,
         }
     }
 
@@ -186,7 +167,11 @@ impl BitmapTree {
         ensures few_refused { IfErr result (λ refused.
             length (refused_trail refused) ≤ take_steps (dim_of self.now)) }
     {
-        self.take_by(self.enter(), k, processor)
+        let mut seat = self.enter();
+        match self.take_by(&mut seat, k, processor) {
+            Ok(region) => Ok(self.hold(seat, region)),
+            Err(contended) => Err(Refused { contended, seat }),
+        }
     }
 
     // Takes one block by a seat with an empty run: a second time once the empty words under it are
@@ -198,9 +183,8 @@ impl BitmapTree {
         requires blank { IsBlank seat.old.me }
         ensures table { seat.new.table_id ≡ id_of self.now }
         ensures permits { seat.new.me.0.permits ≡ seat.old.me.0.permits }
-        ensures taken { IfOk result (λ _. HasRun (run_of (dim_of self.now) block) seat.new.me) }
-        ensures claimed { IfOk result (λ _.
-            WasClaimed (run_of (dim_of self.now) block) seat.new.me.0.trail) }
+        ensures taken { IfOk result (λ _.
+            HasTaken (dim_of self.now) block.dim seat.new.me block) }
         ensures blank { IfErr result (λ _. IsBlank seat.new.me) }
         ensures refused { IfErr result (λ contended. contended ≡ 0
             → WasBlockTaken (dim_of self.now) block seat.new.me.0.trail) }
@@ -251,11 +235,7 @@ impl BitmapTree {
     {
         let mut seat = self.enter();
         match self.take_named(&mut seat, block) {
-            Ok(()) => Ok(HeldBlock {
-                region: block,
-                dim: self.size.dim,
-                seat,
-            }),
+            Ok(()) => Ok(self.hold(seat, block)),
             Err(contended) => Err(Refused { contended, seat }),
         }
     }

@@ -5,6 +5,3 @@ use Rattle.bitmap_tree.proofs.handles.BitmapTree.descend_first.Goals as goal
 
 pub descend-requires-clause-block : goal.descend-requires-clause-block
 descend-requires-clause-block c = first_of_unit (dim_of c.args.self.now) c.args.k c.args.unit (let above = c.requires.above in omega (arith, above)) c.requires.unit.1
-
-pub returns-clause-taken : goal.returns-clause-taken
-returns-clause-taken c = (c.descend.ensures.taken, first_of_unit (dim_of c.args.self.now) c.args.k c.args.unit (let above = c.requires.above in omega (arith, above)) c.requires.unit.1)

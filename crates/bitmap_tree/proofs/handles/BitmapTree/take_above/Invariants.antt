@@ -11,5 +11,5 @@ invariant-loop-level l = record {
   blank : IsBlank l.seat.me;
   from : l.k / 6 < l.level;
   right : KeepsRight (dim_of l.self) l.fn.seat.me l.seat.me;
-  grows : Grows (27 * ((l.level - (l.k / 6 + 1)) * 2 ^ (dim_of l.self - 6))) l.fn.seat.me l.seat.me;
+  grows : Grows (18 * ((l.level - (l.k / 6 + 1)) * 2 ^ (dim_of l.self - 6))) l.fn.seat.me l.seat.me;
 }

@@ -52,14 +52,17 @@ loop-preserved c =
     }
 
 pub returns-then-now-found-clause-taken : goal.returns-then-now-found-clause-taken
-returns-then-now-found-clause-taken c = takes_in _ _ c.in-Some.offset _ _ c.claim_in-now.new.seat.me c.args.self.now.dim_in_limits c.requires.fits c.first_word.ensures.value c.requires.number c.in-Some.ensures.found.0
-    (subst (λ size. c.in-Some.offset + 2 ^ (c.args.k % 6) ≤ size) c.word_size.ensures.value c.in-Some.ensures.found.1) (c.claim_in-now.ensures.won c.if-now-found.true)
-
-pub returns-then-now-found-clause-claimed : goal.returns-then-now-found-clause-claimed
-returns-then-now-found-clause-claimed c = subst (λ r. WasClaimed r c.claim_in-now.new.seat.me.0.trail)
-    (taken_run _ _ c.in-Some.offset _ _ c.args.self.now.dim_in_limits c.requires.fits c.first_word.ensures.value c.requires.number c.in-Some.ensures.found.0
-    (subst (λ size. c.in-Some.offset + 2 ^ (c.args.k % 6) ≤ size) c.word_size.ensures.value c.in-Some.ensures.found.1))
-    (c.claim_in-now.ensures.claimed c.if-now-found.true)
+returns-then-now-found-clause-taken c =
+    let within = subst (λ size. c.in-Some.offset + 2 ^ (c.args.k % 6) ≤ size) c.word_size.ensures.value c.in-Some.ensures.found.1 in
+    let taken = takes_in _ _ c.in-Some.offset _ _ c.claim_in-now.new.seat.me c.args.self.now.dim_in_limits c.requires.fits c.first_word.ensures.value c.requires.number c.in-Some.ensures.found.0
+    within (c.claim_in-now.ensures.won c.if-now-found.true) in
+    record {
+      run = taken.0;
+      block = taken.1;
+      claimed = subst (λ r. WasClaimed r c.claim_in-now.new.seat.me.0.trail)
+          (taken_run _ _ c.in-Some.offset _ _ c.args.self.now.dim_in_limits c.requires.fits c.first_word.ensures.value c.requires.number c.in-Some.ensures.found.0 within)
+          (c.claim_in-now.ensures.claimed c.if-now-found.true);
+    }
 
 pub returns-then-now-found-clause-steps : goal.returns-then-now-found-clause-steps
 returns-then-now-found-clause-steps c = subst (λ f. StepsOn (f + c.args.number) (f + c.args.number + 1) c.args.seat.now.me c.claim_in-now.new.seat.me) c.first_word.ensures.value

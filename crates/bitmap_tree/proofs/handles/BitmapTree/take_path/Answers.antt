@@ -18,12 +18,6 @@ take_block-requires-clause-block c =
     let test = c.loop-level-test.true in
     at_in (dim_of c.args.self.now) c.max.result c.args.block.base c.block_at-unit.result c.block_at-unit.ensures (omega (arith, c.max.ensures, fits, test)) (base_in (dim_of c.args.self.now) c.args.block.dim c.args.block c.requires.block)
 
-pub descend_to-requires-clause-unit : goal.descend_to-requires-clause-unit
-descend_to-requires-clause-unit c =
-    let fits = c.requires.block.fits in
-    let test = c.loop-level-test.true in
-    (c.in-Ok.ensures.taken, at_in (dim_of c.args.self.now) c.max.result c.args.block.base c.block_at-unit.result c.block_at-unit.ensures (omega (arith, c.max.ensures, fits, test)) (base_in (dim_of c.args.self.now) c.args.block.dim c.args.block c.requires.block))
-
 pub loop-level-preserved : goal.loop-level-preserved
 loop-level-preserved c =
     let fits = c.requires.block.fits in

@@ -50,7 +50,7 @@ pub returns-in-Ok-clause-grows : goal.returns-in-Ok-clause-grows
 returns-in-Ok-clause-grows c =
     let small = c.args.self.now.dim_in_limits in
     let test = c.loop-level-test.true in
-    let fits = c.in-Ok.ensures.taken.1.fits in
+    let fits = c.in-Ok.ensures.taken.block.fits in
     scan_all (dim_of c.args.self.now) (c.loop-level.level - c.args.k / 6 + 1) (c.in-Ok.unit.dim / 6 - c.args.k / 6) c.args.seat.now.me c.take_words.new.seat.me c.descend_first.new.seat.me (omega (arith, small, test)) (omega (arith, small, fits))
     (scan_next (dim_of c.args.self.now) (c.loop-level.level - c.args.k / 6) (c.loop-level.level - c.args.k / 6 + 1) _ c.args.seat.now.me c.loop-level.seat.me c.take_words.new.seat.me refl c.loop-level.invariant.grows c.take_words.ensures.grows)
     c.descend_first.ensures.grows
