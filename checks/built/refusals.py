@@ -1,10 +1,11 @@
 """Refuses memory to single calls of the libraries, and looks at what comes back.
 
-The program `cube_bench memory` makes calls one after the other, and after each it writes a line: the call's name, and
-what came back. Each of its requests for memory is refused in turn, then each and the two after it, then each and all
-after it. A call must say OutOfMemory exactly where one of its own requests was refused, and give back what it got: all
-items of a job, all stations of a cube, all replies that a worker has. A call that is to take no memory makes no
-request. In the end the program holds as many blocks as in the beginning. `checks/run refusals FILE` tries FILE.
+The programs `cube_bench memory` and `bitmap_trial memory` make calls one after the other, and after each they write a
+line: the call's name, and what came back. Each request for memory is refused in turn, then each and the two after it,
+then each and all after it. A call must say OutOfMemory exactly where one of its own requests was refused, and give back
+what it got: all items of a job, all stations of a cube, all replies that a worker has. A call that is to take no memory
+makes no request. In the end the program holds as many blocks of memory as in the beginning. `checks/run refusals FILE`
+tries FILE, which has the name of one of them.
 """
 import os
 import tempfile
@@ -13,21 +14,27 @@ from checks.lib.repository import path
 from checks.lib.rows import Row, Wrong, answer, must, run_rows
 from checks.lib.toolchain import shim
 
-BUILT = "crates/cube_bench/out/cube_bench"
+BUILT = "crates/{0}/out/{0}".format
+BENCH, TRIAL = "cube_bench", "bitmap_trial"
 # A run that takes longer, in seconds, hangs.
 SECONDS = 20
 # How many requests are refused in a row: one alone, three, and all from the first one on.
 MODES = {"one": "1", "three": "3", "all": "0"}
 REFUSED = " OutOfMemory"
 
-# The calls of each run: the call's name, what it gives, what comes back where it is refused (None: it takes no memory),
-# and how many of the calls after it are left out then.
+# The calls of each run of a program: the call's name, what it gives, what comes back where it is refused (None: it
+# takes no memory), and how many of the calls after it are left out then.
 REST = 99
 ITEMS = [("items", " 4 7 1 8", "", 1), ("Job::new", " 4 7 1 8", " 4 7 1 8", 0)]
 RUNS = {
-    ("cube",): [("Cube::open", " 0 1 2", "", REST), ("Solo::new", " 0", " 0 1 2", REST)],
-    ("items",): ITEMS * 5,
-    ("files",): [(f"read_{name}", " 9", " 0", 0) for name in ("jobs", "place", "schedule")],
+    (BENCH, "cube"): [("Cube::open", " 0 1 2", "", REST), ("Solo::new", " 0", " 0 1 2", REST)],
+    (BENCH, "items"): ITEMS * 5,
+    (BENCH, "files"): [(f"read_{name}", " 9", " 0", 0) for name in ("jobs", "place", "schedule")],
+    # A machine of dimension 10 has 17 words, and its first block of 32 processors begins at 0.
+    (TRIAL,): [
+        ("open", " 10", "", 2), ("take_quick", " 0", None, 0), ("close", " 17", None, 0),
+        ("open_with_permits", " 3", "", 1), ("close_with_permits", " 17", None, 0),
+    ],
 }
 
 
@@ -43,7 +50,8 @@ def shop_calls(count):
     ]
 
 
-RUNS.update({("shop", shop, str(jobs)): shop_calls(jobs) for shop in ("free", "locked") for jobs in (3, 4, 9)})
+SHOPS = ("free", "bitmaps", "locked")
+RUNS.update({(BENCH, "shop", shop, str(jobs)): shop_calls(jobs) for shop in SHOPS for jobs in (3, 4, 9)})
 
 
 def told(out):
@@ -116,9 +124,13 @@ def try_each(command, shims, calls):
 
 
 def main(words):
-    built = os.path.realpath(words[0] if words else path(BUILT))
-    must(os.path.exists(built), "cube_bench is not built: cd crates/cube_bench && rt run")
+    named = {os.path.basename(word): os.path.realpath(word) for word in words}
+    programs = named or {name: path(BUILT(name)) for name in (BENCH, TRIAL)}
+    for name, built in programs.items():
+        must(os.path.exists(built), f"{name} is not built: cd crates/{name} && rt run")
     with tempfile.TemporaryDirectory() as folder:
         shims = shim("refuse.c", folder)
-        rows = [Row(f"memory {' '.join(of)}", try_each, ([built, "memory", *of], shims, RUNS[of])) for of in RUNS]
+        runs = [(of, programs[of[0]], calls) for of, calls in RUNS.items() if of[0] in programs]
+        rows = [Row(f"{of[0]} memory {' '.join(of[1:])}".strip(), try_each, ([built, "memory", *of[1:]], shims, calls))
+                for of, built, calls in runs]
         return run_rows("refusals", rows, says_ok=True)

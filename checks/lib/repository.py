@@ -10,7 +10,8 @@ MUTANTS = "mutants"
 PARTS = ("src", "specs", "proofs")
 # The crates on which nobody builds: callers, programs, measurements and tests.
 NO_LIBRARIES = (
-    "uses", "jobs_cli", "cube_bench", "tests_kit", "tests_layers", "tests_shops", "tests_bitmap", "tests_files")
+    "uses", "jobs_cli", "cube_bench", "tests_kit", "tests_layers", "tests_shops", "tests_bitmap", "bitmap_trial",
+    "tests_files")
 LIMITS = ("crates/cube_shape/src/limits.rt", "crates/region_bits/src/limits.rt")
 
 

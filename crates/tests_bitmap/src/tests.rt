@@ -1,5 +1,14 @@
 mod alone;
 mod crowd;
+mod events;
+mod halves;
 mod held;
+mod last;
+mod left;
+mod many;
+mod model;
 mod named;
+mod near;
 mod permits;
+mod singles;
+mod stage;

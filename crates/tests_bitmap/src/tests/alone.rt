@@ -4,6 +4,7 @@ ghost use Rattle.std.specs.List.{All};
 ghost use Rattle.bitmap_tree.specs.Handles.{dim_of, permits_of, IsHeldOf};
 
 use super::held::{expect_fresh, expect_none, opened, taken};
+use crate::kept::release_all;
 use bitmap_tree::{BitmapTree, HeldBlock, MAX_BITMAP_DIM, Region};
 use std::alloc::Global;
 use std::process::Abort;
@@ -42,16 +43,6 @@ fn take_singles(rt: &impl Abort, alloc: Global, tree: &BitmapTree, count: u64) -
         all.push_reserved(taken(rt, tree, 0, base));
     }
     all
-}
-
-// Releases all blocks, the last one first.
-fn release_all(tree: &BitmapTree, mut all: Vec<HeldBlock>)
-    requires { All (IsHeldOf tree.now) all.items }
-{
-    while let Some(held) = all.pop() {
-        tree.release(held);
-    }
-    all.destroy_empty();
 }
 
 #[test]

@@ -87,10 +87,13 @@ fn no_processor_is_held_twice(rt: HostRuntime) {
     }
     let mut lanes = [lane_at(0), lane_at(64), lane_at(128), lane_at(192)];
     run(&rt, &tree, &owners, &mut lanes);
+    let mut given = 0u64;
     for lane in lanes.iter() {
         assert!(rt; lane.faults == 0);
-        assert!(rt; lane.given > 0);
+        given = given.wrapping_add(lane.given);
     }
+    // A thread may find the machine full in each of its turns, while another holds all of it.
+    assert!(rt; given > 0);
     let whole = taken(&rt, &tree, 13, 0);
     tree.release(whole);
     let words = tree.close();

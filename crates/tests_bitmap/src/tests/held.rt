@@ -1,7 +1,9 @@
 //! What the tests share: a machine, a block that there has to be, and what is asked of one.
-ghost use Rattle.std.specs.Prelude.{◌≡◌, ◌≤◌};
+ghost use Rattle.std.specs.Prelude.{◌≡◌, ◌≤◌, IfSome};
+ghost use Rattle.cube_shape.specs.Region.{IsAligned};
 ghost use Rattle.bitmap_tree.specs.Handles.{dim_of, held_region, permits_of, IsHeldOf};
 
+use crate::trial::is_fresh;
 use bitmap_tree::{BitmapTree, HeldBlock, MAX_BITMAP_DIM, Region};
 use std::alloc::Global;
 use std::process::Abort;
@@ -33,6 +35,20 @@ pub(crate) fn taken(rt: &impl Abort, tree: &BitmapTree, k: u32, base: u64) -> He
     }
 }
 
+/// Returns a block of a machine of dimension `n` by its number, if there is one.
+pub(crate) fn block(n: u32, k: u32, number: u64) -> Option<Region>
+    requires { n ≤ MAX_BITMAP_DIM }
+    ensures aligned { IfSome result (IsAligned n) }
+{
+    if k > n || number >= 1 << (n - k) {
+        return None;
+    }
+    Some(Region {
+        base: number << k,
+        dim: k,
+    })
+}
+
 /// Expects that a take is refused, by the marks and by each word.
 pub(crate) fn expect_none(rt: &impl Abort, tree: &BitmapTree, k: u32)
     requires anyone { permits_of tree.now ≡ 0 }
@@ -56,12 +72,37 @@ pub(crate) fn expect_none(rt: &impl Abort, tree: &BitmapTree, k: u32)
 
 /// Expects the words of a machine in which nothing was ever taken.
 pub(crate) fn expect_fresh(rt: &impl Abort, words: &[u64]) {
-    let mut open = 0u64;
-    for word in words.iter() {
-        if *word != u64::MAX {
-            open = open.wrapping_add(1);
-        }
+    assert!(rt; is_fresh(words));
+}
+
+/// Takes the block of this number, which has to be free.
+pub(crate) fn named(rt: &impl Abort, tree: &BitmapTree, k: u32, number: u64) -> HeldBlock
+    requires anyone { permits_of tree.now ≡ 0 }
+    requires limit { dim_of tree.now ≤ MAX_BITMAP_DIM }
+    ensures { IsHeldOf tree.now result }
+{
+    let Some(block) = block(tree.dim(), k, number) else {
+        panic!(rt; "no such block")
+    };
+    match tree.take_at(block) {
+        Ok(held) => held,
+        Err(_) => panic!(rt; "not free"),
     }
-    assert!(rt; open == 1);
-    assert!(rt; words.first() == Some(&0));
+}
+
+/// Expects that the block of this number is in use.
+pub(crate) fn in_use(rt: &impl Abort, tree: &BitmapTree, k: u32, number: u64)
+    requires anyone { permits_of tree.now ≡ 0 }
+    requires limit { dim_of tree.now ≤ MAX_BITMAP_DIM }
+{
+    let Some(block) = block(tree.dim(), k, number) else {
+        panic!(rt; "no such block")
+    };
+    match tree.take_at(block) {
+        Ok(held) => {
+            tree.release(held);
+            panic!(rt; "free")
+        }
+        Err(refused) => assert!(rt; refused.contended == 0),
+    }
 }

@@ -1,56 +1,10 @@
 //! Takes of one block that is named, and halves.
-ghost use Rattle.std.specs.Prelude.{◌≡◌, ◌<◌, IfSome};
-ghost use Rattle.cube_shape.specs.Region.{IsAligned};
+ghost use Rattle.std.specs.Prelude.{◌≡◌, ◌<◌};
 ghost use Rattle.bitmap_tree.specs.Handles.{dim_of, held_region, permits_of, IsHeldOf};
 
-use super::held::{expect_fresh, opened};
+use super::held::{expect_fresh, in_use, named, opened};
 use bitmap_tree::{BitmapTree, HeldBlock, Region};
 use std::process::Abort;
-
-// The block of this number, which has to be free.
-fn named(rt: &impl Abort, tree: &BitmapTree, k: u32, number: u64) -> HeldBlock
-    requires anyone { permits_of tree.now ≡ 0 }
-    requires dim { dim_of tree.now ≡ 13 }
-    ensures { IsHeldOf tree.now result }
-{
-    let Some(block) = block(k, number) else {
-        panic!(rt; "no such block")
-    };
-    match tree.take_at(block) {
-        Ok(held) => held,
-        Err(_) => panic!(rt; "not free"),
-    }
-}
-
-// The block of this number, which has to be in use.
-fn in_use(rt: &impl Abort, tree: &BitmapTree, k: u32, number: u64)
-    requires anyone { permits_of tree.now ≡ 0 }
-    requires dim { dim_of tree.now ≡ 13 }
-{
-    let Some(block) = block(k, number) else {
-        panic!(rt; "no such block")
-    };
-    match tree.take_at(block) {
-        Ok(held) => {
-            tree.release(held);
-            panic!(rt; "free")
-        }
-        Err(refused) => assert!(rt; refused.contended == 0),
-    }
-}
-
-// A block of a machine of dimension 13 by its number.
-fn block(k: u32, number: u64) -> Option<Region>
-    ensures { IfSome result (IsAligned 13) }
-{
-    if k > 13 || number >= 1 << (13 - k) {
-        return None;
-    }
-    Some(Region {
-        base: number << k,
-        dim: k,
-    })
-}
 
 #[test]
 fn a_named_block_is_in_use_in_each_part(rt: HostRuntime) {

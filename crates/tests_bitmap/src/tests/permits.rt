@@ -53,6 +53,25 @@ fn split_and_join(
     }
 }
 
+// Takes the whole machine by a permit. Then a take by another permit is refused, which comes back.
+fn refuse_one(rt: &impl Abort, tree: &BitmapTree, first: Permit, second: Permit) -> (Permit, Permit)
+    requires first { IsPermitOf tree.now first }
+    requires second { IsPermitOf tree.now second }
+    requires dim { dim_of tree.now ≡ 9 }
+    ensures { IsPermitOf tree.now result.0 × IsPermitOf tree.now result.1 }
+{
+    match tree.take_by_permit(first, 9, 511) {
+        Ok(held) => match tree.take_by_permit(second, 0, 511) {
+            Ok(_) => panic!(rt; "a processor of a full machine"),
+            Err((second, contended)) => {
+                assert!(rt; contended == 0);
+                (tree.release_to_permit(held), second)
+            }
+        },
+        Err(_) => panic!(rt; "no block"),
+    }
+}
+
 #[test]
 fn all_permits_come_back(rt: HostRuntime) {
     let Ok((tree, mut permits)) = BitmapTree::open_with_permits(rt.alloc(), 9, 2) else {
@@ -66,6 +85,7 @@ fn all_permits_come_back(rt: HostRuntime) {
         unreachable!()
     };
     let (permit, other) = split_and_join(&rt, &tree, permit, other);
+    let (permit, other) = refuse_one(&rt, &tree, permit, other);
     permits.push_reserved(permit);
     permits.push_reserved(other);
     let words = tree.close_with_permits(permits);
