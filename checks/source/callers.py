@@ -47,6 +47,7 @@ QUOTES = {
     "line_gate": ("line_ruled/src/job_line.rt#fn submit",),
     "line_ring": ("line_ruled/src/line.rt#pub(crate) fn pop_at_last",),
     "locked_cell": ("floor_locked/src/bits_lock.rt#pub fn enter",),
+    "floor_bitmap": ("uses/src/on_bitmaps.rt",),
     "floor_locked": ("cube_bench/src/dispatch.rt#fn measure_shop",),
     "line_locked": ("cube_bench/src/dispatch.rt#fn measure_shop",),
     "backoff": ("floor_tree/src/floor_tree.rt#fn take",),

@@ -1,4 +1,4 @@
-"""Finds locks in the sources of the queue and of the tree: `line_ruled`, `floor_tree` and all crates below them.
+"""Finds locks in the sources of the queue and of both trees: `line_ruled`, `floor_tree`, `floor_bitmap` and all below.
 
 No contract says this of a call that may wait: a lock around it changes neither its result nor what it records. It finds
 
@@ -6,7 +6,7 @@ No contract says this of a call that may wait: a lock around it changes neither 
 - a crate of the toolchain that is not in ALLOWED, in the crate's line of crates.txt; the queue of `crossbeam_queue` has
   no lock, but a push or a pop may wait for another one; of `crossbeam_utils` sources may name `Backoff` alone,
 - the repository's `locked_cell`, of which its locked line and floor are made, and
-- a loop with no bound (`forever`), of which a lock made by hand needs one; the floor's `take` alone has such a loop.
+- a loop with no bound (`forever`), of which a lock made by hand needs one; each floor's `take` alone has such a loop.
 
 `checks/run unlocked [FOLDER]` reads this repository, or a copy of it.
 """
@@ -18,14 +18,14 @@ from checks.lib.repository import ROOT, files_below, read
 from checks.lib.rows import print_faults
 from checks.lib.toolchain import crates
 
-TOPS = ("line_ruled", "bitmap_tree", "floor_tree")
+TOPS = ("line_ruled", "floor_bitmap", "floor_tree")
 ALLOWED = {"std", "atomic_table", "bitflags", "crossbeam_queue", "crossbeam_utils", "thiserror"}
 LOCKS = re.compile(
     r"\b(?:\w*Mutex\w*|\w+Lock|\w+Lock(?:Read|Write)Guard|Condvar|Barrier|OnceCell|mpsc|(?:try_)?lock|locked_\w+)\b"
     r"|\bsync::(?:\{[^}]*)?\bOnce\b|\bcrossbeam_utils\b(?!::Backoff;)"
 )
 FOREVER = re.compile(r"\bforever\b")
-WAITS = {"crates/floor_tree/src/floor_tree.rt": 1}
+WAITS = {"crates/floor_bitmap/src/floor_bitmap.rt": 1, "crates/floor_tree/src/floor_tree.rt": 1}
 
 
 def faults_of(crate, root):

@@ -20,7 +20,7 @@ ALLOWED = {
     "Answer": ("cubejobs_c cubejobs_tree", "what a call of a library for C answers; each has a header of its own"),
     "Entry": ("job_queue tree_steps", "a lane's entry into a line, and a station's member of a seat"),
     "Finished": ("dispatcher uses", "what is known at the end: of a shop, of a run over a line alone"),
-    "FreeMachine": ("cube_tree floor_locked", "what a close gives; callers of floors see F::Machine"),
+    "FreeMachine": ("cube_tree floor_bitmap floor_locked", "what a close gives; callers of floors see F::Machine"),
     "Kind": ("cube_core job_types", "of an event, and of a collective; a caller of jobs sees no event"),
     "LaneRecord": ("job_queue line_ring", "what a lane has done, at a line and at its ring, which line_ruled joins"),
     "Opened": ("dispatcher job_queue", "a new shop, and a new line, each with all that its callers need"),

@@ -3,9 +3,10 @@ ghost use Rattle.std.specs.Prelude.{◌≡◌, ◌≤◌};
 
 use crate::tests::at_rest::AtRest;
 use crate::tests::expect::expect_all;
-use crate::tests::over::{Asked, BOTH, Over, sizes};
+use crate::tests::over::{ALL, Asked, Over, sizes};
 use cube_shape::MAX_LANES;
 use dispatcher::{Finished, Plain, Runner, ShopRefused, ShopSizes, sorted_replies};
+use floor_bitmap::BitmapFloor;
 use floor_locked::LockedFloor;
 use floor_tree::TreeFloor;
 use floors::Floor;
@@ -89,7 +90,7 @@ where
     batch_from(rt, alloc, answered)
 }
 
-// Runs the jobs as a batch, over the lock-free queue and allocator, or over those under locks.
+// Runs the jobs as a batch, over the queue and the allocator that are asked for.
 fn batch_over<R: Threads + Wait + Abort + Sync, T: Runner + Sync>(
     rt: &R,
     alloc: Global,
@@ -103,6 +104,7 @@ fn batch_over<R: Threads + Wait + Abort + Sync, T: Runner + Sync>(
     match over {
         Over::NoLock => { batch_of::<R, RuledLine, TreeFloor, T>(rt, alloc, asked, runner) }
         Over::Locks => { batch_of::<R, LockedLine, LockedFloor, T>(rt, alloc, asked, runner) }
+        Over::Bitmaps => { batch_of::<R, RuledLine, BitmapFloor, T>(rt, alloc, asked, runner) }
     }
 }
 
@@ -167,7 +169,7 @@ fn has_accepted(batch: &Batch, accepted: &[u64]) -> bool {
 
 #[test]
 fn replies_stand_in_the_order_of_their_ids(rt: HostRuntime) {
-    for over in BOTH {
+    for over in ALL {
         let asked = Asked {
             sizes: sizes(DIM, 2, 2),
             lanes: 3,
@@ -199,6 +201,10 @@ fn any_number_of_workers_gives_the_same_replies(rt: HostRuntime) {
         (Over::Locks, 2),
         (Over::Locks, 4),
         (Over::Locks, 16),
+        (Over::Bitmaps, 1),
+        (Over::Bitmaps, 2),
+        (Over::Bitmaps, 4),
+        (Over::Bitmaps, 16),
     ] {
         let runner = Counting::new(Plain);
         let asked = Asked {
@@ -242,7 +248,7 @@ fn is_refused<R: Threads + Wait + Abort + Sync>(
 
 #[test]
 fn sizes_of_a_batch_are_refused(rt: HostRuntime) {
-    for over in BOTH {
+    for over in ALL {
         expect_all(
             &rt,
             &[

@@ -1,4 +1,4 @@
-//! Tests that run jobs on the tree and count the replies. The results are worked out by hand.
+//! Tests that run jobs on either tree and count the replies. The results are worked out by hand.
 use crate::tests::at_rest::AtRest;
 use crate::tests::expect::expect_all;
 use crate::tests::over::sizes;
@@ -6,11 +6,12 @@ use dispatcher::{Finished, Plain};
 use floor_tree::FreeMachine;
 use job_types::{JobId, JobRefused, Reply};
 use std::alloc::Global;
+use std::process::Abort;
 use std::sync::Wait;
 use std::test::Fail;
 use std::thread::Threads;
 use tests_kit::{Meeting, Plan, lists};
-use uses::{Counting, answer_and_count};
+use uses::{Counting, answer_and_count, answer_on_bitmaps};
 
 // The replies to the jobs of two lanes, and how many processors these jobs had together.
 type Outcome = Option<(Finished<FreeMachine>, u128)>;
@@ -72,6 +73,23 @@ fn each_job_is_answered_once(rt: HostRuntime) -> Result<(), Fail> {
     Ok(())
 }
 
+// Asserts that three workers and this runner ran each job of three lanes once.
+fn expect_each_once<M: AtRest>(rt: &impl Abort, runner: &Counting<Plain>, finished: &Finished<M>) {
+    expect_all(
+        rt,
+        &[
+            runner.answered() == 4,
+            finished.by_worker.len() == 3,
+            finished.accepted.as_slice() == [1, 2, 1].as_slice(),
+            is_once(finished, 0, 0, Some(2), Some(9)),
+            is_once(finished, 1, 0, Some(3), Some(3)),
+            is_once(finished, 1, 1, None, Some(9)),
+            is_once(finished, 2, 0, Some(3), Some(3)),
+            finished.machine.is_at_rest(3),
+        ],
+    );
+}
+
 // `cubejobs` runs each job of three lanes once, by three workers and the runner that is lent.
 #[test]
 fn the_whole_by_one_name_answers_each_job_once(rt: HostRuntime) -> Result<(), Fail> {
@@ -80,19 +98,19 @@ fn the_whole_by_one_name_answers_each_job_once(rt: HostRuntime) -> Result<(), Fa
     let Ok(end) = cubejobs::answer_all(&rt, rt.alloc(), sizes(3, 3, 2), &runner, jobs) else {
         panic!(rt; "no memory, or no thread");
     };
-    expect_all(
-        &rt,
-        &[
-            runner.answered() == 4,
-            end.finished.by_worker.len() == 3,
-            end.finished.accepted.as_slice() == [1, 2, 1].as_slice(),
-            is_once(&end.finished, 0, 0, Some(2), Some(9)),
-            is_once(&end.finished, 1, 0, Some(3), Some(3)),
-            is_once(&end.finished, 1, 1, None, Some(9)),
-            is_once(&end.finished, 2, 0, Some(3), Some(3)),
-            end.finished.machine.is_at_rest(3),
-        ],
-    );
+    expect_each_once(&rt, &runner, &end.finished);
+    Ok(())
+}
+
+// The same on the tree of bitmaps.
+#[test]
+fn each_job_is_answered_once_on_bitmaps(rt: HostRuntime) -> Result<(), Fail> {
+    let runner = Counting::new(Plain);
+    let jobs = lists(rt.alloc(), 3, 3, Plan::Kinds)?;
+    let Ok(end) = answer_on_bitmaps(&rt, rt.alloc(), sizes(3, 3, 2), &runner, jobs) else {
+        panic!(rt; "no memory, or no thread");
+    };
+    expect_each_once(&rt, &runner, &end.finished);
     Ok(())
 }
 

@@ -1,5 +1,5 @@
 //! Tests of many threads on one machine. A counter for each processor checks that no two stations
-//! hold it at once. The same functions serve the tree itself and both allocators.
+//! hold it at once. The same functions serve the tree itself and each allocator.
 ghost use Rattle.std.specs.Prelude.{◌≡◌, ℕ, ◌+◌, ◌<◌, ◌≤◌, [], All, IsSomeAnd, MatchResult, length};
 ghost use Rattle.cube_tree.specs.Handles.{cube_dim, IsStationOf};
 
@@ -7,9 +7,10 @@ use crate::tests::at_rest::AtRest;
 use crate::tests::expect::expect_all;
 use crate::tests::floor_calls::opened;
 use crate::tests::job_crowd::add;
-use crate::tests::over::{BOTH, Over};
+use crate::tests::over::{ALL, Over};
 use cube_shape::{MAX_STATIONS, Region};
 use cube_tree::{Cube, FreeMachine, Subcube, TreeStation};
+use floor_bitmap::BitmapFloor;
 use floor_locked::LockedFloor;
 use floor_tree::TreeFloor;
 use floors::Floor;
@@ -651,7 +652,7 @@ fn a_crowd_on_a_cube_holds_no_processor_twice(rt: HostRuntime) {
     );
 }
 
-// Makes two plays on the lock-free allocator, or on the one under a lock.
+// Makes two plays on the allocator that is asked for.
 fn crowd_over<R: Abort + Threads + Wait + Sync>(
     rt: &R,
     alloc: Global,
@@ -668,6 +669,7 @@ fn crowd_over<R: Abort + Threads + Wait + Sync>(
     match over {
         Over::NoLock => crowd_on_floor::<R, TreeFloor>(rt, alloc, stations, shared, then),
         Over::Locks => crowd_on_floor::<R, LockedFloor>(rt, alloc, stations, shared, then),
+        Over::Bitmaps => crowd_on_floor::<R, BitmapFloor>(rt, alloc, stations, shared, then),
     }
 }
 
@@ -683,7 +685,7 @@ fn a_crowd_holds_no_processor_twice(rt: HostRuntime) {
         last: Some(2),
         waits: false,
     };
-    for over in BOTH {
+    for over in ALL {
         let shared = unused(&rt, rt.alloc(), 32, 8, turning(1000, 6));
         let then = unused(&rt, rt.alloc(), 32, 8, holding);
         expect_all(
@@ -703,6 +705,7 @@ fn sixteen_stations_beside_a_held_half_end(rt: HostRuntime) {
     // The other half has a processor for each of the sixteen.
     let shared = unused(&rt, rt.alloc(), 32, 16, turning(200, 1));
     let also_shared = unused(&rt, rt.alloc(), 32, 16, turning(200, 1));
+    let shared_too = unused(&rt, rt.alloc(), 32, 16, turning(200, 1));
     expect_all(
         &rt,
         &[
@@ -710,6 +713,8 @@ fn sixteen_stations_beside_a_held_half_end(rt: HostRuntime) {
             all_given(&shared, 200),
             crowd_beside_half::<_, LockedFloor>(&rt, rt.alloc(), 17, &also_shared),
             all_given(&also_shared, 200),
+            crowd_beside_half::<_, BitmapFloor>(&rt, rt.alloc(), 17, &shared_too),
+            all_given(&shared_too, 200),
         ],
     );
 }
@@ -723,7 +728,7 @@ fn a_take_waits_for_a_release(rt: HostRuntime) {
         last: None,
         waits: true,
     };
-    for over in BOTH {
+    for over in ALL {
         let shared = unused(&rt, rt.alloc(), 32, 2, waiting);
         let then = unused(&rt, rt.alloc(), 32, 2, turning(10, 6));
         expect_all(

@@ -1,4 +1,4 @@
-//! Tests of both allocators through the contract `Floor`, on one thread.
+//! Tests of each allocator through the contract `Floor`, on one thread.
 ghost use Rattle.std.specs.Prelude.{◌≡◌, ◌<◌, ◌≤◌, [], length};
 ghost use Rattle.std.specs.List.{All};
 ghost use Rattle.std.specs.Vec.{vec_capacity};
@@ -6,6 +6,7 @@ ghost use Rattle.std.specs.Vec.{vec_capacity};
 use crate::tests::at_rest::AtRest;
 use crate::tests::expect::expect_all;
 use cube_shape::{MAX_DIM, MAX_STATIONS, Region};
+use floor_bitmap::BitmapFloor;
 use floor_locked::LockedFloor;
 use floor_tree::TreeFloor;
 use floors::Floor;
@@ -133,6 +134,7 @@ where
 fn each_call_once(rt: HostRuntime) {
     each_call_once_over::<_, TreeFloor>(&rt, rt.alloc());
     each_call_once_over::<_, LockedFloor>(&rt, rt.alloc());
+    each_call_once_over::<_, BitmapFloor>(&rt, rt.alloc());
 }
 
 // Opens an allocator of one station, which takes the whole machine. Returns the list without the
@@ -191,6 +193,7 @@ where
 fn two_floors_share_nothing(rt: HostRuntime) {
     two_floors_share_nothing_over::<_, TreeFloor>(&rt, rt.alloc());
     two_floors_share_nothing_over::<_, LockedFloor>(&rt, rt.alloc());
+    two_floors_share_nothing_over::<_, BitmapFloor>(&rt, rt.alloc());
 }
 
 // Asserts that the smallest and the largest machine are free when they are closed.
@@ -213,6 +216,7 @@ where
 fn smallest_floor_and_largest(rt: HostRuntime) {
     smallest_floor_and_largest_over::<_, TreeFloor>(&rt, rt.alloc());
     smallest_floor_and_largest_over::<_, LockedFloor>(&rt, rt.alloc());
+    smallest_floor_and_largest_over::<_, BitmapFloor>(&rt, rt.alloc());
 }
 
 // Asserts that two stations get the first two blocks of two processors on a machine of dimension 3,
@@ -236,6 +240,7 @@ where
 fn a_pair_holds_the_first_regions(rt: HostRuntime) {
     a_pair_holds_the_first_regions_over::<_, TreeFloor>(&rt, rt.alloc());
     a_pair_holds_the_first_regions_over::<_, LockedFloor>(&rt, rt.alloc());
+    a_pair_holds_the_first_regions_over::<_, BitmapFloor>(&rt, rt.alloc());
     // An allocator that hoards meets the contract `Floor` too.
     a_pair_holds_the_first_regions_over::<_, Hoarding<TreeFloor>>(&rt, rt.alloc());
 }

@@ -12,6 +12,7 @@ use cube_shape::MAX_LANES;
 use dispatcher::{
     CloseNote, Closer, FeedEnd, Finished, Opened, Plain, Shop, Worker, WorkerEnd, dispatch, feed,
 };
+use floor_bitmap::BitmapFloor;
 use floor_locked::LockedFloor;
 use floor_tree::TreeFloor;
 use floors::Floor;
@@ -580,7 +581,7 @@ fn each_once<M>(finished: &Finished<M>, unfed: &[u64; 16]) -> bool {
     are_new(&finished.rest, &mut seen) && are_all(&seen, &finished.accepted, unfed)
 }
 
-// Runs the crowd over the lock-free queue and allocator, or over those under one lock each.
+// Runs the crowd over the queue and the allocator that are asked for.
 fn crowd_over<R: Threads + Wait + Abort + Sync>(
     rt: &R,
     alloc: Global,
@@ -590,6 +591,7 @@ fn crowd_over<R: Threads + Wait + Abort + Sync>(
     match over {
         Over::NoLock => crowd_of::<R, RuledLine, TreeFloor>(rt, alloc, shared),
         Over::Locks => crowd_of::<R, LockedLine, LockedFloor>(rt, alloc, shared),
+        Over::Bitmaps => crowd_of::<R, RuledLine, BitmapFloor>(rt, alloc, shared),
     }
 }
 
@@ -602,6 +604,8 @@ fn every_job_of_a_crowd_is_answered(rt: HostRuntime) {
         (Over::NoLock, 100),
         (Over::Locks, 320),
         (Over::Locks, 100),
+        (Over::Bitmaps, 320),
+        (Over::Bitmaps, 100),
     ] {
         let shared = Shared {
             alloc: rt.alloc(),

@@ -11,10 +11,12 @@ pub(crate) enum Over {
     NoLock,
     /// The queue and the allocator under one lock each.
     Locks,
+    /// The lock-free queue, and the tree of bitmaps as allocator.
+    Bitmaps,
 }
 
-/// Both choices, for tests that try one after the other.
-pub(crate) const BOTH: [Over; 2] = [Over::NoLock, Over::Locks];
+/// All choices, for tests that try one after the other.
+pub(crate) const ALL: [Over; 3] = [Over::NoLock, Over::Locks, Over::Bitmaps];
 
 /// Returns these sizes as one value.
 pub(crate) fn sizes(dim: u32, dispatchers: u32, capacity: usize) -> ShopSizes

@@ -1,13 +1,14 @@
-//! Tests of runs on threads, over the lock-free queue and allocator, and over those under one lock
-//! each.
+//! Tests of runs on threads, over the lock-free queue with each lock-free allocator, and over those
+//! under one lock each.
 ghost use Rattle.std.specs.Prelude.{◌≤◌};
 
 use crate::tests::at_rest::AtRest;
 use crate::tests::expect::expect_all;
 use crate::tests::late::late;
-use crate::tests::over::{Asked, BOTH, Over, sizes};
+use crate::tests::over::{ALL, Asked, Over, sizes};
 use cube_shape::{MAX_DIM, MAX_LANES};
 use dispatcher::{FeedStop, Finished, Plain, Runner, ShopRefused, Stop};
+use floor_bitmap::BitmapFloor;
 use floor_locked::LockedFloor;
 use floor_tree::TreeFloor;
 use floors::Floor;
@@ -126,7 +127,7 @@ where
     ran_from(ran, lanes, sizes.dim)
 }
 
-// Runs the jobs over the lock-free queue and allocator, or over those under one lock each.
+// Runs the jobs over the queue and the allocator that are asked for.
 fn run_over<R: Threads + Wait + Abort + Sync, T: Runner + Sync>(
     rt: &R,
     alloc: Global,
@@ -140,6 +141,7 @@ fn run_over<R: Threads + Wait + Abort + Sync, T: Runner + Sync>(
     match over {
         Over::NoLock => { run_of::<R, RuledLine, TreeFloor, T>(rt, alloc, asked, runner) }
         Over::Locks => { run_of::<R, LockedLine, LockedFloor, T>(rt, alloc, asked, runner) }
+        Over::Bitmaps => { run_of::<R, RuledLine, BitmapFloor, T>(rt, alloc, asked, runner) }
     }
 }
 
@@ -187,6 +189,7 @@ fn two_jobs_are_inside_at_once(rt: HostRuntime) {
         &[
             meets_late::<_, RuledLine, TreeFloor>(&rt, rt.alloc()),
             meets_late::<_, LockedLine, LockedFloor>(&rt, rt.alloc()),
+            meets_late::<_, RuledLine, BitmapFloor>(&rt, rt.alloc()),
         ],
     );
 }
@@ -195,7 +198,7 @@ fn two_jobs_are_inside_at_once(rt: HostRuntime) {
 // processors.
 #[test]
 fn two_workers_of_a_run_meet(rt: HostRuntime) {
-    for over in BOTH {
+    for over in ALL {
         let runner = Tabled::new(rt.alloc(), 4, Meeting::of(2)).expect(&rt, "no memory");
         let asked = Asked {
             sizes: sizes(2, 2, 2),
@@ -227,6 +230,9 @@ fn as_many_workers_run_as_were_asked(rt: HostRuntime) {
         (Over::Locks, 1),
         (Over::Locks, 3),
         (Over::Locks, 8),
+        (Over::Bitmaps, 1),
+        (Over::Bitmaps, 3),
+        (Over::Bitmaps, 8),
     ] {
         let runner = Counting::new(Meeting::of(u64::from(workers)));
         let asked = Asked {
@@ -265,6 +271,8 @@ fn each_lane_has_a_feeder(rt: HostRuntime) {
         (Over::NoLock, 1),
         (Over::Locks, 0),
         (Over::Locks, 1),
+        (Over::Bitmaps, 0),
+        (Over::Bitmaps, 1),
     ] {
         let runner = Keeper::new(lane, TURNS);
         let asked = Asked {
@@ -289,7 +297,7 @@ fn each_lane_has_a_feeder(rt: HostRuntime) {
 // twice at once.
 #[test]
 fn many_feeders_share_room_for_one_job(rt: HostRuntime) {
-    for over in BOTH {
+    for over in ALL {
         let runner = Tabled::new(rt.alloc(), 4, Counting::new(Plain)).expect(&rt, "no memory");
         let asked = Asked {
             sizes: sizes(2, 4, 1),
@@ -313,7 +321,7 @@ fn many_feeders_share_room_for_one_job(rt: HostRuntime) {
 
 #[test]
 fn sizes_are_refused_with_the_jobs_back(rt: HostRuntime) {
-    for over in BOTH {
+    for over in ALL {
         let asked = Asked {
             sizes: sizes(2, 17, 1),
             lanes: 3,

@@ -1,9 +1,10 @@
-//! Tests of a dispatcher of one lane and one worker. They run over the lock-free queue and
-//! allocator, and over those under one lock each.
+//! Tests of a dispatcher of one lane and one worker. They run over the lock-free queue with each
+//! lock-free allocator, and over those under one lock each.
 use crate::tests::at_rest::AtRest;
 use crate::tests::expect::{expect_all, expect_texts};
 use crate::tests::stage::{Back, Stage};
 use dispatcher::{FeedEnd, FeedStop, Finished, Plain, Shop, ShopRefused, Stop, refusal};
+use floor_bitmap::BitmapFloor;
 use floor_locked::LockedFloor;
 use floor_tree::TreeFloor;
 use floors::Floor;
@@ -67,6 +68,7 @@ fn first_bad_size_is_the_refusal(rt: HostRuntime) {
         &[
             first_bad_size_is_the_refusal_over::<RuledLine, TreeFloor>(rt.alloc()),
             first_bad_size_is_the_refusal_over::<LockedLine, LockedFloor>(rt.alloc()),
+            first_bad_size_is_the_refusal_over::<RuledLine, BitmapFloor>(rt.alloc()),
         ],
     );
 }
@@ -165,6 +167,7 @@ where
 fn close_against_submit(rt: HostRuntime) {
     close_against_submit_over::<_, RuledLine, TreeFloor>(&rt, rt.alloc());
     close_against_submit_over::<_, LockedLine, LockedFloor>(&rt, rt.alloc());
+    close_against_submit_over::<_, RuledLine, BitmapFloor>(&rt, rt.alloc());
 }
 
 // Jobs of one, two and four numbers.
@@ -254,6 +257,7 @@ where
 fn feed_stops_at_the_close(rt: HostRuntime) {
     feed_stops_at_the_close_over::<_, RuledLine, TreeFloor>(&rt, rt.alloc());
     feed_stops_at_the_close_over::<_, LockedLine, LockedFloor>(&rt, rt.alloc());
+    feed_stops_at_the_close_over::<_, RuledLine, BitmapFloor>(&rt, rt.alloc());
     feed_stops_at_the_close_over::<_, Tallied<RuledLine>, LockedFloor>(&rt, rt.alloc());
 }
 
@@ -279,6 +283,7 @@ where
 fn rest_is_answered_by_the_runner_lent(rt: HostRuntime) {
     rest_is_answered_by_the_runner_lent_over::<_, RuledLine, TreeFloor>(&rt, rt.alloc());
     rest_is_answered_by_the_runner_lent_over::<_, LockedLine, LockedFloor>(&rt, rt.alloc());
+    rest_is_answered_by_the_runner_lent_over::<_, RuledLine, BitmapFloor>(&rt, rt.alloc());
 }
 
 // Three sums of 1 and 2.
@@ -324,6 +329,7 @@ where
 fn feed_stops_after_its_turns(rt: HostRuntime) {
     feed_stops_after_its_turns_over::<_, RuledLine, TreeFloor>(&rt, rt.alloc());
     feed_stops_after_its_turns_over::<_, LockedLine, LockedFloor>(&rt, rt.alloc());
+    feed_stops_after_its_turns_over::<_, RuledLine, BitmapFloor>(&rt, rt.alloc());
 }
 
 // Returns whether three jobs were accepted, and their seqs are those of the only worker's replies,
@@ -381,4 +387,5 @@ where
 fn worker_stops_when_it_is_enough(rt: HostRuntime) {
     worker_stops_when_it_is_enough_over::<_, RuledLine, TreeFloor>(&rt, rt.alloc());
     worker_stops_when_it_is_enough_over::<_, LockedLine, LockedFloor>(&rt, rt.alloc());
+    worker_stops_when_it_is_enough_over::<_, RuledLine, BitmapFloor>(&rt, rt.alloc());
 }

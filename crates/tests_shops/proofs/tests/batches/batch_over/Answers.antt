@@ -1,6 +1,10 @@
 use denote.Param.Send.{sendable}
+use Rattle.floor_bitmap.proofs.SharedLemmas.{bitmap_floor_sync}
 use Rattle.floor_tree.proofs.SharedLemmas.{tree_floor_sync}
 use Rattle.tests_shops.proofs.tests.batches.batch_over.Goals as goal
 
 pub batch_of-requires-sync-F : goal.batch_of-requires-sync-F
 batch_of-requires-sync-F g c κs = search (sendable, tree_floor_sync) depth 20
+
+pub batch_of-requires-in-Bitmaps-sync-F : goal.batch_of-requires-in-Bitmaps-sync-F
+batch_of-requires-in-Bitmaps-sync-F g c κs = search (sendable, bitmap_floor_sync) depth 20

@@ -1,6 +1,10 @@
 use denote.Param.Send.{sendable}
+use Rattle.floor_bitmap.proofs.SharedLemmas.{bitmap_floor_sync}
 use Rattle.floor_tree.proofs.SharedLemmas.{tree_floor_sync}
 use Rattle.tests_shops.proofs.tests.crowd.crowd_over.Goals as goal
 
 pub crowd_on_floor-requires-sync-F : goal.crowd_on_floor-requires-sync-F
 crowd_on_floor-requires-sync-F g c κs = search (sendable, tree_floor_sync) depth 20
+
+pub crowd_on_floor-requires-in-Bitmaps-sync-F : goal.crowd_on_floor-requires-in-Bitmaps-sync-F
+crowd_on_floor-requires-in-Bitmaps-sync-F g c κs = search (sendable, bitmap_floor_sync) depth 20

@@ -1,0 +1,3 @@
+mod HandleLemmas
+mod LogWalks
+pub mod SharedLemmas

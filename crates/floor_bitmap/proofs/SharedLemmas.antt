@@ -1,0 +1,30 @@
+-- Many threads may use a `BitmapFloor` at once.
+use denote.RattleType.{RattleType}
+use denote.Param.Send.{IsSend, IsSync, sendable, part_keyless}
+use Rattle.std.proofs.Crossing.{Vec-sync}
+use Rattle.atomic_table.proofs.shared.Seat.TheSendSync.{the_send as send}
+use Rattle.atomic_table.specs.contracts.shared.Seat as seat
+use Rattle.bitmap_tree.specs.contracts.view.Run as run
+use Rattle.bitmap_tree.specs.contracts.view.View as view
+use Rattle.bitmap_tree.specs.contracts.handles.Permit as permit
+use Rattle.bitmap_tree.proofs.handles.BitmapTree.TheSendSync as tree_sync
+use Rattle.floor_bitmap.specs.contracts.floor_bitmap.BitmapFloor as floor
+
+-- a seat that is only looked at
+seat_sync : (S V : RattleType) → IsSend S → IsSync (seat.the_row S V)
+seat_sync S V s = record { shared = λ d b o ν q. part_keyless (seat.the_row S V) (send S V s) q d b o }
+
+own_seat_sync : IsSync (seat.the_row run.the_row view.the_row)
+own_seat_sync = seat_sync run.the_row view.the_row (search sendable)
+
+permit_field_sync : IsSync (permit.the_field).row
+permit_field_sync = search (sendable, own_seat_sync) depth 20
+
+permit_sync : IsSync permit.the_row
+permit_sync = search (sendable, permit_field_sync) depth 20
+
+floor_field_sync : IsSync (floor.the_field).row
+floor_field_sync = search (sendable, tree_sync.the_field_sync, Vec-sync, permit_sync) depth 20
+
+pub bitmap_floor_sync : IsSync floor.the_row
+bitmap_floor_sync = search (sendable, floor_field_sync) depth 20
