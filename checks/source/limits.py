@@ -25,6 +25,9 @@ OTHERS = (
     (r"\w+/proofs/", r"search \(.*\) depth 20", "how deep a search goes"),
     (r"cli_commands/src/progress\.rt", r"PAUSE: u64 = 20", "the pause of the line of progress"),
     (r"cube_bench/src/rounds\.rt", r"MAX_DIM: u32 = 20", "the largest job that is measured"),
+    (r"cube_bench/src/regions/random\.rt", r"<< 1[37]|in 0\.\.20", "the shifts of the generator and its first turns"),
+    (r"cube_bench/src/regions/\w+\.rt", r"next\(\) >> 20", "the low bits of a random number"),
+    (r"cube_bench/src/regions/\w+\.rt", r"padding: \[(0|u64); 16\]", "the words of two cache lines"),
     # Limits that have to be written out: when one is changed, its entry here is one that no literal needs.
     (r"cli_args/src/command_line\.rt", r"lane is below 16", "MAX_LANES in the help"),
     (r"cubejobs_c/src/machine\.rt", r"\[bool; 4096\]", "2^MAX_DIM in the struct for C"),

@@ -1,2 +1,4 @@
+pub mod RegionLanes
+pub mod RegionWords
 pub mod TreeLanes
 pub mod TreeWords

@@ -8,6 +8,7 @@ mod words;
 use crate::outcome::{MeasureError, Measured, nanos_since};
 use cube_shape::{MAX_DIM, MAX_LANES};
 use dispatcher::{Finished, Plain, ShopRefused};
+use floor_bitmap::BitmapFloor;
 use floor_locked::LockedFloor;
 use floor_tree::TreeFloor;
 use floors::Floor;
@@ -23,7 +24,7 @@ use std::rt::Clock;
 use std::sync::Wait;
 use std::thread::Threads;
 use std::time::Instant;
-use words::{Invocation, parse_words};
+use words::{Invocation, ShopName, parse_words};
 
 // Returns how many replies there are.
 fn reply_count<M>(finished: &Finished<M>) -> u64 {
@@ -72,10 +73,10 @@ fn measure_shop<R: Threads + Wait + Sync + Clock>(
     requires lanes { invocation.lanes ≤ MAX_LANES }
     requires dim { invocation.sizes.dim ≤ MAX_DIM }
 {
-    if invocation.is_free {
-        run_shop::<R, RuledLine, TreeFloor>(rt, alloc, invocation)
-    } else {
-        run_shop::<R, LockedLine, LockedFloor>(rt, alloc, invocation)
+    match invocation.shop {
+        ShopName::Free => run_shop::<R, RuledLine, TreeFloor>(rt, alloc, invocation),
+        ShopName::Bitmaps => run_shop::<R, RuledLine, BitmapFloor>(rt, alloc, invocation),
+        ShopName::Locked => run_shop::<R, LockedLine, LockedFloor>(rt, alloc, invocation),
     }
 }
 

@@ -20,6 +20,14 @@
 //! whose stations are all with one caller, and `bits` by the allocation bits. With `half`, one more
 //! station holds half of the machine all the while. It prints how many takes succeeded.
 //!
+//! `regions SCENARIO N LOW HIGH LOAD THREADS [exact] [times]` takes and releases blocks of a bitmap
+//! tree of dimension N. First it fills the tree as the scenario says (bench/peers/regions.c), and
+//! prints `ready`. Each line of standard input is a number of turns, which each thread makes. Then
+//! it prints how many takes were refused. With `exact` a turn whose block is not kept calls `take`
+//! instead of `take_quick`. With `times` each turn whose block is not kept is timed: three more
+//! lines are median, 99 % and 99.9 % in nanoseconds. At the end of the input it releases all, and
+//! prints how many words were free. It fails if the machine is not whole then.
+//!
 //! `dispatch SHOP ITEMS LANES DISPATCHERS CAPACITY JOBS` runs a dispatcher on threads. SHOP is
 //! `free`, the lock-free queue and allocator, or `locked`, a queue and an allocator under a lock
 //! each. Each lane submits JOBS all-reduces of ITEMS numbers. DISPATCHERS workers run them on
@@ -38,12 +46,14 @@ mod jobs;
 mod line;
 mod memory;
 mod outcome;
+mod regions;
 mod rounds;
 mod tree;
 
 use outcome::{MeasureError, Measured, print};
 use std::alloc::Global;
 use std::io;
+use std::io::Input;
 use std::process::ExitCode;
 use std::rt::{Clock, Env};
 use std::sync::Wait;
@@ -56,7 +66,7 @@ fn arguments<R: Env + AllocGlobal>(rt: &R) -> io::Result<Vec<String>> {
 }
 
 // Makes the measurement of these arguments. The first of them is its name.
-fn measure<R: Threads + Wait + Sync + Clock + Print>(
+fn measure<R: Threads + Wait + Sync + Clock + Input + Print>(
     rt: &R,
     alloc: Global,
     words: &[String],
@@ -68,6 +78,7 @@ fn measure<R: Threads + Wait + Sync + Clock + Print>(
         "rounds" => rounds::measure(alloc, words),
         "line" => line::measure(rt, alloc, words),
         "tree" => tree::measure(rt, alloc, words),
+        "regions" => regions::measure(rt, alloc, words),
         "dispatch" => dispatch::measure(rt, alloc, words),
         "memory" => memory::measure(rt, alloc, words),
         _ => Err(MeasureError::BadWords),
@@ -75,7 +86,7 @@ fn measure<R: Threads + Wait + Sync + Clock + Print>(
 }
 
 // Makes the measurements of these arguments one after the other, and prints the result of each.
-fn measure_each<R: Threads + Wait + Sync + Clock + Print + Eprint>(
+fn measure_each<R: Threads + Wait + Sync + Clock + Input + Print + Eprint>(
     rt: &R,
     alloc: Global,
     words: &[String],

@@ -12,6 +12,7 @@ mod single;
 mod told;
 
 use crate::outcome::{MeasureError, Measured};
+use floor_bitmap::BitmapFloor;
 use floor_locked::LockedFloor;
 use floor_tree::TreeFloor;
 use line_locked::LockedLine;
@@ -28,6 +29,8 @@ enum Calls {
     Files,
     // On the lock-free dispatcher, with this many jobs.
     Free(usize),
+    // On the lock-free dispatcher with the tree of bitmaps, with this many jobs.
+    Bitmaps(usize),
     // On the dispatcher under locks, with this many jobs.
     Locked(usize),
 }
@@ -42,6 +45,7 @@ fn calls_of_shop(words: &[String]) -> Option<Calls> {
     };
     match shop.as_str() {
         "free" => Some(Calls::Free(jobs)),
+        "bitmaps" => Some(Calls::Bitmaps(jobs)),
         "locked" => Some(Calls::Locked(jobs)),
         _ => None,
     }
@@ -66,6 +70,7 @@ fn call_all<R: Wait + Print>(rt: &R, alloc: Global, calls: Calls) -> io::Result<
         Calls::Items => items::call_all(rt, alloc),
         Calls::Files => files::call_all(rt, alloc),
         Calls::Free(jobs) => shop::call_all::<R, RuledLine, TreeFloor>(rt, alloc, jobs),
+        Calls::Bitmaps(jobs) => shop::call_all::<R, RuledLine, BitmapFloor>(rt, alloc, jobs),
         Calls::Locked(jobs) => shop::call_all::<R, LockedLine, LockedFloor>(rt, alloc, jobs),
     }
 }

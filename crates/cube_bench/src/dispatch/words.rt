@@ -7,11 +7,22 @@ use dispatcher::{ShopSizes, refusal};
 // The dimension of the machine.
 const DIM: u32 = 10;
 
+/// A choice of the queue and the allocator.
+#[derive(Clone, Copy)]
+pub(crate) enum ShopName {
+    /// The lock-free queue, and the tree of status words.
+    Free,
+    /// The lock-free queue, and the tree of bitmaps.
+    Bitmaps,
+    /// The queue and the allocator under one lock each.
+    Locked,
+}
+
 /// The run that is to be measured.
 #[derive(Clone, Copy)]
 pub(crate) struct Invocation {
-    /// Whether the dispatcher is the lock-free one.
-    pub is_free: bool,
+    /// The queue and the allocator of the dispatcher.
+    pub shop: ShopName,
     /// The number of items of each job: at most one for each processor.
     pub items: usize,
     pub lanes: u32,
@@ -20,11 +31,12 @@ pub(crate) struct Invocation {
     pub jobs: usize,
 }
 
-// Returns whether this is the lock-free dispatcher, if it is one.
-fn is_free(name: &str) -> Option<bool> {
+// Returns the dispatcher of this name.
+fn shop_named(name: &str) -> Option<ShopName> {
     match name {
-        "free" => Some(true),
-        "locked" => Some(false),
+        "free" => Some(ShopName::Free),
+        "bitmaps" => Some(ShopName::Bitmaps),
+        "locked" => Some(ShopName::Locked),
         _ => None,
     }
 }
@@ -36,7 +48,7 @@ fn asked_for(words: &[String]) -> Option<Invocation>
     let [shop, items, lanes, dispatchers, capacity, jobs] = words else {
         return None;
     };
-    let is_free = is_free(shop)?;
+    let shop = shop_named(shop)?;
     let sizes = (
         items.parse::<usize>(),
         capacity.parse::<usize>(),
@@ -50,7 +62,7 @@ fn asked_for(words: &[String]) -> Option<Invocation>
         return None;
     };
     Some(Invocation {
-        is_free,
+        shop,
         items,
         lanes,
         sizes: ShopSizes {

@@ -10,6 +10,8 @@ use cube_shape::MAX_STATIONS;
 pub(crate) enum TreeRun {
     /// The tree, with a station on each of this many threads.
     Threads(u32, Workload),
+    /// The tree of bitmaps, with this many threads.
+    Bitmaps(u32, Workload),
     /// The tree, with all stations with one caller.
     Solo(Workload),
     /// The allocation bits.
@@ -45,13 +47,16 @@ fn asks_for_half(words: &[String]) -> Option<bool> {
     }
 }
 
-// Returns the run of a tree on threads.
-fn on_threads(threads: &str, workload: Workload) -> Option<TreeRun>
+// Returns the run of a tree on threads: of the tree of bitmaps, or of the tree of status words.
+fn on_threads(threads: &str, workload: Workload, has_bitmaps: bool) -> Option<TreeRun>
     ensures { IfSome result HasLanes }
 {
     let threads = threads.parse::<u32>().ok()?;
     if threads == 0 || threads >= MAX_STATIONS {
         return None;
+    }
+    if has_bitmaps {
+        return Some(TreeRun::Bitmaps(threads, workload));
     }
     Some(TreeRun::Threads(threads, workload))
 }
@@ -80,10 +85,15 @@ pub(crate) fn parse_words(words: &[String]) -> Option<TreeRun>
     let [sizes, threads, turns, rest @ ..] = words else {
         return None;
     };
+    if let [word] = rest
+        && word.as_str() == "bitmaps"
+    {
+        return on_threads(threads, workload_of(sizes, turns, &[])?, true);
+    }
     let workload = workload_of(sizes, turns, rest)?;
     match threads.as_str() {
         "solo" => Some(TreeRun::Solo(workload)),
         "bits" => Some(TreeRun::Bits(workload)),
-        threads => on_threads(threads, workload),
+        threads => on_threads(threads, workload, false),
     }
 }
