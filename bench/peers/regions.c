@@ -303,9 +303,11 @@ static void deal(struct lane *holder, struct lane *lane, uint64_t count) {
 
 static uint64_t start_of(unsigned lane, unsigned threads) {
     uint64_t processors = UINT64_C(1) << machine_dimension;
+    /* A cache line has 8 words of 64 processors. */
+    uint64_t first = 512 * (uint64_t)(lane % 16);
     switch (BEGINS) {
     case NEAR_FRONT:
-        return (512 * (uint64_t)(lane % 16) + 64 * (512 * (uint64_t)(lane % 16) / processors)) % processors;
+        return (first + 64 * (first / processors)) % processors;
     case SPREAD:
         return processors / threads * lane % processors;
     default:
