@@ -7,7 +7,7 @@
 
 #include "bits.h"
 
-enum { MAX_DIM = 20, MAX_BLOCK_DIM = MAX_DIM, ONE_BLOCK_A_LANE = 0 };
+enum { MAX_DIM = 20, MAX_BLOCK_DIM = MAX_DIM };
 static const enum begins BEGINS = NEAR_FRONT;
 static const bool CAN_LEAVE_MARKS = false;
 /* How many exchanges a call tries in a word before it gives the word up, and how many groups of 64 words a search
@@ -62,12 +62,12 @@ static void open_machine(unsigned n) {
         level->pad = is_top ? ONES << (1u << dim) : 0;
         level->groups = words_of(dim, 2 * WORD_DIM);
         level->top_count = words_of(dim, 3 * WORD_DIM);
-        level->marks = new_words((size_t)(LINE * level->groups), is_top ? ~UINT64_C(1) : ONES);
-        level->tops = new_words((size_t)(LINE * level->top_count), is_top ? ~UINT64_C(1) : ONES);
+        level->marks = new_words((size_t)(LINE * level->groups), ONES);
+        level->tops = new_words((size_t)(LINE * level->top_count), ONES);
     }
 }
 
-/* ---- marks */
+/* ---- marks. The top level is one word, and has none. */
 
 static inline word_t *marks_at(struct level *level, unsigned k, int group) {
     return &level->marks[LINE * group + (int)k];
@@ -77,7 +77,11 @@ static inline word_t *top_at(struct level *level, unsigned k, int top) {
     return &level->tops[LINE * top + (int)k];
 }
 
+/* Whether each word of a level has its mark for the dimension, or the word of the top level has no room for it. */
 static bool is_full(struct level *level, unsigned k) {
+    if (level == &levels[top_level]) {
+        return rooms_of(atomic_load(&level->words[0]) | level->pad, k) == 0;
+    }
     for (int top = 0; top < level->top_count; top++) {
         if (atomic_load(top_at(level, k, top)) != ONES) {
             return false;
@@ -99,40 +103,46 @@ static int next_group(struct level *level, unsigned k, int from) {
     return NO_WORD;
 }
 
-static int word_in(int group, uint64_t words) {
-    return WORD_BITS * group + __builtin_ctzll(words);
+/* The first of some words of a group, from one on if there is such a word. */
+static inline int word_in(int group, uint64_t words, int from) {
+    uint64_t later = words & ONES << (from % WORD_BITS);
+    return WORD_BITS * group + __builtin_ctzll(later != 0 ? later : words);
 }
 
-/* The next word, from one on, that has no mark for the dimension. A word with the mark of dimension k + 1 comes first,
- * if there is one in the next groups: a block taken there splits no larger one. */
-static int next_word(struct level *level, unsigned k, int from) {
-    uint64_t later = ONES << (from % WORD_BITS);
+/* The next word without a mark for the dimension: of the group of one word, or of a later group. A word with the mark of
+ * dimension k + 1 comes first, if there is one in the next groups: a block taken there splits no larger one. */
+static int next_tight(struct level *level, unsigned k, int from) {
     int group = from / WORD_BITS, first = NO_WORD;
     for (int looks = 0; looks < level->groups && group != NO_WORD && group < level->groups; looks++) {
-        uint64_t open = ~atomic_load(marks_at(level, k, group)) & later;
+        uint64_t open = ~atomic_load(marks_at(level, k, group));
         uint64_t larger = k + 1 < WORD_DIM ? atomic_load(marks_at(level, k + 1, group)) : 0;
         if (open & larger) {
-            return word_in(group, open & larger);
+            return word_in(group, open & larger, from);
         }
         if (first == NO_WORD && open != 0) {
-            first = word_in(group, open);
+            first = word_in(group, open, from);
         }
         if (first != NO_WORD && (larger == 0 || looks + 1 >= TIGHT_GROUPS)) {
             return first;
         }
-        later = ONES;
         group = next_group(level, k, group + 1);
+        from = 0;
     }
     return first;
 }
 
-/* The marks of a group of words for any dimension. */
-static uint64_t any_marks(struct level *level, int group) {
-    uint64_t marks = 0;
-    for (unsigned k = 0; k < WORD_DIM; k++) {
-        marks |= atomic_load(marks_at(level, k, group));
+/* The next word of a level that has no mark for the dimension, from one on: this one, or where a level above may have a
+ * free unit, the first of its group. Otherwise it is one in which a block splits no larger one, if there is one near. */
+static int next_word(struct level *level, unsigned k, int from) {
+    int group = from / WORD_BITS;
+    uint64_t open = group < level->groups ? ~atomic_load(marks_at(level, k, group)) : 0;
+    if (open >> (from % WORD_BITS) & 1) {
+        return from;
     }
-    return marks;
+    if (open != 0 && !is_full(level + 1, 0)) {
+        return word_in(group, open, from);
+    }
+    return next_tight(level, k, from);
 }
 
 /* The least dimension for which a word has no room. */
@@ -145,22 +155,24 @@ static unsigned rooms_in(uint64_t word) {
     return k;
 }
 
+static void clear_mark(struct level *level, int group, unsigned k, uint64_t mark) {
+    uint64_t group_mark = UINT64_C(1) << (group % WORD_BITS);
+    atomic_fetch_and(marks_at(level, k, group), ~mark);
+    if (atomic_load(top_at(level, k, group / WORD_BITS)) & group_mark) {
+        atomic_fetch_and(top_at(level, k, group / WORD_BITS), ~group_mark);
+    }
+}
+
 /* Clears the marks of a word for the dimensions for which it has room. */
 static void unmark(struct level *level, int64_t number, uint64_t word) {
     uint64_t mark = UINT64_C(1) << (number % WORD_BITS);
     int group = (int)(number / WORD_BITS);
-    uint64_t group_mark = UINT64_C(1) << (group % WORD_BITS);
-    if (!(any_marks(level, group) & mark)) {
-        return;
-    }
-    unsigned rooms = rooms_in(word | level->pad);
-    for (unsigned k = 0; k < rooms; k++) {
+    uint64_t free = ~word;
+    for (unsigned k = 0; k < WORD_DIM && (free & BLOCK_STARTS[k]) != 0; k++) {
         if (atomic_load(marks_at(level, k, group)) & mark) {
-            atomic_fetch_and(marks_at(level, k, group), ~mark);
-            if (atomic_load(top_at(level, k, group / WORD_BITS)) & group_mark) {
-                atomic_fetch_and(top_at(level, k, group / WORD_BITS), ~group_mark);
-            }
+            clear_mark(level, group, k, mark);
         }
+        free &= free >> (1u << k);
     }
 }
 
@@ -184,18 +196,20 @@ static void mark_word(struct level *level, int64_t number, unsigned k) {
     unmark(level, number, atomic_load(&level->words[number]));
 }
 
+/* Whether one half of a word is free: then it has no mark. */
+static inline bool has_half(uint64_t word) {
+    return word >> 32 == 0 || (uint32_t)word == 0;
+}
+
 /* Marks a word in which a block was taken, for the dimensions for which it has no room now. If this is k alone it
  * leaves that to the next search, since the block may be back by then. */
-static void mark_lost(struct level *level, int64_t number, unsigned k) {
-    uint64_t left = atomic_load(&level->words[number]) | level->pad, marked = ONES;
-    if (left >> 32 == 0) {
+static void mark_lost(struct level *level, int64_t number, unsigned k, uint64_t left) {
+    if (has_half(left) || level == &levels[top_level]) {
         return;
     }
     unsigned lost = rooms_in(left);
-    for (unsigned dim = lost; dim < WORD_DIM; dim++) {
-        marked &= dim == k ? ONES : atomic_load(marks_at(level, dim, (int)(number / WORD_BITS)));
-    }
-    if (marked >> (number % WORD_BITS) & 1) {
+    unsigned next = lost == k ? k + 1 : lost;
+    if (next >= WORD_DIM || atomic_load(marks_at(level, next, (int)(number / WORD_BITS))) >> (number % WORD_BITS) & 1) {
         return;
     }
     for (unsigned dim = lost; dim < WORD_DIM; dim++) {
@@ -207,7 +221,7 @@ static void mark_lost(struct level *level, int64_t number, unsigned k) {
 /* ---- takes. A place is the number of the first unit of a block in its level. */
 
 /* Takes a block of 2^k units in a word of its level: the offset, FULL or LOST. */
-static int take_in(struct level *level, int64_t number, unsigned k, int tries) {
+static inline int take_in(struct level *level, int64_t number, unsigned k, int tries) {
     uint64_t found = atomic_load(&level->words[number]);
     for (int i = 0; i < tries; i++) {
         uint64_t rooms = rooms_of(found | level->pad, k);
@@ -215,7 +229,9 @@ static int take_in(struct level *level, int64_t number, unsigned k, int tries) {
             return FULL;
         }
         unsigned offset = (unsigned)__builtin_ctzll(rooms);
-        if (atomic_compare_exchange_strong(&level->words[number], &found, found | mask_of(offset, k))) {
+        uint64_t left = found | mask_of(offset, k);
+        if (atomic_compare_exchange_strong(&level->words[number], &found, left)) {
+            mark_lost(level, number, k, left);
             return (int)offset;
         }
     }
@@ -232,28 +248,34 @@ static int64_t take_marked(struct level *level, unsigned k, int from, int tries)
         }
         int offset = take_in(level, number, k, tries);
         if (offset >= 0) {
-            mark_lost(level, number, k);
             return (int64_t)number * WORD_BITS + offset;
         }
         if (offset == FULL) {
             mark_word(level, number, k);
         } else {
             none = LOST;
+            if (tries < TRIES) {
+                return none;
+            }
             from = number + 1;
         }
     }
     return none;
 }
 
-/* Takes a block of dimension k in the open words of its level, from the word of a processor on, and then from the first
- * word. Returns its base, FULL or LOST. */
+/* Takes a block of dimension k in the open words of its level: in those of the group of a processor's word, then in later
+ * groups, then in all. On the top level this is one word. Returns its base, FULL or LOST. */
 static int64_t take_here(unsigned k, uint64_t processor, int tries) {
     unsigned number = k / WORD_DIM;
     struct level *level = &levels[number];
+    if ((int)number == top_level) {
+        int64_t place = take_in(level, 0, k % WORD_DIM, tries);
+        return place >= 0 ? place << (WORD_DIM * number) : place;
+    }
     int own = (int)(processor >> (WORD_DIM * number + WORD_DIM));
     int64_t place = take_marked(level, k % WORD_DIM, own, tries);
     int64_t none = place == LOST ? LOST : FULL;
-    if (place < 0 && own != 0 && !(none == LOST && tries < TRIES) && !is_full(level, k % WORD_DIM)) {
+    if (place < 0 && own >= WORD_BITS && !(none == LOST && tries < TRIES) && !is_full(level, k % WORD_DIM)) {
         place = take_marked(level, k % WORD_DIM, 0, tries);
         none = place == LOST ? LOST : none;
     }
@@ -331,9 +353,14 @@ static bool release_once(uint64_t *base, unsigned k) {
     unsigned number = k / WORD_DIM;
     struct level *level = &levels[number];
     uint64_t place = *base >> (WORD_DIM * number), mask = mask_of(place % WORD_BITS, k % WORD_DIM);
-    uint64_t own = place / WORD_BITS, left = atomic_fetch_sub(&level->words[own], mask) - mask;
-    unmark(level, (int64_t)own, left);
-    if (left != 0 || (int)number == top_level || atomic_load(spare_of(level, own)) == own + 1) {
+    uint64_t own = place / WORD_BITS, found = atomic_fetch_sub(&level->words[own], mask);
+    if ((int)number == top_level) {
+        return false;
+    }
+    if (!has_half(found)) {
+        unmark(level, (int64_t)own, found - mask);
+    }
+    if (found != mask || atomic_load(spare_of(level, own)) == own + 1) {
         return false;
     }
     uint64_t other = atomic_exchange(spare_of(level, own), own + 1);

@@ -317,68 +317,88 @@ loses_step n slots id i mask m within wide loses = clears_step n slots id i (λ 
 
 -- ---- seats are cut and joined
 
+-- a view is cut in two, which have its places and its permits
+cuts : (n : Size) (id : ℕ) (v left right : View)
+    → ((q : ℕ) → times q left.runs + times q right.runs ≡ times q v.runs)
+    → left.permits + right.permits ≡ v.permits
+    → (0 < n.permits → IsOwned left)
+    → (0 < n.permits → IsOwned right)
+    → Splits (IsKept n) id v left right
+cuts n id v left right places permits own_left own_right s k me = (
+  (
+    k.0.0,
+    record {
+      count = k.0.1.count;
+      root = k.0.1.root;
+      few = k.0.1.few;
+      outside = k.0.1.outside;
+      bits = λ q. omega (arith, total-push (times_in q) (set s.views id left) right, total-set (times_in q) s.views id v left me, places q, k.0.1.bits q);
+    },
+  ),
+  record {
+    permits = omega (arith, total-push permits_in (set s.views id left) right, total-set permits_in s.views id v left me, k.1.permits, permits);
+    owned = λ has_permits. in_cut IsOwned s.views id left right (own_left has_permits) (own_right has_permits) (k.1.owned has_permits);
+  },
+)
+
+-- two views become one, which has the places and the permits of both
+joins : (n : Size) (id : ℕ) (v : View) (other : ℕ) (w both : View)
+    → ((q : ℕ) → times q both.runs ≡ times q v.runs + times q w.runs)
+    → both.permits ≡ v.permits + w.permits
+    → Joins (IsKept n) id v other w both spent
+joins n id v other w both places permits s k me differ them = (
+  (
+    k.0.0,
+    record {
+      count = k.0.1.count;
+      root = k.0.1.root;
+      few = k.0.1.few;
+      outside = k.0.1.outside;
+      bits = λ q. omega (arith, total-set (times_in q) s.views id v both me, total-set (times_in q) (set s.views id both) other w spent them, places q, k.0.1.bits q);
+    },
+  ),
+  record {
+    permits = omega (arith, total-set permits_in s.views id v both me, total-set permits_in (set s.views id both) other w spent them, k.1.permits, permits);
+    owned = λ has_permits. in_joined IsOwned s.views id other both spent
+        (λ none_is q. let a : v.permits ≡ 0 = omega (arith, none_is, permits) in let b : w.permits ≡ 0 = omega (arith, none_is, permits) in
+        omega (arith, places q, k.1.owned has_permits id v me a q, k.1.owned has_permits other w (sym (set_else s.views id other both differ) ∙ them) b q))
+        (λ none_is q. refl) (k.1.owned has_permits);
+  },
+)
+
 pub deals : (n : Size) (id : ℕ) (v : View)
     → ((q : ℕ) → times q v.runs ≡ 0)
     → (0 < n.permits → 0 < v.permits)
     → Splits (IsKept n) id v (without_permit v) (one_permit v)
-deals n id v nothing enough s k me = (
-  (
-    k.0.0,
-    record {
-      count = k.0.1.count;
-      root = k.0.1.root;
-      few = k.0.1.few;
-      outside = k.0.1.outside;
-      bits = λ q. omega (arith, total-push (times_in q) (set s.views id (without_permit v)) (one_permit v), total-set (times_in q) s.views id v (without_permit v) me, has_none q, k.0.1.bits q);
-    },
-  ),
-  record {
-    permits = omega (arith, total-push permits_in (set s.views id (without_permit v)) (one_permit v), total-set permits_in s.views id v (without_permit v) me, k.1.permits);
-    owned = λ has_permits. in_cut IsOwned s.views id (without_permit v) (one_permit v) (λ none_is q. nothing q) (λ none_is q. has_none q) (k.1.owned has_permits);
-  },
-)
+deals n id v nothing enough =
+    cuts n id v (without_permit v) (one_permit v) (λ q. omega (arith, has_none q)) (omega arith)
+    (λ has_permits none_is q. nothing q)
+    (λ has_permits none_is q. has_none q)
+
+pub deals_more : (n : Size) (id : ℕ) (v : View)
+    → 1 < v.permits
+    → Splits (IsKept n) id v (without_permit v) (one_permit v)
+deals_more n id v several =
+    cuts n id v (without_permit v) (one_permit v) (λ q. omega (arith, has_none q)) (omega arith)
+    (λ has_permits none_is. absurd (omega (arith, several, none_is)))
+    (λ has_permits none_is q. has_none q)
 
 pub cuts_first : (n : Size) (id : ℕ) (v : View)
     → (0 < n.permits → 1 < v.permits)
     → Splits (IsKept n) id v (without_first v) (only_first v)
-cuts_first n id v enough s k me = (
-  (
-    k.0.0,
-    record {
-      count = k.0.1.count;
-      root = k.0.1.root;
-      few = k.0.1.few;
-      outside = k.0.1.outside;
-      bits = λ q. omega (arith, total-push (times_in q) (set s.views id (without_first v)) (only_first v), total-set (times_in q) s.views id v (without_first v) me, cut-total (has q) v.runs, k.0.1.bits q);
-    },
-  ),
-  record {
-    permits = omega (arith, total-push permits_in (set s.views id (without_first v)) (only_first v), total-set permits_in s.views id v (without_first v) me, k.1.permits);
-    owned = λ has_permits. in_cut IsOwned s.views id (without_first v) (only_first v) (λ none_is. absurd (omega (arith, enough has_permits, none_is))) (λ none_is. absurd (omega (arith, enough has_permits, none_is))) (k.1.owned has_permits);
-  },
-)
+cuts_first n id v enough =
+    cuts n id v (without_first v) (only_first v) (λ q. cut-total (has q) v.runs) (omega arith)
+    (λ has_permits none_is. absurd (omega (arith, enough has_permits, none_is)))
+    (λ has_permits none_is. absurd (omega (arith, enough has_permits, none_is)))
 
 pub merges : (n : Size) (id : ℕ) (v : View) (other : ℕ) (w : View)
     → Joins (IsKept n) id v other w (joined v w) spent
-merges n id v other w s k me differ them = (
-  (
-    k.0.0,
-    record {
-      count = k.0.1.count;
-      root = k.0.1.root;
-      few = k.0.1.few;
-      outside = k.0.1.outside;
-      bits = λ q. omega (arith, total-set (times_in q) s.views id v (joined v w) me, total-set (times_in q) (set s.views id (joined v w)) other w spent them, total-append (has q) v.runs w.runs, k.0.1.bits q);
-    },
-  ),
-  record {
-    permits = omega (arith, total-set permits_in s.views id v (joined v w) me, total-set permits_in (set s.views id (joined v w)) other w spent them, k.1.permits);
-    owned = λ has_permits. in_joined IsOwned s.views id other (joined v w) spent
-        (λ none_is q. let a : v.permits ≡ 0 = omega (arith, none_is) in let b : w.permits ≡ 0 = omega (arith, none_is) in
-        omega (arith, total-append (has q) v.runs w.runs, k.1.owned has_permits id v me a q, k.1.owned has_permits other w (sym (set_else s.views id other (joined v w) differ) ∙ them) b q))
-        (λ none_is q. refl) (k.1.owned has_permits);
-  },
-)
+merges n id v other w = joins n id v other w (joined v w) (λ q. total-append (has q) v.runs w.runs) refl
+
+pub adds_permit : (n : Size) (id : ℕ) (v : View) (other : ℕ) (w : View)
+    → ((q : ℕ) → times q w.runs ≡ 0)
+    → Joins (IsKept n) id v other w (with_permits_of v w) spent
+adds_permit n id v other w nothing = joins n id v other w (with_permits_of v w) (λ q. omega (arith, nothing q)) refl
 
 -- a run has the places of its two parts
 has_before : (q b L : ℕ) → q < b → has q (run b L) ≡ 0
@@ -417,22 +437,10 @@ halves-times q (r ∷ rs) =
 pub cuts_half : (n : Size) (id : ℕ) (v : View)
     → (0 < n.permits → 1 < v.permits)
     → Splits (IsKept n) id v (with_lower v) (only_upper v)
-cuts_half n id v enough s k me = (
-  (
-    k.0.0,
-    record {
-      count = k.0.1.count;
-      root = k.0.1.root;
-      few = k.0.1.few;
-      outside = k.0.1.outside;
-      bits = λ q. omega (arith, total-push (times_in q) (set s.views id (with_lower v)) (only_upper v), total-set (times_in q) s.views id v (with_lower v) me, halves-times q v.runs, k.0.1.bits q);
-    },
-  ),
-  record {
-    permits = omega (arith, total-push permits_in (set s.views id (with_lower v)) (only_upper v), total-set permits_in s.views id v (with_lower v) me, k.1.permits);
-    owned = λ has_permits. in_cut IsOwned s.views id (with_lower v) (only_upper v) (λ none_is. absurd (omega (arith, enough has_permits, none_is))) (λ none_is. absurd (omega (arith, enough has_permits, none_is))) (k.1.owned has_permits);
-  },
-)
+cuts_half n id v enough =
+    cuts n id v (with_lower v) (only_upper v) (λ q. halves-times q v.runs) (omega arith)
+    (λ has_permits none_is. absurd (omega (arith, enough has_permits, none_is)))
+    (λ has_permits none_is. absurd (omega (arith, enough has_permits, none_is)))
 
 -- two runs that are next to each other have the places of the one that they make
 glued-times : (q : ℕ) (xs ys : List Run)
@@ -451,64 +459,4 @@ glued-times q (a ∷ rs) (b ∷ bs) near =
 pub glues : (n : Size) (id : ℕ) (v : View) (other : ℕ) (w : View)
     → AreNext v.runs w.runs
     → Joins (IsKept n) id v other w (glued v w) spent
-glues n id v other w near s k me differ them = (
-  (
-    k.0.0,
-    record {
-      count = k.0.1.count;
-      root = k.0.1.root;
-      few = k.0.1.few;
-      outside = k.0.1.outside;
-      bits = λ q. omega (arith, total-set (times_in q) s.views id v (glued v w) me, total-set (times_in q) (set s.views id (glued v w)) other w spent them, glued-times q v.runs w.runs near, k.0.1.bits q);
-    },
-  ),
-  record {
-    permits = omega (arith, total-set permits_in s.views id v (glued v w) me, total-set permits_in (set s.views id (glued v w)) other w spent them, k.1.permits);
-    owned = λ has_permits. in_joined IsOwned s.views id other (glued v w) spent
-        (λ none_is q. let a : v.permits ≡ 0 = omega (arith, none_is) in let b : w.permits ≡ 0 = omega (arith, none_is) in
-        omega (arith, glued-times q v.runs w.runs near, k.1.owned has_permits id v me a q, k.1.owned has_permits other w (sym (set_else s.views id other (glued v w) differ) ∙ them) b q))
-        (λ none_is q. refl) (k.1.owned has_permits);
-  },
-)
-
-pub deals_more : (n : Size) (id : ℕ) (v : View)
-    → 1 < v.permits
-    → Splits (IsKept n) id v (without_permit v) (one_permit v)
-deals_more n id v several s k me = (
-  (
-    k.0.0,
-    record {
-      count = k.0.1.count;
-      root = k.0.1.root;
-      few = k.0.1.few;
-      outside = k.0.1.outside;
-      bits = λ q. omega (arith, total-push (times_in q) (set s.views id (without_permit v)) (one_permit v), total-set (times_in q) s.views id v (without_permit v) me, has_none q, k.0.1.bits q);
-    },
-  ),
-  record {
-    permits = omega (arith, total-push permits_in (set s.views id (without_permit v)) (one_permit v), total-set permits_in s.views id v (without_permit v) me, k.1.permits, several);
-    owned = λ has_permits. in_cut IsOwned s.views id (without_permit v) (one_permit v) (λ none_is. absurd (omega (arith, several, none_is))) (λ none_is q. has_none q) (k.1.owned has_permits);
-  },
-)
-
-pub adds_permit : (n : Size) (id : ℕ) (v : View) (other : ℕ) (w : View)
-    → ((q : ℕ) → times q w.runs ≡ 0)
-    → Joins (IsKept n) id v other w (with_permits_of v w) spent
-adds_permit n id v other w nothing s k me differ them = (
-  (
-    k.0.0,
-    record {
-      count = k.0.1.count;
-      root = k.0.1.root;
-      few = k.0.1.few;
-      outside = k.0.1.outside;
-      bits = λ q. omega (arith, total-set (times_in q) s.views id v (with_permits_of v w) me, total-set (times_in q) (set s.views id (with_permits_of v w)) other w spent them, nothing q, k.0.1.bits q);
-    },
-  ),
-  record {
-    permits = omega (arith, total-set permits_in s.views id v (with_permits_of v w) me, total-set permits_in (set s.views id (with_permits_of v w)) other w spent them, k.1.permits);
-    owned = λ has_permits. in_joined IsOwned s.views id other (with_permits_of v w) spent
-        (λ none_is q. let a : v.permits ≡ 0 = omega (arith, none_is) in k.1.owned has_permits id v me a q)
-        (λ none_is q. refl) (k.1.owned has_permits);
-  },
-)
+glues n id v other w near = joins n id v other w (glued v w) (λ q. glued-times q v.runs w.runs near) refl

@@ -1,6 +1,7 @@
 -- What contracts say of a machine and of what is held in it.
 use Rattle.std.specs.Prelude.{◌≡◌, ℕ, ◌<◌, List}
 use Rattle.atomic_table.specs.Seated.{TableId}
+use Rattle.atomic_table.specs.declared.shared.Seat.{Seat}
 use Rattle.cube_shape.specs.declared.region.Region.{Region}
 use Rattle.bitmap_tree.specs.declared.handles.BitmapTree.{BitmapTree}
 use Rattle.bitmap_tree.specs.declared.handles.HeldBlock.{HeldBlock}
@@ -9,6 +10,8 @@ use Rattle.bitmap_tree.specs.declared.handles.Permit.{Permit}
 use Rattle.bitmap_tree.specs.declared.handles.Released.{Released}
 use Rattle.bitmap_tree.specs.Layout.{Known}
 use Rattle.bitmap_tree.specs.declared.view.Note.{Note}
+use Rattle.bitmap_tree.specs.declared.view.Run.{Run}
+use Rattle.bitmap_tree.specs.declared.view.View.{View}
 
 -- The identity of a machine: that of its table of words.
 abbrev pub id_of : BitmapTree → TableId
@@ -29,6 +32,14 @@ MayClaim machine m = 0 < permits_of machine → 0 < m.0.permits
 -- The block that is held.
 abbrev pub held_region : HeldBlock → Region
 held_region held = held.region
+
+-- The dimension of the machine in which it is held.
+abbrev pub held_dim : HeldBlock → ℕ
+held_dim held = held.dim
+
+-- The seat that has it.
+abbrev pub held_seat : HeldBlock → Seat Run View
+held_seat held = held.seat
 
 -- what is held is of this machine
 abbrev pub IsHeldOf : BitmapTree → HeldBlock → Type 0

@@ -9,6 +9,7 @@ pub mod InnerRule
 pub mod InnerSteps
 pub mod InnerTrail
 pub mod Layout
+pub mod Parts
 pub mod Rule
 pub mod Trail
 pub use Rattle.cube_shape.specs.Region.{AreApart, IsAligned}

@@ -71,7 +71,8 @@ impl BitmapTree {
         requires all { seat.me.0.permits ≡ permits_of self }
         requires some { 0 < permits_of self }
         requires nothing { (q : ℕ) → times q seat.me.0.runs ≡ 0 }
-        ensures { IsFresh result.items }
+        ensures count { length result.items ≡ word_count (dim_of self) }
+        ensures fresh { IsFresh result.items }
     {
         let BitmapTree {
             table,

@@ -1,5 +1,5 @@
 //! A machine, and what its callers hold.
-ghost use Rattle.std.specs.Prelude.{◌≡◌, ◌+◌, ◌/◌, ◌%◌, ◌^◌, ◌≤◌, vec_len};
+ghost use Rattle.std.specs.Prelude.{◌≡◌, ◌+◌, ◌/◌, ◌%◌, ◌^◌, ◌≤◌, [], vec_len};
 ghost use Rattle.cube_shape.specs.declared.limits.TheConstants.{MAX_BITMAP_DIM};
 ghost use Rattle.bitmap_tree.specs.Rule.{word_count};
 ghost use Rattle.bitmap_tree.specs.Layout.{HasNone, HasRun, run_of};
@@ -20,13 +20,13 @@ pub type Seat = atomic_table::Seat<Run, View>;
 pub struct BitmapTree {
     pub(crate) table: Table<Run, View, Size, BitmapRule, Global>,
     pub(crate) size: Size,
-    // Where a search need not look, for each level, and which words stay open.
+    // Where a search need not look, for each level below the top, and which words stay open.
     pub(crate) marks: Vec<Marks>,
     pub(crate) spares: Spares,
     // Where the words go at the end.
     pub(crate) room: Vec<u64>,
     ghost has_room: { vec_len room ≡ word_count size.dim },
-    ghost marked: { vec_len marks ≡ size.dim / 6 + 1 },
+    ghost marked: { vec_len marks ≡ size.dim / 6 },
     ghost keyed: { table.shared.key ≡ size },
     ghost words: { table.shared.table_id.words ≡ word_count size.dim },
     ghost no_slots: { table.shared.table_id.slots ≡ 0 },
@@ -53,12 +53,14 @@ pub struct Refused {
     /// calls.
     pub contended: u32,
     pub(crate) seat: Seat,
+    ghost no_slot: { seat.me.1 ≡ [] },
 }
 
 /// A block that was released, and what the steps of the release changed.
 #[derive(Drop)]
 pub struct Released {
     pub(crate) seat: Seat,
+    ghost no_slot: { seat.me.1 ≡ [] },
 }
 
 /// The right to hold one block at a time, in a machine that has permits. It cannot be dropped.

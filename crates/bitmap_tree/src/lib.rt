@@ -18,6 +18,7 @@ mod layout;
 mod marks;
 mod mask;
 mod opening;
+mod parts;
 mod permit_halves;
 mod permits;
 mod releases;
@@ -32,3 +33,5 @@ mod view;
 
 pub use cube_shape::{MAX_BITMAP_DIM, Region};
 pub use handles::{BitmapTree, HeldBlock, Permit, Refused, Released};
+pub use parts::{BlockSeat, BlockView};
+pub use view::Run;

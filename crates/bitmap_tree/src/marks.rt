@@ -1,14 +1,15 @@
 //! Summary bits (marks): where a search need not look. No proof rests on what they say.
 //!
-//! For each dimension below 6 a word has a mark: no block of this dimension was found in it. The
-//! marks of 64 words are one number. The numbers of the six dimensions are side by side in a line
-//! of eight. A second level of numbers has a bit for each number that is all ones.
+//! For each dimension below 6 a word has a mark: it had no room for a block of this dimension when
+//! a call last looked. The marks of 64 words are one number. The numbers of the six dimensions are
+//! side by side in a line of eight. A second level of numbers has a bit for each number that is all
+//! ones. The top level is one word, and has no marks.
 ghost use Rattle.std.specs.Prelude.{◌≡◌, ◌≤◌, ◌<◌, ◌*◌, ◌+◌, ◌-◌, ◌/◌, ◌^◌};
 ghost use Rattle.cube_shape.specs.declared.limits.TheConstants.{MAX_BITMAP_DIM};
 ghost use Rattle.bitmap_tree.specs.declared.mask.TheConstants.{WORD_DIM};
 ghost use Rattle.bitmap_tree.specs.InnerMarks.{holds_always, tells_nothing, first_mark};
 
-use crate::mask::WORD_DIM;
+use crate::mask::{WORD_DIM, doubled, starts};
 use crate::view::Run;
 use atomic_table::{Play, Table, TableRule};
 use cube_shape::MAX_BITMAP_DIM;
@@ -43,24 +44,20 @@ pub struct Marks {
     ghost some: { 0 < groups },
 }
 
-// The bits of a word at which an aligned block of dimension `k` can begin.
-fn starts(k: u32) -> u64 {
-    match k {
-        0 => u64::MAX,
-        1 => 0x5555_5555_5555_5555,
-        2 => 0x1111_1111_1111_1111,
-        3 => 0x0101_0101_0101_0101,
-        4 => 0x0001_0001_0001_0001,
-        _ => 0x0000_0001_0000_0001,
-    }
-}
-
 // In how many groups of 64 words a search looks for one where it splits no larger block.
 const TIGHT_GROUPS: u32 = 64 / 4;
 
-// The first of some words of a group.
-fn word_in(group: u32, words: u64) -> u32 {
-    group.wrapping_mul(64).wrapping_add(words.trailing_zeros())
+// The first of some words of a group, from one on if there is such a word.
+pub(crate) fn word_in(group: u32, words: u64, from: u32) -> u32 {
+    let later = words & (u64::MAX << (from % 64));
+    let chosen = if later != 0 { later } else { words };
+    group.wrapping_mul(64).wrapping_add(chosen.trailing_zeros())
+}
+
+// Whether one half of a word is free. Then the word has no mark, since it has room for each
+// dimension below 6.
+pub(crate) fn has_half(word: u64) -> bool {
+    word >> 32 == 0 || word << 32 == 0
 }
 
 // The least dimension for which a word has no room, or 6.
@@ -72,7 +69,7 @@ fn rooms_of(word: u64) -> u32
         if free & starts(k) == 0 {
             return k;
         }
-        free &= free >> (1u32 << k);
+        free = doubled(free, k);
     }
     WORD_DIM
 }
@@ -94,13 +91,13 @@ fn tops_of(n: u32) -> u32
 }
 
 impl Marks {
-    // Makes the marks of a level of `2^n` units, each number as `first` says.
-    pub(crate) fn open(alloc: Global, n: u32, first: u64) -> Result<Marks, AllocError>
+    // Makes the marks of a level of `2^n` units, in which each word has all its marks.
+    pub(crate) fn open(alloc: Global, n: u32) -> Result<Marks, AllocError>
         requires { n ≤ MAX_BITMAP_DIM }
     {
         let groups = groups_of(n);
         let tops = tops_of(n);
-        let room = vec![in alloc; first; 8 * (groups as usize + tops as usize)]?;
+        let room = vec![in alloc; u64::MAX; 8 * (groups as usize + tops as usize)]?;
         let (table, _seat) = Table::of_words(alloc, &room, &0u64)?;
         Ok(Marks {
             table,
@@ -157,33 +154,44 @@ impl Marks {
         true
     }
 
-    // The next word, from one on, that has no mark for the dimension. One with the mark of
-    // dimension `k + 1` comes first, if the next groups have it: there a block splits no larger
-    // one. Where there is no word, the result is a number that is no word's.
+    // The words of a group that have no mark for the dimension.
+    pub(crate) fn unmarked(&self, k: u32, group: u32) -> u64
+        requires { k < WORD_DIM }
+    {
+        if group >= self.groups {
+            return 0;
+        }
+        !self.group(k, group)
+    }
+
+    // The next word without a mark for the dimension: of the group of one word, or of a later
+    // group. One with the mark of dimension `k + 1` comes first, if the next groups have it: there
+    // a block splits no larger one. Where there is no word, the result is a number that is no
+    // word's.
+    #[inline(never)]
     pub(crate) fn next(&self, k: u32, from: u32) -> u32
         requires { k < WORD_DIM }
     {
         let mut group = from / 64;
-        let mut later = u64::MAX << (from % 64);
+        let mut begin = from;
         let mut first = u32::MAX;
         for looks in 0..self.groups {
             if group >= self.groups {
                 return first;
             }
-            let open = !self.group(k, group) & later;
+            let open = !self.group(k, group);
             let larger = self.larger(k, group);
-            let tight = open & larger;
-            if tight != 0 {
-                return word_in(group, tight);
+            if open & larger != 0 {
+                return word_in(group, open & larger, begin);
             }
             if first == u32::MAX && open != 0 {
-                first = word_in(group, open);
+                first = word_in(group, open, begin);
             }
             if first != u32::MAX && (larger == 0 || looks + 1 >= TIGHT_GROUPS) {
                 return first;
             }
             group = self.next_group(k, group + 1);
-            later = u64::MAX;
+            begin = 0;
         }
         first
     }
@@ -244,17 +252,9 @@ impl Marks {
     // whether it did.
     pub(crate) fn mark_lost(&self, k: u32, number: u32, word: u64) -> bool {
         let group = number / 64;
-        if group >= self.groups {
-            return false;
-        }
         let lost = rooms_of(word);
-        let mut marked = u64::MAX;
-        for dim in lost..WORD_DIM {
-            if dim != k {
-                marked &= self.group(dim, group);
-            }
-        }
-        if marked & (1 << (number % 64)) != 0 {
+        let next = if lost == k { k.wrapping_add(1) } else { lost };
+        if next >= WORD_DIM || self.unmarked(next, group) & (1 << (number % 64)) == 0 {
             return false;
         }
         self.mark_from(lost, number);
@@ -268,26 +268,22 @@ impl Marks {
         }
     }
 
-    // The marks of a group of words for any dimension.
-    fn any(&self, group: u32) -> u64
-        requires { group < self.now.groups }
-    {
-        let mut marks = 0;
-        for k in 0..WORD_DIM {
-            marks |= self.group(k, group);
-        }
-        marks
-    }
-
-    // Clears the marks of words of one group for all dimensions for which `word` has room.
-    pub(crate) fn unmark(&self, group: u32, marks: u64, word: u64) {
-        if group >= self.groups || group / 64 >= self.tops || self.any(group) & marks == 0 {
+    // Clears the marks of a word for all dimensions for which it has room.
+    pub(crate) fn unmark(&self, number: u32, word: u64) {
+        let group = number / 64;
+        if group >= self.groups || group / 64 >= self.tops {
             return;
         }
-        for k in 0..rooms_of(word) {
-            if self.group(k, group) & marks != 0 {
-                self.clear_mark(k, group, marks);
+        let mark = 1 << (number % 64);
+        let mut free = !word;
+        for k in 0..WORD_DIM {
+            if free & starts(k) == 0 {
+                return;
             }
+            if self.group(k, group) & mark != 0 {
+                self.clear_mark(k, group, mark);
+            }
+            free = doubled(free, k);
         }
     }
 

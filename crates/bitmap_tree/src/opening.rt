@@ -21,15 +21,14 @@ const LINE_SIZE: u64 = 8 * WORD_SIZE;
 // How many threads have a start of their own: one for each cache line of 128 words.
 const STARTS: u32 = 128 / 8;
 
-// Makes the marks of all levels. Each word has its marks except the top one.
+// Makes the marks of all levels below the top one.
 fn marks_of(alloc: Global, n: u32) -> Result<Vec<Marks>, AllocError>
     requires { n ≤ MAX_BITMAP_DIM }
-    ensures { IfOk result (λ marks. vec_len marks ≡ n / 6 + 1) }
+    ensures { IfOk result (λ marks. vec_len marks ≡ n / 6) }
 {
     let mut marks = Vec::new(alloc);
-    for level in 0..n / 6 + 1 {
-        let first = if level == n / 6 { !1 } else { u64::MAX };
-        marks.push(Marks::open(alloc, n - 6 * level, first)?)?;
+    for level in 0..n / 6 {
+        marks.push(Marks::open(alloc, n - 6 * level)?)?;
     }
     Ok(marks)
 }

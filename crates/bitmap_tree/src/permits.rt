@@ -4,6 +4,7 @@ ghost use Rattle.std.specs.Prelude.{◌≡◌, ◌≢◌, ℕ, ◌+◌, ◌<◌,
 ghost use Rattle.std.specs.List.{All};
 ghost use Rattle.cube_shape.specs.Region.{IsAligned};
 ghost use Rattle.bitmap_tree.specs.InnerRule.{times};
+ghost use Rattle.bitmap_tree.specs.Rule.{word_count};
 ghost use Rattle.bitmap_tree.specs.Ends.{IsFresh};
 ghost use Rattle.bitmap_tree.specs.Alone.{HasNoBlock};
 ghost use Rattle.bitmap_tree.specs.Bounds.{release_steps, take_steps};
@@ -127,7 +128,8 @@ impl BitmapTree {
         requires of_machine { All (IsPermitOf self) permits.items }
         requires all { length permits.items ≡ permits_of self }
         requires some { 0 < permits_of self }
-        ensures { IsFresh result.items }
+        ensures count { length result.items ≡ word_count (dim_of self) }
+        ensures fresh { IsFresh result.items }
     {
         let seat = self.gather_all(permits);
         self.close_by(seat)

@@ -10,6 +10,7 @@ ghost use Rattle.bitmap_tree.specs.Handles.{id_of, dim_of, held_region, held_tra
 
 use crate::handles::{BitmapTree, HeldBlock, Released, Seat};
 use crate::layout::{first_word, words_in};
+use crate::marks::has_half;
 use crate::mask::mask_of;
 use crate::spares::SPARES;
 use crate::view::Run;
@@ -38,7 +39,9 @@ impl BitmapTree {
         let word = first_word(self.size.dim / 6 - level) + (place / 64) as u32;
         let mask = mask_of((place % 64) as u32, region.dim % 6);
         let found = self.clear_run(seat, word, mask);
-        self.unmark(level, (place / 64) as u32, found & !mask);
+        if !has_half(found) {
+            self.unmark(level, (place / 64) as u32, found & !mask);
+        }
         found == mask
     }
 
@@ -168,6 +171,7 @@ impl BitmapTree {
     }
 
     // Shuts the spares of the levels below one, the lowest first: whether it shut any.
+    #[inline(never)]
     pub(crate) fn shut_spares(&self, seat: &mut Seat, level: u32) -> bool
         requires table { seat.old.table_id ≡ id_of self.now }
         requires may { MayClaim self.now seat.old.me }

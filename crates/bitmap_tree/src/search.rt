@@ -12,6 +12,7 @@ ghost use Rattle.bitmap_tree.specs.Handles.{id_of, dim_of, MayClaim};
 
 use crate::handles::{BitmapTree, Seat};
 use crate::layout::{block_at, first_word, words_in};
+use crate::marks::{has_half, word_in};
 use crate::mask::{WORD_DIM, fit_in, mask_of};
 use crate::view::Run;
 use cube_shape::Region;
@@ -29,29 +30,28 @@ impl BitmapTree {
         1 << (self.size.dim - 6 * level).min(WORD_DIM)
     }
 
-    // The bits of the words of a level that do not count.
-    fn pad_of(&self, level: u32) -> u64 {
-        if level == self.size.dim / 6 {
-            u64::MAX << (1u32 << (self.size.dim % 6))
+    // Whether a level may have a free unit: by its marks, or by the word of the top level.
+    fn has_unit(&self, level: u32) -> bool
+        requires { level ≤ dim_of self.now / 6 }
+    {
+        if level < self.size.dim / 6 {
+            !self.marks[level as usize].is_full(0)
         } else {
-            0
+            self.peek(0).trailing_ones() < self.word_size(level)
         }
     }
 
     // Clears the marks of a word for the dimensions for which it has room.
-    pub(crate) fn unmark(&self, level: u32, number: u32, word: u64)
-        requires { level ≤ dim_of self.now / 6 }
-    {
-        self.marks[level as usize].unmark(
-            number / 64,
-            1 << (number % 64),
-            word | self.pad_of(level),
-        );
+    pub(crate) fn unmark(&self, level: u32, number: u32, word: u64) {
+        if level < self.size.dim / 6 {
+            self.marks[level as usize].unmark(number, word);
+        }
     }
 
     // Marks a word in which a search found no room, unless it has room again.
+    #[inline(never)]
     fn mark(&self, level: u32, number: u32, k: u32)
-        requires level { level ≤ dim_of self.now / 6 }
+        requires level { level < dim_of self.now / 6 }
         requires number { number < 2 ^ (dim_of self.now - 6 * level - 6) }
         requires dim { k < WORD_DIM }
     {
@@ -60,18 +60,39 @@ impl BitmapTree {
         self.unmark(level, number, word);
     }
 
-    // Marks a word in which a block of dimension `k` was taken, for the dimensions for which it has
-    // no room now. If this is `k` alone it leaves that to the next search, since the block may be
-    // back by then.
-    fn mark_lost(&self, level: u32, number: u32, k: u32)
+    // Marks a word, of which a take of a block of dimension `k` left this, for the dimensions for
+    // which it has no room now. If this is `k` alone it leaves that to the next search, since the
+    // block may be back by then.
+    #[inline(never)]
+    fn mark_lost(&self, level: u32, number: u32, k: u32, left: u64)
         requires level { level ≤ dim_of self.now / 6 }
         requires number { number < 2 ^ (dim_of self.now - 6 * level - 6) }
     {
-        let word = first_word(self.size.dim / 6 - level) + number;
-        let left = self.peek(word) | self.pad_of(level);
-        if left >> 32 != 0 && self.marks[level as usize].mark_lost(k, number, left) {
+        if level >= self.size.dim / 6 {
+            return;
+        }
+        if self.marks[level as usize].mark_lost(k, number, left) {
+            let word = first_word(self.size.dim / 6 - level) + number;
             self.unmark(level, number, self.peek(word));
         }
+    }
+
+    // The next word of a level that has no mark for dimension `k`: the given one, if it has none.
+    // Where the level above may have a free unit, it is the first of the group. Otherwise it is one
+    // in which a block splits no larger one, if there is such a word near.
+    #[inline(always)]
+    fn next_word(&self, level: u32, k: u32, from: u32) -> u32
+        requires level { level < dim_of self.now / 6 }
+        requires dim { k < WORD_DIM }
+    {
+        let open = self.marks[level as usize].unmarked(k, from / 64);
+        if (open >> (from % 64)) % 2 == 1 {
+            return from;
+        }
+        if open != 0 && self.has_unit(level + 1) {
+            return word_in(from / 64, open, from);
+        }
+        self.marks[level as usize].next(k, from)
     }
 
     // One exchange for the bits of a block of dimension `k` at an offset, where the word that was
@@ -114,6 +135,8 @@ impl BitmapTree {
 
     // Takes a block of dimension `k` in a word of its level.
     // Where it takes none, the number is 1 if it gave up after `tries` lost exchanges, and else 0.
+    // It and its callers are inlined: each would copy the block through memory, 25 of 76 ns.
+    #[inline(always)]
     pub(crate) fn take_in(
         &self,
         seat: &mut Seat,
@@ -155,6 +178,10 @@ impl BitmapTree {
             };
             let now = self.claim_in(seat, word, found, offset, k % 6);
             if now == found {
+                let left = found | mask_of(offset, k % 6);
+                if !has_half(left) {
+                    self.mark_lost(level, number, k % 6, left);
+                }
                 return Ok(Region {
                     base: (64 * number as u64 + offset as u64) << (6 * level),
                     dim: k,
@@ -165,12 +192,15 @@ impl BitmapTree {
         Err(1)
     }
 
-    // Takes a block of dimension `k` in the words of its level that have no mark, from one on.
-    // Where it takes none, it says whether an exchange was lost.
+    // Takes a block of dimension `k` in the words of its level that have no mark, from one on. With
+    // fewer than `TRIES` tries it ends at the first word in which it lost them. Where it takes
+    // none, it says whether an exchange was lost.
+    #[inline(always)]
     fn take_marked(&self, seat: &mut Seat, k: u32, from: u32, tries: u32) -> Result<Region, bool>
         requires table { seat.old.table_id ≡ id_of self.now }
         requires may { MayClaim self.now seat.old.me }
         requires fits { k ≤ dim_of self.now }
+        requires below { k / 6 < dim_of self.now / 6 }
         requires blank { IsBlank seat.old.me }
         requires some { 0 < tries }
         requires tries { tries ≤ TRIES }
@@ -187,16 +217,14 @@ impl BitmapTree {
         let mut next = from;
         let mut lost = false;
         for _ in 0..count {
-            let number = self.marks[level as usize].next(k % 6, next);
+            let number = self.next_word(level, k % 6, next);
             if number >= count {
                 return Err(lost);
             }
             match self.take_in(seat, number, k, tries) {
-                Ok(region) => {
-                    self.mark_lost(level, number, k % 6);
-                    return Ok(region);
-                }
+                Ok(region) => return Ok(region),
                 Err(0) => self.mark(level, number, k % 6),
+                Err(_) if tries < TRIES => return Err(true),
                 Err(_) => {
                     lost = true;
                     next = number + 1;
@@ -206,9 +234,10 @@ impl BitmapTree {
         Err(lost)
     }
 
-    // Takes a block of dimension `k` in the open words of its level. It goes from the word of a
-    // processor on, and then from the first word. With fewer than `TRIES` tries the round that lost
-    // an exchange is the last. Where it takes none, it says whether an exchange was lost.
+    // Takes a block of dimension `k` in the open words of its level. It begins with the group of a
+    // processor's word, and then goes over all groups. The top level is one word. Where it takes
+    // none, it says whether an exchange was lost.
+    #[inline(always)]
     fn take_here(&self, seat: &mut Seat, k: u32, processor: u64, tries: u32) -> Result<Region, bool>
         requires table { seat.old.table_id ≡ id_of self.now }
         requires may { MayClaim self.now seat.old.me }
@@ -224,12 +253,15 @@ impl BitmapTree {
         ensures right { KeepsRight (dim_of self.now) seat.old.me seat.new.me }
         ensures grows { Grows (18 * 2 ^ (dim_of self.now - 6)) seat.old.me seat.new.me }
     {
+        if k / 6 >= self.size.dim / 6 {
+            return self.take_in(seat, 0, k, tries).map_err(|lost| lost != 0);
+        }
         let from = (processor >> (6 * (k / 6) + 6)) as u32;
         let lost = match self.take_marked(seat, k, from, tries) {
             Ok(region) => return Ok(region),
             Err(lost) => lost,
         };
-        if from == 0 || (lost && tries < TRIES) || self.marks[(k / 6) as usize].is_full(k % 6) {
+        if from < 64 || (lost && tries < TRIES) || self.marks[(k / 6) as usize].is_full(k % 6) {
             return Err(lost);
         }
         match self.take_marked(seat, k, 0, tries) {
@@ -238,7 +270,7 @@ impl BitmapTree {
         }
     }
 
-    // Takes a unit of a level in its open words, unless each word has its mark.
+    // Takes a unit of a level in its open words, if it may have one.
     fn take_unit(&self, seat: &mut Seat, level: u32, processor: u64) -> Option<Region>
         requires table { seat.old.table_id ≡ id_of self.now }
         requires may { MayClaim self.now seat.old.me }
@@ -252,13 +284,14 @@ impl BitmapTree {
         ensures right { KeepsRight (dim_of self.now) seat.old.me seat.new.me }
         ensures grows { Grows (18 * 2 ^ (dim_of self.now - 6)) seat.old.me seat.new.me }
     {
-        if self.marks[level as usize].is_full(0) {
+        if !self.has_unit(level) {
             return None;
         }
         self.take_here(seat, 6 * level, processor, TRIES).ok()
     }
 
     // Takes a unit of a level above, the lowest first, and in it the first block of dimension `k`.
+    #[inline(never)]
     fn take_above(&self, seat: &mut Seat, k: u32, processor: u64) -> Option<Region>
         requires table { seat.old.table_id ≡ id_of self.now }
         requires may { MayClaim self.now seat.old.me }
@@ -307,6 +340,7 @@ impl BitmapTree {
 
     // Takes a block of dimension `k` after a lost exchange: in a unit of its own. If that is not
     // free, it goes over the words of its level again, and at last to the levels above.
+    #[cold]
     fn take_elsewhere(&self, seat: &mut Seat, k: u32, processor: u64) -> Option<Region>
         requires table { seat.old.table_id ≡ id_of self.now }
         requires may { MayClaim self.now seat.old.me }

@@ -20,6 +20,10 @@ returns c =
     (left_copy c.args.self.table.shared.key.dim c.loop-word.room.items _ final.0 final.1.0.0 final.2
     (sym c.loop-word.room.ok.0 ∙ c.loop-word.invariant.len ∙ c.args.self.has_room ∙ ap (λ (k : Size). word_count k.dim) (sym c.args.self.keyed))
     (λ k within. c.loop-word.invariant.copied k (omega (arith, within, c.loop-word-test.false, c.loop-word.room.ok.0, c.len-word-end.ensures, c.loop-word.invariant.len)))) in
-    (c.shut_all.ensures (λ q. total (times_in q) final.0.views) left).2
-    (nothing_held c.args.self.table.shared.key final.0 c.args.seat.id c.args.seat.me.0 final.1.0.1 final.1.1
-    (subst (λ (k : Size). 0 < k.permits) (sym c.args.self.keyed) c.requires.some) (c.requires.all ∙ ap (λ (k : Size). k.permits) (sym c.args.self.keyed)) c.requires.nothing)
+    let closed = c.shut_all.ensures (λ q. total (times_in q) final.0.views) left in
+    record {
+      count = closed.1.count;
+      fresh = closed.2
+          (nothing_held c.args.self.table.shared.key final.0 c.args.seat.id c.args.seat.me.0 final.1.0.1 final.1.1
+          (subst (λ (k : Size). 0 < k.permits) (sym c.args.self.keyed) c.requires.some) (c.requires.all ∙ ap (λ (k : Size). k.permits) (sym c.args.self.keyed)) c.requires.nothing);
+    }

@@ -6,6 +6,3 @@ use Rattle.bitmap_tree.proofs.handles.BitmapTree.mark_lost.Goals as goal
 
 pub peek-requires : goal.peek-requires
 peek-requires c = subst (λ f. f + c.args.number < word_count (dim_of c.args.self.now)) (sym c.first_word.ensures.value) (word_there _ _ _ c.requires.number)
-
-pub peek-requires-then-mark_lost : goal.peek-requires-then-mark_lost
-peek-requires-then-mark_lost c = subst (λ f. f + c.args.number < word_count (dim_of c.args.self.now)) (sym c.first_word.ensures.value) (word_there _ _ _ c.requires.number)

@@ -1,0 +1,79 @@
+//! The parts of what the calls return, for a caller that keeps them.
+ghost use Rattle.std.specs.Prelude.{◌≡◌, ◌<◌, ◌≤◌, []};
+ghost use Rattle.cube_shape.specs.declared.limits.TheConstants.{MAX_BITMAP_DIM};
+ghost use Rattle.bitmap_tree.specs.Handles.{dim_of, held_dim, held_region, held_seat, refused_trail, released_trail};
+ghost use Rattle.bitmap_tree.specs.Parts.{IsHeldBy};
+ghost use Rattle.bitmap_tree.specs.Rule.{word_count};
+
+use crate::handles::{BitmapTree, HeldBlock, Refused, Released, Seat};
+use crate::layout::words_of;
+use crate::view::View;
+use cube_shape::Region;
+
+/// The seat that has a held block.
+pub type BlockSeat = Seat;
+
+/// What a seat knows: the bits that it has, and what its steps found and left.
+pub type BlockView = View;
+
+impl HeldBlock {
+    /// Takes a held block apart: the block, the dimension of its machine, and its seat.
+    pub fn into_parts(self) -> (Region, u32, Seat)
+        ensures region { result.0 ≡ held_region self }
+        ensures dim { result.1 ≡ held_dim self }
+        ensures seat { result.2 ≡ held_seat self }
+        ensures held { IsHeldBy result.1 result.0 result.2 }
+    {
+        let HeldBlock { region, dim, seat } = self;
+        (region, dim, seat)
+    }
+
+    /// Puts a held block together again.
+    pub fn of_parts(region: Region, dim: u32, seat: Seat) -> HeldBlock
+        requires held { IsHeldBy dim region seat }
+        ensures region { held_region result ≡ region }
+        ensures dim { held_dim result ≡ dim }
+        ensures seat { held_seat result ≡ seat }
+    {
+        HeldBlock { region, dim, seat }
+    }
+}
+
+impl Refused {
+    /// Returns the seat of the take, which knows what its steps found.
+    pub fn into_seat(self) -> Seat
+        ensures trail { result.me.0.trail ≡ refused_trail self }
+        ensures no_slot { result.me.1 ≡ [] }
+    {
+        let Refused { contended: _, seat } = self;
+        seat
+    }
+}
+
+impl Released {
+    /// Returns the seat of the release, which knows what its steps changed.
+    pub fn into_seat(self) -> Seat
+        ensures trail { result.me.0.trail ≡ released_trail self }
+        ensures no_slot { result.me.1 ≡ [] }
+    {
+        let Released { seat } = self;
+        seat
+    }
+}
+
+impl BitmapTree {
+    /// Returns the number of its words.
+    pub fn word_count(&self) -> u32
+        ensures count { result ≡ word_count (dim_of self.now) }
+        ensures limit { dim_of self.now ≤ MAX_BITMAP_DIM }
+    {
+        words_of(self.size.dim)
+    }
+
+    /// Returns a word as it is at some moment of the call. Nothing is known of it.
+    pub fn word(&self, word: u32) -> u64
+        requires { word < word_count (dim_of self.now) }
+    {
+        self.peek(word)
+    }
+}
