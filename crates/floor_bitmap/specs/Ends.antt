@@ -1,5 +1,6 @@
 -- A machine to which all stations came back.
-use Rattle.std.specs.Prelude.{ℕ, List}
+use Rattle.std.specs.Prelude.{◌≡◌, ℕ, List, length}
+use Rattle.bitmap_tree.specs.Rule.{word_count}
 use Rattle.bitmap_tree.specs.Ends.{IsFresh}
 use Rattle.floor_bitmap.specs.declared.handle.FreeMachine.{FreeMachine}
 
@@ -11,7 +12,8 @@ machine_dim machine = machine.dim
 abbrev pub machine_words : FreeMachine → List ℕ
 machine_words machine = machine.words.items
 
--- The words of the tree at the end are those of a tree in which nothing was ever taken, whatever
--- the count of stations.
-abbrev pub AreBitmapsFree : ℕ → FreeMachine → Type 0
-AreBitmapsFree count machine = IsFresh machine.bitmaps.items
+-- The words of the tree at the end are all words of a tree of its dimension in which nothing was
+-- ever taken. This holds for each number of stations.
+pub record AreBitmapsFree (stations : ℕ) (machine : FreeMachine) : Type 0 where
+  pub count : length machine.bitmaps.items ≡ word_count machine.dim
+  pub fresh : IsFresh machine.bitmaps.items

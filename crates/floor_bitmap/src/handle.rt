@@ -1,6 +1,8 @@
 //! The handles of a `BitmapFloor`. A station and what it holds cannot be dropped: the allocator's
 //! end consumes them.
+ghost use Rattle.std.specs.Prelude.{◌≡◌, length};
 ghost use Rattle.bitmap_tree.specs.Ends.{IsFresh};
+ghost use Rattle.bitmap_tree.specs.Rule.{word_count};
 ghost use Rattle.floors.specs.Floor.{IsWhollyFree};
 
 use crate::log::Log;
@@ -33,14 +35,18 @@ pub struct FreeMachine {
     pub(crate) words: Vec<u64>,
     pub(crate) bitmaps: Vec<u64>,
     ghost wholly: { IsWhollyFree dim words.items },
+    ghost counted: { length bitmaps.items ≡ word_count dim },
     ghost fresh: { IsFresh bitmaps.items },
 }
 
 impl FreeMachine {
+    ghost use Rattle.floor_bitmap.specs.Ends.{machine_dim};
+
     /// Returns the words of the tree at the end. They are those of a tree in which nothing was ever
     /// taken.
     pub fn bitmaps(&self) -> &[u64]
-        ensures { IsFresh result.now }
+        ensures count { length result.now ≡ word_count (machine_dim self.now) }
+        ensures fresh { IsFresh result.now }
     {
         &self.bitmaps
     }

@@ -2,30 +2,22 @@
 //! ends.
 ghost use Rattle.std.specs.Prelude.{◌≡◌, ◌≤◌, [], length, vec_capacity};
 ghost use Rattle.std.specs.List.{All};
-ghost use Rattle.cube_shape.specs.declared.limits.TheConstants.{MAX_DIM, MAX_STATIONS};
-ghost use Rattle.bitmap_tree.specs.Handles.{dim_of, IsPermitOf};
+ghost use Rattle.bitmap_tree.specs.Handles.{IsPermitOf};
 ghost use Rattle.floor_bitmap.specs.Inner.Handle.{floor_id, station_grants, IsStation};
 
 use crate::handle::BitmapStation;
 use crate::log::Log;
 use bitmap_tree::{BitmapTree, Permit};
-use cube_shape::{MAX_DIM, MAX_STATIONS};
 
-// The number of processors under a word of the lowest level.
-const WORD_SIZE: u64 = 64;
-
-// Makes a station of a permit. Its searches begin at the word of its number.
+// Makes a station of a permit. Its searches begin at the start of its number.
 fn station_of(tree: &BitmapTree, permit: Permit, number: u32) -> BitmapStation
-    requires permit { IsPermitOf tree.now permit }
-    requires dim { dim_of tree.now ≤ MAX_DIM }
-    requires number { number ≤ MAX_STATIONS }
+    requires { IsPermitOf tree.now permit }
     ensures station { IsStation (floor_id tree.now) result }
     ensures fresh { station_grants result ≡ [] }
 {
-    let size = 1 << tree.dim();
     BitmapStation {
         permit,
-        near: WORD_SIZE * number as u64 % size,
+        near: tree.start_of(number),
         grants: Log::new(),
     }
 }
@@ -37,9 +29,7 @@ pub(crate) fn make_stations(
     stations: &mut Vec<BitmapStation>,
     count: u32,
 )
-    requires dim { dim_of tree.now ≤ MAX_DIM }
     requires count { length permits.old.items ≡ count }
-    requires few { count ≤ MAX_STATIONS }
     requires permits { All (IsPermitOf tree.now) permits.old.items }
     requires none_yet { stations.old.items ≡ [] }
     requires room { count ≤ vec_capacity stations.old }
