@@ -14,3 +14,4 @@ mod runs;
 mod shop;
 mod slot;
 mod stage;
+mod starts;

@@ -6,7 +6,7 @@ ghost use Rattle.tests_bitmap.specs.declared.tests.stage.TheConstants.{HOLDERS};
 
 use super::halves::{join_some, split_some};
 use super::held::{expect_fresh, opened, taken};
-use super::stage::{HOLDERS, Stage, release_some, stage_of, take_exact, take_named, take_quick};
+use super::stage::{HOLDERS, Stage, TakeForm, release_some, stage_of, take_some};
 use crate::crowd_lane::{CrowdLane, run_lanes};
 use crate::kept::release_all;
 use crate::owners::Owners;
@@ -27,9 +27,9 @@ fn event(tree: &BitmapTree, kept: &mut Vec<HeldBlock>, stage: &mut Stage, drains
     }
     stage.most = stage.most.max(kept.len());
     match stage.below(8) {
-        0 => take_quick(tree, kept, stage),
-        1 => take_exact(tree, kept, stage),
-        2 => take_named(tree, kept, stage),
+        0 => take_some(tree, kept, stage, TakeForm::Quick),
+        1 => take_some(tree, kept, stage, TakeForm::Exact),
+        2 => take_some(tree, kept, stage, TakeForm::Named),
         3 => split_some(tree, kept, stage),
         4 => join_some(tree, kept, stage),
         5 => release_some(tree, kept, stage),
@@ -37,7 +37,7 @@ fn event(tree: &BitmapTree, kept: &mut Vec<HeldBlock>, stage: &mut Stage, drains
             if drains {
                 release_some(tree, kept, stage);
             } else {
-                take_quick(tree, kept, stage);
+                take_some(tree, kept, stage, TakeForm::Quick);
             }
         }
     }

@@ -24,18 +24,13 @@ fn take_others(rt: &impl Abort, alloc: Global, tree: &BitmapTree, processor: u64
     kept
 }
 
-// Holds all processors except one, which a take by the marks has to find. Then it has to find each
-// block that is released. With the smallest first, no other block of the dimension is free.
-fn find_last(rt: &impl Abort, alloc: Global, tree: &BitmapTree, processor: u64)
+// Releases blocks, the last one first. A take by the marks has to find each of them. No other block
+// of its dimension is free if the smallest is the last.
+fn find_each(rt: &impl Abort, tree: &BitmapTree, mut kept: Vec<HeldBlock>)
     requires anyone { permits_of tree.now ≡ 0 }
     requires dim { dim_of tree.now ≡ 20 }
+    requires held { All (IsHeldOf tree.now) kept.items }
 {
-    let mut kept = take_others(rt, alloc, tree, processor);
-    for k in 1..21 {
-        expect_none(rt, tree, k);
-    }
-    let last = taken(rt, tree, 0, processor);
-    expect_none(rt, tree, 0);
     while let Some(held) = kept.pop() {
         let region = held.region();
         tree.release(held);
@@ -45,6 +40,21 @@ fn find_last(rt: &impl Abort, alloc: Global, tree: &BitmapTree, processor: u64)
         }
     }
     kept.destroy_empty();
+}
+
+// Holds all processors except one, which a take by the marks has to find. Then it has to find each
+// block that is released.
+fn find_last(rt: &impl Abort, alloc: Global, tree: &BitmapTree, processor: u64)
+    requires anyone { permits_of tree.now ≡ 0 }
+    requires dim { dim_of tree.now ≡ 20 }
+{
+    let kept = take_others(rt, alloc, tree, processor);
+    for k in 1..21 {
+        expect_none(rt, tree, k);
+    }
+    let last = taken(rt, tree, 0, processor);
+    expect_none(rt, tree, 0);
+    find_each(rt, tree, kept);
     tree.release(last);
 }
 

@@ -4,7 +4,8 @@ ghost use Rattle.std.specs.List.{All};
 ghost use Rattle.bitmap_tree.specs.Handles.{dim_of, permits_of, IsPermitOf};
 
 use super::held::expect_fresh;
-use bitmap_tree::{BitmapTree, Permit, Region};
+use bitmap_tree::{BitmapTree, MAX_BITMAP_DIM, Permit, Region};
+use std::alloc::Global;
 use std::process::Abort;
 
 // Takes a block of dimension 3 by a permit, and releases it.
@@ -90,4 +91,33 @@ fn all_permits_come_back(rt: HostRuntime) {
     permits.push_reserved(other);
     let words = tree.close_with_permits(permits);
     expect_fresh(&rt, &words);
+}
+
+// Closes a machine with one permit, and expects this number of words.
+fn expect_words(rt: &impl Abort, alloc: Global, n: u32, count: usize)
+    requires { n ≤ MAX_BITMAP_DIM }
+{
+    let Ok((tree, permits)) = BitmapTree::open_with_permits(alloc, n, 1) else {
+        panic!(rt; "no memory")
+    };
+    let words = tree.close_with_permits(permits);
+    assert!(rt; words.len() == count);
+    expect_fresh(rt, &words);
+}
+
+// The lowest level has a word for each 64 processors. The levels above it have 1, 64 and 4,096
+// words, the top one first.
+#[test]
+fn a_close_by_permits_returns_all_words(rt: HostRuntime) {
+    let rows = [
+        (0, 1),
+        (6, 1 + 1),
+        (9, 1 + 8),
+        (12, 1 + 64 + 64),
+        (18, 1 + 64 + 4096 + 4096),
+        (20, 1 + 64 + 4096 + 16384),
+    ];
+    for (n, count) in rows {
+        expect_words(&rt, rt.alloc(), n, count);
+    }
 }

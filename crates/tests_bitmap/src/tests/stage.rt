@@ -2,8 +2,9 @@
 //! the model.
 //!
 //! One caller makes the events, so a take is refused exactly if the model has no such block.
-ghost use Rattle.std.specs.Prelude.{◌≡◌, ◌-◌, ◌<◌, ◌≤◌, vec_capacity, vec_len};
+ghost use Rattle.std.specs.Prelude.{◌≡◌, ◌-◌, ◌<◌, ◌≤◌, vec_capacity, vec_len, IfOk};
 ghost use Rattle.std.specs.List.{All};
+ghost use Rattle.cube_shape.specs.Region.{IsAligned};
 ghost use Rattle.bitmap_tree.specs.Handles.{dim_of, permits_of, IsHeldOf};
 
 use super::held::block;
@@ -18,6 +19,17 @@ use std::process::Abort;
 /// The most blocks that are held at once.
 pub(crate) const HOLDERS: usize = 1024;
 
+/// How a take is made.
+#[derive(Clone, Copy, PartialEq, Eq)]
+pub(crate) enum TakeForm {
+    /// By the marks.
+    Quick,
+    /// With evidence where it is refused.
+    Exact,
+    /// Of one block that it names.
+    Named,
+}
+
 /// What events share besides the machine and the blocks that are held.
 #[derive(Drop)]
 pub(crate) struct Stage {
@@ -25,7 +37,7 @@ pub(crate) struct Stage {
     random: Xoshiro256PlusPlus,
     /// How often the machine was not like the model.
     pub faults: u64,
-    /// The takes that succeeded, and those that were refused.
+    /// The takes that succeeded, and the refused ones that named no block.
     pub given: u64,
     pub refused: u64,
     /// The pairs of halves that were joined.
@@ -58,18 +70,24 @@ impl Stage {
         one.min(other).min(third) as u32
     }
 
-    // Counts what a take gave, or that it was refused.
-    fn count(&mut self, k: u32, region: Option<Region>) {
-        match region {
+    // Counts what a take of this form gave, or that it was refused.
+    fn count(&mut self, form: TakeForm, asked: Region, given: Option<Region>) {
+        let is_named = form == TakeForm::Named;
+        match given {
             Some(region) => {
                 self.given = self.given.wrapping_add(1);
-                let is_right = region.dim == k && self.model.is_free(region);
+                let is_asked = region == asked || !is_named && region.dim == asked.dim;
+                let is_right = is_asked && self.model.is_free(region);
                 self.fault_if(!is_right);
                 self.model.set(region, true);
             }
             None => {
-                self.refused = self.refused.wrapping_add(1);
-                let is_wrong = self.model.has_free(k);
+                let is_wrong = if is_named {
+                    self.model.is_free(asked)
+                } else {
+                    self.refused = self.refused.wrapping_add(1);
+                    self.model.has_free(asked.dim)
+                };
                 self.fault_if(is_wrong);
             }
         }
@@ -89,8 +107,43 @@ pub(crate) fn stage_of(rt: &impl Abort, alloc: Global) -> Stage {
     }
 }
 
-/// Takes a block near some processor, by the marks.
-pub(crate) fn take_quick(tree: &BitmapTree, kept: &mut Vec<HeldBlock>, stage: &mut Stage)
+// Makes a take: of this block, or of one of its dimension near a processor. Returns the number of
+// contended words if it is refused.
+fn attempt(
+    tree: &BitmapTree,
+    form: TakeForm,
+    asked: Region,
+    processor: u64,
+) -> Result<HeldBlock, u32>
+    requires anyone { permits_of tree.now ≡ 0 }
+    requires dim { dim_of tree.now ≡ 12 }
+    requires asked { IsAligned 12 asked }
+    requires processor { processor < 4096 }
+    ensures { IfOk result (IsHeldOf tree.now) }
+{
+    let taken = match form {
+        TakeForm::Quick => {
+            return match tree.take_quick(asked.dim, processor) {
+                Some(held) => Ok(held),
+                None => Err(0),
+            };
+        }
+        TakeForm::Exact => tree.take(asked.dim, processor),
+        TakeForm::Named => tree.take_at(asked),
+    };
+    match taken {
+        Ok(held) => Ok(held),
+        Err(refused) => Err(refused.contended),
+    }
+}
+
+/// Takes a block in this form. One has to be given exactly if the model has one.
+pub(crate) fn take_some(
+    tree: &BitmapTree,
+    kept: &mut Vec<HeldBlock>,
+    stage: &mut Stage,
+    form: TakeForm,
+)
     requires anyone { permits_of tree.now ≡ 0 }
     requires dim { dim_of tree.now ≡ 12 }
     requires held { All (IsHeldOf tree.now) kept.old.items }
@@ -100,60 +153,19 @@ pub(crate) fn take_quick(tree: &BitmapTree, kept: &mut Vec<HeldBlock>, stage: &m
 {
     let k = stage.dimension();
     let processor = stage.below(4096);
-    match tree.take_quick(k, processor) {
-        Some(held) => {
-            stage.count(k, Some(held.region()));
-            kept.push_reserved(held);
-        }
-        None => stage.count(k, None),
-    }
-}
-
-/// Takes a block near some processor. A refusal has to have evidence.
-pub(crate) fn take_exact(tree: &BitmapTree, kept: &mut Vec<HeldBlock>, stage: &mut Stage)
-    requires anyone { permits_of tree.now ≡ 0 }
-    requires dim { dim_of tree.now ≡ 12 }
-    requires held { All (IsHeldOf tree.now) kept.old.items }
-    requires room { vec_len kept.old < vec_capacity kept.old }
-    ensures held { All (IsHeldOf tree.now) kept.new.items }
-    ensures room { vec_capacity kept.new ≡ vec_capacity kept.old }
-{
-    let k = stage.dimension();
-    let processor = stage.below(4096);
-    match tree.take(k, processor) {
-        Ok(held) => {
-            stage.count(k, Some(held.region()));
-            kept.push_reserved(held);
-        }
-        Err(refused) => {
-            stage.count(k, None);
-            stage.fault_if(refused.contended != 0);
-        }
-    }
-}
-
-/// Takes one block that it names, which has to be given exactly if it is free.
-pub(crate) fn take_named(tree: &BitmapTree, kept: &mut Vec<HeldBlock>, stage: &mut Stage)
-    requires anyone { permits_of tree.now ≡ 0 }
-    requires dim { dim_of tree.now ≡ 12 }
-    requires held { All (IsHeldOf tree.now) kept.old.items }
-    requires room { vec_len kept.old < vec_capacity kept.old }
-    ensures held { All (IsHeldOf tree.now) kept.new.items }
-    ensures room { vec_capacity kept.new ≡ vec_capacity kept.old }
-{
-    let k = stage.dimension();
-    let Some(named) = block(12, k, stage.below(4096) >> k) else {
+    let Some(asked) = block(12, k, processor >> k) else {
         stage.fault_if(true);
         return;
     };
-    let is_free = stage.model.is_free(named);
-    match tree.take_at(named) {
+    match attempt(tree, form, asked, processor) {
         Ok(held) => {
-            stage.fault_if(held.region() != named);
-            stage.count(k, Some(named));
+            stage.count(form, asked, Some(held.region()));
             kept.push_reserved(held);
         }
-        Err(refused) => stage.fault_if(is_free || refused.contended != 0),
+        Err(contended) => {
+            stage.fault_if(contended != 0);
+            stage.count(form, asked, None);
+        }
     }
 }
 
