@@ -1,0 +1,25 @@
+-- One block more is counted exactly where it is free.
+use Rattle.std.proofs.Common.{ℕ, ◌≤◌, ◌+◌, sym, subst, arith, ◌∙◌}
+use Rattle.std.proofs.lemmas.Bool.{true≢false}
+use Rattle.cube_shape.specs.Region.{block}
+use Rattle.region_bits.specs.Count.{IsCount}
+use Rattle.bitmap_occupancy.proofs.CountLemmas.{counts_more, counts_same}
+use Rattle.bitmap_occupancy.specs.Occupancy.{IsFreeAt}
+use Rattle.bitmap_occupancy.proofs.counting.count_free.Goals as goal
+use Rattle.bitmap_occupancy.proofs.counting.count_free.Goals.{then-is_free, else-is_free}
+
+pub loop-m-preserved : goal.loop-m-preserved
+loop-m-preserved c =
+    let P : ℕ → Type 0 = λ m. IsFreeAt c.args.n c.args.words.now (block c.args.k m) in
+    elim c.if-is_free.branch [
+      | then-is_free w ↦ record {
+        few = subst (λ x. x ≤ c.loop-m.m + 1) (sym w.count-is) (omega (arith, c.loop-m.invariant.few));
+        counted = subst (λ x. IsCount P (c.loop-m.m + 1) x) (sym w.count-is)
+            (counts_more P c.loop-m.m c.loop-m.count c.loop-m.invariant.counted (c.is_free.ensures.0 w.if-is_free.true));
+      }
+      | else-is_free w ↦ record {
+        few = subst (λ x. x ≤ c.loop-m.m + 1) (sym w.count-is) (omega (arith, c.loop-m.invariant.few));
+        counted = subst (λ x. IsCount P (c.loop-m.m + 1) x) (sym w.count-is)
+            (counts_same P c.loop-m.m c.loop-m.count c.loop-m.invariant.counted (λ free. true≢false (sym (c.is_free.ensures.1 free) ∙ w.if-is_free.false)));
+      }
+    ]
