@@ -1,0 +1,7 @@
+pub mod AsBox
+mod AlignLemmas
+mod CrossLemmas
+mod SeatFields
+mod HoldLemmas
+mod TagLemmas
+mod TakeLemmas

@@ -1,0 +1,21 @@
+-- The handle keeps the seat of the refused take.
+use Rattle.std.proofs.Common.{◌∙◌, ap, subst, sym}
+use Rattle.bitmap_tree.specs.Handles.{dim_of, refused_trail}
+use Rattle.cubejobs_regions.specs.Holding.{trail_of}
+use Rattle.cubejobs_regions.specs.Machine.{dim_of_machine}
+use Rattle.cubejobs_regions.specs.Takes.{FoundInUse}
+use Rattle.cubejobs_regions.proofs.TakeLemmas.{in_use_at}
+use Rattle.cubejobs_regions.proofs.takes.take_at.Goals as goal
+
+pub returns-in-Err-clause-found : goal.returns-in-Err-clause-found
+returns-in-Err-clause-found c = λ code.
+    let e = c.in-Err.ensures in let n = dim_of c.tree-2.result.now in let m = dim_of_machine c.args.machine.now in
+    let contended = c.in-Err.refusal.contended in let old = refused_trail c.in-Err.refusal in let new = trail_of c.keep.new.region in
+    let found : FoundInUse n c.args.block contended old = record {
+      taken = e.refused;
+      disturbed = e.disturbed;
+      alone = e.alone;
+      few = e.few_refused;
+    } in
+    subst (λ count. FoundInUse m c.args.block count new) (sym c.sought.ensures.contended)
+    (in_use_at n m c.args.block contended old new (ap dim_of c.tree-2.ensures.tree) (c.keep.ensures.trail ∙ c.into_seat.ensures.trail) found)

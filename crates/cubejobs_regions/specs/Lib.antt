@@ -1,0 +1,20 @@
+pub mod Answers
+pub mod Apart
+pub mod Ends
+pub mod Gives
+pub mod Handle
+pub mod Held
+pub mod HiddenSeats
+pub mod Holding
+pub mod Holds
+pub mod InnerHiddenSeat
+pub mod InnerOpaquePtr
+pub mod Machine
+pub mod MachineIn
+pub mod Occupancy
+pub mod Ownership
+pub mod Tags
+pub mod Takes
+pub use Rattle.bitmap_tree.specs.Bounds.{block_steps, quick_steps, take_steps}
+pub use Rattle.bitmap_tree.specs.Layout.{AreHalves}
+pub use Rattle.bitmap_tree.specs.Parts.{IsHeldBy}

@@ -1,0 +1,67 @@
+//! The answers that callers in C see.
+ghost use Rattle.std.specs.Prelude.{◌≡◌};
+ghost use Rattle.cubejobs_regions.specs.Answers.{region_of, NamesNone};
+
+use crate::codes::DONE;
+use bitmap_occupancy::FREE_PLACES;
+use cube_shape::Region;
+
+/// The answer of a call about a block.
+#[repr(C)]
+#[derive(Clone, Copy, Debug)]
+pub struct Answer {
+    /// `DONE`, or why the call was refused.
+    pub code: u32,
+    /// The block's dimension if the call succeeded, else 0.
+    pub dim: u32,
+    /// The block's first processor if the call succeeded, else 0.
+    pub base: u64,
+    /// The number of words that a refused take gave up, in each of which other calls were faster.
+    pub contended: u32,
+}
+
+/// The occupancy of a machine: what of it is free.
+#[repr(C)]
+#[derive(Clone, Copy, Debug)]
+pub struct OccupancyAnswer {
+    /// `DONE`, or why the call was refused. Then all else is 0.
+    pub code: u32,
+    /// The largest dimension of a free block, if there is one, else 0.
+    pub largest: u32,
+    /// Whether a block is free.
+    pub has_free: bool,
+    /// The number of processors in held blocks.
+    pub held: u64,
+    /// The number of free blocks of each dimension, at the dimension. It is 0 above the machine's.
+    pub free: [u64; FREE_PLACES],
+}
+
+// Makes the answer of a successful call with a block.
+#[inline(always)]
+pub(crate) fn done(region: Region) -> Answer
+    ensures code { result.code ≡ DONE }
+    ensures region { region_of result ≡ region }
+    ensures quiet { result.contended ≡ 0 }
+{
+    Answer {
+        code: DONE,
+        dim: region.dim,
+        base: region.base,
+        contended: 0,
+    }
+}
+
+// Makes the answer of a refused call.
+#[inline(always)]
+pub(crate) fn refused(code: u32, contended: u32) -> Answer
+    ensures code { result.code ≡ code }
+    ensures none { NamesNone result }
+    ensures contended { result.contended ≡ contended }
+{
+    Answer {
+        code,
+        dim: 0,
+        base: 0,
+        contended,
+    }
+}

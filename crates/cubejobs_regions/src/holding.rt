@@ -1,0 +1,98 @@
+//! A held block goes into a handle of C's and comes out again.
+ghost use Rattle.std.specs.Prelude.{◌≡◌, true, false, [], None, Some};
+ghost use Rattle.cubejobs_regions.specs.Held.{held_at};
+ghost use Rattle.cubejobs_regions.specs.Handle.{refusal_of_filling};
+ghost use Rattle.cubejobs_regions.specs.Holding.{trail_of};
+ghost use Rattle.cubejobs_regions.specs.Holds.{hold_of};
+ghost use Rattle.cubejobs_regions.specs.Tags.{is_held};
+
+use crate::block_handle::BlockHandle;
+use crate::codes::{DONE, HOLDS_ALREADY, OPEN, OTHER_KIND};
+use crate::hidden_seat::HiddenSeat;
+use crate::tag::{dim_at, holds, region_at, tag_of};
+use atomic_table::Badge;
+use bitmap_tree::{BlockSeat, HeldBlock};
+
+impl BlockHandle {
+    // Makes a handle that holds nothing.
+    #[inline(always)]
+    pub(crate) fn empty() -> BlockHandle
+        ensures none { hold_of result ≡ None }
+        ensures tag { is_held result.tag ≡ false }
+    {
+        BlockHandle {
+            tag: 0,
+            machine: 0,
+            seat: HiddenSeat::blank(),
+        }
+    }
+
+    // Makes the handle of a held block, of a machine of this number.
+    #[inline(always)]
+    pub(crate) fn of(held: HeldBlock, machine: u64) -> BlockHandle
+        ensures { hold_of result ≡ Some (held_at machine held) }
+    {
+        let (region, dim, seat) = held.into_parts();
+        let (seat, none) = HiddenSeat::blank().exchange(seat.into_badge());
+        drop(none);
+        BlockHandle {
+            tag: tag_of(region, dim),
+            machine,
+            seat,
+        }
+    }
+
+    // Returns whether it holds a block.
+    #[inline(always)]
+    pub(crate) fn is_held(&self) -> bool
+        ensures { result ≡ is_held self.now.tag }
+    {
+        holds(self.tag)
+    }
+
+    // Returns the held block. There must be one.
+    #[inline(always)]
+    pub(crate) fn into_held(self) -> HeldBlock
+        requires { is_held self.tag ≡ true }
+        ensures { hold_of self ≡ Some (held_at self.machine result) }
+    {
+        let BlockHandle {
+            tag,
+            machine: _,
+            seat,
+        } = self;
+        let (none, badge) = seat.exchange(Badge::blank());
+        drop(none);
+        HeldBlock::of_parts(region_at(tag), dim_at(tag), badge.into_seat())
+    }
+
+    // Returns an empty handle with the same bytes. It keeps the seat of a call, and so what its
+    // steps found.
+    #[inline(always)]
+    pub(crate) fn keep(self, seat: BlockSeat) -> BlockHandle
+        requires empty { is_held self.tag ≡ false }
+        requires no_slot { seat.me.1 ≡ [] }
+        ensures none { hold_of result ≡ None }
+        ensures trail { trail_of result ≡ seat.me.0.trail }
+    {
+        let BlockHandle {
+            tag,
+            machine,
+            seat: old,
+        } = self;
+        let (seat, last) = old.exchange(seat.into_badge());
+        drop(last);
+        BlockHandle { tag, machine, seat }
+    }
+
+    // Returns why no block can be put into it, or `DONE`.
+    #[inline(always)]
+    pub(crate) fn refusal(&self) -> u32
+        ensures { result ≡ refusal_of_filling self.now }
+    {
+        if self.tag == OPEN {
+            return OTHER_KIND;
+        }
+        if self.is_held() { HOLDS_ALREADY } else { DONE }
+    }
+}
