@@ -1,6 +1,6 @@
-//! Links the proved libraries: `libcubejobs_c.a`, and with the feature `tree` also
-//! `libcubejobs_tree.a`. They are in the folder that `CUBEJOBS_LIB` names, or else in `lib/`,
-//! which has copies of the files of `release/`.
+//! Links the proved libraries: `libcubejobs_c.a`, and for the feature `regions` another one. They
+//! are in the folder that `CUBEJOBS_LIB` names, or else in `lib/`, which has copies of the files of
+//! `release/`.
 
 use std::env;
 use std::path::PathBuf;
@@ -28,8 +28,8 @@ fn link() -> Result<(), String> {
     let package = env::var_os("CARGO_MANIFEST_DIR").ok_or("cargo has not set CARGO_MANIFEST_DIR")?;
     let folder = env::var_os("CUBEJOBS_LIB").map_or(PathBuf::from(package).join("lib"), PathBuf::from);
     println!("cargo::rerun-if-env-changed=CUBEJOBS_LIB");
-    let tree = env::var_os("CARGO_FEATURE_TREE").map(|_| "libcubejobs_tree.a");
-    for name in ["libcubejobs_c.a"].into_iter().chain(tree) {
+    let regions = env::var_os("CARGO_FEATURE_REGIONS").map(|_| "libcubejobs_regions.a");
+    for name in ["libcubejobs_c.a"].into_iter().chain(regions) {
         let library = folder.join(name);
         println!("cargo::rerun-if-changed={}", library.display());
         if !library.exists() {

@@ -5,9 +5,9 @@
 //!
 //! | You have | Use |
 //! |---|---|
+//! | threads, and any number of blocks | `regions::Machine`, in the default feature `regions` |
 //! | one thread, or threads under your lock; up to [`MAX_STATIONS`] blocks | [`Machine`] |
 //! | the same, with any number of blocks, in your own memory | [`fit::FirstFit`] |
-//! | threads that must not wait for a stopped one | `tree::Cube`, in the default feature `tree` |
 //!
 //! A [`Machine`] is exact first fit for stations (allocator handles; here numbers). A take gets the
 //! first fit: the block with the least base that overlaps no held block. A station holds at most
@@ -33,18 +33,22 @@
 #![no_std]
 #![warn(missing_docs)]
 
-#[cfg(feature = "tree")]
+#[cfg(feature = "regions")]
 extern crate alloc;
+#[cfg(feature = "std")]
+extern crate std;
 
+#[cfg(all(feature = "regions", feature = "std"))]
+mod event;
 mod ffi;
 pub mod fit;
 mod fit_ffi;
-#[cfg(feature = "tree")]
-mod share;
-#[cfg(feature = "tree")]
-pub mod tree;
-#[cfg(feature = "tree")]
-mod tree_ffi;
+#[cfg(feature = "regions")]
+mod handles;
+#[cfg(feature = "regions")]
+pub mod regions;
+#[cfg(feature = "regions")]
+mod regions_ffi;
 
 use core::error::Error;
 use core::fmt;

@@ -1,17 +1,20 @@
-//! Memory of the tree. Machines that are dropped in any order leave no block of memory behind. Each
-//! request for memory is refused in turn, which is an error and leaves none behind.
+//! Memory of the lock-free library. Machines and blocks that are dropped in any order leave no
+//! memory behind. Each request for memory is refused in turn, which is an error and leaves none
+//! behind.
 //!
 //! `malloc` and `free` of this program are those below, for Rust and for the library alike.
 
-use cubejobs::tree::{Cube, OpenError, SeatError, Station};
+use cubejobs::regions::{Held, Machine, OpenError, TakeError};
 use std::cell::Cell;
 use std::ffi::c_void;
 use std::fmt::Debug;
 use std::sync::atomic::{AtomicI64, Ordering::SeqCst};
+use std::sync::Arc;
 use std::thread;
 
 extern "C" {
     fn __libc_malloc(size: usize) -> *mut c_void;
+    fn __libc_memalign(align: usize, size: usize) -> *mut c_void;
     fn __libc_free(block: *mut c_void);
 }
 
@@ -66,6 +69,20 @@ extern "C" fn malloc(size: usize) -> *mut c_void {
     block
 }
 
+/// Allocates aligned memory, as an `Arc` of a machine does.
+///
+/// # Safety
+/// The block's address can be written to `place`.
+#[no_mangle]
+unsafe extern "C" fn posix_memalign(place: *mut *mut c_void, align: usize, size: usize) -> i32 {
+    // SAFETY: any size is allowed, and the alignment is one of Rust.
+    let block = unsafe { __libc_memalign(align, size) };
+    count(block, 1);
+    // SAFETY: as the caller promises.
+    unsafe { place.write(block) };
+    0
+}
+
 /// Frees a block.
 ///
 /// # Safety
@@ -77,52 +94,22 @@ unsafe extern "C" fn free(block: *mut c_void) {
     unsafe { __libc_free(block) };
 }
 
-fn open() -> (Cube, Station, Station) {
-    let mut cube = Cube::new(4, 3).unwrap();
-    let (one, other) = (cube.seat().unwrap(), cube.seat().unwrap());
-    (cube, one, other)
-}
-
-/// The ways to drop a machine and its stations in one thread.
-const WAYS: [fn(Cube, Station, Station); 7] = [
-    |cube, one, other| drop((cube, one, other)),
-    |cube, one, other| drop((one, cube, other)),
-    |cube, one, other| drop((one, other, cube)),
-    |cube, one, other| {
-        drop((one, other));
-        cube.close().unwrap();
-    },
-    |cube, one, other| {
-        let out = cube.close().unwrap_err();
-        drop((one, out, other));
-    },
-    |cube, one, other| {
-        let held = one.hold(4).unwrap();
-        let refused = other.hold(0).unwrap_err();
-        drop((cube, held, refused));
-    },
-    |cube, mut one, other| {
-        std::mem::forget(one.take(1).unwrap());
-        drop((cube, other, one));
-    },
-];
-
-fn machines_leave_no_memory_behind() {
-    for round in 0..1000 {
-        let (cube, one, other) = counting(open);
-        assert!(LIVE.load(SeqCst) >= 4, "the blocks of an open machine are not counted");
-        counting(|| WAYS[round % WAYS.len()](cube, one, other));
-        assert_eq!(LIVE.load(SeqCst), 0, "after round {round}");
-    }
+fn blocks_leave_no_memory_behind() {
     for round in 0..200 {
-        let (cube, one, other) = counting(open);
+        let (machine, one, other) = counting(|| {
+            let machine = Arc::new(Machine::new(4).unwrap());
+            let one = Held::take(machine.clone(), 1).unwrap();
+            let other = Held::take(machine.clone(), 2).unwrap();
+            (machine, one, other)
+        });
+        assert!(LIVE.load(SeqCst) >= 3, "the blocks of an open machine are not counted");
         // Any of the three threads may be the last owner.
         thread::scope(|scope| {
-            scope.spawn(|| counting(|| drop(cube)));
+            scope.spawn(|| counting(|| drop(machine)));
             scope.spawn(|| counting(|| drop(one)));
             scope.spawn(|| counting(|| drop(other)));
         });
-        assert_eq!(LIVE.load(SeqCst), 0, "after round {round} of threads");
+        assert_eq!(LIVE.load(SeqCst), 0, "after round {round}");
     }
 }
 
@@ -145,25 +132,35 @@ fn refuse_each<T, E: Copy + PartialEq + Debug>(
 }
 
 fn refused_requests_are_errors() {
-    let (mut cube, of_open) = refuse_each(OpenError::OutOfMemory, || Cube::new(4, 2));
-    let (mut one, of_seat) = refuse_each(SeatError::OutOfMemory, || cube.seat());
-    let (other, _) = refuse_each(SeatError::OutOfMemory, || cube.seat());
-    // An open needs the count of owners and the words of the tree. A seat needs the station.
-    assert!(of_open >= 2 && of_seat >= 1, "{of_open} and {of_seat} requests");
+    let open = || Machine::new(13);
+    let (machine, of_open) = refuse_each(OpenError::OutOfMemory, open);
+    assert!(of_open >= 2, "{of_open} requests");
+    // A thread's own handle is refused, so the calls borrow the first one.
     with_requests(0, || {
-        drop(one.take(1).unwrap());
-        let held = other.hold(2).unwrap();
-        assert_eq!(cube.occupancy().held, 4);
-        let out = cube.close().unwrap_err();
-        drop((held.release(), one));
-        out.cube.close().unwrap();
+        let (lower, upper) = machine.take(6).unwrap().split().unwrap();
+        assert_eq!(machine.take_exact(13).unwrap_err(), TakeError::NoRoom);
+        drop(lower.join(upper).unwrap());
     });
+    let before = LIVE.load(SeqCst);
+    counting(|| drop(machine.take(0).unwrap()));
+    assert!(LIVE.load(SeqCst) > before, "the thread has no handle of its own");
+    // From then on no call makes a request.
+    with_requests(0, || {
+        drop(machine.take(13).unwrap());
+        assert_eq!(machine.occupancy().held, 0);
+    });
+    thread::scope(|scope| {
+        for _ in 0..8 {
+            scope.spawn(|| counting(|| drop(machine.take(3).unwrap())));
+        }
+    });
+    counting(|| drop(machine));
     assert_eq!(LIVE.load(SeqCst), 0);
 }
 
 // One test, since the count is for all threads.
 #[test]
 fn memory() {
-    machines_leave_no_memory_behind();
+    blocks_leave_no_memory_behind();
     refused_requests_are_errors();
 }

@@ -1,0 +1,370 @@
+//! Lock-free allocation of any number of aligned blocks for any number of threads: safe Rust over
+//! the library `cubejobs_regions`.
+//!
+//! A [`Machine`] has `2^n` processors. Threads share it by reference or by `Arc`. A take returns a
+//! [`Block`], a guard that releases its block when it is dropped. Any thread may drop it. Blocks
+//! that are held at the same time never overlap. This is proved of the library for every
+//! interleaving of the calls.
+//!
+//! ```
+//! use cubejobs::regions::Machine;
+//! use std::thread;
+//!
+//! let machine = Machine::new(10)?;
+//! thread::scope(|scope| {
+//!     let four = machine.take(2).unwrap(); // borrows the machine
+//!     scope.spawn(move || drop(four)); // another thread releases it
+//!     scope.spawn(|| assert_eq!(machine.take(3).unwrap().region().dim, 3));
+//! });
+//! assert_eq!(machine.occupancy().held, 0);
+//! # Ok::<(), Box<dyn std::error::Error>>(())
+//! ```
+//!
+//! A block over an `Arc` can be stored anywhere:
+//!
+//! ```
+//! use cubejobs::regions::{Held, Machine};
+//! use std::sync::Arc;
+//!
+//! let machine = Arc::new(Machine::new(10)?);
+//! let mut stored: Vec<Held> = vec![Held::take(machine.clone(), 4)?];
+//! drop(machine); // the block keeps the machine
+//! stored.clear();
+//! # Ok::<(), Box<dyn std::error::Error>>(())
+//! ```
+//!
+//! # When to take again
+//!
+//! [`Machine::take`] goes by hints, so its refusal says nothing. [`Machine::take_exact`] looks at
+//! each word before it refuses. With the feature `std`, [`Machine::take_or_wait`] sleeps until it
+//! gets a block. Without it, take again after a moment.
+//!
+//! # What is not checked
+//!
+//! These types keep what the library asks of its callers, except for two things. No call may come
+//! from a signal handler or from a forked child, and `malloc` and `free` must belong to one
+//! allocator. A take and a release also order plain memory that the block guards. Tests show that,
+//! and no theorem says so.
+
+use crate::handles::Handles;
+use crate::regions_ffi::{self as ffi, BlockHandle};
+use crate::Region;
+use alloc::sync::Arc;
+use core::borrow::Borrow;
+use core::error::Error;
+use core::fmt;
+
+/// The largest dimension of a [`Machine`], which has at most `2^MAX_DIM` processors.
+pub const MAX_DIM: u32 = ffi::MAX_DIM;
+
+/// A machine. Any thread may call it. [`Machine::new`] allocates, and so does the first call of
+/// each thread; no other call does.
+pub struct Machine {
+    handles: Handles,
+    dim: u32,
+    #[cfg(feature = "std")]
+    event: crate::event::Event,
+}
+
+/// A held block, with its machine by reference or by `Arc`. Dropping this guard releases the block.
+#[must_use = "the block is released at once if the guard is dropped"]
+pub struct Block<M: Borrow<Machine>> {
+    machine: M,
+    handle: BlockHandle,
+    region: Region,
+}
+
+/// A held block that shares its machine. It can be stored.
+pub type Held = Block<Arc<Machine>>;
+
+/// The reason why a machine was not opened.
+#[derive(Clone, Copy, Debug, PartialEq, Eq)]
+pub enum OpenError {
+    /// The dimension is above [`MAX_DIM`].
+    BadDimension,
+    /// Memory ran out.
+    OutOfMemory,
+}
+
+/// The reason of a refused take. A refusal changes nothing.
+#[derive(Clone, Copy, Debug, PartialEq, Eq)]
+pub enum TakeError {
+    /// The dimension is above that of the machine.
+    BadDimension,
+    /// No block of this dimension begins at this processor.
+    BadBase,
+    /// A part of each block of this dimension was in use when the call looked at it.
+    NoRoom,
+    /// A part of the given block was in use when the call looked at it.
+    Taken,
+    /// No block was found, and one may be free. A quick take had no more hints, or other calls won
+    /// the exchanges.
+    NotNow,
+}
+
+/// What is free in a machine. Each word is read at some moment of the call.
+#[derive(Clone, Copy, Debug, PartialEq, Eq)]
+pub struct Occupancy {
+    /// The number of free blocks of each dimension, at the dimension.
+    pub free: [u64; ffi::FREE_PLACES],
+    /// The number of processors in held blocks.
+    pub held: u64,
+    /// The largest dimension of a free block, if a block is free.
+    pub largest: Option<u32>,
+}
+
+/// The error of a machine that was not closed: a guard of it was forgotten ([`core::mem::forget`]).
+pub struct StillHeld {
+    /// The machine.
+    pub machine: Machine,
+}
+
+impl Machine {
+    /// Opens a machine of dimension `dim`. Each processor is free.
+    pub fn new(dim: u32) -> Result<Self, OpenError> {
+        match Handles::open(dim) {
+            Ok(handles) => Ok(Machine {
+                handles,
+                dim,
+                #[cfg(feature = "std")]
+                event: Default::default(),
+            }),
+            Err(ffi::BAD_DIMENSION) => Err(OpenError::BadDimension),
+            Err(ffi::OUT_OF_MEMORY) => Err(OpenError::OutOfMemory),
+            Err(code) => unreachable!("an open has no code {code}"),
+        }
+    }
+
+    /// Returns the dimension of the machine.
+    pub fn dim(&self) -> u32 {
+        self.dim
+    }
+
+    /// Takes a block of dimension `k` the quick way, by hints about full words. The error is
+    /// `BadDimension` or `NotNow`.
+    pub fn take(&self, k: u32) -> Result<Block<&Machine>, TakeError> {
+        Block::take(self, k)
+    }
+
+    /// Takes a block of dimension `k`, and looks at each word before it refuses. If no other call
+    /// ran meanwhile, no block of the dimension is free. The error is the first of these that
+    /// applies: `BadDimension`, `NoRoom`, `NotNow`.
+    pub fn take_exact(&self, k: u32) -> Result<Block<&Machine>, TakeError> {
+        Block::take_exact(self, k)
+    }
+
+    /// Takes this block. The error is the first of these that applies: `BadDimension`, `BadBase`,
+    /// `Taken`, `NotNow`.
+    pub fn take_at(&self, region: Region) -> Result<Block<&Machine>, TakeError> {
+        Block::take_at(self, region)
+    }
+
+    /// Takes a block of dimension `k`, and sleeps until it can. The error is `BadDimension`.
+    ///
+    /// A thread that waits for a large block may wait as long as others take small ones.
+    ///
+    /// ```
+    /// let machine = cubejobs::regions::Machine::new(2)?;
+    /// let all = machine.take(2)?;
+    /// std::thread::scope(|scope| {
+    ///     scope.spawn(|| machine.take_or_wait(1).unwrap());
+    ///     drop(all); // wakes the other thread
+    /// });
+    /// # Ok::<(), Box<dyn std::error::Error>>(())
+    /// ```
+    #[cfg(feature = "std")]
+    pub fn take_or_wait(&self, k: u32) -> Result<Block<&Machine>, TakeError> {
+        Block::take_or_wait(self, k)
+    }
+
+    /// Counts the free blocks and the held processors. Each word is read at some moment of the
+    /// call, so the counts are exact if no other call runs meanwhile.
+    pub fn occupancy(&self) -> Occupancy {
+        let answer = ffi::occupancy(&mut self.handles.borrow());
+        let largest = answer.has_free.then_some(answer.largest);
+        Occupancy { free: answer.free, held: answer.held, largest }
+    }
+
+    /// Frees the memory of the machine. A drop does so too, but it cannot say that a guard was
+    /// forgotten. Then the memory is never freed.
+    #[allow(clippy::result_large_err)] // it is called once
+    pub fn close(mut self) -> Result<(), StillHeld> {
+        if self.handles.free() {
+            Ok(())
+        } else {
+            Err(StillHeld { machine: self })
+        }
+    }
+
+    /// Makes an event of a call that has ended: a waiter may succeed now.
+    fn raise(&self) {
+        #[cfg(feature = "std")]
+        self.event.raise();
+    }
+}
+
+impl Drop for Machine {
+    fn drop(&mut self) {
+        self.handles.free();
+    }
+}
+
+impl<M: Borrow<Machine>> Block<M> {
+    /// Takes a block as [`Machine::take`] does, of a machine by reference or by `Arc`.
+    pub fn take(machine: M, k: u32) -> Result<Self, TakeError> {
+        let handles = &machine.borrow().handles;
+        let mut handle = BlockHandle::EMPTY;
+        let answer = ffi::take(&mut handles.borrow(), &mut handle, k);
+        Self::taken(machine, handle, answer)
+    }
+
+    /// Takes a block as [`Machine::take_exact`] does, of a machine by reference or by `Arc`.
+    pub fn take_exact(machine: M, k: u32) -> Result<Self, TakeError> {
+        let handles = &machine.borrow().handles;
+        let mut handle = BlockHandle::EMPTY;
+        let answer = ffi::take_exact(&mut handles.borrow(), &mut handle, k);
+        Self::taken(machine, handle, answer)
+    }
+
+    /// Takes a block as [`Machine::take_at`] does, of a machine by reference or by `Arc`.
+    pub fn take_at(machine: M, region: Region) -> Result<Self, TakeError> {
+        let handles = &machine.borrow().handles;
+        let mut handle = BlockHandle::EMPTY;
+        let answer = ffi::take_at(&mut handles.borrow(), &mut handle, region.base, region.dim);
+        Self::taken(machine, handle, answer)
+    }
+
+    /// Takes a block as [`Machine::take_or_wait`] does, of a machine by reference or by `Arc`.
+    #[cfg(feature = "std")]
+    pub fn take_or_wait(machine: M, k: u32) -> Result<Self, TakeError> {
+        let shared: &Machine = machine.borrow();
+        let mut handle = BlockHandle::EMPTY;
+        let mut answer = ffi::take(&mut shared.handles.borrow(), &mut handle, k);
+        while answer.code == ffi::NO_ROOM || answer.code == ffi::NOT_NOW {
+            shared.raise();
+            let exact = || ffi::take_exact(&mut shared.handles.borrow(), &mut handle, k);
+            let (taken, key) = shared.event.in_turn(exact);
+            match taken.code {
+                ffi::NO_ROOM => shared.event.wait(key),
+                ffi::NOT_NOW => std::thread::yield_now(),
+                _ => {}
+            }
+            answer = taken;
+        }
+        Self::taken(machine, handle, answer)
+    }
+
+    /// Returns the held block.
+    pub fn region(&self) -> Region {
+        self.region
+    }
+
+    /// Splits the block into its lower and its upper half. Returns the block itself if it has one
+    /// processor.
+    pub fn split(mut self) -> Result<(Self, Self), Self>
+    where
+        M: Clone,
+    {
+        let mut half = BlockHandle::EMPTY;
+        let handles = &self.machine.borrow().handles;
+        let code = ffi::split(&mut handles.borrow(), &mut self.handle, &mut half);
+        if code != ffi::DONE {
+            return Err(self);
+        }
+        let machine = self.machine.clone();
+        let upper = Block { machine, region: region_of(&half), handle: half };
+        self.region = region_of(&self.handle);
+        Ok((self, upper))
+    }
+
+    /// Joins the lower and the upper half of a block. Returns the two if they are not that.
+    pub fn join(mut self, mut upper: Self) -> Result<Self, (Self, Self)> {
+        let handles = &self.machine.borrow().handles;
+        let code = ffi::join(&mut handles.borrow(), &mut self.handle, &mut upper.handle);
+        if code != ffi::DONE {
+            return Err((self, upper));
+        }
+        self.region = region_of(&self.handle);
+        Ok(self)
+    }
+
+    /// Returns the guard of what a take got, or why it was refused.
+    fn taken(machine: M, handle: BlockHandle, answer: ffi::Answer) -> Result<Self, TakeError> {
+        machine.borrow().raise();
+        match answer.code {
+            ffi::DONE => {
+                let region = Region { base: answer.base, dim: answer.dim };
+                Ok(Block { machine, handle, region })
+            }
+            ffi::NO_ROOM => Err(TakeError::NoRoom),
+            ffi::NOT_NOW => Err(TakeError::NotNow),
+            ffi::BAD_DIMENSION => Err(TakeError::BadDimension),
+            ffi::BAD_BASE => Err(TakeError::BadBase),
+            ffi::TAKEN => Err(TakeError::Taken),
+            code => unreachable!("a take has no code {code}"),
+        }
+    }
+}
+
+fn region_of(handle: &BlockHandle) -> Region {
+    let answer = ffi::block(handle);
+    Region { base: answer.base, dim: answer.dim }
+}
+
+impl<M: Borrow<Machine>> Drop for Block<M> {
+    fn drop(&mut self) {
+        let machine = self.machine.borrow();
+        // It is refused if a join has emptied the handle.
+        ffi::release(&mut machine.handles.borrow(), &mut self.handle);
+        machine.raise();
+    }
+}
+
+impl fmt::Debug for Machine {
+    fn fmt(&self, f: &mut fmt::Formatter<'_>) -> fmt::Result {
+        f.debug_struct("Machine").field("dim", &self.dim).finish_non_exhaustive()
+    }
+}
+
+impl<M: Borrow<Machine>> fmt::Debug for Block<M> {
+    fn fmt(&self, f: &mut fmt::Formatter<'_>) -> fmt::Result {
+        f.debug_struct("Block").field("region", &self.region).finish_non_exhaustive()
+    }
+}
+
+impl fmt::Debug for StillHeld {
+    fn fmt(&self, f: &mut fmt::Formatter<'_>) -> fmt::Result {
+        f.debug_struct("StillHeld").field("machine", &self.machine).finish()
+    }
+}
+
+impl fmt::Display for OpenError {
+    fn fmt(&self, f: &mut fmt::Formatter<'_>) -> fmt::Result {
+        match self {
+            OpenError::BadDimension => write!(f, "the dimension is past {MAX_DIM}"),
+            OpenError::OutOfMemory => f.write_str("out of memory"),
+        }
+    }
+}
+
+impl fmt::Display for TakeError {
+    fn fmt(&self, f: &mut fmt::Formatter<'_>) -> fmt::Result {
+        f.write_str(match self {
+            TakeError::BadDimension => "the dimension is past that of the machine",
+            TakeError::BadBase => "no block of this dimension begins there",
+            TakeError::NoRoom => "a part of each block of this dimension was in use",
+            TakeError::Taken => "a part of the block was in use",
+            TakeError::NotNow => "no block was found, and one may be free",
+        })
+    }
+}
+
+impl fmt::Display for StillHeld {
+    fn fmt(&self, f: &mut fmt::Formatter<'_>) -> fmt::Result {
+        f.write_str("a block is held whose guard was forgotten")
+    }
+}
+
+impl Error for OpenError {}
+impl Error for TakeError {}
+impl Error for StillHeld {}
