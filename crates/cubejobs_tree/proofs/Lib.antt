@@ -1,3 +1,0 @@
-pub mod AsBox
-mod CrossLemmas
-mod CloseLemmas
