@@ -6,7 +6,7 @@
 #include "lock.h"
 #include "nodes.h"
 
-enum { MAX_DIM = 20, MAX_BLOCK_DIM = MAX_DIM, ONE_BLOCK_A_LANE = 0 };
+enum { MAX_DIM = 20, MAX_BLOCK_DIM = MAX_DIM };
 static const enum begins BEGINS = AT_FRONT;
 static const bool CAN_LEAVE_MARKS = false;
 

@@ -6,7 +6,7 @@
 
 #include "bits.h"
 
-enum { MAX_DIM = 20, MAX_BLOCK_DIM = WORD_DIM, ONE_BLOCK_A_LANE = 0, TRIES = 8 };
+enum { MAX_DIM = 20, MAX_BLOCK_DIM = WORD_DIM, TRIES = 8 };
 static const enum begins BEGINS = AT_FRONT;
 static const bool CAN_LEAVE_MARKS = false;
 

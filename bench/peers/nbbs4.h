@@ -8,7 +8,7 @@
 
 #include "nodes.h"
 
-enum { MAX_DIM = 20, MAX_BLOCK_DIM = MAX_DIM, ONE_BLOCK_A_LANE = 0 };
+enum { MAX_DIM = 20, MAX_BLOCK_DIM = MAX_DIM };
 static const enum begins BEGINS = SPREAD;
 static const bool CAN_LEAVE_MARKS = true;
 

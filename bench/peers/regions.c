@@ -21,7 +21,7 @@
  * With `check` it counts the owners of each processor, and fails where one has two. With `times` each turn is timed;
  * after the number of refused takes there are three more lines, the median, 99 % and 99.9 % in nanoseconds.
  *
- * `cube_bench regions` does the same with the proved bitmap tree. */
+ * `cube_bench regions` does the same with the proved bitmap tree, and library.h with its library for C. */
 #define _GNU_SOURCE
 #include <inttypes.h>
 #include <pthread.h>
@@ -37,13 +37,17 @@
  * part of its own of the machine. */
 enum begins { AT_FRONT, NEAR_FRONT, SPREAD };
 
-#include ALLOCATOR
-
 enum { MAX_THREADS = 32, HOLDER = MAX_THREADS, LANES, THOUSAND = 1000, MISSES = 100, DIM_OF_WORD = 6 };
 
+#include ALLOCATOR
+
+/* A block, with its handle where the allocator has one (BLOCK_HANDLE). */
 struct block {
     uint64_t base;
     unsigned k;
+#ifdef BLOCK_HANDLE
+    BLOCK_HANDLE handle;
+#endif
 };
 
 /* What a thread works with. The last lane is that of the main thread, which fills the machine. */
@@ -108,18 +112,29 @@ static void remove_owner(struct block block) {
 }
 
 static bool take(struct lane *lane, unsigned k, uint64_t start, struct block *block) {
+#ifdef BLOCK_HANDLE
+    (void)start;
+    block->handle = (BLOCK_HANDLE){0};
+    int64_t base = take_handle(&block->handle, k, lane->number);
+#else
     int64_t base = take_block(k, lane->number, start);
+#endif
     if (base < 0) {
         return false;
     }
-    *block = (struct block){(uint64_t)base, k};
+    block->base = (uint64_t)base;
+    block->k = k;
     add_owner(*block);
     return true;
 }
 
 static void release(struct lane *lane, struct block block) {
     remove_owner(block);
+#ifdef BLOCK_HANDLE
+    release_handle(&block.handle, lane->number);
+#else
     release_block(lane->number, block.base, block.k);
+#endif
 }
 
 static void hold(struct lane *lane, struct block block) {
@@ -443,9 +458,8 @@ int main(int count, char **words) {
     }
     machine_dimension = number_of(words[2]);
     unsigned low = number_of(words[3]), high = number_of(words[4]), threads = number_of(words[6]);
-    bool has_singles = strcmp(words[1], "pairs") != 0 && strcmp(words[1], "half") != 0;
     if (machine_dimension < DIM_OF_WORD || machine_dimension > MAX_DIM || low > high || high > MAX_BLOCK_DIM
-        || high > machine_dimension || threads == 0 || threads > MAX_THREADS || (ONE_BLOCK_A_LANE && has_singles)) {
+        || high > machine_dimension || threads == 0 || threads > MAX_THREADS) {
         return 2;
     }
     if (has_word(count, words, "check")) {
