@@ -2,30 +2,31 @@
 races), from C++ and from Rust.
 
 Of the exact allocator: 100,000 random calls on a machine of each dimension, beside a plain model; and as many of first
-fit over the caller's own bytes, which processes share and which stand in a file. Of the tree with no lock: each code
+fit over the caller's own bytes, which processes share and which stand in a file. Of the regions with no lock: each code
 where it must come, handles that are shut, foreign or of the wrong kind, eight threads with a table of counters and with
-plain memory that regions guard, and each request for memory refused in turn. The examples are built and run. A language
-whose compiler is not there is skipped. `checks/run ffi [--after-gate] [--long]` takes the libraries below as `rt ci`
-has just left them, and makes more than 10^7 calls of the exact allocator, and of the tree.
+plain memory that blocks guard, and each request for memory refused in turn. Threads release blocks of others, and wait
+for blocks; four wrong libraries must be seen. The examples are built and run. A language whose compiler is not there is
+skipped. `checks/run ffi [--after-gate] [--long]` takes the libraries below as `rt ci` has just left them, and makes more
+than 10^7 calls of the exact allocator, and of the regions.
 """
 import os
-import re
 import shutil
 import subprocess
 import tempfile
 from typing import NamedTuple, Sequence
 
-from checks.built import archive, static
+from checks.built import archive, preload, static
 from checks.lib.repository import files_below, path, read
 from checks.lib.rows import Row, Skipped, answer, must, put, run_rows
 from checks.lib.toolchain import AFTER_GATE, FOR_ANY
 
-EXACT, TREE = archive.LIBRARIES
-OF_TREE = ("cube_shape", "status_word", "cube_core", "tree_steps", "cube_tree", "cube_occupancy")
-BELOW = {EXACT: ("cube_shape", "region_bits"), TREE: OF_TREE}
+EXACT, REGIONS = archive.LIBRARIES
+OF_REGIONS = ("cube_shape", "region_bits", "bitmap_tree", "bitmap_occupancy")
+BELOW = {EXACT: ("cube_shape", "region_bits"), REGIONS: OF_REGIONS}
 LONGER, SECONDS = 100, 7200
 STRICT = ["-O1", "-g", "-Wall", "-Wextra", "-Werror", "-pedantic", f"-I{path('include')}"]
 C, CXX = ["gcc", "-std=c11", "-xc"], ["g++", "-std=c++11", "-xc++"]
+OWNERS = [*CXX, "-fsanitize=address,undefined", "-fno-sanitize-recover=all", "-Wno-self-move"]
 CHECKED, RACES = [*C, "-fsanitize=address,undefined", "-fno-sanitize-recover=all"], [*C, "-fsanitize=thread"]
 CLANG = ["clang", "-std=c11", "-xc", "-fsanitize=memory"]
 # A sanitizer wants to place its memory itself, which an address that the system has made random may prevent.
@@ -33,8 +34,6 @@ PLACED = ["setarch", "-R"]
 # Names that a program may have, which are those of functions inside the libraries too.
 OWN_NAMES = "#include <stdlib.h>\n" + "".join(f"void {it}(void) {{ abort(); }}\n" for it in (
     "*rattle_alloc", "*rattle_realloc", "rattle_dealloc"))
-# What the tree's header states of the memory that machines and stations take.
-STATED = r"(\d+) \* 2\^dim \+ (\d+) \* stations \+ (\d+) bytes in (\d+) blocks for .* (\d+) bytes in one block"
 
 
 def build(crate, after_gate):
@@ -82,12 +81,21 @@ def must_run(room, program):
 
 
 def must_be_seen(room, program, warning):
-    """Sees that a sanitizer stops a program with this warning."""
+    """Sees that a sanitizer or the program itself stops it with this warning."""
     status, out, said = program.start(room)
     must(status != 0 and warning in out + said, f"status {status}, and no {warning.decode()}")
 
 
 CALLS = "checks/built/{}_calls.c".format
+HELGRIND = ["valgrind", "--tool=helgrind", "--quiet", "--error-exitcode=9"]
+WRAPPED = ",".join(f"--wrap=cubejobs_regions_{it}" for it in ("take", "release", "free", "split"))
+# What is wrong with a library, and what the calls say then.
+WRONG = (
+    ("each taker gets the first block", b"has two owners"),
+    ("a release by another thread does nothing", b"take_at"),
+    ("the last handle is shut although a block is held", b"another answer"),
+    ("a split forgets a half", b"another answer"),
+)
 
 
 def programs(longer):
@@ -97,29 +105,62 @@ def programs(longer):
             yield Program(CALLS(name), [EXACT], compiler, words=[str(100_000 * min(longer, 10))])
         for name in ("subcubes", "fit"):
             yield Program(f"examples/{name}.c", [EXACT], compiler, shown=f"examples/{name}.out")
-    for compiler, pairs in ((CHECKED, 10_000), (RACES, 500), (CLANG, 2000), (CXX, 20_000)):
+
+
+def programs_of_regions(longer):
+    """Yields the programs over the regions that must end well."""
+    for compiler, pairs, turns in ((CHECKED, 10_000, 1000), (RACES, 500, 200), (CLANG, 2000, 200), (CXX, 20_000, 5000)):
         placed = PLACED if compiler in (RACES, CLANG) else ()
-        yield Program(CALLS("tree"), [TREE], compiler, words=[str(pairs * longer)], placed=placed)
-    for name in ("threads", "arena"):
-        yield Program(f"examples/{name}.c", [TREE], shown=f"examples/{name}.out")
-    yield Program(CALLS("arena"), [TREE])
-    stated = re.search(STATED, read("include/cubejobs_tree.h")).groups()
-    yield Program("checks/built/tree_memory.c", [TREE], C, ["-Wl,--wrap=malloc,--wrap=free"], stated)
+        yield Program(CALLS("regions"), [REGIONS], compiler, words=[str(pairs * longer)], placed=placed)
+        yield Program(CALLS("wait"), [REGIONS], compiler, words=[str(turns * longer)], placed=placed)
+    yield Program(CALLS("wait"), [REGIONS], C, ["-DCUBEJOBS_EVENT_CONDITION"], ["5000"])
+    yield Program("checks/built/regions_memory.c", [REGIONS], C, ["-Wl,--wrap=malloc,--wrap=free"])
+    for name in ("regions", "arena", "wait"):
+        yield Program(f"examples/{name}.c", [REGIONS], shown=f"examples/{name}.out")
+    yield Program("examples/blocks.cpp", [REGIONS, EXACT], CXX, shown="examples/blocks.out")
+    yield Program("checks/built/owners_calls.cpp", [REGIONS, EXACT], OWNERS)
+    yield Program(CALLS("arena"), [REGIONS])
+
+
+def rows_of_regions(room, longer):
+    for program in programs_of_regions(longer):
+        title = " ".join([program.source, "by", *program.compiler, *program.flags])
+        yield Row(title, must_run, (room, program))
+    race = Program(CALLS("regions"), [REGIONS], RACES, ["-DUNGUARDED"], ["500"], PLACED)
+    yield Row("a race beside a block is seen", must_be_seen, (room, race, b"WARNING: ThreadSanitizer: data race"))
+    unmarked = Program(CALLS("regions"), [REGIONS], [*CLANG, f"-I{room}/unmarked"], [], ["20"], PLACED)
+    yield Row("a block that is not written is seen", must_be_seen, (room, unmarked, b"WARNING: MemorySanitizer"))
+    unraised = Program(CALLS("wait"), [REGIONS], [*C, f"-I{room}/unraised"], ["-DPATIENCE=3"], ["200"])
+    yield Row("a wake that is lost is seen", must_be_seen, (room, unraised, b"a wake is lost"))
+    for number, (what, said) in enumerate(WRONG, 1):
+        shim = [f"-DWRONG={number}", "-xc", path("checks/built/wrong_regions.c"), "-xnone", f"-Wl,{WRAPPED}"]
+        yield Row(what, must_be_seen, (room, Program(CALLS("regions"), [REGIONS], C, shim, ["2000"]), said))
+    if shutil.which(HELGRIND[0]):
+        marked = Program(CALLS("regions"), [REGIONS], C, ["-DCUBEJOBS_HELGRIND"], ["100"], HELGRIND)
+        yield Row("helgrind sees no race", must_run, (room, marked))
+        race = Program(CALLS("regions"), [REGIONS], C, ["-DCUBEJOBS_HELGRIND", "-DUNGUARDED"], ["100"], HELGRIND)
+        yield Row("helgrind sees a race", must_be_seen, (room, race, b"Possible data race"))
+    yield Row("preload.c", preload.build, (room, f"{room}/lib{REGIONS}.a"))
+    yield from preload.rows(room)
+
+
+def unlike(room, folder, header, old, new):
+    """Puts a header into a folder, with a fault."""
+    text = read(f"include/{header}")
+    must(old in text, f"{header} has no {old!r}")
+    os.makedirs(f"{room}/{folder}", exist_ok=True)
+    put(f"{room}/{folder}/{header}", text.replace(old, new))
 
 
 def rows(room, longer):
+    yield from rows_of_regions(room, longer)
     for program in programs(longer):
         yield Row(f"{program.source} by {' '.join(program.compiler)}", must_run, (room, program))
-    # What a sanitizer must see: a race that no region guards, and an answer that no header calls written.
-    race = Program(CALLS("tree"), [TREE], RACES, ["-DUNGUARDED"], ["500"], PLACED)
-    yield Row("a race is seen", must_be_seen, (room, race, b"WARNING: ThreadSanitizer: data race"))
-    unmarked = Program(CALLS("tree"), [TREE], [*CLANG, f"-I{room}/unmarked"], [], ["20"], PLACED)
-    yield Row("what is not written is seen", must_be_seen, (room, unmarked, b"WARNING: MemorySanitizer"))
     # A library keeps its names to itself: it is linked whole beside the other one, and beside a program's own names.
-    for whole in ([EXACT, TREE], [TREE, EXACT], []):
-        both = ["-Wl,--whole-archive", *whole, "-Wl,--no-whole-archive"] if whole else [TREE]
-        names = Program("examples/threads.c", both, C, ["-xc", f"{room}/own.c", "-xnone"], shown="examples/threads.out")
-        yield Row(f"names of its own, and {' and '.join(whole) or TREE}", must_run, (room, names))
+    for whole in ([EXACT, REGIONS], [REGIONS, EXACT], []):
+        both = ["-Wl,--whole-archive", *whole, "-Wl,--no-whole-archive"] if whole else [REGIONS]
+        names = Program("examples/regions.c", both, C, ["-xc", f"{room}/own.c", "-xnone"], shown="examples/regions.out")
+        yield Row(f"names of its own, and {' and '.join(whole) or REGIONS}", must_run, (room, names))
 
 
 def rust(room):
@@ -129,13 +170,13 @@ def rust(room):
 
 
 def main(words):
-    for crate in (EXACT, TREE):
+    for crate in archive.LIBRARIES:
         build(crate, AFTER_GATE in words)
     with tempfile.TemporaryDirectory() as room:
         archive.main([room])
         put(f"{room}/own.c", OWN_NAMES)
-        os.mkdir(f"{room}/unmarked")
-        marked = read("include/cubejobs_tree.h")
-        put(f"{room}/unmarked/cubejobs_tree.h", marked.replace("__has_feature(memory_sanitizer)", "0"))
+        unlike(room, "unmarked", "cubejobs_regions.h", "__has_feature(memory_sanitizer)", "0")
+        raised = "    cubejobs_event_raise(event);\n    return code;"
+        unlike(room, "unraised", "cubejobs_wait.h", raised, "    (void)event;\n    return code;")
         longer = LONGER if "--long" in words else 1
         return run_rows("ffi", [*rows(room, longer), Row("the Rust package", rust, (room,))], says_ok=True)

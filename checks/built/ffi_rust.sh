@@ -50,9 +50,12 @@ user() {
 
 subcubes='0 4, then: no free subcube of this dimension'
 groups='3000 jobs on groups of 16 workers'
+blocks='4000 blocks with 24800 processors in all'
 
 quiet cargo test --offline
-quiet cargo check --offline --no-default-features --all-targets
+for features in '' regions 'regions std'; do
+    quiet cargo check --offline --no-default-features --features "$features" --all-targets
+done
 if cargo clippy --version > "$work/log" 2>&1; then
     quiet cargo clippy --offline --all-targets
 else
@@ -61,12 +64,13 @@ fi
 quiet cargo doc --offline --no-deps
 shows "$subcubes" cargo run --quiet --offline --example subcubes
 shows "$groups" cargo run --quiet --offline --example groups
+shows "$blocks" cargo run --quiet --offline --example blocks
 echo "ffi: the tests, documents and examples of the Rust package pass, with no warning"
 
 user "$work/user" "{ path = \"$package\" }"
 shows "$subcubes" cargo run --quiet --offline --manifest-path "$work/user/Cargo.toml"
 mkdir "$work/some"
-for name in libcubejobs_c.a libcubejobs_tree.a; do
+for name in libcubejobs_c.a libcubejobs_regions.a; do
     sentence="set CUBEJOBS_LIB to the folder of $name, or take a clone whose release/ has it"
     refused "there is no $work/some/$name: $sentence" \
         env CUBEJOBS_LIB="$work/some" cargo build --offline --manifest-path "$work/user/Cargo.toml"
@@ -90,7 +94,7 @@ quiet cargo build --offline
 export CARGO_TARGET_DIR="$work/packaged"
 quiet cargo package --offline --allow-dirty
 tar -xzf "$CARGO_TARGET_DIR"/package/cubejobs-*.crate -C "$work"
-for name in libcubejobs_c.a libcubejobs_tree.a; do
+for name in libcubejobs_c.a libcubejobs_regions.a; do
     cmp "$work"/cubejobs-*/lib/$name "../release/linux-x86_64/$name"
 done
 cd "$work"/cubejobs-*

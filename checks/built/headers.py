@@ -1,8 +1,9 @@
 """Compiles the headers in `include/` in each C from C89 to C23 and each C++ from C++98 to C++23, with no warning.
 
-Each header stands alone, and both stand together in either order, under gcc and clang, and the sanitizers of which a
-header knows. A struct of a header has a name that C++ can say. A line names each compiler that is not there and each
-standard that it does not know. Headers with a fault must be refused. `checks/run headers FOLDER` takes other headers.
+Each header stands alone, and all stand together in either order, under gcc and clang, and the sanitizers of which a
+header knows. Some begin with a later standard. A struct of a header has a name that C++ can say. A line names each
+compiler that is not there and each standard that it does not know. Headers with a fault must be refused. `checks/run
+headers FOLDER` takes other headers.
 """
 import itertools
 import os
@@ -13,7 +14,9 @@ import tempfile
 from checks.lib.repository import path, read, write
 from checks.lib.rows import Row, Skipped, answer, must, run_rows
 
-NAMES = ("cubejobs.h", "cubejobs_tree.h")
+NAMES = ("cubejobs.h", "cubejobs_regions.h")
+# Headers that begin with a later standard, and those in which they have no part.
+LATER = {"cubejobs_wait.h": ("c89", "c99", "c++98"), "cubejobs.hpp": ("c89", "c99", "c11", "c17", "c2x", "c++98")}
 NOWHERE = ["-o", "/dev/null"]
 WARNINGS = ["-Werror", "-Wall", "-Wextra", "-pedantic", "-Wconversion", "-Wshadow"]
 # Each compiler with its language, and the standards from the oldest to the newest.
@@ -21,12 +24,12 @@ C = ("c89", "c99", "c11", "c17", "c2x")
 CXX = ("c++98", "c++11", "c++14", "c++17", "c++20", "c++2b")
 COMPILERS = {"gcc": ("c", C), "clang": ("c", C), "g++": ("c++", CXX), "clang++": ("c++", CXX)}
 SANITIZERS = {"gcc": ("thread",), "g++": ("thread",), "clang": ("thread", "memory"), "clang++": ("thread", "memory")}
-# A fault in the tree's header, and the language that refuses it.
+# A fault in a header, and the language that refuses it.
 FAULTS = (
-    ("NO_SUBCUBE = 1, ", "NO_SUBCUBE = 1, // a comment of C99\n", "c"),
-    ("_answer {", " {", "c++"),
-    ("<stdint.h>", "<stddef.h>", "c"),
-    ("uint32_t code = cubejobs_tree_close", "unsigned char code = cubejobs_tree_close", "c"),
+    ("cubejobs_regions.h", "DONE = 0, ", "DONE = 0, // a comment of C99\n", "c"),
+    ("cubejobs_regions.h", "<stdint.h>", "<stddef.h>", "c"),
+    ("cubejobs_regions.h", "struct cubejobs_block {", "struct cubejobs_regions_block {", "c++"),
+    ("cubejobs_regions.h", "uint64_t node = held.code", "uint32_t node = held.code", "c"),
 )
 
 
@@ -50,16 +53,28 @@ def must_compile(folder, compiler, standard, names, flags=()):
     must(not said, said[:600])
 
 
-def must_be_seen(folder, oldest, old, new, language):
-    """Sees that each compiler of the language refuses a fault in the tree's header in its oldest standard."""
-    text = read(folder, NAMES[1])
-    must(text.count(old) > 0, f"{NAMES[1]} has no {old!r}")
+def must_be_seen(folder, oldest, name, old, new, language):
+    """Sees that each compiler of the language refuses a fault in a header in its oldest standard."""
+    text = read(folder, name)
+    must(text.count(old) > 0, f"{name} has no {old!r}")
     with tempfile.TemporaryDirectory() as room:
-        write(f"{room}/{NAMES[1]}", text.replace(old, new))
+        write(f"{room}/{name}", text.replace(old, new))
         for compiler in (it for it in oldest if COMPILERS[it][0] == language):
             tries = ((), ("-fsanitize=thread",))
-            said = [refusal(room, compiler, oldest[compiler], NAMES[1:], flags) for flags in tries]
+            said = [refusal(room, compiler, oldest[compiler], [name], flags) for flags in tries]
             must(any(said), f"{compiler} takes {new!r}")
+
+
+def tries_of(compiler):
+    """Yields the headers that are compiled together, and the flags."""
+    for names in (*([name] for name in (*NAMES, *LATER)), NAMES, NAMES[::-1], (*NAMES, *LATER)):
+        yield names, ()
+    yield ["cubejobs_wait.h"], ("-DCUBEJOBS_EVENT_CONDITION",)
+    if os.path.exists("/usr/include/valgrind/helgrind.h"):
+        yield ["cubejobs_regions.h"], ("-DCUBEJOBS_HELGRIND", "-Wno-gnu-statement-expression", "-Wno-pedantic")
+    for it in SANITIZERS[compiler]:
+        yield NAMES, (f"-fsanitize={it}",)
+        yield ["cubejobs_wait.h"], (f"-fsanitize={it}",)
 
 
 def known_standards():
@@ -82,11 +97,10 @@ def main(words):
     if not known:
         raise Skipped("there is no compiler")
     oldest = {compiler: standards[0] for compiler, standards in known.items()}
-    rows = [Row(f"a fault that is seen: {fault[1]!r}", must_be_seen, (folder, oldest, *fault)) for fault in FAULTS]
+    rows = [Row(f"a fault that is seen: {fault[2]!r}", must_be_seen, (folder, oldest, *fault)) for fault in FAULTS]
     for compiler, standards in known.items():
-        tries = [(names, ()) for names in (NAMES[:1], NAMES[1:], NAMES, NAMES[::-1])]
-        tries += [(NAMES, (f"-fsanitize={it}",)) for it in SANITIZERS[compiler]]
-        for standard, (names, flags) in itertools.product(standards, tries):
-            title = " ".join([compiler, f"-std={standard}", *flags, *names])
-            rows.append(Row(title, must_compile, (folder, compiler, standard, names, flags)))
+        for standard, (names, flags) in itertools.product(standards, tries_of(compiler)):
+            if not any(standard in LATER.get(name, ()) for name in names):
+                title = " ".join([compiler, f"-std={standard}", *flags, *names])
+                rows.append(Row(title, must_compile, (folder, compiler, standard, names, flags)))
     return run_rows("headers", rows)

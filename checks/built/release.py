@@ -23,7 +23,7 @@ RELEASE = path("release", "linux-x86_64")
 FILES = {
     "cubejobs": "crates/jobs_cli/out/jobs_cli",
     "libcubejobs_c.a": "out/libcubejobs_c.a",
-    "libcubejobs_tree.a": "out/libcubejobs_tree.a",
+    "libcubejobs_regions.a": "out/libcubejobs_regions.a",
 }
 LIBRARIES = [name for name in FILES if name.endswith(".a")]
 NEWEST_GLIBC = (2, 34)
@@ -31,14 +31,15 @@ DIFFERS = "differs from what was built"
 # Where the Rust package has copies of the libraries: a package holds the files that it links.
 RUST = path("rust", "lib")
 # The instructions of each x86-64, as objdump writes them without a suffix of size: those of whole numbers, of the x87,
-# and of SSE and SSE2. What is not among them is taken for one that a processor may lack.
+# and of SSE and SSE2. What is not among them is taken for one that a processor may lack. What objdump shows as tzcnt is
+# a rep bsf: a processor without tzcnt runs it as bsf. Compilers for any x86-64 write it where both give the same.
 CONDITION = "(?:n?[abceglopsz]|n?[abgl]e|p[eo])"
 EVERYWHERE = re.compile(
     rf"(?:j{CONDITION}|set{CONDITION}"
     rf"|cmov{CONDITION}|jmp|j[er]?cxz|loop(?:n?e)?|call|ret|leave|enter|push[fq]*"
     r"|pop[fq]*|nop|endbr64|pause|int3|hlt|ud2|mov|movabs|movzx|movsxd?|lea|xchg|xadd|cmpxchg(?:8b)?|bswap|cbw"
     r"|cwde|cdqe|cwd|cdq|cqo|cl[cd]|st[cd]|cpuid|rdtsc|syscall|add|adc|sub|sbb|inc|dec|neg|cmp|i?mul|i?div|and"
-    r"|or|xor|not|test|sh[lr]d?|sa[lr]|ro[lr]|rc[lr]|bt[crs]?|bs[fr]|(?:movs|stos|lods|scas|cmps)[bwdq]"
+    r"|or|xor|not|test|sh[lr]d?|sa[lr]|ro[lr]|rc[lr]|bt[crs]?|bs[fr]|tzcnt|(?:movs|stos|lods|scas|cmps)[bwdq]"
     r"|f(?!isttp)[a-z0-9]+|emms|mov(?:[au]p|ntp|mskp|hp|lp|s)[sd]|mov(?:hl|lh)ps|movnt(?:i|q|dq)|mov[dq]"
     r"|movdq[au]|mov(?:q2dq|dq2q)|maskmov(?:q|dqu)|(?:add|sub|mul|div|sqrt|min|max|cmp\w*)[sp][sd]|u?comis[sd]"
     r"|(?:rcp|rsqrt)[sp]s|(?:andn?|or|xor|shuf|unpck[hl])p[sd]|cvtt?(?:p[sdi]|s[sdi]|dq)2(?:p[sdi]|s[sdi]|dq)"
@@ -50,10 +51,10 @@ EVERYWHERE = re.compile(
 PREFIXES = re.compile(r"(?:(?:lock|repn?z?|repnz|bnd|notrack|data16|addr32|[cdefgs]s|rex(?:\.\w+)?)\s+)*")
 # Some that a processor may lack, of SSE3, SSSE3, SSE4, AVX, BMI and others.
 LACKED = """haddps addsubps lddqu fisttp pshufb palignr pabsd ptest pextrq pextrd extractps pcmpeqq pcmpgtq pmaxsd
-    blendvpd roundsd crc32 popcnt lzcnt tzcnt andn bextr mulx shlx rorx movbe cmpxchg16b lahf vaddps vpxor movntdqa
+    blendvpd roundsd crc32 popcnt lzcnt andn bextr mulx shlx rorx movbe cmpxchg16b lahf vaddps vpxor movntdqa
     pmuldq packusdw""".split()
-# pcmpeqq of two registers, an instruction of SSE4.1.
-NOT_EVERYWHERE = bytes.fromhex("660f3829c1")
+# pcmpeqq of two registers, an instruction of SSE4.1; and how an exchange of 64 bits under `lock` begins.
+NOT_EVERYWHERE, EXCHANGE = bytes.fromhex("660f3829c1"), re.compile(rb"\xf0[\x48-\x4f]\x0f\xb1")
 
 
 def build_here():
@@ -193,11 +194,11 @@ def not_seen_of_bytes(release, built):
 
 
 def not_seen_of_instructions(release, built):
-    """Yields what is not seen where an instruction that a processor may lack replaces one of SSE2."""
+    """Yields what is not seen where an instruction that a processor may lack replaces an exchange."""
     yield from (it for it in LACKED if is_everywhere(it))
     name = LIBRARIES[-1]
     put(os.path.join(release.folder, name), read_bytes(built, name))
-    release.change(name, release.bytes_of(name).index(bytes.fromhex("660f6f")), NOT_EVERYWHERE)
+    release.change(name, EXCHANGE.search(release.bytes_of(name)).start(), NOT_EVERYWHERE)
     if shutil.which("objdump") and not any(it.startswith(name) and "pcmpeqq" in it for it in lacking(release.folder)):
         yield "an instruction of SSE4.1"
 

@@ -22,6 +22,7 @@ from checks.source.surface import exports, sources_of
 # head begins with these words.
 QUOTES = {
     "alloc_bits": ("uses/src/two_regions.rt",),
+    "bitmap_occupancy": ("cubejobs_regions/src/occupancy.rt#fn count",),
     "bitmap_tree": ("tests_bitmap/src/tests/crowd.rt#fn work",),
     "cli_commands": ("jobs_cli/src/main.rt#fn main",),
     "cli_args": ("cli_commands/src/program.rt#pub fn run<",),
@@ -34,7 +35,7 @@ QUOTES = {
     "cube_tree": ("uses/src/subcubes.rt", "uses/proofs/subcubes/hold_two/Answers.antt", "uses/src/room.rt"),
     "cubejobs": ("uses/src/whole.rt",),
     "cubejobs_c": ("../examples/subcubes.c", "../examples/fit.c"),
-    "cubejobs_tree": ("../examples/threads.c",),
+    "cubejobs_regions": ("../examples/regions.c",),
     "devices": (
         "jobs_csv/src/writing.rt#pub fn write_rows<",
         "atomic_file/src/system_temp_file.rt#impl<F> Device for SystemReader",

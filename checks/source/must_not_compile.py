@@ -1,11 +1,11 @@
 """Shows what the types refuse: the compiler must refuse each wrong function by the error named with it, and no other.
 
-Handles of a running tree cannot be dropped or used twice. Its calls are lent no runtime, without which no lock can be
-taken. Of the line with no lock, an end can be had only from a pop that found the ring empty after a reading that sealed
-the line; an entry can be settled only by what its push answered, and a push wants an entry that came before the close.
-A caller reads the end of a worker and the close note of a shop, and can neither make nor change one. Nothing is proved
-of these functions: a check that is asked for none reads the crate and holds it to the types. `checks/run
-must_not_compile [--after-gate]` takes the libraries below as `rt ci` has left them, or builds them first.
+Handles of both running trees cannot be dropped or used twice. Calls of `cube_tree` are lent no runtime, without which
+no lock can be taken. Of the line with no lock, an end can be had only from a pop that found the ring empty after a
+reading that sealed the line; an entry can be settled only by what its push answered, and a push wants an entry that
+came before the close. A caller reads the end of a worker and the close note of a shop, and can neither make nor change
+one. Nothing is proved of these functions: a check that is asked for none reads the crate and holds it to the types.
+`checks/run must_not_compile [--after-gate]` takes the libraries below as `rt ci` has left them, or builds them first.
 """
 import copy
 import re
@@ -22,16 +22,24 @@ FINE, DROPPED, TWICE, TYPES, FIELD = None, "linear-value-let-go", "borrow-e0382"
 
 # Functions: the name, the error, the signature and the body. Those of one list are compiled together, in this file.
 LIB = "src/lib.rt"
-OVER_TREE = """#![tactic(auto)]
+OVER_TREES = """#![tactic(auto)]
+use bitmap_tree::{BitmapTree, HeldBlock, Permit};
 use cube_tree::{Cube, Solo, TreeStation, StillOut, Subcube};
+use floor_bitmap::{BitmapFloor, BitmapStation, HeldStation};
+use floors::Floor;
+use std::sync::Wait;
 """
+OF_TREES = ["bitmap_tree", "cube_tree", "floor_bitmap", "floors"]
 RELEASE, RETIRE = "subcube.release(cube).retire(cube);", "station.retire(cube);"
 OF_SUBCUBE, OF_STATION = "(cube: &Cube, subcube: Subcube)", "(cube: &Cube, station: TreeStation)"
 PASS_ON = "(out: StillOut, station: TreeStation) -> (Cube, TreeStation)"
+OF_BLOCK, OF_HELD = "(tree: &BitmapTree, held: HeldBlock)", "<R: Wait>(rt: &R, floor: &BitmapFloor, held: HeldStation)"
 GOOD = [
     ("subcube_released", FINE, OF_SUBCUBE, RELEASE),
     ("solo_closed", FINE, "(solo: Solo)", "solo.close();"),
     ("cube_passed_on", FINE, PASS_ON, "let StillOut { cube, missing: _ } = out; (cube, station)"),
+    ("block_released", FINE, OF_BLOCK, "tree.release(held);"),
+    ("block_of_a_station_released", FINE, OF_HELD + " -> BitmapStation", "floor.release(rt, held)"),
 ]
 DROPS = [
     ("subcube_dropped", DROPPED, "(_subcube: Subcube)", ""),
@@ -40,11 +48,18 @@ DROPS = [
     ("cube_dropped", DROPPED, "(_cube: Cube)", ""),
     ("cube_of_a_refused_close_dropped", DROPPED, "(_out: StillOut)", ""),
     ("solo_dropped", DROPPED, "(_solo: Solo)", ""),
+    ("block_dropped", DROPPED, "(_held: HeldBlock)", ""),
+    ("permit_dropped", DROPPED, "(_permit: Permit)", ""),
+    ("bitmap_floor_dropped", DROPPED, "(_floor: BitmapFloor)", ""),
+    ("bitmap_station_dropped", DROPPED, "(_station: BitmapStation)", ""),
+    ("held_station_dropped", DROPPED, "(_held: HeldStation)", ""),
+    ("bitmap_station_of_a_release_dropped", DROPPED, OF_HELD, "let _station = floor.release(rt, held);"),
 ]
 USES = [
     ("subcube_released_twice", TWICE, OF_SUBCUBE, f"{RELEASE} {RELEASE}"),
     ("station_retired_twice", TWICE, OF_STATION, f"{RETIRE} {RETIRE}"),
     ("solo_closed_twice", TWICE, "(solo: Solo)", "solo.close(); solo.close();"),
+    ("block_released_twice", TWICE, OF_BLOCK, "tree.release(held); tree.release(held);"),
 ]
 
 # Takes under a lock. The first has another signature than `try_take`, and compiles.
@@ -138,13 +153,18 @@ STEPS = [
 ]
 
 
+def caller(uses):
+    """Returns a crate over these."""
+    crate = copy.copy(crates()["line_ruled"])
+    crate.name, crate.deps = "caller", [crates()[it] for it in uses]
+    return crate
+
+
 def compiled(head, uses, wrong):
     """Compiles wrong functions at the ends of files: of the library with this head over these crates, or of the line
     where there is no head. Returns the function and the error of each refusal, and what was said."""
-    crate, places = copy.copy(crates()["line_ruled"]), {}
+    crate, places = caller(uses) if head else copy.copy(crates()["line_ruled"]), {}
     texts = {LIB: head} if head else texts_of(crate.folder)
-    if head:
-        crate.name, crate.deps = "caller", [crates()[it] for it in uses]
     with tempfile.TemporaryDirectory() as crate.folder:
         for file, text in texts.items():
             for name, _, signature, body in wrong.get(file, ()):
@@ -166,10 +186,10 @@ def must_refuse(head, uses, wrong):
 
 
 def main(words):
-    build_below([crates()[it] for it in ("shop_threads", "floor_tree", "line_ruled")], AFTER_GATE in words)
+    build_below([caller(OF_TREES), caller(OF_SHOP), crates()["line_ruled"]], AFTER_GATE in words)
     rows = [
-        Row("handles that are dropped", must_refuse, (OVER_TREE, ["cube_tree"], {LIB: GOOD + DROPS})),
-        Row("handles that are used twice", must_refuse, (OVER_TREE, ["cube_tree"], {LIB: GOOD + USES})),
+        Row("handles that are dropped", must_refuse, (OVER_TREES, OF_TREES, {LIB: GOOD + DROPS})),
+        Row("handles that are used twice", must_refuse, (OVER_TREES, OF_TREES, {LIB: GOOD + USES})),
         Row("takes under a lock", must_refuse, (OVER_LOCK, ["cube_tree"], {LIB: LOCKED})),
         *(Row(f"steps of the line, list {number}", must_refuse, ("", [], it)) for number, it in enumerate(STEPS, 1)),
         Row("ends that are put together", must_refuse, (OVER_SHOP, OF_SHOP, {LIB: MEMBERS})),

@@ -1,4 +1,5 @@
-"""Finds locks in the sources of the queue and of both trees: `line_ruled`, `floor_tree`, `floor_bitmap` and all below.
+"""Finds locks in the sources of the queue, of both trees and of the library of regions: `line_ruled`, `floor_tree`,
+`floor_bitmap`, `cubejobs_regions` and all below.
 
 No contract says this of a call that may wait: a lock around it changes neither its result nor what it records. It finds
 
@@ -18,8 +19,9 @@ from checks.lib.repository import ROOT, files_below, read
 from checks.lib.rows import print_faults
 from checks.lib.toolchain import crates
 
-TOPS = ("line_ruled", "floor_bitmap", "floor_tree")
-ALLOWED = {"std", "atomic_table", "bitflags", "crossbeam_queue", "crossbeam_utils", "thiserror"}
+TOPS = ("line_ruled", "floor_bitmap", "floor_tree", "cubejobs_regions")
+ALLOWED = {
+    "std", "std_alloc", "std_heap", "atomic_table", "bitflags", "crossbeam_queue", "crossbeam_utils", "thiserror"}
 LOCKS = re.compile(
     r"\b(?:\w*Mutex\w*|\w+Lock|\w+Lock(?:Read|Write)Guard|Condvar|Barrier|OnceCell|mpsc|(?:try_)?lock|locked_\w+)\b"
     r"|\bsync::(?:\{[^}]*)?\bOnce\b|\bcrossbeam_utils\b(?!::Backoff;)"

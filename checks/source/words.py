@@ -17,12 +17,13 @@ from checks.lib.rows import blind, print_faults
 NOBODYS = ("Lane", "Pass", "Station")
 # Which crates have a type of this name, and why that misleads nobody.
 ALLOWED = {
-    "Answer": ("cubejobs_c cubejobs_tree", "what a call of a library for C answers; each has a header of its own"),
+    "Answer": ("cubejobs_c cubejobs_regions", "what a call of a library for C answers; each has a header of its own"),
     "Entry": ("job_queue tree_steps", "a lane's entry into a line, and a station's member of a seat"),
     "Finished": ("dispatcher uses", "what is known at the end: of a shop, of a run over a line alone"),
     "FreeMachine": ("cube_tree floor_bitmap floor_locked", "what a close gives; callers of floors see F::Machine"),
     "Kind": ("cube_core job_types", "of an event, and of a collective; a caller of jobs sees no event"),
     "LaneRecord": ("job_queue line_ring", "what a lane has done, at a line and at its ring, which line_ruled joins"),
+    "Occupancy": ("bitmap_occupancy cube_occupancy", "what is free, by the words of either tree"),
     "Opened": ("dispatcher job_queue", "a new shop, and a new line, each with all that its callers need"),
     "PassRecord": ("job_queue line_ring", "what a pass has done, at a line and at its ring, which line_ruled joins"),
     "Reading": ("job_queue line_gate", "what a pass read of a line, and of its gate, which line_ruled joins"),
