@@ -20,8 +20,10 @@
  * Linking. Link libcubejobs_regions.a of release/linux-x86_64. It needs only the C library, and
  * runs on any x86-64. docs/C.md is the guide to the libraries.
  *
- * Proof. The functions are proved to do what this header says, and the inline ones are tested. Also
- * only tested is that take and release order plain memory that a block guards.
+ * Proof. The functions are proved to do what this header says. Some of it is only tested: when
+ * memory is taken and freed, and that OUT_OF_MEMORY means so. So is it that a last free sees each
+ * held block, and what an occupancy reads. No theorem is about the inline functions, or says that
+ * take and release order plain memory that a block guards. docs/STATUS.md has the list.
  *
  * Nothing checks the caller's duties:
  *
@@ -34,6 +36,12 @@
  *   5. Let malloc and free belong to one allocator.
  *
  * Everything else is checked. A refused call returns a code and changes nothing that you can see.
+ *
+ * OTHER_MACHINE compares numbers of machines. They come from one counter of the program,
+ * cubejobs_regions_machines. If a shared object has a counter of its own, do not use its blocks
+ * with machines of others.
+ *
+ * Speed. Each call writes to its handle, so keep those of two threads in different cache lines.
  */
 #ifndef CUBEJOBS_REGIONS_H
 #define CUBEJOBS_REGIONS_H
