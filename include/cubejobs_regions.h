@@ -21,9 +21,10 @@
  * runs on any x86-64. docs/C.md is the guide to the libraries.
  *
  * Proof. The functions are proved to do what this header says. Some of it is only tested: when
- * memory is taken and freed, and that OUT_OF_MEMORY means so. So is it that a last free sees each
- * held block, and what an occupancy reads. No theorem is about the inline functions, or says that
- * take and release order plain memory that a block guards. docs/STATUS.md has the list.
+ * memory is taken and freed, and that OUT_OF_MEMORY means so. So is it that the last of several
+ * frees sees each held block, and what an occupancy reads. No theorem is about the inline
+ * functions, or says that take and release order plain memory that a block guards. docs/STATUS.md
+ * has the list.
  *
  * Nothing checks the caller's duties:
  *
@@ -40,8 +41,6 @@
  * OTHER_MACHINE compares numbers of machines. They come from one counter of the program,
  * cubejobs_regions_machines. If a shared object has a counter of its own, do not use its blocks
  * with machines of others.
- *
- * Speed. Each call writes to its handle, so keep those of two threads in different cache lines.
  */
 #ifndef CUBEJOBS_REGIONS_H
 #define CUBEJOBS_REGIONS_H
@@ -69,7 +68,7 @@ extern "C" {
 #define CUBEJOBS_REGIONS_MAX_DIM 20
 
 /* The version of this header. A library of another version refuses to open a machine. */
-#define CUBEJOBS_REGIONS_VERSION 1
+#define CUBEJOBS_REGIONS_VERSION 2
 
 /* The codes that calls return. If several apply, it is the first of those that the comment of the
  * call lists. */
@@ -108,10 +107,10 @@ struct cubejobs_block {
  * contended is the number of words that were given up after lost exchanges. A quick take counts
  * none. With any other code it is 0. */
 struct cubejobs_regions_answer {
-    uint32_t code;
-    uint32_t dim;
-    uint64_t base;
+    uint16_t code;
+    uint16_t dim;
     uint32_t contended;
+    uint64_t base;
 };
 
 /* What is free in a machine. All is 0 unless the code is CUBEJOBS_REGIONS_DONE.
@@ -193,28 +192,56 @@ struct cubejobs_regions_occupancy_answer cubejobs_regions_occupancy(struct cubej
  * DONE. */
 uint32_t cubejobs_regions_free(struct cubejobs_regions *thread);
 
-/* Returns what a code of this library means, or that it has no such code. */
+/* Returns what a code of this library or of the library for jobs means, or that they have no such
+ * code. Both headers have this function, with the same text. */
+#ifndef CUBEJOBS_CODE_TEXT
+#define CUBEJOBS_CODE_TEXT
 CUBEJOBS_REGIONS_INLINE const char *cubejobs_code_text(uint32_t code) {
     switch (code) {
-    case CUBEJOBS_REGIONS_DONE: return "the call succeeded";
-    case CUBEJOBS_REGIONS_NO_ROOM: return "a part of each block of this dimension was in use";
-    case CUBEJOBS_REGIONS_NOT_NOW: return "no block was found, and one may be free";
-    case CUBEJOBS_REGIONS_BAD_DIMENSION: return "the dimension is above that of the machine";
-    case CUBEJOBS_REGIONS_BAD_BASE: return "no block of this dimension begins at this processor";
-    case CUBEJOBS_REGIONS_TAKEN: return "a part of the block was in use";
-    case CUBEJOBS_REGIONS_NOTHING_HELD: return "the handle of the block holds nothing";
-    case CUBEJOBS_REGIONS_HOLDS_ALREADY: return "the handle that is to be filled holds a block";
-    case CUBEJOBS_REGIONS_OTHER_MACHINE: return "the block is of another machine";
-    case CUBEJOBS_REGIONS_NOT_HALVES: return "the two are not the two halves of a block";
-    case CUBEJOBS_REGIONS_STILL_HELD: return "a block is held, and this is the last handle";
-    case CUBEJOBS_REGIONS_OUT_OF_MEMORY: return "memory ran out";
-    case CUBEJOBS_REGIONS_NOT_OPEN: return "the handle of the machine is shut";
-    case CUBEJOBS_REGIONS_OTHER_KIND: return "the handle is of another kind";
-    case CUBEJOBS_REGIONS_ALREADY_OPEN: return "the handle that is to be opened is open";
-    case CUBEJOBS_REGIONS_BAD_VERSION: return "the header is not of the library's version";
-    default: return "the library has no such code";
+    case 0: return "the call succeeded";
+    case 1: return "a part of each block of this dimension was in use";
+    case 2: return "no block was found, and one may be free";
+    case 3: return "the dimension is above that of the machine";
+    case 4: return "no block of this dimension begins at this processor";
+    case 5: return "a part of the block was in use";
+    case 6: return "the handle of the block holds nothing";
+    case 7: return "the handle that is to be filled holds a block";
+    case 8: return "the block is of another machine";
+    case 9: return "the two are not the two halves of a block";
+    case 10: return "a block is held, and this is the last handle";
+    case 11: return "memory ran out";
+    case 12: return "the handle is shut";
+    case 13: return "the handle is of another kind";
+    case 14: return "the handle that is to be opened is open";
+    case 15: return "the header is not of the library's version";
+    case 16: return "the lane has as many jobs as its capacity";
+    case 17: return "the lanes are closed";
+    case 18: return "the lane has accepted 2^62 jobs";
+    case 19: return "there is no job";
+    case 20: return "another worker took the job";
+    case 21: return "there is no job, and none will come";
+    case 22: return "there is no lane with this number";
+    case 23: return "a size of the lanes is out of range";
+    case 24: return "the lanes have ended";
+    case 25: return "the lanes have not ended";
+    case 26: return "the lanes are open";
+    case 27: return "a lane is not back";
+    case 28: return "a worker is not back";
+    case 29: return "all lanes, or all workers, are out";
+    case 30: return "the handle is one of other lanes";
+    case 31: return "a job is left";
+    case 32: return "another call uses the lanes";
+    case 33: return "no block was found for the job that the worker keeps";
+    case 34: return "no block was taken, since an older job waits for one";
+    case 35: return "the job that the worker keeps is larger than the machine";
+    case 36: return "the worker runs a job";
+    case 37: return "the worker keeps a job";
+    case 38: return "the worker keeps no job";
+    case 39: return "the worker runs no job";
+    default: return "the libraries have no such code";
     }
 }
+#endif
 
 /* The library is not compiled for a sanitizer, so this part informs three of them. ThreadSanitizer
  * and, if CUBEJOBS_HELGRIND is defined, Helgrind do not see the library's atomics. Here a take

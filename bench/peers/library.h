@@ -12,15 +12,12 @@ static const bool CAN_LEAVE_MARKS = false;
 
 #define BLOCK_HANDLE struct cubejobs_block
 
-/* Each call writes to its handle, so each has cache lines of its own. */
-static struct {
-    _Alignas(128) struct cubejobs_regions machine;
-} handles[LANES];
+static struct cubejobs_regions handles[LANES];
 
 static void open_machine(unsigned n) {
-    uint32_t code = cubejobs_regions_open(&handles[0].machine, n);
+    uint32_t code = cubejobs_regions_open(&handles[0], n);
     for (unsigned lane = 1; lane < LANES && code == CUBEJOBS_REGIONS_DONE; lane++) {
-        code = cubejobs_regions_share(&handles[0].machine, &handles[lane].machine);
+        code = cubejobs_regions_share(&handles[0], &handles[lane]);
     }
     if (code != CUBEJOBS_REGIONS_DONE) {
         fputs("the machine is not opened\n", stderr);
@@ -29,12 +26,12 @@ static void open_machine(unsigned n) {
 }
 
 static int64_t take_handle(struct cubejobs_block *handle, unsigned k, unsigned lane) {
-    struct cubejobs_regions_answer answer = cubejobs_regions_take(&handles[lane].machine, handle, k);
+    struct cubejobs_regions_answer answer = cubejobs_regions_take(&handles[lane], handle, k);
     return answer.code == CUBEJOBS_REGIONS_DONE ? (int64_t)answer.base : -1;
 }
 
 static void release_handle(struct cubejobs_block *handle, unsigned lane) {
-    if (cubejobs_regions_release(&handles[lane].machine, handle) != CUBEJOBS_REGIONS_DONE) {
+    if (cubejobs_regions_release(&handles[lane], handle) != CUBEJOBS_REGIONS_DONE) {
         abort();
     }
 }

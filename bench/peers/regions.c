@@ -128,12 +128,12 @@ static bool take(struct lane *lane, unsigned k, uint64_t start, struct block *bl
     return true;
 }
 
-static void release(struct lane *lane, struct block block) {
-    remove_owner(block);
+static void release(struct lane *lane, struct block *block) {
+    remove_owner(*block);
 #ifdef BLOCK_HANDLE
-    release_handle(&block.handle, lane->number);
+    release_handle(&block->handle, lane->number);
 #else
-    release_block(lane->number, block.base, block.k);
+    release_block(lane->number, block->base, block->k);
 #endif
 }
 
@@ -155,7 +155,8 @@ static uint64_t random_index(struct lane *lane, uint64_t count) {
 }
 
 static void release_random(struct lane *lane) {
-    release(lane, swap_remove(lane, random_index(lane, lane->count)));
+    struct block block = swap_remove(lane, random_index(lane, lane->count));
+    release(lane, &block);
 }
 
 /* ---- the turns */
@@ -163,7 +164,7 @@ static void release_random(struct lane *lane) {
 static void pair_turn(struct lane *lane) {
     struct block block;
     if (take(lane, random_dim(lane), lane->start, &block)) {
-        release(lane, block);
+        release(lane, &block);
     } else {
         lane->refused++;
     }
@@ -288,7 +289,8 @@ static bool stays_held(struct lane *holder, struct block block, bool is_fragment
 static void release_some(struct lane *holder, bool is_fragmented, uint64_t load) {
     for (uint64_t i = holder->count; i-- > 0;) {
         if (!stays_held(holder, holder->held[i], is_fragmented, load)) {
-            release(holder, swap_remove(holder, i));
+            struct block block = swap_remove(holder, i);
+            release(holder, &block);
         }
     }
 }
@@ -421,7 +423,7 @@ static bool can_take_all(unsigned k) {
         }
     }
     while (holder->count > 0) {
-        release(holder, holder->held[--holder->count]);
+        release(holder, &holder->held[--holder->count]);
     }
     return is_taken;
 }
@@ -431,7 +433,7 @@ static bool can_take_all(unsigned k) {
 static bool is_whole_again(void) {
     for (unsigned i = 0; i < LANES; i++) {
         while (lanes[i].count > 0) {
-            release(&lanes[i], lanes[i].held[--lanes[i].count]);
+            release(&lanes[i], &lanes[i].held[--lanes[i].count]);
         }
     }
     unsigned k = machine_dimension < MAX_BLOCK_DIM ? machine_dimension : MAX_BLOCK_DIM;

@@ -240,11 +240,11 @@ impl<M: Borrow<Machine>> Block<M> {
         let shared: &Machine = machine.borrow();
         let mut handle = BlockHandle::EMPTY;
         let mut answer = ffi::take(&mut shared.handles.borrow(), &mut handle, k);
-        while answer.code == ffi::NO_ROOM || answer.code == ffi::NOT_NOW {
+        while answer.code() == ffi::NO_ROOM || answer.code() == ffi::NOT_NOW {
             shared.raise();
             let exact = || ffi::take_exact(&mut shared.handles.borrow(), &mut handle, k);
             let (taken, key) = shared.event.in_turn(exact);
-            match taken.code {
+            match taken.code() {
                 ffi::NO_ROOM => shared.event.wait(key),
                 ffi::NOT_NOW => std::thread::yield_now(),
                 _ => {}
@@ -291,9 +291,9 @@ impl<M: Borrow<Machine>> Block<M> {
     /// Returns the guard of what a take got, or why it was refused.
     fn taken(machine: M, handle: BlockHandle, answer: ffi::Answer) -> Result<Self, TakeError> {
         machine.borrow().raise();
-        match answer.code {
+        match answer.code() {
             ffi::DONE => {
-                let region = Region { base: answer.base, dim: answer.dim };
+                let region = Region { base: answer.base, dim: answer.dim() };
                 Ok(Block { machine, handle, region })
             }
             ffi::NO_ROOM => Err(TakeError::NoRoom),
@@ -308,7 +308,7 @@ impl<M: Borrow<Machine>> Block<M> {
 
 fn region_of(handle: &BlockHandle) -> Region {
     let answer = ffi::block(handle);
-    Region { base: answer.base, dim: answer.dim }
+    Region { base: answer.base, dim: answer.dim() }
 }
 
 impl<M: Borrow<Machine>> Drop for Block<M> {

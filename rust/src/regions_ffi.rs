@@ -8,7 +8,7 @@ use core::mem::size_of;
 use core::ptr;
 use core::sync::atomic::{AtomicU64, Ordering::SeqCst};
 
-pub const VERSION: u32 = 1;
+pub const VERSION: u32 = 2;
 pub const MAX_DIM: u32 = 20;
 pub const FREE_PLACES: usize = 21;
 
@@ -56,10 +56,20 @@ impl BlockHandle {
 #[repr(C)]
 #[derive(Clone, Copy)]
 pub struct Answer {
-    pub code: u32,
-    pub dim: u32,
-    pub base: u64,
+    code: u16,
+    dim: u16,
     pub contended: u32,
+    pub base: u64,
+}
+
+impl Answer {
+    pub fn code(self) -> u32 {
+        self.code.into()
+    }
+
+    pub fn dim(self) -> u32 {
+        self.dim.into()
+    }
 }
 
 #[repr(C)]
@@ -74,7 +84,7 @@ pub struct Occupancy {
 
 // The sizes that the library was compiled with.
 const _: () = assert!(size_of::<Handle>() == 16 && size_of::<BlockHandle>() == 16);
-const _: () = assert!(size_of::<Answer>() == 24);
+const _: () = assert!(size_of::<Answer>() == 16);
 
 #[link(name = "cubejobs_regions", kind = "static")]
 unsafe extern "C" {

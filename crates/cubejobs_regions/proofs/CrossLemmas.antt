@@ -3,11 +3,6 @@ use denote.Param.Send.{IsSend, IsSync, sendable, struct_sync}
 use denote.Builtin.{u64}
 use denote.Struct.Declared.{shape}
 use Rattle.std.proofs.Crossing.{crosses}
-use Rattle.atomic_table.proofs.shared.Seat.TheSendSync as seat_sent
-use Rattle.atomic_table.specs.contracts.shared.Seat as seat
-use Rattle.bitmap_tree.specs.contracts.handles.Refused as refused
-use Rattle.bitmap_tree.specs.contracts.view.Run as run
-use Rattle.bitmap_tree.specs.contracts.view.View as view
 use Rattle.bitmap_tree.specs.contracts.handles.BitmapTree as tree
 use Rattle.bitmap_tree.proofs.handles.BitmapTree.TheSendSync as tree_sent
 use Rattle.cubejobs_regions.specs.contracts.common.Common as common
@@ -31,11 +26,5 @@ common_sync = search (sendable, common_field_sync) depth 30
 common_send : IsSend common.the_row
 common_send = search (sendable, common_field_send) depth 30
 
-own_seat_send : IsSend (seat.the_row run.the_row view.the_row)
-own_seat_send = seat_sent.the_send run.the_row view.the_row (search sendable)
-
-refused_field_send : IsSend (refused.the_field).row
-refused_field_send = search (sendable, own_seat_send) depth 20
-
 pub content_send : IsSend content.the_row
-content_send = search (sendable, crosses, common_field_send, common_send, common_sync, refused_field_send) depth 60
+content_send = search (sendable, crosses, common_field_send, common_send, common_sync) depth 60

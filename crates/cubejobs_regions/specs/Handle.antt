@@ -1,15 +1,21 @@
 -- What a contract sees of the handles that C keeps.
-use Rattle.std.specs.Prelude.{ℕ, Option, ◌==◌, if◌then◌else◌}
-use Rattle.cubejobs_regions.specs.declared.codes.TheConstants.{ALREADY_OPEN, DONE, HOLDS_ALREADY, OPEN, OTHER_KIND}
+use Rattle.std.specs.Prelude.{ℕ, List, Option, Some, None, ◌==◌, if◌then◌else◌}
+use Rattle.bitmap_tree.specs.declared.view.Note.{Note}
+use Rattle.cubejobs_regions.specs.declared.codes.TheConstants.{ALREADY_OPEN, DONE, HOLDS_ALREADY, NOT_OPEN, OPEN, OTHER_KIND}
 use Rattle.cubejobs_regions.specs.declared.block_handle.BlockHandle.{BlockHandle}
 use Rattle.cubejobs_regions.specs.declared.handle.Handle.{Handle}
 use Rattle.cubejobs_regions.specs.declared.machine.Machine.{Machine}
+use Rattle.cubejobs_regions.specs.HiddenSeats.{seat_in}
 use Rattle.cubejobs_regions.specs.MachineIn.{machine_in}
 use Rattle.cubejobs_regions.specs.Tags.{is_held}
 
 -- The machine of a handle, if it is open.
 abbrev pub machine_of : Handle → Option Machine
 machine_of handle = machine_in handle.ptr.content
+
+-- What the last call that was to free the machine found and left by its steps, the newest first.
+abbrev pub end_trail : Handle → List Note
+end_trail handle = (seat_in handle.seat).me.0.trail
 
 -- Why a handle cannot be opened, or `DONE`: it is open, or it holds a block.
 abbrev pub refusal_of_opening : Handle → ℕ
@@ -21,3 +27,8 @@ refusal_of_opening handle =
 abbrev pub refusal_of_filling : BlockHandle → ℕ
 refusal_of_filling handle =
     if handle.tag == OPEN then OTHER_KIND else (if is_held handle.tag then HOLDS_ALREADY else DONE)
+
+-- Why a take on a machine's handle, which must be open, cannot fill this one, or `DONE`.
+abbrev pub refusal_of_take : Option Machine → BlockHandle → ℕ
+refusal_of_take None handle = NOT_OPEN
+refusal_of_take (Some machine) handle = refusal_of_filling handle

@@ -8,6 +8,7 @@ pub mod HiddenSeats
 pub mod Holding
 pub mod Holds
 pub mod InnerHiddenSeat
+pub mod InnerLending
 pub mod InnerOpaquePtr
 pub mod Machine
 pub mod MachineIn

@@ -1,5 +1,5 @@
 -- What a take changes in the handle of a block.
-use Rattle.std.specs.Prelude.{◌≡◌, ◌≢◌, ℕ, ◌≤◌, List, length, slice_index, Some}
+use Rattle.std.specs.Prelude.{◌≡◌, ◌≢◌, ℕ, ◌≤◌, List, Option, length, slice_index, Some}
 use Rattle.cube_shape.specs.declared.region.Region.{Region}
 use Rattle.cube_shape.specs.Region.{IsAligned}
 use Rattle.bitmap_tree.specs.Alone.{HasNoBlock, IsInUse}
@@ -9,11 +9,13 @@ use Rattle.bitmap_tree.specs.Trail.{AreRightSteps, IsAlone, WasBlockTaken, WasCl
 use Rattle.bitmap_tree.specs.declared.view.Note.{Note}
 use Rattle.cubejobs_regions.specs.declared.answer.Answer.{Answer}
 use Rattle.cubejobs_regions.specs.declared.block_handle.BlockHandle.{BlockHandle}
+use Rattle.cubejobs_regions.specs.declared.codes.TheConstants.{DONE, NOT_NOW}
 use Rattle.cubejobs_regions.specs.declared.machine.Machine.{Machine}
-use Rattle.cubejobs_regions.specs.Answers.{region_at, region_of}
+use Rattle.cubejobs_regions.specs.Answers.{region_at, region_of, NamesNone}
+use Rattle.cubejobs_regions.specs.Handle.{refusal_of_take}
 use Rattle.cubejobs_regions.specs.Holding.{IsHoldOf}
 use Rattle.cubejobs_regions.specs.Holds.{hold_of, hold_trail, Hold}
-use Rattle.cubejobs_regions.specs.Machine.{dim_of_machine}
+use Rattle.cubejobs_regions.specs.Machine.{dim_of_machine, OnMachine}
 
 -- The machine has a block of this dimension that begins at this processor.
 abbrev pub HasBlock : ℕ → ℕ → Machine → Type 0
@@ -31,6 +33,18 @@ pub record IsTaken (most : ℕ) (machine : Machine) (new : BlockHandle) (answer 
   pub claimed : WasClaimed (run_of (dim_of_machine machine) hold.region) (hold_trail hold)
   pub steps : AreRightSteps (dim_of_machine machine) (hold_trail hold)
   pub few : length (hold_trail hold) ≤ most
+
+-- What each take answers, of at most this number of steps by the dimension of the machine. A block
+-- is in the new handle, or it holds what the old one held. Only a take that gave up words counts
+-- these.
+pub record IsAnsweredBy (most : ℕ → ℕ) (thread : Option Machine) (old new : BlockHandle)
+    (answer : Answer) : Type 0 where
+  pub barred : refusal_of_take thread old ≢ DONE → answer.code ≡ refusal_of_take thread old
+  pub taken : answer.code ≡ DONE
+      → OnMachine (λ machine. IsTaken (most (dim_of_machine machine)) machine new answer) thread
+  pub same : answer.code ≢ DONE → hold_of new ≡ hold_of old
+  pub none : answer.code ≢ DONE → NamesNone answer
+  pub quiet : answer.code ≢ NOT_NOW → answer.contended ≡ 0
 
 -- A take on a machine of dimension `n` looked at each word before it was refused. Where it gave up
 -- no word, it found a bit of each block of dimension `k` set. Where it gave one up, another call

@@ -1,5 +1,7 @@
 //! The answers that callers in C see.
-ghost use Rattle.std.specs.Prelude.{◌≡◌};
+ghost use Rattle.std.specs.Prelude.{◌≡◌, ◌≤◌};
+ghost use Rattle.cube_shape.specs.declared.limits.TheConstants.{MAX_BITMAP_DIM};
+ghost use Rattle.cubejobs_regions.specs.declared.codes.TheConstants.{BAD_VERSION};
 ghost use Rattle.cubejobs_regions.specs.Answers.{region_of, NamesNone};
 
 use crate::codes::DONE;
@@ -11,13 +13,13 @@ use cube_shape::Region;
 #[derive(Clone, Copy, Debug)]
 pub struct Answer {
     /// `DONE`, or why the call was refused.
-    pub code: u32,
+    pub code: u16,
     /// The block's dimension if the call succeeded, else 0.
-    pub dim: u32,
-    /// The block's first processor if the call succeeded, else 0.
-    pub base: u64,
+    pub dim: u16,
     /// The number of words that a refused take gave up, in each of which other calls were faster.
     pub contended: u32,
+    /// The block's first processor if the call succeeded, else 0.
+    pub base: u64,
 }
 
 /// The occupancy of a machine: what of it is free.
@@ -39,29 +41,31 @@ pub struct OccupancyAnswer {
 // Makes the answer of a successful call with a block.
 #[inline(always)]
 pub(crate) fn done(region: Region) -> Answer
+    requires dim { region.dim ≤ MAX_BITMAP_DIM }
     ensures code { result.code ≡ DONE }
     ensures region { region_of result ≡ region }
     ensures quiet { result.contended ≡ 0 }
 {
     Answer {
-        code: DONE,
-        dim: region.dim,
-        base: region.base,
+        code: DONE as u16,
+        dim: region.dim as u16,
         contended: 0,
+        base: region.base,
     }
 }
 
 // Makes the answer of a refused call.
 #[inline(always)]
 pub(crate) fn refused(code: u32, contended: u32) -> Answer
+    requires code { code ≤ BAD_VERSION }
     ensures code { result.code ≡ code }
     ensures none { NamesNone result }
     ensures contended { result.contended ≡ contended }
 {
     Answer {
-        code,
+        code: code as u16,
         dim: 0,
-        base: 0,
         contended,
+        base: 0,
     }
 }

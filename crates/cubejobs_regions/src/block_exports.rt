@@ -1,6 +1,6 @@
 //! The functions of the library that release, split, join and show blocks, under the names that C
 //! declares.
-ghost use Rattle.std.specs.Prelude.{◌≡◌, ◌≢◌, ◌<◌, ◌≤◌, None, Some, IsSome};
+ghost use Rattle.std.specs.Prelude.{◌≡◌, ◌≢◌, ◌<◌, None, IsSome};
 ghost use Rattle.bitmap_tree.specs.Layout.{AreHalves};
 ghost use Rattle.cubejobs_regions.specs.Answers.{region_of, NamesNone};
 ghost use Rattle.cubejobs_regions.specs.Gives.{IsJoined, IsReleased, IsSplit};
@@ -13,18 +13,13 @@ use crate::answer::{Answer, done, refused};
 use crate::block_handle::BlockHandle;
 use crate::codes::{BAD_DIMENSION, DONE, NOT_HALVES, NOT_OPEN, NOTHING_HELD};
 use crate::handle::Handle;
-use crate::places::{lift, machine_at};
+use crate::places::machine_at;
 use crate::tag::region_at;
 use crate::{gives, halves};
-use std::alloc::Global;
 
 /// Releases the block of a handle, which any thread may do.
 #[unsafe(no_mangle)]
-pub extern "C" fn cubejobs_regions_release(
-    alloc: Global,
-    thread: &mut Handle,
-    region: &mut BlockHandle,
-) -> u32
+pub extern "C" fn cubejobs_regions_release(thread: &mut Handle, region: &mut BlockHandle) -> u32
     requires one_machine { AreNumbered (machine_of thread.old) region.old }
     ensures code { result ≡ refusal_of_call (machine_of thread.old) (hold_of region.old) }
     ensures released { result ≡ DONE
@@ -33,19 +28,16 @@ pub extern "C" fn cubejobs_regions_release(
     ensures machine { machine_of thread.new ≡ machine_of thread.old }
     ensures unchanged { result ≢ DONE → region.new ≡ region.old }
 {
-    let Some(place) = lift(thread, alloc) else {
+    if !thread.is_open() {
         return NOT_OPEN;
-    };
-    let code = gives::release(machine_at(&place), region);
-    *thread = Handle::of(place);
-    code
+    }
+    gives::release(machine_at(thread.ptr.get_mut()), region)
 }
 
 /// Splits the block of a handle, which keeps the lower half. The upper half goes into another
 /// handle.
 #[unsafe(no_mangle)]
 pub extern "C" fn cubejobs_regions_split(
-    alloc: Global,
     thread: &mut Handle,
     region: &mut BlockHandle,
     half: &mut BlockHandle,
@@ -69,24 +61,20 @@ pub extern "C" fn cubejobs_regions_split(
     ensures unchanged { result ≢ DONE → region.new ≡ region.old }
     ensures half_unchanged { result ≢ DONE → half.new ≡ half.old }
 {
-    let Some(place) = lift(thread, alloc) else {
+    if !thread.is_open() {
         return NOT_OPEN;
-    };
+    }
     let code = half.refusal();
     if code != DONE {
-        *thread = Handle::of(place);
         return code;
     }
-    let code = halves::split(machine_at(&place), region, half);
-    *thread = Handle::of(place);
-    code
+    halves::split(machine_at(thread.ptr.get_mut()), region, half)
 }
 
 /// Joins the blocks of two handles, which are the lower and the upper half of one. The first handle
 /// holds it then, and the second nothing.
 #[unsafe(no_mangle)]
 pub extern "C" fn cubejobs_regions_join(
-    alloc: Global,
     thread: &mut Handle,
     region: &mut BlockHandle,
     half: &mut BlockHandle,
@@ -112,12 +100,10 @@ pub extern "C" fn cubejobs_regions_join(
     ensures unchanged { result ≢ DONE → region.new ≡ region.old }
     ensures half_unchanged { result ≢ DONE → half.new ≡ half.old }
 {
-    let Some(place) = lift(thread, alloc) else {
+    if !thread.is_open() {
         return NOT_OPEN;
-    };
-    let code = halves::join(machine_at(&place), region, half);
-    *thread = Handle::of(place);
-    code
+    }
+    halves::join(machine_at(thread.ptr.get_mut()), region, half)
 }
 
 /// Returns the block that a handle holds.

@@ -1,10 +1,10 @@
 //! How a machine begins and ends, by the place of a handle's content.
-ghost use Rattle.std.specs.Prelude.{◌≡◌, ◌<◌, ◌≤◌, ◌^◌, Some, IsSome, IfSome, vec_len};
+ghost use Rattle.std.specs.Prelude.{◌≡◌, ◌<◌, ◌≤◌, ◌^◌, [], Some, IsSome, IfErr, IfNone, IfOk, IfSome, vec_len};
 ghost use Rattle.cube_shape.specs.declared.limits.TheConstants.{MAX_BITMAP_DIM};
 ghost use Rattle.bitmap_tree.specs.Handles.{dim_of};
 ghost use Rattle.bitmap_tree.specs.Rule.{word_count};
-ghost use Rattle.cubejobs_regions.specs.Ends.{FindsHeld, HasFoundHeld, IsNew};
-ghost use Rattle.cubejobs_regions.specs.Machine.{IsSameMachine, OnMachine};
+ghost use Rattle.cubejobs_regions.specs.Ends.{FoundFree, FoundHeld, IsKept, IsNew};
+ghost use Rattle.cubejobs_regions.specs.Machine.{dim_of_machine, IsSameMachine, IsSole, OnMachine};
 ghost use Rattle.cubejobs_regions.specs.MachineIn.{machine_in};
 ghost use Rattle.cubejobs_regions.specs.Ownership.{common_of};
 
@@ -12,7 +12,7 @@ use crate::common::Common;
 use crate::machine::Machine;
 use crate::ownership::Ownership;
 use crate::state::State;
-use bitmap_tree::BitmapTree;
+use bitmap_tree::{BitmapTree, BlockSeat};
 use std::alloc::Global;
 
 // Makes room for the words of a machine. Returns `None` if memory ran out.
@@ -40,7 +40,6 @@ pub(crate) fn machine_of(alloc: Global, n: u32, number: u64) -> Option<Box<State
         owner: Ownership::Sole(Common { tree, number }),
         start,
         next: 1,
-        last: None,
         room,
     };
     match Box::new(alloc, State::Machine(machine)) {
@@ -61,7 +60,6 @@ fn share_machine(alloc: Global, machine: Machine) -> (Machine, Option<Machine>)
         owner,
         start,
         next,
-        last,
         room,
     } = machine;
     let (owner, another) = owner.share(alloc);
@@ -69,7 +67,6 @@ fn share_machine(alloc: Global, machine: Machine) -> (Machine, Option<Machine>)
         owner,
         start,
         next: next.wrapping_add(1),
-        last,
         room,
     };
     match another {
@@ -89,7 +86,6 @@ fn next_machine(alloc: Global, owner: Ownership, thread: u32) -> Option<Machine>
         owner,
         start,
         next: thread.wrapping_add(1),
-        last: None,
         room,
     })
 }
@@ -125,34 +121,47 @@ pub(crate) fn share(alloc: Global, place: Box<State>) -> (Box<State>, Option<Box
     }
 }
 
-// Looks whether the whole machine is free, by a take of it. Frees it then, or returns it with what
-// the refused take found.
-fn end(common: Common, start: u64, room: Vec<u64>) -> Option<Machine>
+// Frees a machine if no block of it is held, by a take of the whole. Otherwise returns it. Also
+// returns the seat of the call.
+fn end(common: Common, start: u64, room: Vec<u64>) -> Result<BlockSeat, (Machine, BlockSeat)>
     requires start { start < 2 ^ dim_of common.tree }
     requires room { vec_len room ≡ word_count (dim_of common.tree) }
-    ensures { IfSome result (λ machine. (common_of machine.owner ≡ common)
-        × (machine.start ≡ start) × HasFoundHeld machine) }
+    ensures free { IfOk result (λ seat. FoundFree (dim_of common.tree) seat.me.0.trail) }
+    ensures held { IfErr result (λ kept. FoundHeld (dim_of common.tree) kept.1.me.0.trail) }
+    ensures common { IfErr result (λ kept. common_of kept.0.owner ≡ common) }
+    ensures sole { IfErr result (λ kept. IsSole kept.0) }
+    ensures start { IfErr result (λ kept. kept.0.start ≡ start) }
+    ensures no_slot { IfOk result (λ seat. seat.me.1 ≡ []) }
+    ensures no_slot_held { IfErr result (λ kept. kept.1.me.1 ≡ []) }
 {
     match common.tree.take(common.tree.dim(), start) {
-        Ok(held) => {
-            drop(common.tree.release(held));
-            None
+        Ok(held) => Ok(common.tree.release(held).into_seat()),
+        Err(refused) => {
+            let machine = Machine {
+                owner: Ownership::Sole(common),
+                start,
+                next: 1,
+                room,
+            };
+            Err((machine, refused.into_seat()))
         }
-        Err(refused) => Some(Machine {
-            owner: Ownership::Sole(common),
-            start,
-            next: 1,
-            last: Some(refused),
-            room,
-        }),
     }
 }
 
-// Frees the handle of a place. Returns the place if it was the last and a block is held.
-pub(crate) fn free(place: Box<State>) -> Option<Box<State>>
+// Frees the handle of a place. The last one frees the machine, and returns the seat of the call. It
+// returns the place too if a block is held.
+pub(crate) fn free(place: Box<State>) -> Result<Option<BlockSeat>, (Box<State>, BlockSeat)>
     requires { IsSome (machine_in (Some place.value)) }
-    ensures { IfSome result (λ after. OnMachine (λ machine. OnMachine (FindsHeld machine)
-        (machine_in (Some after.value))) (machine_in (Some place.value))) }
+    ensures others { IfOk result (λ seat. IfNone seat
+        (OnMachine (λ machine. IsSole machine → ⊥) (machine_in (Some place.value)))) }
+    ensures free { IfOk result (λ seat. IfSome seat (λ seat. OnMachine (λ machine.
+        FoundFree (dim_of_machine machine) seat.me.0.trail) (machine_in (Some place.value)))) }
+    ensures held { IfErr result (λ kept. OnMachine (λ machine.
+        FoundHeld (dim_of_machine machine) kept.1.me.0.trail) (machine_in (Some place.value))) }
+    ensures kept { IfErr result (λ kept. OnMachine (λ machine. OnMachine (IsKept machine)
+        (machine_in (Some kept.0.value))) (machine_in (Some place.value))) }
+    ensures no_slot { IfOk result (λ seat. IfSome seat (λ seat. seat.me.1 ≡ [])) }
+    ensures no_slot_held { IfErr result (λ kept. kept.1.me.1 ≡ []) }
 {
     let mut place = place;
     let State::Machine(machine) = Box::replace(&mut place, State::Taken) else {
@@ -162,11 +171,16 @@ pub(crate) fn free(place: Box<State>) -> Option<Box<State>>
         owner,
         start,
         next: _,
-        last: _,
         room,
     } = machine;
-    let common = owner.into_last()?;
-    let machine = end(common, start, room)?;
-    let _taken = Box::replace(&mut place, State::Machine(machine));
-    Some(place)
+    let Some(common) = owner.into_last() else {
+        return Ok(None);
+    };
+    match end(common, start, room) {
+        Ok(seat) => Ok(Some(seat)),
+        Err((machine, seat)) => {
+            let _taken = Box::replace(&mut place, State::Machine(machine));
+            Err((place, seat))
+        }
+    }
 }

@@ -29,7 +29,8 @@ pub(crate) fn split(machine: &Machine, region: &mut BlockHandle, half: &mut Bloc
     ensures unchanged { result ≢ DONE → region.new ≡ region.old }
     ensures half_unchanged { result ≢ DONE → half.new ≡ half.old }
 {
-    let code = refusal(machine, region);
+    let number = machine.number();
+    let code = refusal(number, region);
     if code != DONE {
         return code;
     }
@@ -38,8 +39,8 @@ pub(crate) fn split(machine: &Machine, region: &mut BlockHandle, half: &mut Bloc
     }
     let held = take_out(machine, region);
     let (lower, upper) = machine.tree().split(held);
-    *region = BlockHandle::of(lower, machine.number());
-    *half = BlockHandle::of(upper, machine.number());
+    *region = BlockHandle::of(lower, number);
+    *half = BlockHandle::of(upper, number);
     DONE
 }
 
@@ -79,11 +80,12 @@ pub(crate) fn join(machine: &Machine, region: &mut BlockHandle, half: &mut Block
     ensures unchanged { result ≢ DONE → region.new ≡ region.old }
     ensures half_unchanged { result ≢ DONE → half.new ≡ half.old }
 {
-    let code = refusal(machine, region);
+    let number = machine.number();
+    let code = refusal(number, region);
     if code != DONE {
         return code;
     }
-    let half_code = refusal(machine, half);
+    let half_code = refusal(number, half);
     if half_code != DONE {
         return half_code;
     }
@@ -93,6 +95,6 @@ pub(crate) fn join(machine: &Machine, region: &mut BlockHandle, half: &mut Block
     let lower = take_out(machine, region);
     let upper = take_out(machine, half);
     let whole = machine.tree().join(lower, upper);
-    *region = BlockHandle::of(whole, machine.number());
+    *region = BlockHandle::of(whole, number);
     DONE
 }

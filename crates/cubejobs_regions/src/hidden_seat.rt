@@ -5,8 +5,9 @@ ghost use Rattle.bitmap_tree.specs.declared.view.View.{View as Known};
 ghost use Rattle.cubejobs_regions.specs.InnerHiddenSeat.{hidden_owns, views_coded};
 
 use atomic_table::Badge;
-use bitmap_tree::BlockView;
+use bitmap_tree::{BlockSeat, BlockView};
 use std::marker::Model;
+use std::mem::replace;
 
 /// A seat at the table of a machine, or none: then it has no view.
 #[repr(C)]
@@ -22,6 +23,8 @@ impl Model for HiddenSeat {
 }
 
 impl HiddenSeat {
+    ghost use Rattle.cubejobs_regions.specs.HiddenSeats.{seat_in};
+
     // Makes a place for a seat, with none in it.
     #[inline(always)]
     pub fn blank() -> HiddenSeat
@@ -39,6 +42,18 @@ impl HiddenSeat {
     {
         let HiddenSeat {} = self;
         (HiddenSeat {}, badge)
+    }
+
+    // Keeps a seat instead of the one that was there.
+    #[inline(always)]
+    pub fn keep(&mut self, seat: BlockSeat)
+        requires { seat.me.1 ≡ [] }
+        ensures { (seat_in self.new).me.0.trail ≡ seat.me.0.trail }
+    {
+        let old = replace(self, HiddenSeat::blank());
+        let (kept, last) = old.exchange(seat.into_badge());
+        drop(last);
+        *self = kept;
     }
 }
 

@@ -12,6 +12,7 @@ use crate::hidden_seat::HiddenSeat;
 use crate::tag::{dim_at, holds, region_at, tag_of};
 use atomic_table::Badge;
 use bitmap_tree::{BlockSeat, HeldBlock};
+use std::mem::replace;
 
 impl BlockHandle {
     // Makes a handle that holds nothing.
@@ -50,39 +51,30 @@ impl BlockHandle {
         holds(self.tag)
     }
 
-    // Returns the held block. There must be one.
+    // Takes the held block out. There must be one.
     #[inline(always)]
-    pub(crate) fn into_held(self) -> HeldBlock
-        requires { is_held self.tag ≡ true }
-        ensures { hold_of self ≡ Some (held_at self.machine result) }
+    pub(crate) fn take(&mut self) -> HeldBlock
+        requires { is_held self.old.tag ≡ true }
+        ensures held { hold_of self.old ≡ Some (held_at self.old.machine result) }
+        ensures none { is_held self.new.tag ≡ false }
     {
-        let BlockHandle {
-            tag,
-            machine: _,
-            seat,
-        } = self;
+        let tag = self.tag;
+        self.tag = 0;
+        let seat = replace(&mut self.seat, HiddenSeat::blank());
         let (none, badge) = seat.exchange(Badge::blank());
         drop(none);
         HeldBlock::of_parts(region_at(tag), dim_at(tag), badge.into_seat())
     }
 
-    // Returns an empty handle with the same bytes. It keeps the seat of a call, and so what its
-    // steps found.
+    // Keeps the seat of a call in an empty handle, and so what its steps found. No bytes change.
     #[inline(always)]
-    pub(crate) fn keep(self, seat: BlockSeat) -> BlockHandle
-        requires empty { is_held self.tag ≡ false }
+    pub(crate) fn keep(&mut self, seat: BlockSeat)
+        requires empty { is_held self.old.tag ≡ false }
         requires no_slot { seat.me.1 ≡ [] }
-        ensures none { hold_of result ≡ None }
-        ensures trail { trail_of result ≡ seat.me.0.trail }
+        ensures none { hold_of self.new ≡ None }
+        ensures trail { trail_of self.new ≡ seat.me.0.trail }
     {
-        let BlockHandle {
-            tag,
-            machine,
-            seat: old,
-        } = self;
-        let (seat, last) = old.exchange(seat.into_badge());
-        drop(last);
-        BlockHandle { tag, machine, seat }
+        self.seat.keep(seat);
     }
 
     // Returns why no block can be put into it, or `DONE`.

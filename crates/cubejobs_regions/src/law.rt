@@ -1,5 +1,5 @@
 //! The law of the machine for two handles.
-ghost use Rattle.std.specs.Prelude.{◌≡◌, ◌≢◌, false, true, IsTrue};
+ghost use Rattle.std.specs.Prelude.{◌≡◌, false, true, IsTrue};
 ghost use Rattle.cubejobs_regions.specs.Apart.{HoldApart};
 ghost use Rattle.cubejobs_regions.specs.Handle.{machine_of};
 ghost use Rattle.cubejobs_regions.specs.Holding.{refusal_of_call, refusal_of_giving, AreNumbered, IsOfItsNumber};
@@ -11,8 +11,7 @@ use crate::codes::DONE;
 use crate::gives::{refusal, take_out};
 use crate::handle::Handle;
 use crate::machine::Machine;
-use crate::places::{lift, machine_at};
-use std::alloc::Global;
+use crate::places::machine_at;
 
 // States that two blocks of a machine that are held at one moment are apart, if there are two.
 fn compare(machine: &Machine, a: &mut BlockHandle, b: &mut BlockHandle) -> bool
@@ -23,23 +22,24 @@ fn compare(machine: &Machine, a: &mut BlockHandle, b: &mut BlockHandle) -> bool
     ensures apart { IsTrue result → HoldApart a.old b.old a.new b.new }
     ensures unchanged { result ≡ false → (a.new ≡ a.old) × (b.new ≡ b.old) }
 {
-    if refusal(machine, a) != DONE {
+    let number = machine.number();
+    if refusal(number, a) != DONE {
         return false;
     }
-    if refusal(machine, b) != DONE {
+    if refusal(number, b) != DONE {
         return false;
     }
     let first = take_out(machine, a);
     let second = take_out(machine, b);
     let (first, second) = machine.tree().apart(first, second);
-    *a = BlockHandle::of(first, machine.number());
-    *b = BlockHandle::of(second, machine.number());
+    *a = BlockHandle::of(first, number);
+    *b = BlockHandle::of(second, number);
     true
 }
 
 /// Returns whether two handles hold blocks of the machine. These are apart, at whatever moment the
 /// call comes. The call changes nothing. This is a law for any two handles, and no function for C.
-pub fn apart(alloc: Global, thread: &mut Handle, a: &mut BlockHandle, b: &mut BlockHandle) -> bool
+pub fn apart(thread: &mut Handle, a: &mut BlockHandle, b: &mut BlockHandle) -> bool
     requires first { AreNumbered (machine_of thread.old) a.old }
     requires second { AreNumbered (machine_of thread.old) b.old }
     ensures both { refusal_of_call (machine_of thread.old) (hold_of a.old) ≡ DONE
@@ -48,10 +48,8 @@ pub fn apart(alloc: Global, thread: &mut Handle, a: &mut BlockHandle, b: &mut Bl
     ensures machine { machine_of thread.new ≡ machine_of thread.old }
     ensures unchanged { result ≡ false → (a.new ≡ a.old) × (b.new ≡ b.old) }
 {
-    let Some(place) = lift(thread, alloc) else {
+    if !thread.is_open() {
         return false;
-    };
-    let are_apart = compare(machine_at(&place), a, b);
-    *thread = Handle::of(place);
-    are_apart
+    }
+    compare(machine_at(thread.ptr.get_mut()), a, b)
 }

@@ -5,7 +5,6 @@ ghost use Rattle.bitmap_tree.specs.Rule.{word_count};
 ghost use Rattle.cubejobs_regions.specs.Ownership.{common_of};
 
 use crate::ownership::Ownership;
-use bitmap_tree::Refused;
 
 /// A machine, and the processor at which the searches of its handle begin.
 #[derive(Drop)]
@@ -14,8 +13,6 @@ pub(crate) struct Machine {
     pub(crate) start: u64,
     // Which thread the next handle is for.
     pub(crate) next: u32,
-    // What the last call that was to free the machine found, where it was refused.
-    pub(crate) last: Option<Refused>,
     // Its words as they were last read, for a count.
     pub(crate) room: Vec<u64>,
     ghost start_is_in: { start < 2 ^ dim_of (common_of owner).tree },

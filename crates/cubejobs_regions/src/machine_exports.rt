@@ -1,10 +1,10 @@
 //! The functions of the library that open, share and free a machine, under the names that C
 //! declares.
-ghost use Rattle.std.specs.Prelude.{◌≡◌, ◌≢◌, ◌<◌, ◌≤◌, ◌⊎◌, None, Some, IsSome, IfSome};
+ghost use Rattle.std.specs.Prelude.{◌≡◌, ◌≢◌, ◌<◌, ◌≤◌, ◌⊎◌, None, Some, IsSome};
 ghost use Rattle.cube_shape.specs.declared.limits.TheConstants.{MAX_BITMAP_DIM};
-ghost use Rattle.cubejobs_regions.specs.Ends.{FindsHeld, IsNew};
-ghost use Rattle.cubejobs_regions.specs.Handle.{machine_of, refusal_of_opening};
-ghost use Rattle.cubejobs_regions.specs.Machine.{IsSameMachine, OnMachine};
+ghost use Rattle.cubejobs_regions.specs.Ends.{FoundFree, FoundHeld, IsKept, IsNew};
+ghost use Rattle.cubejobs_regions.specs.Handle.{end_trail, machine_of, refusal_of_opening};
+ghost use Rattle.cubejobs_regions.specs.Machine.{dim_of_machine, IsSameMachine, IsSole, OnMachine};
 
 use crate::codes::{
     BAD_DIMENSION, BAD_VERSION, DONE, NOT_OPEN, OUT_OF_MEMORY, STILL_HELD, VERSION,
@@ -94,13 +94,18 @@ pub extern "C" fn cubejobs_regions_share(
 
 /// Frees a handle. The last one of a machine frees the machine, unless a block of it is held.
 ///
-/// It looks by a take of the whole machine. The handle keeps what a refused one found.
+/// The last one looks by a take of the whole machine. The handle keeps the seat of the call, and so
+/// what its steps found.
 #[unsafe(no_mangle)]
 pub extern "C" fn cubejobs_regions_free(alloc: Global, thread: &mut Handle) -> u32
     ensures not_open { machine_of thread.old ≡ None → result ≡ NOT_OPEN }
     ensures tried { IsSome (machine_of thread.old) → (result ≡ DONE) ⊎ (result ≡ STILL_HELD) }
+    ensures free { result ≡ DONE → OnMachine (λ machine. IsSole machine
+        → FoundFree (dim_of_machine machine) (end_trail thread.new)) (machine_of thread.old) }
     ensures shut { result ≡ DONE → machine_of thread.new ≡ None }
-    ensures still_held { result ≡ STILL_HELD → OnMachine (λ machine. OnMachine (FindsHeld machine)
+    ensures held { result ≡ STILL_HELD → OnMachine (λ machine.
+        FoundHeld (dim_of_machine machine) (end_trail thread.new)) (machine_of thread.old) }
+    ensures kept { result ≡ STILL_HELD → OnMachine (λ machine. OnMachine (IsKept machine)
         (machine_of thread.new)) (machine_of thread.old) }
     ensures unchanged { result ≡ NOT_OPEN → thread.new ≡ thread.old }
 {
@@ -108,9 +113,14 @@ pub extern "C" fn cubejobs_regions_free(alloc: Global, thread: &mut Handle) -> u
         return NOT_OPEN;
     };
     match ends::free(place) {
-        None => DONE,
-        Some(place) => {
+        Ok(None) => DONE,
+        Ok(Some(seat)) => {
+            thread.keep(seat);
+            DONE
+        }
+        Err((place, seat)) => {
             *thread = Handle::of(place);
+            thread.keep(seat);
             STILL_HELD
         }
     }

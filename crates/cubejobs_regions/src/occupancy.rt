@@ -4,18 +4,15 @@ ghost use Rattle.cube_shape.specs.declared.limits.TheConstants.{MAX_BITMAP_DIM};
 ghost use Rattle.bitmap_tree.specs.Rule.{word_count};
 ghost use Rattle.bitmap_occupancy.specs.Summary.{IsOccupancy};
 ghost use Rattle.cubejobs_regions.specs.Handle.{machine_of};
-ghost use Rattle.cubejobs_regions.specs.Machine.{dim_of_machine, IsSameMachine, OnMachine};
-ghost use Rattle.cubejobs_regions.specs.MachineIn.{machine_in};
+ghost use Rattle.cubejobs_regions.specs.Machine.{OnMachine};
 ghost use Rattle.cubejobs_regions.specs.Occupancy.{occupancy_of, CountsNone, IsCounted};
 
 use crate::answer::OccupancyAnswer;
 use crate::codes::{DONE, NOT_OPEN};
 use crate::handle::Handle;
 use crate::machine::Machine;
-use crate::places::lift;
 use crate::state::State;
 use bitmap_occupancy::{FREE_PLACES, occupancy};
-use std::alloc::Global;
 
 impl OccupancyAnswer {
     // Makes the answer of a refused call.
@@ -62,36 +59,21 @@ fn count(n: u32, words: &[u64]) -> OccupancyAnswer
 }
 
 // Reads each word of a machine into its room, and counts what they say is free and held.
-fn count_machine(machine: Machine) -> (Machine, OccupancyAnswer)
-    ensures code { result.1.code ≡ DONE }
-    ensures counted { IsCounted result.1 machine result.0 }
+fn count_machine(machine: &mut Machine) -> OccupancyAnswer
+    ensures code { result.code ≡ DONE }
+    ensures counted { IsCounted result machine.old machine.new }
 {
-    let Machine {
-        owner,
-        start,
-        next,
-        last,
-        mut room,
-    } = machine;
-    let n = owner.get().tree.dim();
-    for word in 0..owner.get().tree.word_count() {
-        room[word as usize] = owner.get().tree.word(word);
+    let n = machine.common().tree.dim();
+    for word in 0..machine.common().tree.word_count() {
+        machine.room[word as usize] = machine.common().tree.word(word);
     }
-    let answer = count(n, &room);
-    let after = Machine {
-        owner,
-        start,
-        next,
-        last,
-        room,
-    };
-    (after, answer)
+    count(n, &machine.room)
 }
 
 /// Counts the free blocks of each dimension and the processors in held blocks, and finds the
 /// largest free dimension. Each word is read at some moment of the call.
 #[unsafe(no_mangle)]
-pub extern "C" fn cubejobs_regions_occupancy(alloc: Global, thread: &mut Handle) -> OccupancyAnswer
+pub extern "C" fn cubejobs_regions_occupancy(thread: &mut Handle) -> OccupancyAnswer
     ensures not_open { machine_of thread.old ≡ None → result.code ≡ NOT_OPEN }
     ensures done { IsSome (machine_of thread.old) → result.code ≡ DONE }
     ensures counted { IsSome (machine_of thread.old) → OnMachine (λ machine.
@@ -99,15 +81,11 @@ pub extern "C" fn cubejobs_regions_occupancy(alloc: Global, thread: &mut Handle)
     ensures nothing { result.code ≢ DONE → CountsNone result }
     ensures unchanged { result.code ≢ DONE → thread.new ≡ thread.old }
 {
-    let Some(place) = lift(thread, alloc) else {
+    if !thread.is_open() {
         return OccupancyAnswer::refused(NOT_OPEN);
-    };
-    let mut place = place;
-    let State::Machine(machine) = Box::replace(&mut place, State::Taken) else {
-        unreachable!()
-    };
-    let (machine, answer) = count_machine(machine);
-    let _taken = Box::replace(&mut place, State::Machine(machine));
-    *thread = Handle::of(place);
-    answer
+    }
+    match thread.ptr.get_mut() {
+        State::Machine(machine) => count_machine(machine),
+        State::Taken => unreachable!(),
+    }
 }

@@ -1,5 +1,6 @@
 //! The pointer of a handle to its content on the heap, or to nothing. C sees an address.
 ghost use Rattle.std.specs.Prelude.{◌≡◌, None, Some, Option};
+ghost use Rattle.std.specs.Borrow.{sem};
 ghost use Rattle.cubejobs_regions.specs.declared.state.State.{State as Inside};
 ghost use Rattle.cubejobs_regions.specs.InnerOpaquePtr.{opaque_owns, content_coded};
 
@@ -22,6 +23,8 @@ impl Model for OpaquePtr {
 }
 
 impl OpaquePtr {
+    ghost use Rattle.cubejobs_regions.specs.InnerLending.{lends_content};
+
     // Makes a pointer to the content of a box.
     #[inline(always)]
     fn of_parts(parts: Parts<State, Global>) -> OpaquePtr
@@ -64,6 +67,16 @@ impl OpaquePtr {
         ensures { result.content ≡ Some content.value }
     {
         OpaquePtr::of_parts(Parts::of(content))
+    }
+
+    // Lends the content in its place. There must be one.
+    #[inline(always)]
+    pub fn get_mut(&mut self) -> &mut State
+        requires { (inside : Inside) × (self.old.content ≡ Some inside) }
+        ensures* writes_back { sem 𝓛 (lends_content self.entry result) }
+        ensures value { self.old.content ≡ Some result.now }
+    {
+        unsafe { &mut *(self.ptr as *mut State) }
     }
 
     // Returns the content in its box. There must be one.

@@ -1,7 +1,6 @@
 //! The ownership of what the handles of a machine have in common.
-ghost use Rattle.std.specs.Prelude.{◌≡◌, IfSome};
-ghost use Rattle.std.specs.Arc.{arc_value};
-ghost use Rattle.cubejobs_regions.specs.Ownership.{common_of};
+ghost use Rattle.std.specs.Prelude.{◌≡◌, IfNone, IfSome};
+ghost use Rattle.cubejobs_regions.specs.Ownership.{common_of, IsSoleOwner};
 
 use crate::common::Common;
 use std::alloc::Global;
@@ -50,7 +49,8 @@ impl Ownership {
 
     // Lets the owner go. The last one returns what the handles had in common.
     pub(crate) fn into_last(self) -> Option<Common>
-        ensures { IfSome result (λ common. common ≡ common_of self) }
+        ensures last { IfSome result (λ common. common ≡ common_of self) }
+        ensures others { IfNone result (IsSoleOwner self → ⊥) }
     {
         match self {
             Ownership::Shared(common) => Arc::into_inner(common),

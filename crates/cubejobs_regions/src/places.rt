@@ -1,14 +1,16 @@
-//! Lifting the machine out of a handle for a call, and putting it back.
-ghost use Rattle.std.specs.Prelude.{◌≡◌, ◌↔◌, None, Some, IfSome, IfNone, IsSome, IsTrue};
-ghost use Rattle.cubejobs_regions.specs.Handle.{machine_of, refusal_of_opening};
+//! The machine of a handle: as it is lent for a call, or lifted out and put back.
+ghost use Rattle.std.specs.Prelude.{◌≡◌, ◌↔◌, [], None, Some, IfSome, IfNone, IsSome, IsTrue};
+ghost use Rattle.cubejobs_regions.specs.Handle.{end_trail, machine_of, refusal_of_opening};
 ghost use Rattle.cubejobs_regions.specs.MachineIn.{machine_in};
 
 use crate::codes::{ALREADY_OPEN, DONE, OPEN, OTHER_KIND};
 use crate::handle::Handle;
+use crate::hidden_seat::HiddenSeat;
 use crate::machine::Machine;
 use crate::opaque_ptr::OpaquePtr;
 use crate::state::State;
 use crate::tag::holds;
+use bitmap_tree::BlockSeat;
 use std::alloc::Global;
 use std::mem::replace;
 
@@ -21,6 +23,7 @@ impl Handle {
         Handle {
             tag: 0,
             ptr: OpaquePtr::nothing(alloc),
+            seat: HiddenSeat::blank(),
         }
     }
 
@@ -33,7 +36,17 @@ impl Handle {
         Handle {
             tag: OPEN,
             ptr: OpaquePtr::of(place),
+            seat: HiddenSeat::blank(),
         }
+    }
+
+    // Keeps the seat of a call, and so what its steps found. No bytes change.
+    pub(crate) fn keep(&mut self, seat: BlockSeat)
+        requires no_slot { seat.me.1 ≡ [] }
+        ensures machine { machine_of self.new ≡ machine_of self.old }
+        ensures trail { end_trail self.new ≡ seat.me.0.trail }
+    {
+        self.seat.keep(seat);
     }
 
     // Returns whether it is open.
@@ -61,7 +74,7 @@ impl Handle {
             (machine_in (Some place.value) ≡ machine_of self) × IsSome (machine_of self)) }
         ensures none { IfNone result (machine_of self ≡ None) }
     {
-        let Handle { tag, ptr } = self;
+        let Handle { tag, ptr, seat: _ } = self;
         if tag == OPEN {
             Some(ptr.into_box())
         } else {
@@ -86,13 +99,13 @@ pub(crate) fn lift(handle: &mut Handle, alloc: Global) -> Option<Box<State>>
     replace(handle, Handle::shut(alloc)).into_place()
 }
 
-// Returns the machine in a place.
+// Returns the machine that is the content of a handle.
 #[inline(always)]
-pub(crate) fn machine_at(place: &Box<State>) -> &Machine
-    requires { IsSome (machine_in (Some place.now.value)) }
-    ensures { machine_in (Some place.now.value) ≡ Some result.now }
+pub(crate) fn machine_at(state: &State) -> &Machine
+    requires { IsSome (machine_in (Some state.now)) }
+    ensures { machine_in (Some state.now) ≡ Some result.now }
 {
-    match place.as_ref() {
+    match state {
         State::Machine(machine) => machine,
         State::Taken => unreachable!(),
     }

@@ -1,62 +1,45 @@
 //! The functions of the library that take blocks, under the names that C declares.
-ghost use Rattle.std.specs.Prelude.{◌≡◌, ◌≢◌, ◌<◌, ◌≤◌, ◌⊎◌, None, IsSome};
+ghost use Rattle.std.specs.Prelude.{◌≡◌, ◌≢◌, ◌<◌, ◌≤◌, ◌⊎◌};
 ghost use Rattle.bitmap_tree.specs.Bounds.{block_steps, quick_steps, take_steps};
-ghost use Rattle.cubejobs_regions.specs.Answers.{region_at, region_of, NamesNone};
+ghost use Rattle.cubejobs_regions.specs.Answers.{region_at, region_of};
 ghost use Rattle.cubejobs_regions.specs.Handle.{machine_of, refusal_of_filling};
 ghost use Rattle.cubejobs_regions.specs.Holding.{trail_of};
-ghost use Rattle.cubejobs_regions.specs.Holds.{hold_of};
 ghost use Rattle.cubejobs_regions.specs.Machine.{dim_of_machine, OnMachine};
-ghost use Rattle.cubejobs_regions.specs.Takes.{FoundInUse, FoundNoRoom, HasBlock, IsTaken};
+ghost use Rattle.cubejobs_regions.specs.Takes.{FoundInUse, FoundNoRoom, HasBlock, IsAnsweredBy};
 
 use crate::answer::{Answer, refused};
 use crate::block_handle::BlockHandle;
-use crate::codes::{
-    BAD_BASE, BAD_DIMENSION, DONE, NO_ROOM, NOT_NOW, NOT_OPEN, NOTHING_HELD, TAKEN,
-};
+use crate::codes::{BAD_BASE, BAD_DIMENSION, DONE, NO_ROOM, NOT_NOW, TAKEN};
 use crate::handle::Handle;
-use crate::places::{lift, machine_at};
+use crate::places::machine_at;
 use crate::takes;
 use cube_shape::Region;
-use std::alloc::Global;
 
 /// Takes a block of dimension `k`, by a search that passes by words in which none was found of
 /// late. So a refusal says nothing of what is free.
 #[unsafe(no_mangle)]
 pub extern "C" fn cubejobs_regions_take(
-    alloc: Global,
     thread: &mut Handle,
     region: &mut BlockHandle,
     k: u32,
 ) -> Answer
-    ensures not_open { machine_of thread.old ≡ None → result.code ≡ NOT_OPEN }
-    ensures barred { IsSome (machine_of thread.old) → refusal_of_filling region.old ≢ DONE
-        → result.code ≡ refusal_of_filling region.old }
     ensures bad_dimension { refusal_of_filling region.old ≡ DONE
         → OnMachine (λ machine. dim_of_machine machine < k) (machine_of thread.old)
         → result.code ≡ BAD_DIMENSION }
     ensures tried { refusal_of_filling region.old ≡ DONE
         → OnMachine (λ machine. k ≤ dim_of_machine machine) (machine_of thread.old)
         → (result.code ≡ DONE) ⊎ (result.code ≡ NOT_NOW) }
-    ensures taken { result.code ≡ DONE
-        → OnMachine (λ machine. IsTaken (quick_steps (dim_of_machine machine)) machine region.new
-        result) (machine_of thread.old) }
+    ensures answered { IsAnsweredBy quick_steps (machine_of thread.old) region.old region.new result }
     ensures dimension { result.code ≡ DONE → result.dim ≡ k }
     ensures machine { machine_of thread.new ≡ machine_of thread.old }
     ensures unchanged { result.code ≢ DONE → region.new ≡ region.old }
-    ensures none { result.code ≢ DONE → NamesNone result }
     ensures quiet { result.contended ≡ 0 }
 {
-    let Some(place) = lift(thread, alloc) else {
-        return refused(NOT_OPEN, 0);
-    };
-    let code = region.refusal();
+    let code = takes::refusal(thread, region);
     if code != DONE {
-        *thread = Handle::of(place);
         return refused(code, 0);
     }
-    let answer = takes::take(machine_at(&place), region, k);
-    *thread = Handle::of(place);
-    answer
+    takes::take(machine_at(thread.ptr.get_mut()), region, k)
 }
 
 /// Takes a block of dimension `k`. Looks at each word before it refuses.
@@ -65,44 +48,29 @@ pub extern "C" fn cubejobs_regions_take(
 /// seat of a refused take, and so what its steps found.
 #[unsafe(no_mangle)]
 pub extern "C" fn cubejobs_regions_take_exact(
-    alloc: Global,
     thread: &mut Handle,
     region: &mut BlockHandle,
     k: u32,
 ) -> Answer
-    ensures not_open { machine_of thread.old ≡ None → result.code ≡ NOT_OPEN }
-    ensures barred { IsSome (machine_of thread.old) → refusal_of_filling region.old ≢ DONE
-        → result.code ≡ refusal_of_filling region.old }
     ensures bad_dimension { refusal_of_filling region.old ≡ DONE
         → OnMachine (λ machine. dim_of_machine machine < k) (machine_of thread.old)
         → result.code ≡ BAD_DIMENSION }
     ensures tried { refusal_of_filling region.old ≡ DONE
         → OnMachine (λ machine. k ≤ dim_of_machine machine) (machine_of thread.old)
         → (result.code ≡ DONE) ⊎ (result.code ≡ NO_ROOM) ⊎ (result.code ≡ NOT_NOW) }
-    ensures taken { result.code ≡ DONE
-        → OnMachine (λ machine. IsTaken (take_steps (dim_of_machine machine)) machine region.new
-        result) (machine_of thread.old) }
+    ensures answered { IsAnsweredBy take_steps (machine_of thread.old) region.old region.new result }
     ensures dimension { result.code ≡ DONE → result.dim ≡ k }
     ensures found { (result.code ≡ NO_ROOM) ⊎ (result.code ≡ NOT_NOW)
         → OnMachine (λ machine. FoundNoRoom (dim_of_machine machine) k result.contended
         (trail_of region.new)) (machine_of thread.old) }
     ensures busy { result.code ≡ NOT_NOW → result.contended ≢ 0 }
     ensures machine { machine_of thread.new ≡ machine_of thread.old }
-    ensures same { result.code ≢ DONE → hold_of region.new ≡ hold_of region.old }
-    ensures none { result.code ≢ DONE → NamesNone result }
-    ensures quiet { result.code ≢ NOT_NOW → result.contended ≡ 0 }
 {
-    let Some(place) = lift(thread, alloc) else {
-        return refused(NOT_OPEN, 0);
-    };
-    let code = region.refusal();
+    let code = takes::refusal(thread, region);
     if code != DONE {
-        *thread = Handle::of(place);
         return refused(code, 0);
     }
-    let answer = takes::take_exact(machine_at(&place), region, k);
-    *thread = Handle::of(place);
-    answer
+    takes::take_exact(machine_at(thread.ptr.get_mut()), region, k)
 }
 
 /// Takes the block of dimension `k` that begins at a processor.
@@ -111,15 +79,11 @@ pub extern "C" fn cubejobs_regions_take_exact(
 /// refused take, and so what its steps found.
 #[unsafe(no_mangle)]
 pub extern "C" fn cubejobs_regions_take_at(
-    alloc: Global,
     thread: &mut Handle,
     region: &mut BlockHandle,
     base: u64,
     k: u32,
 ) -> Answer
-    ensures not_open { machine_of thread.old ≡ None → result.code ≡ NOT_OPEN }
-    ensures barred { IsSome (machine_of thread.old) → refusal_of_filling region.old ≢ DONE
-        → result.code ≡ refusal_of_filling region.old }
     ensures bad_dimension { refusal_of_filling region.old ≡ DONE
         → OnMachine (λ machine. dim_of_machine machine < k) (machine_of thread.old)
         → result.code ≡ BAD_DIMENSION }
@@ -129,28 +93,21 @@ pub extern "C" fn cubejobs_regions_take_at(
     ensures tried { refusal_of_filling region.old ≡ DONE
         → OnMachine (HasBlock base k) (machine_of thread.old)
         → (result.code ≡ DONE) ⊎ (result.code ≡ TAKEN) ⊎ (result.code ≡ NOT_NOW) }
-    ensures taken { result.code ≡ DONE
-        → OnMachine (λ machine. IsTaken (block_steps (dim_of_machine machine)) machine region.new
-        result) (machine_of thread.old) }
+    ensures answered { IsAnsweredBy block_steps (machine_of thread.old) region.old region.new result }
     ensures region { result.code ≡ DONE → region_of result ≡ region_at base k }
     ensures found { (result.code ≡ TAKEN) ⊎ (result.code ≡ NOT_NOW)
         → OnMachine (λ machine. FoundInUse (dim_of_machine machine) (region_at base k)
         result.contended (trail_of region.new)) (machine_of thread.old) }
     ensures busy { result.code ≡ NOT_NOW → result.contended ≢ 0 }
     ensures machine { machine_of thread.new ≡ machine_of thread.old }
-    ensures same { result.code ≢ DONE → hold_of region.new ≡ hold_of region.old }
-    ensures none { result.code ≢ DONE → NamesNone result }
-    ensures quiet { result.code ≢ NOT_NOW → result.contended ≡ 0 }
 {
-    let Some(place) = lift(thread, alloc) else {
-        return refused(NOT_OPEN, 0);
-    };
-    let code = region.refusal();
+    let code = takes::refusal(thread, region);
     if code != DONE {
-        *thread = Handle::of(place);
         return refused(code, 0);
     }
-    let answer = takes::take_at(machine_at(&place), region, Region { base, dim: k });
-    *thread = Handle::of(place);
-    answer
+    takes::take_at(
+        machine_at(thread.ptr.get_mut()),
+        region,
+        Region { base, dim: k },
+    )
 }

@@ -12,8 +12,8 @@ returns-clause-apart c = λ yes.
     record {
       first = held_at number c.take_out-first.result;
       second = held_at number c.take_out-second.result;
-      first_after = held_at c.number.result both.0;
-      second_after = held_at c.number-2.result both.1;
+      first_after = held_at c.number-number.result both.0;
+      second_after = held_at c.number-number.result both.1;
       was_first = c.take_out-first.ensures.held;
       was_second = c.take_out-second.ensures.held;
       is_first = c.of.ensures;

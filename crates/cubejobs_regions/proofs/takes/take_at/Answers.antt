@@ -9,8 +9,8 @@ use Rattle.cubejobs_regions.proofs.takes.take_at.Goals as goal
 
 pub returns-in-Err-clause-found : goal.returns-in-Err-clause-found
 returns-in-Err-clause-found c = λ code.
-    let e = c.in-Err.ensures in let n = dim_of c.tree-2.result.now in let m = dim_of_machine c.args.machine.now in
-    let contended = c.in-Err.refusal.contended in let old = refused_trail c.in-Err.refusal in let new = trail_of c.keep.new.region in
+    let e = c.in-Err.ensures in let n = dim_of c.common-common.result.now.tree in let m = dim_of_machine c.args.machine.now in
+    let contended = c.in-Err.refusal.contended in let old = refused_trail c.in-Err.refusal in let new = trail_of c.keep.new.self in
     let found : FoundInUse n c.args.block contended old = record {
       taken = e.refused;
       disturbed = e.disturbed;
@@ -18,4 +18,4 @@ returns-in-Err-clause-found c = λ code.
       few = e.few_refused;
     } in
     subst (λ count. FoundInUse m c.args.block count new) (sym c.sought.ensures.contended)
-    (in_use_at n m c.args.block contended old new (ap dim_of c.tree-2.ensures.tree) (c.keep.ensures.trail ∙ c.into_seat.ensures.trail) found)
+    (in_use_at n m c.args.block contended old new (ap (λ x. dim_of x.tree) c.common-common.ensures.common) (c.keep.ensures.trail ∙ c.into_seat.ensures.trail) found)
