@@ -16,8 +16,8 @@ static void work(cubejobs::machine mine, unsigned turns) {
         cubejobs::block taken = mine.take(turn % 4);
         if (!taken) taken = mine.take_exact(turn % 4);
         if (!taken || turn % 2) continue; // here an owner ends, and its block is released
-        cubejobs::block half = taken.split();
-        taken.join(half);
+        cubejobs::block half = mine.split(taken);
+        mine.join(taken, half);
         std::lock_guard<std::mutex> guard(lock);
         left.push_back(std::move(taken));
     }
@@ -27,7 +27,7 @@ static void work(cubejobs::machine mine, unsigned turns) {
 static unsigned long sweep(cubejobs::machine &mine) {
     std::lock_guard<std::mutex> guard(lock);
     unsigned long count = left.size();
-    for (cubejobs::block &block : left) block.through(mine);
+    for (cubejobs::block &block : left) mine.adopt(block);
     left.clear();
     return count;
 }

@@ -37,15 +37,16 @@ static void blocks() {
     expect(other && mine.occupancy().held == 4, "a move to itself");
     other = mine.take_exact(3);
     expect(other.dim() == 3 && mine.occupancy().held == 8, "an assignment releases");
-    block upper = other.split();
+    block upper = mine.split(other);
     expect(other.dim() == 2 && upper.dim() == 2 && upper.base() == other.base() + 4, "a split");
-    expect(!upper.join(other) && upper && other, "a join in the wrong order");
-    expect(other.join(upper) && !upper && other.dim() == 3, "a join");
+    expect(!mine.join(upper, other) && upper && other, "a join in the wrong order");
+    expect(!mine.join(other, other) && other, "a join with itself");
+    expect(mine.join(other, upper) && !upper && other.dim() == 3, "a join");
     other.release();
     other.release();
-    expect(!other && !other.split() && mine.occupancy().held == 0, "a release");
+    expect(!other && !mine.split(other) && mine.occupancy().held == 0, "a release");
     block single = mine.take(0);
-    expect(!single.split() && single && mine.occupancy().held == 1, "one processor has no halves");
+    expect(!mine.split(single) && single && mine.occupancy().held == 1, "one processor has no halves");
 }
 
 static void lifetimes() {
@@ -54,10 +55,13 @@ static void lifetimes() {
         machine mine(6);
         machine theirs = mine.share();
         kept.push_back(mine.take(5));
+        machine strange(6);
+        block foreign = strange.take(1);
+        expect(mine.split(foreign).code() == CUBEJOBS_REGIONS_OTHER_MACHINE && foreign.dim() == 1, "another machine");
         std::thread([&] {
             block sent = std::move(kept.back());
             kept.pop_back();
-            sent.through(theirs);
+            theirs.adopt(sent);
             kept.push_back(theirs.take(4));
         }).join();
         expect(mine.occupancy().held == 16, "another thread releases");
