@@ -1,0 +1,19 @@
+use Rattle.std.proofs.Common.{arith, ◌∙◌, ap, sym}
+use Rattle.wake_calls.specs.Thread.{number_of}
+use Rattle.wake_calls.proofs.StepLemmas.{call_step}
+use Rattle.wake_calls.proofs.steps.call.Goals as goal
+use Rattle.std.proofs.Common.{List}
+use Rattle.wake_pool.specs.Words.{mail_at}
+use Rattle.wake_calls.specs.declared.rule.ThreadRecord.{ThreadRecord}
+use Rattle.wake_calls.specs.Inner.Steps.{workers_of}
+
+pub store-requires : goal.store-requires
+store-requires g c = (
+  c.requires.table,
+  omega (arith, c.requires.words, c.requires.to, c.mail_at.ensures.place),
+  call_step g.R.WakeRule.threads g.R.WakeRule.goes g.R.TableRule.holds g.R.WakeRule.workers g.R.WakeRule.lanes g.met.R.WakeRule.pool_law c.args.shared.now.key c.args.shared.now.table_id.slots c.args.seat.now.id c.args.seat.now.me (number_of (g.R.WakeRule.threads c.args.seat.now.me.0)) c.args.workers (g.R.WakeRule.lanes c.args.shared.now.key) c.mail_at.result c.args.to c.mail_at.ensures.place c.requires.phase c.requires.to,
+)
+
+pub returns-clause-calls : goal.returns-clause-calls
+returns-clause-calls g c =
+    c.store.ensures.2 c.args.to (ap (λ (rs : List ThreadRecord). mail_at (workers_of rs) c.args.to) c.requires.phase ∙ sym c.mail_at.ensures.place)

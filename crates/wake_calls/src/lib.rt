@@ -1,0 +1,20 @@
+//! The calls by which threads sleep, wake and call one another, each of one atomic step.
+//!
+//! They work on the first words of a table: words of sleepers, tokens and mailboxes. The words
+//! above them are the table's own affair, and so is when a lane has a job. A table whose rule is a
+//! `WakeRule` has a world of `wake_pool`, so its law holds between any two steps.
+#![tactic(auto)]
+
+mod plays;
+mod rule;
+mod sleeping;
+mod steps;
+mod waking;
+
+pub use rule::{ThreadRecord, WakeRule};
+pub use sleeping::{Asleep, Back, before_park, try_back};
+pub use steps::{
+    Noticed, call, check, claim, come_back, find_call, give, leave, lie_down, notice, read_mail,
+    rest, ring, rise, stay, take_call, wait, wake,
+};
+pub use waking::{Wake, wake_check};

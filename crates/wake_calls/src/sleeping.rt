@@ -1,0 +1,101 @@
+// What a worker does once it has set its bit and looked at the lanes.
+ghost use Rattle.std.specs.Prelude.{◌≡◌, ◌<◌, ◌≤◌};
+ghost use Rattle.wake_pool.specs.declared.phase.WakePhase.TheVariants.{Idle, Searching, Found, Returning, Reading, Parked};
+ghost use Rattle.wake_pool.specs.Words.{base};
+ghost use Rattle.wake_calls.specs.Thread.{moved, thread};
+ghost use Rattle.wake_calls.specs.declared.sleeping.Back.TheVariants.{Searches, Stays, Again};
+ghost use Rattle.wake_calls.specs.declared.sleeping.Asleep.TheVariants.{Call, CallOfSearcher, Woken, Park};
+
+use crate::rule::WakeRule;
+use crate::steps::{check, come_back, read_mail, rise, stay};
+use atomic_table::{Seat, Shared};
+
+/// The outcome of a worker's tries to take its bit back.
+#[derive(Clone, Copy, Debug, PartialEq, Eq)]
+pub enum Back {
+    /// It is the searcher of its word.
+    Searches,
+    /// Another searches, or has woken it. It goes on to its mailbox.
+    Stays,
+    /// The tries are over.
+    Again,
+}
+
+/// What a worker does that has set its bit and has no job.
+#[derive(Clone, Copy, Debug, PartialEq, Eq)]
+pub enum Asleep {
+    /// It has a call, and is idle.
+    Call,
+    /// It has a call, and was woken: it is the searcher of its word and has work.
+    CallOfSearcher,
+    /// It was woken: it is the searcher of its word.
+    Woken,
+    /// It parks until it has its token.
+    Park,
+}
+
+/// Takes back the bit of a worker that has seen a job, by at most this number of tries.
+pub fn try_back<V, K, R: WakeRule<V, K>>(
+    shared: &Shared<(), V, K, R>,
+    workers: u32,
+    seat: &mut Seat<(), V>,
+    worker: u32,
+    tries: u32,
+) -> Back
+    requires table { seat.old.table_id ≡ shared.now.table_id }
+    requires words { base workers ≤ shared.now.table_id.words }
+    requires phase { R.threads seat.old.me.0
+        ≡ thread worker workers (R.lanes shared.now.key) Returning }
+    requires worker { worker < workers }
+    ensures table { seat.new.table_id ≡ seat.old.table_id }
+    ensures searches { result ≡ Searches
+        → seat.new.me ≡ moved R.goes Searching seat.old.me }
+    ensures stays { result ≡ Stays
+        → seat.new.me ≡ moved R.goes Reading seat.old.me }
+    ensures again { result ≡ Again → seat.new.me ≡ seat.old.me }
+{
+    for _ in 0..tries {
+        let Some(seen) = stay(shared, workers, seat, worker) else {
+            return Back::Stays;
+        };
+        if come_back(shared, workers, seat, worker, seen) {
+            return Back::Searches;
+        }
+    }
+    Back::Again
+}
+
+/// Looks at the mailbox and then at the bit of a worker that has rested, or that has taken its
+/// token.
+pub fn before_park<V, K, R: WakeRule<V, K>>(
+    shared: &Shared<(), V, K, R>,
+    workers: u32,
+    seat: &mut Seat<(), V>,
+    worker: u32,
+) -> Asleep
+    requires table { seat.old.table_id ≡ shared.now.table_id }
+    requires words { base workers ≤ shared.now.table_id.words }
+    requires phase { R.threads seat.old.me.0
+        ≡ thread worker workers (R.lanes shared.now.key) Reading }
+    requires worker { worker < workers }
+    ensures table { seat.new.table_id ≡ seat.old.table_id }
+    ensures call { result ≡ Call
+        → seat.new.me ≡ moved R.goes Idle seat.old.me }
+    ensures call_of_searcher { result ≡ CallOfSearcher
+        → seat.new.me ≡ moved R.goes Found seat.old.me }
+    ensures woken { result ≡ Woken
+        → seat.new.me ≡ moved R.goes Searching seat.old.me }
+    ensures park { result ≡ Park
+        → seat.new.me ≡ moved R.goes Parked seat.old.me }
+{
+    if read_mail(shared, workers, seat, worker) {
+        if rise(shared, workers, seat, worker) {
+            return Asleep::Call;
+        }
+        return Asleep::CallOfSearcher;
+    }
+    if check(shared, workers, seat, worker) {
+        return Asleep::Park;
+    }
+    Asleep::Woken
+}

@@ -1,0 +1,4 @@
+pub mod Schedule
+pub mod Words
+pub mod Law
+pub mod Inner
