@@ -1,0 +1,199 @@
+//! Jobs through bounded queues: `lane_peers KIND PRODUCERS CONSUMERS CAPACITY JOBS`.
+//!
+//! A job is a number and a dimension. Each producer puts in JOBS jobs. KIND is `twin` (a lane of CAPACITY for each
+//! producer), `array` (crossbeam's ArrayQueue), `channel` (its bounded channel), or `mutex` (a `Mutex<VecDeque>`), which
+//! are one queue of CAPACITY for all. Who finds a queue full or empty yields. The time from the first put to the last
+//! take is written to standard error, in nanoseconds. Every job must come out once, and at each consumer the jobs of a
+//! producer must come in their order. The number of jobs is written to standard output.
+
+mod twin;
+
+use std::collections::VecDeque;
+use std::sync::Mutex;
+use std::thread;
+use std::time::Instant;
+
+/// A job as a consumer keeps it: its producer, its number there, and its dimension.
+#[derive(Clone, Copy)]
+struct Taken {
+    producer: usize,
+    seq: u64,
+    dim: u32,
+}
+
+/// What all kinds have in common. Each producer and each consumer has a handle of its own.
+trait Queue: Sync {
+    type Producer: Send;
+    type Consumer: Send;
+    fn producer(&self, number: usize) -> Self::Producer;
+    fn consumer(&self, number: usize) -> Self::Consumer;
+    /// Puts a job in, unless there is no room.
+    fn put(&self, producer: &mut Self::Producer, payload: u64, dim: u32) -> bool;
+    fn take(&self, consumer: &mut Self::Consumer) -> Option<(u64, u32)>;
+}
+
+struct Twin {
+    lanes: twin::Lanes,
+    producers: usize,
+    consumers: usize,
+}
+
+impl Queue for Twin {
+    type Producer = twin::Lane;
+    /// The lane at which it begins, which is that of its last job.
+    type Consumer = (usize, twin::Worker);
+
+    fn producer(&self, number: usize) -> twin::Lane {
+        self.lanes.lane(number)
+    }
+
+    fn consumer(&self, number: usize) -> (usize, twin::Worker) {
+        (number * self.producers / self.consumers, self.lanes.worker())
+    }
+
+    fn put(&self, lane: &mut twin::Lane, payload: u64, dim: u32) -> bool {
+        self.lanes.submit(lane, payload, dim).is_ok()
+    }
+
+    fn take(&self, (from, worker): &mut (usize, twin::Worker)) -> Option<(u64, u32)> {
+        let (lane, job) = self.lanes.take_any(worker, *from)?;
+        debug_assert_eq!(job.seq, job.payload & 0xffff_ffff);
+        *from = lane;
+        Some((job.payload, job.dim))
+    }
+}
+
+struct Array(crossbeam_queue::ArrayQueue<(u64, u32)>);
+
+impl Queue for Array {
+    type Producer = ();
+    type Consumer = ();
+    fn producer(&self, _: usize) {}
+    fn consumer(&self, _: usize) {}
+
+    fn put(&self, _: &mut (), payload: u64, dim: u32) -> bool {
+        self.0.push((payload, dim)).is_ok()
+    }
+
+    fn take(&self, _: &mut ()) -> Option<(u64, u32)> {
+        self.0.pop()
+    }
+}
+
+struct Channel(crossbeam_channel::Sender<(u64, u32)>, crossbeam_channel::Receiver<(u64, u32)>);
+
+impl Queue for Channel {
+    type Producer = ();
+    type Consumer = ();
+    fn producer(&self, _: usize) {}
+    fn consumer(&self, _: usize) {}
+
+    fn put(&self, _: &mut (), payload: u64, dim: u32) -> bool {
+        self.0.try_send((payload, dim)).is_ok()
+    }
+
+    fn take(&self, _: &mut ()) -> Option<(u64, u32)> {
+        self.1.try_recv().ok()
+    }
+}
+
+struct Locked(Mutex<VecDeque<(u64, u32)>>, usize);
+
+impl Queue for Locked {
+    type Producer = ();
+    type Consumer = ();
+    fn producer(&self, _: usize) {}
+    fn consumer(&self, _: usize) {}
+
+    fn put(&self, _: &mut (), payload: u64, dim: u32) -> bool {
+        let mut jobs = self.0.lock().unwrap();
+        let has_room = jobs.len() < self.1;
+        if has_room {
+            jobs.push_back((payload, dim));
+        }
+        has_room
+    }
+
+    fn take(&self, _: &mut ()) -> Option<(u64, u32)> {
+        self.0.lock().unwrap().pop_front()
+    }
+}
+
+/// What is to be run: the numbers of the command line.
+#[derive(Clone, Copy)]
+struct Sizes {
+    producers: usize,
+    consumers: usize,
+    capacity: usize,
+    jobs: u64,
+}
+
+fn feed<Q: Queue>(queue: &Q, number: usize, jobs: u64) {
+    let mut producer = queue.producer(number);
+    for seq in 0..jobs {
+        while !queue.put(&mut producer, (number as u64) << 32 | seq, (seq % 8) as u32) {
+            thread::yield_now();
+        }
+    }
+}
+
+fn drain<Q: Queue>(queue: &Q, number: usize, mut all: Vec<Taken>) -> Vec<Taken> {
+    let mut consumer = queue.consumer(number);
+    while all.len() < all.capacity() {
+        match queue.take(&mut consumer) {
+            Some((payload, dim)) => all.push(Taken { producer: (payload >> 32) as usize, seq: payload & 0xffff_ffff, dim }),
+            None => thread::yield_now(),
+        }
+    }
+    all
+}
+
+/// Sees that each job came out once, as it was put in, and in order. Returns the number of jobs.
+fn checked(all: &[Vec<Taken>], sizes: Sizes) -> usize {
+    let mut seen = vec![vec![false; sizes.jobs as usize]; sizes.producers];
+    for taken in all {
+        let mut next = vec![0; sizes.producers];
+        for job in taken {
+            assert!(job.seq >= next[job.producer] && u64::from(job.dim) == job.seq % 8);
+            next[job.producer] = job.seq + 1;
+            assert!(!std::mem::replace(&mut seen[job.producer][job.seq as usize], true));
+        }
+    }
+    all.iter().map(Vec::len).sum()
+}
+
+fn run<Q: Queue>(queue: &Q, sizes: Sizes) {
+    let each = sizes.producers * sizes.jobs as usize / sizes.consumers;
+    let room: Vec<Vec<Taken>> = (0..sizes.consumers).map(|_| Vec::with_capacity(each)).collect();
+    let start = Instant::now();
+    let all: Vec<Vec<Taken>> = thread::scope(|scope| {
+        let consumers: Vec<_> =
+            room.into_iter().enumerate().map(|(number, all)| scope.spawn(move || drain(queue, number, all))).collect();
+        for number in 0..sizes.producers {
+            scope.spawn(move || feed(queue, number, sizes.jobs));
+        }
+        consumers.into_iter().map(|consumer| consumer.join().unwrap()).collect()
+    });
+    let nanos = start.elapsed().as_nanos();
+    println!("{}", checked(&all, sizes));
+    eprintln!("{nanos}");
+}
+
+fn main() {
+    let words: Vec<String> = std::env::args().skip(1).collect();
+    let numbers: Vec<usize> = words[1..].iter().map(|word| word.parse().expect("a number")).collect();
+    let [producers, consumers, capacity, jobs] = numbers[..] else {
+        panic!("four numbers are wanted");
+    };
+    let sizes = Sizes { producers, consumers, capacity, jobs: jobs as u64 };
+    match words[0].as_str() {
+        "twin" => run(&Twin { lanes: twin::Lanes::open(producers, capacity as u64), producers, consumers }, sizes),
+        "array" => run(&Array(crossbeam_queue::ArrayQueue::new(capacity)), sizes),
+        "channel" => {
+            let (sender, receiver) = crossbeam_channel::bounded(capacity);
+            run(&Channel(sender, receiver), sizes);
+        }
+        "mutex" => run(&Locked(Mutex::new(VecDeque::with_capacity(capacity)), sizes.capacity), sizes),
+        kind => panic!("no kind {kind}"),
+    }
+}

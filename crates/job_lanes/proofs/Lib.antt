@@ -1,0 +1,16 @@
+pub mod ListLemmas
+pub mod LayoutLemmas
+pub mod HistoryLemmas
+pub mod WordLemmas
+pub mod NextLemmas
+pub mod LaneSteps
+pub mod WorkerSteps
+pub mod CallLemmas
+pub mod DealLemmas
+pub mod CloseSteps
+pub mod EndLemmas
+pub mod RestLemmas
+pub mod RoundLemmas
+pub mod PoolLemmas
+pub mod AskLemmas
+pub mod LookLemmas

@@ -1,0 +1,32 @@
+use Rattle.std.proofs.Common.{◌+◌, ◌%◌, ◌^◌, subst, ◌<◌, ◌∙◌, sym, refl, ap, arith}
+use Rattle.wake_pool.specs.declared.phase.WakePhase.TheVariants.{Idle}
+use Rattle.job_lanes.specs.Inner.Pool.{known_sat}
+use Rattle.job_lanes.specs.declared.sizes.Plan.{Plan}
+use Rattle.job_lanes.specs.Lanes.{LanesId, WorkerOf}
+use Rattle.job_lanes.specs.Record.{take_of, after_dim_cell}
+use Rattle.job_lanes.specs.Inner.Step.{IsWorker, reads_dim_at}
+use Rattle.job_lanes.proofs.AskLemmas.{asked_read, sleeper_still}
+use Rattle.job_lanes.proofs.WorkerSteps.{moves, read_dim_step}
+use Rattle.job_lanes.specs.Layout.{lane_start, cell_of}
+use Rattle.job_lanes.specs.declared.record.TakeRecord.{TakeRecord}
+use Rattle.job_lanes.proofs.lanes.Lanes.read_dim.Goals as goal
+
+pub load-found-requires : goal.load-found-requires
+load-found-requires c =
+    let m = (known_sat c.worker.inside.seat.me) in
+    let known = ap (λ (x : WorkerOf). take_of c.args.lane x.known) c.worker.view_is in
+    asked_read (λ (p : Plan). IsWorker p c.worker.inside.number c.worker.inside.tails.items m) _ _ _ _ c.worker.inside.seat.id c.word-word.result 0 0 c.worker.inside.seat.me (λ st. reads_dim_at st m)
+    (ap (λ (x : WorkerOf). x.id) c.worker.view_is ∙ c.requires.id) c.self.view_is c.self.invariant.2 c.worker.invariant.0 c.word-word.ensures.inside
+    (λ n is. read_dim_step _ n _ _ _ m is c.args.lane c.requires.lane c.word-word.result c.args.head (subst (λ (p : Plan). 0 < p.sizes.capacity) (ap (λ (x : LanesId). x.plan) c.self.view_is) c.self.invariant.3.some_room) (c.word-word.ensures.word ∙ ap (λ o. lane_start c.args.self.now.plan c.args.lane + (o + 1)) c.cell.ensures.cell) (c.requires.head ∙ sym (ap (λ (t : TakeRecord). t.head) known)) (omega (arith, c.requires.head, c.requires.some, ap (λ (t : TakeRecord). t.head) known, ap (λ (t : TakeRecord). t.tail) known)))
+
+pub invariant_of-worker : goal.invariant_of-worker
+invariant_of-worker c = (
+  (moves c.worker.inside.plan c.args.self.now.plan c.worker.inside.number c.worker.inside.tails.items (known_sat c.worker.inside.seat.me) (known_sat c.load-found.new.seat.me) c.args.worker.now.known c.args.lane c.word-word.result (cell_of c.args.self.now.plan.sizes.capacity c.args.head + 1) c.worker.invariant.0 (ap (λ (x : WorkerOf). x.known) c.worker.view_is) (ap (λ (x : LanesId). x.plan) (ap (λ (x : WorkerOf). x.id) c.worker.view_is ∙ c.requires.id)) c.requires.lane (c.word-word.ensures.word ∙ ap (λ o. lane_start c.args.self.now.plan c.args.lane + (o + 1)) c.cell.ensures.cell) (omega (arith, c.cell.ensures.inside, c.cell.ensures.cell)) (after_dim_cell (c.load-found.result % 2 ^ 32)) refl c.load-found.ensures.2.0).worker,
+  sleeper_still c.worker.inside.plan c.worker.inside.number Idle c.worker.inside.seat.me c.load-found.new.seat.me c.worker.invariant.1 c.load-found.ensures.2.1,
+)
+
+pub returns-clause-only : goal.returns-clause-only
+returns-clause-only c = (moves c.worker.inside.plan c.args.self.now.plan c.worker.inside.number c.worker.inside.tails.items (known_sat c.worker.inside.seat.me) (known_sat c.load-found.new.seat.me) c.args.worker.now.known c.args.lane c.word-word.result (cell_of c.args.self.now.plan.sizes.capacity c.args.head + 1) c.worker.invariant.0 (ap (λ (x : WorkerOf). x.known) c.worker.view_is) (ap (λ (x : LanesId). x.plan) (ap (λ (x : WorkerOf). x.id) c.worker.view_is ∙ c.requires.id)) c.requires.lane (c.word-word.ensures.word ∙ ap (λ o. lane_start c.args.self.now.plan c.args.lane + (o + 1)) c.cell.ensures.cell) (omega (arith, c.cell.ensures.inside, c.cell.ensures.cell)) (after_dim_cell (c.load-found.result % 2 ^ 32)) refl c.load-found.ensures.2.0).only
+
+pub returns-clause-take : goal.returns-clause-take
+returns-clause-take c = (moves c.worker.inside.plan c.args.self.now.plan c.worker.inside.number c.worker.inside.tails.items (known_sat c.worker.inside.seat.me) (known_sat c.load-found.new.seat.me) c.args.worker.now.known c.args.lane c.word-word.result (cell_of c.args.self.now.plan.sizes.capacity c.args.head + 1) c.worker.invariant.0 (ap (λ (x : WorkerOf). x.known) c.worker.view_is) (ap (λ (x : LanesId). x.plan) (ap (λ (x : WorkerOf). x.id) c.worker.view_is ∙ c.requires.id)) c.requires.lane (c.word-word.ensures.word ∙ ap (λ o. lane_start c.args.self.now.plan c.args.lane + (o + 1)) c.cell.ensures.cell) (omega (arith, c.cell.ensures.inside, c.cell.ensures.cell)) (after_dim_cell (c.load-found.result % 2 ^ 32)) refl c.load-found.ensures.2.0).take

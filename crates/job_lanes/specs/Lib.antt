@@ -1,0 +1,10 @@
+pub mod Layout
+pub mod Record
+pub mod History
+pub mod Lanes
+pub mod Run
+pub mod Sleep
+pub mod Inner
+pub use Rattle.wake_pool.specs.Law.{IsServed}
+pub use Rattle.wake_pool.specs.Schedule.{looking, resting, waking}
+pub use Rattle.wake_pool.specs.Words.{word_count, world_of}

@@ -1,0 +1,4 @@
+pub mod TurnLemmas
+pub mod KeepLemmas
+pub mod EndLemmas
+pub mod GainLemmas
