@@ -1,0 +1,5 @@
+mod ageing;
+mod calls;
+mod crowd;
+mod single;
+mod streams;
