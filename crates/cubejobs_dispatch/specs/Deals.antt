@@ -1,0 +1,52 @@
+-- How lanes and workers leave their places and come back.
+use Rattle.std.specs.Prelude.{◌≡◌, ℕ, ◌<◌, ◌⊎◌, Option, Some, None, IsSome, List, length, slice_index_or, slice_set}
+use Rattle.std.specs.Arc.{arc_value}
+use Rattle.cubejobs_dispatch.specs.declared.codes.TheConstants.{DONE, NONE_LEFT, OUT_OF_MEMORY}
+use Rattle.kept_places.specs.declared.kept.KeptLane.{KeptLane}
+use Rattle.kept_places.specs.declared.kept.KeptWorker.{KeptWorker}
+use Rattle.cubejobs_dispatch.specs.declared.owner.Owner.{Owner}
+use Rattle.cubejobs_dispatch.specs.declared.sides.LaneSide.{LaneSide}
+use Rattle.cubejobs_dispatch.specs.declared.sides.WorkerSide.{WorkerSide}
+use Rattle.cubejobs_dispatch.specs.declared.state.State.{State}
+use Rattle.cubejobs_dispatch.specs.declared.state.State.TheVariants.{Lane, Worker}
+use Rattle.kept_places.specs.Places.{AreEmptyBelow}
+
+-- A place is full.
+abbrev pub HasFull : {T : Type 0} → List (Option T) → Type 0
+HasFull places = (i : ℕ) × (i < length places) × IsSome (slice_index_or places i None)
+
+-- The code of a call that takes the content of a place: `NONE_LEFT` exactly if each is empty.
+abbrev pub IsPlaceCode : {T : Type 0} → ℕ → List (Option T) → Type 0
+IsPlaceCode code places = ((code ≡ NONE_LEFT) × AreEmptyBelow (length places) places)
+    ⊎ (HasFull places × ((code ≡ DONE) ⊎ (code ≡ OUT_OF_MEMORY)))
+
+-- The content is a producer: the first lane that was in its place, of the same lanes. Nothing else
+-- has changed.
+pub record HasDealtLane (old new : Owner) (content : Option State) : Type 0 where
+  pub place : ℕ
+  pub kept : KeptLane
+  pub side : LaneSide
+  pub first : AreEmptyBelow place old.lanes.items
+  pub was : slice_index_or old.lanes.items place None ≡ Some kept
+  pub is : content ≡ Some (Lane side)
+  pub lane : side.lane ≡ kept.lane
+  pub share : arc_value side.common ≡ arc_value old.common
+  pub emptied : new.lanes.items ≡ slice_set old.lanes.items place None
+  pub common : arc_value new.common ≡ arc_value old.common
+  pub stage : new.stage ≡ old.stage
+  pub workers : new.workers ≡ old.workers
+
+-- The same of a worker.
+pub record HasDealtWorker (old new : Owner) (content : Option State) : Type 0 where
+  pub place : ℕ
+  pub kept : KeptWorker
+  pub side : WorkerSide
+  pub first : AreEmptyBelow place old.workers.items
+  pub was : slice_index_or old.workers.items place None ≡ Some kept
+  pub is : content ≡ Some (Worker side)
+  pub worker : side.worker ≡ kept.worker
+  pub share : arc_value side.common ≡ arc_value old.common
+  pub emptied : new.workers.items ≡ slice_set old.workers.items place None
+  pub common : arc_value new.common ≡ arc_value old.common
+  pub stage : new.stage ≡ old.stage
+  pub lanes : new.lanes ≡ old.lanes

@@ -1,0 +1,55 @@
+//! Job lanes and the dispatcher of opaque jobs for callers in C and C++, as a static library.
+#![tactic(auto)]
+
+mod answers;
+mod closing;
+mod codes;
+mod common;
+mod dealing;
+mod end_exports;
+mod ending;
+mod handle;
+mod handles;
+mod job_exports;
+mod kinds;
+mod left;
+mod left_exports;
+mod opaque_ptr;
+mod opening;
+mod owner;
+mod owner_exports;
+mod returning;
+mod shop_end_exports;
+mod shop_exports;
+mod sides;
+mod sizes;
+mod stage;
+mod state;
+mod work_answer;
+mod work_exports;
+
+pub use answers::{CloseAnswer, FinishAnswer, JobAnswer, LookAnswer, SubmitAnswer};
+pub use codes::{DONE, OPEN, VERSION};
+pub use end_exports::{
+    cubejobs_lanes_close, cubejobs_lanes_finish, cubejobs_lanes_free_lane,
+    cubejobs_lanes_free_worker,
+};
+pub use handle::Handle;
+pub use job_exports::{
+    cubejobs_lanes_look, cubejobs_lanes_submit, cubejobs_lanes_take, cubejobs_lanes_take_any,
+};
+pub use left_exports::{cubejobs_lanes_free, cubejobs_lanes_rest};
+pub use owner_exports::{cubejobs_lanes_lane, cubejobs_lanes_open_version, cubejobs_lanes_worker};
+pub use shop_end_exports::{
+    cubejobs_dispatch_close, cubejobs_dispatch_finish, cubejobs_dispatch_free,
+    cubejobs_dispatch_free_lane, cubejobs_dispatch_free_worker, cubejobs_dispatch_rest,
+};
+pub use shop_exports::{
+    cubejobs_dispatch_lane, cubejobs_dispatch_open_version, cubejobs_dispatch_worker,
+};
+pub use sizes::LaneSizes;
+pub use work_answer::WorkAnswer;
+pub use work_exports::{
+    cubejobs_dispatch_done, cubejobs_dispatch_give_back, cubejobs_dispatch_next,
+    cubejobs_dispatch_submit,
+};

@@ -1,0 +1,153 @@
+//! The calls of the owner of a dispatcher, under the names that C declares.
+ghost use Rattle.std.specs.Prelude.{◌≡◌, ◌≢◌, ◌<◌, ◌≤◌, ◌⊎◌, None, Some, IsSome, []};
+ghost use Rattle.cube_shape.specs.declared.limits.TheConstants.{MAX_BITMAP_DIM};
+ghost use Rattle.shop_owner.specs.Owners.{IsNew};
+ghost use Rattle.cubejobs_dispatch.specs.Contents.{left_in, On};
+ghost use Rattle.cubejobs_dispatch.specs.Deals.{IsPlaceCode};
+ghost use Rattle.cubejobs_dispatch.specs.Handle.{content_of};
+ghost use Rattle.cubejobs_dispatch.specs.ShopContents.{producer_in, producer_refusal, shop_in, shop_refusal, shop_worker_in, shop_worker_refusal};
+ghost use Rattle.cubejobs_dispatch.specs.Shops.{DealsLane, DealsWorker};
+ghost use Rattle.cubejobs_dispatch.specs.Sizes.{sizes_of, AreInLimits};
+
+use crate::codes::{
+    ALREADY_OPEN, BAD_DIMENSION, BAD_SIZES, BAD_VERSION, DONE, NONE_LEFT, OUT_OF_MEMORY, VERSION,
+};
+use crate::dealing::{filled, room};
+use crate::handle::Handle;
+use crate::sizes::LaneSizes;
+use crate::state::State;
+use cube_shape::MAX_BITMAP_DIM;
+use shop_owner::ShopOwner;
+use std::alloc::Global;
+
+/// Opens a dispatcher of which nothing was asked, with a machine of dimension `dim`. `version` is
+/// that of the caller's header. `number` is another one for each dispatcher of the program.
+#[unsafe(no_mangle)]
+pub extern "C" fn cubejobs_dispatch_open_version(
+    alloc: Global,
+    owner: &mut Handle,
+    version: u32,
+    dim: u32,
+    sizes: LaneSizes,
+    number: u64,
+) -> u32
+    ensures bad_version { version ≢ VERSION → result ≡ BAD_VERSION }
+    ensures already_open { version ≡ VERSION → IsSome (content_of owner.old)
+        → result ≡ ALREADY_OPEN }
+    ensures bad_dimension { version ≡ VERSION → content_of owner.old ≡ None
+        → MAX_BITMAP_DIM < dim → result ≡ BAD_DIMENSION }
+    ensures bad_sizes { version ≡ VERSION → content_of owner.old ≡ None → dim ≤ MAX_BITMAP_DIM
+        → (AreInLimits sizes → ⊥) → result ≡ BAD_SIZES }
+    ensures else_memory { version ≡ VERSION → content_of owner.old ≡ None → dim ≤ MAX_BITMAP_DIM
+        → AreInLimits sizes → (result ≡ DONE) ⊎ (result ≡ OUT_OF_MEMORY) }
+    ensures new { result ≡ DONE
+        → On (IsNew (sizes_of sizes) dim number) (shop_in (content_of owner.new)) }
+    ensures unchanged { result ≢ DONE → owner.new ≡ owner.old }
+{
+    if version != VERSION {
+        return BAD_VERSION;
+    }
+    if owner.is_open() {
+        return ALREADY_OPEN;
+    }
+    if dim > MAX_BITMAP_DIM {
+        return BAD_DIMENSION;
+    }
+    if !sizes.are_in_limits() {
+        return BAD_SIZES;
+    }
+    let Some(room) = room(alloc) else {
+        return OUT_OF_MEMORY;
+    };
+    match ShopOwner::open(alloc, sizes.sizes(), dim, number) {
+        Ok(shop) => {
+            *owner = Handle::of(filled(room, State::Shop(shop)));
+            DONE
+        }
+        Err(_) => OUT_OF_MEMORY,
+    }
+}
+
+/// Gives a producer a handle of the first lane that is in its place.
+#[unsafe(no_mangle)]
+pub extern "C" fn cubejobs_dispatch_lane(
+    alloc: Global,
+    owner: &mut Handle,
+    lane: &mut Handle,
+) -> u32
+    ensures already_open { IsSome (content_of lane.old) → result ≡ ALREADY_OPEN }
+    ensures barred { content_of lane.old ≡ None → shop_refusal (content_of owner.old) ≢ DONE
+        → result ≡ shop_refusal (content_of owner.old) }
+    ensures code { content_of lane.old ≡ None → shop_refusal (content_of owner.old) ≡ DONE
+        → On (λ old. IsPlaceCode result old.lanes.items) (shop_in (content_of owner.old)) }
+    ensures dealt { result ≡ DONE → On (λ old. On (λ new. On (DealsLane old new)
+        (producer_in (content_of lane.new))) (shop_in (content_of owner.new)))
+        (shop_in (content_of owner.old)) }
+    ensures unchanged { result ≢ DONE → (owner.new ≡ owner.old) × (lane.new ≡ lane.old) }
+{
+    if lane.is_open() {
+        return ALREADY_OPEN;
+    }
+    let code = owner.shop_code();
+    if code != DONE {
+        return code;
+    }
+    let State::Shop(shop) = owner.ptr.get_mut() else {
+        unreachable!()
+    };
+    let Some(place) = shop.first_lane() else {
+        return NONE_LEFT;
+    };
+    let Some(room) = room(alloc) else {
+        return OUT_OF_MEMORY;
+    };
+    match shop.deal_lane(place) {
+        Some(producer) => {
+            *lane = Handle::of(filled(room, State::Producer(producer)));
+            DONE
+        }
+        None => OUT_OF_MEMORY,
+    }
+}
+
+/// Gives a worker a handle: the first that is in its place.
+#[unsafe(no_mangle)]
+pub extern "C" fn cubejobs_dispatch_worker(
+    alloc: Global,
+    owner: &mut Handle,
+    worker: &mut Handle,
+) -> u32
+    ensures already_open { IsSome (content_of worker.old) → result ≡ ALREADY_OPEN }
+    ensures barred { content_of worker.old ≡ None → shop_refusal (content_of owner.old) ≢ DONE
+        → result ≡ shop_refusal (content_of owner.old) }
+    ensures code { content_of worker.old ≡ None → shop_refusal (content_of owner.old) ≡ DONE
+        → On (λ old. IsPlaceCode result old.workers.items) (shop_in (content_of owner.old)) }
+    ensures dealt { result ≡ DONE → On (λ old. On (λ new. On (DealsWorker old new)
+        (shop_worker_in (content_of worker.new))) (shop_in (content_of owner.new)))
+        (shop_in (content_of owner.old)) }
+    ensures unchanged { result ≢ DONE → (owner.new ≡ owner.old) × (worker.new ≡ worker.old) }
+{
+    if worker.is_open() {
+        return ALREADY_OPEN;
+    }
+    let code = owner.shop_code();
+    if code != DONE {
+        return code;
+    }
+    let State::Shop(shop) = owner.ptr.get_mut() else {
+        unreachable!()
+    };
+    let Some(place) = shop.first_worker() else {
+        return NONE_LEFT;
+    };
+    let Some(room) = room(alloc) else {
+        return OUT_OF_MEMORY;
+    };
+    match shop.deal_worker(place) {
+        Some(dealt) => {
+            *worker = Handle::of(filled(room, State::ShopWorker(dealt)));
+            DONE
+        }
+        None => OUT_OF_MEMORY,
+    }
+}

@@ -1,0 +1,2 @@
+pub mod CrossLemmas
+mod OpenLemmas

@@ -1,0 +1,10 @@
+pub mod Calls
+pub mod Deals
+pub mod Ending
+pub mod Owners
+pub mod Posts
+pub mod Stages
+pub use Rattle.job_lanes.specs.Lanes.{SubmitKeeps, Submits}
+pub use Rattle.kept_places.specs.Kept.{AreLanes}
+pub use Rattle.kept_places.specs.Places.{AreEmptyBelow}
+pub use Rattle.region_shop.specs.Handles.{shop_of}

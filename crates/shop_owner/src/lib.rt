@@ -1,0 +1,23 @@
+//! A dispatcher of opaque jobs as its handles own it: its owner, producers and workers.
+#![tactic(auto)]
+
+mod calls;
+mod closing;
+mod common;
+mod dealing;
+mod ending;
+mod kept;
+mod opening;
+mod outcome;
+mod owner;
+mod post;
+mod room;
+mod sides;
+mod stage;
+
+pub use common::ShopCommon;
+pub use kept::KeptIdle;
+pub use outcome::{FinishState, GivenBack, NextOutcome, WorkerState};
+pub use owner::ShopOwner;
+pub use post::Post;
+pub use sides::{DispatchWorker, Producer};

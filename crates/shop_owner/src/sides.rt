@@ -1,0 +1,70 @@
+//! A producer and a worker of a dispatcher, each with its share of it.
+ghost use Rattle.std.specs.Prelude.{◌≡◌, ◌<◌};
+ghost use Rattle.std.specs.Arc.{arc_value};
+ghost use Rattle.region_shop.proofs.PropLemmas.{fact_props};
+ghost use Rattle.shop_owner.specs.Posts.{common_shop, IsPostOf};
+
+use crate::common::ShopCommon;
+use crate::post::Post;
+use job_lanes::{Lane, Submitted};
+use std::sync::Arc;
+
+/// The right to submit jobs to one lane.
+pub struct Producer {
+    pub(crate) common: Arc<ShopCommon>,
+    pub(crate) lane: Lane,
+    ghost of_shop: { lane.id ≡ (common_shop (arc_value common)).lanes },
+    ghost inside: { lane.known.number < (common_shop (arc_value common)).lanes.plan.sizes.lanes },
+}
+
+/// A worker, and what it does.
+#[derive(Drop)]
+pub struct DispatchWorker {
+    pub(crate) common: Arc<ShopCommon>,
+    pub(crate) number: u32,
+    pub(crate) post: Post,
+    ghost of_shop: { IsPostOf (common_shop (arc_value common)) post } by { Prim.hlevel fact_props },
+    ghost inside: { number < (common_shop (arc_value common)).lanes.plan.sizes.workers },
+}
+
+impl Producer {
+    ghost use Rattle.std.specs.Prelude.{◌≡◌};
+    ghost use Rattle.std.specs.Arc.{arc_value};
+    ghost use Rattle.job_lanes.specs.Lanes.{SubmitKeeps, Submits};
+    ghost use Rattle.shop_owner.specs.Posts.{common_shop};
+
+    /// Returns the dimension of the machine.
+    #[inline(always)]
+    pub fn dim(&self) -> u32
+        ensures { result ≡ (common_shop (arc_value self.now.common)).dim }
+    {
+        self.common.dim
+    }
+
+    /// Submits a job.
+    #[inline(always)]
+    pub fn submit(&mut self, payload: u64, dim: u32) -> Submitted
+        ensures common { arc_value self.new.common ≡ arc_value self.old.common }
+        ensures known { Submits payload dim self.old.lane.known result self.new.lane.known }
+        ensures keeps { SubmitKeeps self.old.lane.known self.new.lane.known }
+    {
+        self.common
+            .shop()
+            .lanes()
+            .submit(&mut self.lane, payload, dim)
+    }
+
+    /// Returns the lane, and drops the share of the dispatcher.
+    pub fn into_lane(self) -> Lane
+        ensures { result ≡ self.lane }
+    {
+        let Producer { common: _, lane } = self;
+        lane
+    }
+}
+
+impl Drop for Producer {
+    fn drop(self) {
+        self.into_lane().abandon();
+    }
+}

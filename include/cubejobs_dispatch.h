@@ -1,0 +1,487 @@
+/* Bounded queues of jobs (lanes), and a dispatcher over them, for C and C++ programs with threads.
+ * No call waits.
+ *
+ * A job is a number of yours, say a pointer (payload), and the dimension of the block that it
+ * wants. Each producer has a lane, which holds at most `capacity` jobs. Each worker takes from any
+ * lane. A submit or a take makes at most five atomic steps, and takes no lock. Each accepted job is
+ * taken once or is left at the end, in the order of its lane. This is proved for every interleaving
+ * of the calls.
+ *
+ * The dispatcher has lanes and a machine with the processors 0 to 2^dim - 1. A processor is only a
+ * number: a CPU, a page, a rank. A worker gets its next job together with a block of the machine.
+ * For a job of dimension k it is 2^k processors in a row, from a multiple of 2^k on. Blocks of jobs
+ * that run at the same time never overlap. If no block is free, the worker keeps its job. Each
+ * accepted job runs once, is given back once, or is left at the end.
+ *
+ * Handles. The owner of lanes has one handle (struct cubejobs_lanes), each producer one (struct
+ * cubejobs_lane) and each worker one (struct cubejobs_worker). The owner hands them out, and gets
+ * them back before it ends the lanes.
+ *
+ * Memory. A handle is 16 bytes in your memory. Only the calls that open lanes or a dispatcher, or
+ * give out a handle, take memory, by malloc. An open of lanes takes 64 bytes for each job that the
+ * lanes can hold and 320 for each lane. It takes 80 for each worker, 8 for each lane of each
+ * worker, and 512 more. A handle of lanes takes at most 300. All of it is freed when the handles
+ * and the lanes are.
+ *
+ * Linking. Link libcubejobs_dispatch.a. It needs only the C library, and runs on any x86-64.
+ *
+ * Proof. The functions are proved to do what this header says. Some of it is only tested: when
+ * memory is taken and freed, that OUT_OF_MEMORY means so, and that STILL_SHARED never comes. No
+ * theorem is about the inline functions, or says that submit and take order the plain memory that a
+ * payload points to.
+ *
+ * Nothing checks the caller's duties:
+ *
+ *   1. Pass pointers to whole handles, never null, and different ones in one call.
+ *   2. Zero a handle before its first use, then leave it to these functions; you may move it, and
+ *      never pass the copy left behind.
+ *   3. Make one call at a time with a handle; pass it to another thread by a lock, a start or join,
+ *      or a SeqCst atomic.
+ *   4. Make no call from a signal handler, or in the child of a fork of a process with threads.
+ *   5. Let malloc and free belong to one allocator.
+ *
+ * Everything else is checked. A refused call returns a code and changes nothing that you can see.
+ *
+ * OTHER_LANES compares numbers of lanes. They come from one counter of the program,
+ * cubejobs_lanes_opened. If a shared object has a counter of its own, do not use its lanes with
+ * owners of others.
+ *
+ * Speed. Each call writes to its handle, so keep those of two threads in different cache lines.
+ */
+#ifndef CUBEJOBS_DISPATCH_H
+#define CUBEJOBS_DISPATCH_H
+
+#include <stdint.h>
+
+#if defined(__cplusplus) || (defined(__STDC_VERSION__) && __STDC_VERSION__ >= 199901L)
+#define CUBEJOBS_DISPATCH_INLINE static inline
+#else
+#define CUBEJOBS_DISPATCH_INLINE static __inline__
+#endif
+
+#ifdef __cplusplus
+extern "C" {
+#endif
+
+/* The most lanes, the most workers, and the most jobs that a lane holds. */
+#define CUBEJOBS_LANES_MAX_LANES 4096
+#define CUBEJOBS_LANES_MAX_WORKERS 4096
+#define CUBEJOBS_LANES_MAX_CAPACITY 1024
+
+/* The version of this header. A library of another version refuses to open lanes. */
+#define CUBEJOBS_DISPATCH_VERSION 1
+
+/* The codes that calls return. If several apply, it is the first of those that the comment of the
+ * call lists. The library of regions has the other numbers. */
+enum cubejobs_dispatch_code {
+    CUBEJOBS_DISPATCH_DONE = 0,           /* The call succeeded. */
+    CUBEJOBS_DISPATCH_BAD_DIMENSION = 3,  /* The dimension is above that of the machine. */
+    CUBEJOBS_DISPATCH_OUT_OF_MEMORY = 11, /* Memory ran out. */
+    CUBEJOBS_DISPATCH_NOT_OPEN = 12,      /* The handle is shut. */
+    CUBEJOBS_DISPATCH_OTHER_KIND = 13,    /* The handle is of another kind. */
+    CUBEJOBS_DISPATCH_ALREADY_OPEN = 14,  /* The handle that is to be opened is open. */
+    CUBEJOBS_DISPATCH_BAD_VERSION = 15,   /* This header is not of the library's version. */
+    CUBEJOBS_DISPATCH_FULL = 16,          /* The lane has as many jobs as its capacity. */
+    CUBEJOBS_DISPATCH_CLOSED = 17,        /* The lanes are closed. */
+    CUBEJOBS_DISPATCH_SPENT = 18,         /* The lane has accepted 2^62 jobs. */
+    CUBEJOBS_DISPATCH_EMPTY = 19,         /* There is no job. */
+    CUBEJOBS_DISPATCH_LOST = 20,          /* Another worker took the job. */
+    CUBEJOBS_DISPATCH_ENDED = 21,         /* There is no job, and none will come. */
+    CUBEJOBS_DISPATCH_BAD_LANE = 22,      /* There is no lane with this number. */
+    CUBEJOBS_DISPATCH_BAD_SIZES = 23,     /* A size of the lanes is out of range. */
+    CUBEJOBS_DISPATCH_FINISHED = 24,      /* The lanes have ended. */
+    CUBEJOBS_DISPATCH_NOT_FINISHED = 25,  /* The lanes have not ended. */
+    CUBEJOBS_DISPATCH_NOT_CLOSED = 26,    /* The lanes are open. */
+    CUBEJOBS_DISPATCH_LANE_OUT = 27,      /* A lane is not back. */
+    CUBEJOBS_DISPATCH_WORKER_OUT = 28,    /* A worker is not back. */
+    CUBEJOBS_DISPATCH_NONE_LEFT = 29,     /* All lanes, or all workers, are out. */
+    CUBEJOBS_DISPATCH_OTHER_LANES = 30,   /* The handle is one of other lanes. */
+    CUBEJOBS_DISPATCH_JOB_LEFT = 31,      /* A job is left. */
+    CUBEJOBS_DISPATCH_STILL_SHARED = 32,  /* Another call uses the lanes. */
+    CUBEJOBS_DISPATCH_NO_REGION = 33,     /* No block was found for the worker's job. */
+    CUBEJOBS_DISPATCH_OLDER_JOB = 34,     /* An older job waits for a block. */
+    CUBEJOBS_DISPATCH_TOO_LARGE = 35,     /* The job that the worker keeps is too large. */
+    CUBEJOBS_DISPATCH_RUNS_JOB = 36,      /* The worker runs a job. */
+    CUBEJOBS_DISPATCH_KEEPS_JOB = 37,     /* The worker keeps a job. */
+    CUBEJOBS_DISPATCH_NOTHING_KEPT = 38,  /* The worker keeps no job. */
+    CUBEJOBS_DISPATCH_NOTHING_RUN = 39    /* The worker runs no job. */
+};
+
+/* The handles. Only the library reads or writes them. */
+struct cubejobs_lanes {
+    uint64_t tag;
+    void *at;
+};
+struct cubejobs_lane {
+    uint64_t tag;
+    void *at;
+};
+struct cubejobs_worker {
+    uint64_t tag;
+    void *at;
+};
+
+struct cubejobs_dispatch {
+    uint64_t tag;
+    void *at;
+};
+struct cubejobs_shop_lane {
+    uint64_t tag;
+    void *at;
+};
+struct cubejobs_shop_worker {
+    uint64_t tag;
+    void *at;
+};
+
+/* The number of lanes and of workers, and the number of jobs that a lane holds. */
+struct cubejobs_lane_sizes {
+    uint32_t lanes;
+    uint32_t workers;
+    uint64_t capacity;
+};
+
+/* The result of a submit: if the code is CUBEJOBS_DISPATCH_DONE, the number of the job in its lane,
+ * from 0 on. */
+struct cubejobs_submit_answer {
+    uint32_t code;
+    uint64_t seq;
+};
+
+/* The result of a call about a job. All is 0 unless the code is CUBEJOBS_DISPATCH_DONE.
+ *   - left: the number of jobs after it in its lane that the worker knows of. In a rest it is the
+ *     number of jobs that are left in all lanes. */
+struct cubejobs_job_answer {
+    uint32_t code;
+    uint32_t lane;
+    uint32_t dim;
+    uint64_t seq;
+    uint64_t payload;
+    uint64_t left;
+};
+
+/* The result of a look: the number of jobs in the lane that the worker knows of. */
+struct cubejobs_look_answer {
+    uint32_t code;
+    uint64_t jobs;
+};
+
+/* The result of a close: the number of jobs that all lanes have accepted, or 2^64 - 1 if there are
+ * more. */
+struct cubejobs_close_answer {
+    uint32_t code;
+    uint64_t accepted;
+};
+
+/* The result of a finish: with CUBEJOBS_DISPATCH_LANE_OUT and CUBEJOBS_DISPATCH_WORKER_OUT the
+ * first lane or worker that is not back, else 0. */
+struct cubejobs_finish_answer {
+    uint32_t code;
+    uint32_t number;
+};
+
+/* Below, each comment lists the codes of its call without CUBEJOBS_DISPATCH_, in the order in which
+ * the call checks them. */
+
+/* Does what cubejobs_lanes_open does, which calls it with the version of this header and with a
+ * number that no other lanes of the program have. OTHER_LANES goes by this number. */
+uint32_t cubejobs_lanes_open_version(struct cubejobs_lanes *owner, uint32_t version, struct cubejobs_lane_sizes sizes,
+                                     uint64_t number);
+
+/* The number of the last lanes, the same in all files of a program. */
+__attribute__((weak)) uint64_t cubejobs_lanes_opened;
+
+/* Opens lanes with no job, of which no handle is out. There are 1 to 4,096 lanes and as many
+ * workers, and each lane holds 1 to 1,024 jobs. Codes: BAD_VERSION, ALREADY_OPEN, BAD_SIZES,
+ * OUT_OF_MEMORY, DONE. */
+CUBEJOBS_DISPATCH_INLINE uint32_t cubejobs_lanes_open(struct cubejobs_lanes *owner, uint32_t lanes, uint32_t workers,
+                                                      uint64_t capacity) {
+    struct cubejobs_lane_sizes sizes;
+    sizes.lanes = lanes;
+    sizes.workers = workers;
+    sizes.capacity = capacity;
+    return cubejobs_lanes_open_version(owner, CUBEJOBS_DISPATCH_VERSION, sizes,
+                                       __atomic_add_fetch(&cubejobs_lanes_opened, 1, __ATOMIC_SEQ_CST));
+}
+
+/* Gives a producer a handle: that of the first lane which is not out. Codes: ALREADY_OPEN (the
+ * lane), NOT_OPEN, OTHER_KIND, FINISHED, NONE_LEFT, OUT_OF_MEMORY, DONE. */
+uint32_t cubejobs_lanes_lane(struct cubejobs_lanes *owner, struct cubejobs_lane *lane);
+
+/* Gives a worker a handle: that of the first worker which is not out. Codes: ALREADY_OPEN (the
+ * worker), NOT_OPEN, OTHER_KIND, FINISHED, NONE_LEFT, OUT_OF_MEMORY, DONE. */
+uint32_t cubejobs_lanes_worker(struct cubejobs_lanes *owner, struct cubejobs_worker *worker);
+
+/* Submits a job. With FULL the lane had `capacity` jobs that were not taken. Codes: NOT_OPEN,
+ * OTHER_KIND, CLOSED, SPENT, FULL, DONE. A close that comes during the call may give CLOSED too. */
+struct cubejobs_submit_answer cubejobs_lanes_submit(struct cubejobs_lane *lane, uint64_t payload, uint32_t dim);
+
+/* Takes the first job of a lane. With EMPTY and ENDED the lane had none at a moment of the call.
+ * Codes: NOT_OPEN, OTHER_KIND, BAD_LANE, EMPTY, ENDED, LOST (another worker took it), DONE. */
+struct cubejobs_job_answer cubejobs_lanes_take(struct cubejobs_worker *worker, uint32_t lane);
+
+/* Goes round all lanes, from lane `from` on, and takes the first job that it can. Codes: NOT_OPEN,
+ * OTHER_KIND, BAD_LANE, EMPTY (none, or other workers took it), ENDED (none in any lane), DONE. */
+struct cubejobs_job_answer cubejobs_lanes_take_any(struct cubejobs_worker *worker, uint32_t from);
+
+/* Looks for a job in a lane, without taking it. Codes: NOT_OPEN, OTHER_KIND, BAD_LANE, EMPTY,
+ * ENDED, DONE. */
+struct cubejobs_look_answer cubejobs_lanes_look(struct cubejobs_worker *worker, uint32_t lane);
+
+/* Closes all lanes, one after another. A lane accepts no job after its close. Codes: NOT_OPEN,
+ * OTHER_KIND, FINISHED, CLOSED (already), DONE. */
+struct cubejobs_close_answer cubejobs_lanes_close(struct cubejobs_lanes *owner);
+
+/* Takes a producer's lane back, and shuts the producer's handle. Codes: NOT_OPEN (either),
+ * OTHER_KIND (either), FINISHED, OTHER_LANES, DONE. Those of the owner come first. */
+uint32_t cubejobs_lanes_free_lane(struct cubejobs_lanes *owner, struct cubejobs_lane *lane);
+
+/* Takes a worker back, and shuts its handle. The same codes. */
+uint32_t cubejobs_lanes_free_worker(struct cubejobs_lanes *owner, struct cubejobs_worker *worker);
+
+/* Ends closed lanes, once all lanes and all workers are back. Then the handle has the jobs that no
+ * worker took. Codes: NOT_OPEN, OTHER_KIND, FINISHED, NOT_CLOSED, LANE_OUT, WORKER_OUT,
+ * STILL_SHARED, DONE. */
+struct cubejobs_finish_answer cubejobs_lanes_finish(struct cubejobs_lanes *owner);
+
+/* Returns the first job that is left, and removes it. They are in the order of the lanes, and in
+ * that of each lane. Codes: NOT_OPEN, OTHER_KIND, NOT_FINISHED, EMPTY, DONE. */
+struct cubejobs_job_answer cubejobs_lanes_rest(struct cubejobs_lanes *owner);
+
+/* Frees ended lanes of which no job is left, and shuts the handle. Codes: NOT_OPEN, OTHER_KIND,
+ * NOT_FINISHED, JOB_LEFT, DONE. */
+uint32_t cubejobs_lanes_free(struct cubejobs_lanes *owner);
+
+/* The result of a call for a worker's job. All is 0 unless the code is CUBEJOBS_DISPATCH_DONE. Then
+ * the job runs on the 2^dim processors from base on. */
+struct cubejobs_work_answer {
+    uint32_t code;
+    uint32_t lane;
+    uint32_t dim;
+    uint64_t base;
+    uint64_t seq;
+    uint64_t payload;
+};
+
+/* Does what cubejobs_dispatch_open does, as cubejobs_lanes_open_version does it for lanes. */
+uint32_t cubejobs_dispatch_open_version(struct cubejobs_dispatch *owner, uint32_t version, uint32_t dim,
+                                        struct cubejobs_lane_sizes sizes, uint64_t number);
+
+/* Opens a dispatcher with a machine of dimension `dim`, at most 20, and with lanes as
+ * cubejobs_lanes_open does. Codes: BAD_VERSION, ALREADY_OPEN, BAD_DIMENSION, BAD_SIZES,
+ * OUT_OF_MEMORY, DONE. */
+CUBEJOBS_DISPATCH_INLINE uint32_t cubejobs_dispatch_open(struct cubejobs_dispatch *owner, uint32_t dim, uint32_t lanes,
+                                                         uint32_t workers, uint64_t capacity) {
+    struct cubejobs_lane_sizes sizes;
+    sizes.lanes = lanes;
+    sizes.workers = workers;
+    sizes.capacity = capacity;
+    return cubejobs_dispatch_open_version(owner, CUBEJOBS_DISPATCH_VERSION, dim, sizes,
+                                          __atomic_add_fetch(&cubejobs_lanes_opened, 1, __ATOMIC_SEQ_CST));
+}
+
+/* Give a producer or a worker a handle, as cubejobs_lanes_lane and cubejobs_lanes_worker do. */
+uint32_t cubejobs_dispatch_lane(struct cubejobs_dispatch *owner, struct cubejobs_shop_lane *lane);
+uint32_t cubejobs_dispatch_worker(struct cubejobs_dispatch *owner, struct cubejobs_shop_worker *worker);
+
+/* Submits a job. Codes: NOT_OPEN, OTHER_KIND, BAD_DIMENSION, CLOSED, SPENT, FULL, DONE. */
+struct cubejobs_submit_answer cubejobs_dispatch_submit(struct cubejobs_shop_lane *lane, uint64_t payload,
+                                                       uint32_t dim);
+
+/* Takes the next job of a worker, or the one that it keeps, with a block. With NO_REGION the worker
+ * keeps the job, and the next call tries again. Then call again soon: an older job reserves the
+ * machine, and others get OLDER_JOB. Codes: NOT_OPEN, OTHER_KIND, RUNS_JOB, OLDER_JOB, EMPTY,
+ * ENDED, TOO_LARGE, NO_REGION, DONE. */
+struct cubejobs_work_answer cubejobs_dispatch_next(struct cubejobs_shop_worker *worker);
+
+/* Releases the block of the job that a worker runs. Codes: NOT_OPEN, OTHER_KIND, NOTHING_RUN,
+ * DONE. */
+uint32_t cubejobs_dispatch_done(struct cubejobs_shop_worker *worker);
+
+/* Gives back the job that a worker keeps. Its base is 0. Codes: NOT_OPEN, OTHER_KIND, RUNS_JOB,
+ * NOTHING_KEPT, DONE. */
+struct cubejobs_work_answer cubejobs_dispatch_give_back(struct cubejobs_shop_worker *worker);
+
+/* Close all lanes, and take a lane or a worker back, as the calls of lanes do. A worker has two
+ * codes more, before OTHER_LANES: KEEPS_JOB and RUNS_JOB. */
+struct cubejobs_close_answer cubejobs_dispatch_close(struct cubejobs_dispatch *owner);
+uint32_t cubejobs_dispatch_free_lane(struct cubejobs_dispatch *owner, struct cubejobs_shop_lane *lane);
+uint32_t cubejobs_dispatch_free_worker(struct cubejobs_dispatch *owner, struct cubejobs_shop_worker *worker);
+
+/* End a closed dispatcher, return the jobs that no worker took, and free it, as the calls of lanes
+ * do. All lanes and workers must be back. */
+struct cubejobs_finish_answer cubejobs_dispatch_finish(struct cubejobs_dispatch *owner);
+struct cubejobs_job_answer cubejobs_dispatch_rest(struct cubejobs_dispatch *owner);
+uint32_t cubejobs_dispatch_free(struct cubejobs_dispatch *owner);
+
+/* Returns what a code of this library or of the library of regions means, or that they have no such
+ * code. Both headers have this function, with the same text. */
+#ifndef CUBEJOBS_CODE_TEXT
+#define CUBEJOBS_CODE_TEXT
+CUBEJOBS_DISPATCH_INLINE const char *cubejobs_code_text(uint32_t code) {
+    switch (code) {
+    case 0: return "the call succeeded";
+    case 1: return "a part of each block of this dimension was in use";
+    case 2: return "no block was found, and one may be free";
+    case 3: return "the dimension is above that of the machine";
+    case 4: return "no block of this dimension begins at this processor";
+    case 5: return "a part of the block was in use";
+    case 6: return "the handle of the block holds nothing";
+    case 7: return "the handle that is to be filled holds a block";
+    case 8: return "the block is of another machine";
+    case 9: return "the two are not the two halves of a block";
+    case 10: return "a block is held, and this is the last handle";
+    case 11: return "memory ran out";
+    case 12: return "the handle is shut";
+    case 13: return "the handle is of another kind";
+    case 14: return "the handle that is to be opened is open";
+    case 15: return "the header is not of the library's version";
+    case 16: return "the lane has as many jobs as its capacity";
+    case 17: return "the lanes are closed";
+    case 18: return "the lane has accepted 2^62 jobs";
+    case 19: return "there is no job";
+    case 20: return "another worker took the job";
+    case 21: return "there is no job, and none will come";
+    case 22: return "there is no lane with this number";
+    case 23: return "a size of the lanes is out of range";
+    case 24: return "the lanes have ended";
+    case 25: return "the lanes have not ended";
+    case 26: return "the lanes are open";
+    case 27: return "a lane is not back";
+    case 28: return "a worker is not back";
+    case 29: return "all lanes, or all workers, are out";
+    case 30: return "the handle is one of other lanes";
+    case 31: return "a job is left";
+    case 32: return "another call uses the lanes";
+    case 33: return "no block was found for the job that the worker keeps";
+    case 34: return "no block was taken, since an older job waits for one";
+    case 35: return "the job that the worker keeps is larger than the machine";
+    case 36: return "the worker runs a job";
+    case 37: return "the worker keeps a job";
+    case 38: return "the worker keeps no job";
+    case 39: return "the worker runs no job";
+    default: return "the libraries have no such code";
+    }
+}
+#endif
+
+/* The library is not compiled for a sanitizer, so this part informs three of them. ThreadSanitizer
+ * and, if CUBEJOBS_HELGRIND is defined, Helgrind do not see the library's atomics. Here a take
+ * acquires what the submit of its payload released. MemorySanitizer does not see what the library
+ * writes. Here each result is initialised. Without these three this part is empty. */
+#if defined(__SANITIZE_THREAD__)
+#define CUBEJOBS_DISPATCH_TSAN 1
+#elif defined(__has_feature)
+#if __has_feature(thread_sanitizer)
+#define CUBEJOBS_DISPATCH_TSAN 1
+#endif
+#if __has_feature(memory_sanitizer)
+#define CUBEJOBS_DISPATCH_WRITES 1
+#endif
+#endif
+#if defined(CUBEJOBS_DISPATCH_TSAN)
+void __tsan_acquire(void *address);
+void __tsan_release(void *address);
+#define CUBEJOBS_DISPATCH_ACQUIRE(address) __tsan_acquire(address)
+#define CUBEJOBS_DISPATCH_RELEASE(address) __tsan_release(address)
+#elif defined(CUBEJOBS_HELGRIND)
+#include <valgrind/helgrind.h>
+#define CUBEJOBS_DISPATCH_ACQUIRE(address) ANNOTATE_HAPPENS_AFTER(address)
+#define CUBEJOBS_DISPATCH_RELEASE(address) ANNOTATE_HAPPENS_BEFORE(address)
+#elif defined(CUBEJOBS_DISPATCH_WRITES)
+void __msan_unpoison(const volatile void *address, __SIZE_TYPE__ size);
+#endif
+#if defined(CUBEJOBS_DISPATCH_ACQUIRE)
+/* A byte for the payloads of each remainder, the same in all files of a program. */
+__attribute__((weak)) char cubejobs_lanes_order[4093];
+__attribute__((weak)) char cubejobs_dispatch_done_order;
+#define CUBEJOBS_DISPATCH_ORDER(payload) (&cubejobs_lanes_order[(payload) % sizeof cubejobs_lanes_order])
+#define CUBEJOBS_DISPATCH_BEFORE(payload) CUBEJOBS_DISPATCH_RELEASE(CUBEJOBS_DISPATCH_ORDER(payload))
+#define CUBEJOBS_DISPATCH_AFTER(answer) \
+    do { \
+        if ((answer).code == CUBEJOBS_DISPATCH_DONE) CUBEJOBS_DISPATCH_ACQUIRE(CUBEJOBS_DISPATCH_ORDER((answer).payload)); \
+    } while (0)
+#elif defined(CUBEJOBS_DISPATCH_WRITES)
+#define CUBEJOBS_DISPATCH_BEFORE(payload) ((void)(payload))
+#define CUBEJOBS_DISPATCH_AFTER(answer) __msan_unpoison(&(answer), sizeof(answer))
+#endif
+#ifdef CUBEJOBS_DISPATCH_AFTER
+CUBEJOBS_DISPATCH_INLINE struct cubejobs_submit_answer cubejobs_lanes_submit_seen(struct cubejobs_lane *lane,
+                                                                                  uint64_t payload, uint32_t dim) {
+    CUBEJOBS_DISPATCH_BEFORE(payload);
+    return cubejobs_lanes_submit(lane, payload, dim);
+}
+
+CUBEJOBS_DISPATCH_INLINE struct cubejobs_job_answer cubejobs_lanes_take_seen(struct cubejobs_worker *worker,
+                                                                             uint32_t lane) {
+    struct cubejobs_job_answer answer = cubejobs_lanes_take(worker, lane);
+    CUBEJOBS_DISPATCH_AFTER(answer);
+    return answer;
+}
+
+CUBEJOBS_DISPATCH_INLINE struct cubejobs_job_answer cubejobs_lanes_take_any_seen(struct cubejobs_worker *worker,
+                                                                                 uint32_t from) {
+    struct cubejobs_job_answer answer = cubejobs_lanes_take_any(worker, from);
+    CUBEJOBS_DISPATCH_AFTER(answer);
+    return answer;
+}
+
+CUBEJOBS_DISPATCH_INLINE struct cubejobs_job_answer cubejobs_lanes_rest_seen(struct cubejobs_lanes *owner) {
+    struct cubejobs_job_answer answer = cubejobs_lanes_rest(owner);
+    CUBEJOBS_DISPATCH_AFTER(answer);
+    return answer;
+}
+
+CUBEJOBS_DISPATCH_INLINE struct cubejobs_submit_answer cubejobs_dispatch_submit_seen(
+    struct cubejobs_shop_lane *lane, uint64_t payload, uint32_t dim) {
+    CUBEJOBS_DISPATCH_BEFORE(payload);
+    return cubejobs_dispatch_submit(lane, payload, dim);
+}
+
+/* Each job is ordered after each `done` before its `next`, whatever their blocks are. */
+CUBEJOBS_DISPATCH_INLINE struct cubejobs_work_answer cubejobs_dispatch_next_seen(
+    struct cubejobs_shop_worker *worker) {
+    struct cubejobs_work_answer answer = cubejobs_dispatch_next(worker);
+    CUBEJOBS_DISPATCH_AFTER(answer);
+#ifdef CUBEJOBS_DISPATCH_ACQUIRE
+    CUBEJOBS_DISPATCH_ACQUIRE(&cubejobs_dispatch_done_order);
+#endif
+    return answer;
+}
+
+CUBEJOBS_DISPATCH_INLINE uint32_t cubejobs_dispatch_done_seen(struct cubejobs_shop_worker *worker) {
+#ifdef CUBEJOBS_DISPATCH_RELEASE
+    CUBEJOBS_DISPATCH_RELEASE(&cubejobs_dispatch_done_order);
+#endif
+    return cubejobs_dispatch_done(worker);
+}
+
+CUBEJOBS_DISPATCH_INLINE struct cubejobs_work_answer cubejobs_dispatch_give_back_seen(
+    struct cubejobs_shop_worker *worker) {
+    struct cubejobs_work_answer answer = cubejobs_dispatch_give_back(worker);
+    CUBEJOBS_DISPATCH_AFTER(answer);
+    return answer;
+}
+
+CUBEJOBS_DISPATCH_INLINE struct cubejobs_job_answer cubejobs_dispatch_rest_seen(struct cubejobs_dispatch *owner) {
+    struct cubejobs_job_answer answer = cubejobs_dispatch_rest(owner);
+    CUBEJOBS_DISPATCH_AFTER(answer);
+    return answer;
+}
+
+#define cubejobs_dispatch_give_back cubejobs_dispatch_give_back_seen
+#define cubejobs_dispatch_rest cubejobs_dispatch_rest_seen
+#define cubejobs_dispatch_submit cubejobs_dispatch_submit_seen
+#define cubejobs_dispatch_next cubejobs_dispatch_next_seen
+#define cubejobs_dispatch_done cubejobs_dispatch_done_seen
+#define cubejobs_lanes_submit cubejobs_lanes_submit_seen
+#define cubejobs_lanes_take cubejobs_lanes_take_seen
+#define cubejobs_lanes_take_any cubejobs_lanes_take_any_seen
+#define cubejobs_lanes_rest cubejobs_lanes_rest_seen
+#endif
+
+#ifdef __cplusplus
+}
+#endif
+
+#endif
