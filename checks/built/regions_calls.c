@@ -1,10 +1,13 @@
 /* Calls the library of regions from C or C++: each code where it must come, handles that are shut, foreign or of the
- * wrong kind, random calls beside a plain model, and then eight threads with a table of counters by processor, and plain
- * memory that blocks guard. Each thread makes `regions_calls PAIRS` takes, and releases blocks of its own and of others.
- * With UNGUARDED a thread writes to the memory of a processor that it has given back, which a sanitizer must see. */
+ * wrong kind, random calls beside a plain model, where searches begin, and then eight threads with a table of counters
+ * by processor, and plain memory that blocks guard. With `regions_calls PAIRS [SECONDS [LARGEST]]` each thread makes
+ * PAIRS takes or, if SECONDS is not 0, takes for that time. It takes blocks up to dimension LARGEST, and releases its own
+ * and those of others. With UNGUARDED a thread writes to the memory of a processor that it has given back, which a
+ * sanitizer must see. */
 #include "cubejobs_regions.h"
 
 #include <pthread.h>
+#include <time.h>
 
 #include "calls.h"
 
@@ -19,6 +22,7 @@
 static unsigned counters[PROCESSORS];
 static unsigned long plain[PROCESSORS];
 static unsigned long pairs = 20000;
+static unsigned seconds, largest = CROWD_DIM;
 
 static void want(int line, uint64_t got, uint64_t wanted) {
     if (got != wanted) fprintf(stderr, "%llu, and not %llu\n", (unsigned long long)got, (unsigned long long)wanted);
@@ -174,6 +178,23 @@ static void blocks(void) {
     IS(cubejobs_regions_free(&other), DONE);
 }
 
+/* The handles of a machine begin their searches in 16 cache lines near its front, where a word is open. A take and a
+ * release write to none of them. */
+static void starts(void) {
+    static struct cubejobs_regions made[18], before[18];
+    static struct cubejobs_block first[16], next[18];
+    unsigned i;
+    IS(cubejobs_regions_open(&made[0], MAX_DIM), DONE);
+    for (i = 1; i < 18; i++) IS(cubejobs_regions_share(&made[0], &made[i]), DONE);
+    memcpy(before, made, sizeof made);
+    for (i = 0; i < 16; i++) GIVES(cubejobs_regions_take_at(&made[0], &first[i], 512 * i, 0), 0, 512 * i);
+    for (i = 0; i < 18; i++) GIVES(cubejobs_regions_take(&made[i], &next[i], 0), 0, 512 * (i % 16) + 1 + i / 16);
+    for (i = 0; i < 16; i++) IS(cubejobs_regions_release(&made[i + 1], &first[i]), DONE);
+    for (i = 0; i < 18; i++) IS(cubejobs_regions_release(&made[17 - i], &next[i]), DONE);
+    WANT(memcmp(before, made, sizeof made), 0);
+    for (i = 0; i < 18; i++) IS(cubejobs_regions_free(&made[i]), DONE);
+}
+
 /* Of each processor 0 if it is free, and else the number of its block, plus 1. */
 static unsigned char owner[1 << MODEL_DIM];
 
@@ -293,7 +314,7 @@ static struct place {
 struct worker {
     struct cubejobs_regions thread;
     uint64_t seed;
-    unsigned long expected;
+    unsigned long expected, done;
     unsigned overlaps, wrong;
 };
 
@@ -342,13 +363,20 @@ static void end(struct worker *own, struct cubejobs_block *block, uint64_t x) {
     if (cubejobs_regions_release(&own->thread, block) != CUBEJOBS_REGIONS_NOTHING_HELD) own->wrong++;
 }
 
+/* Returns whether a thread has made enough takes. It reads the clock once in 1,024 of them. */
+static bool is_over(unsigned long done, time_t end) {
+    if (!seconds) return done >= pairs;
+    return done % 1024 == 0 && time(0) >= end;
+}
+
 static void *work(void *argument) {
     struct worker *own = (struct worker *)argument;
+    time_t end_of_time = time(0) + (time_t)seconds;
     unsigned long done;
-    for (done = 0; done < pairs;) {
+    for (done = 0; !is_over(done, end_of_time);) {
         struct cubejobs_block block = none();
         uint64_t x = next(&own->seed);
-        uint32_t k = (uint32_t)(x % (CROWD_DIM + 1));
+        uint32_t k = (uint32_t)(x % (largest + 1));
         struct cubejobs_regions_answer a = take(own, &block, x, k);
         if (a.code) {
             unsigned is_refusal = a.code == CUBEJOBS_REGIONS_NO_ROOM || a.code == CUBEJOBS_REGIONS_NOT_NOW ||
@@ -367,14 +395,16 @@ static void *work(void *argument) {
         done++;
     }
     if (cubejobs_regions_free(&own->thread)) own->wrong++;
+    own->done = done;
     return 0;
 }
 
-static void threads(void) {
+/* Returns the number of takes that the threads made, granted or not. */
+static unsigned long threads(void) {
     static struct cubejobs_regions mine;
     static struct worker workers[THREADS];
     pthread_t ids[THREADS];
-    unsigned long sum = 0, expected = 0;
+    unsigned long sum = 0, expected = 0, takes = 0;
     unsigned i, p;
     IS(cubejobs_regions_open(&mine, CROWD_DIM), DONE);
     for (i = 0; i < THREADS; i++) {
@@ -389,6 +419,7 @@ static void threads(void) {
         WANT(workers[i].wrong, 0);
         WANT(workers[i].overlaps, 0);
         expected += workers[i].expected;
+        takes += workers[i].done;
     }
     for (p = 0; p < PROCESSORS; p++) sum += plain[p];
     WANT(sum, expected);
@@ -397,6 +428,7 @@ static void threads(void) {
             IS(cubejobs_regions_release(&mine, &places[i].block), DONE);
     WANT(cubejobs_regions_occupancy(&mine).held, 0);
     IS(cubejobs_regions_free(&mine), DONE);
+    return takes;
 }
 
 static void texts(void) {
@@ -407,18 +439,23 @@ static void texts(void) {
 }
 
 int main(int argc, char **argv) {
+    unsigned long takes;
     if (argc > 1) pairs = strtoul(argv[1], 0, 10);
+    if (argc > 2) seconds = (unsigned)strtoul(argv[2], 0, 10);
+    if (argc > 3) largest = (unsigned)strtoul(argv[3], 0, 10);
+    expect(largest <= CROWD_DIM, "LARGEST is at most the dimension of the machine");
     texts();
     handles();
     blocks();
     model(pairs < 4000 ? pairs : 4000);
-    threads();
-    printf("ffi: the regions from %s, %u threads, %lu takes and releases each: no overlap, no update lost\n",
+    starts();
+    takes = threads();
+    printf("ffi: the regions from %s, %u threads, %lu takes with their releases: no overlap, no update lost\n",
 #ifdef __cplusplus
            "C++",
 #else
            "C",
 #endif
-           THREADS, pairs);
+           THREADS, takes);
     return 0;
 }

@@ -23,6 +23,7 @@ RELEASE = path("release", "linux-x86_64")
 FILES = {
     "cubejobs": "crates/jobs_cli/out/jobs_cli",
     "libcubejobs_c.a": "out/libcubejobs_c.a",
+    "libcubejobs_dispatch.a": "out/libcubejobs_dispatch.a",
     "libcubejobs_regions.a": "out/libcubejobs_regions.a",
 }
 LIBRARIES = [name for name in FILES if name.endswith(".a")]
@@ -182,7 +183,7 @@ def not_seen_of_bytes(release, built):
         if release.differences(built) != ([], []):
             yield f"that {by} has made the same bytes"
     for name in FILES:
-        release.change(name, 1000, bytes([release.bytes_of(name)[1000] ^ 1]))
+        release.change(name, 2000, bytes([release.bytes_of(name)[2000] ^ 1]))
     if not are_all_in(release.differences(built)[0], "is not"):
         yield "files whose sums are others"
     for by in builds:

@@ -35,6 +35,7 @@ QUOTES = {
     "cube_tree": ("uses/src/subcubes.rt", "uses/proofs/subcubes/hold_two/Answers.antt", "uses/src/room.rt"),
     "cubejobs": ("uses/src/whole.rt",),
     "cubejobs_c": ("../examples/subcubes.c", "../examples/fit.c"),
+    "cubejobs_dispatch": ("../examples/lanes.c",),
     "cubejobs_regions": ("../examples/regions.c",),
     "devices": (
         "jobs_csv/src/writing.rt#pub fn write_rows<",
@@ -42,6 +43,10 @@ QUOTES = {
     ),
     "dispatcher": ("uses/src/counting.rt",),
     "floors": ("uses/src/any_floor.rt",),
+    "shop_owner": ('cubejobs_dispatch/src/work_exports.rt#pub extern "C" fn cubejobs_dispatch_done',),
+    "hidden_box": ("cubejobs_dispatch/src/opaque_ptr.rt#pub fn of",),
+    "kept_places": ("cubejobs_dispatch/src/dealing.rt#pub(crate) fn deal_lane",),
+    "job_lanes": ("tests_lanes/src/tests/script.rt#fn three_lanes_and_what_is_left",),
     "job_queue": ("uses/src/line_run/feeding.rt", "uses/src/line_run/draining.rt"),
     "job_types": ("dispatcher/src/runner.rt#impl Runner for Plain",),
     "jobs_csv": ("uses/src/count.rt",),
@@ -52,15 +57,20 @@ QUOTES = {
     "floor_locked": ("cube_bench/src/dispatch.rt#fn measure_shop",),
     "line_locked": ("cube_bench/src/dispatch.rt#fn measure_shop",),
     "backoff": ("floor_tree/src/floor_tree.rt#fn take",),
+    "region_shop": ("tests_region_shop/src/stage.rt#fn ask",),
     "region_bits": ("alloc_bits/src/alloc_bits.rt#pub fn take",),
     "line_ruled": ("uses/src/answering.rt",),
+    "shared_lane": ("tests_lanes/src/tests/sharing.rt#fn two_sharers",),
     "status_word": ("cube_core/src/effect.rt#fn see",),
     "floor_tree": ("uses/src/answering.rt",),
     "tree_steps": ("cube_tree/src/takes.rt#pub fn try_node",),
     "atomic_file": ("cli_commands/src/files.rt#pub(crate) fn settle_output<",),
+    "wake_pool": ("wake_calls/src/steps.rt#pub fn rise<",),
+    "wake_calls": ("wake_table/src/tests.rt#fn sleeps", "wake_table/src/tests.rt#fn wakes"),
+    "wake_table": ("wake_table/src/tests.rt#fn a_sleeper_is_woken_for_a_job",),
 }
 # A library that nobody calls, and why.
-UNCALLED = {"ghost_history": "it has no code that runs"}
+UNCALLED = {"ghost_history": "it has no code that runs", "ghost_log": "its calls do nothing at run time"}
 OPENING = re.compile(r"\A(//.*\n)+\n?")
 BLOCK = re.compile(r"((?<=```rust\n)|(?<=```antt\n)|(?<=```c\n)).*?(?=```\n)", re.DOTALL)
 NAMED = re.compile(r"`((?:crates|examples)/[^`\s]+)`")

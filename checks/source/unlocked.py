@@ -1,5 +1,6 @@
-"""Finds locks in the sources of the queue, of both trees and of the library of regions: `line_ruled`, `floor_tree`,
-`floor_bitmap`, `cubejobs_regions` and all below.
+"""Finds locks in the sources of the queue, of both trees, of the library of regions, and of job lanes with their
+dispatcher and their calls of sleep and wake: `line_ruled`, `floor_tree`, `floor_bitmap`, `cubejobs_regions`,
+`region_shop`, `wake_calls` and all below.
 
 No contract says this of a call that may wait: a lock around it changes neither its result nor what it records. It finds
 
@@ -19,7 +20,7 @@ from checks.lib.repository import ROOT, files_below, read
 from checks.lib.rows import print_faults
 from checks.lib.toolchain import crates
 
-TOPS = ("line_ruled", "floor_bitmap", "floor_tree", "cubejobs_regions")
+TOPS = ("line_ruled", "floor_bitmap", "floor_tree", "cubejobs_regions", "cubejobs_dispatch", "wake_calls")
 ALLOWED = {
     "std", "std_alloc", "std_heap", "atomic_table", "bitflags", "crossbeam_queue", "crossbeam_utils", "thiserror"}
 LOCKS = re.compile(

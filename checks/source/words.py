@@ -18,19 +18,28 @@ NOBODYS = ("Lane", "Pass", "Station")
 # Which crates have a type of this name, and why that misleads nobody.
 ALLOWED = {
     "Answer": ("cubejobs_c cubejobs_regions", "what a call of a library for C answers; each has a header of its own"),
+    "Closer": ("dispatcher job_lanes", "the right to close a shop, and to close lanes of jobs"),
     "Entry": ("job_queue tree_steps", "a lane's entry into a line, and a station's member of a seat"),
     "Finished": ("dispatcher uses", "what is known at the end: of a shop, of a run over a line alone"),
     "FreeMachine": ("cube_tree floor_bitmap floor_locked", "what a close gives; callers of floors see F::Machine"),
+    "Handle": ("cubejobs_dispatch cubejobs_regions", "what a caller in C keeps; each library has one of its own"),
     "Kind": ("cube_core job_types", "of an event, and of a collective; a caller of jobs sees no event"),
-    "LaneRecord": ("job_queue line_ring", "what a lane has done, at a line and at its ring, which line_ruled joins"),
+    "Lane": ("job_lanes", "the producer's handle of a lane of jobs; at a queue it is that of a line"),
+    "LaneRecord": ("job_lanes job_queue line_ring", "what a lane has done: of jobs, at a line and at its ring"),
+    "Note": ("cube_core job_lanes", "of a machine that is closed, and of lanes that are"),
     "Occupancy": ("bitmap_occupancy cube_occupancy", "what is free, by the words of either tree"),
     "Opened": ("dispatcher job_queue", "a new shop, and a new line, each with all that its callers need"),
     "PassRecord": ("job_queue line_ring", "what a pass has done, at a line and at its ring, which line_ruled joins"),
+    "Plan": ("job_lanes tests_kit", "which words lanes have, and what a test does"),
     "Reading": ("job_queue line_gate", "what a pass read of a line, and of its gate, which line_ruled joins"),
     "Refused": ("bitmap_tree cube_core job_queue", "a refused take, call of the pure machine, and job of a line"),
     "Request": ("cli_args job_types", "of a command line, and of a job; a caller of either sees one"),
     "Row": ("jobs_csv tests_kit", "what is written as a line of CSV, and a row of a test"),
+    "Post": ("shop_owner tests_region_shop", "a worker at its work, of an owner and of a test"),
+    "Sizes": ("job_lanes job_queue", "of lanes of jobs, and of a line"),
+    "Taken": ("job_lanes job_queue", "the outcome of a take, from a lane of jobs and from a line"),
     "Tally": ("collectives uses", "rounds and messages, and what a stranger's line counts"),
+    "Worker": ("dispatcher job_lanes", "of a shop, and of lanes of jobs"),
 }
 # The lists of a section of docs/STATUS.md.
 LISTS = ("Proved", "Tested", "Neither")
