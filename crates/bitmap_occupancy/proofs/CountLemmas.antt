@@ -1,6 +1,6 @@
 -- One number more is counted or is not, and one place more has its count.
 use Rattle.std.proofs.Common.{◌≡◌, ℕ, suc, refl, ◌+◌, ◌<◌, ◌≤◌, ◌⊎◌, inl, inr, List, length, slice_index, slice_set, arith, ap, sym, subst, ◌∙◌}
-use Rattle.std.proofs.lemmas.Bool.{cases_order}
+use Rattle.std.proofs.lemmas.Bool.{cases_order, cases_eq}
 use Rattle.std.proofs.lemmas.List.{get_or-set_other, get_or-set_same}
 use Rattle.region_bits.specs.Count.{IsCount}
 
@@ -12,16 +12,6 @@ counts_more P m count counted has = subst (λ bound. IsCount P bound (count + 1)
 
 pub counts_same : (P : ℕ → Type 0) (m count : ℕ) → IsCount P m count → (P m → ⊥) → IsCount P (m + 1) count
 counts_same P m count counted none = subst (λ bound. IsCount P bound count) (next_is m) (inr (none, counted))
-
--- one number more has not the property
-pub none_more : (P : ℕ → Type 0) (first at : ℕ) → ((p : ℕ) → first ≤ p → p < at → P p → ⊥) → (P at → ⊥)
-    → (p : ℕ) → first ≤ p → p < at + 1 → P p → ⊥
-none_more P first at none here p low high has = by_order (cases_order p at)
-  where
-    by_order : (p ≡ at) ⊎ ((p < at) ⊎ (at < p)) → ⊥
-    by_order (inl same) = here (subst P same has)
-    by_order (inr (inl less)) = none p low less has
-    by_order (inr (inr more)) = absurd (omega (arith, high, more))
 
 pub set_counted : (P : ℕ → ℕ → Type 0) (xs : List ℕ) (i x : ℕ)
     → i < length xs
@@ -39,9 +29,21 @@ set_counted P xs i x within here before k lt = by_order (cases_order k i)
     by_order (inr (inl less)) = subst (P k) (sym (get_or-set_other xs i k x 0 (λ e. omega arith))) (before k less)
     by_order (inr (inr more)) = absurd (omega arith)
 
-pub set_others : (xs : List ℕ) (i x : ℕ)
-    → ((k : ℕ) → i ≤ k → slice_index xs k ≡ 0)
+-- the places past one that is set stay
+pub set_past : (xs : List ℕ) (i x k : ℕ) → i + 1 ≤ k → slice_index (slice_set xs i x) k ≡ slice_index xs k
+set_past xs i x k le = get_or-set_other xs i k x 0 (λ e. omega arith)
+
+-- if no place exceeds a bound, none does once one is set
+pub set_few : (xs : List ℕ) (i x most : ℕ)
+    → i < length xs
+    → x ≤ most
+    → ((k : ℕ) → slice_index xs k ≤ most)
     → (k : ℕ)
-    → i + 1 ≤ k
-    → slice_index (slice_set xs i x) k ≡ 0
-set_others xs i x others k le = get_or-set_other xs i k x 0 (λ e. omega arith) ∙ others k (omega arith)
+    → slice_index (slice_set xs i x) k ≤ most
+set_few xs i x most within few all k = by_place (cases_eq k i)
+  where
+    by_place : (k ≡ i) ⊎ (k ≡ i → ⊥) → slice_index (slice_set xs i x) k ≤ most
+    by_place (inl e) =
+        let got : slice_index (slice_set xs i x) k ≡ x = ap (slice_index (slice_set xs i x)) e ∙ get_or-set_same xs i x 0 within in
+        omega (arith, got, few)
+    by_place (inr other) = omega (arith, get_or-set_other xs i k x 0 other, all k)

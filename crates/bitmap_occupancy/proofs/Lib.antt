@@ -1,2 +1,7 @@
 mod CountLemmas
+mod LevelLemmas
+mod PathLemmas
+mod ReadLemmas
+mod RunLemmas
+mod TotalLemmas
 mod WordLemmas

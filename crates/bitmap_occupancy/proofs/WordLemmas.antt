@@ -1,13 +1,12 @@
 -- Where the bits of a processor lie.
-use Rattle.std.proofs.Common.{◌≡◌, ℕ, suc, ◌+◌, ◌-◌, ◌*◌, ◌/◌, ◌%◌, ◌^◌, ◌<◌, ◌≤◌, ◌⊎◌, inl, inr, List, length, slice_index_or, mul-le-mul_right, suc-mul, arith, ap, ◌∙◌}
-use Rattle.std.proofs.Math.Nat.{le-div_iff_mul-le, mod-eq_of_lt}
+use Rattle.std.proofs.Common.{◌≡◌, ℕ, ◌+◌, ◌-◌, ◌*◌, ◌/◌, ◌%◌, ◌^◌, ◌<◌, ◌≤◌, ◌⊎◌, inl, inr, List, length, slice_index_or, arith, ap, ◌∙◌}
+use Rattle.std.proofs.Math.Nat.{le-div_iff_mul-le}
 use Rattle.std.proofs.Math.Pow.{pow_mono}
 use Rattle.std.proofs.lemmas.Bool.{cases_order}
 use Rattle.std.proofs.lemmas.List.{get_or_default}
 use Rattle.std.proofs.lemmas.Nat.{pow_pos}
 use Rattle.bitmap_tree.proofs.LayoutLemmas.{split_at, word_there}
 use Rattle.bitmap_tree.specs.Rule.{bit_of, first_word, word_count}
-use Rattle.cube_shape.specs.declared.limits.TheConstants.{MAX_BITMAP_DIM}
 
 -- a number below a product is few times the factor
 few_times : (p x y : ℕ) → 0 < x → p < y * x → p / x < y
@@ -53,17 +52,3 @@ bit_is words f q within =
     ap (λ i. slice_index_or words i 18446744073709551615 / 2 ^ ((64 * f + q) % 64) % 2) word
     ∙ (ap (λ b. slice_index_or words (f + q / 64) 18446744073709551615 / 2 ^ b % 2) bit
     ∙ ap (λ w. w / 2 ^ (q % 64) % 2) (get_or_default words (f + q / 64) 18446744073709551615 0 within))
-
--- the last processor of a block is one of the machine
-pub past_is_in : (n k m : ℕ) → k ≤ n → m < 2 ^ (n - k) → m * 2 ^ k + 2 ^ k ≤ 2 ^ n
-past_is_in n k m fits few =
-    let parts : 2 ^ (n - k) * 2 ^ k ≡ 2 ^ n = split_at n k fits in
-    let next : suc m * 2 ^ k ≡ m * 2 ^ k + 2 ^ k = suc-mul m (2 ^ k) in
-    let most : suc m * 2 ^ k ≤ 2 ^ (n - k) * 2 ^ k = mul-le-mul_right (2 ^ k) few in
-    omega (arith, parts, next, most)
-
-pub first_fits : (n k m : ℕ) → n ≤ MAX_BITMAP_DIM → m * 2 ^ k + 2 ^ k ≤ 2 ^ n → m * 2 ^ k % 2 ^ 64 ≡ m * 2 ^ k
-first_fits n k m small within =
-    let most : 2 ^ n ≤ 2 ^ MAX_BITMAP_DIM = pow_mono small in
-    let below : m * 2 ^ k < 2 ^ 64 = omega (arith, most, within) in
-    mod-eq_of_lt below

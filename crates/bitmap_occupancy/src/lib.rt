@@ -1,8 +1,9 @@
-//! Occupancy of a machine of the bitmap tree, by its words: which blocks are free, and how many
-//! processors are held.
+//! Occupancy of a machine of the bitmap tree: which blocks are free, and how many processors are
+//! held. Each word is read once, and counted as it is read.
 #![tactic(auto)]
 
-mod counting;
+mod counter;
+mod pass;
 mod processors;
 mod summary;
 mod totals;

@@ -1,77 +1,29 @@
-//! Whether a processor is held, and whether a block is free.
-ghost use Rattle.std.specs.Prelude.{◌≡◌, ◌+◌, ◌-◌, ◌*◌, ◌^◌, ◌<◌, ◌≤◌, ◌/◌, ◌↔◌, IsTrue, length};
-ghost use Rattle.cube_shape.specs.Region.{block};
+//! Whether a processor is held, by the words in which its units lie.
+ghost use Rattle.std.specs.Prelude.{◌≡◌, ◌*◌, ◌^◌, ◌<◌, ◌≤◌, ◌/◌, ◌%◌, ◌↔◌, IsTrue};
+ghost use Rattle.std.specs.Int.{bit_at};
 ghost use Rattle.cube_shape.specs.declared.limits.TheConstants.{MAX_BITMAP_DIM};
-ghost use Rattle.bitmap_tree.specs.Layout.{place_in};
-ghost use Rattle.bitmap_tree.specs.Rule.{bit_of, first_word, word_count};
-ghost use Rattle.bitmap_occupancy.specs.Occupancy.{IsFreeAt, IsHeldAt};
+ghost use Rattle.bitmap_occupancy.specs.InnerPass.{IsHeldOn};
 
-// The first word of the level that has this many levels above it.
-fn first_word(above: u32) -> u64
-    requires { above ≤ MAX_BITMAP_DIM / 6 }
-    ensures value { result ≡ first_word above }
-    ensures limit { result ≤ first_word (MAX_BITMAP_DIM / 6) }
+use cube_shape::MAX_BITMAP_DIM;
+
+/// The number of levels of the largest machine.
+pub(crate) const LEVELS: usize = MAX_BITMAP_DIM as usize / 6 + 1;
+
+// Returns whether the bit of a unit is set in its word.
+fn is_set(word: u64, unit: u64) -> bool
+    ensures { IsTrue result ↔ (bit_at word (unit % 64) ≡ 1) }
 {
-    match above {
-        0 => 0,
-        1 => 1,
-        2 => 65,
-        _ => 4161,
-    }
+    (word >> (unit % 64)) % 2 == 1
 }
 
-// Returns whether the bit of the unit of a level in which a processor lies is set.
-fn is_set_in(n: u32, words: &[u64], level: u32, processor: u64) -> bool
+// Returns whether a processor is held, by a word of each level.
+pub(crate) fn is_held(n: u32, path: &[u64; LEVELS], processor: u64) -> bool
     requires machine { n ≤ MAX_BITMAP_DIM }
-    requires words { length words.now ≡ word_count n }
-    requires level { level ≤ n / 6 }
     requires processor { processor < 2 ^ n }
-    ensures { IsTrue result ↔ (bit_of words.now (place_in n level processor) ≡ 1) }
+    ensures { IsTrue result ↔ IsHeldOn n path.now processor }
 {
-    let number = processor >> (6 * level);
-    let word = first_word(n / 6 - level) + number / 64;
-    (words[word as usize] >> (number % 64)) % 2 == 1
-}
-
-// Returns whether a processor is held.
-pub(crate) fn is_held(n: u32, words: &[u64], processor: u64) -> bool
-    requires machine { n ≤ MAX_BITMAP_DIM }
-    requires words { length words.now ≡ word_count n }
-    requires processor { processor < 2 ^ n }
-    ensures { IsTrue result ↔ IsHeldAt n words.now processor }
-{
-    for above in 0..n / 6 + 1 {
-        if !is_set_in(n, words, n / 6 - above, processor) {
-            return false;
-        }
-    }
-    true
-}
-
-// Returns the first processor of the block `(m, k)`, and the one after its last.
-fn range_of(n: u32, k: u32, m: u64) -> (u64, u64)
-    requires machine { n ≤ MAX_BITMAP_DIM }
-    requires dim { k ≤ n }
-    requires number { m < 2 ^ (n - k) }
-    ensures first { result.0 ≡ m * 2 ^ k }
-    ensures past { result.1 ≡ m * 2 ^ k + 2 ^ k }
-    ensures within { result.1 ≤ 2 ^ n }
-{
-    let first = m << k;
-    (first, first + (1 << k))
-}
-
-// Returns whether the block `(m, k)` is free.
-pub(crate) fn is_free(n: u32, words: &[u64], k: u32, m: u64) -> bool
-    requires machine { n ≤ MAX_BITMAP_DIM }
-    requires words { length words.now ≡ word_count n }
-    requires dim { k ≤ n }
-    requires number { m < 2 ^ (n - k) }
-    ensures { IsTrue result ↔ IsFreeAt n words.now (block k m) }
-{
-    let (first, past) = range_of(n, k, m);
-    for processor in first..past {
-        if is_held(n, words, processor) {
+    for level in 0..n / 6 + 1 {
+        if !is_set(path[level as usize], processor >> (6 * level)) {
             return false;
         }
     }

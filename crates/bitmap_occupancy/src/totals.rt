@@ -1,29 +1,14 @@
-//! The counts of all dimensions.
-ghost use Rattle.std.specs.Prelude.{◌≡◌, ℕ, ◌-◌, ◌^◌, ◌<◌, ◌≤◌, length, slice_index};
-ghost use Rattle.cube_shape.specs.Region.{block};
-ghost use Rattle.cube_shape.specs.declared.limits.TheConstants.{MAX_BITMAP_DIM};
-ghost use Rattle.bitmap_tree.specs.Rule.{word_count};
-ghost use Rattle.region_bits.specs.Count.{IsCount};
-ghost use Rattle.bitmap_occupancy.specs.Occupancy.{IsFreeAt};
-ghost use Rattle.bitmap_occupancy.specs.Summary.{IsLargestIn, IsOccupancy};
+//! The counts of a machine.
+ghost use Rattle.std.specs.Prelude.{◌≡◌, []};
+ghost use Rattle.bitmap_tree.specs.Handles.{dim_of, id_of};
+ghost use Rattle.bitmap_occupancy.specs.Counted.{IsCountOf};
+ghost use Rattle.bitmap_occupancy.specs.Summary.{IsLargestIn};
 
-use crate::counting::{count_free, count_held};
+use crate::counter::{Counter, add};
+use crate::pass::read_words;
+use crate::processors::{LEVELS, is_held};
 use crate::summary::{FREE_PLACES, Occupancy};
-
-// Returns the number of free blocks of each dimension.
-fn free_by_dim(n: u32, words: &[u64]) -> [u64; FREE_PLACES]
-    requires machine { n ≤ MAX_BITMAP_DIM }
-    requires words { length words.now ≡ word_count n }
-    ensures free { (k : ℕ) → k ≤ n
-        → IsCount (λ m. IsFreeAt n words.now (block k m)) (2 ^ (n - k)) (slice_index result k) }
-    ensures none_above { (k : ℕ) → n < k → slice_index result k ≡ 0 }
-{
-    let mut free = [0; FREE_PLACES];
-    for dim in 0..n + 1 {
-        free[dim as usize] = count_free(n, words, dim);
-    }
-    free
-}
+use bitmap_tree::{BitmapTree, BlockSeat};
 
 // Returns the largest dimension at which a count is not 0.
 fn largest_free(free: &[u64; FREE_PLACES]) -> Option<u32>
@@ -38,17 +23,29 @@ fn largest_free(free: &[u64; FREE_PLACES]) -> Option<u32>
     largest
 }
 
-/// Counts the free blocks and the held processors of a machine of dimension `n` by its words. Looks
-/// at each processor for each dimension.
-pub fn occupancy(n: u32, words: &[u64]) -> Occupancy
-    requires machine { n ≤ MAX_BITMAP_DIM }
-    requires words { length words.now ≡ word_count n }
-    ensures { IsOccupancy n words.now result }
+/// Counts the free blocks and the held processors of a machine. Reads each word once, and returns
+/// the seat that knows what the loads found.
+pub fn occupancy(tree: &BitmapTree) -> (Occupancy, BlockSeat)
+    ensures table { result.1.table_id ≡ id_of tree.now }
+    ensures counted { IsCountOf (dim_of tree.now) result.1.me.0.trail result.0 }
+    ensures no_slot { result.1.me.1 ≡ [] }
 {
-    let free = free_by_dim(n, words);
-    Occupancy {
-        free,
-        held: count_held(n, words),
-        largest: largest_free(&free),
+    let n = tree.dim();
+    let (top, mut seat) = tree.read_top();
+    let mut path = [top; LEVELS];
+    let mut counter = Counter {
+        from: 0,
+        held: 0,
+        free: [0; FREE_PLACES],
+    };
+    for processor in 0..1u64 << n {
+        read_words(tree, &mut seat, &mut path, processor);
+        add(n, &mut counter, processor, is_held(n, &path, processor));
     }
+    let found = Occupancy {
+        free: counter.free,
+        held: counter.held,
+        largest: largest_free(&counter.free),
+    };
+    (found, seat)
 }

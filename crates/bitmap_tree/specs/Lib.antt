@@ -10,6 +10,7 @@ pub mod InnerSteps
 pub mod InnerTrail
 pub mod Layout
 pub mod Parts
+pub mod Reads
 pub mod Rule
 pub mod Trail
 pub use Rattle.cube_shape.specs.Region.{AreApart, IsAligned}

@@ -21,6 +21,7 @@ mod opening;
 mod parts;
 mod permit_halves;
 mod permits;
+mod reading;
 mod releases;
 mod rule;
 mod scan;

@@ -81,7 +81,8 @@ impl BitmapTree {
 
     /// Returns the dimension of the machine.
     pub fn dim(&self) -> u32
-        ensures { result ≡ dim_of self.now }
+        ensures dim { result ≡ dim_of self.now }
+        ensures limit { dim_of self.now ≤ MAX_BITMAP_DIM }
     {
         self.size.dim
     }

@@ -1,12 +1,9 @@
 //! The parts of what the calls return, for a caller that keeps them.
-ghost use Rattle.std.specs.Prelude.{◌≡◌, ◌<◌, ◌≤◌, []};
-ghost use Rattle.cube_shape.specs.declared.limits.TheConstants.{MAX_BITMAP_DIM};
-ghost use Rattle.bitmap_tree.specs.Handles.{dim_of, held_dim, held_region, held_seat, refused_trail, released_trail};
+ghost use Rattle.std.specs.Prelude.{◌≡◌, []};
+ghost use Rattle.bitmap_tree.specs.Handles.{held_dim, held_region, held_seat, refused_trail, released_trail};
 ghost use Rattle.bitmap_tree.specs.Parts.{IsHeldBy};
-ghost use Rattle.bitmap_tree.specs.Rule.{word_count};
 
-use crate::handles::{BitmapTree, HeldBlock, Refused, Released, Seat};
-use crate::layout::words_of;
+use crate::handles::{HeldBlock, Refused, Released, Seat};
 use crate::view::View;
 use cube_shape::Region;
 
@@ -58,22 +55,5 @@ impl Released {
     {
         let Released { seat } = self;
         seat
-    }
-}
-
-impl BitmapTree {
-    /// Returns the number of its words.
-    pub fn word_count(&self) -> u32
-        ensures count { result ≡ word_count (dim_of self.now) }
-        ensures limit { dim_of self.now ≤ MAX_BITMAP_DIM }
-    {
-        words_of(self.size.dim)
-    }
-
-    /// Returns a word as it is at some moment of the call. Nothing is known of it.
-    pub fn word(&self, word: u32) -> u64
-        requires { word < word_count (dim_of self.now) }
-    {
-        self.peek(word)
     }
 }

@@ -1,5 +1,6 @@
 -- What a contract sees of the handles that C keeps.
 use Rattle.std.specs.Prelude.{ℕ, List, Option, Some, None, ◌==◌, if◌then◌else◌}
+use Rattle.atomic_table.specs.Seated.{TableId}
 use Rattle.bitmap_tree.specs.declared.view.Note.{Note}
 use Rattle.cubejobs_regions.specs.declared.codes.TheConstants.{ALREADY_OPEN, DONE, HOLDS_ALREADY, NOT_OPEN, OPEN, OTHER_KIND}
 use Rattle.cubejobs_regions.specs.declared.block_handle.BlockHandle.{BlockHandle}
@@ -13,9 +14,14 @@ use Rattle.cubejobs_regions.specs.Tags.{is_held}
 abbrev pub machine_of : Handle → Option Machine
 machine_of handle = machine_in handle.ptr.content
 
--- What the last call that was to free the machine found and left by its steps, the newest first.
-abbrev pub end_trail : Handle → List Note
-end_trail handle = (seat_in handle.seat).me.0.trail
+-- The table of the seat that the handle keeps: of the last call that was to free the machine, or
+-- counted what is free.
+abbrev pub last_table : Handle → TableId
+last_table handle = (seat_in handle.seat).table_id
+
+-- What the steps of this call found and left, the newest first.
+abbrev pub last_trail : Handle → List Note
+last_trail handle = (seat_in handle.seat).me.0.trail
 
 -- Why a handle cannot be opened, or `DONE`: it is open, or it holds a block.
 abbrev pub refusal_of_opening : Handle → ℕ

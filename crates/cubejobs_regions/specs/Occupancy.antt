@@ -1,10 +1,13 @@
 -- What an answer counts in a machine.
 use Rattle.std.specs.Prelude.{◌≡◌, ℕ, if◌then◌else◌, false, Some, None, slice_index}
+use Rattle.bitmap_occupancy.specs.Counted.{IsCountOf}
 use Rattle.bitmap_occupancy.specs.declared.summary.Occupancy.{Occupancy}
-use Rattle.bitmap_occupancy.specs.Summary.{IsOccupancy}
+use Rattle.bitmap_tree.specs.Handles.{id_of}
 use Rattle.cubejobs_regions.specs.declared.answer.OccupancyAnswer.{OccupancyAnswer}
+use Rattle.cubejobs_regions.specs.declared.handle.Handle.{Handle}
 use Rattle.cubejobs_regions.specs.declared.machine.Machine.{Machine}
-use Rattle.cubejobs_regions.specs.Machine.{dim_of_machine, IsSameMachine}
+use Rattle.cubejobs_regions.specs.Handle.{last_table, last_trail}
+use Rattle.cubejobs_regions.specs.Machine.{dim_of_machine, tree_of}
 
 -- The occupancy in an answer.
 abbrev pub occupancy_of : OccupancyAnswer → Occupancy
@@ -21,10 +24,7 @@ pub record CountsNone (answer : OccupancyAnswer) : Type 0 where
   pub held : answer.held ≡ 0
   pub free : (k : ℕ) → slice_index answer.free k ≡ 0
 
--- The words of the machine were read, each at some moment of the call, and counted. Nothing else of
--- the machine changed.
-pub record IsCounted (answer : OccupancyAnswer) (before after : Machine) : Type 0 where
-  pub same : IsSameMachine before after
-  pub start : after.start ≡ before.start
-  pub counts : IsOccupancy (dim_of_machine after) after.room.items (occupancy_of answer)
-  pub no_largest : answer.has_free ≡ false → answer.largest ≡ 0
+-- The handle keeps the seat of a count of the machine, and the answer has its counts.
+pub record IsCounted (machine : Machine) (answer : OccupancyAnswer) (handle : Handle) : Type 0 where
+  pub of_machine : last_table handle ≡ id_of (tree_of machine)
+  pub counts : IsCountOf (dim_of_machine machine) (last_trail handle) (occupancy_of answer)

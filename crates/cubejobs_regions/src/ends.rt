@@ -1,8 +1,7 @@
 //! How a machine begins and ends, by the place of a handle's content.
-ghost use Rattle.std.specs.Prelude.{◌≡◌, ◌<◌, ◌≤◌, ◌^◌, [], Some, IsSome, IfErr, IfNone, IfOk, IfSome, vec_len};
+ghost use Rattle.std.specs.Prelude.{◌≡◌, ◌<◌, ◌≤◌, ◌^◌, [], Some, IsSome, IfErr, IfNone, IfOk, IfSome};
 ghost use Rattle.cube_shape.specs.declared.limits.TheConstants.{MAX_BITMAP_DIM};
 ghost use Rattle.bitmap_tree.specs.Handles.{dim_of};
-ghost use Rattle.bitmap_tree.specs.Rule.{word_count};
 ghost use Rattle.cubejobs_regions.specs.Ends.{FoundFree, FoundHeld, IsKept, IsNew};
 ghost use Rattle.cubejobs_regions.specs.Machine.{dim_of_machine, IsSameMachine, IsSole, OnMachine};
 ghost use Rattle.cubejobs_regions.specs.MachineIn.{machine_in};
@@ -15,16 +14,6 @@ use crate::state::State;
 use bitmap_tree::{BitmapTree, BlockSeat};
 use std::alloc::Global;
 
-// Makes room for the words of a machine. Returns `None` if memory ran out.
-fn room_of(alloc: Global, tree: &BitmapTree) -> Option<Vec<u64>>
-    ensures { IfSome result (λ room. vec_len room ≡ word_count (dim_of tree.now)) }
-{
-    match vec![in alloc; 0; tree.word_count() as usize] {
-        Ok(room) => Some(room),
-        Err(_) => None,
-    }
-}
-
 // Opens a machine of dimension `n` in a place of its own. Returns `None` if memory ran out.
 pub(crate) fn machine_of(alloc: Global, n: u32, number: u64) -> Option<Box<State>>
     requires { n ≤ MAX_BITMAP_DIM }
@@ -34,13 +23,11 @@ pub(crate) fn machine_of(alloc: Global, n: u32, number: u64) -> Option<Box<State
         Ok(tree) => tree,
         Err(_) => return None,
     };
-    let room = room_of(alloc, &tree)?;
     let start = tree.start_of(0);
     let machine = Machine {
         owner: Ownership::Sole(Common { tree, number }),
         start,
         next: 1,
-        room,
     };
     match Box::new(alloc, State::Machine(machine)) {
         Ok(place) => Some(place),
@@ -56,38 +43,29 @@ fn share_machine(alloc: Global, machine: Machine) -> (Machine, Option<Machine>)
     ensures same { IsSameMachine machine result.0 }
     ensures other { IfSome result.1 (IsSameMachine machine) }
 {
-    let Machine {
-        owner,
-        start,
-        next,
-        room,
-    } = machine;
+    let Machine { owner, start, next } = machine;
     let (owner, another) = owner.share(alloc);
     let first = Machine {
         owner,
         start,
         next: next.wrapping_add(1),
-        room,
     };
     match another {
         None => (first, None),
-        Some(owner) => (first, next_machine(alloc, owner, next)),
+        Some(owner) => (first, Some(next_machine(owner, next))),
     }
 }
 
-// Makes a handle's part of a machine, for a thread of this number. Returns `None` if memory ran
-// out.
-fn next_machine(alloc: Global, owner: Ownership, thread: u32) -> Option<Machine>
-    ensures { IfSome result (λ machine. common_of machine.owner ≡ common_of owner) }
+// Makes a handle's part of a machine, for a thread of this number.
+fn next_machine(owner: Ownership, thread: u32) -> Machine
+    ensures { common_of result.owner ≡ common_of owner }
 {
-    let room = room_of(alloc, &owner.get().tree)?;
     let start = owner.get().tree.start_of(thread);
-    Some(Machine {
+    Machine {
         owner,
         start,
         next: thread.wrapping_add(1),
-        room,
-    })
+    }
 }
 
 // Makes another handle of the machine of a place. Where memory runs out, the first place alone.
@@ -123,9 +101,8 @@ pub(crate) fn share(alloc: Global, place: Box<State>) -> (Box<State>, Option<Box
 
 // Frees a machine if no block of it is held, by a take of the whole. Otherwise returns it. Also
 // returns the seat of the call.
-fn end(common: Common, start: u64, room: Vec<u64>) -> Result<BlockSeat, (Machine, BlockSeat)>
+fn end(common: Common, start: u64) -> Result<BlockSeat, (Machine, BlockSeat)>
     requires start { start < 2 ^ dim_of common.tree }
-    requires room { vec_len room ≡ word_count (dim_of common.tree) }
     ensures free { IfOk result (λ seat. FoundFree (dim_of common.tree) seat.me.0.trail) }
     ensures held { IfErr result (λ kept. FoundHeld (dim_of common.tree) kept.1.me.0.trail) }
     ensures common { IfErr result (λ kept. common_of kept.0.owner ≡ common) }
@@ -141,7 +118,6 @@ fn end(common: Common, start: u64, room: Vec<u64>) -> Result<BlockSeat, (Machine
                 owner: Ownership::Sole(common),
                 start,
                 next: 1,
-                room,
             };
             Err((machine, refused.into_seat()))
         }
@@ -171,12 +147,11 @@ pub(crate) fn free(place: Box<State>) -> Result<Option<BlockSeat>, (Box<State>, 
         owner,
         start,
         next: _,
-        room,
     } = machine;
     let Some(common) = owner.into_last() else {
         return Ok(None);
     };
-    match end(common, start, room) {
+    match end(common, start) {
         Ok(seat) => Ok(Some(seat)),
         Err((machine, seat)) => {
             let _taken = Box::replace(&mut place, State::Machine(machine));

@@ -13,7 +13,7 @@ use crate::opaque_ptr::OpaquePtr;
 pub struct Handle {
     pub(crate) tag: u64,
     pub(crate) ptr: OpaquePtr,
-    // That of the last call that was to free the machine.
+    // That of the last call that was to free the machine or counted what is free.
     pub(crate) seat: HiddenSeat,
     ghost open: { tag ≡ OPEN ↔ IsSome (machine_in ptr.content) },
 }

@@ -48,7 +48,8 @@ impl HiddenSeat {
     #[inline(always)]
     pub fn keep(&mut self, seat: BlockSeat)
         requires { seat.me.1 ≡ [] }
-        ensures { (seat_in self.new).me.0.trail ≡ seat.me.0.trail }
+        ensures table { (seat_in self.new).table_id ≡ seat.table_id }
+        ensures trail { (seat_in self.new).me.0.trail ≡ seat.me.0.trail }
     {
         let old = replace(self, HiddenSeat::blank());
         let (kept, last) = old.exchange(seat.into_badge());

@@ -20,7 +20,6 @@ mod occupancy;
 mod opaque_ptr;
 mod owner;
 mod ownership;
-mod parts;
 mod places;
 mod state;
 mod tag;

@@ -3,7 +3,7 @@
 ghost use Rattle.std.specs.Prelude.{◌≡◌, ◌≢◌, ◌<◌, ◌≤◌, ◌⊎◌, None, Some, IsSome};
 ghost use Rattle.cube_shape.specs.declared.limits.TheConstants.{MAX_BITMAP_DIM};
 ghost use Rattle.cubejobs_regions.specs.Ends.{FoundFree, FoundHeld, IsKept, IsNew};
-ghost use Rattle.cubejobs_regions.specs.Handle.{end_trail, machine_of, refusal_of_opening};
+ghost use Rattle.cubejobs_regions.specs.Handle.{last_trail, machine_of, refusal_of_opening};
 ghost use Rattle.cubejobs_regions.specs.Machine.{dim_of_machine, IsSameMachine, IsSole, OnMachine};
 
 use crate::codes::{
@@ -101,10 +101,10 @@ pub extern "C" fn cubejobs_regions_free(alloc: Global, thread: &mut Handle) -> u
     ensures not_open { machine_of thread.old ≡ None → result ≡ NOT_OPEN }
     ensures tried { IsSome (machine_of thread.old) → (result ≡ DONE) ⊎ (result ≡ STILL_HELD) }
     ensures free { result ≡ DONE → OnMachine (λ machine. IsSole machine
-        → FoundFree (dim_of_machine machine) (end_trail thread.new)) (machine_of thread.old) }
+        → FoundFree (dim_of_machine machine) (last_trail thread.new)) (machine_of thread.old) }
     ensures shut { result ≡ DONE → machine_of thread.new ≡ None }
     ensures held { result ≡ STILL_HELD → OnMachine (λ machine.
-        FoundHeld (dim_of_machine machine) (end_trail thread.new)) (machine_of thread.old) }
+        FoundHeld (dim_of_machine machine) (last_trail thread.new)) (machine_of thread.old) }
     ensures kept { result ≡ STILL_HELD → OnMachine (λ machine. OnMachine (IsKept machine)
         (machine_of thread.new)) (machine_of thread.old) }
     ensures unchanged { result ≡ NOT_OPEN → thread.new ≡ thread.old }

@@ -1,18 +1,18 @@
 //! How much of a machine is free.
-ghost use Rattle.std.specs.Prelude.{◌≡◌, ◌≢◌, ◌≤◌, None, Some, IsSome, length, false};
-ghost use Rattle.cube_shape.specs.declared.limits.TheConstants.{MAX_BITMAP_DIM};
-ghost use Rattle.bitmap_tree.specs.Rule.{word_count};
-ghost use Rattle.bitmap_occupancy.specs.Summary.{IsOccupancy};
+ghost use Rattle.std.specs.Prelude.{◌≡◌, ◌≢◌, None, IsSome, [], false};
+ghost use Rattle.bitmap_occupancy.specs.Counted.{IsCountOf};
+ghost use Rattle.bitmap_tree.specs.Handles.{id_of};
 ghost use Rattle.cubejobs_regions.specs.Handle.{machine_of};
-ghost use Rattle.cubejobs_regions.specs.Machine.{OnMachine};
+ghost use Rattle.cubejobs_regions.specs.Machine.{dim_of_machine, tree_of, OnMachine};
 ghost use Rattle.cubejobs_regions.specs.Occupancy.{occupancy_of, CountsNone, IsCounted};
 
 use crate::answer::OccupancyAnswer;
 use crate::codes::{DONE, NOT_OPEN};
 use crate::handle::Handle;
 use crate::machine::Machine;
-use crate::state::State;
-use bitmap_occupancy::{FREE_PLACES, occupancy};
+use crate::places::machine_at;
+use bitmap_occupancy::{FREE_PLACES, Occupancy, occupancy};
+use bitmap_tree::BlockSeat;
 
 impl OccupancyAnswer {
     // Makes the answer of a refused call.
@@ -30,15 +30,12 @@ impl OccupancyAnswer {
     }
 }
 
-// Counts what is free and held by the words of a machine.
-fn count(n: u32, words: &[u64]) -> OccupancyAnswer
-    requires machine { n ≤ MAX_BITMAP_DIM }
-    requires words { length words.now ≡ word_count n }
+// Makes the answer of a count.
+fn answer_of(found: Occupancy) -> OccupancyAnswer
     ensures code { result.code ≡ DONE }
-    ensures counts { IsOccupancy n words.now (occupancy_of result) }
+    ensures counts { occupancy_of result ≡ found }
     ensures no_largest { result.has_free ≡ false → result.largest ≡ 0 }
 {
-    let found = occupancy(n, words);
     let free = found.free;
     match found.largest {
         Some(largest) => OccupancyAnswer {
@@ -58,34 +55,37 @@ fn count(n: u32, words: &[u64]) -> OccupancyAnswer
     }
 }
 
-// Reads each word of a machine into its room, and counts what they say is free and held.
-fn count_machine(machine: &mut Machine) -> OccupancyAnswer
-    ensures code { result.code ≡ DONE }
-    ensures counted { IsCounted result machine.old machine.new }
+// Counts what is free and held in a machine. Returns the seat of the loads too.
+fn count(machine: &Machine) -> (OccupancyAnswer, BlockSeat)
+    ensures code { result.0.code ≡ DONE }
+    ensures table { result.1.table_id ≡ id_of (tree_of machine.now) }
+    ensures counted { IsCountOf (dim_of_machine machine.now) result.1.me.0.trail
+        (occupancy_of result.0) }
+    ensures no_largest { result.0.has_free ≡ false → result.0.largest ≡ 0 }
+    ensures no_slot { result.1.me.1 ≡ [] }
 {
-    let n = machine.common().tree.dim();
-    for word in 0..machine.common().tree.word_count() {
-        machine.room[word as usize] = machine.common().tree.word(word);
-    }
-    count(n, &machine.room)
+    let (found, seat) = occupancy(machine.tree());
+    (answer_of(found), seat)
 }
 
 /// Counts the free blocks of each dimension and the processors in held blocks, and finds the
-/// largest free dimension. Each word is read at some moment of the call.
+/// largest free dimension. Reads each word once. The handle keeps the seat of the call, and so what
+/// its loads found.
 #[unsafe(no_mangle)]
 pub extern "C" fn cubejobs_regions_occupancy(thread: &mut Handle) -> OccupancyAnswer
     ensures not_open { machine_of thread.old ≡ None → result.code ≡ NOT_OPEN }
     ensures done { IsSome (machine_of thread.old) → result.code ≡ DONE }
-    ensures counted { IsSome (machine_of thread.old) → OnMachine (λ machine.
-        OnMachine (IsCounted result machine) (machine_of thread.new)) (machine_of thread.old) }
+    ensures counted { IsSome (machine_of thread.old)
+        → OnMachine (λ machine. IsCounted machine result thread.new) (machine_of thread.old) }
+    ensures no_largest { result.has_free ≡ false → result.largest ≡ 0 }
     ensures nothing { result.code ≢ DONE → CountsNone result }
+    ensures machine { machine_of thread.new ≡ machine_of thread.old }
     ensures unchanged { result.code ≢ DONE → thread.new ≡ thread.old }
 {
     if !thread.is_open() {
         return OccupancyAnswer::refused(NOT_OPEN);
     }
-    match thread.ptr.get_mut() {
-        State::Machine(machine) => count_machine(machine),
-        State::Taken => unreachable!(),
-    }
+    let (answer, seat) = count(machine_at(thread.ptr.get_mut()));
+    thread.keep(seat);
+    answer
 }

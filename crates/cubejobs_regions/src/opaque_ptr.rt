@@ -4,8 +4,8 @@ ghost use Rattle.std.specs.Borrow.{sem};
 ghost use Rattle.cubejobs_regions.specs.declared.state.State.{State as Inside};
 ghost use Rattle.cubejobs_regions.specs.InnerOpaquePtr.{opaque_owns, content_coded};
 
-use crate::parts::Parts;
 use crate::state::State;
+use hidden_box::Parts;
 use std::alloc::Global;
 use std::marker::Model;
 

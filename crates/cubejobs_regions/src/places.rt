@@ -1,6 +1,6 @@
 //! The machine of a handle: as it is lent for a call, or lifted out and put back.
 ghost use Rattle.std.specs.Prelude.{◌≡◌, ◌↔◌, [], None, Some, IfSome, IfNone, IsSome, IsTrue};
-ghost use Rattle.cubejobs_regions.specs.Handle.{end_trail, machine_of, refusal_of_opening};
+ghost use Rattle.cubejobs_regions.specs.Handle.{last_table, last_trail, machine_of, refusal_of_opening};
 ghost use Rattle.cubejobs_regions.specs.MachineIn.{machine_in};
 
 use crate::codes::{ALREADY_OPEN, DONE, OPEN, OTHER_KIND};
@@ -44,7 +44,8 @@ impl Handle {
     pub(crate) fn keep(&mut self, seat: BlockSeat)
         requires no_slot { seat.me.1 ≡ [] }
         ensures machine { machine_of self.new ≡ machine_of self.old }
-        ensures trail { end_trail self.new ≡ seat.me.0.trail }
+        ensures table { last_table self.new ≡ seat.table_id }
+        ensures trail { last_trail self.new ≡ seat.me.0.trail }
     {
         self.seat.keep(seat);
     }

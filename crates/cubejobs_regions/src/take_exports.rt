@@ -29,7 +29,8 @@ pub extern "C" fn cubejobs_regions_take(
     ensures tried { refusal_of_filling region.old ≡ DONE
         → OnMachine (λ machine. k ≤ dim_of_machine machine) (machine_of thread.old)
         → (result.code ≡ DONE) ⊎ (result.code ≡ NOT_NOW) }
-    ensures answered { IsAnsweredBy quick_steps (machine_of thread.old) region.old region.new result }
+    ensures answered { IsAnsweredBy quick_steps (machine_of thread.old) region.old region.new
+        result }
     ensures dimension { result.code ≡ DONE → result.dim ≡ k }
     ensures machine { machine_of thread.new ≡ machine_of thread.old }
     ensures unchanged { result.code ≢ DONE → region.new ≡ region.old }
@@ -58,7 +59,8 @@ pub extern "C" fn cubejobs_regions_take_exact(
     ensures tried { refusal_of_filling region.old ≡ DONE
         → OnMachine (λ machine. k ≤ dim_of_machine machine) (machine_of thread.old)
         → (result.code ≡ DONE) ⊎ (result.code ≡ NO_ROOM) ⊎ (result.code ≡ NOT_NOW) }
-    ensures answered { IsAnsweredBy take_steps (machine_of thread.old) region.old region.new result }
+    ensures answered { IsAnsweredBy take_steps (machine_of thread.old) region.old region.new
+        result }
     ensures dimension { result.code ≡ DONE → result.dim ≡ k }
     ensures found { (result.code ≡ NO_ROOM) ⊎ (result.code ≡ NOT_NOW)
         → OnMachine (λ machine. FoundNoRoom (dim_of_machine machine) k result.contended
@@ -93,7 +95,8 @@ pub extern "C" fn cubejobs_regions_take_at(
     ensures tried { refusal_of_filling region.old ≡ DONE
         → OnMachine (HasBlock base k) (machine_of thread.old)
         → (result.code ≡ DONE) ⊎ (result.code ≡ TAKEN) ⊎ (result.code ≡ NOT_NOW) }
-    ensures answered { IsAnsweredBy block_steps (machine_of thread.old) region.old region.new result }
+    ensures answered { IsAnsweredBy block_steps (machine_of thread.old) region.old region.new
+        result }
     ensures region { result.code ≡ DONE → region_of result ≡ region_at base k }
     ensures found { (result.code ≡ TAKEN) ⊎ (result.code ≡ NOT_NOW)
         → OnMachine (λ machine. FoundInUse (dim_of_machine machine) (region_at base k)

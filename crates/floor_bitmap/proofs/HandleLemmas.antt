@@ -9,7 +9,7 @@ use Rattle.bitmap_tree.specs.declared.handles.BitmapTree.{BitmapTree}
 use Rattle.bitmap_tree.specs.declared.handles.HeldBlock.{HeldBlock}
 use Rattle.bitmap_tree.specs.Handles.{id_of, dim_of, held_region, IsPermitOf, IsHeldByPermit}
 use Rattle.floor_bitmap.specs.declared.handle.BitmapStation.{BitmapStation}
-use Rattle.floor_bitmap.specs.declared.log.Log.{Log}
+use Rattle.ghost_log.specs.declared.log.Log.{Log}
 use Rattle.floor_bitmap.specs.Inner.Handle.{floor_id, station_grants, IsStation, IsHeld}
 
 -- the permit of a station is one of the tree

@@ -1,3 +1,2 @@
 mod HandleLemmas
-mod LogWalks
 pub mod SharedLemmas

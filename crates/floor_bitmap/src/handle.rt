@@ -5,9 +5,9 @@ ghost use Rattle.bitmap_tree.specs.Ends.{IsFresh};
 ghost use Rattle.bitmap_tree.specs.Rule.{word_count};
 ghost use Rattle.floors.specs.Floor.{IsWhollyFree};
 
-use crate::log::Log;
 use bitmap_tree::{HeldBlock, Permit};
 use cube_shape::Region;
+use ghost_log::Log;
 
 /// A station of a `BitmapFloor` that holds no block. It cannot be dropped.
 pub struct BitmapStation {

@@ -7,7 +7,6 @@
 
 mod floor_bitmap;
 mod handle;
-mod log;
 mod members;
 
 pub use floor_bitmap::BitmapFloor;

@@ -6,8 +6,8 @@ ghost use Rattle.bitmap_tree.specs.Handles.{IsPermitOf};
 ghost use Rattle.floor_bitmap.specs.Inner.Handle.{floor_id, station_grants, IsStation};
 
 use crate::handle::BitmapStation;
-use crate::log::Log;
 use bitmap_tree::{BitmapTree, Permit};
+use ghost_log::Log;
 
 // Makes a station of a permit. Its searches begin at the start of its number.
 fn station_of(tree: &BitmapTree, permit: Permit, number: u32) -> BitmapStation

@@ -9,6 +9,7 @@ mod many;
 mod model;
 mod named;
 mod near;
+mod occupancy;
 mod permits;
 mod singles;
 mod stage;

@@ -1,9 +1,8 @@
 -- The bits of the levels so far are set.
-use Rattle.std.proofs.Common.{◌≡◌, ℕ, ◌+◌, ◌/◌, ◌<◌, ◌≤◌}
-use Rattle.bitmap_tree.specs.Rule.{bit_of}
-use Rattle.bitmap_tree.specs.Layout.{place_in}
+use Rattle.std.proofs.Common.{◌≡◌, ℕ, ◌*◌, ◌/◌, ◌%◌, ◌^◌, ◌<◌, slice_index}
+use Rattle.std.specs.Int.{bit_at}
 use Rattle.bitmap_occupancy.proofs.processors.is_held.Given as goal
 
-abbrev pub invariant-loop-above : goal.invariant-loop-above
-invariant-loop-above l = (level : ℕ) → level ≤ l.n / 6 → l.n / 6 < level + l.above
-    → bit_of l.words (place_in l.n level l.processor) ≡ 1
+abbrev pub invariant-loop-level : goal.invariant-loop-level
+invariant-loop-level l = (level : ℕ) → level < l.level
+    → bit_at (slice_index l.path level) (l.processor / 2 ^ (6 * level) % 64) ≡ 1

@@ -17,5 +17,5 @@ returns-in-Err-clause-held c =
     record {
       contended = refused.contended;
       found = no_room_at n n n refused.contended (refused_trail refused) c.into_seat-in-Err.result.me.0.trail refl c.into_seat-in-Err.ensures.trail
-          (subst (λ k. FoundNoRoom n k refused.contended (refused_trail refused)) c.dim.ensures found);
+          (subst (λ k. FoundNoRoom n k refused.contended (refused_trail refused)) c.dim.ensures.dim found);
     }

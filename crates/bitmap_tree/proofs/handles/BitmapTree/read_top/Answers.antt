@@ -1,0 +1,7 @@
+use Rattle.std.proofs.Common.{rules}
+use Rattle.bitmap_tree.specs.InnerRule.{first_view}
+use Rattle.bitmap_tree.proofs.StepLemmas.{enters_step}
+use Rattle.bitmap_tree.proofs.handles.BitmapTree.read_top.Goals as goal
+
+pub load_new_seat-requires : goal.load_new_seat-requires
+load_new_seat-requires c = (search rules, enters_step _ _ _ (first_view c.args.self.now.table.shared.key))
