@@ -14,3 +14,5 @@ pub mod RoundLemmas
 pub mod PoolLemmas
 pub mod AskLemmas
 pub mod LookLemmas
+pub mod FindLemmas
+pub mod CallerLemmas

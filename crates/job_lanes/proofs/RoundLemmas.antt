@@ -29,7 +29,7 @@ at lanes from k = ⊎_elim
 distance_low : (lanes from k : ℕ) → from < lanes → k < lanes → distance lanes from k < lanes
 distance_low lanes from k first low = elim (at lanes from k) [ before p is ↦ omega (arith, is, p) | after p is ↦ omega (arith, is, p) ]
 
-one_distance : (lanes from k m : ℕ)
+pub one_distance : (lanes from k m : ℕ)
     → from < lanes
     → k < lanes
     → m < lanes
@@ -99,7 +99,7 @@ round_begins lanes from w first = record {
 }
 
 -- what the call in one lane leaves in the others
-others_stay : (lane k : ℕ) (mid now : WorkerRecord)
+pub others_stay : (lane k : ℕ) (mid now : WorkerRecord)
     → ChangesOnly lane mid now
     → k ≢ lane
     → take_of k now ≡ take_of k mid

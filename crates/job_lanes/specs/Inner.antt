@@ -6,3 +6,5 @@ pub mod Rest
 pub mod Round
 pub mod Pool
 pub mod PoolLaw
+pub mod Find
+pub mod Caller

@@ -32,6 +32,8 @@ pub record MembersOf : Type 0 where
 pub record LaneOf : Type 0 where
   pub id : LanesId
   pub known : LaneRecord
+  -- After an accepted job it has still to look at the words of sleepers from `next` on.
+  pub next : ℕ
 
 -- The handle of a worker.
 pub record WorkerOf : Type 0 where
@@ -81,6 +83,14 @@ Submits payload dim old Closed new =
 Submits payload dim old Spent new =
     (MAX_JOBS ≤ length old.accepted) × (new.accepted ≡ old.accepted) × (new.fulls ≡ old.fulls)
     × (new.refused ≡ old.refused)
+
+-- From which word of sleepers on the producer has to look after a submit: from the first, once the
+-- job is accepted.
+abbrev pub LooksNext : Submitted → ℕ → ℕ → Type 0
+LooksNext (Accepted seq) old new = new ≡ 0
+LooksNext Full old new = new ≡ old
+LooksNext Closed old new = new ≡ old
+LooksNext Spent old new = new ≡ old
 
 -- What `take` does to the worker's record of the lane. It took the job at the head, and the lane
 -- then had as many jobs left as are accepted and after it. Or another worker had taken that job. Or
@@ -143,3 +153,11 @@ pub record TakeAnyKeeps (lanes : ℕ) (old new : WorkerRecord) : Type 0 where
   pub plan : new.plan ≡ old.plan
   pub long : length new.lanes ≡ length old.lanes
   pub steps : (k : ℕ) → k < lanes → (take_of k new).steps ≤ (take_of k old).steps + call_steps
+
+-- The number of atomic steps that a worker makes at most when it looks at one lane.
+abbrev pub look_steps : ℕ
+look_steps = 2
+
+-- A worker took no job in the lane, and made at most this number of atomic steps there.
+abbrev pub TakesNothing : ℕ → TakeRecord → TakeRecord → Type 0
+TakesNothing n old new = (new.taken ≡ old.taken) × (new.steps ≤ old.steps + n)

@@ -3,6 +3,7 @@ pub mod Record
 pub mod History
 pub mod Lanes
 pub mod Run
+pub mod Phases
 pub mod Sleep
 pub mod Inner
 pub use Rattle.wake_pool.specs.Law.{IsServed}

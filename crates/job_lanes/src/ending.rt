@@ -11,6 +11,7 @@ use crate::lanes::{Lanes, cell_at, word_of};
 use crate::record::LaneJob;
 use crate::rule::Gather;
 use crate::sizes::{CLOSED, HEAD, Plan, TAIL};
+use crate::sleeping::Sleeper;
 use atomic_table::Closed;
 use std::alloc::Global;
 use std::collections::VecDeque;
@@ -103,12 +104,25 @@ impl Lanes {
         ensures lanes { end.new.lanes ≡ end.old.lanes }
         ensures counts { end.new.counts ≡ end.old.counts }
     {
-        let Worker {
+        let Worker { sleeper } = worker;
+        self.gather_sleeper(end, sleeper);
+    }
+
+    // The same, whatever it does at the moment.
+    fn gather_sleeper(&self, end: &mut LanesEnd, sleeper: Sleeper)
+        requires end { end.old.id ≡ self.now }
+        requires sleeper { sleeper.id ≡ self.now }
+        ensures id { end.new.id ≡ self.now }
+        ensures workers { end.new.workers ≡ end.old.workers ++ sleeper.known ∷ [] }
+        ensures lanes { end.new.lanes ≡ end.old.lanes }
+        ensures counts { end.new.counts ≡ end.old.counts }
+    {
+        let Sleeper {
             seat,
             plan: _,
             number: _,
             tails: _,
-        } = worker;
+        } = sleeper;
         self.table.shared.join_seat::<Gather>(&mut end.seat, seat);
     }
 }

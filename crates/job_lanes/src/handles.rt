@@ -1,6 +1,7 @@
 // What the callers of lanes hold. Only the members of new lanes can be dropped: the other handles
 // are consumed by the end of the lanes.
 use crate::sizes::Plan;
+use crate::sleeping::Sleeper;
 use crate::view::Both;
 use atomic_table::Badge;
 use std::marker::Model;
@@ -30,7 +31,8 @@ impl Model for Members {
       dealt_workers = m.dealt_workers;
     } };
 
-    ghost invariant = { λ m. IsMembersSeat m.plan m.dealt_lanes m.dealt_workers (known_sat m.seat.me)
+    ghost invariant = { λ m.
+        IsMembersSeat m.plan m.dealt_lanes m.dealt_workers (known_sat m.seat.me)
         × (m.dealt_lanes ≤ m.plan.sizes.lanes)
         × (m.dealt_workers ≤ m.plan.sizes.workers)
         × AreIdle m.plan m.dealt_lanes m.dealt_workers m.seat.me };
@@ -61,6 +63,7 @@ impl Model for Lane {
     ghost view = { λ l. record {
       id = record { table = l.seat.table_id; plan = l.plan };
       known = lane_in l.seat.me.0.known.lanes;
+      next = l.next;
     } };
 
     ghost invariant = { λ l. IsLane l.plan l.number l.seen (known_sat l.seat.me)
@@ -71,29 +74,19 @@ impl Model for Lane {
 
 /// The right to take jobs from every lane.
 pub struct Worker {
-    pub(crate) seat: Seat,
-    pub(crate) plan: Plan,
-    pub(crate) number: u32,
-    // For each lane the number of accepted jobs when the worker last read it, so that it need not
-    // read it before each job.
-    pub(crate) tails: Vec<u64>,
+    pub(crate) sleeper: Sleeper,
 }
 
 impl Model for Worker {
+    ghost use Rattle.std.specs.Prelude.{◌≡◌};
     ghost use Rattle.job_lanes.specs.Lanes.{WorkerOf};
-    ghost use Rattle.job_lanes.specs.Inner.Step.{IsWorker, worker_in};
-    ghost use Rattle.job_lanes.specs.Inner.Pool.{IsSleeper, known_sat};
     ghost use Rattle.wake_pool.specs.declared.phase.WakePhase.TheVariants.{Idle};
 
     ghost Value = { WorkerOf };
 
-    ghost view = { λ w. record {
-      id = record { table = w.seat.table_id; plan = w.plan };
-      known = worker_in w.seat.me.0.known.workers;
-    } };
+    ghost view = { λ w. record { id = w.sleeper.id; known = w.sleeper.known } };
 
-    ghost invariant = { λ w. IsWorker w.plan w.number w.tails.items (known_sat w.seat.me)
-        × IsSleeper w.plan w.number Idle w.seat.me };
+    ghost invariant = { λ w. w.sleeper.phase ≡ Idle };
 }
 
 /// Names lanes, without a right to any call.
@@ -119,7 +112,9 @@ pub struct Closer {
 
 impl Model for Closer {
     ghost use Rattle.std.specs.Prelude.{◌≡◌, [], ◌∷◌};
+    ghost use Rattle.wake_pool.specs.declared.phase.WakePhase.TheVariants.{Idle};
     ghost use Rattle.job_lanes.specs.Lanes.{CloserOf};
+    ghost use Rattle.job_lanes.specs.Inner.Caller.{IsCaller};
     ghost use Rattle.job_lanes.specs.Inner.View.{closer_view, fresh_closer};
     ghost use Rattle.job_lanes.specs.Inner.Pool.{known_sat};
 
@@ -127,7 +122,8 @@ impl Model for Closer {
 
     ghost view = { λ c. record { id = record { table = c.seat.table_id; plan = c.plan } } };
 
-    ghost invariant = { λ c. known_sat c.seat.me ≡ (closer_view (fresh_closer c.plan), []) };
+    ghost invariant = { λ c. (known_sat c.seat.me ≡ (closer_view (fresh_closer c.plan), []))
+        × IsCaller c.plan Idle c.seat.me };
 }
 
 /// Shows that all lanes are closed.
@@ -140,7 +136,9 @@ pub struct Note {
 impl Model for Note {
     ghost use Rattle.std.specs.Prelude.{◌≡◌, ◌^◌, ◌-◌, min};
     ghost use Rattle.std.specs.List.{sum};
+    ghost use Rattle.wake_pool.specs.declared.phase.WakePhase.TheVariants.{Idle};
     ghost use Rattle.job_lanes.specs.Lanes.{NoteOf};
+    ghost use Rattle.job_lanes.specs.Inner.Caller.{IsCaller};
     ghost use Rattle.job_lanes.specs.Inner.Step.{IsNoteSeat, counts_in};
     ghost use Rattle.job_lanes.specs.Inner.Pool.{known_sat};
 
@@ -152,7 +150,8 @@ impl Model for Note {
     } };
 
     ghost invariant = { λ n. IsNoteSeat n.plan (known_sat n.seat.me)
-        × (n.total ≡ min (sum (counts_in (known_sat n.seat.me))) (2 ^ 64 - 1)) };
+        × (n.total ≡ min (sum (counts_in (known_sat n.seat.me))) (2 ^ 64 - 1))
+        × IsCaller n.plan Idle n.seat.me };
 }
 
 /// The producers and workers of closed lanes that have come back, with the note.
@@ -182,7 +181,7 @@ impl Members {
     ghost use Rattle.std.specs.Prelude.{◌≡◌};
 
     /// Returns the closer, once all lanes and all workers are dealt out.
-    #[tactic(auto, using(crate::proofs::DealLemmas::only_closer))]
+    #[tactic(auto, using(crate::proofs::DealLemmas::only_closer, crate::proofs::CallerLemmas::only_caller))]
     pub fn into_closer(self) -> Closer
         requires lanes { self.dealt_lanes ≡ self.id.plan.sizes.lanes }
         requires workers { self.dealt_workers ≡ self.id.plan.sizes.workers }
@@ -265,17 +264,12 @@ impl Worker {
     pub fn number(&self) -> u32
         ensures { result ≡ self.now.known.number }
     {
-        self.number
+        self.sleeper.number()
     }
 
     /// Drops the worker. The lanes cannot end then.
     pub fn abandon(self) {
-        let Worker {
-            seat,
-            plan: _,
-            number: _,
-            tails: _,
-        } = self;
-        drop(seat);
+        let Worker { sleeper } = self;
+        sleeper.abandon();
     }
 }

@@ -1,17 +1,19 @@
 // The lanes: they are opened, and their handles are dealt out.
 ghost use Rattle.std.specs.Prelude.{◌≡◌, ◌+◌, ◌<◌, ◌≤◌, IfOk, OnErr, length, replicate};
+ghost use Rattle.wake_pool.specs.declared.phase.WakePhase.TheVariants.{Idle};
 ghost use Rattle.wake_pool.specs.Words.{base};
+ghost use Rattle.wake_pool.specs.Words as sleepers;
 ghost use Rattle.job_lanes.specs.Inner.Rest.{IsSmall};
 ghost use Rattle.job_lanes.specs.Layout.{lane_words, lane_start, all_words, cell_of};
 ghost use Rattle.job_lanes.specs.Record.{fresh_lane, fresh_worker};
 ghost use Rattle.job_lanes.specs.Run.{WholeLanes};
-ghost use Rattle.job_lanes.specs.Inner.Rest.{IsSmall};
 
 use crate::ending::drain;
 use crate::handles::{Lane, LanesEnd, LanesName, Members, Worker};
 use crate::record::LaneJob;
 use crate::rule::{DealLane, DealNone, DealWorker, LanesRule};
 use crate::sizes::{CELLS, MAX_CAPACITY, MAX_LANES, MAX_WORKERS, Plan, Sizes};
+use crate::sleeping::Sleeper;
 use crate::view::Both;
 use atomic_table::Table;
 use std::alloc::{AllocError, Global};
@@ -176,6 +178,7 @@ impl Lanes {
         ensures id { result.id ≡ self.now }
         ensures fresh { result.known
             ≡ fresh_lane self.now.plan.sizes.capacity members.old.dealt_lanes }
+        ensures next { result.next ≡ sleepers.word_count self.now.plan.sleepers }
         ensures lanes { members.new.dealt_lanes ≡ members.old.dealt_lanes + 1 }
         ensures workers { members.new.dealt_workers ≡ members.old.dealt_workers }
     {
@@ -242,13 +245,29 @@ impl Lanes {
         ensures workers { members.new.dealt_workers ≡ members.old.dealt_workers + 1 }
         ensures lanes { members.new.dealt_lanes ≡ members.old.dealt_lanes }
     {
+        let sleeper = self.seat_sleeper(members, tails);
+        Worker { sleeper }
+    }
+
+    // The same as one that may sleep.
+    fn seat_sleeper(&self, members: &mut Members, tails: Vec<u64>) -> Sleeper
+        requires members { members.old.id ≡ self.now }
+        requires more { members.old.dealt_workers < self.now.plan.sizes.workers }
+        requires tails { tails.items ≡ replicate self.now.plan.sizes.lanes 0 }
+        ensures members { members.new.id ≡ self.now }
+        ensures id { result.id ≡ self.now }
+        ensures idle { result.phase ≡ Idle }
+        ensures fresh { result.known ≡ fresh_worker self.now.plan members.old.dealt_workers }
+        ensures workers { members.new.dealt_workers ≡ members.old.dealt_workers + 1 }
+        ensures lanes { members.new.dealt_lanes ≡ members.old.dealt_lanes }
+    {
         let number = members.dealt_workers;
         let seat = self
             .table
             .shared
             .split_seat::<DealWorker>(&mut members.seat);
         members.dealt_workers += 1;
-        Worker {
+        Sleeper {
             seat,
             plan: self.plan,
             number,

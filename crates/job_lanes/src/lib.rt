@@ -8,6 +8,8 @@
 
 mod closing;
 mod ending;
+mod finder;
+mod finding;
 mod handles;
 mod lanes;
 mod record;
@@ -22,6 +24,7 @@ mod takes;
 mod tests;
 mod view;
 
+pub use finder::{At, Finder, Finding, Found};
 pub use handles::{Closer, Lane, LanesEnd, LanesName, Members, Note, Worker};
 pub use lanes::Lanes;
 pub use record::{LaneJob, LaneRecord, Sight, TakeRecord, WorkerRecord};

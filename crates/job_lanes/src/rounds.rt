@@ -1,14 +1,13 @@
 // A look at one lane, and a round of all lanes.
-ghost use Rattle.std.specs.Prelude.{◌≡◌, ◌+◌, ◌<◌, ◌≤◌, IfSome, IfNone};
-ghost use Rattle.job_lanes.specs.declared.takes.Taken.TheVariants.{Job};
+ghost use Rattle.std.specs.Prelude.{◌≡◌, ◌+◌, ◌<◌};
 ghost use Rattle.job_lanes.specs.Record.{take_of};
-ghost use Rattle.job_lanes.specs.Lanes.{Looks, Takes, TakesAny, TakeAnyKeeps, ChangesOnly, call_steps, distance};
-ghost use Rattle.job_lanes.specs.Inner.Round.{Passing, next_lane};
+ghost use Rattle.job_lanes.specs.Lanes.{Looks, TakesAny, TakeAnyKeeps, ChangesOnly};
+ghost use Rattle.job_lanes.specs.Inner.Round.{next_lane};
 
 use crate::handles::Worker;
 use crate::lanes::Lanes;
 use crate::record::LaneJob;
-use crate::takes::Taken;
+use crate::sleeping::Sleeper;
 
 /// The outcome of a look at one lane.
 #[derive(Clone, Copy, Debug, PartialEq, Eq)]
@@ -34,7 +33,7 @@ pub enum TakenAny {
 }
 
 // Returns the lane after this one, in a round.
-fn lane_after(lane: u32, lanes: u32) -> u32
+pub(crate) fn lane_after(lane: u32, lanes: u32) -> u32
     requires { lane < lanes }
     ensures { result ≡ next_lane lanes lane }
 {
@@ -44,7 +43,6 @@ fn lane_after(lane: u32, lanes: u32) -> u32
 impl Lanes {
     /// Looks for a job in the lane, without taking it. It makes at most two atomic steps in that
     /// lane, of which the first reads how many jobs were taken.
-    #[tactic(auto, using(crate::proofs::CallLemmas::only_again))]
     pub fn look(&self, worker: &mut Worker, lane: u32) -> Looked
         requires id { worker.old.id ≡ self.now }
         requires lane { lane < self.now.plan.sizes.lanes }
@@ -53,34 +51,25 @@ impl Lanes {
         ensures looks { Looks (take_of lane worker.old.known) result
             (take_of lane worker.new.known) }
     {
-        let head = self.read_head(worker, lane);
-        match self.find(worker, lane, head) {
+        self.look_as(&mut worker.sleeper, lane)
+    }
+
+    // The same, whatever the worker does at the moment.
+    #[tactic(auto, using(crate::proofs::CallLemmas::only_again))]
+    fn look_as(&self, sleeper: &mut Sleeper, lane: u32) -> Looked
+        requires id { sleeper.old.id ≡ self.now }
+        requires lane { lane < self.now.plan.sizes.lanes }
+        ensures id { sleeper.new.id ≡ self.now }
+        ensures same { sleeper.new.phase ≡ sleeper.old.phase }
+        ensures only { ChangesOnly lane sleeper.old.known sleeper.new.known }
+        ensures looks { Looks (take_of lane sleeper.old.known) result
+            (take_of lane sleeper.new.known) }
+    {
+        let head = self.head_of(sleeper, lane);
+        match self.count_of(sleeper, lane, head) {
             Err(true) => Looked::AllTaken,
             Err(false) => Looked::NoneLeft,
             Ok(count) => Looked::Jobs(count - head),
-        }
-    }
-
-    // Takes a job of one lane in a round. `all_ended` is whether all lanes so far had ended.
-    fn visit(&self, worker: &mut Worker, lane: u32, all_ended: &mut bool) -> Option<(LaneJob, u64)>
-        requires id { worker.old.id ≡ self.now }
-        requires lane { lane < self.now.plan.sizes.lanes }
-        ensures id { worker.new.id ≡ self.now }
-        ensures only { ChangesOnly lane worker.old.known worker.new.known }
-        ensures job { IfSome result (λ found. Takes (take_of lane worker.old.known)
-            (Job found.0 found.1) (take_of lane worker.new.known)) }
-        ensures none { IfNone result (Passing all_ended.old all_ended.new
-            (take_of lane worker.old.known) (take_of lane worker.new.known)) }
-        ensures steps { (take_of lane worker.new.known).steps
-            ≤ (take_of lane worker.old.known).steps + call_steps }
-    {
-        match self.take(worker, lane) {
-            Taken::Job(job, left) => Some((job, left)),
-            Taken::Ended => None,
-            Taken::Empty | Taken::Lost => {
-                *all_ended = false;
-                None
-            }
         }
     }
 
@@ -94,19 +83,6 @@ impl Lanes {
             worker.new.known }
         ensures keeps { TakeAnyKeeps self.now.plan.sizes.lanes worker.old.known worker.new.known }
     {
-        let mut lane = from;
-        let mut all_ended = true;
-        let mut turn = 0;
-        while turn < self.plan.sizes.lanes {
-            if let Some((job, left)) = self.visit(worker, lane, &mut all_ended) {
-                return TakenAny::AnyJob(lane, job, left);
-            }
-            lane = lane_after(lane, self.plan.sizes.lanes);
-            turn += 1;
-        }
-        if all_ended {
-            return TakenAny::AllEnded;
-        }
-        TakenAny::NoJob
+        self.take_round(&mut worker.sleeper, from, false)
     }
 }

@@ -1,5 +1,5 @@
 // A worker that may sleep: each call of `wake_calls`, of one atomic step, for the seat of a worker.
-ghost use Rattle.std.specs.Prelude.{ℕ, ◌≡◌, ◌+◌, ◌<◌, true, false};
+ghost use Rattle.std.specs.Prelude.{ℕ, ◌≡◌, ◌+◌, ◌<◌, ◌≤◌, true, false};
 ghost use Rattle.wake_pool.specs.declared.phase.WakePhase.TheVariants.{Idle, Waking, Looking, Giving, Calling, Searching, Found, Resting, Returning, Reading, Parked};
 ghost use Rattle.wake_pool.specs.Schedule.{waking, looking, resting};
 ghost use Rattle.wake_pool.specs.Words.{word_count, world_of};
@@ -11,7 +11,7 @@ ghost use Rattle.atomic_table.specs.Table.{State};
 ghost use Rattle.wake_pool.specs.Law.{IsServed};
 ghost use Rattle.job_lanes.specs.Inner.Pool.{KeepsBoth, jobs_in, looked, LooksAt};
 ghost use Rattle.job_lanes.specs.Record.{take_of};
-ghost use Rattle.job_lanes.specs.Lanes.{ChangesOnly};
+ghost use Rattle.job_lanes.specs.Lanes.{ChangesOnly, TakesNothing, look_steps};
 ghost use Rattle.job_lanes.specs.declared.sizes.Plan.{Plan as ThePlan};
 ghost use Rattle.job_lanes.specs.declared.view.Both.{Both as TheBoth};
 
@@ -55,40 +55,46 @@ impl Worker {
         ensures known { result.known ≡ self.known }
         ensures idle { result.phase ≡ Idle }
     {
-        let Worker {
-            seat,
-            plan,
-            number,
-            tails,
-        } = self;
-        Sleeper {
-            seat,
-            plan,
-            number,
-            tails,
-        }
+        let Worker { sleeper } = self;
+        sleeper
     }
 }
 
 impl Sleeper {
+    /// Returns the worker's number.
+    pub fn number(&self) -> u32
+        ensures { result ≡ self.now.known.number }
+    {
+        let number = self.number;
+        number
+    }
+
+    // Returns whether its lanes have a word for it.
+    pub(crate) fn may_sleep(&self) -> bool
+        ensures yes { result ≡ true → self.now.known.number < self.now.id.plan.sleepers }
+        ensures no { result ≡ false → self.now.id.plan.sleepers ≤ self.now.known.number }
+    {
+        self.number < self.plan.sleepers
+    }
+
+    /// Drops the worker. The lanes cannot end then.
+    pub fn abandon(self) {
+        let Sleeper {
+            seat,
+            plan: _,
+            number: _,
+            tails: _,
+        } = self;
+        drop(seat);
+    }
+
     /// Returns the worker, which is idle.
     pub fn into_worker(self) -> Worker
         requires { self.phase ≡ Idle }
         ensures id { result.id ≡ self.id }
         ensures known { result.known ≡ self.known }
     {
-        let Sleeper {
-            seat,
-            plan,
-            number,
-            tails,
-        } = self;
-        Worker {
-            seat,
-            plan,
-            number,
-            tails,
-        }
+        Worker { sleeper: self }
     }
 }
 
@@ -175,6 +181,8 @@ impl Lanes {
         ensures id { sleeper.new.id ≡ self.now }
         ensures only { ChangesOnly lane sleeper.old.known sleeper.new.known }
         ensures phase { sleeper.new.phase ≡ looked self.now.plan sleeper.old.phase result }
+        ensures none { TakesNothing 1 (take_of lane sleeper.old.known)
+            (take_of lane sleeper.new.known) }
     {
         let tail = self.word(lane, TAIL);
         let found = self.table.shared.load::<LookOn>(&mut sleeper.seat, tail);
@@ -188,7 +196,7 @@ impl Lanes {
 
     /// Looks at a lane, after `rest` or `lie_down`. Returns whether it is empty. If it is not, the
     /// worker takes its bit back (`try_back`).
-    #[tactic(auto, using(crate::proofs::CallLemmas::only_again))]
+    #[tactic(auto, using(crate::proofs::CallLemmas::only_again, crate::proofs::FindLemmas::looks_once))]
     pub fn look_before_park(&self, sleeper: &mut Sleeper, lane: u32) -> bool
         requires id { sleeper.old.id ≡ self.now }
         requires lane { lane < self.now.plan.sizes.lanes }
@@ -198,6 +206,8 @@ impl Lanes {
         ensures empty { result ≡ true → sleeper.new.phase
             ≡ resting self.now.plan.sizes.lanes (lane + 1) }
         ensures job { result ≡ false → sleeper.new.phase ≡ Returning }
+        ensures none { TakesNothing look_steps (take_of lane sleeper.old.known)
+            (take_of lane sleeper.new.known) }
     {
         let head = self.head_of(sleeper, lane);
         self.look_at(sleeper, lane, head)
@@ -205,7 +215,7 @@ impl Lanes {
 
     /// Looks at a lane, after `leave`. Returns whether it is empty. If it is not, the worker wakes
     /// another (`wake`).
-    #[tactic(auto, using(crate::proofs::CallLemmas::only_again))]
+    #[tactic(auto, using(crate::proofs::CallLemmas::only_again, crate::proofs::FindLemmas::looks_once))]
     pub fn look_for_more(&self, sleeper: &mut Sleeper, lane: u32) -> bool
         requires id { sleeper.old.id ≡ self.now }
         requires lane { lane < self.now.plan.sizes.lanes }
@@ -216,6 +226,8 @@ impl Lanes {
             ≡ looking self.now.plan.sizes.lanes (lane + 1) }
         ensures job { result ≡ false → sleeper.new.phase
             ≡ waking (word_count self.now.plan.sleepers) 0 }
+        ensures none { TakesNothing look_steps (take_of lane sleeper.old.known)
+            (take_of lane sleeper.new.known) }
     {
         let head = self.head_of(sleeper, lane);
         self.look_at(sleeper, lane, head)
@@ -328,6 +340,7 @@ impl Lanes {
         ensures nobody { result ≡ Nobody → sleeper.new.phase ≡ Idle }
         ensures woken { (x : ℕ) → result ≡ WokenWorker x → sleeper.new.phase ≡ Giving x }
         ensures again { (b : ℕ) → result ≡ WakeAgain b → sleeper.new.phase ≡ Waking b }
+        ensures left { (b : ℕ) → result ≡ WakeAgain b → b < word_count self.now.plan.sleepers }
         ensures worker { (x : ℕ) → result ≡ WokenWorker x → x < self.now.plan.sleepers }
     {
         let workers = self.plan.sleepers;
@@ -393,5 +406,6 @@ impl Lanes {
 /// job and no call waits while all threads that could serve it sleep.
 pub fn all_lanes_are_served()
     ensures { (plan : ThePlan) (s : State (Unit {0}) TheBoth) (kept : KeepsBoth plan s)
-        → IsServed (world_of plan.sleepers plan.sizes.lanes s.words (jobs_in plan s.words) kept.phases) }
+        → IsServed (world_of plan.sleepers plan.sizes.lanes s.words (jobs_in plan s.words)
+        kept.phases) }
 {}

@@ -1,8 +1,10 @@
 // What a producer does: each atomic step by a function of its own, and the call.
 ghost use Rattle.std.specs.Prelude.{◌≡◌, ℕ, ◌+◌, ◌^◌, ◌<◌, ◌≤◌, ◌⊎◌, Some, length, MatchBool, IfOk, IfErr};
+ghost use Rattle.job_lanes.specs.Layout.{cell_of, lane_words};
 ghost use Rattle.job_lanes.specs.Record.{after_count, after_full, after_room, after_payload, after_dim, after_accept, after_refusal};
-ghost use Rattle.job_lanes.specs.Lanes.{Submits, SubmitKeeps};
-ghost use Rattle.wake_calls.specs.declared.waking.Wake.TheVariants.{Worker as WokenWorker};
+ghost use Rattle.job_lanes.specs.Lanes.{Submits, SubmitKeeps, LooksNext};
+ghost use Rattle.wake_pool.specs.Words as sleepers;
+ghost use Rattle.wake_calls.specs.declared.waking.Wake.TheVariants.{Nobody, Worker as WokenWorker, Again as WakeAgain};
 
 use crate::handles::Lane;
 use crate::lanes::Lanes;
@@ -33,6 +35,7 @@ impl Lanes {
             × (count ≡ length lane.old.known.accepted)) }
         ensures closed { IfErr result (λ count. lane.new.known
             ≡ after_refusal count lane.old.known) }
+        ensures next { lane.new.next ≡ lane.old.next }
     {
         let tail = self.word(lane.number, TAIL);
         let found = self.table.shared.load::<ReadCount>(&mut lane.seat, tail);
@@ -57,6 +60,7 @@ impl Lanes {
             × (lane.new.known ≡ after_full taken lane.old.known)) }
         ensures room { MatchBool result
             (count < lane.new.known.seen + lane.new.known.capacity) (Unit {0}) }
+        ensures next { lane.new.next ≡ lane.old.next }
     {
         if count < lane.seen + self.plan.sizes.capacity {
             return true;
@@ -76,6 +80,7 @@ impl Lanes {
             × (lane.new.known ≡ after_full taken lane.old.known)) }
         ensures room { MatchBool result
             (count < lane.new.known.seen + lane.new.known.capacity) (Unit {0}) }
+        ensures next { lane.new.next ≡ lane.old.next }
     {
         let head = self.word(lane.number, HEAD);
         let taken = self.table.shared.load::<Look>(&mut lane.seat, head);
@@ -88,28 +93,34 @@ impl Lanes {
     }
 
     // Puts the payload in the cell of the lane's next job.
-    pub(crate) fn put_payload(&self, lane: &mut Lane, count: u64, payload: u64)
+    pub(crate) fn put_payload(&self, lane: &mut Lane, count: u64, cell: usize, payload: u64)
         requires id { lane.old.id ≡ self.now }
         requires count { count ≡ length lane.old.known.accepted }
+        requires cell { cell ≡ cell_of self.now.plan.sizes.capacity count }
+        requires inside { cell + 1 < lane_words self.now.plan.sizes.capacity }
         requires room { count < lane.old.known.seen + lane.old.known.capacity }
         ensures id { lane.new.id ≡ self.now }
         ensures known { lane.new.known ≡ after_payload payload lane.old.known }
+        ensures next { lane.new.next ≡ lane.old.next }
     {
-        let word = self.word(lane.number, self.cell(count));
+        let word = self.word(lane.number, cell);
         self.table
             .shared
             .store::<PutPayload>(&mut lane.seat, word, payload);
     }
 
     // Puts the dimension in the cell after it.
-    pub(crate) fn put_dim(&self, lane: &mut Lane, count: u64, dim: u32)
+    pub(crate) fn put_dim(&self, lane: &mut Lane, count: u64, cell: usize, dim: u32)
         requires id { lane.old.id ≡ self.now }
         requires count { count ≡ length lane.old.known.accepted }
+        requires cell { cell ≡ cell_of self.now.plan.sizes.capacity count }
+        requires inside { cell + 1 < lane_words self.now.plan.sizes.capacity }
         requires room { count < lane.old.known.seen + lane.old.known.capacity }
         ensures id { lane.new.id ≡ self.now }
         ensures known { lane.new.known ≡ after_dim dim lane.old.known }
+        ensures next { lane.new.next ≡ lane.old.next }
     {
-        let word = self.word(lane.number, self.cell(count) + 1);
+        let word = self.word(lane.number, cell + 1);
         self.table
             .shared
             .store::<PutDim>(&mut lane.seat, word, dim as u64);
@@ -126,6 +137,7 @@ impl Lanes {
         ensures known { MatchBool result
             (lane.new.known ≡ after_accept _payload _dim lane.old.known)
             ((found : ℕ) × (lane.new.known ≡ after_refusal found lane.old.known)) }
+        ensures next { MatchBool result (lane.new.next ≡ 0) (lane.new.next ≡ lane.old.next) }
     {
         let tail = self.word(lane.number, TAIL);
         let found = self
@@ -146,6 +158,7 @@ impl Lanes {
         ensures id { lane.new.id ≡ self.now }
         ensures known { Submits payload dim lane.old.known result lane.new.known }
         ensures keeps { SubmitKeeps lane.old.known lane.new.known }
+        ensures next { LooksNext result lane.old.next lane.new.next }
     {
         let Ok(count) = self.read_count(lane) else {
             return Submitted::Closed;
@@ -156,8 +169,9 @@ impl Lanes {
         if !self.has_room(lane, count) {
             return Submitted::Full;
         }
-        self.put_payload(lane, count, payload);
-        self.put_dim(lane, count, dim);
+        let cell = self.cell(count);
+        self.put_payload(lane, count, cell, payload);
+        self.put_dim(lane, count, cell, dim);
         if self.accept(lane, count, payload, dim) {
             Submitted::Accepted(count)
         } else {
@@ -173,6 +187,13 @@ impl Lanes {
         ensures id { lane.new.id ≡ self.now }
         ensures known { lane.new.known ≡ lane.old.known }
         ensures worker { (x : ℕ) → result ≡ WokenWorker x → x < self.now.plan.sleepers }
+        ensures nobody { result ≡ Nobody → lane.new.next
+            ≡ sleepers.word_count self.now.plan.sleepers }
+        ensures woken { (x : ℕ) → result ≡ WokenWorker x → lane.new.next
+            ≡ sleepers.word_count self.now.plan.sleepers }
+        ensures again { (b : ℕ) → result ≡ WakeAgain b → lane.new.next ≡ b }
+        ensures left { (b : ℕ) → result ≡ WakeAgain b
+            → b < sleepers.word_count self.now.plan.sleepers }
     {
         let workers = self.plan.sleepers;
         let words = word_count(workers);

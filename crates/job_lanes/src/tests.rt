@@ -8,6 +8,7 @@ use crate::lanes::Lanes;
 use crate::record::LaneJob;
 use crate::rounds::TakenAny;
 use crate::sizes::{MAX_JOBS, Sizes};
+use crate::sleeping::Sleeper;
 use crate::submits::Submitted;
 use crate::takes::Taken;
 use std::fmt::Debug;
@@ -64,29 +65,32 @@ fn begin_submit(lanes: &Lanes, lane: &mut Lane, payload: u64) -> Option<u64>
     if count >= MAX_JOBS || !lanes.has_room(lane, count) {
         return None;
     }
-    lanes.put_payload(lane, count, payload);
-    lanes.put_dim(lane, count, 1);
+    let cell = lanes.cell(count);
+    lanes.put_payload(lane, count, cell, payload);
+    lanes.put_dim(lane, count, cell, 1);
     Some(count)
 }
 
 // Makes all steps of a take except the last. Returns the job.
-fn begin_take(lanes: &Lanes, worker: &mut Worker) -> Option<LaneJob>
-    requires id { worker.old.id ≡ lanes.now }
+fn begin_take(lanes: &Lanes, sleeper: &mut Sleeper) -> Option<LaneJob>
+    requires id { sleeper.old.id ≡ lanes.now }
     requires some { 0 < lanes.now.plan.sizes.lanes }
-    ensures id { worker.new.id ≡ lanes.now }
-    ensures head { IfSome result (λ job. job.seq ≡ (take_of 0 worker.new.known).head) }
+    ensures id { sleeper.new.id ≡ lanes.now }
+    ensures same { sleeper.new.phase ≡ sleeper.old.phase }
+    ensures head { IfSome result (λ job. job.seq ≡ (take_of 0 sleeper.new.known).head) }
     ensures payload { IfSome result (λ job.
-        (take_of 0 worker.new.known).payload ≡ Some job.payload) }
-    ensures dim { IfSome result (λ job. (take_of 0 worker.new.known).dim ≡ Some job.dim) }
+        (take_of 0 sleeper.new.known).payload ≡ Some job.payload) }
+    ensures dim { IfSome result (λ job. (take_of 0 sleeper.new.known).dim ≡ Some job.dim) }
     ensures small { IfSome result (λ job. job.seq < MAX_JOBS) }
 {
-    let head = lanes.read_head(worker, 0);
-    lanes.find(worker, 0, head).ok()?;
+    let head = lanes.head_of(sleeper, 0);
+    lanes.count_of(sleeper, 0, head).ok()?;
     if head >= MAX_JOBS {
         return None;
     }
-    let payload = lanes.read_payload(worker, 0, head);
-    let dim = lanes.read_dim(worker, 0, head);
+    let cell = lanes.cell(head);
+    let payload = lanes.payload_of(sleeper, 0, head, cell);
+    let dim = lanes.dim_of(sleeper, 0, head, cell);
     Some(LaneJob {
         seq: head,
         payload,
@@ -126,14 +130,14 @@ fn worker_stops(lanes: &Lanes, zero: &mut Lane, first: &mut Worker, second: &mut
     ensures first { first.new.id ≡ lanes.now }
     ensures second { second.new.id ≡ lanes.now }
 {
-    let Some(begun) = begin_take(lanes, first) else {
+    let Some(begun) = begin_take(lanes, &mut first.sleeper) else {
         return false;
     };
     let taken = take(lanes, second, 0) == Taken::Job(job(0, 10), 0);
     let next = put(lanes, zero, 11) == Submitted::Accepted(1);
     let full = put(lanes, zero, 12) == Submitted::Accepted(2);
     let again = take(lanes, second, 0) == Taken::Job(job(1, 11), 1);
-    let lost = begun == job(0, 10) && !lanes.count_taken(first, 0, begun);
+    let lost = begun == job(0, 10) && !lanes.take_idle(&mut first.sleeper, 0, begun);
     let last = take(lanes, first, 0) == Taken::Job(job(2, 12), 0);
     taken && next && full && again && lost && last
 }

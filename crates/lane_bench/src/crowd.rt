@@ -142,9 +142,11 @@ fn run_threads<R: Threads + Wait + Clock + Sync>(
         ensures { All (λ it. it.lane.id ≡ lanes.entry.now) producers.exit.now }
     { feed_all(rt, lanes, producers) };
     let mut draining = ||
-        requires workers { All (λ it. (it.worker.id ≡ lanes.now) × (it.from < count)) consumers.now }
+        requires workers { All (λ it. (it.worker.id ≡ lanes.now)
+            × (it.from < count)) consumers.now }
         requires count { count ≡ lanes.now.plan.sizes.lanes }
-        ensures { All (λ it. (it.worker.id ≡ lanes.entry.now) × (it.from < count)) consumers.exit.now }
+        ensures { All (λ it. (it.worker.id ≡ lanes.entry.now)
+            × (it.from < count)) consumers.exit.now }
     { drain_all(rt, lanes, count, consumers) };
     join_mut(rt, &mut draining, &mut feeding);
     let elapsed = start.ok()?.elapsed(rt).ok()?;

@@ -7,10 +7,15 @@
 //! It prints how many jobs the workers took once, as they were submitted, and in the order of
 //! their lane. Then it prints how many jobs the lanes accepted, and how many were left. On standard
 //! error it prints the nanoseconds from the first submit to the last take.
+//!
+//! `lane_bench memory` opens lanes, shares one, and opens a dispatcher (`region_shop`), so that
+//! memory can be refused from outside. After each call it prints its name and what came back. At
+//! the end it prints how many calls had memory.
 #![tactic(auto)]
 
 mod check;
 mod crowd;
+mod memory;
 mod words;
 
 use std::alloc::Global;
@@ -40,6 +45,9 @@ fn run<R: Threads + Wait + Sync + Clock + Print + Eprint>(
     alloc: Global,
     words: &[String],
 ) -> Result<(), BenchError> {
+    if words.len() == 1 && words[0].as_str() == "memory" {
+        return memory::run(rt, alloc);
+    }
     let Some(run) = words::parse(words) else {
         return Err(BenchError::BadWords);
     };

@@ -1,5 +1,5 @@
 -- What a worker has, before its first job and after one more.
-use Rattle.std.proofs.Common.{◌≡◌, ℕ, zero, suc, ◌+◌, ◌<◌, ◌^◌, List, [], ◌∷◌, ◌++◌, map, refl, sym, ap, subst, ◌∙◌}
+use Rattle.std.proofs.Common.{◌≡◌, ℕ, zero, suc, ◌+◌, ◌<◌, ◌^◌, List, [], ◌∷◌, ◌++◌, map, length, refl, sym, ap, subst, ◌∙◌}
 use Rattle.std.specs.List.{All}
 use Rattle.std.proofs.lemmas.List.Elements.{All-push}
 use Rattle.ghost_history.specs.Lists.{numbered_from}
@@ -27,6 +27,8 @@ hand_and shop old new served of_shop seat near more is = record {
   lanes = ap (λ (w : WorkerOf). w.id) seat ∙ of_shop.lanes;
   inside = subst (λ (p : ℕ). p < 2 ^ shop.dim) (sym near) of_shop.inside;
   right = subst (All (IsServed (lanes_of shop) shop.dim)) (sym more) (All-push (IsServed (lanes_of shop) shop.dim) old.log.items served of_shop.right is);
+  may_sleep = subst (λ (w : WorkerOf). w.known.number < shop.lanes.plan.sleepers) (sym seat) of_shop.may_sleep;
+  long = ap (λ (w : WorkerOf). length w.known.lanes) seat ∙ of_shop.long;
 }
 
 -- a worker that has made no step has taken no job

@@ -1,13 +1,11 @@
 -- What a worker took, and what became of it.
 use Rattle.std.proofs.Common.{◌≡◌, ◌≢◌, ℕ, Bool, true, false, List, [], ◌∷◌, ◌++◌, cond, eqb, eq-eqb, ne_eqb, map, refl, sym, ap, ◌∙◌}
-use Rattle.std.proofs.lemmas.List.{append-nil, map-append, get_or-set_other}
+use Rattle.std.proofs.lemmas.List.{append-nil, map-append}
 use mathlib.Core.Logic.{dite}
 use native.Mathlib.Decide.{ℕ_discrete}
 use Rattle.job_lanes.specs.declared.record.LaneJob.{LaneJob}
-use Rattle.job_lanes.specs.declared.record.TakeRecord.{TakeRecord}
 use Rattle.job_lanes.specs.declared.record.WorkerRecord.{WorkerRecord}
-use Rattle.job_lanes.specs.Record.{take_of, fresh_take}
-use Rattle.job_lanes.specs.Lanes.{ChangesOnly}
+use Rattle.job_lanes.specs.Record.{take_of}
 use Rattle.job_lanes.specs.Run.{jobs_in}
 use Rattle.region_shop.specs.declared.worker.ServedJob.{ServedJob}
 use Rattle.region_shop.specs.Jobs.{taken_job, HasTaken}
@@ -33,49 +31,26 @@ own_job lane job = ap (λ (b : Bool). cond b (job ∷ []) []) (eq-eqb lane lane 
 other_job : (lane l : ℕ) (job : LaneJob) → l ≢ lane → jobs_in l ((lane, job) ∷ []) ≡ []
 other_job lane l job other = ap (λ (b : Bool). cond b (job ∷ []) []) (ne_eqb lane l (λ same. other (sym same)))
 
--- a call in one lane changes nothing in another
-pub others_stay : (lane l : ℕ) (old new : WorkerRecord)
-    → ChangesOnly lane old new
-    → l ≢ lane
-    → take_of l new ≡ take_of l old
-others_stay lane l old new only other =
-    ap (λ (r : WorkerRecord). take_of l r) only
-    ∙ get_or-set_other old.lanes lane l (take_of lane new) fresh_take other
-
--- a call that took no job
-pub gains_none : (lane : ℕ) (old new : WorkerRecord)
-    → ChangesOnly lane old new
-    → (take_of lane new).taken ≡ (take_of lane old).taken
-    → Gains [] old new
-gains_none lane old new only same l =
-    let none : (take_of l new).taken ≡ (take_of l old).taken =
-    dite (ℕ_discrete l lane)
-    (λ is. ap (λ (k : ℕ). (take_of k new).taken) is ∙ (same ∙ ap (λ (k : ℕ). (take_of k old).taken) (sym is)))
-    (λ other. ap (λ (t : TakeRecord). t.taken) (others_stay lane l old new only other)) in
-    none ∙ sym (append-nil (take_of l old).taken)
-
--- a call that took a job
-pub gains_one : (lane : ℕ) (job : LaneJob) (old new : WorkerRecord)
-    → ChangesOnly lane old new
+-- one job more in this lane, and none in another
+pub gains_job : (lane : ℕ) (job : LaneJob) (old new : WorkerRecord)
     → (take_of lane new).taken ≡ (take_of lane old).taken ++ job ∷ []
+    → ((k : ℕ) → k ≢ lane → (take_of k new).taken ≡ (take_of k old).taken)
     → Gains ((lane, job) ∷ []) old new
-gains_one lane job old new only more l =
+gains_job lane job old new more same l =
     dite (ℕ_discrete l lane)
     (λ is. ap (λ (k : ℕ). (take_of k new).taken) is
     ∙ (more
     ∙ (ap (λ (js : List LaneJob). (take_of lane old).taken ++ js) (sym (own_job lane job))
     ∙ ap (λ (k : ℕ). (take_of k old).taken ++ jobs_in k ((lane, job) ∷ [])) (sym is))))
-    (λ other. ap (λ (t : TakeRecord). t.taken) (others_stay lane l old new only other)
+    (λ other. same l other
     ∙ (sym (append-nil (take_of l old).taken)
     ∙ ap (λ (js : List LaneJob). (take_of l old).taken ++ js) (sym (other_job lane l job other))))
 
--- calls that took nothing, and then one
-pub gains_then : (jobs : List (ℕ × LaneJob)) (old mid new : WorkerRecord)
-    → Gains [] old mid
-    → Gains jobs mid new
-    → Gains jobs old new
-gains_then jobs old mid new first then l =
-    then l ∙ ap (λ (js : List LaneJob). js ++ jobs_in l jobs) (first l ∙ append-nil (take_of l old).taken)
+-- no job more in any lane
+pub gains_no_job : (old new : WorkerRecord)
+    → ((k : ℕ) → (take_of k new).taken ≡ (take_of k old).taken)
+    → Gains [] old new
+gains_no_job old new same l = same l ∙ sym (append-nil (take_of l old).taken)
 
 pub gains_nothing : (known : WorkerRecord) → Gains [] known known
 gains_nothing known l = sym (append-nil (take_of l known).taken)

@@ -1,6 +1,7 @@
 pub mod JobLemmas
 pub mod LookLemmas
 pub mod NextLemmas
+pub mod SleepLemmas
 pub mod FinishLemmas
 pub mod HandLemmas
 pub mod GatherLemmas

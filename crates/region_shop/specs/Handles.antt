@@ -38,11 +38,13 @@ shop_of shop = record {
 }
 
 -- What a worker has is of this dispatcher. Each block on which it ran a job is aligned, and as
--- large as the job asked.
+-- large as the job asked. It may sleep, and has a record of each lane.
 pub record IsHandOf (shop : ShopId) (hand : Hand) : Type 0 where
   pub lanes : hand.seat.id ≡ shop.lanes
   pub inside : hand.near < 2 ^ shop.dim
   pub right : All (IsServed (lanes_of shop) shop.dim) hand.log.items
+  pub may_sleep : hand.seat.known.number < shop.lanes.plan.sleepers
+  pub long : length hand.seat.known.lanes ≡ lanes_of shop
 
 -- The worker is one of this dispatcher.
 pub record IsWorkerOf (shop : ShopId) (worker : ShopWorker) : Type 0 where

@@ -1,16 +1,19 @@
 -- Definitions that only private contracts and proofs use.
-use Rattle.std.specs.Prelude.{◌≡◌, ℕ, ◌+◌, ◌<◌, ◌≤◌, ◌⊎◌, [], ◌∷◌}
+use Rattle.std.specs.Prelude.{ℕ, ◌<◌, Option, Some, None, [], ◌∷◌}
 use Rattle.job_lanes.specs.declared.record.LaneJob.{LaneJob}
 use Rattle.job_lanes.specs.declared.record.WorkerRecord.{WorkerRecord}
-use Rattle.job_lanes.specs.declared.takes.Taken.TheVariants.{Ended as LaneEnded}
-use Rattle.job_lanes.specs.Lanes.{Takes, call_steps}
+use Rattle.job_lanes.specs.declared.rounds.TakenAny.{TakenAny}
+use Rattle.job_lanes.specs.declared.rounds.TakenAny.TheVariants.{AnyJob, NoJob, AllEnded}
+use Rattle.job_lanes.specs.declared.finder.Found.{Found}
+use Rattle.job_lanes.specs.declared.finder.Found.TheVariants.{Job, Ended as LanesEnded, Park, Again}
 use Rattle.job_lanes.specs.Record.{take_of}
-use Rattle.region_shop.specs.declared.finding.Found.{Found}
-use Rattle.region_shop.specs.declared.finding.Found.TheVariants.{Job, None as NoJob, AllEnded}
+use Rattle.job_lanes.specs.Sleep.{SawEnd}
 use Rattle.region_shop.specs.declared.next.Next.{Next}
 use Rattle.region_shop.specs.declared.next.Next.TheVariants.{Run, NoRegion, TooLarge, Empty, Ended}
+use Rattle.region_shop.specs.declared.sleeper.Turn.{Turn}
 use Rattle.region_shop.specs.Handles.{ShopId}
-use Rattle.region_shop.specs.Looks.{Gains, FindsNoJob}
+use Rattle.region_shop.specs.Sleep.{Reaches, IsTurn}
+use Rattle.region_shop.specs.Looks.{Gains, FindsOpen, FindsAllEnded}
 use Rattle.region_shop.specs.Next.{Before, RunsNext, KeepsNext, IsRefused}
 
 -- What a search for a block returns, for a job that the worker has.
@@ -23,27 +26,27 @@ IsPlaced shop before (TooLarge worker) =
 IsPlaced shop before (Empty worker) = ⊥
 IsPlaced shop before (Ended worker) = ⊥
 
--- A worker looked in the lanes from `first` to before `past` alone, and made few steps in each.
-pub record LooksIn (first past : ℕ) (old new : WorkerRecord) : Type 0 where
-  pub others : (lane : ℕ) → (lane < first) ⊎ (past ≤ lane) → take_of lane new ≡ take_of lane old
-  pub few : (lane : ℕ) → (take_of lane new).steps ≤ (take_of lane old).steps + call_steps
+-- What a round of all lanes brought a worker.
+abbrev pub Brings : ℕ → WorkerRecord → TakenAny → WorkerRecord → Type 0
+Brings lanes old (AnyJob lane job left) new = (lane < lanes) × Gains ((lane, job) ∷ []) old new
+Brings lanes old NoJob new = Gains [] old new × FindsOpen lanes old new
+Brings lanes old AllEnded new = Gains [] old new × FindsAllEnded lanes old new
 
--- It took no job, and found a lane that has not ended.
-pub record FindsOpenIn (first past : ℕ) (old new : WorkerRecord) : Type 0 where
-  pub none : Gains [] old new
-  pub lane : ℕ
-  pub from : first ≤ lane
-  pub within : lane < past
-  pub saw : FindsNoJob (take_of lane old) (take_of lane new)
+-- The job that `find` found, with its lane.
+abbrev pub found_job : Found → Option (ℕ × LaneJob)
+found_job (Job lane job left) = Some (lane, job)
+found_job LanesEnded = None
+found_job Park = None
+found_job Again = None
 
--- It took no job, and found that each lane has ended.
-pub record FindsEndedIn (first past : ℕ) (old new : WorkerRecord) : Type 0 where
-  pub none : Gains [] old new
-  pub all : (lane : ℕ) → first ≤ lane → lane < past
-      → Takes (take_of lane old) LaneEnded (take_of lane new)
+-- It found last in each lane that it has ended.
+abbrev pub SeesEnds : ℕ → Found → WorkerRecord → Type 0
+SeesEnds lanes (Job lane job left) known = Unit {0}
+SeesEnds lanes LanesEnded known = (lane : ℕ) → lane < lanes → SawEnd (take_of lane known)
+SeesEnds lanes Park known = Unit {0}
+SeesEnds lanes Again known = Unit {0}
 
--- What a look in these lanes returns.
-abbrev pub IsFoundIn : ℕ → ℕ → Found → WorkerRecord → WorkerRecord → Type 0
-IsFoundIn first past (Job lane job) old new = (lane < past) × Gains ((lane, job) ∷ []) old new
-IsFoundIn first past NoJob old new = FindsOpenIn first past old new
-IsFoundIn first past AllEnded old new = FindsEndedIn first past old new
+-- What a worker gets that has this after its look in the lanes, whatever it had before.
+abbrev pub GetsTurn : ShopId → Before → Turn → Type 0
+GetsTurn shop looked turn =
+    (tries : ℕ) → (before : Before) → Reaches tries before looked → IsTurn shop tries before turn

@@ -14,6 +14,7 @@ use job_lanes::LaneJob;
 impl RegionShop {
     /// Releases the block of a job that has run, and adds the job and its block to what the worker
     /// has served.
+    #[inline(always)]
     pub fn done(&self, running: RunningJob) -> ShopWorker
         requires running { IsRunningOf (shop_of self.now) running }
         ensures worker { IsWorkerOf (shop_of self.now) result }

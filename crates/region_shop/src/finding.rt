@@ -1,64 +1,31 @@
 //! A look for a job in all lanes.
-ghost use Rattle.std.specs.Prelude.{◌≡◌, ◌<◌, ◌≤◌};
-ghost use Rattle.region_shop.specs.Inner.{LooksIn, IsFoundIn};
+ghost use Rattle.std.specs.Prelude.{◌≡◌, ◌<◌, length};
+ghost use Rattle.region_shop.specs.Looks.{MakesFewSteps};
+ghost use Rattle.region_shop.specs.Inner.{Brings};
 
 use crate::shop::RegionShop;
-use job_lanes::{LaneJob, Taken, Worker};
-
-// A look in some lanes.
-#[derive(Clone, Copy)]
-pub(crate) enum Found {
-    // The job that was taken, with its lane.
-    Job(u32, LaneJob),
-    // No job was taken, and some lane has not ended.
-    None,
-    // All lanes have ended.
-    AllEnded,
-}
+use job_lanes::{TakenAny, Worker};
 
 impl RegionShop {
-    // Looks in the lanes from `first` to before `past`, and takes the first job that it can.
-    fn find_among(&self, seat: &mut Worker, first: u32, past: u32) -> Found
-        requires id { seat.old.id ≡ self.now.lanes }
-        requires range { first ≤ past }
-        requires lanes { past ≤ self.now.lane_count }
-        ensures id { seat.new.id ≡ self.now.lanes }
-        ensures looks { LooksIn first past seat.old.known seat.new.known }
-        ensures found { IsFoundIn first past result seat.old.known seat.new.known }
+    // Returns the number of this lane, or 0 if there is none.
+    pub(crate) fn lane_at(&self, lane: u32) -> u32
+        ensures { result < self.now.lane_count }
     {
-        let mut all_ended = true;
-        for lane in first..past {
-            match self.lanes.take(seat, lane) {
-                Taken::Job(job, _) => return Found::Job(lane, job),
-                Taken::Ended => {}
-                Taken::Empty => all_ended = false,
-                Taken::Lost => all_ended = false,
-            }
-        }
-        if all_ended {
-            Found::AllEnded
-        } else {
-            Found::None
-        }
+        if lane < self.lane_count { lane } else { 0 }
     }
 
     // Goes round the lanes once, from one on, and takes the first job that it can.
-    #[tactic(auto, using(crate::proofs::LookLemmas::looks_both, crate::proofs::LookLemmas::looks_wider))]
-    pub(crate) fn find_job(&self, seat: &mut Worker, from: u32) -> Found
+    #[tactic(auto, using(crate::proofs::LookLemmas::brings, crate::proofs::LookLemmas::makes_few))]
+    pub(crate) fn find_job(&self, seat: &mut Worker, from: u32) -> TakenAny
         requires id { seat.old.id ≡ self.now.lanes }
-        requires from { from ≤ self.now.lane_count }
+        requires from { from < self.now.lane_count }
+        requires long { length seat.old.known.lanes ≡ self.now.lane_count }
         ensures id { seat.new.id ≡ self.now.lanes }
-        ensures looks { LooksIn 0 self.now.lane_count seat.old.known seat.new.known }
-        ensures found { IsFoundIn 0 self.now.lane_count result seat.old.known seat.new.known }
+        ensures number { seat.new.known.number ≡ seat.old.known.number }
+        ensures long { length seat.new.known.lanes ≡ self.now.lane_count }
+        ensures few { MakesFewSteps seat.old.known seat.new.known }
+        ensures found { Brings self.now.lane_count seat.old.known result seat.new.known }
     {
-        let first = self.find_among(seat, from, self.lane_count);
-        if let Found::Job(lane, job) = first {
-            return Found::Job(lane, job);
-        }
-        match self.find_among(seat, 0, from) {
-            Found::Job(lane, job) => Found::Job(lane, job),
-            Found::None => Found::None,
-            Found::AllEnded => first,
-        }
+        self.lanes.take_any(seat, from)
     }
 }

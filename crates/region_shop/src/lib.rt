@@ -2,8 +2,10 @@
 //!
 //! Jobs come from lanes (`job_lanes`), and blocks from a machine (`bitmap_tree`). No call waits. If
 //! no block is free for a job, its worker keeps it, and `next` tries again. `ageing` says how long
-//! others may come before it. At the end each accepted job was run by one worker on an aligned
-//! block of its size, was given back, or is left (`FinishedJobs`).
+//! others may come before it. A worker without a job may lie down (`find`).
+//!
+//! At the end each accepted job was run by one worker on an aligned block of its size, was given
+//! back, or is left (`FinishedJobs`).
 #![tactic(auto)]
 
 mod ageing;
@@ -13,6 +15,8 @@ mod finishing;
 mod next;
 mod opening;
 mod shop;
+mod sleeper;
+mod sleeping;
 mod worker;
 
 pub use ageing::PATIENCE;
@@ -20,4 +24,5 @@ pub use finishing::FinishedShop;
 pub use next::{Next, Reason};
 pub use opening::ShopMembers;
 pub use shop::RegionShop;
+pub use sleeper::{ShopSleeper, Turn};
 pub use worker::{EndedWorker, RunningJob, ServedJob, ShopWorker};

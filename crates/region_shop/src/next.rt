@@ -8,11 +8,10 @@ ghost use Rattle.region_shop.specs.Handles.{shop_of, lanes_of, IsHandOf, IsWorke
 ghost use Rattle.region_shop.specs.Next.{before_of, IsNext};
 ghost use Rattle.region_shop.specs.Inner.{IsPlaced};
 
-use crate::finding::Found;
 use crate::shop::RegionShop;
 use crate::worker::{Hand, RunningJob, ShopWorker};
 use bitmap_tree::Permit;
-use job_lanes::LaneJob;
+use job_lanes::{LaneJob, TakenAny};
 
 /// Why a worker has no block.
 #[derive(Clone, Copy, Debug, PartialEq, Eq)]
@@ -40,7 +39,8 @@ pub enum Next {
 }
 
 // A worker that keeps no job.
-fn idle(hand: Hand, permit: Permit) -> ShopWorker
+#[inline(always)]
+pub(crate) fn idle(hand: Hand, permit: Permit) -> ShopWorker
     requires { HasTaken hand.log.items [] hand.seat.known }
     ensures hand { result.hand ≡ hand }
     ensures permit { result.permit ≡ permit }
@@ -68,7 +68,15 @@ fn reason_of(contended: u32) -> Reason
 
 impl RegionShop {
     // Looks for a block for a job that the worker has taken.
-    fn place(&self, hand: Hand, permit: Permit, job: (u32, LaneJob), seen: u64, ticket: u64) -> Next
+    #[inline(always)]
+    pub(crate) fn place(
+        &self,
+        hand: Hand,
+        permit: Permit,
+        job: (u32, LaneJob),
+        seen: u64,
+        ticket: u64,
+    ) -> Next
         requires hand { IsHandOf (shop_of self.now) hand }
         requires permit { IsPermitOf self.now.machine permit }
         requires took { HasTaken hand.log.items (job ∷ []) hand.seat.known }
@@ -105,6 +113,7 @@ impl RegionShop {
 
     // Takes a job for a worker that keeps none, and looks for a block for it.
     #[tactic(auto, using(crate::proofs::NextLemmas::took_now))]
+    #[inline(always)]
     fn find_and_place(&self, mut hand: Hand, permit: Permit, seen: u64) -> Next
         requires hand { IsHandOf (shop_of self.now) hand }
         requires permit { IsPermitOf self.now.machine permit }
@@ -112,17 +121,13 @@ impl RegionShop {
         ensures { IsNext (shop_of self.now)
             (record { kept = None; known = hand.seat.known; served = hand.log.items }) result }
     {
-        let from = if hand.from < self.lane_count {
-            hand.from
-        } else {
-            0
-        };
+        let from = self.lane_at(hand.from);
         let found = self.find_job(&mut hand.seat, from);
         hand.from = from.wrapping_add(1);
         match found {
-            Found::Job(lane, job) => self.place(hand, permit, (lane, job), seen, 0),
-            Found::None => Next::Empty(idle(hand, permit)),
-            Found::AllEnded => Next::Ended(idle(hand, permit)),
+            TakenAny::AnyJob(lane, job, _) => self.place(hand, permit, (lane, job), seen, 0),
+            TakenAny::NoJob => Next::Empty(idle(hand, permit)),
+            TakenAny::AllEnded => Next::Ended(idle(hand, permit)),
         }
     }
 
@@ -131,6 +136,7 @@ impl RegionShop {
     /// The job that a worker keeps comes first. It is tried at each call until it has a block. A
     /// job of another worker that has waited longer may come before it: see `ageing`.
     #[tactic(auto, using(crate::proofs::NextLemmas::kept_before))]
+    #[inline(always)]
     pub fn next(&self, worker: ShopWorker) -> Next
         requires worker { IsWorkerOf (shop_of self.now) worker }
         ensures { IsNext (shop_of self.now) (before_of worker) result }

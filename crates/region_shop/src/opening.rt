@@ -3,6 +3,7 @@ ghost use Rattle.std.specs.Prelude.{◌≡◌, ◌+◌, ◌<◌, ◌≤◌, [], 
 ghost use Rattle.std.specs.Vec.{vec_capacity};
 ghost use Rattle.cube_shape.specs.declared.limits.TheConstants.{MAX_BITMAP_DIM};
 ghost use Rattle.bitmap_tree.specs.Handles.{permits_of};
+ghost use Rattle.wake_pool.specs.Words.{word_count};
 ghost use Rattle.job_lanes.specs.declared.sizes.TheConstants.{MAX_CAPACITY, MAX_LANES, MAX_WORKERS};
 ghost use Rattle.job_lanes.specs.Record.{fresh_lane, fresh_worker};
 ghost use Rattle.region_shop.specs.Handles.{shop_of, lanes_of, workers_of, IsMembersOf, dealt_lanes, dealt_workers, IsWorkerOf, kept_of, known_of, served_of};
@@ -25,8 +26,8 @@ pub struct ShopMembers {
 }
 
 impl RegionShop {
-    /// Opens a dispatcher with lanes of these sizes, and with a machine of dimension `n`. It
-    /// reserves all memory that its end needs.
+    /// Opens a dispatcher with lanes of these sizes, and with a machine of dimension `n`. Each
+    /// worker may sleep. It reserves all memory that its end needs.
     pub fn open(
         alloc: Global,
         sizes: Sizes,
@@ -40,12 +41,14 @@ impl RegionShop {
         requires workers { sizes.workers ≤ MAX_WORKERS }
         requires dim { n ≤ MAX_BITMAP_DIM }
         ensures sizes { IfOk result (λ made. (shop_of made.0).lanes.plan.sizes ≡ sizes) }
+        ensures sleepers { IfOk result (λ made.
+            (shop_of made.0).lanes.plan.sleepers ≡ sizes.workers) }
         ensures dim { IfOk result (λ made. (shop_of made.0).dim ≡ n) }
         ensures members { IfOk result (λ made. IsMembersOf (shop_of made.0) made.1) }
         ensures none_dealt { IfOk result (λ made. (dealt_lanes made.1 ≡ 0)
             × (dealt_workers made.1 ≡ 0)) }
     {
-        let (lanes, members) = Lanes::open(alloc, sizes)?;
+        let (lanes, members) = Lanes::open_with_sleepers(alloc, sizes)?;
         let room = Vec::with_capacity(alloc, sizes.workers as usize)?;
         let Ok((machine, permits)) = BitmapTree::open_with_permits(alloc, n, sizes.workers) else {
             room.destroy_empty();
@@ -69,6 +72,7 @@ impl RegionShop {
         ensures id { result.id ≡ (shop_of self.now).lanes }
         ensures fresh { result.known
             ≡ fresh_lane (shop_of self.now).lanes.plan.sizes.capacity (dealt_lanes members.old) }
+        ensures next { result.next ≡ word_count (shop_of self.now).lanes.plan.sleepers }
         ensures lanes { dealt_lanes members.new ≡ dealt_lanes members.old + 1 }
         ensures workers { dealt_workers members.new ≡ dealt_workers members.old }
     {

@@ -18,6 +18,8 @@ pub struct RegionShop {
     // Room for all permits at the end.
     pub(crate) room: Vec<Permit>,
     ghost lanes_counted: { lanes.plan.sizes.lanes ≡ lane_count },
+    ghost some_lane: { 0 < lane_count },
+    ghost all_sleep: { lanes.plan.sleepers ≡ lanes.plan.sizes.workers },
     ghost permits: { permits_of machine ≡ lanes.plan.sizes.workers },
     ghost some: { 0 < permits_of machine },
     ghost none: { room.items ≡ [] },

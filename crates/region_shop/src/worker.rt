@@ -67,6 +67,7 @@ impl Hand {
     ghost use Rattle.std.specs.Prelude.{◌≡◌, [], ◌∷◌, ◌++◌};
 
     // Adds a job to those that the worker ran or gave back.
+    #[inline(always)]
     pub(crate) fn and(self, served: ServedJob) -> Hand
         ensures seat { result.seat ≡ self.seat }
         ensures near { result.near ≡ self.near }
@@ -144,7 +145,14 @@ impl ShopWorker {
 }
 
 impl RunningJob {
-    ghost use Rattle.region_shop.specs.Handles.{running_job, running_block};
+    ghost use Rattle.region_shop.specs.Handles.{running_job, running_block, running_known};
+
+    /// Returns the number of its worker among the workers.
+    pub fn number(&self) -> u32
+        ensures { result ≡ (running_known self.now).number }
+    {
+        self.hand.seat.number()
+    }
 
     /// Returns the job that it runs, with the number of its lane.
     pub fn job(&self) -> (u32, LaneJob)

@@ -2,8 +2,10 @@ ghost use Rattle.std.specs.Prelude.{◌≡◌, Ok};
 
 mod calls;
 mod crowd;
+mod finding;
 mod script;
 mod sharing;
+mod sleepers;
 mod sleeping;
 
 use std::fmt::Debug;

@@ -2,6 +2,7 @@ use Rattle.std.proofs.Common.{ℕ, List, true, false, subst, ◌∙◌, sym, ap,
 use Rattle.job_lanes.specs.Inner.Pool.{known_sat, looked, LooksAt}
 use Rattle.job_lanes.specs.declared.sizes.TheConstants.{TAIL}
 use Rattle.job_lanes.specs.Lanes.{LanesId}
+use Rattle.job_lanes.specs.declared.record.TakeRecord.{TakeRecord}
 use Rattle.job_lanes.specs.Sleep.{SleeperOf}
 use Rattle.job_lanes.specs.Inner.Step.{IsWorker, reads_tail_at}
 use Rattle.job_lanes.proofs.LookLemmas.{asked_look, empty_now, job_now}
@@ -40,3 +41,9 @@ returns-clause-only c = (some_found c.sleeper.inside.plan c.args.self.now.plan c
 
 pub returns-clause-phase : goal.returns-clause-phase
 returns-clause-phase c = (job_now c.sleeper.inside.plan c.args.self.now.plan c.sleeper.inside.number c.sleeper.inside.tails.items c.sleeper.inside.seat.me c.load-found.new.seat.me c.args.sleeper.now.known c.args.lane c.word-tail.result c.args.head c.load-found.result c.count_and_mark-count.result.0 c.count_and_mark-count.result.1 c.sleeper.invariant.0 c.sleeper.invariant.1 (ap (λ (x : SleeperOf). x.known) c.sleeper.view_is) (ap (λ (x : LanesId). x.plan) (ap (λ (x : SleeperOf). x.id) c.sleeper.view_is ∙ c.requires.id)) c.word-tail.ensures.word c.requires.head (omega (arith, c.load-found.type_inv)) c.count_and_mark-count.ensures c.load-found.ensures.2.1 c.if-count-head.false).phase ∙ ap (λ (x : SleeperOf). looked c.args.self.now.plan x.phase false) c.sleeper.view_is
+
+pub returns-then-count-head-clause-none : goal.returns-then-count-head-clause-none
+returns-then-count-head-clause-none c = let take = (none_found c.sleeper.inside.plan c.args.self.now.plan c.sleeper.inside.number c.sleeper.inside.tails.items (known_sat c.sleeper.inside.seat.me) (known_sat c.load-found.new.seat.me) c.args.sleeper.now.known c.args.lane c.word-tail.result TAIL c.sleeper.invariant.0 (ap (λ (x : SleeperOf). x.known) c.sleeper.view_is) (ap (λ (x : LanesId). x.plan) (ap (λ (x : SleeperOf). x.id) c.sleeper.view_is ∙ c.requires.id)) c.requires.lane c.word-tail.ensures.word (omega arith) c.load-found.result c.count_and_mark-count.result.0 c.args.head c.count_and_mark-count.result.1 c.count_and_mark-count.ensures c.requires.head c.if-count-head.true c.load-found.ensures.2.0).take in (ap (λ (t : TakeRecord). t.taken) take, let steps = ap (λ (t : TakeRecord). t.steps) take in omega (arith, steps))
+
+pub returns-clause-none : goal.returns-clause-none
+returns-clause-none c = let take = (some_found c.sleeper.inside.plan c.args.self.now.plan c.sleeper.inside.number c.sleeper.inside.tails.items (known_sat c.sleeper.inside.seat.me) (known_sat c.load-found.new.seat.me) c.args.sleeper.now.known c.args.lane c.word-tail.result TAIL c.sleeper.invariant.0 (ap (λ (x : SleeperOf). x.known) c.sleeper.view_is) (ap (λ (x : LanesId). x.plan) (ap (λ (x : SleeperOf). x.id) c.sleeper.view_is ∙ c.requires.id)) c.requires.lane c.word-tail.ensures.word (omega arith) c.load-found.result c.count_and_mark-count.result.0 c.args.head c.count_and_mark-count.result.1 c.count_and_mark-count.ensures c.requires.head c.if-count-head.false c.load-found.ensures.2.0).1.take in (ap (λ (t : TakeRecord). t.taken) take, let steps = ap (λ (t : TakeRecord). t.steps) take in omega (arith, steps))

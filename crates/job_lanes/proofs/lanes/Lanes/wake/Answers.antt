@@ -1,8 +1,11 @@
-use Rattle.std.proofs.Common.{◌≡◌, ℕ, ap, arith, subst, ◌∙◌}
+use Rattle.std.proofs.Common.{◌≡◌, ℕ, ◌<◌, ap, arith, subst, ◌∙◌}
 use Rattle.wake_pool.specs.declared.phase.WakePhase.TheVariants.{Giving, Waking}
 use Rattle.wake_calls.specs.declared.waking.Wake.{Wake}
 use Rattle.wake_calls.specs.declared.waking.Wake.TheVariants.{Nobody, Worker, Again}
 use Rattle.wake_calls.proofs.FirstLemmas.{same_worker}
+use Rattle.wake_pool.specs.Words.{word_count}
+use Rattle.job_lanes.specs.declared.sizes.Plan.{Plan}
+use Rattle.job_lanes.specs.Lanes.{LanesId}
 use Rattle.job_lanes.specs.Sleep.{SleeperOf}
 use Rattle.job_lanes.specs.Inner.Step.{worker_in}
 use Rattle.job_lanes.specs.Inner.Pool.{BothSat, phase_in}
@@ -42,5 +45,7 @@ returns-in-Again c =
       woken = λ x told. absurd (let e : ◌≡◌ {A = Wake} (Again c.in-Again.left) (Worker x) = told in cc);
       again = λ b told. subst (λ (y : ℕ). phase_in c.wake_check-woken.new.seat.me.0.sleepers ≡ Waking y) (same_left c.in-Again.left b told)
           (goes_on c.sleeper.inside.plan c.sleeper.inside.number c.sleeper.inside.tails.items _ (Waking c.in-Again.left) c.sleeper.inside.seat.me c.wake_check-woken.new.seat.me c.sleeper.invariant.0 c.sleeper.invariant.1 moves).phase;
+      left = λ b told. subst (λ (y : ℕ). y < word_count c.args.self.now.plan.sleepers) (same_left c.in-Again.left b told)
+          (subst (λ (p : Plan). c.in-Again.left < word_count p.sleepers) (ap (λ (x : LanesId). x.plan) c.self.view_is) (c.wake_check-woken.ensures.left c.in-Again.left c.in-Again.is));
       worker = λ x told. absurd (let e : ◌≡◌ {A = Wake} (Again c.in-Again.left) (Worker x) = told in cc);
     }

@@ -33,9 +33,14 @@ invariant_of-lane-in-Again c =
     let words = ap (λ (p : Plan). word_count p.sleepers) (ap (λ (x : LanesId). x.plan) (ap (λ (x : LaneOf). x.id) c.lane.view_is ∙ (c.requires.id ∙ sym c.self.view_is))) in
     (last.0, c.lane.invariant.1, last.1, last.2 ∙ sym (under_waking (word_count c.lane.inside.plan.sleepers) c.in-Again.left (omega (arith, words, c.wake_check-woken.ensures.left c.in-Again.left c.in-Again.is))))
 
-pub returns-in-Again : goal.returns-in-Again
-returns-in-Again c = record {
-  id = (λ i. record { table = c.wake_check-woken.ensures.table i; plan = c.lane.inside.plan }) ∙ (ap (λ (x : LaneOf). x.id) c.lane.view_is ∙ c.requires.id);
-  known = ap (λ (z : BothSat). lane_in z.0.known.lanes) (c.wake_check-woken.ensures.again c.in-Again.left c.in-Again.is) ∙ ap (λ (x : LaneOf). x.known) c.lane.view_is;
-  worker = λ x told. absurd (let e : ◌≡◌ {A = Wake} (Again c.in-Again.left) (Worker x) = told in cc);
-}
+pub returns-in-Again-clause-id : goal.returns-in-Again-clause-id
+returns-in-Again-clause-id c =
+    (λ i. record { table = c.wake_check-woken.ensures.table i; plan = c.lane.inside.plan }) ∙ (ap (λ (x : LaneOf). x.id) c.lane.view_is ∙ c.requires.id)
+
+pub returns-in-Again-clause-known : goal.returns-in-Again-clause-known
+returns-in-Again-clause-known c =
+    ap (λ (z : BothSat). lane_in z.0.known.lanes) (c.wake_check-woken.ensures.again c.in-Again.left c.in-Again.is) ∙ ap (λ (x : LaneOf). x.known) c.lane.view_is
+
+pub returns-in-Again-clause-worker : goal.returns-in-Again-clause-worker
+returns-in-Again-clause-worker c =
+    λ x told. absurd (let e : ◌≡◌ {A = Wake} (Again c.in-Again.left) (Worker x) = told in cc)
