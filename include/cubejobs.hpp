@@ -1,32 +1,50 @@
-/* Owners of machines and blocks, for C++11 and later: a block is released when its owner ends.
+/* Owners for C++11 and later. When its owner ends, a block is released, a job is done, and a handle
+ * comes back.
  *
  * cubejobs::machine is a handle of a machine of cubejobs_regions.h, for one thread.
  * cubejobs::first_fit is a machine of cubejobs.h in memory of its own, for one thread at a time.
- * All owners move, and none is copied. A machine lasts as long as a handle of it or a block. The
- * duties are those of the C headers. These types keep all that is about handles, except that one
- * thread at a time uses a machine's handle. The blocks that were taken with a handle use it too,
- * until machine::adopt gives them another.
+ * cubejobs::lanes and cubejobs::dispatch own those of cubejobs_dispatch.h. They give out a lane for
+ * each producer and a worker for each consumer. cubejobs::running is a job on its block.
+ *
+ * All owners move, and none is copied. A machine lasts as long as a handle of it or a block. Lanes
+ * last as long as a lane, a worker or a running job. The duties are those of the C headers. These
+ * types keep all that is about handles, except that one thread at a time uses a machine's handle, a
+ * lane or a worker. Blocks and running jobs use the handle with which they were taken, until
+ * machine::adopt gives a block another.
+ *
+ * In C++20 a worker can sleep: next() waits for a job, as cubejobs_wait.h does in C, and says there
+ * why no wake-up is lost. Before C++20 there is try_next() alone. Files of a program may use the
+ * same lanes only if all or none of them are compiled as C++20.
  */
 #ifndef CUBEJOBS_HPP
 #define CUBEJOBS_HPP
 
+#include <atomic>
 #include <cstdint>
 #include <memory>
+#include <mutex>
 #include <stdexcept>
+#include <thread>
 #include <utility>
+#include <vector>
 
 #include "cubejobs.h"
+#include "cubejobs_dispatch.h"
 #include "cubejobs_regions.h"
 
 namespace cubejobs {
 
-/* The error of a machine or a handle that was not opened, with the library's code. */
+/* The error of a handle that was not opened, or of lanes that cannot end, with its code. */
 struct error : std::runtime_error {
     error(std::uint32_t number, const char *text) : std::runtime_error(text), code(number) {}
     std::uint32_t code;
 };
 
-/* A block of a machine of type M, or the code of the take that was refused. */
+inline void check(std::uint32_t code) {
+    if (code) throw error(code, cubejobs_code_text(code));
+}
+
+/* A block of a machine of type M, a job on its block, or the code of the call that was refused. */
 template <class M> class owned {
   public:
     owned() = default;
@@ -46,7 +64,7 @@ template <class M> class owned {
         handle.reset(), taken = M::nothing();
     }
 
-  private:
+  protected:
     friend M;
     void swap(owned &other) {
         std::swap(handle, other.handle), std::swap(held, other.held), std::swap(taken, other.taken);
@@ -72,7 +90,7 @@ class machine {
     block take(std::uint32_t k) { return filled(cubejobs_regions_take, k); }
     block take_exact(std::uint32_t k) { return filled(cubejobs_regions_take_exact, k); }
     block take_at(std::uint64_t base, std::uint32_t k) { return filled(cubejobs_regions_take_at, base, k); }
-    /* Has a block use this handle from now on: call it in the thread that the block has come to. */
+    /* Has a block use this handle from now on: call it in the thread that has the block. */
     void adopt(block &of_this_machine) {
         if (of_this_machine) of_this_machine.handle = handle;
     }
@@ -100,9 +118,6 @@ class machine {
     static answer nothing() { return {CUBEJOBS_REGIONS_NOTHING_HELD, 0, 0, 0}; }
     static void release(shared &thread, place &held, answer) { cubejobs_regions_release(&thread, &held); }
     static void look(block &it) { it.taken = cubejobs_regions_block(&it.held); }
-    static void check(std::uint32_t code) {
-        if (code) throw error(code, cubejobs_code_text(code));
-    }
     machine() : handle(new cubejobs_regions(), [](shared *old) { cubejobs_regions_free(old), delete old; }) {}
     template <class... Numbers> block filled(answer (*call)(shared *, place *, Numbers...), Numbers... numbers) {
         block made;
@@ -146,6 +161,339 @@ class first_fit {
     }
     std::shared_ptr<shared> handle;
 };
+
+/* Files that let workers sleep, and files that do not, have types of their own. */
+#ifdef __cpp_lib_atomic_wait
+#define CUBEJOBS_SLEEPS 1
+inline namespace sleeping {
+/* Where the threads of workers sleep: one word for each worker, and an event count for the workers
+ * whose job has no block. */
+class parking {
+  public:
+    explicit parking(std::uint32_t workers) : words(workers) {}
+    void unpark(std::uint32_t worker) {
+        if (worker < words.size()) words[worker] = 1, words[worker].notify_all();
+    }
+    void unpark_all() {
+        for (std::uint32_t worker = 0; worker < words.size(); worker++) unpark(worker);
+    }
+    void park(std::uint32_t worker) { words[worker].wait(0), words[worker] = 0; }
+    std::uint32_t key() { return room.fetch_or(1) | 1; }
+    void raise() {
+        std::uint32_t state = room;
+        if (state % 2 && room.compare_exchange_strong(state, state + 1)) room.notify_all();
+    }
+    template <class Lane> void wake(Lane *lane);
+    std::vector<std::atomic<std::uint32_t>> words;
+    std::atomic<std::uint32_t> room{0};
+    std::atomic<bool> is_stopped{false};
+    std::mutex turn;
+};
+#else
+inline namespace polling {
+class parking {
+  public:
+    explicit parking(std::uint32_t) {}
+    void unpark_all() {}
+    void raise() {}
+    template <class Lane> void wake(Lane *) {}
+};
+#endif
+
+/* The calls for C, each by the type of its handle. */
+namespace calls {
+inline std::uint32_t get(cubejobs_lanes *owner, cubejobs_lane *it) { return cubejobs_lanes_lane(owner, it); }
+inline std::uint32_t get(cubejobs_lanes *owner, cubejobs_worker *it) { return cubejobs_lanes_worker(owner, it); }
+inline std::uint32_t get(cubejobs_dispatch *owner, cubejobs_shop_lane *it) { return cubejobs_dispatch_lane(owner, it); }
+inline std::uint32_t get(cubejobs_dispatch *owner, cubejobs_shop_worker *it) {
+    return cubejobs_dispatch_worker(owner, it);
+}
+inline void give(cubejobs_lane *it) { cubejobs_lanes_free_lane(it); }
+inline void give(cubejobs_shared_lane *it) { cubejobs_lanes_free_shared(it); }
+inline void give(cubejobs_worker *it) { cubejobs_lanes_free_worker(it); }
+inline void give(cubejobs_shop_lane *it) { cubejobs_dispatch_free_lane(it); }
+inline void give(cubejobs_shop_worker *it) { cubejobs_dispatch_give_back(it), cubejobs_dispatch_free_worker(it); }
+inline cubejobs_submit_answer submit(cubejobs_lane *it, std::uint64_t payload, std::uint32_t dim) {
+    return cubejobs_lanes_submit(it, payload, dim);
+}
+inline cubejobs_submit_answer submit(cubejobs_shared_lane *it, std::uint64_t payload, std::uint32_t dim) {
+    return cubejobs_lanes_submit_shared(it, payload, dim);
+}
+inline cubejobs_submit_answer submit(cubejobs_shop_lane *it, std::uint64_t payload, std::uint32_t dim) {
+    return cubejobs_dispatch_submit(it, payload, dim);
+}
+inline cubejobs_close_answer close(cubejobs_lanes *it) { return cubejobs_lanes_close(it); }
+inline cubejobs_close_answer close(cubejobs_dispatch *it) { return cubejobs_dispatch_close(it); }
+inline cubejobs_finish_answer finish(cubejobs_lanes *it) { return cubejobs_lanes_finish(it); }
+inline cubejobs_finish_answer finish(cubejobs_dispatch *it) { return cubejobs_dispatch_finish(it); }
+inline cubejobs_job_answer rest(cubejobs_lanes *it) { return cubejobs_lanes_rest(it); }
+inline cubejobs_job_answer rest(cubejobs_dispatch *it) { return cubejobs_dispatch_rest(it); }
+inline void end(cubejobs_lanes *it) { cubejobs_lanes_free(it); }
+inline void end(cubejobs_dispatch *it) { cubejobs_dispatch_free(it); }
+#ifdef CUBEJOBS_SLEEPS
+inline cubejobs_wake_answer wake(cubejobs_lane *it) { return cubejobs_lanes_wake(it); }
+inline cubejobs_wake_answer wake(cubejobs_shared_lane *it) { return cubejobs_lanes_wake_shared(it); }
+inline cubejobs_wake_answer wake(cubejobs_shop_lane *it) { return cubejobs_dispatch_wake(it); }
+inline std::uint32_t number(cubejobs_worker *it) { return cubejobs_lanes_worker_number(it).number; }
+inline std::uint32_t number(cubejobs_shop_worker *it) { return cubejobs_dispatch_worker_number(it).number; }
+inline std::uint32_t awake(cubejobs_worker *it) { return cubejobs_lanes_awake(it); }
+inline std::uint32_t awake(cubejobs_shop_worker *it) { return cubejobs_dispatch_awake(it); }
+#endif
+}
+
+#ifdef CUBEJOBS_SLEEPS
+template <class Lane> void parking::wake(Lane *lane) {
+    cubejobs_wake_answer wake = calls::wake(lane);
+    while (wake.code == CUBEJOBS_DISPATCH_AGAIN || wake.code == CUBEJOBS_DISPATCH_BUSY) wake = calls::wake(lane);
+    if (wake.code == CUBEJOBS_DISPATCH_DONE) unpark(wake.worker);
+}
+#endif
+
+/* What an owner of lanes, its lanes and its workers share. The last of them ends it. */
+template <class Owner> struct common : public parking {
+    explicit common(std::uint32_t workers) : parking(workers) {}
+    common(const common &) = delete;
+    ~common() {
+        calls::finish(&owner);
+        while (calls::rest(&owner).code == CUBEJOBS_DISPATCH_DONE) {}
+        calls::end(&owner);
+    }
+    Owner owner = {0, nullptr};
+};
+
+/* A handle in cache lines of its own. It comes back when this ends. */
+template <class Handle, class Owner> struct handle_of {
+    explicit handle_of(std::shared_ptr<common<Owner>> common) : all(std::move(common)) {}
+    handle_of(const handle_of &) = delete;
+    ~handle_of() { calls::give(&at), all->raise(); }
+    Handle at = {0, nullptr};
+    unsigned char apart[112];
+    std::shared_ptr<common<Owner>> all;
+#ifdef CUBEJOBS_SLEEPS
+    /* Sleeps until the worker has its token, if it lies down. Returns whether to look again. */
+    bool looks_again(std::uint32_t code) {
+        if (code == CUBEJOBS_DISPATCH_PARK)
+            while (calls::awake(&at) == CUBEJOBS_DISPATCH_PARK) all->park(calls::number(&at));
+        if (code == CUBEJOBS_DISPATCH_AGAIN) std::this_thread::yield();
+        return code == CUBEJOBS_DISPATCH_PARK || code == CUBEJOBS_DISPATCH_AGAIN;
+    }
+#endif
+};
+
+/* A lane of a producer. Submit answers as the call for C does, and wakes a worker for the job. */
+template <class Handle, class Owner> class lane_of {
+  public:
+    cubejobs_submit_answer submit(std::uint64_t payload, std::uint32_t dim) {
+        cubejobs_submit_answer answer = calls::submit(&mine->at, payload, dim);
+        if (answer.code == CUBEJOBS_DISPATCH_DONE) mine->all->wake(&mine->at);
+        return answer;
+    }
+
+  private:
+    template <class, class, class> friend class owner_of;
+    friend class shared_lane;
+    explicit lane_of(std::unique_ptr<handle_of<Handle, Owner>> handle) : mine(std::move(handle)) {}
+    std::unique_ptr<handle_of<Handle, Owner>> mine;
+};
+using lane = lane_of<cubejobs_lane, cubejobs_lanes>;
+using shop_lane = lane_of<cubejobs_shop_lane, cubejobs_dispatch>;
+
+/* A lane that producers share, each with an owner of its own. */
+class shared_lane : public lane_of<cubejobs_shared_lane, cubejobs_lanes> {
+  public:
+    explicit shared_lane(lane &&of_one) : shared_lane(of_one.mine->all) {
+        check(cubejobs_lanes_share(&of_one.mine->at, &mine->at));
+    }
+    /* Returns an owner for another thread. */
+    shared_lane share() {
+        shared_lane other(mine->all);
+        check(cubejobs_lanes_share_again(&mine->at, &other.mine->at));
+        return other;
+    }
+
+  private:
+    using place = handle_of<cubejobs_shared_lane, cubejobs_lanes>;
+    explicit shared_lane(std::shared_ptr<common<cubejobs_lanes>> all)
+        : lane_of(std::unique_ptr<place>(new place(std::move(all)))) {}
+};
+
+/* A worker of lanes. Its calls answer as those for C do. */
+class worker {
+  public:
+    /* Takes a job from lane `from` on, if there is one. */
+    cubejobs_job_answer try_next(std::uint32_t from = 0) { return cubejobs_lanes_take_any(&mine->at, from); }
+#ifdef CUBEJOBS_SLEEPS
+    /* Takes a job, and sleeps until it can. The code is DONE, ENDED or BAD_LANE. */
+    cubejobs_find_answer next(std::uint32_t from = 0) {
+        for (;;) {
+            cubejobs_find_answer answer = cubejobs_lanes_find(&mine->at, from);
+            mine->all->unpark(answer.woken);
+            if (!mine->looks_again(answer.code)) return answer;
+        }
+    }
+#endif
+
+  private:
+    template <class, class, class> friend class owner_of;
+    using place = handle_of<cubejobs_worker, cubejobs_lanes>;
+    explicit worker(std::unique_ptr<place> handle) : mine(std::move(handle)) {}
+    std::unique_ptr<place> mine;
+};
+
+class running;
+
+/* A worker of a dispatcher. One that ends drops the job that it keeps: give it back before. */
+class shop_worker {
+  public:
+    shop_worker(shop_worker &&) = default;
+    shop_worker &operator=(shop_worker &&) = default;
+    /* Takes the next job with its block, if it can. */
+    running try_next();
+#ifdef CUBEJOBS_SLEEPS
+    /* Takes the next job with its block, and sleeps until it can. Otherwise the code is ENDED or
+     * RUNS_JOB, or after a stop NO_REGION if no block was found for the job that it keeps. */
+    running next();
+#endif
+    /* Gives back the job that the worker keeps, if it keeps one. */
+    cubejobs_work_answer give_back() {
+        cubejobs_work_answer given = cubejobs_dispatch_give_back(&mine->at);
+        mine->all->raise();
+        return given;
+    }
+
+  private:
+    template <class, class, class> friend class owner_of;
+    friend class owned<shop_worker>;
+    friend running;
+    using shared = handle_of<cubejobs_shop_worker, cubejobs_dispatch>;
+    struct place {};
+    using answer = cubejobs_work_answer;
+    static answer nothing() {
+        answer none = {};
+        none.code = CUBEJOBS_DISPATCH_NOTHING_RUN;
+        return none;
+    }
+    static void release(shared &worker, place, answer) { cubejobs_dispatch_done(&worker.at), worker.all->raise(); }
+    explicit shop_worker(std::shared_ptr<shared> handle) : mine(std::move(handle)) {}
+    running filled(answer got);
+    std::shared_ptr<shared> mine;
+};
+
+/* A job that runs on its block, or the code of the call that gave none. When this ends, or by
+ * release(), the job is done and its block is released. */
+class running : public owned<shop_worker> {
+  public:
+    std::uint32_t lane() const { return taken.lane; }
+    std::uint64_t seq() const { return taken.seq; }
+    std::uint64_t payload() const { return taken.payload; }
+};
+
+inline running shop_worker::filled(answer got) {
+    running made;
+    made.taken = got;
+    if (got.code == CUBEJOBS_DISPATCH_DONE) made.handle = mine;
+    return made;
+}
+
+inline running shop_worker::try_next() {
+    answer got = cubejobs_dispatch_next(&mine->at);
+    if (got.code != CUBEJOBS_DISPATCH_EMPTY) mine->all->raise();
+    return filled(got);
+}
+
+#ifdef CUBEJOBS_SLEEPS
+/* As cubejobs_dispatch_wait does: the first look raises, and the later ones come one at a time. */
+inline running shop_worker::next() {
+    common<cubejobs_dispatch> &all = *mine->all;
+    for (bool in_turn = false;;) {
+        std::unique_lock<std::mutex> turn(all.turn, std::defer_lock);
+        std::uint32_t key = 0;
+        if (in_turn) turn.lock(), key = all.key();
+        const auto got = cubejobs_dispatch_find(&mine->at);
+        if (in_turn) turn.unlock();
+        all.unpark(got.woken);
+        bool has_no_block = got.code == CUBEJOBS_DISPATCH_NO_REGION || got.code == CUBEJOBS_DISPATCH_OLDER_JOB;
+        if (got.code == CUBEJOBS_DISPATCH_DONE || (has_no_block && !in_turn)) all.raise();
+        const answer work = {got.code, got.lane, got.dim, got.base, got.seq, got.payload};
+        if (got.code == CUBEJOBS_DISPATCH_NO_REGION && all.is_stopped) return filled(work);
+        if (has_no_block) {
+            if (in_turn) all.room.wait(key);
+            in_turn = true;
+        } else if (!mine->looks_again(got.code)) {
+            return filled(work);
+        } else if (got.code == CUBEJOBS_DISPATCH_PARK) {
+            in_turn = false;
+        }
+    }
+}
+#endif
+
+/* An owner of lanes with their handles. One thread at a time uses it. When it ends, the lanes are
+ * closed. */
+template <class Owner, class Lane, class Worker> class owner_of {
+  public:
+    owner_of(owner_of &&) = default;
+    owner_of &operator=(owner_of &&other) noexcept {
+        if (this != &other && all) close();
+        all = std::move(other.all);
+        return *this;
+    }
+    ~owner_of() {
+        if (all) close();
+    }
+    Lane lane() { return got<Lane>(); }
+    Worker worker() { return got<Worker>(); }
+    /* Closes all lanes, and wakes all workers. They get the jobs that are left. */
+    cubejobs_close_answer close() {
+        cubejobs_close_answer answer = calls::close(&all->owner);
+        all->unpark_all();
+        return answer;
+    }
+    /* Ends closed lanes of which all handles are back. Returns the jobs that are left. If it is not
+     * called, they are dropped with the last handle. */
+    std::vector<cubejobs_job_answer> finish() {
+        std::vector<cubejobs_job_answer> left(1);
+        check(calls::finish(&all->owner).code);
+        while ((left.back() = calls::rest(&all->owner)).code == CUBEJOBS_DISPATCH_DONE) left.emplace_back();
+        left.pop_back();
+        return left;
+    }
+
+  protected:
+    explicit owner_of(std::uint32_t workers) : all(std::make_shared<common<Owner>>(workers)) {}
+    std::shared_ptr<common<Owner>> all;
+
+  private:
+    template <class Made> Made got() {
+        using place = typename decltype(Made::mine)::element_type;
+        std::unique_ptr<place> handle(new place(all));
+        check(calls::get(&all->owner, &handle->at));
+        return Made(std::move(handle));
+    }
+};
+
+/* Lanes of jobs. */
+class lanes : public owner_of<cubejobs_lanes, lane, worker> {
+  public:
+    lanes(std::uint32_t lane_count, std::uint32_t workers, std::uint64_t capacity) : owner_of(workers) {
+        check(cubejobs_lanes_open(&all->owner, lane_count, workers, capacity));
+    }
+};
+
+/* A dispatcher with a machine of 2^dim processors. */
+class dispatch : public owner_of<cubejobs_dispatch, shop_lane, shop_worker> {
+  public:
+    dispatch(std::uint32_t dim, std::uint32_t lane_count, std::uint32_t workers, std::uint64_t capacity)
+        : owner_of(workers) {
+        check(cubejobs_dispatch_open(&all->owner, dim, lane_count, workers, capacity));
+    }
+#ifdef CUBEJOBS_SLEEPS
+    /* Ends all sleep for a block, from now on: see shop_worker::next. Give such a job back, and
+     * close the lanes too. Then soon no worker sleeps. */
+    void stop() { all->is_stopped = true, all->raise(); }
+#endif
+};
+}
 
 }
 

@@ -3,9 +3,9 @@
  *
  * A job is a number of yours, say a pointer (payload), and the dimension of the block that it
  * wants. Each producer has a lane, which holds at most `capacity` jobs. Each worker takes from any
- * lane. A submit or a take makes at most five atomic steps, and takes no lock. Each accepted job is
- * taken once or is left at the end, in the order of its lane. This is proved for every interleaving
- * of the calls.
+ * lane. A submit or a take makes at most five atomic steps, and takes no lock. A submit to a shared
+ * lane makes at most ten. Each accepted job is taken once or is left at the end, in the order of
+ * its lane. This is proved for every interleaving of the calls.
  *
  * The dispatcher has lanes and a machine with the processors 0 to 2^dim - 1. A processor is only a
  * number: a CPU, a page, a rank. A worker gets its next job together with a block of the machine.
@@ -14,21 +14,23 @@
  * accepted job runs once, is given back once, or is left at the end.
  *
  * Handles. The owner of lanes has one handle (struct cubejobs_lanes), each producer one (struct
- * cubejobs_lane) and each worker one (struct cubejobs_worker). The owner hands them out, and gets
- * them back before it ends the lanes.
+ * cubejobs_lane) and each worker one (struct cubejobs_worker). The owner hands them out. Each comes
+ * back by a call of the thread that has it, without the owner. All must be back before the owner
+ * ends the lanes. Several producers can share one lane (struct cubejobs_shared_lane).
  *
  * Memory. A handle is 16 bytes in your memory. Only the calls that open lanes or a dispatcher, or
  * give out a handle, take memory, by malloc. An open of lanes takes 64 bytes for each job that the
- * lanes can hold and 320 for each lane. It takes 80 for each worker, 8 for each lane of each
- * worker, and 512 more. A handle of lanes takes at most 300. All of it is freed when the handles
+ * lanes can hold and 440 for each lane. It takes 200 for each worker, 8 for each lane of each
+ * worker, and 600 more. A handle of lanes takes at most 300. All of it is freed when the handles
  * and the lanes are.
  *
  * Linking. Link libcubejobs_dispatch.a. It needs only the C library, and runs on any x86-64.
  *
  * Proof. The functions are proved to do what this header says. Some of it is only tested: when
- * memory is taken and freed, that OUT_OF_MEMORY means so, and that STILL_SHARED never comes. No
- * theorem is about the inline functions, or says that submit and take order the plain memory that a
- * payload points to.
+ * memory is taken and freed, that OUT_OF_MEMORY means so, and that the owner finds all that came
+ * back. So is when STILL_SHARED comes, and that a worker that is named has its token. No theorem is
+ * about the inline functions, or says that submit and take order the plain memory that a payload
+ * points to.
  *
  * Nothing checks the caller's duties:
  *
@@ -41,10 +43,6 @@
  *   5. Let malloc and free belong to one allocator.
  *
  * Everything else is checked. A refused call returns a code and changes nothing that you can see.
- *
- * OTHER_LANES compares numbers of lanes. They come from one counter of the program,
- * cubejobs_lanes_opened. If a shared object has a counter of its own, do not use its lanes with
- * owners of others.
  *
  * Speed. Each call writes to its handle, so keep those of two threads in different cache lines.
  */
@@ -69,7 +67,7 @@ extern "C" {
 #define CUBEJOBS_LANES_MAX_CAPACITY 1024
 
 /* The version of this header. A library of another version refuses to open lanes. */
-#define CUBEJOBS_DISPATCH_VERSION 1
+#define CUBEJOBS_DISPATCH_VERSION 2
 
 /* The codes that calls return. If several apply, it is the first of those that the comment of the
  * call lists. The library of regions has the other numbers. */
@@ -95,17 +93,24 @@ enum cubejobs_dispatch_code {
     CUBEJOBS_DISPATCH_LANE_OUT = 27,      /* A lane is not back. */
     CUBEJOBS_DISPATCH_WORKER_OUT = 28,    /* A worker is not back. */
     CUBEJOBS_DISPATCH_NONE_LEFT = 29,     /* All lanes, or all workers, are out. */
-    CUBEJOBS_DISPATCH_OTHER_LANES = 30,   /* The handle is one of other lanes. */
     CUBEJOBS_DISPATCH_JOB_LEFT = 31,      /* A job is left. */
-    CUBEJOBS_DISPATCH_STILL_SHARED = 32,  /* Another call uses the lanes. */
+    CUBEJOBS_DISPATCH_STILL_SHARED = 32,  /* Another call has not ended. */
     CUBEJOBS_DISPATCH_NO_REGION = 33,     /* No block was found for the worker's job. */
     CUBEJOBS_DISPATCH_OLDER_JOB = 34,     /* An older job waits for a block. */
     CUBEJOBS_DISPATCH_TOO_LARGE = 35,     /* The job that the worker keeps is too large. */
     CUBEJOBS_DISPATCH_RUNS_JOB = 36,      /* The worker runs a job. */
     CUBEJOBS_DISPATCH_KEEPS_JOB = 37,     /* The worker keeps a job. */
     CUBEJOBS_DISPATCH_NOTHING_KEPT = 38,  /* The worker keeps no job. */
-    CUBEJOBS_DISPATCH_NOTHING_RUN = 39    /* The worker runs no job. */
+    CUBEJOBS_DISPATCH_NOTHING_RUN = 39,   /* The worker runs no job. */
+    CUBEJOBS_DISPATCH_BUSY = 40,          /* Another producer is inside the shared lane. */
+    CUBEJOBS_DISPATCH_NOBODY = 41,        /* No thread is to be woken. */
+    CUBEJOBS_DISPATCH_AGAIN = 42,         /* There is more to do: call again. */
+    CUBEJOBS_DISPATCH_PARK = 43,          /* There is no job: park the thread. */
+    CUBEJOBS_DISPATCH_ASLEEP = 44         /* The worker lies down. */
 };
+
+/* The number that names no worker. */
+#define CUBEJOBS_DISPATCH_NO_WORKER 4294967295u
 
 /* The handles. Only the library reads or writes them. */
 struct cubejobs_lanes {
@@ -117,6 +122,10 @@ struct cubejobs_lane {
     void *at;
 };
 struct cubejobs_worker {
+    uint64_t tag;
+    void *at;
+};
+struct cubejobs_shared_lane {
     uint64_t tag;
     void *at;
 };
@@ -181,15 +190,11 @@ struct cubejobs_finish_answer {
 };
 
 /* Below, each comment lists the codes of its call without CUBEJOBS_DISPATCH_, in the order in which
- * the call checks them. */
+ * the call checks them. A worker that lies down returns ASLEEP, after OTHER_KIND, from each call
+ * but find, awake and worker_number. */
 
-/* Does what cubejobs_lanes_open does, which calls it with the version of this header and with a
- * number that no other lanes of the program have. OTHER_LANES goes by this number. */
-uint32_t cubejobs_lanes_open_version(struct cubejobs_lanes *owner, uint32_t version, struct cubejobs_lane_sizes sizes,
-                                     uint64_t number);
-
-/* The number of the last lanes, the same in all files of a program. */
-__attribute__((weak)) uint64_t cubejobs_lanes_opened;
+/* Does what cubejobs_lanes_open does, which calls it with the version of this header. */
+uint32_t cubejobs_lanes_open_version(struct cubejobs_lanes *owner, uint32_t version, struct cubejobs_lane_sizes sizes);
 
 /* Opens lanes with no job, of which no handle is out. There are 1 to 4,096 lanes and as many
  * workers, and each lane holds 1 to 1,024 jobs. Codes: BAD_VERSION, ALREADY_OPEN, BAD_SIZES,
@@ -200,8 +205,7 @@ CUBEJOBS_DISPATCH_INLINE uint32_t cubejobs_lanes_open(struct cubejobs_lanes *own
     sizes.lanes = lanes;
     sizes.workers = workers;
     sizes.capacity = capacity;
-    return cubejobs_lanes_open_version(owner, CUBEJOBS_DISPATCH_VERSION, sizes,
-                                       __atomic_add_fetch(&cubejobs_lanes_opened, 1, __ATOMIC_SEQ_CST));
+    return cubejobs_lanes_open_version(owner, CUBEJOBS_DISPATCH_VERSION, sizes);
 }
 
 /* Gives a producer a handle: that of the first lane which is not out. Codes: ALREADY_OPEN (the
@@ -228,20 +232,87 @@ struct cubejobs_job_answer cubejobs_lanes_take_any(struct cubejobs_worker *worke
  * ENDED, DONE. */
 struct cubejobs_look_answer cubejobs_lanes_look(struct cubejobs_worker *worker, uint32_t lane);
 
-/* Closes all lanes, one after another. A lane accepts no job after its close. Codes: NOT_OPEN,
+/* The result of a call that finds a job or lets the worker lie down. All is 0 unless the code is
+ * CUBEJOBS_DISPATCH_DONE, but `woken`.
+ *   - woken: with each code the number of a worker that was given its token, and whose thread you
+ *     wake, or CUBEJOBS_DISPATCH_NO_WORKER. */
+struct cubejobs_find_answer {
+    uint32_t code;
+    uint32_t lane;
+    uint32_t dim;
+    uint32_t woken;
+    uint64_t seq;
+    uint64_t payload;
+    uint64_t left;
+};
+
+/* The result of a wake: if the code is CUBEJOBS_DISPATCH_DONE, the number of the worker that was
+ * given its token, and whose thread you wake. */
+struct cubejobs_wake_answer {
+    uint32_t code;
+    uint32_t worker;
+};
+
+/* The number of a worker, from 0 on. */
+struct cubejobs_number_answer {
+    uint32_t code;
+    uint32_t number;
+};
+
+/* Takes a job as cubejobs_lanes_take_any does, or lets the worker lie down if there is none. With
+ * PARK, park its thread until cubejobs_lanes_awake returns DONE, then call again. With AGAIN, call
+ * again. After both the worker lies down: its other calls, but those below, return ASLEEP. After
+ * DONE and ENDED it is awake. Codes: NOT_OPEN, OTHER_KIND, BAD_LANE, AGAIN, PARK, ENDED, DONE. */
+struct cubejobs_find_answer cubejobs_lanes_find(struct cubejobs_worker *worker, uint32_t from);
+
+/* Takes the token of a worker. With PARK it has none, and its thread parks on. With DONE it is to
+ * call cubejobs_lanes_find. Codes: NOT_OPEN, OTHER_KIND, PARK, DONE. */
+uint32_t cubejobs_lanes_awake(struct cubejobs_worker *worker);
+
+/* Returns the number of a worker, by which others name it. Workers are numbered from 0 on in the
+ * order in which they are given out first. Codes: NOT_OPEN, OTHER_KIND, DONE. */
+struct cubejobs_number_answer cubejobs_lanes_worker_number(struct cubejobs_worker *worker);
+
+/* Gives a worker that sleeps its token, if one is to be woken for the lane's last job. Call it
+ * after each submit with DONE, and call it again while the code is AGAIN. Codes: NOT_OPEN,
+ * OTHER_KIND, NOBODY (no thread is to be woken), AGAIN, DONE. */
+struct cubejobs_wake_answer cubejobs_lanes_wake(struct cubejobs_lane *lane);
+
+/* Closes all lanes, one after another. A lane accepts no job after its close. Each worker that
+ * sleeps is given its token: afterwards wake the threads of all workers. Codes: NOT_OPEN,
  * OTHER_KIND, FINISHED, CLOSED (already), DONE. */
 struct cubejobs_close_answer cubejobs_lanes_close(struct cubejobs_lanes *owner);
 
-/* Takes a producer's lane back, and shuts the producer's handle. Codes: NOT_OPEN (either),
- * OTHER_KIND (either), FINISHED, OTHER_LANES, DONE. Those of the owner come first. */
-uint32_t cubejobs_lanes_free_lane(struct cubejobs_lanes *owner, struct cubejobs_lane *lane);
+/* Gives a producer's lane back, and shuts the handle. It is a call of the producer, and needs no
+ * owner. Codes: NOT_OPEN, OTHER_KIND, STILL_SHARED (it never comes), DONE. */
+uint32_t cubejobs_lanes_free_lane(struct cubejobs_lane *lane);
 
-/* Takes a worker back, and shuts its handle. The same codes. */
-uint32_t cubejobs_lanes_free_worker(struct cubejobs_lanes *owner, struct cubejobs_worker *worker);
+/* Gives a worker back, and shuts the handle. The same codes. */
+uint32_t cubejobs_lanes_free_worker(struct cubejobs_worker *worker);
+
+/* Make a lane that several producers share. The first makes it of a producer's lane, and shuts the
+ * producer's handle. The second gives another thread a handle of it. Codes: ALREADY_OPEN (the last
+ * argument), NOT_OPEN, OTHER_KIND, OUT_OF_MEMORY, DONE. */
+uint32_t cubejobs_lanes_share(struct cubejobs_lane *lane, struct cubejobs_shared_lane *shared);
+uint32_t cubejobs_lanes_share_again(struct cubejobs_shared_lane *one, struct cubejobs_shared_lane *other);
+
+/* Submits a job to a shared lane. With BUSY another producer is inside: call again. A thread that
+ * is stopped inside keeps the others out. Codes: NOT_OPEN, OTHER_KIND, BUSY, CLOSED, SPENT, FULL,
+ * DONE. */
+struct cubejobs_submit_answer cubejobs_lanes_submit_shared(struct cubejobs_shared_lane *shared, uint64_t payload,
+                                                           uint32_t dim);
+
+/* Does what cubejobs_lanes_wake does, after a submit to a shared lane. With BUSY another producer
+ * is inside: call again. Codes: NOT_OPEN, OTHER_KIND, BUSY, NOBODY, AGAIN, DONE. */
+struct cubejobs_wake_answer cubejobs_lanes_wake_shared(struct cubejobs_shared_lane *shared);
+
+/* Shuts a handle of a shared lane. The last one gives the lane back to its owner. Codes: NOT_OPEN,
+ * OTHER_KIND, DONE. */
+uint32_t cubejobs_lanes_free_shared(struct cubejobs_shared_lane *shared);
 
 /* Ends closed lanes, once all lanes and all workers are back. Then the handle has the jobs that no
  * worker took. Codes: NOT_OPEN, OTHER_KIND, FINISHED, NOT_CLOSED, LANE_OUT, WORKER_OUT,
- * STILL_SHARED, DONE. */
+ * STILL_SHARED (a call that gives a handle back has not ended: call again), DONE. */
 struct cubejobs_finish_answer cubejobs_lanes_finish(struct cubejobs_lanes *owner);
 
 /* Returns the first job that is left, and removes it. They are in the order of the lanes, and in
@@ -265,7 +336,7 @@ struct cubejobs_work_answer {
 
 /* Does what cubejobs_dispatch_open does, as cubejobs_lanes_open_version does it for lanes. */
 uint32_t cubejobs_dispatch_open_version(struct cubejobs_dispatch *owner, uint32_t version, uint32_t dim,
-                                        struct cubejobs_lane_sizes sizes, uint64_t number);
+                                        struct cubejobs_lane_sizes sizes);
 
 /* Opens a dispatcher with a machine of dimension `dim`, at most 20, and with lanes as
  * cubejobs_lanes_open does. Codes: BAD_VERSION, ALREADY_OPEN, BAD_DIMENSION, BAD_SIZES,
@@ -276,8 +347,7 @@ CUBEJOBS_DISPATCH_INLINE uint32_t cubejobs_dispatch_open(struct cubejobs_dispatc
     sizes.lanes = lanes;
     sizes.workers = workers;
     sizes.capacity = capacity;
-    return cubejobs_dispatch_open_version(owner, CUBEJOBS_DISPATCH_VERSION, dim, sizes,
-                                          __atomic_add_fetch(&cubejobs_lanes_opened, 1, __ATOMIC_SEQ_CST));
+    return cubejobs_dispatch_open_version(owner, CUBEJOBS_DISPATCH_VERSION, dim, sizes);
 }
 
 /* Give a producer or a worker a handle, as cubejobs_lanes_lane and cubejobs_lanes_worker do. */
@@ -294,6 +364,30 @@ struct cubejobs_submit_answer cubejobs_dispatch_submit(struct cubejobs_shop_lane
  * ENDED, TOO_LARGE, NO_REGION, DONE. */
 struct cubejobs_work_answer cubejobs_dispatch_next(struct cubejobs_shop_worker *worker);
 
+/* The same with `woken`, as in struct cubejobs_find_answer. */
+struct cubejobs_work_find_answer {
+    uint32_t code;
+    uint32_t lane;
+    uint32_t dim;
+    uint32_t woken;
+    uint64_t base;
+    uint64_t seq;
+    uint64_t payload;
+};
+
+/* Does what cubejobs_dispatch_next does, but a worker that keeps no job and finds none lies down.
+ * PARK and AGAIN come instead of EMPTY, as from cubejobs_lanes_find. OLDER_JOB leaves a worker that
+ * lies down as it is: call again after a job of another worker is done. After the other codes the
+ * worker is awake. Codes: NOT_OPEN, OTHER_KIND, RUNS_JOB, OLDER_JOB, AGAIN, PARK, ENDED,
+ * TOO_LARGE, NO_REGION, DONE. */
+struct cubejobs_work_find_answer cubejobs_dispatch_find(struct cubejobs_shop_worker *worker);
+
+/* Take the token of a worker, return its number, and give a worker its token, as the calls of lanes
+ * do. */
+uint32_t cubejobs_dispatch_awake(struct cubejobs_shop_worker *worker);
+struct cubejobs_number_answer cubejobs_dispatch_worker_number(struct cubejobs_shop_worker *worker);
+struct cubejobs_wake_answer cubejobs_dispatch_wake(struct cubejobs_shop_lane *lane);
+
 /* Releases the block of the job that a worker runs. Codes: NOT_OPEN, OTHER_KIND, NOTHING_RUN,
  * DONE. */
 uint32_t cubejobs_dispatch_done(struct cubejobs_shop_worker *worker);
@@ -302,11 +396,11 @@ uint32_t cubejobs_dispatch_done(struct cubejobs_shop_worker *worker);
  * NOTHING_KEPT, DONE. */
 struct cubejobs_work_answer cubejobs_dispatch_give_back(struct cubejobs_shop_worker *worker);
 
-/* Close all lanes, and take a lane or a worker back, as the calls of lanes do. A worker has two
- * codes more, before OTHER_LANES: KEEPS_JOB and RUNS_JOB. */
+/* Close all lanes, and give a lane or a worker back, as the calls of lanes do. A worker has two
+ * codes more, before STILL_SHARED: KEEPS_JOB and RUNS_JOB. */
 struct cubejobs_close_answer cubejobs_dispatch_close(struct cubejobs_dispatch *owner);
-uint32_t cubejobs_dispatch_free_lane(struct cubejobs_dispatch *owner, struct cubejobs_shop_lane *lane);
-uint32_t cubejobs_dispatch_free_worker(struct cubejobs_dispatch *owner, struct cubejobs_shop_worker *worker);
+uint32_t cubejobs_dispatch_free_lane(struct cubejobs_shop_lane *lane);
+uint32_t cubejobs_dispatch_free_worker(struct cubejobs_shop_worker *worker);
 
 /* End a closed dispatcher, return the jobs that no worker took, and free it, as the calls of lanes
  * do. All lanes and workers must be back. */
@@ -350,9 +444,8 @@ CUBEJOBS_DISPATCH_INLINE const char *cubejobs_code_text(uint32_t code) {
     case 27: return "a lane is not back";
     case 28: return "a worker is not back";
     case 29: return "all lanes, or all workers, are out";
-    case 30: return "the handle is one of other lanes";
     case 31: return "a job is left";
-    case 32: return "another call uses the lanes";
+    case 32: return "another call has not ended";
     case 33: return "no block was found for the job that the worker keeps";
     case 34: return "no block was taken, since an older job waits for one";
     case 35: return "the job that the worker keeps is larger than the machine";
@@ -360,6 +453,11 @@ CUBEJOBS_DISPATCH_INLINE const char *cubejobs_code_text(uint32_t code) {
     case 37: return "the worker keeps a job";
     case 38: return "the worker keeps no job";
     case 39: return "the worker runs no job";
+    case 40: return "another producer is inside the shared lane";
+    case 41: return "no thread is to be woken";
+    case 42: return "other calls were in the way: call again";
+    case 43: return "there is no job: park the thread";
+    case 44: return "the worker lies down";
     default: return "the libraries have no such code";
     }
 }
@@ -367,8 +465,10 @@ CUBEJOBS_DISPATCH_INLINE const char *cubejobs_code_text(uint32_t code) {
 
 /* The library is not compiled for a sanitizer, so this part informs three of them. ThreadSanitizer
  * and, if CUBEJOBS_HELGRIND is defined, Helgrind do not see the library's atomics. Here a take
- * acquires what the submit of its payload released. MemorySanitizer does not see what the library
- * writes. Here each result is initialised. Without these three this part is empty. */
+ * acquires what the submit of its payload released. Helgrind still reports what passes inside the
+ * library: a shared lane, and a handle that comes back during a finish. MemorySanitizer does not
+ * see what the library writes. Here each result is initialised. Without these three this part is
+ * empty. */
 #if defined(__SANITIZE_THREAD__)
 #define CUBEJOBS_DISPATCH_TSAN 1
 #elif defined(__has_feature)
@@ -410,6 +510,12 @@ CUBEJOBS_DISPATCH_INLINE struct cubejobs_submit_answer cubejobs_lanes_submit_see
                                                                                   uint64_t payload, uint32_t dim) {
     CUBEJOBS_DISPATCH_BEFORE(payload);
     return cubejobs_lanes_submit(lane, payload, dim);
+}
+
+CUBEJOBS_DISPATCH_INLINE struct cubejobs_submit_answer cubejobs_lanes_submit_shared_seen(
+    struct cubejobs_shared_lane *shared, uint64_t payload, uint32_t dim) {
+    CUBEJOBS_DISPATCH_BEFORE(payload);
+    return cubejobs_lanes_submit_shared(shared, payload, dim);
 }
 
 CUBEJOBS_DISPATCH_INLINE struct cubejobs_job_answer cubejobs_lanes_take_seen(struct cubejobs_worker *worker,
@@ -469,12 +575,32 @@ CUBEJOBS_DISPATCH_INLINE struct cubejobs_job_answer cubejobs_dispatch_rest_seen(
     return answer;
 }
 
+CUBEJOBS_DISPATCH_INLINE struct cubejobs_find_answer cubejobs_lanes_find_seen(struct cubejobs_worker *worker,
+                                                                              uint32_t from) {
+    struct cubejobs_find_answer answer = cubejobs_lanes_find(worker, from);
+    CUBEJOBS_DISPATCH_AFTER(answer);
+    return answer;
+}
+
+CUBEJOBS_DISPATCH_INLINE struct cubejobs_work_find_answer cubejobs_dispatch_find_seen(
+    struct cubejobs_shop_worker *worker) {
+    struct cubejobs_work_find_answer answer = cubejobs_dispatch_find(worker);
+    CUBEJOBS_DISPATCH_AFTER(answer);
+#ifdef CUBEJOBS_DISPATCH_ACQUIRE
+    CUBEJOBS_DISPATCH_ACQUIRE(&cubejobs_dispatch_done_order);
+#endif
+    return answer;
+}
+
+#define cubejobs_lanes_find cubejobs_lanes_find_seen
+#define cubejobs_dispatch_find cubejobs_dispatch_find_seen
 #define cubejobs_dispatch_give_back cubejobs_dispatch_give_back_seen
 #define cubejobs_dispatch_rest cubejobs_dispatch_rest_seen
 #define cubejobs_dispatch_submit cubejobs_dispatch_submit_seen
 #define cubejobs_dispatch_next cubejobs_dispatch_next_seen
 #define cubejobs_dispatch_done cubejobs_dispatch_done_seen
 #define cubejobs_lanes_submit cubejobs_lanes_submit_seen
+#define cubejobs_lanes_submit_shared cubejobs_lanes_submit_shared_seen
 #define cubejobs_lanes_take cubejobs_lanes_take_seen
 #define cubejobs_lanes_take_any cubejobs_lanes_take_any_seen
 #define cubejobs_lanes_rest cubejobs_lanes_rest_seen

@@ -10,9 +10,8 @@
  * Take and release use no lock and wait for no other thread.
  *
  * Memory. A handle is 16 bytes in your memory. Only cubejobs_regions_open and
- * cubejobs_regions_share take memory, by malloc. A machine takes at most 1 byte for each processor
- * and 2 KB more. Each further handle takes at most 1/4 byte for each processor and 1 KB. A free
- * gives it back.
+ * cubejobs_regions_share take memory, by malloc. A machine takes at most 3/4 byte for each
+ * processor and 2 KB more. Each further handle takes at most 512 bytes. A free gives it back.
  *
  * When to try again. cubejobs_wait.h has a take that sleeps until it succeeds. It says which calls
  * are an event for such a take.
@@ -22,9 +21,8 @@
  *
  * Proof. The functions are proved to do what this header says. Some of it is only tested: when
  * memory is taken and freed, and that OUT_OF_MEMORY means so. So is it that the last of several
- * frees sees each held block, and what an occupancy reads. No theorem is about the inline
- * functions, or says that take and release order plain memory that a block guards. docs/STATUS.md
- * has the list.
+ * frees sees each held block. No theorem is about the inline functions, or says that take and
+ * release order plain memory that a block guards. docs/STATUS.md has the list.
  *
  * Nothing checks the caller's duties:
  *
@@ -184,8 +182,9 @@ uint32_t cubejobs_regions_release(struct cubejobs_regions *thread, struct cubejo
 /* Returns the block that a handle holds. Codes: NOTHING_HELD, DONE. */
 struct cubejobs_regions_answer cubejobs_regions_block(const struct cubejobs_block *block);
 
-/* Counts what is free and what is held. Reads each word at some moment of the call, so the counts
- * are exact if no other call runs meanwhile. Codes: NOT_OPEN, DONE. */
+/* Counts what is free and what is held. Reads each word once, at some moment of the call, and
+ * counts exactly what it read. So the counts are those of the machine if no other call runs
+ * meanwhile. Codes: NOT_OPEN, DONE. */
 struct cubejobs_regions_occupancy_answer cubejobs_regions_occupancy(struct cubejobs_regions *thread);
 
 /* Shuts a handle. The last one frees the machine, if nothing is held. Codes: NOT_OPEN, STILL_HELD,
@@ -228,9 +227,8 @@ CUBEJOBS_REGIONS_INLINE const char *cubejobs_code_text(uint32_t code) {
     case 27: return "a lane is not back";
     case 28: return "a worker is not back";
     case 29: return "all lanes, or all workers, are out";
-    case 30: return "the handle is one of other lanes";
     case 31: return "a job is left";
-    case 32: return "another call uses the lanes";
+    case 32: return "another call has not ended";
     case 33: return "no block was found for the job that the worker keeps";
     case 34: return "no block was taken, since an older job waits for one";
     case 35: return "the job that the worker keeps is larger than the machine";
@@ -238,6 +236,11 @@ CUBEJOBS_REGIONS_INLINE const char *cubejobs_code_text(uint32_t code) {
     case 37: return "the worker keeps a job";
     case 38: return "the worker keeps no job";
     case 39: return "the worker runs no job";
+    case 40: return "another producer is inside the shared lane";
+    case 41: return "no thread is to be woken";
+    case 42: return "other calls were in the way: call again";
+    case 43: return "there is no job: park the thread";
+    case 44: return "the worker lies down";
     default: return "the libraries have no such code";
     }
 }

@@ -1,17 +1,22 @@
-/* Threads that sleep until they get a block of a machine of cubejobs_regions.h: C11 and C++11.
+/* Threads that sleep until they get what they wait for: C11 and C++11.
  *
- * An event count (struct cubejobs_event) belongs to one machine. A waiter reads its key, then
- * tries a take, then sleeps until the event was raised after the key. On Linux it sleeps by futex,
- * elsewhere by a mutex and a condition variable (also if CUBEJOBS_EVENT_CONDITION is defined). All
- * functions are inline: they are tested, and no theorem is about them.
+ *   - a block of a machine of cubejobs_regions.h: cubejobs_regions_take_or_wait;
+ *   - a job of lanes of cubejobs_dispatch.h: cubejobs_lanes_wait;
+ *   - a job of a dispatcher together with its block: cubejobs_dispatch_wait.
  *
- * Use these two calls alone, and no waiter misses a block that is free:
+ * A thread that sleeps takes no processor time. On Linux it sleeps by futex, elsewhere by a mutex
+ * and a condition variable (also if CUBEJOBS_EVENT_CONDITION is defined). All functions are inline:
+ * they are tested, and no theorem is about them. Link the library of what you use.
+ *
+ * BLOCKS. An event count (struct cubejobs_event) belongs to one machine. A waiter reads its key,
+ * then tries a take, then sleeps until the event was raised after the key. Use these two calls
+ * alone, and no waiter misses a block that is free:
  *
  *   - cubejobs_regions_take_or_wait takes a block, or sleeps until it can;
  *   - cubejobs_regions_release_and_raise releases one.
  *
- * Raise the event also after each other take has returned: a quick one, an exact one and a take_at,
- * granted or refused. For any of them can hide room from a waiter for a moment:
+ * Raise the event also after each take of your own has returned: a quick one, an exact one and a
+ * take_at, granted or refused. For any of them can hide room from a waiter for a moment:
  *
  *   - A refused take shuts empty words. While it shuts one it has the unit over it, and another
  *     take finds this unit in use. So a refused take can be the cause of a second refusal.
@@ -21,14 +26,40 @@
  * A split, a join and a read of what is free hide nothing.
  *
  * What a waiter does. The quick take's refusal says nothing, so before it sleeps it makes an exact
- * take. It reads the key before this take. Waiters make their exact takes one at a time (`turn`).
- * Otherwise two refused ones could hide room from each other, and each would have to wake the
- * other. With NOT_NOW other calls won exchanges, so it takes again. With NO_ROOM it sleeps. Suppose
- * that nothing wakes it, and no call is in progress. Then no other call made a step during its
- * take. So the refusal was right, and no block of this dimension is free.
+ * take. It reads the key before this take. Waiters make their exact takes one at a time (`turn`),
+ * so these hide nothing from each other, and need no raise. With NOT_NOW other calls won exchanges,
+ * so it takes again. With NO_ROOM it sleeps. Suppose that nothing wakes it, and no call is in
+ * progress. Then no other call made a step during its take. So the refusal was right, and no block
+ * of this dimension is free.
  *
  * Nothing guarantees fairness: a waiter for a large block may wait as long as others take small
  * ones. A waiter that is stopped in its exact take stops the other waiters, but no other call.
+ *
+ * JOBS. A parking (struct cubejobs_parking) belongs to lanes or to a dispatcher, and has a word in
+ * your memory for each worker. The library says which worker is to wake. These functions wake its
+ * thread. Use all of those for your kind, instead of the calls in their names:
+ *
+ *   - cubejobs_lanes_submit_and_wake, _submit_shared_and_wake, _wait and _close_and_wake;
+ *   - cubejobs_dispatch_submit_and_wake, _wait, _done_and_raise, _give_back_and_raise and
+ *     _close_and_wake.
+ *
+ * Why no wake-up is lost. The library gives a worker its token, and then names the worker. Then the
+ * waker sets the worker's word. A worker sleeps only while its word is 0. Then it clears the word,
+ * and then it looks for its token. So if no call is in progress, no worker that sleeps has a token.
+ * It is proved of the library that then no job waits, or a worker looks for it (docs/LANES.md).
+ *
+ * A worker whose job has no block sleeps on the event `room` of the parking. It follows the rules
+ * for blocks: it reads the key before it looks, and such workers look one at a time (`turn`). Each
+ * call after which they may find more raises `room`, once it has returned. It is a `done`, a
+ * give-back, the first look of each wait, and each look that finds a block. So raise `room` also
+ * after each cubejobs_dispatch_next or cubejobs_dispatch_find of your own.
+ *
+ * A worker with OLDER_JOB sleeps there too, until the older job has its block or is given back.
+ * Suppose that all workers that keep a job sleep, and no call is in progress. Then a job runs, and
+ * its `done` wakes them. For on a free machine the oldest job would have got its block.
+ *
+ * This needs one duty more: a worker that keeps a job waits, or gives the job back. If its thread
+ * does neither, the other workers may sleep for as long, since an older job reserves the machine.
  */
 #ifndef CUBEJOBS_WAIT_H
 #define CUBEJOBS_WAIT_H
@@ -37,6 +68,7 @@
 #include <sched.h>
 #include <stdint.h>
 
+#include "cubejobs_dispatch.h"
 #include "cubejobs_regions.h"
 
 #if defined(__linux__) && !defined(CUBEJOBS_EVENT_CONDITION)
@@ -119,7 +151,6 @@ static inline struct cubejobs_regions_answer cubejobs_regions_take_or_wait(struc
         pthread_mutex_unlock(&event->turn);
         if (answer.code == CUBEJOBS_REGIONS_NO_ROOM) cubejobs_event_wait(event, key);
         if (answer.code == CUBEJOBS_REGIONS_NOT_NOW) sched_yield();
-        if (answer.code == CUBEJOBS_REGIONS_DONE) cubejobs_event_raise(event);
     }
     return answer;
 }
@@ -130,6 +161,197 @@ static inline uint32_t cubejobs_regions_release_and_raise(struct cubejobs_region
     uint32_t code = cubejobs_regions_release(thread, block);
     cubejobs_event_raise(event);
     return code;
+}
+
+/* The words on which the threads of workers sleep. Initialise it by CUBEJOBS_PARKING_INIT, with an
+ * array of zeros that has a word for each worker of the lanes or of the dispatcher. Keep both until
+ * the last of these calls has returned. Only the functions below read or write them. */
+struct cubejobs_parking {
+    uint32_t *words;
+    uint32_t workers;
+    uint32_t is_stopped;
+    struct cubejobs_event room;
+};
+
+#define CUBEJOBS_PARKING_INIT(words, workers) {words, workers, 0, CUBEJOBS_EVENT_INIT}
+
+/* Wakes the thread of a worker, or lets its next park return at once. It ignores a number that no
+ * worker has. */
+static inline void cubejobs_unpark(struct cubejobs_parking *parking, uint32_t worker) {
+    if (worker >= parking->workers) return;
+    __atomic_store_n(&parking->words[worker], 1, __ATOMIC_SEQ_CST);
+#ifdef CUBEJOBS_EVENT_FUTEX
+    syscall(SYS_futex, &parking->words[worker], FUTEX_WAKE_PRIVATE, INT_MAX, 0, 0, 0);
+#else
+    pthread_mutex_lock(&parking->room.lock);
+    pthread_cond_broadcast(&parking->room.changed);
+    pthread_mutex_unlock(&parking->room.lock);
+#endif
+}
+
+/* Sleeps until the worker is unparked. It may return without cause, so look for the token again. */
+static inline void cubejobs_park(struct cubejobs_parking *parking, uint32_t worker) {
+    uint32_t *word = &parking->words[worker];
+#ifdef CUBEJOBS_EVENT_FUTEX
+    while (__atomic_load_n(word, __ATOMIC_SEQ_CST) == 0) syscall(SYS_futex, word, FUTEX_WAIT_PRIVATE, 0, 0, 0, 0);
+#else
+    pthread_mutex_lock(&parking->room.lock);
+    while (__atomic_load_n(word, __ATOMIC_SEQ_CST) == 0)
+        pthread_cond_wait(&parking->room.changed, &parking->room.lock);
+    pthread_mutex_unlock(&parking->room.lock);
+#endif
+    __atomic_store_n(word, 0, __ATOMIC_SEQ_CST);
+}
+
+static inline void cubejobs_unpark_all(struct cubejobs_parking *parking) {
+    uint32_t worker;
+    for (worker = 0; worker < parking->workers; worker++) cubejobs_unpark(parking, worker);
+}
+
+/* Submits a job as cubejobs_lanes_submit does, and wakes a worker for it if one is to wake. */
+static inline struct cubejobs_submit_answer cubejobs_lanes_submit_and_wake(struct cubejobs_lane *lane, uint64_t payload,
+                                                                           uint32_t dim,
+                                                                           struct cubejobs_parking *parking) {
+    struct cubejobs_submit_answer answer = cubejobs_lanes_submit(lane, payload, dim);
+    struct cubejobs_wake_answer wake = {CUBEJOBS_DISPATCH_AGAIN, 0};
+    if (answer.code != CUBEJOBS_DISPATCH_DONE) return answer;
+    while (wake.code == CUBEJOBS_DISPATCH_AGAIN) wake = cubejobs_lanes_wake(lane);
+    if (wake.code == CUBEJOBS_DISPATCH_DONE) cubejobs_unpark(parking, wake.worker);
+    return answer;
+}
+
+/* Does the same with a shared lane, as cubejobs_lanes_submit_shared does. */
+static inline struct cubejobs_submit_answer cubejobs_lanes_submit_shared_and_wake(struct cubejobs_shared_lane *lane,
+                                                                                  uint64_t payload, uint32_t dim,
+                                                                                  struct cubejobs_parking *parking) {
+    struct cubejobs_submit_answer answer = cubejobs_lanes_submit_shared(lane, payload, dim);
+    struct cubejobs_wake_answer wake = {CUBEJOBS_DISPATCH_AGAIN, 0};
+    if (answer.code != CUBEJOBS_DISPATCH_DONE) return answer;
+    while (wake.code == CUBEJOBS_DISPATCH_AGAIN || wake.code == CUBEJOBS_DISPATCH_BUSY)
+        wake = cubejobs_lanes_wake_shared(lane);
+    if (wake.code == CUBEJOBS_DISPATCH_DONE) cubejobs_unpark(parking, wake.worker);
+    return answer;
+}
+
+/* Takes a job, from lane `from` on, and sleeps until it can. The code is DONE, ENDED if no job will
+ * come, or NOT_OPEN, OTHER_KIND or BAD_LANE. */
+static inline struct cubejobs_find_answer cubejobs_lanes_wait(struct cubejobs_worker *worker, uint32_t from,
+                                                              struct cubejobs_parking *parking) {
+    uint32_t number = cubejobs_lanes_worker_number(worker).number;
+    for (;;) {
+        struct cubejobs_find_answer answer = cubejobs_lanes_find(worker, from);
+        cubejobs_unpark(parking, answer.woken);
+        if (answer.code == CUBEJOBS_DISPATCH_PARK) {
+            while (cubejobs_lanes_awake(worker) == CUBEJOBS_DISPATCH_PARK) cubejobs_park(parking, number);
+        } else if (answer.code == CUBEJOBS_DISPATCH_AGAIN) {
+            sched_yield();
+        } else {
+            return answer;
+        }
+    }
+}
+
+/* Closes all lanes as cubejobs_lanes_close does, and wakes all workers. */
+static inline struct cubejobs_close_answer cubejobs_lanes_close_and_wake(struct cubejobs_lanes *owner,
+                                                                         struct cubejobs_parking *parking) {
+    struct cubejobs_close_answer answer = cubejobs_lanes_close(owner);
+    cubejobs_unpark_all(parking);
+    return answer;
+}
+
+/* Submits a job as cubejobs_dispatch_submit does, and wakes a worker for it if one is to wake. */
+static inline struct cubejobs_submit_answer cubejobs_dispatch_submit_and_wake(struct cubejobs_shop_lane *lane,
+                                                                              uint64_t payload, uint32_t dim,
+                                                                              struct cubejobs_parking *parking) {
+    struct cubejobs_submit_answer answer = cubejobs_dispatch_submit(lane, payload, dim);
+    struct cubejobs_wake_answer wake = {CUBEJOBS_DISPATCH_AGAIN, 0};
+    if (answer.code != CUBEJOBS_DISPATCH_DONE) return answer;
+    while (wake.code == CUBEJOBS_DISPATCH_AGAIN) wake = cubejobs_dispatch_wake(lane);
+    if (wake.code == CUBEJOBS_DISPATCH_DONE) cubejobs_unpark(parking, wake.worker);
+    return answer;
+}
+
+/* Returns whether the code is that of a look which found no block, or may not look for one. */
+static inline int cubejobs_has_no_block(uint32_t code) {
+    return code == CUBEJOBS_DISPATCH_NO_REGION || code == CUBEJOBS_DISPATCH_OLDER_JOB;
+}
+
+/* Looks once for a worker's job and its block. A look `in_turn` is one of a worker that had none.
+ * Its key is that before the look. Another look raises `room`, since it may have hidden a block. */
+static inline struct cubejobs_work_answer cubejobs_dispatch_look(struct cubejobs_shop_worker *worker, int in_turn,
+                                                                 uint32_t *key, struct cubejobs_parking *parking) {
+    struct cubejobs_work_find_answer found;
+    struct cubejobs_work_answer answer;
+    if (in_turn) {
+        pthread_mutex_lock(&parking->room.turn);
+        *key = cubejobs_event_key(&parking->room);
+    }
+    found = cubejobs_dispatch_find(worker);
+    if (in_turn) pthread_mutex_unlock(&parking->room.turn);
+    cubejobs_unpark(parking, found.woken);
+    if (found.code == CUBEJOBS_DISPATCH_DONE || (!in_turn && cubejobs_has_no_block(found.code)))
+        cubejobs_event_raise(&parking->room);
+    answer.code = found.code, answer.lane = found.lane, answer.dim = found.dim;
+    answer.base = found.base, answer.seq = found.seq, answer.payload = found.payload;
+    return answer;
+}
+
+/* Takes the next job of a worker with its block, and sleeps until it can. The code is DONE, ENDED
+ * if no job will come, or NOT_OPEN, OTHER_KIND, RUNS_JOB or TOO_LARGE. After a stop it is NO_REGION
+ * if the worker keeps a job for which no block was found. */
+static inline struct cubejobs_work_answer cubejobs_dispatch_wait(struct cubejobs_shop_worker *worker,
+                                                                 struct cubejobs_parking *parking) {
+    uint32_t number = cubejobs_dispatch_worker_number(worker).number, key = 0;
+    int in_turn = 0;
+    for (;;) {
+        struct cubejobs_work_answer answer = cubejobs_dispatch_look(worker, in_turn, &key, parking);
+        if (cubejobs_has_no_block(answer.code)) {
+            int is_stopped = __atomic_load_n(&parking->is_stopped, __ATOMIC_SEQ_CST) != 0;
+            if (is_stopped && answer.code == CUBEJOBS_DISPATCH_NO_REGION) return answer;
+            if (in_turn) cubejobs_event_wait(&parking->room, key);
+            in_turn = 1;
+        } else if (answer.code == CUBEJOBS_DISPATCH_PARK) {
+            while (cubejobs_dispatch_awake(worker) == CUBEJOBS_DISPATCH_PARK) cubejobs_park(parking, number);
+            in_turn = 0;
+        } else if (answer.code == CUBEJOBS_DISPATCH_AGAIN) {
+            sched_yield();
+        } else {
+            return answer;
+        }
+    }
+}
+
+/* Releases the block of the job that a worker runs, as cubejobs_dispatch_done does, and raises
+ * `room`. */
+static inline uint32_t cubejobs_dispatch_done_and_raise(struct cubejobs_shop_worker *worker,
+                                                        struct cubejobs_parking *parking) {
+    uint32_t code = cubejobs_dispatch_done(worker);
+    cubejobs_event_raise(&parking->room);
+    return code;
+}
+
+/* Gives back the job that a worker keeps as cubejobs_dispatch_give_back does, and raises `room`. */
+static inline struct cubejobs_work_answer cubejobs_dispatch_give_back_and_raise(struct cubejobs_shop_worker *worker,
+                                                                                struct cubejobs_parking *parking) {
+    struct cubejobs_work_answer answer = cubejobs_dispatch_give_back(worker);
+    cubejobs_event_raise(&parking->room);
+    return answer;
+}
+
+/* Closes all lanes as cubejobs_dispatch_close does, and wakes all workers. They run the jobs that
+ * are left. */
+static inline struct cubejobs_close_answer cubejobs_dispatch_close_and_wake(struct cubejobs_dispatch *owner,
+                                                                            struct cubejobs_parking *parking) {
+    struct cubejobs_close_answer answer = cubejobs_dispatch_close(owner);
+    cubejobs_unpark_all(parking);
+    return answer;
+}
+
+/* Ends all sleep for a block, from now on: a wait of a worker that keeps a job returns NO_REGION if
+ * no block is found. Give that job back. Close the lanes too, and soon no worker sleeps. */
+static inline void cubejobs_dispatch_stop(struct cubejobs_parking *parking) {
+    __atomic_store_n(&parking->is_stopped, 1, __ATOMIC_SEQ_CST);
+    cubejobs_event_raise(&parking->room);
 }
 
 #ifdef __cplusplus

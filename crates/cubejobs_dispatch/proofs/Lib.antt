@@ -1,2 +1,5 @@
 mod AsBox
+mod AskLemmas
+pub mod BerthLemmas
 mod CrossLemmas
+pub mod EmptyLemmas

@@ -1,12 +1,12 @@
 -- The content of a handle, and why a call is refused by its kind.
 use Rattle.std.specs.Prelude.{ℕ, Option, Some, None}
-use Rattle.cubejobs_dispatch.specs.declared.codes.TheConstants.{DONE, FINISHED, NOT_FINISHED, NOT_OPEN, OTHER_KIND}
+use Rattle.cubejobs_dispatch.specs.declared.codes.TheConstants.{ASLEEP, DONE, FINISHED, NOT_FINISHED, NOT_OPEN, OTHER_KIND}
 use Rattle.cubejobs_dispatch.specs.declared.left.Left.{Left as JobsLeft}
 use Rattle.cubejobs_dispatch.specs.declared.owner.Owner.{Owner as LanesOwner}
 use Rattle.cubejobs_dispatch.specs.declared.sides.LaneSide.{LaneSide}
 use Rattle.cubejobs_dispatch.specs.declared.sides.WorkerSide.{WorkerSide}
 use Rattle.cubejobs_dispatch.specs.declared.state.State.{State}
-use Rattle.cubejobs_dispatch.specs.declared.state.State.TheVariants.{Owner, Lane, Worker, Left, Shop}
+use Rattle.cubejobs_dispatch.specs.declared.state.State.TheVariants.{Owner, Lane, Worker, Sleeper, Left, Shop}
 
 -- The lanes of a handle, if it is that of their owner.
 abbrev pub owner_in : Option State → Option LanesOwner
@@ -41,10 +41,11 @@ lane_refusal None = NOT_OPEN
 lane_refusal (Some (Lane side)) = DONE
 lane_refusal (Some other) = OTHER_KIND
 
--- The same of a worker.
+-- The same of a call that needs a worker which is awake.
 abbrev pub worker_refusal : Option State → ℕ
 worker_refusal None = NOT_OPEN
 worker_refusal (Some (Worker side)) = DONE
+worker_refusal (Some (Sleeper side)) = ASLEEP
 worker_refusal (Some other) = OTHER_KIND
 
 -- The same of a handle whose lanes have ended.

@@ -1,5 +1,5 @@
 -- How lanes and workers leave their places and come back.
-use Rattle.std.specs.Prelude.{◌≡◌, ℕ, ◌<◌, ◌⊎◌, Option, Some, None, IsSome, List, length, slice_index_or, slice_set}
+use Rattle.std.specs.Prelude.{◌≡◌, ◌≢◌, ℕ, ◌<◌, ◌⊎◌, Option, Some, None, IsSome, List, length, slice_index_or, slice_set}
 use Rattle.std.specs.Arc.{arc_value}
 use Rattle.cubejobs_dispatch.specs.declared.codes.TheConstants.{DONE, NONE_LEFT, OUT_OF_MEMORY}
 use Rattle.kept_places.specs.declared.kept.KeptLane.{KeptLane}
@@ -10,6 +10,7 @@ use Rattle.cubejobs_dispatch.specs.declared.sides.WorkerSide.{WorkerSide}
 use Rattle.cubejobs_dispatch.specs.declared.state.State.{State}
 use Rattle.cubejobs_dispatch.specs.declared.state.State.TheVariants.{Lane, Worker}
 use Rattle.kept_places.specs.Places.{AreEmptyBelow}
+use Rattle.cubejobs_dispatch.specs.Returns.{HasCollected}
 
 -- A place is full.
 abbrev pub HasFull : {T : Type 0} → List (Option T) → Type 0
@@ -50,3 +51,28 @@ pub record HasDealtWorker (old new : Owner) (content : Option State) : Type 0 wh
   pub common : arc_value new.common ≡ arc_value old.common
   pub stage : new.stage ≡ old.stage
   pub lanes : new.lanes ≡ old.lanes
+
+-- A call asked for a lane. The owner first took what had come back. Then this is the code. With
+-- `DONE` the content is the first lane in its place, and otherwise nothing more has changed.
+pub record AsksLane (code : ℕ) (old new : Owner) (content : Option State) : Type 0 where
+  pub mid : Owner
+  pub collected : HasCollected old mid
+  pub code_is : IsPlaceCode code mid.lanes.items
+  pub dealt : code ≡ DONE → HasDealtLane mid new content
+  pub refused : code ≢ DONE → new ≡ mid
+
+-- The same of a worker.
+pub record AsksWorker (code : ℕ) (old new : Owner) (content : Option State) : Type 0 where
+  pub mid : Owner
+  pub collected : HasCollected old mid
+  pub code_is : IsPlaceCode code mid.workers.items
+  pub dealt : code ≡ DONE → HasDealtWorker mid new content
+  pub refused : code ≢ DONE → new ≡ mid
+
+-- The call was refused, whatever the content of the other handle is.
+abbrev pub RefusesLane : ℕ → Owner → Owner → Type 0
+RefusesLane code old new = (content : Option State) → AsksLane code old new content
+
+-- The same of a worker.
+abbrev pub RefusesWorker : ℕ → Owner → Owner → Type 0
+RefusesWorker code old new = (content : Option State) → AsksWorker code old new content

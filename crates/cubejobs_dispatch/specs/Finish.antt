@@ -1,10 +1,13 @@
 -- When lanes can end, and what is left then.
-use Rattle.std.specs.Prelude.{◌≡◌, ℕ, ◌<◌, ◌⊎◌, Option, None, List, length, slice_index_or}
+use Rattle.std.specs.Prelude.{◌≡◌, ◌≢◌, ℕ, ◌<◌, ◌⊎◌, Option, Some, None, List, length, slice_index_or}
 use Rattle.cubejobs_dispatch.specs.declared.answers.FinishAnswer.{FinishAnswer}
 use Rattle.cubejobs_dispatch.specs.declared.codes.TheConstants.{DONE, LANE_OUT, NOT_CLOSED, STILL_SHARED, WORKER_OUT}
 use Rattle.cubejobs_dispatch.specs.declared.left.Left.{Left}
 use Rattle.cubejobs_dispatch.specs.declared.owner.Owner.{Owner}
+use Rattle.cubejobs_dispatch.specs.declared.state.State.{State}
+use Rattle.cubejobs_dispatch.specs.Contents.{left_in, owner_in, On}
 use Rattle.cubejobs_dispatch.specs.Ending.{IsLeftOf}
+use Rattle.cubejobs_dispatch.specs.Returns.{HasCollected}
 use Rattle.cubejobs_dispatch.specs.Owners.{lanes_of}
 use Rattle.kept_places.specs.Places.{AreFullBelow}
 use Rattle.cubejobs_dispatch.specs.Stages.{IsClosed, IsOpen}
@@ -46,3 +49,13 @@ IsFinishAnswer answer owner = IsFinishCode answer owner ⊎ (IsClosed owner.stag
 abbrev pub HasEnded : Owner → Left → Type 0
 HasEnded owner left =
     IsLeftOf (lanes_of owner) owner.stage owner.lanes.items owner.workers.items left
+
+-- A call was to end the lanes. The owner first took what had come back. Then this is the answer.
+-- With `DONE` the handle has the jobs that are left, and otherwise the lanes.
+pub record TriesToFinish (answer : FinishAnswer) (old : Owner) (content : Option State) : Type 0
+  where
+    pub mid : Owner
+    pub collected : HasCollected old mid
+    pub answer_is : IsFinishAnswer answer mid
+    pub ended : answer.code ≡ DONE → On (HasEnded mid) (left_in content)
+    pub refused : answer.code ≢ DONE → owner_in content ≡ Some mid

@@ -4,20 +4,28 @@ pub mod Closing
 pub mod Contents
 pub mod Deals
 pub mod Ending
+pub mod Finds
 pub mod Finish
 pub mod Handle
 pub mod InnerLending
 pub mod InnerOpaquePtr
 pub mod Lefts
 pub mod Owners
+pub mod Resting
 pub mod Returns
+pub mod ShareContents
+pub mod ShareWakes
+pub mod Shares
 pub mod ShopContents
+pub mod ShopSleeps
 pub mod Shops
 pub mod Sizes
+pub mod Sleeps
 pub mod Stages
+pub mod Wakes
 pub mod Works
-pub use Rattle.shop_owner.specs.Deals.{BringsBack, HasClosed, HasLaneBack}
-pub use Rattle.shop_owner.specs.Ending.{HasEnded}
+pub use Rattle.job_lanes.specs.Phases.{IsAwake}
+pub use Rattle.shop_owner.specs.Deals.{HasClosed}
 pub use Rattle.shop_owner.specs.Owners.{IsNew}
 pub use Rattle.shop_owner.specs.Posts.{common_shop}
 pub use Rattle.shop_owner.specs.Stages.{IsClosed, IsOpen}

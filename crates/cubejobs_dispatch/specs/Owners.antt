@@ -4,7 +4,6 @@ use Rattle.std.specs.Arc.{arc_value}
 use Rattle.job_lanes.specs.declared.sizes.Sizes.{Sizes}
 use Rattle.job_lanes.specs.Lanes.{LanesId}
 use Rattle.cubejobs_dispatch.specs.declared.owner.Owner.{Owner}
-use Rattle.cubejobs_dispatch.specs.declared.sides.LaneSide.{LaneSide}
 use Rattle.cubejobs_dispatch.specs.declared.sides.WorkerSide.{WorkerSide}
 use Rattle.kept_places.specs.Kept.{HasFreshLanes, HasFreshWorkers}
 use Rattle.cubejobs_dispatch.specs.Stages.{IsOpen}
@@ -13,33 +12,16 @@ use Rattle.cubejobs_dispatch.specs.Stages.{IsOpen}
 abbrev pub lanes_of : Owner → LanesId
 lanes_of owner = (arc_value owner.common).lanes
 
--- The number that lanes got at their opening.
-abbrev pub number_of : Owner → ℕ
-number_of owner = (arc_value owner.common).number
-
 -- These are new lanes, and each lane and each worker is in its place.
-pub record IsNew (sizes : Sizes) (number : ℕ) (owner : Owner) : Type 0 where
+pub record IsNew (sizes : Sizes) (owner : Owner) : Type 0 where
   pub sizes_are : (lanes_of owner).plan.sizes ≡ sizes
-  pub number_is : number_of owner ≡ number
   pub is_open : IsOpen owner.stage
   pub lanes : HasFreshLanes (lanes_of owner) sizes.lanes owner.lanes.items
   pub workers : HasFreshWorkers (lanes_of owner) sizes.workers owner.workers.items
 
--- The lanes of a producer.
-abbrev pub lanes_of_lane : LaneSide → LanesId
-lanes_of_lane side = (arc_value side.common).lanes
-
--- The number of a producer's lanes.
-abbrev pub number_of_lane : LaneSide → ℕ
-number_of_lane side = (arc_value side.common).number
-
 -- The lanes of a worker.
 abbrev pub lanes_of_worker : WorkerSide → LanesId
 lanes_of_worker side = (arc_value side.common).lanes
-
--- The number of a worker's lanes.
-abbrev pub number_of_worker : WorkerSide → ℕ
-number_of_worker side = (arc_value side.common).number
 
 -- The number of lanes that a worker takes from.
 abbrev pub lane_count : WorkerSide → ℕ

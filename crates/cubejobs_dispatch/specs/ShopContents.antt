@@ -3,9 +3,9 @@ use Rattle.std.specs.Prelude.{ℕ, Option, Some, None}
 use Rattle.shop_owner.specs.declared.owner.ShopOwner.{ShopOwner}
 use Rattle.shop_owner.specs.declared.sides.DispatchWorker.{DispatchWorker}
 use Rattle.shop_owner.specs.declared.sides.Producer.{Producer as ShopProducer}
-use Rattle.cubejobs_dispatch.specs.declared.codes.TheConstants.{DONE, FINISHED, NOT_OPEN, OTHER_KIND}
+use Rattle.cubejobs_dispatch.specs.declared.codes.TheConstants.{ASLEEP, DONE, FINISHED, NOT_OPEN, OTHER_KIND}
 use Rattle.cubejobs_dispatch.specs.declared.state.State.{State}
-use Rattle.cubejobs_dispatch.specs.declared.state.State.TheVariants.{Left, Producer, Shop, ShopWorker}
+use Rattle.cubejobs_dispatch.specs.declared.state.State.TheVariants.{Left, Producer, Shop, ShopSleeper, ShopWorker}
 
 -- The dispatcher of a handle, if it is that of its owner.
 abbrev pub shop_in : Option State → Option ShopOwner
@@ -35,8 +35,9 @@ producer_refusal None = NOT_OPEN
 producer_refusal (Some (Producer producer)) = DONE
 producer_refusal (Some other) = OTHER_KIND
 
--- The same of a worker.
+-- The same of a call that needs a worker which is awake.
 abbrev pub shop_worker_refusal : Option State → ℕ
 shop_worker_refusal None = NOT_OPEN
 shop_worker_refusal (Some (ShopWorker worker)) = DONE
+shop_worker_refusal (Some (ShopSleeper worker)) = ASLEEP
 shop_worker_refusal (Some other) = OTHER_KIND

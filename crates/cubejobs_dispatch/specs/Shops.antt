@@ -1,6 +1,5 @@
 -- What the calls of the owner of a dispatcher change.
-use Rattle.std.specs.Prelude.{◌≡◌, ◌⊎◌, ℕ, Option, Some}
-use Rattle.std.specs.Arc.{arc_value}
+use Rattle.std.specs.Prelude.{◌≡◌, ◌≢◌, ◌⊎◌, ℕ, Option, Some}
 use Rattle.kept_places.specs.Places.{AreEmptyBelow}
 use Rattle.shop_owner.specs.declared.outcome.FinishState.{FinishState}
 use Rattle.shop_owner.specs.declared.outcome.FinishState.TheVariants.{NotClosed, LaneOut, WorkerOut, Ready}
@@ -8,13 +7,15 @@ use Rattle.shop_owner.specs.declared.outcome.WorkerState.TheVariants.{Free, Keep
 use Rattle.shop_owner.specs.declared.owner.ShopOwner.{ShopOwner}
 use Rattle.shop_owner.specs.declared.sides.DispatchWorker.{DispatchWorker}
 use Rattle.shop_owner.specs.declared.sides.Producer.{Producer}
-use Rattle.shop_owner.specs.Deals.{HasDealtLane, HasDealtWorker, MissesLane, MissesWorker}
-use Rattle.shop_owner.specs.Ending.{AllAreBack, IsFinishState, IsStateOf}
-use Rattle.shop_owner.specs.Owners.{owner_number, owner_shop}
-use Rattle.shop_owner.specs.Posts.{common_shop}
+use Rattle.shop_owner.specs.Deals.{HasCollected, HasDealtLane, HasDealtWorker}
+use Rattle.shop_owner.specs.Ending.{AllAreBack, HasEnded, IsFinishState, IsStateOf}
 use Rattle.shop_owner.specs.Stages.{IsClosed}
 use Rattle.cubejobs_dispatch.specs.declared.answers.FinishAnswer.{FinishAnswer}
-use Rattle.cubejobs_dispatch.specs.declared.codes.TheConstants.{DONE, KEEPS_JOB, LANE_OUT, NOT_CLOSED, OTHER_LANES, RUNS_JOB, STILL_SHARED, WORKER_OUT}
+use Rattle.cubejobs_dispatch.specs.declared.state.State.{State}
+use Rattle.cubejobs_dispatch.specs.Contents.{left_in, On}
+use Rattle.cubejobs_dispatch.specs.Deals.{IsPlaceCode}
+use Rattle.cubejobs_dispatch.specs.ShopContents.{producer_in, shop_in, shop_worker_in}
+use Rattle.cubejobs_dispatch.specs.declared.codes.TheConstants.{DONE, KEEPS_JOB, LANE_OUT, NOT_CLOSED, RUNS_JOB, STILL_SHARED, WORKER_OUT}
 
 -- The producer has the first lane that was in its place.
 abbrev pub DealsLane : ShopOwner → ShopOwner → Producer → Type 0
@@ -26,32 +27,29 @@ abbrev pub DealsWorker : ShopOwner → ShopOwner → DispatchWorker → Type 0
 DealsWorker old new worker =
     (place : ℕ) × AreEmptyBelow place old.workers.items × HasDealtWorker place old new worker
 
--- Dispatchers of one number are the same: those of an owner and of a producer.
-abbrev pub AreOneByLane : Option ShopOwner → Option Producer → Type 0
-AreOneByLane (Some owner) (Some producer) =
-    owner_number owner ≡ (arc_value producer.common).number
-    → common_shop (arc_value producer.common) ≡ owner_shop owner
-AreOneByLane owner producer = Unit {0}
+-- A call asked for a lane. The owner first took what had come back. Then this is the code. With
+-- `DONE` the content is the first lane in its place, and otherwise nothing more has changed.
+pub record AsksShopLane (code : ℕ) (old new : ShopOwner) (content : Option State) : Type 0 where
+  pub mid : ShopOwner
+  pub collected : HasCollected old mid
+  pub code_is : IsPlaceCode code mid.lanes.items
+  pub dealt : code ≡ DONE → On (DealsLane mid new) (producer_in content)
+  pub refused : code ≢ DONE → new ≡ mid
 
--- The same of an owner and a worker.
-abbrev pub AreOneByWorker : Option ShopOwner → Option DispatchWorker → Type 0
-AreOneByWorker (Some owner) (Some worker) =
-    owner_number owner ≡ (arc_value worker.common).number
-    → common_shop (arc_value worker.common) ≡ owner_shop owner
-AreOneByWorker owner worker = Unit {0}
+-- The same of a worker.
+pub record AsksShopWorker (code : ℕ) (old new : ShopOwner) (content : Option State) : Type 0
+  where
+    pub mid : ShopOwner
+    pub collected : HasCollected old mid
+    pub code_is : IsPlaceCode code mid.workers.items
+    pub dealt : code ≡ DONE → On (DealsWorker mid new) (shop_worker_in content)
+    pub refused : code ≢ DONE → new ≡ mid
 
--- The code of a call that frees a lane.
-abbrev pub IsFreedLane : ℕ → ShopOwner → Producer → Type 0
-IsFreedLane code owner producer = (MissesLane owner producer × (code ≡ DONE))
-    ⊎ ((MissesLane owner producer → ⊥) × (code ≡ OTHER_LANES))
-
--- The code of a call that frees a worker: it keeps a job, it runs one, it is of another
--- dispatcher, or the call succeeds.
-abbrev pub IsFreedWorker : ℕ → ShopOwner → DispatchWorker → Type 0
-IsFreedWorker code owner worker = (IsStateOf worker.post KeepsJob × (code ≡ KEEPS_JOB))
+-- The code of a call that frees a worker: it keeps a job, it runs one, or it is free.
+abbrev pub IsFreedWorker : ℕ → DispatchWorker → Type 0
+IsFreedWorker code worker = (IsStateOf worker.post KeepsJob × (code ≡ KEEPS_JOB))
     ⊎ (IsStateOf worker.post RunsJob × (code ≡ RUNS_JOB))
-    ⊎ (IsStateOf worker.post Free × MissesWorker owner worker × (code ≡ DONE))
-    ⊎ (IsStateOf worker.post Free × (MissesWorker owner worker → ⊥) × (code ≡ OTHER_LANES))
+    ⊎ (IsStateOf worker.post Free × ((code ≡ DONE) ⊎ (code ≡ STILL_SHARED)))
 
 -- The answer that says whether a dispatcher can end.
 abbrev pub state_answer : FinishState → FinishAnswer
@@ -66,3 +64,22 @@ IsFinishedBy answer owner =
     ((state : FinishState) × IsFinishState state owner × (answer ≡ state_answer state))
     ⊎ (IsClosed owner.stage × AllAreBack owner
     × (answer ≡ record { code = STILL_SHARED; number = 0 }))
+
+-- A call was to end the dispatcher. The owner first took what had come back. Then this is the
+-- answer. With `DONE` the handle has the jobs that no worker took, and otherwise the dispatcher.
+pub record TriesToFinishShop (answer : FinishAnswer) (old : ShopOwner) (content : Option State)
+    : Type 0 where
+  pub mid : ShopOwner
+  pub collected : HasCollected old mid
+  pub answer_is : IsFinishedBy answer mid
+  pub ended : answer.code ≡ DONE
+      → On (λ left. HasEnded mid left.jobs.items) (left_in content)
+  pub refused : answer.code ≢ DONE → shop_in content ≡ Some mid
+
+-- The call was refused, whatever the content of the other handle is.
+abbrev pub RefusesShopLane : ℕ → ShopOwner → ShopOwner → Type 0
+RefusesShopLane code old new = (content : Option State) → AsksShopLane code old new content
+
+-- The same of a worker.
+abbrev pub RefusesShopWorker : ℕ → ShopOwner → ShopOwner → Type 0
+RefusesShopWorker code old new = (content : Option State) → AsksShopWorker code old new content

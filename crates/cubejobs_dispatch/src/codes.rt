@@ -2,7 +2,7 @@
 
 /// The version of the header that this library is for. Any change of its structs or functions gets
 /// another version.
-pub const VERSION: u32 = 1;
+pub const VERSION: u32 = 2;
 
 /// The tag of an open handle. A handle with any other tag is shut.
 pub const OPEN: u64 = 0x6375_6265_6c61_6e65;
@@ -70,9 +70,6 @@ pub const WORKER_OUT: u32 = 28;
 /// No lane, or no worker, is in its place.
 pub const NONE_LEFT: u32 = 29;
 
-/// The handle is one of other lanes.
-pub const OTHER_LANES: u32 = 30;
-
 /// A job is left.
 pub const JOB_LEFT: u32 = 31;
 
@@ -99,3 +96,21 @@ pub const NOTHING_KEPT: u32 = 38;
 
 /// The worker runs no job.
 pub const NOTHING_RUN: u32 = 39;
+
+/// Another producer is inside the shared lane.
+pub const BUSY: u32 = 40;
+
+/// No thread is to be woken.
+pub const NOBODY: u32 = 41;
+
+/// Other calls were in the way, or there is more to do: the caller calls again.
+pub const AGAIN: u32 = 42;
+
+/// There is no job: the caller parks the thread until the worker has its token.
+pub const PARK: u32 = 43;
+
+/// The worker lies down.
+pub const ASLEEP: u32 = 44;
+
+/// The number that names no worker.
+pub const NO_WORKER: u32 = 0xffff_ffff;

@@ -1,6 +1,6 @@
 //! Lanes and workers leave their places, for handles of their own.
 ghost use Rattle.std.specs.Prelude.{◌≡◌, ◌≢◌, Some, IfOk, IfErr, OnErr};
-ghost use Rattle.cubejobs_dispatch.specs.Deals.{HasDealtLane, HasDealtWorker, IsPlaceCode};
+ghost use Rattle.cubejobs_dispatch.specs.Deals.{AsksLane, AsksWorker, HasDealtLane, HasDealtWorker, IsPlaceCode, RefusesLane, RefusesWorker};
 
 use crate::codes::{DONE, NONE_LEFT, OUT_OF_MEMORY};
 use crate::owner::Owner;
@@ -31,8 +31,36 @@ pub(crate) fn filled(room: Box<State>, content: State) -> Box<State>
 }
 
 impl Owner {
+    // Collects what has come back, and takes the first lane that is in its place.
+    pub(crate) fn ask_lane(&mut self, alloc: Global) -> Result<Box<State>, u32>
+        ensures dealt { IfOk result (λ content. AsksLane DONE self.old self.new
+            (Some content.value)) }
+        ensures refused { IfErr result (λ code. RefusesLane code self.old self.new) }
+        ensures not_done { IfErr result (λ code. code ≢ DONE) }
+    {
+        self.collect();
+        match self.deal_lane(alloc) {
+            Ok(content) => Ok(content),
+            Err(code) => Err(code),
+        }
+    }
+
+    // Collects what has come back, and takes the first worker that is in its place.
+    pub(crate) fn ask_worker(&mut self, alloc: Global) -> Result<Box<State>, u32>
+        ensures dealt { IfOk result (λ content. AsksWorker DONE self.old self.new
+            (Some content.value)) }
+        ensures refused { IfErr result (λ code. RefusesWorker code self.old self.new) }
+        ensures not_done { IfErr result (λ code. code ≢ DONE) }
+    {
+        self.collect();
+        match self.deal_worker(alloc) {
+            Ok(content) => Ok(content),
+            Err(code) => Err(code),
+        }
+    }
+
     // Takes the first lane that is in its place, with its share of the lanes.
-    pub(crate) fn deal_lane(&mut self, alloc: Global) -> Result<Box<State>, u32>
+    fn deal_lane(&mut self, alloc: Global) -> Result<Box<State>, u32>
         ensures dealt { IfOk result (λ content. HasDealtLane self.old self.new
             (Some content.value)) }
         ensures refused { IfErr result (λ code. IsPlaceCode code self.old.lanes.items) }
@@ -56,7 +84,7 @@ impl Owner {
     }
 
     // Takes the first worker that is in its place, with its share of the lanes.
-    pub(crate) fn deal_worker(&mut self, alloc: Global) -> Result<Box<State>, u32>
+    fn deal_worker(&mut self, alloc: Global) -> Result<Box<State>, u32>
         ensures dealt { IfOk result (λ content. HasDealtWorker self.old self.new
             (Some content.value)) }
         ensures refused { IfErr result (λ code. IsPlaceCode code self.old.workers.items) }

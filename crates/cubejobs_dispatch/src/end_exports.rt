@@ -1,14 +1,13 @@
 //! The calls that close lanes and bring their handles back, under the names that C declares.
 ghost use Rattle.std.specs.Prelude.{◌≡◌, ◌≢◌, ◌⊎◌, None};
 ghost use Rattle.cubejobs_dispatch.specs.Closing.{HasClosed};
-ghost use Rattle.cubejobs_dispatch.specs.Contents.{lane_in, lane_refusal, left_in, owner_in, owner_refusal, worker_in, worker_refusal, On};
-ghost use Rattle.cubejobs_dispatch.specs.Finish.{HasEnded, IsFinishAnswer};
+ghost use Rattle.cubejobs_dispatch.specs.Contents.{lane_refusal, owner_in, owner_refusal, worker_refusal, On};
+ghost use Rattle.cubejobs_dispatch.specs.Finish.{TriesToFinish};
 ghost use Rattle.cubejobs_dispatch.specs.Handle.{content_of};
-ghost use Rattle.cubejobs_dispatch.specs.Returns.{AreNumbered, AreNumberedWorker, HasLaneBack, HasWorkerBack, MissesLane, MissesWorker};
 ghost use Rattle.cubejobs_dispatch.specs.Stages.{IsClosed, IsOpen};
 
 use crate::answers::{CloseAnswer, FinishAnswer};
-use crate::codes::{CLOSED, DONE, OTHER_LANES, STILL_SHARED};
+use crate::codes::{CLOSED, DONE, STILL_SHARED};
 use crate::dealing::filled;
 use crate::handle::Handle;
 use crate::handles::lift;
@@ -51,131 +50,80 @@ pub extern "C" fn cubejobs_lanes_close(alloc: Global, owner: &mut Handle) -> Clo
     }
 }
 
-/// Brings the lane of a producer back to its place, and shuts the producer's handle.
+/// Leaves the lane of a producer to its owner, and shuts the handle.
 #[unsafe(no_mangle)]
-pub extern "C" fn cubejobs_lanes_free_lane(
-    alloc: Global,
-    owner: &mut Handle,
-    lane: &mut Handle,
-) -> u32
-    requires one_number { AreNumbered (owner_in (content_of owner.old))
-        (lane_in (content_of lane.old)) }
-    ensures barred { owner_refusal (content_of owner.old) ≢ DONE
-        → result ≡ owner_refusal (content_of owner.old) }
-    ensures lane_barred { owner_refusal (content_of owner.old) ≡ DONE
-        → lane_refusal (content_of lane.old) ≢ DONE → result ≡ lane_refusal (content_of lane.old) }
-    ensures tried { owner_refusal (content_of owner.old) ≡ DONE
-        → lane_refusal (content_of lane.old) ≡ DONE → On (λ old. On (λ side.
-        (MissesLane old side × (result ≡ DONE))
-        ⊎ ((MissesLane old side → ⊥) × (result ≡ OTHER_LANES)))
-        (lane_in (content_of lane.old))) (owner_in (content_of owner.old)) }
-    ensures freed { result ≡ DONE → On (λ old. On (λ new. On (λ side.
-        HasLaneBack side.lane old new) (lane_in (content_of lane.old)))
-        (owner_in (content_of owner.new))) (owner_in (content_of owner.old)) }
+pub extern "C" fn cubejobs_lanes_free_lane(alloc: Global, lane: &mut Handle) -> u32
+    ensures barred { lane_refusal (content_of lane.old) ≢ DONE
+        → result ≡ lane_refusal (content_of lane.old) }
+    ensures code { lane_refusal (content_of lane.old) ≡ DONE
+        → (result ≡ DONE) ⊎ (result ≡ STILL_SHARED) }
     ensures shut { result ≡ DONE → content_of lane.new ≡ None }
-    ensures unchanged { result ≢ DONE → (owner.new ≡ owner.old) × (lane.new ≡ lane.old) }
+    ensures unchanged { result ≢ DONE → content_of lane.new ≡ content_of lane.old }
 {
-    let code = owner.owner_code();
-    if code != DONE {
-        return code;
-    }
     let code = lane.lane_code();
     if code != DONE {
         return code;
     }
-    let State::Owner(lanes) = owner.ptr.get_mut() else {
-        unreachable!()
-    };
-    let State::Lane(side) = lane.ptr.get_mut() else {
-        unreachable!()
-    };
-    if !lanes.misses_lane(side) {
-        return OTHER_LANES;
-    }
     let Some(content) = lift(lane, alloc) else {
         unreachable!()
     };
-    let State::Lane(side) = Box::into_inner(content) else {
+    let mut content = content;
+    let State::Lane(side) = Box::replace(&mut content, State::Away) else {
         unreachable!()
     };
-    lanes.put_lane(side.into_lane());
-    DONE
+    match side.leave() {
+        Ok(()) => DONE,
+        Err(side) => {
+            *lane = Handle::of(filled(content, State::Lane(side)));
+            STILL_SHARED
+        }
+    }
 }
 
-/// Brings a worker back to its place, and shuts its handle.
+/// Leaves a worker to its owner, and shuts the handle.
 #[unsafe(no_mangle)]
-pub extern "C" fn cubejobs_lanes_free_worker(
-    alloc: Global,
-    owner: &mut Handle,
-    worker: &mut Handle,
-) -> u32
-    requires one_number { AreNumberedWorker (owner_in (content_of owner.old))
-        (worker_in (content_of worker.old)) }
-    ensures barred { owner_refusal (content_of owner.old) ≢ DONE
-        → result ≡ owner_refusal (content_of owner.old) }
-    ensures worker_barred { owner_refusal (content_of owner.old) ≡ DONE
-        → worker_refusal (content_of worker.old) ≢ DONE
+pub extern "C" fn cubejobs_lanes_free_worker(alloc: Global, worker: &mut Handle) -> u32
+    ensures barred { worker_refusal (content_of worker.old) ≢ DONE
         → result ≡ worker_refusal (content_of worker.old) }
-    ensures tried { owner_refusal (content_of owner.old) ≡ DONE
-        → worker_refusal (content_of worker.old) ≡ DONE → On (λ old. On (λ side.
-        (MissesWorker old side × (result ≡ DONE))
-        ⊎ ((MissesWorker old side → ⊥) × (result ≡ OTHER_LANES)))
-        (worker_in (content_of worker.old))) (owner_in (content_of owner.old)) }
-    ensures freed { result ≡ DONE → On (λ old. On (λ new. On (λ side.
-        HasWorkerBack side.worker old new) (worker_in (content_of worker.old)))
-        (owner_in (content_of owner.new))) (owner_in (content_of owner.old)) }
+    ensures code { worker_refusal (content_of worker.old) ≡ DONE
+        → (result ≡ DONE) ⊎ (result ≡ STILL_SHARED) }
     ensures shut { result ≡ DONE → content_of worker.new ≡ None }
-    ensures unchanged { result ≢ DONE → (owner.new ≡ owner.old) × (worker.new ≡ worker.old) }
+    ensures unchanged { result ≢ DONE → content_of worker.new ≡ content_of worker.old }
 {
-    let code = owner.owner_code();
-    if code != DONE {
-        return code;
-    }
     let code = worker.worker_code();
     if code != DONE {
         return code;
     }
-    let State::Owner(lanes) = owner.ptr.get_mut() else {
-        unreachable!()
-    };
-    let State::Worker(side) = worker.ptr.get_mut() else {
-        unreachable!()
-    };
-    if !lanes.misses_worker(side) {
-        return OTHER_LANES;
-    }
     let Some(content) = lift(worker, alloc) else {
         unreachable!()
     };
-    let State::Worker(side) = Box::into_inner(content) else {
+    let mut content = content;
+    let State::Worker(side) = Box::replace(&mut content, State::Away) else {
         unreachable!()
     };
-    lanes.put_worker(side.into_worker());
-    DONE
+    match side.leave() {
+        Ok(()) => DONE,
+        Err(side) => {
+            *worker = Handle::of(filled(content, State::Worker(side)));
+            STILL_SHARED
+        }
+    }
 }
 
-/// Ends closed lanes, once each lane and each worker is in its place. Then the handle has the jobs
-/// that are left.
+/// Ends closed lanes, once each lane and each worker is back. Then the handle has the jobs that are
+/// left.
 #[unsafe(no_mangle)]
 pub extern "C" fn cubejobs_lanes_finish(alloc: Global, owner: &mut Handle) -> FinishAnswer
     ensures barred { owner_refusal (content_of owner.old) ≢ DONE
         → result ≡ record { code = owner_refusal (content_of owner.old); number = 0 } }
     ensures tried { owner_refusal (content_of owner.old) ≡ DONE
-        → On (IsFinishAnswer result) (owner_in (content_of owner.old)) }
-    ensures ended { result.code ≡ DONE → On (λ old. On (HasEnded old)
-        (left_in (content_of owner.new))) (owner_in (content_of owner.old)) }
-    ensures unchanged { result.code ≢ DONE → content_of owner.new ≡ content_of owner.old }
+        → On (λ old. TriesToFinish result old (content_of owner.new))
+        (owner_in (content_of owner.old)) }
+    ensures unchanged { owner_refusal (content_of owner.old) ≢ DONE → owner.new ≡ owner.old }
 {
     let code = owner.owner_code();
     if code != DONE {
         return FinishAnswer::of(code);
-    }
-    let State::Owner(lanes) = owner.ptr.get_mut() else {
-        unreachable!()
-    };
-    let answer = lanes.finish_code();
-    if answer.code != DONE {
-        return answer;
     }
     let Some(content) = lift(owner, alloc) else {
         unreachable!()
@@ -184,14 +132,7 @@ pub extern "C" fn cubejobs_lanes_finish(alloc: Global, owner: &mut Handle) -> Fi
     let State::Owner(lanes) = Box::replace(&mut content, State::Away) else {
         unreachable!()
     };
-    match lanes.into_left() {
-        Ok(left) => {
-            *owner = Handle::of(filled(content, State::Left(left)));
-            answer
-        }
-        Err(lanes) => {
-            *owner = Handle::of(filled(content, State::Owner(lanes)));
-            FinishAnswer::of(STILL_SHARED)
-        }
-    }
+    let (state, answer) = lanes.finish();
+    *owner = Handle::of(filled(content, state));
+    answer
 }

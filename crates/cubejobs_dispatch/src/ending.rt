@@ -1,16 +1,17 @@
 //! How lanes end.
-ghost use Rattle.std.specs.Prelude.{◌≡◌, ◌++◌, IfErr, IfOk, length};
+ghost use Rattle.std.specs.Prelude.{◌≡◌, ◌++◌, Some, IfErr, IfOk, length};
 ghost use Rattle.std.specs.List.{All};
 ghost use Rattle.cubejobs_dispatch.specs.Ending.{kept_lanes, kept_workers, IsLaneIn, IsLeftOf, IsWorkerIn};
-ghost use Rattle.cubejobs_dispatch.specs.Finish.{AreFull, AllAreBack, HasEnded, IsFinishCode};
+ghost use Rattle.cubejobs_dispatch.specs.Finish.{AreFull, AllAreBack, HasEnded, IsFinishCode, TriesToFinish};
 ghost use Rattle.cubejobs_dispatch.specs.Stages.{IsClosed, IsStageOf};
 
 use crate::answers::FinishAnswer;
-use crate::codes::{DONE, LANE_OUT, NOT_CLOSED, WORKER_OUT};
+use crate::codes::{DONE, LANE_OUT, NOT_CLOSED, STILL_SHARED, WORKER_OUT};
 use crate::common::Common;
 use crate::left::Left;
 use crate::owner::Owner;
 use crate::stage::Stage;
+use crate::state::State;
 use job_lanes::{Lanes, LanesEnd};
 use kept_places::{KeptLane, KeptWorker, first_empty};
 use std::collections::VecDeque;
@@ -49,8 +50,25 @@ fn gather_workers(lanes: &Lanes, end: &mut LanesEnd, places: Vec<Option<KeptWork
 }
 
 impl Owner {
+    // Collects what has come back, and ends the lanes if it can. Returns the content of their
+    // handle, and the answer.
+    pub(crate) fn finish(self) -> (State, FinishAnswer)
+        ensures { TriesToFinish result.1 self (Some result.0) }
+    {
+        let mut owner = self;
+        owner.collect();
+        let answer = owner.finish_code();
+        if answer.code != DONE {
+            return (State::Owner(owner), answer);
+        }
+        match owner.into_left() {
+            Ok(left) => (State::Left(left), answer),
+            Err(owner) => (State::Owner(owner), FinishAnswer::of(STILL_SHARED)),
+        }
+    }
+
     // Returns why the lanes cannot end, with the first lane or worker that is out, or `DONE`.
-    pub(crate) fn finish_code(&self) -> FinishAnswer
+    fn finish_code(&self) -> FinishAnswer
         ensures code { IsFinishCode result self.now }
         ensures closed { result.code ≡ DONE → IsClosed self.now.stage }
         ensures back { result.code ≡ DONE → AllAreBack self.now }
@@ -74,7 +92,7 @@ impl Owner {
     }
 
     // Ends the lanes, and returns the jobs that are left, unless another handle shares the lanes.
-    pub(crate) fn into_left(self) -> Result<Left, Owner>
+    fn into_left(self) -> Result<Left, Owner>
         requires closed { IsClosed self.stage }
         requires back { AllAreBack self }
         ensures ended { IfOk result (HasEnded self) }
@@ -118,7 +136,8 @@ fn left_of(
     let Common {
         lanes: table,
         sizes: _,
-        number: _,
+        lane_places: _,
+        worker_places: _,
     } = common;
     let Stage::Closed(kept) = stage else {
         unreachable!()

@@ -7,7 +7,7 @@ ghost use Rattle.cubejobs_dispatch.specs.Handle.{content_of};
 ghost use Rattle.cubejobs_dispatch.specs.Owners.{lane_count};
 
 use crate::answers::{JobAnswer, LookAnswer, SubmitAnswer};
-use crate::codes::{BAD_LANE, DONE, NOT_OPEN, OTHER_KIND};
+use crate::codes::{ASLEEP, BAD_LANE, DONE, NOT_OPEN, OTHER_KIND};
 use crate::handle::Handle;
 use crate::state::State;
 
@@ -57,6 +57,7 @@ pub extern "C" fn cubejobs_lanes_take(worker: &mut Handle, lane: u32) -> JobAnsw
             }
             JobAnswer::of(lane, side.take(lane))
         }
+        State::Sleeper(_) => JobAnswer::none(ASLEEP),
         _ => JobAnswer::none(OTHER_KIND),
     }
 }
@@ -88,6 +89,7 @@ pub extern "C" fn cubejobs_lanes_take_any(worker: &mut Handle, from: u32) -> Job
             }
             JobAnswer::of_any(side.take_any(from))
         }
+        State::Sleeper(_) => JobAnswer::none(ASLEEP),
         _ => JobAnswer::none(OTHER_KIND),
     }
 }
@@ -119,6 +121,7 @@ pub extern "C" fn cubejobs_lanes_look(worker: &mut Handle, lane: u32) -> LookAns
             }
             LookAnswer::of(side.look(lane))
         }
+        State::Sleeper(_) => LookAnswer::none(ASLEEP),
         _ => LookAnswer::none(OTHER_KIND),
     }
 }

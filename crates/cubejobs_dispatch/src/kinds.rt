@@ -2,9 +2,10 @@
 ghost use Rattle.std.specs.Prelude.{◌≡◌, Some};
 ghost use Rattle.cubejobs_dispatch.specs.Contents.{lane_refusal, left_refusal, owner_refusal, worker_refusal};
 ghost use Rattle.cubejobs_dispatch.specs.Handle.{content_of};
+ghost use Rattle.cubejobs_dispatch.specs.ShareContents.{shared_refusal};
 ghost use Rattle.cubejobs_dispatch.specs.ShopContents.{producer_refusal, shop_refusal, shop_worker_refusal};
 
-use crate::codes::{DONE, FINISHED, NOT_FINISHED, NOT_OPEN, OTHER_KIND};
+use crate::codes::{ASLEEP, DONE, FINISHED, NOT_FINISHED, NOT_OPEN, OTHER_KIND};
 use crate::handle::Handle;
 use crate::state::State;
 
@@ -38,7 +39,21 @@ impl Handle {
         }
     }
 
-    // Returns why a call of a worker is refused, or `DONE`.
+    // Returns why a call of a producer that shares its lane is refused, or `DONE`.
+    pub(crate) fn shared_code(&mut self) -> u32
+        ensures code { result ≡ shared_refusal (content_of self.old) }
+        ensures same { self.new ≡ self.old }
+    {
+        if !self.is_open() {
+            return NOT_OPEN;
+        }
+        match self.ptr.get_mut() {
+            State::Shared(_) => DONE,
+            _ => OTHER_KIND,
+        }
+    }
+
+    // Returns why a call that needs a worker which is awake is refused, or `DONE`.
     pub(crate) fn worker_code(&mut self) -> u32
         ensures code { result ≡ worker_refusal (content_of self.old) }
         ensures same { self.new ≡ self.old }
@@ -48,6 +63,7 @@ impl Handle {
         }
         match self.ptr.get_mut() {
             State::Worker(_) => DONE,
+            State::Sleeper(_) => ASLEEP,
             _ => OTHER_KIND,
         }
     }
@@ -96,7 +112,7 @@ impl Handle {
         }
     }
 
-    // Returns why a call of a worker of a dispatcher is refused, or `DONE`.
+    // Returns why a call that needs a worker of a dispatcher which is awake is refused, or `DONE`.
     pub(crate) fn shop_worker_code(&mut self) -> u32
         ensures code { result ≡ shop_worker_refusal (content_of self.old) }
         ensures same { self.new ≡ self.old }
@@ -106,6 +122,7 @@ impl Handle {
         }
         match self.ptr.get_mut() {
             State::ShopWorker(_) => DONE,
+            State::ShopSleeper(_) => ASLEEP,
             _ => OTHER_KIND,
         }
     }

@@ -8,6 +8,8 @@ mod common;
 mod dealing;
 mod end_exports;
 mod ending;
+mod find_answer;
+mod found_work;
 mod handle;
 mod handles;
 mod job_exports;
@@ -19,27 +21,44 @@ mod opening;
 mod owner;
 mod owner_exports;
 mod returning;
+mod seeking;
+mod share;
+mod share_exports;
+mod shared_waking;
+mod sharing;
+mod shop_calls;
 mod shop_end_exports;
 mod shop_exports;
+mod shop_sleep_exports;
 mod sides;
 mod sizes;
+mod sleep_exports;
+mod sleeper_side;
 mod stage;
 mod state;
+mod waking;
 mod work_answer;
 mod work_exports;
 
 pub use answers::{CloseAnswer, FinishAnswer, JobAnswer, LookAnswer, SubmitAnswer};
-pub use codes::{DONE, OPEN, VERSION};
+pub use codes::{DONE, NO_WORKER, OPEN, VERSION};
 pub use end_exports::{
     cubejobs_lanes_close, cubejobs_lanes_finish, cubejobs_lanes_free_lane,
     cubejobs_lanes_free_worker,
 };
+pub use find_answer::{FindAnswer, NumberAnswer, WakeAnswer};
+pub use found_work::WorkFindAnswer;
 pub use handle::Handle;
 pub use job_exports::{
     cubejobs_lanes_look, cubejobs_lanes_submit, cubejobs_lanes_take, cubejobs_lanes_take_any,
 };
 pub use left_exports::{cubejobs_lanes_free, cubejobs_lanes_rest};
 pub use owner_exports::{cubejobs_lanes_lane, cubejobs_lanes_open_version, cubejobs_lanes_worker};
+pub use share_exports::{
+    cubejobs_lanes_free_shared, cubejobs_lanes_share, cubejobs_lanes_share_again,
+    cubejobs_lanes_submit_shared,
+};
+pub use shared_waking::cubejobs_lanes_wake_shared;
 pub use shop_end_exports::{
     cubejobs_dispatch_close, cubejobs_dispatch_finish, cubejobs_dispatch_free,
     cubejobs_dispatch_free_lane, cubejobs_dispatch_free_worker, cubejobs_dispatch_rest,
@@ -47,7 +66,14 @@ pub use shop_end_exports::{
 pub use shop_exports::{
     cubejobs_dispatch_lane, cubejobs_dispatch_open_version, cubejobs_dispatch_worker,
 };
+pub use shop_sleep_exports::{
+    cubejobs_dispatch_awake, cubejobs_dispatch_find, cubejobs_dispatch_wake,
+    cubejobs_dispatch_worker_number,
+};
 pub use sizes::LaneSizes;
+pub use sleep_exports::{
+    cubejobs_lanes_awake, cubejobs_lanes_find, cubejobs_lanes_wake, cubejobs_lanes_worker_number,
+};
 pub use work_answer::WorkAnswer;
 pub use work_exports::{
     cubejobs_dispatch_done, cubejobs_dispatch_give_back, cubejobs_dispatch_next,

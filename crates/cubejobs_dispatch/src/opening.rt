@@ -8,7 +8,7 @@ use crate::common::Common;
 use crate::owner::Owner;
 use crate::stage::Stage;
 use job_lanes::{Lanes, Members, Sizes};
-use kept_places::{KeptLane, KeptWorker};
+use kept_places::{KeptLane, KeptWorker, named_places};
 use std::alloc::{AllocError, Global};
 use std::sync::Arc;
 
@@ -62,21 +62,24 @@ fn deal_workers(
 
 impl Owner {
     // Opens lanes of which nothing was asked. Each lane and each worker is in its place.
-    pub(crate) fn open(alloc: Global, sizes: Sizes, number: u64) -> Result<Owner, AllocError>
+    pub(crate) fn open(alloc: Global, sizes: Sizes) -> Result<Owner, AllocError>
         requires some_lane { 0 < sizes.lanes }
         requires some_room { 0 < sizes.capacity }
         requires capacity { sizes.capacity ≤ MAX_CAPACITY }
         requires lanes { sizes.lanes ≤ MAX_LANES }
         requires workers { sizes.workers ≤ MAX_WORKERS }
-        ensures new { IfOk result (IsNew sizes number) }
+        ensures new { IfOk result (IsNew sizes) }
     {
-        let (lanes, mut members) = Lanes::open(alloc, sizes)?;
+        let (lanes, mut members) = Lanes::open_with_sleepers(alloc, sizes)?;
         let kept_lanes = deal_lanes(alloc, &lanes, &mut members, sizes.lanes)?;
         let kept_workers = deal_workers(alloc, &lanes, &mut members, sizes.workers)?;
+        let lane_places = named_places(alloc, &lanes, sizes.lanes)?;
+        let worker_places = named_places(alloc, &lanes, sizes.workers)?;
         let common = Common {
             lanes,
             sizes,
-            number,
+            lane_places,
+            worker_places,
         };
         match Arc::new(alloc, common) {
             Ok(common) => Ok(Owner {

@@ -1,7 +1,7 @@
 //! The calls of the owner of lanes, under the names that C declares.
 ghost use Rattle.std.specs.Prelude.{◌≡◌, ◌≢◌, ◌⊎◌, None, IsSome};
 ghost use Rattle.cubejobs_dispatch.specs.Contents.{owner_in, owner_refusal, On};
-ghost use Rattle.cubejobs_dispatch.specs.Deals.{HasDealtLane, HasDealtWorker, IsPlaceCode};
+ghost use Rattle.cubejobs_dispatch.specs.Deals.{AsksLane, AsksWorker};
 ghost use Rattle.cubejobs_dispatch.specs.Handle.{content_of};
 ghost use Rattle.cubejobs_dispatch.specs.Owners.{IsNew};
 ghost use Rattle.cubejobs_dispatch.specs.Sizes.{sizes_of, AreInLimits};
@@ -14,15 +14,13 @@ use crate::sizes::LaneSizes;
 use crate::state::State;
 use std::alloc::Global;
 
-/// Opens lanes of which nothing was asked. `version` is that of the caller's header. `number` is
-/// another one for all lanes of the program.
+/// Opens lanes of which nothing was asked. `version` is that of the caller's header.
 #[unsafe(no_mangle)]
 pub extern "C" fn cubejobs_lanes_open_version(
     alloc: Global,
     owner: &mut Handle,
     version: u32,
     sizes: LaneSizes,
-    number: u64,
 ) -> u32
     ensures bad_version { version ≢ VERSION → result ≡ BAD_VERSION }
     ensures already_open { version ≡ VERSION → IsSome (content_of owner.old)
@@ -32,7 +30,7 @@ pub extern "C" fn cubejobs_lanes_open_version(
     ensures else_memory { version ≡ VERSION → content_of owner.old ≡ None
         → AreInLimits sizes → (result ≡ DONE) ⊎ (result ≡ OUT_OF_MEMORY) }
     ensures new { result ≡ DONE
-        → On (IsNew (sizes_of sizes) number) (owner_in (content_of owner.new)) }
+        → On (IsNew (sizes_of sizes)) (owner_in (content_of owner.new)) }
     ensures unchanged { result ≢ DONE → owner.new ≡ owner.old }
 {
     if version != VERSION {
@@ -47,7 +45,7 @@ pub extern "C" fn cubejobs_lanes_open_version(
     let Some(room) = room(alloc) else {
         return OUT_OF_MEMORY;
     };
-    match Owner::open(alloc, sizes.sizes(), number) {
+    match Owner::open(alloc, sizes.sizes()) {
         Ok(lanes) => {
             *owner = Handle::of(filled(room, State::Owner(lanes)));
             DONE
@@ -62,11 +60,12 @@ pub extern "C" fn cubejobs_lanes_lane(alloc: Global, owner: &mut Handle, lane: &
     ensures already_open { IsSome (content_of lane.old) → result ≡ ALREADY_OPEN }
     ensures barred { content_of lane.old ≡ None → owner_refusal (content_of owner.old) ≢ DONE
         → result ≡ owner_refusal (content_of owner.old) }
-    ensures code { content_of lane.old ≡ None → owner_refusal (content_of owner.old) ≡ DONE
-        → On (λ old. IsPlaceCode result old.lanes.items) (owner_in (content_of owner.old)) }
-    ensures dealt { result ≡ DONE → On (λ old. On (λ new. HasDealtLane old new
-        (content_of lane.new)) (owner_in (content_of owner.new))) (owner_in (content_of owner.old)) }
-    ensures unchanged { result ≢ DONE → (owner.new ≡ owner.old) × (lane.new ≡ lane.old) }
+    ensures asked { content_of lane.old ≡ None → owner_refusal (content_of owner.old) ≡ DONE
+        → On (λ old. On (λ new. AsksLane result old new (content_of lane.new))
+        (owner_in (content_of owner.new))) (owner_in (content_of owner.old)) }
+    ensures none { result ≢ DONE → lane.new ≡ lane.old }
+    ensures open_unchanged { IsSome (content_of lane.old) → owner.new ≡ owner.old }
+    ensures unchanged { owner_refusal (content_of owner.old) ≢ DONE → owner.new ≡ owner.old }
 {
     if lane.is_open() {
         return ALREADY_OPEN;
@@ -78,7 +77,7 @@ pub extern "C" fn cubejobs_lanes_lane(alloc: Global, owner: &mut Handle, lane: &
     let State::Owner(lanes) = owner.ptr.get_mut() else {
         unreachable!()
     };
-    match lanes.deal_lane(alloc) {
+    match lanes.ask_lane(alloc) {
         Ok(content) => {
             *lane = Handle::of(content);
             DONE
@@ -97,12 +96,12 @@ pub extern "C" fn cubejobs_lanes_worker(
     ensures already_open { IsSome (content_of worker.old) → result ≡ ALREADY_OPEN }
     ensures barred { content_of worker.old ≡ None → owner_refusal (content_of owner.old) ≢ DONE
         → result ≡ owner_refusal (content_of owner.old) }
-    ensures code { content_of worker.old ≡ None → owner_refusal (content_of owner.old) ≡ DONE
-        → On (λ old. IsPlaceCode result old.workers.items) (owner_in (content_of owner.old)) }
-    ensures dealt { result ≡ DONE → On (λ old. On (λ new. HasDealtWorker old new
-        (content_of worker.new)) (owner_in (content_of owner.new)))
-        (owner_in (content_of owner.old)) }
-    ensures unchanged { result ≢ DONE → (owner.new ≡ owner.old) × (worker.new ≡ worker.old) }
+    ensures asked { content_of worker.old ≡ None → owner_refusal (content_of owner.old) ≡ DONE
+        → On (λ old. On (λ new. AsksWorker result old new (content_of worker.new))
+        (owner_in (content_of owner.new))) (owner_in (content_of owner.old)) }
+    ensures none { result ≢ DONE → worker.new ≡ worker.old }
+    ensures open_unchanged { IsSome (content_of worker.old) → owner.new ≡ owner.old }
+    ensures unchanged { owner_refusal (content_of owner.old) ≢ DONE → owner.new ≡ owner.old }
 {
     if worker.is_open() {
         return ALREADY_OPEN;
@@ -114,7 +113,7 @@ pub extern "C" fn cubejobs_lanes_worker(
     let State::Owner(lanes) = owner.ptr.get_mut() else {
         unreachable!()
     };
-    match lanes.deal_worker(alloc) {
+    match lanes.ask_worker(alloc) {
         Ok(content) => {
             *worker = Handle::of(content);
             DONE

@@ -1,26 +1,22 @@
 //! The calls that close and end a dispatcher, under the names that C declares.
 ghost use Rattle.std.specs.Prelude.{◌≡◌, ◌≢◌, ◌⊎◌, None, []};
-ghost use Rattle.shop_owner.specs.Deals.{BringsBack, HasClosed, HasLaneBack};
-ghost use Rattle.shop_owner.specs.Ending.{HasEnded};
+ghost use Rattle.shop_owner.specs.Deals.{HasClosed};
 ghost use Rattle.shop_owner.specs.Stages.{IsClosed, IsOpen};
 ghost use Rattle.cubejobs_dispatch.specs.Answers.{no_job};
 ghost use Rattle.cubejobs_dispatch.specs.Contents.{left_in, left_refusal, On};
 ghost use Rattle.cubejobs_dispatch.specs.Handle.{content_of};
 ghost use Rattle.cubejobs_dispatch.specs.Lefts.{GivesJob};
-ghost use Rattle.cubejobs_dispatch.specs.ShopContents.{producer_in, producer_refusal, shop_in, shop_refusal, shop_worker_in, shop_worker_refusal};
-ghost use Rattle.cubejobs_dispatch.specs.Shops.{state_answer, AreOneByLane, AreOneByWorker, IsFinishedBy, IsFreedLane, IsFreedWorker};
+ghost use Rattle.cubejobs_dispatch.specs.ShopContents.{producer_refusal, shop_in, shop_refusal, shop_worker_in, shop_worker_refusal};
+ghost use Rattle.cubejobs_dispatch.specs.Shops.{IsFreedWorker, TriesToFinishShop};
 
 use crate::answers::{CloseAnswer, FinishAnswer, JobAnswer};
-use crate::codes::{
-    CLOSED, DONE, JOB_LEFT, KEEPS_JOB, LANE_OUT, NOT_CLOSED, OTHER_LANES, RUNS_JOB, STILL_SHARED,
-    WORKER_OUT,
-};
+use crate::codes::{CLOSED, DONE, JOB_LEFT, KEEPS_JOB, RUNS_JOB, STILL_SHARED};
 use crate::dealing::filled;
 use crate::handle::Handle;
 use crate::handles::lift;
-use crate::left::Left;
+use crate::shop_calls::finish;
 use crate::state::State;
-use shop_owner::{FinishState, WorkerState};
+use shop_owner::WorkerState;
 use std::alloc::Global;
 use std::mem::replace;
 
@@ -57,91 +53,50 @@ pub extern "C" fn cubejobs_dispatch_close(owner: &mut Handle) -> CloseAnswer
     }
 }
 
-/// Brings the lane of a producer back to its place, and shuts the producer's handle.
+/// Leaves the lane of a producer of a dispatcher to its owner, and shuts the handle.
 #[unsafe(no_mangle)]
-pub extern "C" fn cubejobs_dispatch_free_lane(
-    alloc: Global,
-    owner: &mut Handle,
-    lane: &mut Handle,
-) -> u32
-    requires one_number { AreOneByLane (shop_in (content_of owner.old))
-        (producer_in (content_of lane.old)) }
-    ensures barred { shop_refusal (content_of owner.old) ≢ DONE
-        → result ≡ shop_refusal (content_of owner.old) }
-    ensures lane_barred { shop_refusal (content_of owner.old) ≡ DONE
-        → producer_refusal (content_of lane.old) ≢ DONE
+pub extern "C" fn cubejobs_dispatch_free_lane(alloc: Global, lane: &mut Handle) -> u32
+    ensures barred { producer_refusal (content_of lane.old) ≢ DONE
         → result ≡ producer_refusal (content_of lane.old) }
-    ensures tried { shop_refusal (content_of owner.old) ≡ DONE
-        → producer_refusal (content_of lane.old) ≡ DONE → On (λ old. On (IsFreedLane result old)
-        (producer_in (content_of lane.old))) (shop_in (content_of owner.old)) }
-    ensures freed { result ≡ DONE → On (λ old. On (λ new. On (λ producer.
-        HasLaneBack producer.lane old new) (producer_in (content_of lane.old)))
-        (shop_in (content_of owner.new))) (shop_in (content_of owner.old)) }
+    ensures code { producer_refusal (content_of lane.old) ≡ DONE
+        → (result ≡ DONE) ⊎ (result ≡ STILL_SHARED) }
     ensures shut { result ≡ DONE → content_of lane.new ≡ None }
-    ensures unchanged { result ≢ DONE → (owner.new ≡ owner.old) × (lane.new ≡ lane.old) }
+    ensures unchanged { result ≢ DONE → content_of lane.new ≡ content_of lane.old }
 {
-    let code = owner.shop_code();
-    if code != DONE {
-        return code;
-    }
     let code = lane.producer_code();
     if code != DONE {
         return code;
     }
-    let State::Shop(shop) = owner.ptr.get_mut() else {
-        unreachable!()
-    };
-    let State::Producer(producer) = lane.ptr.get_mut() else {
-        unreachable!()
-    };
-    if !shop.misses_lane(producer) {
-        return OTHER_LANES;
-    }
     let Some(content) = lift(lane, alloc) else {
         unreachable!()
     };
-    let State::Producer(producer) = Box::into_inner(content) else {
+    let mut content = content;
+    let State::Producer(producer) = Box::replace(&mut content, State::Away) else {
         unreachable!()
     };
-    shop.put_lane(producer.into_lane());
-    DONE
+    match producer.leave() {
+        Ok(()) => DONE,
+        Err(producer) => {
+            *lane = Handle::of(filled(content, State::Producer(producer)));
+            STILL_SHARED
+        }
+    }
 }
 
-/// Brings a free worker back to its place, and shuts its handle.
+/// Leaves a free worker of a dispatcher to its owner, and shuts the handle.
 #[unsafe(no_mangle)]
-pub extern "C" fn cubejobs_dispatch_free_worker(
-    alloc: Global,
-    owner: &mut Handle,
-    worker: &mut Handle,
-) -> u32
-    requires one_number { AreOneByWorker (shop_in (content_of owner.old))
-        (shop_worker_in (content_of worker.old)) }
-    ensures barred { shop_refusal (content_of owner.old) ≢ DONE
-        → result ≡ shop_refusal (content_of owner.old) }
-    ensures worker_barred { shop_refusal (content_of owner.old) ≡ DONE
-        → shop_worker_refusal (content_of worker.old) ≢ DONE
+pub extern "C" fn cubejobs_dispatch_free_worker(alloc: Global, worker: &mut Handle) -> u32
+    ensures barred { shop_worker_refusal (content_of worker.old) ≢ DONE
         → result ≡ shop_worker_refusal (content_of worker.old) }
-    ensures tried { shop_refusal (content_of owner.old) ≡ DONE
-        → shop_worker_refusal (content_of worker.old) ≡ DONE → On (λ old.
-        On (IsFreedWorker result old) (shop_worker_in (content_of worker.old)))
-        (shop_in (content_of owner.old)) }
-    ensures freed { result ≡ DONE → On (λ old. On (λ new. On (λ one. BringsBack one old new)
-        (shop_worker_in (content_of worker.old))) (shop_in (content_of owner.new)))
-        (shop_in (content_of owner.old)) }
+    ensures tried { shop_worker_refusal (content_of worker.old) ≡ DONE
+        → On (IsFreedWorker result) (shop_worker_in (content_of worker.old)) }
     ensures shut { result ≡ DONE → content_of worker.new ≡ None }
-    ensures unchanged { result ≢ DONE → (owner.new ≡ owner.old) × (worker.new ≡ worker.old) }
+    ensures unchanged { result ≢ DONE → content_of worker.new ≡ content_of worker.old }
 {
-    let code = owner.shop_code();
-    if code != DONE {
-        return code;
-    }
     let code = worker.shop_worker_code();
     if code != DONE {
         return code;
     }
-    let State::Shop(shop) = owner.ptr.get_mut() else {
-        unreachable!()
-    };
     let State::ShopWorker(one) = worker.ptr.get_mut() else {
         unreachable!()
     };
@@ -150,59 +105,36 @@ pub extern "C" fn cubejobs_dispatch_free_worker(
         WorkerState::RunsJob => return RUNS_JOB,
         WorkerState::Free => (),
     }
-    if !shop.misses_worker(one) {
-        return OTHER_LANES;
-    }
     let Some(content) = lift(worker, alloc) else {
         unreachable!()
     };
-    let State::ShopWorker(one) = Box::into_inner(content) else {
+    let mut content = content;
+    let State::ShopWorker(one) = Box::replace(&mut content, State::Away) else {
         unreachable!()
     };
-    shop.take_back(one);
-    DONE
-}
-
-// Makes the answer that says whether a dispatcher can end.
-fn answer_of(state: FinishState) -> FinishAnswer
-    ensures { result ≡ state_answer state }
-{
-    match state {
-        FinishState::NotClosed => FinishAnswer::of(NOT_CLOSED),
-        FinishState::LaneOut(number) => FinishAnswer {
-            code: LANE_OUT,
-            number,
-        },
-        FinishState::WorkerOut(number) => FinishAnswer {
-            code: WORKER_OUT,
-            number,
-        },
-        FinishState::Ready => FinishAnswer::of(DONE),
+    match one.leave() {
+        Ok(()) => DONE,
+        Err(one) => {
+            *worker = Handle::of(filled(content, State::ShopWorker(one)));
+            STILL_SHARED
+        }
     }
 }
 
-/// Ends a closed dispatcher, once each lane and each worker is in its place. Then the handle has
-/// the jobs that no worker took.
+/// Ends a closed dispatcher, once each lane and each worker is back. Then the handle has the jobs
+/// that no worker took.
 #[unsafe(no_mangle)]
 pub extern "C" fn cubejobs_dispatch_finish(alloc: Global, owner: &mut Handle) -> FinishAnswer
     ensures barred { shop_refusal (content_of owner.old) ≢ DONE
         → result ≡ record { code = shop_refusal (content_of owner.old); number = 0 } }
     ensures tried { shop_refusal (content_of owner.old) ≡ DONE
-        → On (IsFinishedBy result) (shop_in (content_of owner.old)) }
-    ensures ended { result.code ≡ DONE → On (λ old. On (λ left. HasEnded old left.jobs.items)
-        (left_in (content_of owner.new))) (shop_in (content_of owner.old)) }
-    ensures unchanged { result.code ≢ DONE → content_of owner.new ≡ content_of owner.old }
+        → On (λ old. TriesToFinishShop result old (content_of owner.new))
+        (shop_in (content_of owner.old)) }
+    ensures unchanged { shop_refusal (content_of owner.old) ≢ DONE → owner.new ≡ owner.old }
 {
     let code = owner.shop_code();
     if code != DONE {
         return FinishAnswer::of(code);
-    }
-    let State::Shop(shop) = owner.ptr.get_mut() else {
-        unreachable!()
-    };
-    let answer = answer_of(shop.finish_state());
-    if answer.code != DONE {
-        return answer;
     }
     let Some(content) = lift(owner, alloc) else {
         unreachable!()
@@ -211,16 +143,9 @@ pub extern "C" fn cubejobs_dispatch_finish(alloc: Global, owner: &mut Handle) ->
     let State::Shop(shop) = Box::replace(&mut content, State::Away) else {
         unreachable!()
     };
-    match shop.into_rest() {
-        Ok(jobs) => {
-            *owner = Handle::of(filled(content, State::Left(Left { jobs })));
-            answer
-        }
-        Err(shop) => {
-            *owner = Handle::of(filled(content, State::Shop(shop)));
-            FinishAnswer::of(STILL_SHARED)
-        }
-    }
+    let (state, answer) = finish(shop);
+    *owner = Handle::of(filled(content, state));
+    answer
 }
 
 /// Returns the first job that no worker took, and removes it.

@@ -2,18 +2,18 @@
 ghost use Rattle.std.specs.Prelude.{◌≡◌, ◌≢◌, ◌<◌, ◌≤◌, ◌⊎◌, None, Some, IsSome, []};
 ghost use Rattle.cube_shape.specs.declared.limits.TheConstants.{MAX_BITMAP_DIM};
 ghost use Rattle.shop_owner.specs.Owners.{IsNew};
-ghost use Rattle.cubejobs_dispatch.specs.Contents.{left_in, On};
-ghost use Rattle.cubejobs_dispatch.specs.Deals.{IsPlaceCode};
+ghost use Rattle.cubejobs_dispatch.specs.Contents.{On};
 ghost use Rattle.cubejobs_dispatch.specs.Handle.{content_of};
-ghost use Rattle.cubejobs_dispatch.specs.ShopContents.{producer_in, producer_refusal, shop_in, shop_refusal, shop_worker_in, shop_worker_refusal};
-ghost use Rattle.cubejobs_dispatch.specs.Shops.{DealsLane, DealsWorker};
+ghost use Rattle.cubejobs_dispatch.specs.ShopContents.{shop_in, shop_refusal};
+ghost use Rattle.cubejobs_dispatch.specs.Shops.{AsksShopLane, AsksShopWorker};
 ghost use Rattle.cubejobs_dispatch.specs.Sizes.{sizes_of, AreInLimits};
 
 use crate::codes::{
-    ALREADY_OPEN, BAD_DIMENSION, BAD_SIZES, BAD_VERSION, DONE, NONE_LEFT, OUT_OF_MEMORY, VERSION,
+    ALREADY_OPEN, BAD_DIMENSION, BAD_SIZES, BAD_VERSION, DONE, OUT_OF_MEMORY, VERSION,
 };
 use crate::dealing::{filled, room};
 use crate::handle::Handle;
+use crate::shop_calls::{ask_lane, ask_worker};
 use crate::sizes::LaneSizes;
 use crate::state::State;
 use cube_shape::MAX_BITMAP_DIM;
@@ -21,7 +21,7 @@ use shop_owner::ShopOwner;
 use std::alloc::Global;
 
 /// Opens a dispatcher of which nothing was asked, with a machine of dimension `dim`. `version` is
-/// that of the caller's header. `number` is another one for each dispatcher of the program.
+/// that of the caller's header.
 #[unsafe(no_mangle)]
 pub extern "C" fn cubejobs_dispatch_open_version(
     alloc: Global,
@@ -29,7 +29,6 @@ pub extern "C" fn cubejobs_dispatch_open_version(
     version: u32,
     dim: u32,
     sizes: LaneSizes,
-    number: u64,
 ) -> u32
     ensures bad_version { version ≢ VERSION → result ≡ BAD_VERSION }
     ensures already_open { version ≡ VERSION → IsSome (content_of owner.old)
@@ -41,7 +40,7 @@ pub extern "C" fn cubejobs_dispatch_open_version(
     ensures else_memory { version ≡ VERSION → content_of owner.old ≡ None → dim ≤ MAX_BITMAP_DIM
         → AreInLimits sizes → (result ≡ DONE) ⊎ (result ≡ OUT_OF_MEMORY) }
     ensures new { result ≡ DONE
-        → On (IsNew (sizes_of sizes) dim number) (shop_in (content_of owner.new)) }
+        → On (IsNew (sizes_of sizes) dim) (shop_in (content_of owner.new)) }
     ensures unchanged { result ≢ DONE → owner.new ≡ owner.old }
 {
     if version != VERSION {
@@ -59,7 +58,7 @@ pub extern "C" fn cubejobs_dispatch_open_version(
     let Some(room) = room(alloc) else {
         return OUT_OF_MEMORY;
     };
-    match ShopOwner::open(alloc, sizes.sizes(), dim, number) {
+    match ShopOwner::open(alloc, sizes.sizes(), dim) {
         Ok(shop) => {
             *owner = Handle::of(filled(room, State::Shop(shop)));
             DONE
@@ -78,12 +77,12 @@ pub extern "C" fn cubejobs_dispatch_lane(
     ensures already_open { IsSome (content_of lane.old) → result ≡ ALREADY_OPEN }
     ensures barred { content_of lane.old ≡ None → shop_refusal (content_of owner.old) ≢ DONE
         → result ≡ shop_refusal (content_of owner.old) }
-    ensures code { content_of lane.old ≡ None → shop_refusal (content_of owner.old) ≡ DONE
-        → On (λ old. IsPlaceCode result old.lanes.items) (shop_in (content_of owner.old)) }
-    ensures dealt { result ≡ DONE → On (λ old. On (λ new. On (DealsLane old new)
-        (producer_in (content_of lane.new))) (shop_in (content_of owner.new)))
-        (shop_in (content_of owner.old)) }
-    ensures unchanged { result ≢ DONE → (owner.new ≡ owner.old) × (lane.new ≡ lane.old) }
+    ensures asked { content_of lane.old ≡ None → shop_refusal (content_of owner.old) ≡ DONE
+        → On (λ old. On (λ new. AsksShopLane result old new (content_of lane.new))
+        (shop_in (content_of owner.new))) (shop_in (content_of owner.old)) }
+    ensures none { result ≢ DONE → lane.new ≡ lane.old }
+    ensures open_unchanged { IsSome (content_of lane.old) → owner.new ≡ owner.old }
+    ensures unchanged { shop_refusal (content_of owner.old) ≢ DONE → owner.new ≡ owner.old }
 {
     if lane.is_open() {
         return ALREADY_OPEN;
@@ -95,18 +94,12 @@ pub extern "C" fn cubejobs_dispatch_lane(
     let State::Shop(shop) = owner.ptr.get_mut() else {
         unreachable!()
     };
-    let Some(place) = shop.first_lane() else {
-        return NONE_LEFT;
-    };
-    let Some(room) = room(alloc) else {
-        return OUT_OF_MEMORY;
-    };
-    match shop.deal_lane(place) {
-        Some(producer) => {
-            *lane = Handle::of(filled(room, State::Producer(producer)));
+    match ask_lane(shop, alloc) {
+        Ok(content) => {
+            *lane = Handle::of(content);
             DONE
         }
-        None => OUT_OF_MEMORY,
+        Err(code) => code,
     }
 }
 
@@ -120,12 +113,12 @@ pub extern "C" fn cubejobs_dispatch_worker(
     ensures already_open { IsSome (content_of worker.old) → result ≡ ALREADY_OPEN }
     ensures barred { content_of worker.old ≡ None → shop_refusal (content_of owner.old) ≢ DONE
         → result ≡ shop_refusal (content_of owner.old) }
-    ensures code { content_of worker.old ≡ None → shop_refusal (content_of owner.old) ≡ DONE
-        → On (λ old. IsPlaceCode result old.workers.items) (shop_in (content_of owner.old)) }
-    ensures dealt { result ≡ DONE → On (λ old. On (λ new. On (DealsWorker old new)
-        (shop_worker_in (content_of worker.new))) (shop_in (content_of owner.new)))
-        (shop_in (content_of owner.old)) }
-    ensures unchanged { result ≢ DONE → (owner.new ≡ owner.old) × (worker.new ≡ worker.old) }
+    ensures asked { content_of worker.old ≡ None → shop_refusal (content_of owner.old) ≡ DONE
+        → On (λ old. On (λ new. AsksShopWorker result old new (content_of worker.new))
+        (shop_in (content_of owner.new))) (shop_in (content_of owner.old)) }
+    ensures none { result ≢ DONE → worker.new ≡ worker.old }
+    ensures open_unchanged { IsSome (content_of worker.old) → owner.new ≡ owner.old }
+    ensures unchanged { shop_refusal (content_of owner.old) ≢ DONE → owner.new ≡ owner.old }
 {
     if worker.is_open() {
         return ALREADY_OPEN;
@@ -137,17 +130,11 @@ pub extern "C" fn cubejobs_dispatch_worker(
     let State::Shop(shop) = owner.ptr.get_mut() else {
         unreachable!()
     };
-    let Some(place) = shop.first_worker() else {
-        return NONE_LEFT;
-    };
-    let Some(room) = room(alloc) else {
-        return OUT_OF_MEMORY;
-    };
-    match shop.deal_worker(place) {
-        Some(dealt) => {
-            *worker = Handle::of(filled(room, State::ShopWorker(dealt)));
+    match ask_worker(shop, alloc) {
+        Ok(content) => {
+            *worker = Handle::of(content);
             DONE
         }
-        None => OUT_OF_MEMORY,
+        Err(code) => code,
     }
 }

@@ -1,11 +1,13 @@
 //! A producer and a worker, each with its share of the lanes.
-ghost use Rattle.std.specs.Prelude.{◌≡◌, ◌<◌, ◌≤◌, ◌+◌};
+ghost use Rattle.std.specs.Prelude.{◌≡◌, ◌<◌, ◌≤◌, ◌+◌, IfErr, IfOk};
 ghost use Rattle.std.specs.Arc.{arc_value};
 ghost use Rattle.job_lanes.specs.Lanes.{call_steps, ChangesOnly, Looks, SubmitKeeps, Submits, TakeAnyKeeps, Takes, TakesAny};
 ghost use Rattle.job_lanes.specs.Record.{take_of};
 
 use crate::common::Common;
+use crate::share::{Share, SharedSide};
 use job_lanes::{Lane, Looked, Submitted, Taken, TakenAny, Worker};
+use kept_places::{KeptLane, KeptWorker, leave};
 use std::sync::Arc;
 
 /// The right to submit jobs to one lane.
@@ -25,8 +27,41 @@ pub(crate) struct WorkerSide {
 }
 
 impl LaneSide {
+    // Leaves the lane to the owner, and drops the share of the lanes. Gives the side back if
+    // another call is at the lane's place.
+    pub(crate) fn leave(self) -> Result<(), LaneSide>
+        ensures { IfErr result (λ side. side ≡ self) }
+    {
+        let LaneSide { common, lane } = self;
+        let place = lane.number() as usize;
+        match leave(&common.lane_places[place], KeptLane { lane }) {
+            Ok(()) => Ok(()),
+            Err(kept) => {
+                let lane = kept.into_lane();
+                Err(LaneSide { common, lane })
+            }
+        }
+    }
+
+    // Moves the lane into the place of a shared lane. Gives the side back if another call is there.
+    pub(crate) fn move_into(self, share: Arc<Share>) -> Result<SharedSide, LaneSide>
+        requires common { arc_value (arc_value share).common ≡ arc_value self.common }
+        requires number { (arc_value share).number ≡ self.lane.known.number }
+        ensures shared { IfOk result (λ shared. arc_value shared.share ≡ arc_value share) }
+        ensures same { IfErr result (λ side. side ≡ self) }
+    {
+        let LaneSide { common, lane } = self;
+        match leave(&share.place, KeptLane { lane }) {
+            Ok(()) => Ok(SharedSide { share }),
+            Err(kept) => {
+                let lane = kept.into_lane();
+                Err(LaneSide { common, lane })
+            }
+        }
+    }
+
     // Returns the lane, and drops the share of the lanes.
-    pub(crate) fn into_lane(self) -> Lane
+    fn into_lane(self) -> Lane
         ensures { result ≡ self.lane }
     {
         let LaneSide { common: _, lane } = self;
@@ -45,8 +80,42 @@ impl LaneSide {
 }
 
 impl WorkerSide {
+    // Returns the share of the lanes, and the worker.
+    pub(crate) fn into_parts(self) -> (Arc<Common>, Worker)
+        ensures common { result.0 ≡ self.common }
+        ensures worker { result.1 ≡ self.worker }
+        ensures of_lanes { result.1.id ≡ (arc_value result.0).lanes }
+        ensures inside { result.1.known.number < (arc_value result.0).lanes.plan.sizes.workers }
+    {
+        let WorkerSide { common, worker } = self;
+        (common, worker)
+    }
+
+    // Returns the worker's number.
+    pub(crate) fn number(&self) -> u32
+        ensures { result ≡ self.now.worker.known.number }
+    {
+        self.worker.number()
+    }
+
+    // Leaves the worker to the owner, and drops the share of the lanes. Gives the side back if
+    // another call is at the worker's place.
+    pub(crate) fn leave(self) -> Result<(), WorkerSide>
+        ensures { IfErr result (λ side. side ≡ self) }
+    {
+        let WorkerSide { common, worker } = self;
+        let place = worker.number() as usize;
+        match leave(&common.worker_places[place], KeptWorker { worker }) {
+            Ok(()) => Ok(()),
+            Err(kept) => {
+                let worker = kept.into_worker();
+                Err(WorkerSide { common, worker })
+            }
+        }
+    }
+
     // Returns the worker, and drops the share of the lanes.
-    pub(crate) fn into_worker(self) -> Worker
+    fn into_worker(self) -> Worker
         ensures { result ≡ self.worker }
     {
         let WorkerSide { common: _, worker } = self;

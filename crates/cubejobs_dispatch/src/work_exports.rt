@@ -12,7 +12,7 @@ use crate::codes::{BAD_DIMENSION, DONE, NOTHING_RUN};
 use crate::handle::Handle;
 use crate::state::State;
 use crate::work_answer::WorkAnswer;
-use std::mem::replace;
+use std::mem::{forget, replace};
 
 /// Submits a job to the lane of a producer of a dispatcher.
 #[unsafe(no_mangle)]
@@ -68,7 +68,7 @@ pub extern "C" fn cubejobs_dispatch_next(worker: &mut Handle) -> WorkAnswer
         unreachable!()
     };
     let (one, outcome) = one.next();
-    *state = State::ShopWorker(one);
+    forget(replace(state, State::ShopWorker(one)));
     WorkAnswer::of(outcome)
 }
 
@@ -92,7 +92,7 @@ pub extern "C" fn cubejobs_dispatch_done(worker: &mut Handle) -> u32
         unreachable!()
     };
     let (one, ran) = one.done();
-    *state = State::ShopWorker(one);
+    forget(replace(state, State::ShopWorker(one)));
     if ran { DONE } else { NOTHING_RUN }
 }
 
@@ -116,6 +116,6 @@ pub extern "C" fn cubejobs_dispatch_give_back(worker: &mut Handle) -> WorkAnswer
         unreachable!()
     };
     let (one, given) = one.give_back();
-    *state = State::ShopWorker(one);
+    forget(replace(state, State::ShopWorker(one)));
     WorkAnswer::given(given)
 }

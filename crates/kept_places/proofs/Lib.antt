@@ -1,1 +1,3 @@
 pub mod PlaceLemmas
+pub mod PropLemmas
+pub mod ReturnLemmas

@@ -1,15 +1,20 @@
 -- The lanes and workers in their places.
 use Rattle.std.specs.Prelude.{◌≡◌, ℕ, ◌<◌, Option, Some, None, List, [], ◌∷◌, slice_index_or}
 use Rattle.std.specs.Option.{ForSome}
+use Rattle.wake_pool.specs.Words.{word_count}
 use Rattle.job_lanes.specs.Lanes.{LanesId}
 use Rattle.job_lanes.specs.Record.{fresh_lane, fresh_worker}
 use Rattle.kept_places.specs.declared.kept.KeptLane.{KeptLane}
 use Rattle.kept_places.specs.declared.kept.KeptWorker.{KeptWorker}
 
--- The lane with this number, of which nothing was asked.
+-- The lane with this number, of which nothing was asked. It has no word of sleepers to look at.
 abbrev pub new_lane : LanesId → ℕ → KeptLane
 new_lane id number = record {
-  lane = record { id = id; known = fresh_lane id.plan.sizes.capacity number };
+  lane = record {
+    id = id;
+    known = fresh_lane id.plan.sizes.capacity number;
+    next = word_count id.plan.sleepers;
+  };
 }
 
 -- The worker with this number, of which nothing was asked.

@@ -1,2 +1,4 @@
 pub mod Kept
 pub mod Places
+pub mod Returns
+pub mod Wakes

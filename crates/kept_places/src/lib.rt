@@ -2,7 +2,13 @@
 #![tactic(auto)]
 
 mod kept;
+mod name;
 mod places;
+mod returns;
+mod tries;
 
 pub use kept::{KeptLane, KeptNote, KeptWorker};
-pub use places::{first_empty, first_full, is_empty, put_into, take_from};
+pub use name::PlaceName;
+pub use places::{first_empty, first_full, take_from};
+pub use returns::{ReturnPlace, collect, collect_all, leave, named_places};
+pub use tries::TRIES;

@@ -13,20 +13,12 @@ pub fn take_from<T>(places: &mut Vec<Option<T>>, place: usize) -> Option<T>
     replace(&mut places[place], None)
 }
 
-/// Puts a content into a place.
-pub fn put_into<T: Drop>(places: &mut Vec<Option<T>>, place: usize, content: T)
+// Puts a content into a place.
+pub(crate) fn put_into<T: Drop>(places: &mut Vec<Option<T>>, place: usize, content: T)
     requires inside { place < length places.old.items }
     ensures full { places.new.items ≡ slice_set places.old.items place (Some content) }
 {
     places[place] = Some(content);
-}
-
-/// Returns whether a place is empty.
-pub fn is_empty<T>(places: &Vec<Option<T>>, place: usize) -> bool
-    requires inside { place < length places.now.items }
-    ensures { IsTrue result ↔ (slice_index_or places.now.items place None ≡ None) }
-{
-    places[place].is_none()
 }
 
 /// Returns the first empty place.

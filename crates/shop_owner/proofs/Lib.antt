@@ -1,2 +1,3 @@
 pub mod CrossLemmas
 mod OpenLemmas
+mod ReturnLemmas

@@ -12,15 +12,10 @@ use Rattle.shop_owner.specs.Stages.{HasFreshWorkers, IsOpen}
 abbrev pub owner_shop : ShopOwner → ShopId
 owner_shop owner = common_shop (arc_value owner.common)
 
--- The number that the dispatcher got at its opening.
-abbrev pub owner_number : ShopOwner → ℕ
-owner_number owner = (arc_value owner.common).number
-
 -- This is a new dispatcher, and each lane and each worker is in its place.
-pub record IsNew (sizes : Sizes) (n number : ℕ) (owner : ShopOwner) : Type 0 where
+pub record IsNew (sizes : Sizes) (n : ℕ) (owner : ShopOwner) : Type 0 where
   pub sizes_are : (owner_shop owner).lanes.plan.sizes ≡ sizes
   pub dim_is : (owner_shop owner).dim ≡ n
-  pub number_is : owner_number owner ≡ number
   pub is_open : IsOpen owner.stage
   pub lanes : HasFreshLanes (owner_shop owner).lanes sizes.lanes owner.lanes.items
   pub workers : HasFreshWorkers (owner_shop owner) sizes.workers owner.workers.items

@@ -13,7 +13,8 @@ use crate::sides::DispatchWorker;
 use region_shop::{Next, Reason};
 
 // Returns what the worker does after its call, and the outcome.
-fn after(next: Next) -> (Post, NextOutcome)
+#[inline(always)]
+pub(crate) fn after(next: Next) -> (Post, NextOutcome)
     ensures post { IsAfter next result.0 }
     ensures outcome { result.1 ≡ outcome_of next }
 {
@@ -39,6 +40,7 @@ fn after(next: Next) -> (Post, NextOutcome)
 
 impl DispatchWorker {
     /// Takes the worker's next job with its block, unless it runs one.
+    #[inline(always)]
     pub fn next(self) -> (DispatchWorker, NextOutcome)
         ensures { HasNext self result.0 result.1 }
     {
@@ -64,6 +66,7 @@ impl DispatchWorker {
     }
 
     /// Releases the block of the job that the worker runs. Returns whether it ran one.
+    #[inline(always)]
     pub fn done(self) -> (DispatchWorker, bool)
         ensures { HasDone self result.0 result.1 }
     {

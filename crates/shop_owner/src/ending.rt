@@ -22,7 +22,6 @@ use job_lanes::{Lane, LaneJob};
 use kept_places::{KeptLane, first_empty};
 use region_shop::{EndedWorker, RegionShop};
 use std::collections::VecDeque;
-use std::mem::ManuallyDrop;
 use std::sync::Arc;
 
 // Returns the lanes of full places, the first one first.
@@ -76,24 +75,6 @@ impl DispatchWorker {
             Post::Running(_) => WorkerState::RunsJob,
             Post::Idle(kept) => kept.state(),
         }
-    }
-
-    /// Returns the number of a free worker and the worker. Drops its share of the dispatcher.
-    pub fn into_free(self) -> (u32, KeptIdle)
-        requires free { IsStateOf self.post WorkerState.Free }
-        ensures number { result.0 ≡ self.number }
-        ensures post { self.post ≡ Post.Idle result.1 }
-        ensures free { IsFree (common_shop (arc_value self.common)) result.1 }
-    {
-        let DispatchWorker {
-            common: _,
-            number,
-            post,
-        } = self;
-        let Post::Idle(kept) = post else {
-            unreachable!()
-        };
-        (number, kept)
     }
 }
 
@@ -175,13 +156,7 @@ fn rest_of(
     requires worker_room { workers_of (common_shop common) ≤ vec_capacity room.ends }
     ensures { IsRestOf (common_shop common) stage lanes.items workers.items result.items }
 {
-    let ShopCommon {
-        shop,
-        sizes: _,
-        dim: _,
-        number: _,
-    } = common;
-    let shop = ManuallyDrop::into_inner(shop);
+    let shop = common.into_shop();
     let ShopStage::Closed(kept) = stage else {
         unreachable!()
     };

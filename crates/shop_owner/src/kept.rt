@@ -21,6 +21,7 @@ impl KeptIdle {
     ghost use Rattle.std.specs.Mem.{manually_drop_value};
 
     // Keeps a worker.
+    #[inline(always)]
     pub(crate) fn of(worker: ShopWorker) -> KeptIdle
         ensures { manually_drop_value result.worker ≡ worker }
     {
@@ -30,6 +31,7 @@ impl KeptIdle {
     }
 
     // Returns the worker.
+    #[inline(always)]
     pub(crate) fn into_worker(self) -> ShopWorker
         ensures { result ≡ manually_drop_value self.worker }
     {
@@ -42,6 +44,7 @@ impl KeptRunning {
     ghost use Rattle.std.specs.Mem.{manually_drop_value};
 
     // Keeps a worker that runs a job.
+    #[inline(always)]
     pub(crate) fn of(running: RunningJob) -> KeptRunning
         ensures { manually_drop_value result.running ≡ running }
     {
@@ -51,6 +54,7 @@ impl KeptRunning {
     }
 
     // Returns the worker.
+    #[inline(always)]
     pub(crate) fn into_running(self) -> RunningJob
         ensures { result ≡ manually_drop_value self.running }
     {
@@ -69,6 +73,7 @@ impl KeptCloser {
     ghost use Rattle.std.specs.Mem.{manually_drop_value};
 
     // Keeps a closer.
+    #[inline(always)]
     pub(crate) fn of(closer: Closer) -> KeptCloser
         ensures { manually_drop_value result.closer ≡ closer }
     {

@@ -11,9 +11,13 @@ mod opening;
 mod outcome;
 mod owner;
 mod post;
+mod returns;
 mod room;
 mod sides;
+mod sleeper;
+mod sleeping;
 mod stage;
+mod waking;
 
 pub use common::ShopCommon;
 pub use kept::KeptIdle;
@@ -21,3 +25,4 @@ pub use outcome::{FinishState, GivenBack, NextOutcome, WorkerState};
 pub use owner::ShopOwner;
 pub use post::Post;
 pub use sides::{DispatchWorker, Producer};
+pub use sleeper::{Berth, DispatchSleeper, FindOutcome, KeptAsleep};

@@ -12,10 +12,11 @@ ghost use Rattle.shop_owner.specs.Stages.{HasFreshWorkers};
 use crate::common::ShopCommon;
 use crate::kept::{KeptCloser, KeptIdle};
 use crate::owner::ShopOwner;
+use crate::returns::idle_places;
 use crate::room::EndRoom;
 use crate::stage::ShopStage;
 use job_lanes::Sizes;
-use kept_places::KeptLane;
+use kept_places::{KeptLane, named_places};
 use region_shop::{RegionShop, ShopMembers};
 use std::alloc::{AllocError, Global};
 use std::mem::ManuallyDrop;
@@ -91,7 +92,7 @@ fn seat_lanes(
 
 impl ShopOwner {
     /// Opens a dispatcher of which nothing was asked. Each lane and each worker is in its place.
-    pub fn open(alloc: Global, sizes: Sizes, n: u32, number: u64) -> Result<ShopOwner, AllocError>
+    pub fn open(alloc: Global, sizes: Sizes, n: u32) -> Result<ShopOwner, AllocError>
         requires some_room { 0 < sizes.capacity }
         requires capacity { sizes.capacity ≤ MAX_CAPACITY }
         requires some_lane { 0 < sizes.lanes }
@@ -99,23 +100,30 @@ impl ShopOwner {
         requires some_worker { 0 < sizes.workers }
         requires workers { sizes.workers ≤ MAX_WORKERS }
         requires dim { n ≤ MAX_BITMAP_DIM }
-        ensures new { IfOk result (IsNew sizes n number) }
+        ensures new { IfOk result (IsNew sizes n) }
     {
         let tails = tails(alloc, sizes.lanes, sizes.workers)?;
         let lanes = Vec::with_capacity(alloc, sizes.lanes as usize)?;
         let workers = Vec::with_capacity(alloc, sizes.workers as usize)?;
         let room = EndRoom::new(alloc, sizes.lanes, sizes.workers)?;
+        let places = Vec::with_capacity(alloc, sizes.workers as usize)?;
         let (shop, mut members) = RegionShop::open(alloc, sizes, n)?;
+        let Ok(lane_places) = named_places(alloc, shop.lanes(), sizes.lanes) else {
+            shop.let_go(members);
+            return Err(AllocError);
+        };
+        let worker_places = idle_places(&shop, sizes.workers, places);
         let common = ShopCommon {
             shop: unsafe { ManuallyDrop::new_unchecked(shop) },
             sizes,
             dim: n,
-            number,
+            lanes: lane_places,
+            workers: worker_places,
         };
         let common = match Arc::new(alloc, common) {
             Ok(common) => common,
             Err(failed) => {
-                ManuallyDrop::into_inner(failed.value.shop).let_go(members);
+                failed.value.into_shop().let_go(members);
                 return Err(AllocError);
             }
         };

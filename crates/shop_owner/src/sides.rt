@@ -7,6 +7,7 @@ ghost use Rattle.shop_owner.specs.Posts.{common_shop, IsPostOf};
 use crate::common::ShopCommon;
 use crate::post::Post;
 use job_lanes::{Lane, Submitted};
+use kept_places::{KeptLane, leave};
 use std::sync::Arc;
 
 /// The right to submit jobs to one lane.
@@ -28,7 +29,7 @@ pub struct DispatchWorker {
 }
 
 impl Producer {
-    ghost use Rattle.std.specs.Prelude.{◌≡◌};
+    ghost use Rattle.std.specs.Prelude.{◌≡◌, IfErr};
     ghost use Rattle.std.specs.Arc.{arc_value};
     ghost use Rattle.job_lanes.specs.Lanes.{SubmitKeeps, Submits};
     ghost use Rattle.shop_owner.specs.Posts.{common_shop};
@@ -54,8 +55,24 @@ impl Producer {
             .submit(&mut self.lane, payload, dim)
     }
 
-    /// Returns the lane, and drops the share of the dispatcher.
-    pub fn into_lane(self) -> Lane
+    /// Leaves the lane to the owner, and drops the share of the dispatcher. Gives the producer back
+    /// if another call is at the lane's place.
+    pub fn leave(self) -> Result<(), Producer>
+        ensures { IfErr result (λ producer. producer ≡ self) }
+    {
+        let Producer { common, lane } = self;
+        let place = lane.number() as usize;
+        match leave(&common.lanes[place], KeptLane { lane }) {
+            Ok(()) => Ok(()),
+            Err(kept) => {
+                let lane = kept.into_lane();
+                Err(Producer { common, lane })
+            }
+        }
+    }
+
+    // Returns the lane, and drops the share of the dispatcher.
+    fn into_lane(self) -> Lane
         ensures { result ≡ self.lane }
     {
         let Producer { common: _, lane } = self;
