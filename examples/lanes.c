@@ -16,6 +16,7 @@ static void *produce(void *number) {
     unsigned mine = *(unsigned *)number;
     for (uint64_t i = 1; i <= JOBS; i++)
         while (cubejobs_lanes_submit(&lane[mine], i, 0).code == CUBEJOBS_DISPATCH_FULL) sched_yield();
+    cubejobs_lanes_free_lane(&lane[mine]);
     return NULL;
 }
 
@@ -46,7 +47,7 @@ int main(void) {
     for (int i = 0; i < THREADS; i++) {
         pthread_join(workers[i], NULL);
         sum += sums[i];
-        if (cubejobs_lanes_free_lane(&lanes, &lane[i]) || cubejobs_lanes_free_worker(&lanes, &worker[i])) return 1;
+        if (cubejobs_lanes_free_worker(&worker[i])) return 1;
     }
     printf("%lu jobs, with a sum of %lu\n", jobs, sum);
     return cubejobs_lanes_finish(&lanes).code || cubejobs_lanes_free(&lanes);

@@ -1,5 +1,5 @@
-//! Links the proved libraries: `libcubejobs_c.a`, and for the feature `regions` another one. They
-//! are in the folder that `CUBEJOBS_LIB` names, or else in `lib/`, which has copies of the files of
+//! Links the proved libraries: `libcubejobs_c.a`, and for the features `dispatch` and `regions` one
+//! more each. They are in the folder that `CUBEJOBS_LIB` names, or else in `lib/`, which has copies of the files of
 //! `release/`.
 
 use std::env;
@@ -28,8 +28,9 @@ fn link() -> Result<(), String> {
     let package = env::var_os("CARGO_MANIFEST_DIR").ok_or("cargo has not set CARGO_MANIFEST_DIR")?;
     let folder = env::var_os("CUBEJOBS_LIB").map_or(PathBuf::from(package).join("lib"), PathBuf::from);
     println!("cargo::rerun-if-env-changed=CUBEJOBS_LIB");
+    let dispatch = env::var_os("CARGO_FEATURE_DISPATCH").map(|_| "libcubejobs_dispatch.a");
     let regions = env::var_os("CARGO_FEATURE_REGIONS").map(|_| "libcubejobs_regions.a");
-    for name in ["libcubejobs_c.a"].into_iter().chain(regions) {
+    for name in ["libcubejobs_c.a"].into_iter().chain(dispatch).chain(regions) {
         let library = folder.join(name);
         println!("cargo::rerun-if-changed={}", library.display());
         if !library.exists() {

@@ -1,4 +1,5 @@
-//! Allocators of aligned blocks: safe Rust over the proved libraries of cubejobs.
+//! Allocators of aligned blocks, and queues of jobs: safe Rust over the proved libraries of
+//! cubejobs.
 //!
 //! A machine of dimension `n` has the processors `0` to `2^n - 1`. A block (a [`Region`]) of
 //! dimension `k` is `2^k` processors in a row, from a multiple of `2^k` on.
@@ -6,6 +7,8 @@
 //! | You have | Use |
 //! |---|---|
 //! | threads, and any number of blocks | `regions::Machine`, in the default feature `regions` |
+//! | jobs for worker threads, each with a block | `dispatch::Dispatcher`, in `dispatch` |
+//! | jobs for worker threads | `lanes::Lanes`, in the default feature `dispatch` |
 //! | one thread, or threads under your lock; up to [`MAX_STATIONS`] blocks | [`Machine`] |
 //! | the same, with any number of blocks, in your own memory | [`fit::FirstFit`] |
 //!
@@ -33,22 +36,42 @@
 #![no_std]
 #![warn(missing_docs)]
 
-#[cfg(feature = "regions")]
+#[cfg(any(feature = "dispatch", feature = "regions"))]
 extern crate alloc;
 #[cfg(feature = "std")]
 extern crate std;
 
-#[cfg(all(feature = "regions", feature = "std"))]
+#[cfg(feature = "dispatch")]
+pub mod dispatch;
+#[cfg(feature = "dispatch")]
+mod dispatch_ffi;
+#[cfg(all(any(feature = "dispatch", feature = "regions"), feature = "std"))]
 mod event;
 mod ffi;
 pub mod fit;
 mod fit_ffi;
+#[cfg(all(doctest, feature = "dispatch"))]
+mod forbidden;
 #[cfg(feature = "regions")]
 mod handles;
+#[cfg(feature = "dispatch")]
+pub mod lanes;
+#[cfg(all(feature = "dispatch", feature = "std"))]
+mod parking;
+#[cfg(feature = "dispatch")]
+mod payload;
+#[cfg(any(feature = "dispatch", feature = "regions"))]
+mod place;
 #[cfg(feature = "regions")]
 pub mod regions;
 #[cfg(feature = "regions")]
 mod regions_ffi;
+#[cfg(feature = "dispatch")]
+mod room;
+#[cfg(feature = "dispatch")]
+mod shared;
+#[cfg(feature = "dispatch")]
+mod sharing;
 
 use core::error::Error;
 use core::fmt;

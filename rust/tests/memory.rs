@@ -1,9 +1,11 @@
-//! Memory of the lock-free library. Machines and blocks that are dropped in any order leave no
-//! memory behind. Each request for memory is refused in turn, which is an error and leaves none
+//! Memory of the lock-free libraries. Machines, blocks, lanes and handles that are dropped in any
+//! order leave no memory behind. Each request for memory is refused in turn, which is an error and leaves none
 //! behind.
 //!
 //! `malloc` and `free` of this program are those below, for Rust and for the library alike.
 
+use cubejobs::dispatch::{self, Dispatcher};
+use cubejobs::lanes::{self, DealError, Lanes, Sizes};
 use cubejobs::regions::{Held, Machine, OpenError, TakeError};
 use std::cell::Cell;
 use std::ffi::c_void;
@@ -158,9 +160,101 @@ fn refused_requests_are_errors() {
     assert_eq!(LIVE.load(SeqCst), 0);
 }
 
+const SIZES: Sizes = Sizes { lanes: 2, workers: 2, capacity: 4 };
+
+fn lanes_leave_no_memory_behind() {
+    for round in 0..200 {
+        let (lanes, mut lane, shared, mut worker) = counting(|| {
+            let lanes = Lanes::<Box<u64>>::new(SIZES).unwrap();
+            let (lane, shared) = (lanes.lane().unwrap(), lanes.lane().unwrap().into_shared().unwrap());
+            let worker = lanes.worker().unwrap();
+            (lanes, lane, shared, worker)
+        });
+        counting(|| (0..3).for_each(|number| assert!(lane.submit(Box::new(number), 0).is_ok())));
+        assert!(LIVE.load(SeqCst) >= 7, "the jobs of open lanes are not counted");
+        // Any of the four threads may drop the last handle, and with it a job that is left.
+        thread::scope(|scope| {
+            scope.spawn(|| counting(|| drop(lanes)));
+            scope.spawn(|| counting(|| drop(lane)));
+            scope.spawn(|| counting(|| drop(shared)));
+            scope.spawn(|| {
+                counting(|| {
+                    drop(worker.take(0).unwrap());
+                    drop(worker);
+                })
+            });
+        });
+        assert_eq!(LIVE.load(SeqCst), 0, "after round {round}");
+    }
+}
+
+fn a_dispatcher_leaves_no_memory_behind() {
+    for round in 0..200 {
+        let (dispatcher, mut lane, mut one, mut two) = counting(|| {
+            let dispatcher = Dispatcher::<Box<u64>>::new(3, SIZES).unwrap();
+            let (lane, one) = (dispatcher.lane().unwrap(), dispatcher.worker().unwrap());
+            let two = dispatcher.worker().unwrap();
+            (dispatcher, lane, one, two)
+        });
+        counting(|| (0..4).for_each(|number| assert!(lane.submit(Box::new(number), 3).is_ok())));
+        let running = one.try_next().unwrap();
+        assert!(two.try_next().is_err()); // it keeps a job
+        counting(|| drop(running));
+        thread::scope(|scope| {
+            scope.spawn(|| counting(|| drop(dispatcher)));
+            scope.spawn(|| counting(|| drop(lane)));
+            scope.spawn(|| counting(|| drop(one)));
+            scope.spawn(|| counting(|| drop(two)));
+        });
+        assert_eq!(LIVE.load(SeqCst), 0, "after round {round}");
+    }
+}
+
+fn refused_requests_of_lanes_are_errors() {
+    let (lanes, of_open) = refuse_each(lanes::OpenError::OutOfMemory, || Lanes::<u64>::new(SIZES));
+    assert!(of_open >= 3, "{of_open} requests");
+    let (lane, _) = refuse_each(DealError::OutOfMemory, || lanes.lane());
+    let (mut worker, _) = refuse_each(DealError::OutOfMemory, || lanes.worker());
+    let mut lane = Some(lane);
+    let (mut shared, _) = refuse_each(DealError::OutOfMemory, || {
+        lane.take().unwrap().into_shared().map_err(|it| {
+            lane = Some(it);
+            DealError::OutOfMemory
+        })
+    });
+    let (other, _) = refuse_each(DealError::OutOfMemory, || shared.share());
+    // From then on no call makes a request, the end among them.
+    with_requests(0, || {
+        (0..4).for_each(|number| assert!(shared.submit(number, 0).is_ok()));
+        assert_eq!(worker.take_any(0).unwrap().payload, 0);
+        drop((shared, other, worker));
+        assert_eq!(lanes.finish().unwrap().count(), 3);
+    });
+    assert_eq!(LIVE.load(SeqCst), 0);
+}
+
+fn refused_requests_of_a_dispatcher_are_errors() {
+    let open = || Dispatcher::<u64>::new(7, SIZES);
+    let (dispatcher, of_open) = refuse_each(dispatch::OpenError::OutOfMemory, open);
+    assert!(of_open >= 4, "{of_open} requests");
+    let (mut lane, _) = refuse_each(DealError::OutOfMemory, || dispatcher.lane());
+    let (mut worker, _) = refuse_each(DealError::OutOfMemory, || dispatcher.worker());
+    with_requests(0, || {
+        (0..4).for_each(|number| assert!(lane.submit(number, 7).is_ok()));
+        assert_eq!(worker.try_next().unwrap().payload, 0);
+        drop((lane, worker));
+        assert_eq!(dispatcher.finish().unwrap().count(), 3);
+    });
+    assert_eq!(LIVE.load(SeqCst), 0);
+}
+
 // One test, since the count is for all threads.
 #[test]
 fn memory() {
     blocks_leave_no_memory_behind();
     refused_requests_are_errors();
+    lanes_leave_no_memory_behind();
+    a_dispatcher_leaves_no_memory_behind();
+    refused_requests_of_lanes_are_errors();
+    refused_requests_of_a_dispatcher_are_errors();
 }

@@ -1,0 +1,105 @@
+//! What the types of `lanes` and `dispatch` forbid. Each of these programs must not compile.
+//!
+//! A handle has no copy:
+//!
+//! ```compile_fail,E0277
+//! fn copy<T: Clone>() {}
+//!
+//! copy::<cubejobs::lanes::Lane<u64>>();
+//! ```
+//!
+//! A handle makes one call at a time:
+//!
+//! ```compile_fail,E0596
+//! fn submit(lane: &cubejobs::lanes::Lane<u64>) {
+//!     let _ = lane.submit(1, 0);
+//! }
+//! ```
+//!
+//! Ended lanes deal out no handle:
+//!
+//! ```compile_fail,E0382
+//! fn end(lanes: cubejobs::lanes::Lanes<u64>) {
+//!     let _ = lanes.finish();
+//!     let _ = lanes.lane();
+//! }
+//! ```
+//!
+//! A lane that became a shared one is gone:
+//!
+//! ```compile_fail,E0382
+//! fn share(mut lane: cubejobs::lanes::Lane<u64>) {
+//!     let _ = lane.into_shared();
+//!     let _ = lane.submit(1, 0);
+//! }
+//! ```
+//!
+//! Only what can be sent travels:
+//!
+//! ```compile_fail,E0277
+//! use std::rc::Rc;
+//!
+//! fn open(sizes: cubejobs::lanes::Sizes) {
+//!     let _ = cubejobs::lanes::Lanes::<Box<Rc<u64>>>::new(sizes);
+//! }
+//! ```
+//!
+//! Only words and boxes travel:
+//!
+//! ```compile_fail,E0277
+//! struct Mine;
+//!
+//! impl cubejobs::lanes::Payload for Mine {}
+//! ```
+//!
+//! A producer of jobs that last long submits none that last shorter:
+//!
+//! ```compile_fail
+//! use cubejobs::lanes::Lane;
+//!
+//! fn shorten<'a>(lane: Lane<Box<&'static str>>) -> Lane<Box<&'a str>> {
+//!     lane
+//! }
+//! ```
+//!
+//! What a job refers to outlives the lanes:
+//!
+//! ```compile_fail,E0597
+//! use cubejobs::lanes::{Lanes, Sizes};
+//!
+//! let lanes = Lanes::new(Sizes { lanes: 1, workers: 1, capacity: 1 }).unwrap();
+//! let mut lane = lanes.lane().unwrap();
+//! {
+//!     let text = String::new();
+//!     let _ = lane.submit(Box::new(&text), 0);
+//! }
+//! drop(lanes);
+//! ```
+//!
+//! A worker runs one job at a time:
+//!
+//! ```compile_fail,E0499
+//! fn run(mut worker: cubejobs::dispatch::Worker<u64>) {
+//!     let one = worker.try_next();
+//!     let other = worker.try_next();
+//!     drop((one, other));
+//! }
+//! ```
+//!
+//! No block outlives its worker:
+//!
+//! ```compile_fail,E0505
+//! fn run(mut worker: cubejobs::dispatch::Worker<u64>) {
+//!     let block = worker.try_next().unwrap().block;
+//!     drop(worker);
+//!     drop(block);
+//! }
+//! ```
+//!
+//! A job without a block is not run, so that a submit and a take go by one kind of lanes:
+//!
+//! ```compile_fail,E0308
+//! fn submit(lane: cubejobs::lanes::Lane<u64>) -> cubejobs::dispatch::Lane<u64> {
+//!     lane
+//! }
+//! ```

@@ -1,0 +1,102 @@
+//! A value that one call at a time borrows.
+
+use core::cell::UnsafeCell;
+use core::marker::PhantomData;
+use core::ops::{Deref, DerefMut};
+use core::sync::atomic::{AtomicBool, Ordering::SeqCst};
+
+/// Lets other threads go on, before a call that they were in the way of is made again.
+#[cfg(feature = "dispatch")]
+pub fn pause() {
+    #[cfg(feature = "std")]
+    std::thread::yield_now();
+    #[cfg(not(feature = "std"))]
+    core::hint::spin_loop();
+}
+
+/// A value, and whether it is borrowed.
+#[repr(align(64))]
+pub struct Place<T> {
+    is_borrowed: AtomicBool,
+    value: UnsafeCell<T>,
+}
+
+// SAFETY: only a `Borrowed` reaches the value by a shared reference, and there is one at a time. So
+// threads get the value in turn, as if it were sent.
+unsafe impl<T: Send> Sync for Place<T> {}
+
+/// A borrowed value. It is given back when this is dropped.
+pub struct Borrowed<'a, T> {
+    place: &'a Place<T>,
+    // Threads may share this only if they may share the value.
+    value: PhantomData<&'a mut T>,
+}
+
+impl<T> Place<T> {
+    pub const fn new(value: T) -> Self {
+        Place { is_borrowed: AtomicBool::new(false), value: UnsafeCell::new(value) }
+    }
+
+    /// Borrows the value, unless it is borrowed.
+    pub fn borrow(&self) -> Option<Borrowed<'_, T>> {
+        let is_borrowed = self.is_borrowed.load(SeqCst) || self.is_borrowed.swap(true, SeqCst);
+        // A `Borrowed` that is dropped ends the borrow, so none is made for nothing.
+        if is_borrowed {
+            None
+        } else {
+            Some(Borrowed { place: self, value: PhantomData })
+        }
+    }
+
+    /// Borrows the value, and waits until it can.
+    #[cfg(feature = "dispatch")]
+    pub fn wait(&self) -> Borrowed<'_, T> {
+        loop {
+            match self.borrow() {
+                Some(borrowed) => return borrowed,
+                None => pause(),
+            }
+        }
+    }
+
+    pub fn get_mut(&mut self) -> &mut T {
+        self.value.get_mut()
+    }
+}
+
+impl<T> Deref for Borrowed<'_, T> {
+    type Target = T;
+
+    fn deref(&self) -> &T {
+        // SAFETY: this has set `is_borrowed`, so no other `Borrowed` reaches the value.
+        unsafe { &*self.place.value.get() }
+    }
+}
+
+impl<T> DerefMut for Borrowed<'_, T> {
+    fn deref_mut(&mut self) -> &mut T {
+        // SAFETY: as for `deref`.
+        unsafe { &mut *self.place.value.get() }
+    }
+}
+
+impl<T> Drop for Borrowed<'_, T> {
+    fn drop(&mut self) {
+        self.place.is_borrowed.store(false, SeqCst);
+    }
+}
+
+#[cfg(test)]
+mod tests {
+    use super::Place;
+
+    #[test]
+    fn a_value_is_borrowed_once() {
+        let place = Place::new(7);
+        let borrowed = place.borrow().unwrap();
+        // A refused borrow leaves the other one as it is.
+        assert!(place.borrow().is_none() && place.borrow().is_none());
+        drop(borrowed);
+        assert_eq!(*place.borrow().unwrap(), 7);
+    }
+}
