@@ -45,8 +45,8 @@ static void no_handle(void *bytes, uint32_t code) {
     WANT(cubejobs_dispatch_done(worker), code);
     want_work(__LINE__, cubejobs_dispatch_give_back(worker), code, 0, 0, 0, 0, 0);
     WANT(cubejobs_dispatch_close(owner).code, code);
-    WANT(cubejobs_dispatch_free_lane(owner, lane), code);
-    WANT(cubejobs_dispatch_free_worker(owner, worker), code);
+    WANT(cubejobs_dispatch_free_lane(lane), code);
+    WANT(cubejobs_dispatch_free_worker(worker), code);
     WANT(cubejobs_dispatch_finish(owner).code, code);
     WANT(cubejobs_dispatch_rest(owner).code, code);
     WANT(cubejobs_dispatch_free(owner), code);
@@ -78,8 +78,8 @@ static void codes(void) {
     IS(cubejobs_dispatch_finish((struct cubejobs_dispatch *)&lanes).code, OTHER_KIND);
     IS(cubejobs_dispatch_submit((struct cubejobs_shop_lane *)&lanes, 1, 1).code, OTHER_KIND);
     REFUSES(cubejobs_dispatch_next((struct cubejobs_shop_worker *)&lanes), OTHER_KIND);
-    IS(cubejobs_dispatch_free_lane(&made, (struct cubejobs_shop_lane *)&lanes), OTHER_KIND);
-    IS(cubejobs_dispatch_free_worker(&made, (struct cubejobs_shop_worker *)&lanes), OTHER_KIND);
+    IS(cubejobs_dispatch_free_lane((struct cubejobs_shop_lane *)&lanes), OTHER_KIND);
+    IS(cubejobs_dispatch_free_worker((struct cubejobs_shop_worker *)&lanes), OTHER_KIND);
     IS(cubejobs_lanes_close((struct cubejobs_lanes *)&made).code, OTHER_KIND);
     IS(cubejobs_dispatch_lane(&made, &lane), DONE);
     IS(cubejobs_dispatch_worker(&made, &one), DONE);
@@ -93,10 +93,10 @@ static void codes(void) {
     GIVES(cubejobs_dispatch_next(&one), 0, 1, 0, 0, 70);
     REFUSES(cubejobs_dispatch_next(&one), RUNS_JOB);
     REFUSES(cubejobs_dispatch_give_back(&one), RUNS_JOB);
-    IS(cubejobs_dispatch_free_worker(&made, &one), RUNS_JOB);
+    IS(cubejobs_dispatch_free_worker(&one), RUNS_JOB);
     REFUSES(cubejobs_dispatch_next(&two), NO_REGION);
     IS(cubejobs_dispatch_done(&two), NOTHING_RUN);
-    IS(cubejobs_dispatch_free_worker(&made, &two), KEEPS_JOB);
+    IS(cubejobs_dispatch_free_worker(&two), KEEPS_JOB);
     IS(cubejobs_dispatch_done(&one), DONE);
     IS(cubejobs_dispatch_done(&one), NOTHING_RUN);
     GIVES(cubejobs_dispatch_next(&two), 0, 2, 0, 1, 71);
@@ -109,15 +109,13 @@ static void codes(void) {
     WANT(cubejobs_dispatch_close(&made).accepted, 4);
     IS(cubejobs_dispatch_close(&made).code, CLOSED);
     IS(cubejobs_dispatch_submit(&lane, 1, 0).code, CLOSED);
-    IS(cubejobs_dispatch_free_lane(&second, &lane), OTHER_LANES);
-    IS(cubejobs_dispatch_free_worker(&second, &one), OTHER_LANES);
     finish = cubejobs_dispatch_finish(&made);
     IS(finish.code, LANE_OUT), WANT(finish.number, 0);
-    IS(cubejobs_dispatch_free_lane(&made, &lane), DONE);
-    IS(cubejobs_dispatch_free_worker(&made, &one), DONE);
+    IS(cubejobs_dispatch_free_lane(&lane), DONE);
+    IS(cubejobs_dispatch_free_worker(&one), DONE);
     finish = cubejobs_dispatch_finish(&made);
     IS(finish.code, WORKER_OUT), WANT(finish.number, 1);
-    IS(cubejobs_dispatch_free_worker(&made, &two), DONE);
+    IS(cubejobs_dispatch_free_worker(&two), DONE);
     IS(cubejobs_dispatch_finish(&made).code, DONE);
     IS(cubejobs_dispatch_finish(&made).code, FINISHED);
     IS(cubejobs_dispatch_free(&made), JOB_LEFT);
@@ -145,6 +143,7 @@ static void *produce(void *number) {
     for (i = 0; i < jobs; i++)
         while (cubejobs_dispatch_submit(&crowd_lanes[l], i * LANES + l, (uint32_t)(i % (CROWD_DIM + 1))).code)
             sched_yield();
+    IS(cubejobs_dispatch_free_lane(&crowd_lanes[l]), DONE);
     return NULL;
 }
 
@@ -153,7 +152,10 @@ static void *consume(void *number) {
     for (;;) {
         struct cubejobs_work_answer got = cubejobs_dispatch_next(&crowd_workers[w]);
         uint64_t p;
-        if (got.code == CUBEJOBS_DISPATCH_ENDED) return NULL;
+        if (got.code == CUBEJOBS_DISPATCH_ENDED) {
+            IS(cubejobs_dispatch_free_worker(&crowd_workers[w]), DONE);
+            return NULL;
+        }
         if (got.code) {
             expect(got.code == CUBEJOBS_DISPATCH_EMPTY || got.code == CUBEJOBS_DISPATCH_NO_REGION ||
                    got.code == CUBEJOBS_DISPATCH_OLDER_JOB, "another code");
@@ -190,8 +192,6 @@ static void threads(void) {
         all += ran[l];
     }
     WANT(all, LANES * jobs);
-    for (l = 0; l < LANES; l++)
-        IS(cubejobs_dispatch_free_lane(&crowd, &crowd_lanes[l]), DONE), IS(cubejobs_dispatch_free_worker(&crowd, &crowd_workers[l]), DONE);
     IS(cubejobs_dispatch_finish(&crowd).code, DONE);
     IS(cubejobs_dispatch_rest(&crowd).code, EMPTY);
     IS(cubejobs_dispatch_free(&crowd), DONE);

@@ -5,10 +5,14 @@ Of the exact allocator: 100,000 random calls on a machine of each dimension, bes
 fit over the caller's own bytes, which processes share and which stand in a file. Of the regions with no lock: each code
 where it must come, handles that are shut, foreign or of the wrong kind, eight threads with a table of counters and with
 plain memory that blocks guard, and each request for memory refused in turn. Threads release blocks of others, and wait
-for blocks, and so do processes that share memory. Of the lanes: the same, beside lists. Eight wrong libraries must be seen. The examples are built and run. A
-language whose compiler is not there is skipped. `checks/run ffi [--after-gate] [--long]` takes the libraries below as
+for blocks, and so do processes that share memory. Of the lanes: the same, beside lists. Sixteen producers pass jobs to
+eight workers, by lanes and by a dispatcher. Workers sleep, also in scripted orders of threads. Wrong libraries, and
+headers with a fault, must be seen. The examples are built and run. A language whose compiler is not there is skipped.
+
+`checks/run ffi [--after-gate] [--long] [--seconds N] [--only WORD]`. With `--after-gate` it takes the libraries below as
 `rt ci` has just left them. With `--long` it makes more than 10^7 calls of the exact allocator, 10^8 takes of the regions,
-and takes under each sanitizer for half an hour.
+and passes 10^7 jobs. Regions and jobs run under each sanitizer for N seconds each, or half an hour. With `--only` it runs
+the rows whose names have the word.
 """
 import os
 import shutil
@@ -16,19 +20,21 @@ import subprocess
 import tempfile
 from typing import NamedTuple, Sequence
 
-from checks.built import archive, preload, static
+from checks.built import archive, batch, preload, static, wait_faults
 from checks.lib.repository import files_below, path, read
 from checks.lib.rows import Row, Skipped, answer, must, put, run_rows
 from checks.lib.toolchain import AFTER_GATE, FOR_ANY
 
 EXACT, DISPATCH, REGIONS = archive.LIBRARIES
-OF_REGIONS = ("cube_shape", "region_bits", "bitmap_tree", "bitmap_occupancy")
+OF_REGIONS = ("cube_shape", "region_bits", "bitmap_tree", "bitmap_occupancy", "hidden_box")
 OF_DISPATCH = ("bitmap_tree", "hidden_box", "job_lanes", "kept_places", "region_shop", "shop_owner")
 BELOW = {EXACT: ("cube_shape", "region_bits"), DISPATCH: OF_DISPATCH, REGIONS: OF_REGIONS}
 LONGER, SECONDS, HALF_AN_HOUR = 100, 7200, 1800
 STRICT = ["-O1", "-g", "-Wall", "-Wextra", "-Werror", "-pedantic", f"-I{path('include')}"]
 C, CXX = ["gcc", "-std=c11", "-xc"], ["g++", "-std=c++11", "-xc++"]
-OWNERS = [*CXX, "-fsanitize=address,undefined", "-fno-sanitize-recover=all", "-Wno-self-move"]
+ADDRESSES, MOVES = ["-fsanitize=address,undefined", "-fno-sanitize-recover=all"], "-Wno-self-move"
+CXX_17, CXX_20 = (["g++", f"-std={it}", "-xc++"] for it in ("c++17", "c++20"))
+CLANG_20, RACES_20 = ["clang++", "-std=c++20", "-xc++"], [*CXX_20, "-fsanitize=thread"]
 CHECKED, RACES = [*C, "-fsanitize=address,undefined", "-fno-sanitize-recover=all"], [*C, "-fsanitize=thread"]
 CLANG = ["clang", "-std=c11", "-xc", "-fsanitize=memory"]
 # A sanitizer wants to place its memory itself, which an address that the system has made random may prevent.
@@ -61,10 +67,10 @@ class Program(NamedTuple):
     placed: Sequence[str] = ()
     shown: str = ""
 
-    def start(self, room):
-        """Compiles and runs the program over the libraries of a folder. Returns its status and its outputs."""
+    def make(self, room):
+        """Compiles the program over the libraries of a folder. Returns the words that run it."""
         has, tried = shutil.which(self.compiler[0]), [*self.compiler, "-o", "/dev/null", "-"]
-        if not has or self.compiler[0] == "clang" and answer(tried, "int main(void) { return 0; }")[0]:
+        if not has or answer(tried, "int main() { return 0; }")[0]:
             raise Skipped(f"no {' '.join(self.compiler)} here")
         if self.placed and not shutil.which(self.placed[0]):
             raise Skipped(f"no {self.placed[0]} here")
@@ -72,7 +78,11 @@ class Program(NamedTuple):
         words = [*self.compiler, *STRICT, path(self.source), "-xnone", *self.flags, *libraries, "-pthread"]
         status, _, said = answer([*words, "-o", f"{room}/program"], timeout=SECONDS)
         must(status == 0, f"{' '.join(words)}: {said.decode(errors='replace')}")
-        return answer([*self.placed, f"{room}/program", *self.words], timeout=SECONDS)
+        return [*self.placed, f"{room}/program", *self.words]
+
+    def start(self, room):
+        """Compiles and runs the program. Returns its status and its outputs."""
+        return answer(self.make(room), timeout=SECONDS)
 
 
 def must_run(room, program):
@@ -85,14 +95,19 @@ def must_run(room, program):
 
 
 def must_be_seen(room, program, warning):
-    """Sees that a sanitizer or the program itself stops it with this warning."""
-    status, out, said = program.start(room)
+    """Sees that a sanitizer or the program itself stops it with this warning, in one of ten runs: some faults need an
+    order of threads that not each run has."""
+    for _ in range(10):
+        status, out, said = program.start(room)
+        if status != 0:
+            break
     must(status != 0 and warning in out + said, f"status {status}, and no {warning.decode()}")
 
 
 CALLS = "checks/built/{}_calls.c".format
 HELGRIND = ["valgrind", "--tool=helgrind", "--quiet", "--error-exitcode=9"]
 MARKED = ["-DCUBEJOBS_HELGRIND"]
+CONDITION = "-DCUBEJOBS_EVENT_CONDITION"
 OWN_MALLOC = ["-Wl,--wrap=malloc,--wrap=free"]
 WRAPPED = ",".join(f"--wrap=cubejobs_regions_{it}" for it in ("take", "release", "free", "split"))
 # What is wrong with a library, and what the calls say then.
@@ -113,29 +128,33 @@ def programs(longer):
             yield Program(f"examples/{name}.c", [EXACT], compiler, shown=f"examples/{name}.out")
 
 
-def long_programs_of_regions():
+# The compilers and tools that watch a program.
+WATCHED = ((CHECKED, (), ()), (RACES, (), PLACED), (CLANG, (), PLACED), (C, MARKED, HELGRIND))
+
+
+def long_programs_of_regions(seconds):
     """Yields the programs over the regions that are too long for the gate: eight threads, over a table of owners."""
     yield Program(CALLS("regions"), [REGIONS], C, words=[str(10**8 // 8), "0", "5"])
-    for compiler, flags, placed in ((CHECKED, (), ()), (RACES, (), PLACED), (CLANG, (), PLACED), (C, MARKED, HELGRIND)):
-        words = ["4000", str(HALF_AN_HOUR), "8"]
-        yield Program(CALLS("regions"), [REGIONS], compiler, flags, words, placed)
+    for compiler, flags, placed in WATCHED:
+        yield Program(CALLS("regions"), [REGIONS], compiler, flags, ["4000", str(seconds), "8"], placed)
 
 
-def programs_of_regions(longer):
+def programs_of_regions(longer, seconds):
     """Yields the programs over the regions that must end well."""
     if longer > 1:
-        yield from long_programs_of_regions()
+        yield from long_programs_of_regions(seconds)
     for compiler, pairs, turns in ((CHECKED, 10_000, 1000), (RACES, 500, 200), (CLANG, 2000, 200), (CXX, 20_000, 5000)):
         placed = PLACED if compiler in (RACES, CLANG) else ()
         yield Program(CALLS("regions"), [REGIONS], compiler, words=[str(pairs)], placed=placed)
         yield Program(CALLS("wait"), [REGIONS], compiler, words=[str(turns * longer)], placed=placed)
-    yield Program(CALLS("wait"), [REGIONS], C, ["-DCUBEJOBS_EVENT_CONDITION"], ["5000"])
+    yield Program(CALLS("wait"), [REGIONS], [*C, CONDITION], words=["5000"])
     yield Program("checks/built/regions_memory.c", [REGIONS], C, OWN_MALLOC)
     yield Program("checks/built/regions_fork.c", [REGIONS], CHECKED, OWN_MALLOC, [str(100_000 * longer)])
     for name in ("regions", "arena", "wait"):
         yield Program(f"examples/{name}.c", [REGIONS], shown=f"examples/{name}.out")
+    for compiler in (CHECKED, [*C, CONDITION]):
+        yield Program("checks/built/wait_order.c", [REGIONS], compiler)
     yield Program("examples/blocks.cpp", [REGIONS, EXACT], CXX, shown="examples/blocks.out")
-    yield Program("checks/built/owners_calls.cpp", [REGIONS, EXACT], OWNERS)
     yield Program(CALLS("arena"), [REGIONS])
 
 
@@ -157,6 +176,10 @@ def rows_of_lanes(room, longer):
     for compiler, jobs in ((CHECKED, 20_000), (CXX, 100_000)):
         program = Program(CALLS("dispatch"), [DISPATCH], compiler, words=[str(jobs)])
         yield Row(" ".join(["the dispatcher by", *compiler]), must_run, (room, program))
+    for compiler, jobs in ((CHECKED, 20_000), (RACES, 1000), (CLANG, 2000), (CXX, 20_000)):
+        placed = PLACED if compiler in (RACES, CLANG) else ()
+        program = Program(CALLS("asleep"), [DISPATCH], compiler, words=[str(jobs * longer)], placed=placed)
+        yield Row(" ".join(["workers that sleep by", *placed, *compiler]), must_run, (room, program))
     memory = Program("checks/built/lanes_memory.c", [DISPATCH], C, OWN_MALLOC)
     yield Row("the memory of the lanes", must_run, (room, memory))
     yield Row("examples/lanes.c", must_run, (room, Program("examples/lanes.c", [DISPATCH], shown="examples/lanes.out")))
@@ -169,8 +192,75 @@ def rows_of_lanes(room, longer):
     yield Row("helgrind sees no race between jobs", must_run, (room, marked))
 
 
-def rows_of_regions(room, longer):
-    for program in programs_of_regions(longer):
+def rows_of_waits(room):
+    """Yields the headers with a fault, which the programs must see."""
+    for number, (name, what, old, new, said) in enumerate(wait_faults.OF_THE_HEADER):
+        unlike(room, f"fault{number}", "cubejobs_wait.h", old, new)
+        library, words = REGIONS if "wait" in name else DISPATCH, ["2000"] if "calls" in name else []
+        shim = wait_faults.shim(6) if name == "sleep_calls" else ()
+        compiler, flags = [*C, f"-I{room}/fault{number}"], ["-DPATIENCE=3", *shim]
+        program = Program(f"checks/built/{name}.c", [library], compiler, flags, words)
+        yield Row(what, must_be_seen, (room, program, said))
+    for number, (what, old, new) in enumerate(wait_faults.OF_OWNERS):
+        unlike(room, f"owners{number}", "cubejobs.hpp", old, new)
+        compiler, flags = [*CXX_20, f"-I{room}/owners{number}"], ["-DOWNERS", "-DPATIENCE=3"]
+        program = Program("checks/built/look_order.c", [DISPATCH], compiler, flags)
+        yield Row(f"owners without {what}", must_be_seen, (room, program, wait_faults.LOST))
+    for number, (what, said) in enumerate(wait_faults.OF_A_LIBRARY, 1):
+        program = Program(CALLS("sleep"), [DISPATCH], C, ["-DPATIENCE=3", *wait_faults.shim(number)], ["2000"])
+        yield Row(what, must_be_seen, (room, program, said))
+
+
+def rows_of_owners(room, longer):
+    """Yields the owners of C++, the workers that sleep, and the batch scheduler."""
+    for compiler in ([*CXX, *ADDRESSES], CXX_17, [*CXX_20, *ADDRESSES], CLANG_20, RACES_20):
+        placed, name = PLACED if compiler is RACES_20 else (), "checks/built/owners_calls.cpp"
+        program = Program(name, [REGIONS, EXACT, DISPATCH], [*compiler, MOVES], placed=placed)
+        yield Row(" ".join([name, "by", *placed, *compiler]), must_run, (room, program))
+        program = Program("examples/jobs.cpp", [DISPATCH], compiler, placed=placed, shown="examples/jobs.out")
+        yield Row(" ".join([program.source, "by", *placed, *compiler]), must_run, (room, program))
+    for compiler, jobs in ((CHECKED, 5000), (RACES, 500), (CLANG, 1000), (CXX, 20_000), ([*C, CONDITION], 5000)):
+        placed = PLACED if compiler in (RACES, CLANG) else ()
+        program = Program(CALLS("sleep"), [DISPATCH], compiler, words=[str(min(jobs * longer, 10**6))], placed=placed)
+        yield Row(" ".join(["sleeping workers by", *placed, *compiler]), must_run, (room, program))
+    again = Program(CALLS("sleep"), [DISPATCH], C, wait_faults.shim(6), ["2000"])
+    yield Row("wakes and finds that are called again", must_run, (room, again))
+    for compiler, flags in ((CHECKED, ()), (CHECKED, ["-DLANES"]), (CXX_20, ["-DOWNERS"])):
+        program = Program("checks/built/look_order.c", [DISPATCH], compiler, flags)
+        yield Row(" ".join(["scripted orders of workers by", *compiler, *flags]), must_run, (room, program))
+    for source, compilers in (("c", (CHECKED, RACES)), ("cpp", ([*CXX_20, *ADDRESSES], RACES_20))):
+        for compiler in compilers:
+            placed = PLACED if compiler in (RACES, RACES_20) else ()
+            program = Program(f"examples/batch.{source}", [DISPATCH], compiler, placed=placed)
+            yield Row(" ".join([program.source, "by", *placed, *compiler]), batch.must_work, (room, program))
+
+
+def programs_of_crowds(longer, seconds):
+    """Yields 16 producers and eight workers, with memory of each job and of each processor, which must end well. The
+    workers try again, or sleep. In a long run there are 10^7 jobs, 25 rounds of 10^5, and rounds of 4,000 under each
+    sanitizer for these seconds."""
+    for sleeps in (), ("-DSLEEP",):
+        libraries = [DISPATCH, REGIONS] if sleeps else [DISPATCH]
+        for (compiler, flags, placed), jobs in zip((*WATCHED, (CXX, (), ())), (100_000, 4000, 20_000, 400, 100_000)):
+            yield Program(CALLS("jobs"), libraries, compiler, [*flags, *sleeps], [str(jobs)], placed)
+        if longer > 1:
+            yield Program(CALLS("jobs"), libraries, C, sleeps, [str(10**7)])
+            yield Program(CALLS("jobs"), libraries, C, sleeps, ["100000", "0", "25"])
+            for compiler, flags, placed in WATCHED:
+                yield Program(CALLS("jobs"), libraries, compiler, [*flags, *sleeps], ["4000", str(seconds)], placed)
+
+
+def rows_of_crowds(room, longer, seconds):
+    for program in programs_of_crowds(longer, seconds):
+        title = " ".join(["a crowd of", *program.words, "by", *program.placed, *program.compiler, *program.flags])
+        yield Row(title, must_run, (room, program))
+    race = Program(CALLS("jobs"), [DISPATCH], RACES, ["-DUNGUARDED"], ["4000"], PLACED)
+    warning = b"WARNING: ThreadSanitizer: data race"
+    yield Row("a race beside a job's block is seen", must_be_seen, (room, race, warning))
+
+
+def rows_of_regions(room, longer, seconds):
+    for program in programs_of_regions(longer, seconds):
         title = " ".join([program.source, *program.words, "by", *program.placed, *program.compiler, *program.flags])
         yield Row(title, must_run, (room, program))
     race = Program(CALLS("regions"), [REGIONS], RACES, ["-DUNGUARDED"], ["500"], PLACED)
@@ -179,8 +269,6 @@ def rows_of_regions(room, longer):
     yield Row("a block that is not written is seen", must_be_seen, (room, unmarked, b"WARNING: MemorySanitizer"))
     separate = Program("checks/built/regions_fork.c", [REGIONS], C, [*OWN_MALLOC, "-DSEPARATE"])
     yield Row("processes with a machine each are seen", must_be_seen, (room, separate, b"a processor has two owners"))
-    unraised = Program(CALLS("wait"), [REGIONS], [*C, f"-I{room}/unraised"], ["-DPATIENCE=3"], ["200"])
-    yield Row("a wake that is lost is seen", must_be_seen, (room, unraised, b"a wake is lost"))
     for number, (what, said) in enumerate(WRONG, 1):
         shim = [f"-DWRONG={number}", "-xc", path("checks/built/wrong_regions.c"), "-xnone", f"-Wl,{WRAPPED}"]
         yield Row(what, must_be_seen, (room, Program(CALLS("regions"), [REGIONS], C, shim, ["2000"]), said))
@@ -200,9 +288,12 @@ def unlike(room, folder, header, old, new):
     put(f"{room}/{folder}/{header}", text.replace(old, new))
 
 
-def rows(room, longer):
-    yield from rows_of_regions(room, longer)
+def rows(room, longer, seconds):
+    yield from rows_of_regions(room, longer, seconds)
     yield from rows_of_lanes(room, longer)
+    yield from rows_of_crowds(room, longer, seconds)
+    yield from rows_of_waits(room)
+    yield from rows_of_owners(room, longer)
     for program in programs(longer):
         yield Row(f"{program.source} by {' '.join(program.compiler)}", must_run, (room, program))
     # A library keeps its names to itself: it is linked whole beside the other one, and beside a program's own names.
@@ -218,6 +309,10 @@ def rust(room):
     subprocess.run([path("checks", "run"), "ffi_rust", room], check=True)
 
 
+def word_after(words, option, default):
+    return words[words.index(option) + 1] if option in words else default
+
+
 def main(words):
     for crate in archive.LIBRARIES:
         build(crate, AFTER_GATE in words)
@@ -225,7 +320,7 @@ def main(words):
         archive.main([room])
         put(f"{room}/own.c", OWN_NAMES)
         unlike(room, "unmarked", "cubejobs_regions.h", "__has_feature(memory_sanitizer)", "0")
-        raised = "    cubejobs_event_raise(event);\n    return code;"
-        unlike(room, "unraised", "cubejobs_wait.h", raised, "    (void)event;\n    return code;")
-        longer = LONGER if "--long" in words else 1
-        return run_rows("ffi", [*rows(room, longer), Row("the Rust package", rust, (room,))], says_ok=True)
+        longer, only = LONGER if "--long" in words else 1, word_after(words, "--only", "")
+        seconds = int(word_after(words, "--seconds", HALF_AN_HOUR))
+        wanted = [*rows(room, longer, seconds), Row("the Rust package", rust, (room,))]
+        return run_rows("ffi", [row for row in wanted if only in row.name], says_ok=True)

@@ -45,15 +45,25 @@ user() {
     mkdir -p "$1/src"
     printf '[package]\nname = "user"\nversion = "0.1.0"\nedition = "2021"\n[dependencies]\ncubejobs = %s\n' "$2" \
         > "$1/Cargo.toml"
-    cp "$package/examples/subcubes.rs" "$1/src/main.rs"
+    cp "$package/examples/jobs.rs" "$1/src/main.rs"
 }
 
+# batch WORD.. < INPUT: a line of the example `batch` with its sums, whose two numbers add up to the jobs of the file.
+batch() {
+    quiet cargo run --quiet --offline --example batch -- "$work/jobs" "$@"
+    set -- $(tail -n 1 "$work/log")
+    [ "$(($1 + $6))" = 60 ] || { echo "ffi: $1 jobs and $6 are not 60:"; cat "$work/log"; exit 1; }
+    ended=$1
+}
+
+libraries='libcubejobs_c.a libcubejobs_dispatch.a libcubejobs_regions.a'
+jobs='40 jobs ran on 248 processors in all'
 subcubes='0 4, then: no free subcube of this dimension'
 groups='3000 jobs on groups of 16 workers'
 blocks='4000 blocks with 24800 processors in all'
 
 quiet cargo test --offline
-for features in '' regions 'regions std'; do
+for features in '' dispatch 'dispatch std' regions 'regions std' 'dispatch regions'; do
     quiet cargo check --offline --no-default-features --features "$features" --all-targets
 done
 if cargo clippy --version > "$work/log" 2>&1; then
@@ -65,12 +75,30 @@ quiet cargo doc --offline --no-deps
 shows "$subcubes" cargo run --quiet --offline --example subcubes
 shows "$groups" cargo run --quiet --offline --example groups
 shows "$blocks" cargo run --quiet --offline --example blocks
+shows "$jobs" cargo run --quiet --offline --example jobs
+shows 55 cargo run --quiet --offline --example park
+awk 'BEGIN { for (i = 0; i < 60; i++) print i % 5, i * 7 % 20 }' > "$work/jobs"
+batch < /dev/null
+[ "$ended" = 60 ] || { echo "ffi: only $ended jobs have ended"; exit 1; }
+batch --stop-after 10 < /dev/null
+[ "$ended" -ge 10 ] && [ "$ended" -lt 20 ] || { echo "ffi: $ended jobs have ended, and not about 10"; exit 1; }
+echo q | batch
+batch --stop-after 0 < /dev/null
+[ "$ended" = 0 ] || { echo "ffi: $ended jobs have ended, and not 0"; exit 1; }
+: > "$work/empty"
+shows '0 jobs have ended, and 0 are left' cargo run --quiet --offline --example batch -- "$work/empty" < /dev/null
+printf '1 5\n5 5\n' > "$work/wrong"
+refused 'Error: "line 2: the dimension is a number from 0 to 4"' \
+    cargo run --quiet --offline --example batch -- "$work/wrong" < /dev/null
+printf '1 5\n\n' > "$work/wrong"
+refused 'Error: "line 2: a job is DIM MILLISECONDS"' \
+    cargo run --quiet --offline --example batch -- "$work/wrong" < /dev/null
 echo "ffi: the tests, documents and examples of the Rust package pass, with no warning"
 
 user "$work/user" "{ path = \"$package\" }"
-shows "$subcubes" cargo run --quiet --offline --manifest-path "$work/user/Cargo.toml"
+shows "$jobs" cargo run --quiet --offline --manifest-path "$work/user/Cargo.toml"
 mkdir "$work/some"
-for name in libcubejobs_c.a libcubejobs_regions.a; do
+for name in $libraries; do
     sentence="set CUBEJOBS_LIB to the folder of $name, or take a clone whose release/ has it"
     refused "there is no $work/some/$name: $sentence" \
         env CUBEJOBS_LIB="$work/some" cargo build --offline --manifest-path "$work/user/Cargo.toml"
@@ -94,7 +122,7 @@ quiet cargo build --offline
 export CARGO_TARGET_DIR="$work/packaged"
 quiet cargo package --offline --allow-dirty
 tar -xzf "$CARGO_TARGET_DIR"/package/cubejobs-*.crate -C "$work"
-for name in libcubejobs_c.a libcubejobs_regions.a; do
+for name in $libraries; do
     cmp "$work"/cubejobs-*/lib/$name "../release/linux-x86_64/$name"
 done
 cd "$work"/cubejobs-*
@@ -102,6 +130,7 @@ rm -r -- "$CARGO_TARGET_DIR"
 export CARGO_TARGET_DIR="$work/unpacked"
 shows "$subcubes" cargo run --quiet --offline --example subcubes
 shows "$groups" cargo run --quiet --offline --example groups
+shows "$jobs" cargo run --quiet --offline --example jobs
 echo "ffi: the package that cargo makes is built on its own"
 
 command -v git > "$work/path" || { echo "ffi: no git here, so no vendored package"; exit 0; }
@@ -118,5 +147,5 @@ export CARGO_HOME="$work/home" CARGO_TARGET_DIR="$work/vendored/target"
 CARGO_NET_OFFLINE=false cargo vendor > "$work/config" 2> "$work/log" || { cat "$work/log"; exit 1; }
 mv "$work/config" .cargo/config.toml
 rm -rf -- "$work/repository" "$CARGO_HOME"
-shows "$subcubes" cargo run --quiet --offline
+shows "$jobs" cargo run --quiet --offline
 echo "ffi: a program that has the package vendored is built with nothing beside it"

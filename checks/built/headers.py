@@ -74,7 +74,7 @@ def tries_of(compiler):
         yield ["cubejobs_regions.h"], ("-DCUBEJOBS_HELGRIND", "-Wno-gnu-statement-expression", "-Wno-pedantic")
     for it in SANITIZERS[compiler]:
         yield NAMES, (f"-fsanitize={it}",)
-        yield ["cubejobs_wait.h"], (f"-fsanitize={it}",)
+        yield from (([name], (f"-fsanitize={it}",)) for name in LATER)
 
 
 def known_standards():

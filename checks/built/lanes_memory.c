@@ -1,5 +1,5 @@
 /* Refuses each request of the lanes for memory in turn: the call answers OUT_OF_MEMORY and changes nothing, and nothing is
- * left over once lanes are freed. No other call than an open, a lane and a worker makes a request, and these take no more
+ * left over once lanes are freed. No other call than an open, a lane, a worker and a share makes a request, and these take no more
  * than the header says. It is linked with --wrap=malloc and --wrap=free. */
 #include "cubejobs_dispatch.h"
 
@@ -30,21 +30,22 @@ void __wrap_free(void *block) {
 static struct cubejobs_lanes owner;
 static struct cubejobs_lane lane;
 static struct cubejobs_worker worker;
+static struct cubejobs_shared_lane one, two;
 
 /* Makes each call that needs no memory, with none granted, and frees the lanes. */
 static void use(void) {
     asked = left = 0;
-    expect(!cubejobs_lanes_submit(&lane, 1, 1).code, "submit");
-    expect(!cubejobs_lanes_submit(&lane, 2, 2).code, "submit");
-    expect(!cubejobs_lanes_submit(&lane, 3, 3).code, "submit");
-    expect(cubejobs_lanes_submit(&lane, 4, 4).code == CUBEJOBS_DISPATCH_FULL, "a full lane");
+    expect(!cubejobs_lanes_submit_shared(&one, 1, 1).code, "submit_shared");
+    expect(!cubejobs_lanes_submit_shared(&two, 2, 2).code, "submit_shared");
+    expect(!cubejobs_lanes_submit_shared(&one, 3, 3).code, "submit_shared");
+    expect(cubejobs_lanes_submit_shared(&two, 4, 4).code == CUBEJOBS_DISPATCH_FULL, "a full lane");
     expect(!cubejobs_lanes_look(&worker, 0).code, "look");
     expect(!cubejobs_lanes_take(&worker, 0).code, "take");
     expect(!cubejobs_lanes_take_any(&worker, 1).code, "take_any");
     expect(!cubejobs_lanes_close(&owner).code, "close");
     expect(cubejobs_lanes_finish(&owner).code == CUBEJOBS_DISPATCH_LANE_OUT, "a lane is out");
-    expect(!cubejobs_lanes_free_lane(&owner, &lane), "free_lane");
-    expect(!cubejobs_lanes_free_worker(&owner, &worker), "free_worker");
+    expect(!cubejobs_lanes_free_shared(&one) && !cubejobs_lanes_free_shared(&two), "free_shared");
+    expect(!cubejobs_lanes_free_worker(&worker), "free_worker");
     expect(!cubejobs_lanes_finish(&owner).code, "finish");
     expect(cubejobs_lanes_rest(&owner).payload == 3, "rest");
     expect(!cubejobs_lanes_free(&owner), "free");
@@ -74,6 +75,17 @@ static bool run(long allowed) {
         expect(cubejobs_lanes_take(&worker, 0).code == CUBEJOBS_DISPATCH_NOT_OPEN, "a refused worker opens the handle");
         is_refused = true, left = 1000;
     }
+    after = live;
+    while (cubejobs_lanes_share(&lane, &one) == CUBEJOBS_DISPATCH_OUT_OF_MEMORY) {
+        expect(live == after, "a refused share leaves blocks over");
+        expect(cubejobs_lanes_free_shared(&one) == CUBEJOBS_DISPATCH_NOT_OPEN, "a refused share opens the handle");
+        is_refused = true, left = 1000;
+    }
+    after = live;
+    while (cubejobs_lanes_share_again(&one, &two) == CUBEJOBS_DISPATCH_OUT_OF_MEMORY) {
+        expect(live == after, "a refused share leaves blocks over");
+        is_refused = true, left = 1000;
+    }
     use();
     expect(live == before, "blocks are left over");
     return is_refused;
@@ -93,8 +105,8 @@ static void use_shop(void) {
     expect(cubejobs_dispatch_give_back(&shop_worker).code == CUBEJOBS_DISPATCH_NOTHING_KEPT, "give_back");
     expect(!cubejobs_dispatch_close(&shop).code, "close");
     expect(cubejobs_dispatch_finish(&shop).code == CUBEJOBS_DISPATCH_LANE_OUT, "a lane is out");
-    expect(!cubejobs_dispatch_free_lane(&shop, &shop_lane), "free_lane");
-    expect(!cubejobs_dispatch_free_worker(&shop, &shop_worker), "free_worker");
+    expect(!cubejobs_dispatch_free_lane(&shop_lane), "free_lane");
+    expect(!cubejobs_dispatch_free_worker(&shop_worker), "free_worker");
     expect(!cubejobs_dispatch_finish(&shop).code, "finish");
     expect(cubejobs_dispatch_rest(&shop).payload == 2, "rest");
     expect(!cubejobs_dispatch_free(&shop), "free");
@@ -133,7 +145,7 @@ static void expect_sizes(void) {
     const uint64_t capacity[] = {1, 1024, 16};
     unsigned i;
     for (i = 0; i < 3; i++) {
-        long most = lanes[i] * (320 + 64 * (long)capacity[i]) + workers[i] * (80 + 8 * (long)lanes[i]) + 512;
+        long most = lanes[i] * (440 + 64 * (long)capacity[i]) + workers[i] * (200 + 8 * (long)lanes[i]) + 600;
         left = 100000, bytes = 0;
         expect(!cubejobs_lanes_open(&owner, lanes[i], workers[i], capacity[i]), "open");
         expect(bytes <= most, "lanes take more memory than the header says");
@@ -141,7 +153,7 @@ static void expect_sizes(void) {
         expect(!cubejobs_lanes_lane(&owner, &lane) && bytes <= 300, "a lane takes more memory than the header says");
         bytes = 0;
         expect(!cubejobs_lanes_worker(&owner, &worker) && bytes <= 300, "a worker takes more memory than the header says");
-        expect(!cubejobs_lanes_free_lane(&owner, &lane) && !cubejobs_lanes_free_worker(&owner, &worker), "free");
+        expect(!cubejobs_lanes_free_lane(&lane) && !cubejobs_lanes_free_worker(&worker), "free");
         expect(!cubejobs_lanes_close(&owner).code && !cubejobs_lanes_finish(&owner).code, "finish");
         expect(!cubejobs_lanes_free(&owner), "free");
     }

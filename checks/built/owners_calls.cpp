@@ -1,13 +1,17 @@
 /* Uses the owners of cubejobs.hpp: what moves, what is released and when, halves, errors, and the machines that end
- * before their blocks. */
+ * before their blocks. Of lanes and of a dispatcher: which handles come back and when, jobs that are left, and in C++20
+ * workers that sleep. */
 #include "cubejobs.hpp"
 
+#include <atomic>
+#include <chrono>
 #include <cstdio>
 #include <cstdlib>
 #include <string>
 #include <thread>
 #include <type_traits>
 #include <vector>
+#include <unistd.h>
 
 using cubejobs::block;
 using cubejobs::first_fit;
@@ -19,6 +23,10 @@ template <class T> constexpr bool only_moves() {
 }
 static_assert(only_moves<block>() && only_moves<machine>(), "an owner of regions is copied");
 static_assert(only_moves<first_fit>() && only_moves<first_fit::block>(), "an owner of first fit is copied");
+static_assert(only_moves<cubejobs::lane>() && only_moves<cubejobs::shared_lane>(), "a lane is copied");
+static_assert(only_moves<cubejobs::worker>() && only_moves<cubejobs::lanes>(), "an owner of lanes is copied");
+static_assert(only_moves<cubejobs::shop_lane>() && only_moves<cubejobs::shop_worker>(), "a handle is copied");
+static_assert(only_moves<cubejobs::dispatch>() && only_moves<cubejobs::running>(), "an owner of jobs is copied");
 
 static void expect(bool holds, const char *what) {
     if (!holds) std::fprintf(stderr, "owners_calls.cpp: %s\n", what), std::exit(1);
@@ -95,9 +103,183 @@ static void exact() {
     }
 }
 
+/* Expects that a call throws an error with this code. */
+template <class Call> static void expect_error(std::uint32_t code, Call call, const char *what) {
+    try {
+        call();
+        expect(false, what);
+    } catch (const cubejobs::error &wrong) {
+        expect(wrong.code == code && std::string(wrong.what()).size() > 9, what);
+    }
+}
+
+static void lanes_of_jobs() {
+    expect_error(CUBEJOBS_DISPATCH_BAD_SIZES, [] { cubejobs::lanes none(0, 1, 1); }, "no lanes");
+    cubejobs::lanes mine(2, 1, 2);
+    cubejobs::lane one = mine.lane();
+    cubejobs::worker worker = mine.worker();
+    expect_error(CUBEJOBS_DISPATCH_NONE_LEFT, [&] { mine.worker(); }, "a second worker");
+    expect(worker.try_next().code == CUBEJOBS_DISPATCH_EMPTY && worker.try_next(2).code == CUBEJOBS_DISPATCH_BAD_LANE, "no job");
+    expect(one.submit(7, 1).code == 0 && one.submit(8, 2).seq == 1, "a submit");
+    expect(one.submit(9, 3).code == CUBEJOBS_DISPATCH_FULL, "a full lane");
+    expect(worker.try_next().payload == 7 && worker.try_next(1).dim == 2, "a take");
+    {
+        cubejobs::lane old = std::move(one);
+        cubejobs::shared_lane shared(mine.lane()), other = shared.share();
+        expect(shared.submit(1, 0).seq == 0 && other.submit(2, 0).seq == 1, "a shared lane");
+        expect_error(CUBEJOBS_DISPATCH_NONE_LEFT, [&] { mine.lane(); }, "a third lane");
+        shared = std::move(other);
+        expect(shared.submit(3, 0).code == CUBEJOBS_DISPATCH_FULL, "a shared lane that moved");
+    }
+    one = mine.lane();
+    expect(one.submit(10, 4).seq == 2, "a lane comes back at its owner's end");
+    expect(mine.close().accepted == 5 && mine.close().code == CUBEJOBS_DISPATCH_CLOSED, "a close");
+    expect(one.submit(11, 0).code == CUBEJOBS_DISPATCH_CLOSED, "a closed lane");
+    expect_error(CUBEJOBS_DISPATCH_LANE_OUT, [&] { mine.finish(); }, "an end with a lane out");
+    cubejobs::lane(std::move(one));
+    expect_error(CUBEJOBS_DISPATCH_WORKER_OUT, [&] { mine.finish(); }, "an end with a worker out");
+    expect(worker.try_next().payload == 10, "a job after the close");
+    cubejobs::worker(std::move(worker));
+    std::vector<cubejobs_job_answer> left = mine.finish();
+    expect(left.size() == 2 && left[0].payload == 1 && left[1].payload == 2 && left[1].lane == 1, "the jobs that are left");
+    mine = cubejobs::lanes(1, 1, 1);
+    expect(mine.lane().submit(1, 0).code == 0, "lanes that moved");
+}
+
+static void jobs_with_blocks() {
+    expect_error(CUBEJOBS_DISPATCH_BAD_DIMENSION, [] { cubejobs::dispatch none(21, 1, 1, 1); }, "a large machine");
+    std::vector<cubejobs::shop_lane> kept;
+    cubejobs::running last;
+    expect(!last && last.code() == CUBEJOBS_DISPATCH_NOTHING_RUN, "no job");
+    {
+        cubejobs::dispatch mine(2, 1, 2, 4);
+        kept.push_back(mine.lane());
+        cubejobs::shop_worker one = mine.worker(), two = mine.worker();
+        expect(kept[0].submit(1, 3).code == CUBEJOBS_DISPATCH_BAD_DIMENSION, "a large job");
+        for (std::uint64_t i = 0; i < 3; i++) expect(kept[0].submit(20 + i, 2).seq == i, "a submit");
+        {
+            cubejobs::running job = one.try_next();
+            expect(job && job.payload() == 20 && job.lane() == 0 && job.base() == 0 && job.dim() == 2, "a job");
+            expect(one.try_next().code() == CUBEJOBS_DISPATCH_RUNS_JOB, "a second job");
+            expect(two.try_next().code() == CUBEJOBS_DISPATCH_NO_REGION, "no block");
+            expect(two.give_back().payload == 21, "a job is given back");
+            expect(two.give_back().code == CUBEJOBS_DISPATCH_NOTHING_KEPT, "no job is kept");
+            cubejobs::running moved = std::move(job);
+            expect(!job && two.try_next().code() == CUBEJOBS_DISPATCH_NO_REGION, "a job that moved is not done");
+        }
+        cubejobs::running job = two.try_next();
+        expect(job.payload() == 22 && job.seq() == 2, "a job is done at its owner's end");
+        job.release();
+        job.release();
+        expect(!job && job.code() == CUBEJOBS_DISPATCH_NOTHING_RUN, "a job that is done");
+        expect(kept[0].submit(23, 0).code == 0 && kept[0].submit(24, 0).code == 0, "more jobs");
+        last = one.try_next();
+        expect(last.payload() == 23, "a job whose worker ends");
+    }
+    expect(kept[0].submit(1, 0).code == CUBEJOBS_DISPATCH_CLOSED, "a lane outlives its dispatcher, which is closed");
+    last = cubejobs::running();
+    {
+        cubejobs::dispatch mine(0, 1, 2, 4);
+        cubejobs::shop_lane lane = mine.lane();
+        for (std::uint64_t i = 0; i < 3; i++) lane.submit(i, 0);
+        cubejobs::shop_worker one = mine.worker();
+        cubejobs::running job = one.try_next();
+        expect(mine.worker().try_next().code() == CUBEJOBS_DISPATCH_NO_REGION, "a worker that keeps a job may end");
+        mine.close();
+        cubejobs::shop_lane(std::move(lane));
+        job.release();
+        cubejobs::shop_worker(std::move(one));
+        std::vector<cubejobs_job_answer> left = mine.finish();
+        expect(left.size() == 1 && left[0].payload == 2, "the jobs of a dispatcher that are left");
+    }
+}
+
+#ifdef CUBEJOBS_SLEEPS
+/* A worker sleeps until a job is submitted, until a block is free, until a stop, and until the owner ends. */
+static void sleepers() {
+    std::atomic<unsigned> step{0};
+    std::vector<std::thread> threads;
+    const auto moment = std::chrono::milliseconds(20);
+    {
+        cubejobs::lanes mine(1, 1, 1);
+        cubejobs::lane lane = mine.lane();
+        threads.emplace_back([&step, worker = mine.worker()]() mutable {
+            expect(worker.next().payload == 5 && worker.next(1).code == CUBEJOBS_DISPATCH_BAD_LANE, "a job of a sleeper");
+            step = 1;
+            expect(worker.next().code == CUBEJOBS_DISPATCH_ENDED, "an end of a sleeper");
+        });
+        std::this_thread::sleep_for(moment);
+        expect(step == 0 && lane.submit(5, 0).code == 0, "a sleeper");
+        while (step == 0) std::this_thread::yield();
+        std::this_thread::sleep_for(moment);
+    }
+    cubejobs::dispatch mine(1, 1, 2, 4);
+    cubejobs::shop_lane lane = mine.lane();
+    cubejobs::shop_worker one = mine.worker();
+    expect(lane.submit(6, 1).code == 0, "a submit");
+    cubejobs::running job = one.next();
+    expect(job.payload() == 6, "the first job");
+    threads.emplace_back([&step, worker = mine.worker()]() mutable {
+        expect(worker.next().payload() == 7, "a job of a sleeper, with its block");
+        step = 2;
+        while (step == 2) std::this_thread::yield();
+        cubejobs::running none = worker.next();
+        expect(!none && none.code() == CUBEJOBS_DISPATCH_NO_REGION && worker.give_back().payload == 9, "a stop");
+        expect(worker.next().code() == CUBEJOBS_DISPATCH_ENDED, "an end of a dispatcher");
+    });
+    std::this_thread::sleep_for(moment);
+    lane.submit(7, 0);
+    std::this_thread::sleep_for(moment);
+    expect(step == 1, "a sleeper that waits for a block");
+    job.release();
+    while (step == 1) std::this_thread::yield();
+    lane.submit(8, 1);
+    job = one.next();
+    expect(job.payload() == 8, "the next job");
+    step = 3;
+    lane.submit(9, 0);
+    std::this_thread::sleep_for(moment);
+    mine.stop();
+    mine.close();
+    for (std::thread &thread : threads) thread.join();
+}
+
+/* A worker keeps a job that has waited for long, so another one sleeps, until the first one ends. */
+static void older() {
+    std::atomic<bool> has_job{false};
+    cubejobs::dispatch mine(0, 1, 2, 4);
+    cubejobs::shop_lane lane = mine.lane();
+    cubejobs::shop_worker one = mine.worker(), two = mine.worker();
+    for (std::uint64_t i = 0; i < 4; i++) lane.submit(i, 0);
+    cubejobs::running job = one.next();
+    expect(two.try_next().code() == CUBEJOBS_DISPATCH_NO_REGION, "a second job");
+    job.release();
+    job = one.next();
+    expect(job.payload() == 2, "a job that comes before an older one");
+    job.release();
+    expect(one.try_next().code() == CUBEJOBS_DISPATCH_OLDER_JOB, "an older job");
+    std::thread leaves([&has_job, worker = std::move(two)] {
+        std::this_thread::sleep_for(std::chrono::milliseconds(20));
+        expect(!has_job, "a job beside an older one");
+    });
+    job = one.next();
+    has_job = true;
+    expect(job.payload() == 3, "a job after an older one");
+    leaves.join();
+}
+#else
+static void sleepers() {}
+static void older() {}
+#endif
+
 int main() {
+    alarm(60); /* a wake that is lost ends the program */
     blocks();
     lifetimes();
     exact();
-    std::puts("ffi: owners of C++ release each block once");
+    lanes_of_jobs();
+    jobs_with_blocks();
+    sleepers();
+    older();
+    std::puts("ffi: owners of C++ release each block, and end each job, once");
 }

@@ -1,7 +1,7 @@
 """Refuses memory to single calls of the libraries, and looks at what comes back.
 
-The programs `cube_bench memory` and `bitmap_trial memory` make calls one after the other, and after each they write a
-line: the call's name, and what came back. Each request for memory is refused in turn, then each and the two after it,
+The programs `cube_bench memory`, `bitmap_trial memory` and `lane_bench memory` make calls one after the other, and after
+each they write a line: the call's name, and what came back. Each request for memory is refused in turn, then each and the two after it,
 then each and all after it. A call must say OutOfMemory exactly where one of its own requests was refused, and give back
 what it got: all items of a job, all stations of a cube, all replies that a worker has. A call that is to take no memory
 makes no request. In the end the program holds as many blocks of memory as in the beginning. `checks/run refusals FILE`
@@ -15,7 +15,7 @@ from checks.lib.rows import Row, Wrong, answer, must, run_rows
 from checks.lib.toolchain import shim
 
 BUILT = "crates/{0}/out/{0}".format
-BENCH, TRIAL = "cube_bench", "bitmap_trial"
+BENCH, TRIAL, LANES = "cube_bench", "bitmap_trial", "lane_bench"
 # A run that takes longer, in seconds, hangs.
 SECONDS = 20
 # How many requests are refused in a row: one alone, three, and all from the first one on.
@@ -23,7 +23,8 @@ MODES = {"one": "1", "three": "3", "all": "0"}
 REFUSED = " OutOfMemory"
 
 # The calls of each run of a program: the call's name, what it gives, what comes back where it is refused (None: it
-# takes no memory), and how many of the calls after it are left out then.
+# takes no memory), and how many of the calls after it are left out then. What a call gives may depend on how many calls
+# before it were refused.
 REST = 99
 ITEMS = [("items", " 4 7 1 8", "", 1), ("Job::new", " 4 7 1 8", " 4 7 1 8", 0)]
 RUNS = {
@@ -34,6 +35,12 @@ RUNS = {
     (TRIAL,): [
         ("open", " 10", "", 2), ("take_quick", " 0", None, 0), ("close", " 17", None, 0),
         ("open_with_permits", " 3", "", 1), ("close_with_permits", " 17", None, 0),
+    ],
+    # A job is submitted to the first of two lanes, and one by a sharer of the second. A machine of dimension 3 has a word.
+    (LANES,): [
+        ("Lanes::open", " 2", "", 3), ("deal_worker", " 0", "", 2), ("share", " 0", "", 0),
+        ("into_rest", {0: " 2", 1: " 1"}, None, 0), ("room", " 0", "", 3), ("RegionShop::open", " 3", "", 2),
+        ("RegionShop::deal_worker", " 0", "", 1), ("finish", " 1", None, 0),
     ],
 }
 
@@ -80,7 +87,8 @@ def must_be(calls, lines):
             must(line in wanted, f"{line!r} where {name} is refused")
             refused, left_out = refused + 1, skips
         else:
-            must(line == name + gives, f"{line!r} where {name} is not refused")
+            wanted = gives[refused] if isinstance(gives, dict) else gives
+            must(line == name + wanted, f"{line!r} where {name} is not refused")
             given += back is not None
     line, _ = next(lines, (None, None))
     must(line == str(given), f"{line!r} at the end, where {given} calls had memory")
@@ -125,7 +133,7 @@ def try_each(command, shims, calls):
 
 def main(words):
     named = {os.path.basename(word): os.path.realpath(word) for word in words}
-    programs = named or {name: path(BUILT(name)) for name in (BENCH, TRIAL)}
+    programs = named or {name: path(BUILT(name)) for name in (BENCH, TRIAL, LANES)}
     for name, built in programs.items():
         must(os.path.exists(built), f"{name} is not built: cd crates/{name} && rt run")
     with tempfile.TemporaryDirectory() as folder:

@@ -305,6 +305,32 @@ static void model(unsigned long turns) {
     dim = CROWD_DIM;
 }
 
+/* Both handles of a machine count its known blocks, whichever of them took one: 5, 64 to 127, and 192 to 199. */
+static void counts(void) {
+    static const uint64_t wanted[MAX_DIM + 1] = {183, 91, 45, 22, 10, 4, 1};
+    static struct cubejobs_regions made, second;
+    struct cubejobs_block one = none(), many = none(), some = none();
+    unsigned i, k;
+    IS(cubejobs_regions_open(&made, 8), DONE);
+    IS(cubejobs_regions_share(&made, &second), DONE);
+    GIVES(cubejobs_regions_take_at(&second, &one, 5, 0), 0, 5);
+    GIVES(cubejobs_regions_take_at(&made, &many, 64, 6), 6, 64);
+    GIVES(cubejobs_regions_take_at(&second, &some, 192, 3), 3, 192);
+    for (i = 0; i < 2; i++) {
+        struct cubejobs_regions_occupancy_answer o = cubejobs_regions_occupancy(i ? &made : &second);
+        IS(o.code, DONE);
+        WANT(o.held, 73);
+        WANT(o.has_free, 1);
+        WANT(o.largest, 6);
+        for (k = 0; k <= MAX_DIM; k++) WANT(o.free[k], wanted[k]);
+    }
+    IS(cubejobs_regions_release(&made, &one), DONE);
+    IS(cubejobs_regions_release(&second, &many), DONE);
+    IS(cubejobs_regions_release(&made, &some), DONE);
+    IS(cubejobs_regions_free(&second), DONE);
+    IS(cubejobs_regions_free(&made), DONE);
+}
+
 /* A place in which a thread leaves a block for the next thread that comes by. */
 static struct place {
     pthread_mutex_t lock;
@@ -447,6 +473,7 @@ int main(int argc, char **argv) {
     texts();
     handles();
     blocks();
+    counts();
     model(pairs < 4000 ? pairs : 4000);
     starts();
     takes = threads();

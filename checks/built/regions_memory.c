@@ -85,10 +85,10 @@ static void expect_sizes(void) {
     for (dim = 0; dim <= CUBEJOBS_REGIONS_MAX_DIM; dim++) {
         bytes = 0;
         expect(!cubejobs_regions_open(&one, dim), "open");
-        expect(bytes <= (1L << dim) + 2048, "a machine takes more memory than the header says");
+        expect(bytes <= (3L << dim) / 4 + 2048, "a machine takes more memory than the header says");
         bytes = 0;
         expect(!cubejobs_regions_share(&one, &other), "share");
-        expect(bytes <= (1L << dim) / 4 + 1024, "a handle takes more memory than the header says");
+        expect(bytes <= 512, "a handle takes more memory than the header says");
         expect(!cubejobs_regions_free(&one) && !cubejobs_regions_free(&other), "free");
     }
 }

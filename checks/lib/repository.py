@@ -12,7 +12,7 @@ PARTS = ("src", "specs", "proofs")
 NO_LIBRARIES = (
     "uses", "jobs_cli", "cube_bench", "tests_kit", "tests_layers", "tests_shops", "tests_bitmap", "bitmap_trial",
     "tests_files", "tests_lanes", "tests_region_shop", "lane_bench")
-LIMITS = ("crates/cube_shape/src/limits.rt", "crates/region_bits/src/limits.rt")
+LIMITS = ("crates/cube_shape/src/limits.rt", "crates/region_bits/src/limits.rt", "crates/job_lanes/src/sizes.rt")
 
 
 def path(*names):

@@ -45,7 +45,7 @@ QUOTES = {
     "floors": ("uses/src/any_floor.rt",),
     "shop_owner": ('cubejobs_dispatch/src/work_exports.rt#pub extern "C" fn cubejobs_dispatch_done',),
     "hidden_box": ("cubejobs_dispatch/src/opaque_ptr.rt#pub fn of",),
-    "kept_places": ("cubejobs_dispatch/src/dealing.rt#pub(crate) fn deal_lane",),
+    "kept_places": ("cubejobs_dispatch/src/dealing.rt#fn deal_lane",),
     "job_lanes": ("tests_lanes/src/tests/script.rt#fn three_lanes_and_what_is_left",),
     "job_queue": ("uses/src/line_run/feeding.rt", "uses/src/line_run/draining.rt"),
     "job_types": ("dispatcher/src/runner.rt#impl Runner for Plain",),

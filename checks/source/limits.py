@@ -1,7 +1,8 @@
 """Fails where a source, a definition or a proof writes the number of a limit and not its name.
 
-It reads the limits (src/limits.rt of cube_shape and region_bits), and looks in all crates for each literal that is such
-a number or a power of interest, or one less or more, in whatever form: `1024`, `0x400`, `1 << 10`. Comments do not
+It reads the limits (src/limits.rt of cube_shape and region_bits, src/sizes.rt of job_lanes), and looks in all crates for
+each literal that is such a number or a power of interest, or one less or more, in whatever form: `1024`, `0x400`, `1 <<
+10`. A limit whose name an earlier file has too is called by its crate: `job_lanes::MAX_LANES`. Comments do not
 count, nor do tests, whose rows are worked by hand. OTHERS says what else such a number may be; an entry that no literal
 needs fails too, and so does a limit without a sentence. C, Rust, the page and documents cannot name a limit: WRITTEN
 says where they write it out, and each of these numbers must be that of its limit.
@@ -21,7 +22,6 @@ OTHERS = (
     (r"cli_args/src/command_line\.rt", r"or 16 in a scan", "the bytes of an item in a job"),
     (r"cli_args/", r'default_value\("16"\)|codes "16"', "the room of a line where no word says it"),
     (r"uses/src/(answering|whole)\.rt", r"capacity: 16", "the room of this caller's line"),
-    (r"job_lanes/src/sizes\.rt", r"1 << (10|12|20)|CELLS: usize = 16", "limits of job lanes, and the words of two lines"),
     (r"cubejobs_(dispatch|regions)/src/codes\.rt", r"[A-Z_]+: u32 = \d+;", "the code of an answer"),
     (r"\w+/proofs/", r"search \(.*\) depth 20", "how deep a search goes"),
     (r"cli_commands/src/progress\.rt", r"PAUSE: u64 = 20", "the pause of the line of progress"),
@@ -29,8 +29,8 @@ OTHERS = (
     (r"cube_bench/src/regions/random\.rt", r"<< 1[37]|in 0\.\.20", "the shifts of the generator and its first turns"),
     (r"cube_bench/src/regions/\w+\.rt", r"next\(\) >> 20", "the low bits of a random number"),
     (r"cube_bench/src/regions/\w+\.rt", r"padding: \[(0|u64); 16\]", "the words of two cache lines"),
+    (r"wake_table/src/board\.rt", r"count < 2 \^ 62", "the counts of the lanes of this crate"),
     (r"region_shop/src/ageing\.rt", r"PATIENCE: u64 = 16", "how often others wait for a job, for each processor"),
-    (r"job_lanes/src/sizes\.rt", r"(MAX_\w+|CELLS): \w+ = (1 << (10|12|20)|16);", "the limits of lanes, and a place"),
     # Limits that have to be written out: when one is changed, its entry here is one that no literal needs.
     (r"cli_args/src/command_line\.rt", r"lane is below 16", "MAX_LANES in the help"),
     (r"cubejobs_c/src/machine\.rt", r"\[bool; 4096\]", "2^MAX_DIM in the struct for C"),
@@ -45,9 +45,16 @@ WRITTEN = (
     ("include/cubejobs.h", r"#define CUBEJOBS_FIT_MAX_DIM (\d+)", "MAX_BITS_DIM"),
     ("include/cubejobs.h", r"their numbers are 0 to (\d+)", "MAX_STATIONS - 1"),
     ("include/cubejobs_regions.h", r"#define CUBEJOBS_REGIONS_MAX_DIM (\d+)", "MAX_BITMAP_DIM"),
+    ("include/cubejobs_dispatch.h", r"#define CUBEJOBS_LANES_MAX_LANES (\d+)", "job_lanes::MAX_LANES"),
+    ("include/cubejobs_dispatch.h", r"#define CUBEJOBS_LANES_MAX_WORKERS (\d+)", "MAX_WORKERS"),
+    ("include/cubejobs_dispatch.h", r"#define CUBEJOBS_LANES_MAX_CAPACITY (\d+)", "job_lanes::MAX_CAPACITY"),
+    ("include/cubejobs_dispatch.h", r"There are 1 to ([\d,]+) lanes and as many", "job_lanes::MAX_LANES"),
+    ("include/cubejobs_dispatch.h", r"each lane holds 1 to ([\d,]+) jobs", "job_lanes::MAX_CAPACITY"),
+    ("include/cubejobs_dispatch.h", r"a machine of dimension `dim`, at most (\d+)", "MAX_BITMAP_DIM"),
     ("rust/src/ffi.rs", r"const MAX_DIM: usize = (\d+);", "MAX_DIM"),
     ("rust/src/ffi.rs", r"const MAX_STATIONS: usize = (\d+);", "MAX_STATIONS"),
     ("rust/src/fit_ffi.rs", r"const MAX_DIM: u32 = (\d+);", "MAX_BITS_DIM"),
+    ("rust/src/dispatch_ffi.rs", r"const MAX_DIM: u32 = (\d+);", "MAX_BITMAP_DIM"),
     ("rust/src/regions_ffi.rs", r"const MAX_DIM: u32 = (\d+);", "MAX_BITMAP_DIM"),
     ("rust/src/regions_ffi.rs", r"const FREE_PLACES: usize = (\d+);", "MAX_BITMAP_DIM + 1"),
     ("view/index.html", r"const MAX_DIM = (\d+);", "MAX_DIM"),
@@ -58,10 +65,12 @@ WRITTEN = (
     ("README.md", r"A machine has dimension 0 to (\d+)", "MAX_DIM"),
     ("README.md", r"A machine has .* and (\d+) stations", "MAX_STATIONS"),
     ("README.md", r"any number of blocks; 2\^(\d+) processors", "MAX_BITMAP_DIM"),
-    ("README.md", r"as above; (\d+) stations, a block each", "MAX_STATIONS"),
+    ("README.md", r"lowest free block, one thread \| (\d+) stations", "MAX_STATIONS"),
     ("README.md", r"A run has (\d+) lanes", "MAX_LANES"),
     ("README.md", r"lanes, 1 to (\d+) dispatchers", "MAX_DISPATCHERS"),
     ("README.md", r"a queue\s+of 1 to ([\d,]+) jobs", "MAX_CAPACITY"),
+    ("README.md", r"([\d,]+) lanes and workers; 1 to", "job_lanes::MAX_LANES"),
+    ("README.md", r"lanes and workers; 1 to ([\d,]+) jobs in a lane", "job_lanes::MAX_CAPACITY"),
     ("README.md", r"each of up to 2\^(\d+) processors", "MAX_BITS_DIM"),
     ("docs/theorem/top.md", r"dimension 0\s+to (\d+)", "MAX_DIM"),
     ("docs/theorem/top.md", r"fixed: (\d+) lanes", "MAX_LANES"),
@@ -94,8 +103,9 @@ def value(match):
 def named_numbers():
     """Returns what each number of interest is called: each limit, some powers, and one less or more."""
     named, words = {}, {}
-    for _, _, name, text in limits():
-        named[name] = named[text] if text in named else value(LITERAL.fullmatch(text))
+    for home, _, name, text in limits():
+        own = f"{home.split('/')[1]}::{name}" if name in named else name
+        named[own] = named[text] if text in named else value(LITERAL.fullmatch(text))
     named["2^MAX_DIM"] = 2 ** named["MAX_DIM"]
     named["2^(MAX_DIM + 1)"] = 2 ** (named["MAX_DIM"] + 1)
     named["2^MAX_BITS_DIM"] = 2 ** named["MAX_BITS_DIM"]

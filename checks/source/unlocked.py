@@ -6,7 +6,8 @@ No contract says this of a call that may wait: a lock around it changes neither 
 
 - a lock, a channel, a once cell or another type of the standard library that makes a thread wait for another one,
 - a crate of the toolchain that is not in ALLOWED, in the crate's line of crates.txt; the queue of `crossbeam_queue` has
-  no lock, but a push or a pop may wait for another one; of `crossbeam_utils` sources may name `Backoff` alone,
+  no lock, but a push or a pop may wait for another one; a claim of `counted_slot` is tried once, and may be refused;
+  of `crossbeam_utils` sources may name `Backoff` alone,
 - the repository's `locked_cell`, of which its locked line and floor are made, and
 - a loop with no bound (`forever`), of which a lock made by hand needs one; each floor's `take` alone has such a loop.
 
@@ -22,7 +23,8 @@ from checks.lib.toolchain import crates
 
 TOPS = ("line_ruled", "floor_bitmap", "floor_tree", "cubejobs_regions", "cubejobs_dispatch", "wake_calls")
 ALLOWED = {
-    "std", "std_alloc", "std_heap", "atomic_table", "bitflags", "crossbeam_queue", "crossbeam_utils", "thiserror"}
+    "std", "std_alloc", "std_heap", "atomic_table", "bitflags", "counted_slot", "crossbeam_queue", "crossbeam_utils",
+    "thiserror"}
 LOCKS = re.compile(
     r"\b(?:\w*Mutex\w*|\w+Lock|\w+Lock(?:Read|Write)Guard|Condvar|Barrier|OnceCell|mpsc|(?:try_)?lock|locked_\w+)\b"
     r"|\bsync::(?:\{[^}]*)?\bOnce\b|\bcrossbeam_utils\b(?!::Backoff;)"
