@@ -406,6 +406,33 @@ fn a_close_meanwhile_loses_no_job() {
 }
 
 #[test]
+fn a_close_lets_each_worker_end() {
+    // More workers than jobs race for the last one, beside a close. No loser may sleep then.
+    let progress = Arc::new(AtomicU64::new(0));
+    watch(progress.clone());
+    for round in 0..2_000 {
+        let lanes = open(2, 4, 64);
+        let mut lane = lanes.lane().unwrap();
+        let counts: Vec<_> = (0..4)
+            .map(|_| {
+                let worker = lanes.worker().unwrap();
+                thread::spawn(move || worker.into_iter().count())
+            })
+            .collect();
+        for _ in 0..round % 7 {
+            thread::yield_now();
+        }
+        for payload in 0..6 {
+            lane.submit(payload, 0).unwrap();
+        }
+        lanes.close();
+        let taken: usize = counts.into_iter().map(|it| it.join().unwrap()).sum();
+        assert_eq!(taken, 6);
+        progress.fetch_add(1, SeqCst);
+    }
+}
+
+#[test]
 fn lost_takes_are_no_jobs() {
     // Two workers take from one lane of one job at a time: each job comes to one of them.
     let lanes = open(1, 2, 1);

@@ -10,12 +10,14 @@ use Rattle.job_lanes.specs.declared.record.LaneJob.{LaneJob}
 use Rattle.job_lanes.specs.declared.record.TakeRecord.{TakeRecord}
 use Rattle.job_lanes.specs.declared.record.WorkerRecord.{WorkerRecord}
 use Rattle.job_lanes.specs.declared.takes.Taken.TheVariants.{Empty, Lost, Ended}
+use Rattle.job_lanes.specs.declared.rounds.Looked.{Looked}
+use Rattle.job_lanes.specs.declared.rounds.Looked.TheVariants.{Jobs, NoneLeft, AllTaken}
 use Rattle.job_lanes.specs.declared.rounds.TakenAny.TheVariants.{AnyJob, NoJob, AllEnded}
 use Rattle.job_lanes.specs.declared.finder.Found.{Found}
 use Rattle.job_lanes.specs.declared.finder.Found.TheVariants.{Job, Ended as FoundEnd, Park, Again}
-use Rattle.job_lanes.specs.Record.{take_of, after_head}
-use Rattle.job_lanes.specs.Lanes.{Takes, Passes, TakesAny, TakeAnyKeeps, TakesNothing, ChangesOnly, distance, call_steps, look_steps}
-use Rattle.job_lanes.specs.Sleep.{FindsNone, FindsOne, Finds, SawEnd, IsNone}
+use Rattle.job_lanes.specs.Record.{take_of, after_head, after_tail}
+use Rattle.job_lanes.specs.Lanes.{Looks, Takes, Passes, TakesAny, TakeAnyKeeps, TakesNothing, ChangesOnly, distance, call_steps, look_steps}
+use Rattle.job_lanes.specs.Sleep.{FindsNone, FindsOne, Finds, SawEnd, SawOpen, IsNone}
 use Rattle.job_lanes.specs.Inner.Find.{LooksTo}
 use Rattle.job_lanes.proofs.RoundLemmas.{others_stay, one_distance}
 
@@ -25,6 +27,19 @@ pub looks_once : (head : ℕ) (a b c : TakeRecord)
     → TakesNothing 1 b c
     → TakesNothing look_steps a c
 looks_once head a b c reads look = (look.0 ∙ ap (λ (t : TakeRecord). t.taken) reads, let steps = ap (λ (t : TakeRecord). t.steps) reads in omega (arith, look.1, steps))
+
+-- a look at a lane takes nothing
+pub looks_nothing : (a b : TakeRecord) (result : Looked) → Looks a result b → TakesNothing look_steps a b
+looks_nothing a b (Jobs n) look = ⊎_elim
+    (λ (e : b ≡ after_head b.head a). (ap (λ (t : TakeRecord). t.taken) e, let steps = ap (λ (t : TakeRecord). t.steps) e in omega (arith, steps)))
+    (λ (e : b ≡ after_tail b.tail (after_head b.head a)). (ap (λ (t : TakeRecord). t.taken) e, let steps = ap (λ (t : TakeRecord). t.steps) e in omega (arith, steps)))
+    look.2
+looks_nothing a b NoneLeft look = (ap (λ (t : TakeRecord). t.taken) look, let steps = ap (λ (t : TakeRecord). t.steps) look in omega (arith, steps))
+looks_nothing a b AllTaken look = (ap (λ (t : TakeRecord). t.taken) look, let steps = ap (λ (t : TakeRecord). t.steps) look in omega (arith, steps))
+
+-- a lane that was found open
+pub saw_open : (a b : TakeRecord) → Looks a NoneLeft b → SawOpen b
+saw_open a b look = (a.empties, b.head, ap (λ (t : TakeRecord). t.empties) look)
 
 -- ---- phases
 

@@ -1,5 +1,5 @@
 -- What contracts see of a worker that may sleep, and what its calls do.
-use Rattle.std.specs.Prelude.{◌≡◌, ◌≢◌, ℕ, ◌+◌, ◌-◌, ◌<◌, ◌≤◌, true, List, [], ◌∷◌, ◌++◌, length}
+use Rattle.std.specs.Prelude.{◌≡◌, ◌≢◌, ℕ, ◌+◌, ◌-◌, ◌<◌, ◌≤◌, true, false, List, [], ◌∷◌, ◌++◌, length}
 use Rattle.wake_pool.specs.declared.phase.WakePhase.{WakePhase as Phase}
 use Rattle.job_lanes.specs.declared.record.LaneJob.{LaneJob}
 use Rattle.job_lanes.specs.declared.record.Sight.{Sight}
@@ -27,7 +27,7 @@ pub record FinderOf : Type 0 where
 
 -- The number of atomic steps that each round of `find` makes at most in one lane.
 abbrev pub find_steps : ℕ
-find_steps = call_steps + look_steps
+find_steps = call_steps + look_steps + look_steps
 
 -- The worker took no job, and made at most this number of atomic steps in each lane.
 pub record FindsNone (lanes steps : ℕ) (old new : WorkerRecord) : Type 0 where
@@ -54,6 +54,15 @@ pub record FindsOne (lanes steps lane : ℕ) (job : LaneJob) (left : ℕ) (old n
 abbrev pub SawEnd : TakeRecord → Type 0
 SawEnd take =
     (before : List Sight) × (count : ℕ) × (take.empties ≡ before ++ sight count true ∷ [])
+
+-- What the worker found last in the lane: it was open, and all accepted jobs were taken.
+abbrev pub SawOpen : TakeRecord → Type 0
+SawOpen take =
+    (before : List Sight) × (count : ℕ) × (take.empties ≡ before ++ sight count false ∷ [])
+
+-- It found that in one of the lanes.
+abbrev pub SawOneOpen : ℕ → WorkerRecord → Type 0
+SawOneOpen lanes known = (lane : ℕ) × (lane < lanes) × SawOpen (take_of lane known)
 
 -- What `find` does to the worker's record.
 abbrev pub Finds : ℕ → ℕ → WorkerRecord → Found → WorkerRecord → Type 0

@@ -7,11 +7,11 @@ ghost use Rattle.job_lanes.specs.declared.finder.At.TheVariants.{Waking as AtWak
 ghost use Rattle.job_lanes.specs.Record.{take_of};
 ghost use Rattle.job_lanes.specs.Lanes.{look_steps};
 ghost use Rattle.job_lanes.specs.Phases.{phase_of, IsAwake, IsFree};
-ghost use Rattle.job_lanes.specs.Sleep.{FindsNone, Finds, StopsAt, IsNone, find_steps};
+ghost use Rattle.job_lanes.specs.Sleep.{FindsNone, Finds, SawOneOpen, StopsAt, IsNone, find_steps};
 
 use crate::finder::{At, Finder, Finding, Found};
 use crate::lanes::Lanes;
-use crate::rounds::TakenAny;
+use crate::rounds::{Looked, TakenAny};
 use crate::sleeping::Sleeper;
 use wake_calls::{Asleep, Back, Wake};
 
@@ -57,6 +57,28 @@ impl Lanes {
             lane += 1;
         }
         At::Reading
+    }
+
+    // Looks at every lane, before the worker lies down. Returns whether one was open and empty.
+    //
+    // If none was, the worker must not lie down. All lanes may be closed, and it may have taken the
+    // call of their closer: then nobody would wake it again.
+    fn may_lie_down(&self, sleeper: &mut Sleeper) -> bool
+        requires id { sleeper.old.id ≡ self.now }
+        ensures id { sleeper.new.id ≡ self.now }
+        ensures same { sleeper.new.phase ≡ sleeper.old.phase }
+        ensures open { result ≡ true → SawOneOpen self.now.plan.sizes.lanes sleeper.new.known }
+        ensures none { FindsNone self.now.plan.sizes.lanes look_steps
+            sleeper.old.known sleeper.new.known }
+    {
+        let mut lane = 0;
+        while lane < self.plan.sizes.lanes {
+            if let Looked::NoneLeft = self.look_as(sleeper, lane) {
+                return true;
+            }
+            lane += 1;
+        }
+        false
     }
 
     // Looks at every lane, after the worker has found work. Returns whether no more is left.
@@ -154,6 +176,9 @@ impl Lanes {
                 at: At::Idle,
             },
             TakenAny::NoJob => {
+                if !self.may_lie_down(sleeper) {
+                    return again(At::Idle, None);
+                }
                 self.rest(sleeper);
                 let at = self.look_at_all(sleeper);
                 Round {
@@ -198,6 +223,9 @@ impl Lanes {
                 }
             }
             TakenAny::NoJob => {
+                if !self.may_lie_down(sleeper) {
+                    return again(At::Searching, None);
+                }
                 self.lie_down(sleeper);
                 let at = self.look_at_all(sleeper);
                 Round {

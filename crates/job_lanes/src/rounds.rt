@@ -56,7 +56,7 @@ impl Lanes {
 
     // The same, whatever the worker does at the moment.
     #[tactic(auto, using(crate::proofs::CallLemmas::only_again))]
-    fn look_as(&self, sleeper: &mut Sleeper, lane: u32) -> Looked
+    pub(crate) fn look_as(&self, sleeper: &mut Sleeper, lane: u32) -> Looked
         requires id { sleeper.old.id ≡ self.now }
         requires lane { lane < self.now.plan.sizes.lanes }
         ensures id { sleeper.new.id ≡ self.now }
