@@ -3,3 +3,4 @@ mod AskLemmas
 pub mod BerthLemmas
 mod CrossLemmas
 pub mod EmptyLemmas
+pub mod FreeLemmas

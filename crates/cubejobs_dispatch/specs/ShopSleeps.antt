@@ -4,9 +4,11 @@ use Rattle.std.specs.Arc.{arc_value}
 use Rattle.std.specs.Mem.{manually_drop_value}
 use Rattle.kept_places.specs.Wakes.{LooksForSleepers}
 use Rattle.wake_calls.specs.declared.waking.Wake.{Wake as WakeOutcome}
+use Rattle.region_shop.specs.Posts.{number_of}
 use Rattle.region_shop.specs.Sleep.{asleep_of, IsParked, IsUp}
 use Rattle.shop_owner.specs.declared.common.ShopCommon.{ShopCommon}
-use Rattle.shop_owner.specs.declared.outcome.NextOutcome.TheVariants as outcome
+use Rattle.region_shop.specs.declared.next.Reason.TheVariants.{OlderJob}
+use Rattle.region_shop.specs.declared.outcome.NextOutcome.TheVariants as outcome
 use Rattle.shop_owner.specs.declared.sides.DispatchWorker.{DispatchWorker}
 use Rattle.shop_owner.specs.declared.sides.Producer.{Producer}
 use Rattle.shop_owner.specs.declared.sleeper.Berth.{Berth}
@@ -15,7 +17,8 @@ use Rattle.shop_owner.specs.declared.sleeper.DispatchSleeper.{DispatchSleeper}
 use Rattle.shop_owner.specs.declared.sleeper.FindOutcome.{FindOutcome}
 use Rattle.shop_owner.specs.declared.sleeper.FindOutcome.TheVariants as find
 use Rattle.shop_owner.specs.Posts.{common_shop}
-use Rattle.shop_owner.specs.Sleeps.{number_of, HasSought, HasSoughtAgain, IsSameSleeper}
+use Rattle.shop_owner.specs.Seats.{post_of}
+use Rattle.shop_owner.specs.Sleeps.{HasSought, HasSoughtAgain, IsSameSleeper}
 use Rattle.cubejobs_dispatch.specs.declared.codes.TheConstants.{AGAIN, ASLEEP, DONE, ENDED, NO_REGION, NOT_OPEN, OTHER_KIND, PARK, RUNS_JOB, TOO_LARGE}
 use Rattle.cubejobs_dispatch.specs.declared.find_answer.WakeAnswer.{WakeAnswer}
 use Rattle.cubejobs_dispatch.specs.declared.found_work.WorkFindAnswer.{WorkFindAnswer}
@@ -74,7 +77,7 @@ IsOfAwake find.Again = ⊥
 
 -- A worker that lies down has this outcome.
 abbrev pub IsOfAsleep : FindOutcome → Type 0
-IsOfAsleep (find.Next outcome.OlderJob) = Unit {0}
+IsOfAsleep (find.Next (outcome.NoRegion OlderJob)) = Unit {0}
 IsOfAsleep (find.Next other) = ⊥
 IsOfAsleep find.Park = Unit {0}
 IsOfAsleep find.Again = Unit {0}
@@ -114,7 +117,7 @@ pub record FindsWork (answer : WorkFindAnswer) (old new : Berth) : Type 0 where
 
 -- The number of a worker among those of its dispatcher.
 abbrev pub berth_number : Berth → ℕ
-berth_number (Up worker) = number_of worker.post
+berth_number (Up worker) = number_of (post_of worker)
 berth_number (Down worker) = (asleep_of (manually_drop_value worker.kept.sleeper)).known.number
 
 -- The worker parks until it has its token.

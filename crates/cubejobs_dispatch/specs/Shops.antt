@@ -3,12 +3,14 @@ use Rattle.std.specs.Prelude.{◌≡◌, ◌≢◌, ◌⊎◌, ℕ, Option, Some
 use Rattle.kept_places.specs.Places.{AreEmptyBelow}
 use Rattle.shop_owner.specs.declared.outcome.FinishState.{FinishState}
 use Rattle.shop_owner.specs.declared.outcome.FinishState.TheVariants.{NotClosed, LaneOut, WorkerOut, Ready}
-use Rattle.shop_owner.specs.declared.outcome.WorkerState.TheVariants.{Free, KeepsJob, RunsJob}
+use Rattle.region_shop.specs.declared.outcome.WorkerState.TheVariants.{Free, KeepsJob, RunsJob}
+use Rattle.region_shop.specs.Posts.{IsStateOf}
 use Rattle.shop_owner.specs.declared.owner.ShopOwner.{ShopOwner}
 use Rattle.shop_owner.specs.declared.sides.DispatchWorker.{DispatchWorker}
 use Rattle.shop_owner.specs.declared.sides.Producer.{Producer}
 use Rattle.shop_owner.specs.Deals.{HasCollected, HasDealtLane, HasDealtWorker}
-use Rattle.shop_owner.specs.Ending.{AllAreBack, HasEnded, IsFinishState, IsStateOf}
+use Rattle.shop_owner.specs.Ending.{AllAreBack, HasEnded, IsFinishState}
+use Rattle.shop_owner.specs.Seats.{post_of}
 use Rattle.shop_owner.specs.Stages.{IsClosed}
 use Rattle.cubejobs_dispatch.specs.declared.answers.FinishAnswer.{FinishAnswer}
 use Rattle.cubejobs_dispatch.specs.declared.state.State.{State}
@@ -47,9 +49,9 @@ pub record AsksShopWorker (code : ℕ) (old new : ShopOwner) (content : Option S
 
 -- The code of a call that frees a worker: it keeps a job, it runs one, or it is free.
 abbrev pub IsFreedWorker : ℕ → DispatchWorker → Type 0
-IsFreedWorker code worker = (IsStateOf worker.post KeepsJob × (code ≡ KEEPS_JOB))
-    ⊎ (IsStateOf worker.post RunsJob × (code ≡ RUNS_JOB))
-    ⊎ (IsStateOf worker.post Free × ((code ≡ DONE) ⊎ (code ≡ STILL_SHARED)))
+IsFreedWorker code worker = (IsStateOf (post_of worker) KeepsJob × (code ≡ KEEPS_JOB))
+    ⊎ (IsStateOf (post_of worker) RunsJob × (code ≡ RUNS_JOB))
+    ⊎ (IsStateOf (post_of worker) Free × ((code ≡ DONE) ⊎ (code ≡ STILL_SHARED)))
 
 -- The answer that says whether a dispatcher can end.
 abbrev pub state_answer : FinishState → FinishAnswer

@@ -16,7 +16,7 @@ use crate::handle::Handle;
 use crate::handles::lift;
 use crate::shop_calls::finish;
 use crate::state::State;
-use shop_owner::WorkerState;
+use region_shop::WorkerState;
 use std::alloc::Global;
 use std::mem::replace;
 

@@ -5,7 +5,7 @@ ghost use Rattle.cubejobs_dispatch.specs.Works.{given_answer, no_work, work_answ
 use crate::codes::{DONE, EMPTY, ENDED, NO_REGION, NOTHING_KEPT, OLDER_JOB, RUNS_JOB, TOO_LARGE};
 use cube_shape::Region;
 use job_lanes::LaneJob;
-use shop_owner::{GivenBack, NextOutcome};
+use region_shop::{GivenBack, NextOutcome, Reason};
 
 /// The answer of a call for a worker's job. All is 0 except the code if there is no job.
 #[repr(C)]
@@ -61,8 +61,8 @@ impl WorkAnswer {
                     payload,
                 }
             }
-            NextOutcome::NoRegion => WorkAnswer::none(NO_REGION),
-            NextOutcome::OlderJob => WorkAnswer::none(OLDER_JOB),
+            NextOutcome::NoRegion(Reason::OlderJob) => WorkAnswer::none(OLDER_JOB),
+            NextOutcome::NoRegion(_) => WorkAnswer::none(NO_REGION),
             NextOutcome::TooLarge => WorkAnswer::none(TOO_LARGE),
             NextOutcome::Empty => WorkAnswer::none(EMPTY),
             NextOutcome::Ended => WorkAnswer::none(ENDED),

@@ -12,7 +12,6 @@ use crate::codes::{BAD_DIMENSION, DONE, NOTHING_RUN};
 use crate::handle::Handle;
 use crate::state::State;
 use crate::work_answer::WorkAnswer;
-use std::mem::{forget, replace};
 
 /// Submits a job to the lane of a producer of a dispatcher.
 #[unsafe(no_mangle)]
@@ -63,13 +62,10 @@ pub extern "C" fn cubejobs_dispatch_next(worker: &mut Handle) -> WorkAnswer
     if code != DONE {
         return WorkAnswer::none(code);
     }
-    let state = worker.ptr.get_mut();
-    let State::ShopWorker(one) = replace(state, State::Away) else {
+    let State::ShopWorker(one) = worker.ptr.get_mut() else {
         unreachable!()
     };
-    let (one, outcome) = one.next();
-    forget(replace(state, State::ShopWorker(one)));
-    WorkAnswer::of(outcome)
+    WorkAnswer::of(one.next())
 }
 
 /// Releases the block of the job that a worker runs.
@@ -87,13 +83,10 @@ pub extern "C" fn cubejobs_dispatch_done(worker: &mut Handle) -> u32
     if code != DONE {
         return code;
     }
-    let state = worker.ptr.get_mut();
-    let State::ShopWorker(one) = replace(state, State::Away) else {
+    let State::ShopWorker(one) = worker.ptr.get_mut() else {
         unreachable!()
     };
-    let (one, ran) = one.done();
-    forget(replace(state, State::ShopWorker(one)));
-    if ran { DONE } else { NOTHING_RUN }
+    if one.done() { DONE } else { NOTHING_RUN }
 }
 
 /// Gives back the job that a worker keeps.
@@ -111,11 +104,8 @@ pub extern "C" fn cubejobs_dispatch_give_back(worker: &mut Handle) -> WorkAnswer
     if code != DONE {
         return WorkAnswer::none(code);
     }
-    let state = worker.ptr.get_mut();
-    let State::ShopWorker(one) = replace(state, State::Away) else {
+    let State::ShopWorker(one) = worker.ptr.get_mut() else {
         unreachable!()
     };
-    let (one, given) = one.give_back();
-    forget(replace(state, State::ShopWorker(one)));
-    WorkAnswer::given(given)
+    WorkAnswer::given(one.give_back())
 }

@@ -7,3 +7,4 @@ pub mod HandLemmas
 pub mod GatherLemmas
 pub mod PropLemmas
 pub mod SharedLemmas
+pub mod PostLemmas

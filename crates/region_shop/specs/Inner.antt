@@ -1,5 +1,5 @@
 -- Definitions that only private contracts and proofs use.
-use Rattle.std.specs.Prelude.{ℕ, ◌<◌, Option, Some, None, [], ◌∷◌}
+use Rattle.std.specs.Prelude.{◌≡◌, ℕ, ◌<◌, Option, Some, None, [], ◌∷◌}
 use Rattle.job_lanes.specs.declared.record.LaneJob.{LaneJob}
 use Rattle.job_lanes.specs.declared.record.WorkerRecord.{WorkerRecord}
 use Rattle.job_lanes.specs.declared.rounds.TakenAny.{TakenAny}
@@ -15,6 +15,16 @@ use Rattle.region_shop.specs.Handles.{ShopId}
 use Rattle.region_shop.specs.Sleep.{Reaches, IsTurn}
 use Rattle.region_shop.specs.Looks.{Gains, FindsOpen, FindsAllEnded}
 use Rattle.region_shop.specs.Next.{Before, RunsNext, KeepsNext, IsRefused}
+use Rattle.region_shop.specs.declared.ageing.TheConstants.{TICKETS}
+use Rattle.region_shop.specs.declared.outcome.NextOutcome.{NextOutcome}
+use Rattle.region_shop.specs.declared.post.Hold.{Hold}
+use Rattle.region_shop.specs.declared.post.Hold.TheVariants.{Permit, Block, Away}
+use Rattle.region_shop.specs.declared.post.Post.{Post}
+use Rattle.region_shop.specs.Handles.{lanes_of, IsHandOf}
+use Rattle.region_shop.specs.Jobs.{HasTaken}
+use Rattle.region_shop.specs.Posts.{outcome_of, IsAfter}
+use Rattle.bitmap_tree.specs.declared.handles.HeldBlock.{HeldBlock}
+use Rattle.bitmap_tree.specs.declared.handles.Permit.{Permit as Right}
 
 -- What a search for a block returns, for a job that the worker has.
 abbrev pub IsPlaced : ShopId → Before → Next → Type 0
@@ -50,3 +60,47 @@ SeesEnds lanes Again known = Unit {0}
 abbrev pub GetsTurn : ShopId → Before → Turn → Type 0
 GetsTurn shop looked turn =
     (tries : ℕ) → (before : Before) → Reaches tries before looked → IsTurn shop tries before turn
+
+-- The worker that holds this runs no job.
+abbrev pub HasPermit : Hold → Type 0
+HasPermit (Permit permit kept ticket) = Unit {0}
+HasPermit (Block block job) = ⊥
+HasPermit Away = ⊥
+
+-- The worker that holds this runs a job.
+abbrev pub HasBlock : Hold → Type 0
+HasBlock (Permit permit kept ticket) = ⊥
+HasBlock (Block block job) = Unit {0}
+HasBlock Away = ⊥
+
+-- The worker that holds this runs no job and keeps none.
+abbrev pub IsSeeking : Hold → Type 0
+IsSeeking (Permit permit kept ticket) = kept ≡ None
+IsSeeking (Block block job) = ⊥
+IsSeeking Away = ⊥
+
+-- The worker that holds this runs no job, and has a permit of this dispatcher.
+abbrev pub MayHold : ShopId → Hold → Type 0
+MayHold shop (Permit permit kept ticket) =
+    (permit.seat.table_id ≡ shop.machine) × (ticket < TICKETS)
+MayHold shop (Block block other) = ⊥
+MayHold shop Away = ⊥
+
+-- The worker in this place runs no job, and has taken this one.
+pub record IsReadyFor (shop : ShopId) (job : ℕ × LaneJob) (post : Post) : Type 0 where
+  pub hand : IsHandOf shop post.hand
+  pub may : MayHold shop post.hold
+  pub took : HasTaken post.hand.log.items (job ∷ []) post.hand.seat.known
+  pub inside : job.0 < lanes_of shop
+
+-- The worker in this place got a block for this job, or why it got none.
+pub record Places (shop : ShopId) (job : ℕ × LaneJob) (old new : Post) (result : NextOutcome)
+    : Type 0 where
+  pub next : Next
+  pub is : IsPlaced shop (record {
+    kept = Some job;
+    known = old.hand.seat.known;
+    served = old.hand.log.items;
+  }) next
+  pub after : IsAfter next new
+  pub outcome_is : result ≡ outcome_of next

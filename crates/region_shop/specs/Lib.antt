@@ -3,6 +3,7 @@ pub mod Looks
 pub mod Jobs
 pub mod Handles
 pub mod Next
+pub mod Posts
 pub mod Sleep
 pub mod Inner
 pub mod Finished

@@ -55,7 +55,7 @@ pub(crate) fn idle(hand: Hand, permit: Permit) -> ShopWorker
 }
 
 // Why the allocator refused, by the number of words that it gave up.
-fn reason_of(contended: u32) -> Reason
+pub(crate) fn reason_of(contended: u32) -> Reason
     ensures none_free { contended ≡ 0 → result ≡ Reason.NoneFree }
     ensures contended { contended ≢ 0 → result ≡ Reason.Contended }
 {

@@ -25,17 +25,16 @@ use Rattle.job_lanes.proofs.handles.Worker.TheSendSync as worker_sent
 use Rattle.job_lanes.proofs.lanes.Lanes.TheSendSync as lanes_sent
 use Rattle.region_shop.proofs.ageing.Ageing.TheSendSync as ageing
 use Rattle.region_shop.proofs.SharedLemmas.{region_shop_sync}
+use Rattle.region_shop.specs.contracts.post.Hold as hold
+use Rattle.region_shop.specs.contracts.post.Post as post
 use Rattle.region_shop.specs.contracts.shop.RegionShop as shop
 use Rattle.region_shop.specs.contracts.sleeper.ShopSleeper as shop_sleeper
 use Rattle.region_shop.specs.contracts.worker.EndedWorker as ended
 use Rattle.region_shop.specs.contracts.worker.Hand as hand
-use Rattle.region_shop.specs.contracts.worker.RunningJob as running
 use Rattle.region_shop.specs.contracts.worker.ShopWorker as worker
 use Rattle.shop_owner.specs.contracts.common.ShopCommon as common
 use Rattle.shop_owner.specs.contracts.kept.KeptIdle as idle
-use Rattle.shop_owner.specs.contracts.kept.KeptRunning as busy
 use Rattle.shop_owner.specs.contracts.owner.ShopOwner as owner
-use Rattle.shop_owner.specs.contracts.post.Post as post
 use Rattle.shop_owner.specs.contracts.sides.DispatchWorker as dispatch_worker
 use Rattle.shop_owner.specs.contracts.sides.Producer as producer
 use Rattle.shop_owner.specs.contracts.sleeper.DispatchSleeper as dispatch_sleeper
@@ -65,8 +64,11 @@ hand_field_send = search (sendable, crosses, worker_sent.the_send) depth 30
 worker_field_send : IsSend (worker.the_field).row
 worker_field_send = search (sendable, crosses, hand_field_send, permit_field_send) depth 30
 
-running_field_send : IsSend (running.the_field).row
-running_field_send = search (sendable, crosses, hand_field_send, held_field_send) depth 30
+hold_field_send : IsSend (hold.the_field).row
+hold_field_send = search (sendable, crosses, permit_field_send, held_field_send) depth 40
+
+post_field_send : IsSend (post.the_field).row
+post_field_send = search (sendable, crosses, hand_field_send, hold_field_send) depth 30
 
 ended_field_send : IsSend (ended.the_field).row
 ended_field_send = search (sendable, crosses, hand_field_send, permit_field_send) depth 30
@@ -133,17 +135,11 @@ common_field_sync = search (sendable, crosses, region_shop_sync, counted.the_syn
 common_sync : IsSync common.the_row
 common_sync = search (sendable, common_field_sync) depth 30
 
-busy_field_send : IsSend (busy.the_field).row
-busy_field_send = search (sendable, crosses, running_field_send) depth 30
-
 pub producer_send : IsSend (producer.the_field).row
 producer_send = search (sendable, crosses, lane_sent.the_send, common_send, common_sync) depth 60
 
-post_send : IsSend (post.the_field).row
-post_send = search (sendable, crosses, idle_field_send, busy_field_send) depth 60
-
 pub dispatch_worker_send : IsSend (dispatch_worker.the_field).row
-dispatch_worker_send = struct_send (shape dispatch_worker.the_type) (search (sendable, crosses, common_send, common_sync) depth 60, (search sendable, (post_send, tt)))
+dispatch_worker_send = struct_send (shape dispatch_worker.the_type) (search (sendable, crosses, common_send, common_sync) depth 60, (search sendable, (search (sendable, crosses, post_field_send) depth 40, tt)))
 
 shop_sleeper_field_send : IsSend (shop_sleeper.the_field).row
 shop_sleeper_field_send = search (sendable, crosses, finder_sent.the_send, log_sent.the_send, permit_field_send) depth 80

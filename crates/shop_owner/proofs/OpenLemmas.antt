@@ -10,11 +10,12 @@ use Rattle.std.proofs.Math.ListN.{set}
 use Rattle.job_lanes.specs.Lanes.{LanesId}
 use Rattle.kept_places.specs.declared.kept.KeptLane.{KeptLane}
 use Rattle.kept_places.specs.Kept.{new_lane, AreLanes, HasFreshLanes, IsLaneAt}
+use Rattle.std.specs.Mem.{manually_drop_value}
+use Rattle.region_shop.specs.declared.post.Post.{Post}
 use Rattle.region_shop.specs.Handles.{ShopId}
+use Rattle.region_shop.specs.Posts.{IsIdle, IsPostOf}
+use Rattle.region_shop.proofs.PostLemmas.{idle_post}
 use Rattle.shop_owner.specs.declared.kept.KeptIdle.{KeptIdle}
-use Rattle.shop_owner.specs.declared.kept.KeptRunning.{KeptRunning}
-use Rattle.shop_owner.specs.declared.post.Post.TheVariants.{Idle, Running}
-use Rattle.shop_owner.specs.Posts.{IsPostOf}
 use Rattle.shop_owner.specs.Stages.{HasFreshWorkers, IsFreshWorker, AreWorkers, IsFree}
 
 -- what holds of each of two lists in a row holds of each of the first
@@ -108,15 +109,9 @@ pub empty_free : (shop : ShopId) (places : List (Option KeptIdle)) (place : ℕ)
     → AreWorkers shop (set places place None)
 empty_free shop places place inside are i kept is = none_if shop places place i kept inside are is (cases_lt i place) (cases_lt place i)
 
-same_idle : (a b : KeptIdle) → Idle a ≡ Idle b → a ≡ b
-same_idle a b is = search rules
-
-idle_runs : (a : KeptIdle) (b : KeptRunning) → Idle a ≡ Running b → ⊥
-idle_runs a b is = search rules
-
--- a worker that keeps no job is one that runs none
-pub post_free : (shop : ShopId) (kept : KeptIdle) → IsFree shop kept → IsPostOf shop (Idle kept)
-post_free shop kept free = (λ other is. (subst (IsFree shop) (same_idle kept other is) free).0, λ running is. absurd (idle_runs kept running is))
+-- a worker that keeps no job is in its place
+pub post_free : (shop : ShopId) (kept : KeptIdle) (post : Post) → IsFree shop kept → IsIdle (manually_drop_value kept.worker) post → IsPostOf shop post
+post_free shop kept post free is = idle_post shop post (manually_drop_value kept.worker) free.0 is
 
 -- a list of one
 pub all_one : {T : Type 0} (P : T → Type 0) (x : T) → P x → All P (x ∷ [])

@@ -2,14 +2,16 @@
 use Rattle.std.specs.Prelude.{◌≡◌, ℕ, ◌^◌, ◌-◌, min, Some, None, List, length, slice_index_or, slice_set}
 use Rattle.std.specs.Arc.{arc_value}
 use Rattle.std.specs.List.{sum}
+use Rattle.std.specs.Mem.{manually_drop_value}
+use Rattle.region_shop.specs.Posts.{IsIdle}
 use Rattle.kept_places.specs.declared.kept.KeptLane.{KeptLane}
 use Rattle.kept_places.specs.Returns.{StayFull}
 use Rattle.shop_owner.specs.declared.kept.KeptIdle.{KeptIdle}
 use Rattle.shop_owner.specs.declared.owner.ShopOwner.{ShopOwner}
-use Rattle.shop_owner.specs.declared.post.Post.TheVariants.{Idle}
 use Rattle.shop_owner.specs.declared.sides.DispatchWorker.{DispatchWorker}
 use Rattle.shop_owner.specs.declared.sides.Producer.{Producer}
 use Rattle.shop_owner.specs.Owners.{owner_shop}
+use Rattle.shop_owner.specs.Seats.{post_of}
 use Rattle.shop_owner.specs.Stages.{IsClosedAt}
 
 -- The producer has the lane that was in this place, of the same dispatcher. Nothing else has
@@ -29,7 +31,7 @@ pub record HasDealtWorker (place : ℕ) (old new : ShopOwner) (worker : Dispatch
   where
     pub kept : KeptIdle
     pub was : slice_index_or old.workers.items place None ≡ Some kept
-    pub post : worker.post ≡ Idle kept
+    pub post : IsIdle (manually_drop_value kept.worker) (post_of worker)
     pub number : worker.number ≡ place
     pub share : arc_value worker.common ≡ arc_value old.common
     pub emptied : new.workers.items ≡ slice_set old.workers.items place None

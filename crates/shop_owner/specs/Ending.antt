@@ -1,5 +1,5 @@
 -- How a dispatcher ends.
-use Rattle.std.specs.Prelude.{◌≡◌, ℕ, ◌<◌, Option, Some, None, IsSome, List, length, slice_index_or}
+use Rattle.std.specs.Prelude.{◌≡◌, ℕ, ◌<◌, Option, Some, None, List, length, slice_index_or}
 use Rattle.std.specs.Mem.{manually_drop_value}
 use Rattle.job_lanes.specs.declared.record.LaneJob.{LaneJob}
 use Rattle.job_lanes.specs.Lanes.{LanesId}
@@ -8,15 +8,11 @@ use Rattle.kept_places.specs.Kept.{kept_by}
 use Rattle.kept_places.specs.Places.{AreFullBelow}
 use Rattle.region_shop.specs.declared.finishing.FinishedShop.{FinishedShop}
 use Rattle.region_shop.specs.Finished.{outcome, FinishedJobs}
-use Rattle.region_shop.specs.Handles.{kept_of, lanes_of, served_of, ShopId}
+use Rattle.region_shop.specs.Handles.{lanes_of, served_of, ShopId}
 use Rattle.shop_owner.specs.declared.kept.KeptIdle.{KeptIdle}
 use Rattle.shop_owner.specs.declared.outcome.FinishState.{FinishState}
 use Rattle.shop_owner.specs.declared.outcome.FinishState.TheVariants.{NotClosed, LaneOut, WorkerOut, Ready}
-use Rattle.shop_owner.specs.declared.outcome.WorkerState.{WorkerState}
-use Rattle.shop_owner.specs.declared.outcome.WorkerState.TheVariants.{Free, KeepsJob, RunsJob}
 use Rattle.shop_owner.specs.declared.owner.ShopOwner.{ShopOwner}
-use Rattle.shop_owner.specs.declared.post.Post.{Post}
-use Rattle.shop_owner.specs.declared.post.Post.TheVariants.{Idle, Running}
 use Rattle.shop_owner.specs.declared.stage.ShopStage.{ShopStage}
 use Rattle.shop_owner.specs.Owners.{owner_shop}
 use Rattle.shop_owner.specs.Stages.{IsClosed, IsClosedAt, IsFree, IsOpen}
@@ -28,15 +24,6 @@ IsLaneIn id place = (kept : KeptLane) × (place ≡ Some kept) × (kept.lane.id 
 -- The place has a worker of this dispatcher that keeps no job.
 abbrev pub IsIdleIn : ShopId → Option KeptIdle → Type 0
 IsIdleIn shop place = (kept : KeptIdle) × (place ≡ Some kept) × IsFree shop kept
-
--- Whether the worker is free, keeps a job or runs one.
-abbrev pub IsStateOf : Post → WorkerState → Type 0
-IsStateOf (Idle kept) Free = kept_of (manually_drop_value kept.worker) ≡ None
-IsStateOf (Idle kept) KeepsJob = IsSome (kept_of (manually_drop_value kept.worker))
-IsStateOf (Idle kept) RunsJob = ⊥
-IsStateOf (Running kept) RunsJob = Unit {0}
-IsStateOf (Running kept) Free = ⊥
-IsStateOf (Running kept) KeepsJob = ⊥
 
 -- This place is the first that is empty.
 pub record IsFirstEmpty {T : Type 0} (place : ℕ) (places : List (Option T)) : Type 0 where

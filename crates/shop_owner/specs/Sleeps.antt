@@ -4,44 +4,38 @@ use Rattle.std.specs.Arc.{arc_value}
 use Rattle.std.specs.Mem.{manually_drop_value}
 use Rattle.kept_places.specs.declared.tries.TheConstants.{TRIES}
 use Rattle.region_shop.specs.declared.next.Next.{Next}
+use Rattle.region_shop.specs.declared.next.Reason.TheVariants.{OlderJob}
+use Rattle.region_shop.specs.declared.outcome.NextOutcome.TheVariants as outcome
 use Rattle.region_shop.specs.declared.sleeper.ShopSleeper.{ShopSleeper}
 use Rattle.region_shop.specs.declared.sleeper.Turn.{Turn}
 use Rattle.region_shop.specs.declared.sleeper.Turn.TheVariants as turn
 use Rattle.region_shop.specs.declared.worker.ShopWorker.{ShopWorker}
-use Rattle.region_shop.specs.Handles.{known_of, running_known}
 use Rattle.region_shop.specs.Next.{before_of}
+use Rattle.region_shop.specs.Posts.{outcome_of, IsAfter, IsIdle, RunsOn}
 use Rattle.region_shop.specs.Sleep.{asleep_of, IsTurn}
 use Rattle.shop_owner.specs.declared.common.ShopCommon.{ShopCommon}
-use Rattle.shop_owner.specs.declared.outcome.NextOutcome.TheVariants as outcome
-use Rattle.shop_owner.specs.declared.post.Post.{Post}
-use Rattle.shop_owner.specs.declared.post.Post.TheVariants.{Idle, Running}
 use Rattle.shop_owner.specs.declared.sides.DispatchWorker.{DispatchWorker}
 use Rattle.shop_owner.specs.declared.sleeper.Berth.{Berth}
 use Rattle.shop_owner.specs.declared.sleeper.Berth.TheVariants.{Up, Down}
 use Rattle.shop_owner.specs.declared.sleeper.DispatchSleeper.{DispatchSleeper}
 use Rattle.shop_owner.specs.declared.sleeper.FindOutcome.{FindOutcome}
 use Rattle.shop_owner.specs.declared.sleeper.FindOutcome.TheVariants as find
-use Rattle.shop_owner.specs.Calls.{outcome_of, IsAfter, RunsOn}
-use Rattle.shop_owner.specs.Posts.{common_shop, IsIdle}
-
--- The number of a worker among those of its dispatcher.
-abbrev pub number_of : Post → ℕ
-number_of (Idle kept) = (known_of (manually_drop_value kept.worker)).number
-number_of (Running kept) = (running_known (manually_drop_value kept.running)).number
+use Rattle.shop_owner.specs.Posts.{common_shop}
+use Rattle.shop_owner.specs.Seats.{post_of, IsSameSeat}
 
 -- The outcome of a turn, without the worker.
 abbrev pub turn_outcome : Turn → FindOutcome
 turn_outcome (turn.Awake next) = find.Next (outcome_of next)
 turn_outcome (turn.Park sleeper) = find.Park
 turn_outcome (turn.Again sleeper) = find.Again
-turn_outcome (turn.Refused sleeper) = find.Next outcome.OlderJob
+turn_outcome (turn.Refused sleeper) = find.Next (outcome.NoRegion OlderJob)
 
 -- The worker is awake at its place in this dispatcher, and does what a call for the next job left.
 pub record IsUpWith (common : ShopCommon) (number : ℕ) (next : Next) (worker : DispatchWorker)
     : Type 0 where
   pub common_is : arc_value worker.common ≡ common
   pub number_is : worker.number ≡ number
-  pub after : IsAfter next worker.post
+  pub after : IsAfter next (post_of worker)
 
 -- It is this worker that lies down, at its place in this dispatcher.
 pub record IsDownWith (common : ShopCommon) (number : ℕ) (sleeper : ShopSleeper)
@@ -71,7 +65,7 @@ BerthsAt common number (turn.Refused sleeper) berth = IsDownAt common number sle
 pub record Seeks (old : DispatchWorker) (berth : Berth) (result : FindOutcome) : Type 0 where
   pub worker : ShopWorker
   pub got : Turn
-  pub was : IsIdle worker old.post
+  pub was : IsIdle worker (post_of old)
   pub is : IsTurn (common_shop (arc_value old.common)) TRIES (before_of worker) got
   pub after : BerthsAt (arc_value old.common) old.number got berth
   pub outcome_is : result ≡ turn_outcome got
@@ -79,7 +73,8 @@ pub record Seeks (old : DispatchWorker) (berth : Berth) (result : FindOutcome) :
 -- It runs a job, and nothing changed.
 pub record StaysUp (old : DispatchWorker) (berth : Berth) (result : FindOutcome) : Type 0 where
   pub worker : DispatchWorker
-  pub runs : RunsOn old worker
+  pub runs : RunsOn (post_of old) (post_of worker)
+  pub same : IsSameSeat old worker
   pub up : berth ≡ Up worker
   pub outcome_is : result ≡ find.Next outcome.RunsJob
 

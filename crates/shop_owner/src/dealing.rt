@@ -4,9 +4,10 @@ ghost use Rattle.kept_places.specs.Places.{AreEmptyBelow};
 ghost use Rattle.shop_owner.specs.Deals.{HasDealtLane, HasDealtWorker};
 
 use crate::owner::ShopOwner;
-use crate::post::Post;
+use crate::seating::seated;
 use crate::sides::{DispatchWorker, Producer};
 use kept_places::{first_full, take_from};
+use region_shop::Post;
 use std::sync::Arc;
 
 impl ShopOwner {
@@ -68,10 +69,7 @@ impl ShopOwner {
         let Some(kept) = take_from(&mut self.workers, place) else {
             unreachable!()
         };
-        Some(DispatchWorker {
-            common,
-            number: place as u32,
-            post: Post::Idle(kept),
-        })
+        let post = Post::of(kept.into_worker());
+        Some(seated(common, place as u32, post))
     }
 }

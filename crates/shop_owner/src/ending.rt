@@ -6,21 +6,22 @@ ghost use Rattle.std.specs.Mem.{manually_drop_value};
 ghost use Rattle.std.specs.Vec.{vec_capacity};
 ghost use Rattle.kept_places.specs.Kept.{kept_by};
 ghost use Rattle.region_shop.specs.Handles.{end_known, end_served, known_of, lanes_of, served_of, shop_of, workers_of, IsEndOf};
-ghost use Rattle.shop_owner.specs.Ending.{AllAreBack, AreFull, HasEnded, IsFinishState, IsIdleIn, IsLaneIn, IsRestOf, IsStateOf};
+ghost use Rattle.region_shop.specs.Posts.{IsStateOf};
+ghost use Rattle.shop_owner.specs.Ending.{AllAreBack, AreFull, HasEnded, IsFinishState, IsIdleIn, IsLaneIn, IsRestOf};
 ghost use Rattle.shop_owner.specs.Posts.{common_shop};
+ghost use Rattle.shop_owner.specs.Seats.{post_of};
 ghost use Rattle.shop_owner.specs.Stages.{IsClosed, IsFree, IsStageOf};
 
 use crate::common::ShopCommon;
 use crate::kept::KeptIdle;
-use crate::outcome::{FinishState, WorkerState};
+use crate::outcome::FinishState;
 use crate::owner::ShopOwner;
-use crate::post::Post;
 use crate::room::EndRoom;
 use crate::sides::DispatchWorker;
 use crate::stage::ShopStage;
 use job_lanes::{Lane, LaneJob};
 use kept_places::{KeptLane, first_empty};
-use region_shop::{EndedWorker, RegionShop};
+use region_shop::{EndedWorker, RegionShop, WorkerState};
 use std::collections::VecDeque;
 use std::sync::Arc;
 
@@ -69,25 +70,9 @@ fn collect_ends(
 impl DispatchWorker {
     /// Returns whether the worker is free, keeps a job or runs one.
     pub fn state(&self) -> WorkerState
-        ensures { IsStateOf self.now.post result }
+        ensures { IsStateOf (post_of self.now) result }
     {
-        match &self.post {
-            Post::Running(_) => WorkerState::RunsJob,
-            Post::Idle(kept) => kept.state(),
-        }
-    }
-}
-
-impl KeptIdle {
-    // Returns whether the worker is free or keeps a job.
-    fn state(&self) -> WorkerState
-        ensures { IsStateOf (Post.Idle self.now) result }
-    {
-        if self.worker.kept().is_none() {
-            WorkerState::Free
-        } else {
-            WorkerState::KeepsJob
-        }
+        self.post.state()
     }
 }
 

@@ -2,19 +2,21 @@
 ghost use Rattle.std.specs.Prelude.{◌≡◌, ◌≤◌, [], IfErr, length};
 ghost use Rattle.std.specs.Vec.{vec_capacity};
 ghost use Rattle.region_shop.specs.Handles.{shop_of};
-ghost use Rattle.shop_owner.specs.declared.outcome.WorkerState.{WorkerState};
+ghost use Rattle.region_shop.specs.declared.outcome.WorkerState.{WorkerState};
+ghost use Rattle.region_shop.specs.Posts.{IsStateOf};
 ghost use Rattle.shop_owner.specs.Deals.{HasCollected};
-ghost use Rattle.shop_owner.specs.Ending.{IsStateOf};
 ghost use Rattle.shop_owner.specs.Names.{AreNamedBy};
+ghost use Rattle.shop_owner.specs.Seats.{post_of};
 ghost use Rattle.shop_owner.specs.Stages.{IsFree};
 
 use crate::kept::KeptIdle;
 use crate::owner::ShopOwner;
-use crate::post::Post;
+use crate::seating::seated;
 use crate::sides::DispatchWorker;
 use counted_slot::{Counted, Fits};
 use kept_places::{ReturnPlace, collect_all, leave};
-use region_shop::RegionShop;
+use region_shop::{Post, RegionShop};
+use std::mem::ManuallyDrop;
 
 impl Fits for KeptIdle {
     type Tag = RegionShop;
@@ -44,7 +46,7 @@ impl DispatchWorker {
     /// Leaves a free worker to the owner, and drops its share of the dispatcher. Gives the worker
     /// back if another call is at its place.
     pub fn leave(self) -> Result<(), DispatchWorker>
-        requires free { IsStateOf self.post WorkerState.Free }
+        requires free { IsStateOf (post_of self) WorkerState.Free }
         ensures { IfErr result (λ worker. worker ≡ self) }
     {
         let DispatchWorker {
@@ -52,16 +54,16 @@ impl DispatchWorker {
             number,
             post,
         } = self;
-        let Post::Idle(kept) = post else {
-            unreachable!()
+        let worker = match ManuallyDrop::into_inner(post).into_worker() {
+            Ok(worker) => worker,
+            Err(_post) => unreachable!(),
         };
-        match leave(&common.workers[number as usize], kept) {
+        match leave(&common.workers[number as usize], KeptIdle::of(worker)) {
             Ok(()) => Ok(()),
-            Err(kept) => Err(DispatchWorker {
-                common,
-                number,
-                post: Post::Idle(kept),
-            }),
+            Err(kept) => {
+                let post = Post::of(kept.into_worker());
+                Err(seated(common, number, post))
+            }
         }
     }
 }

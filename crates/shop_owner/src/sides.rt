@@ -1,13 +1,16 @@
 //! A producer and a worker of a dispatcher, each with its share of it.
 ghost use Rattle.std.specs.Prelude.{◌≡◌, ◌<◌};
 ghost use Rattle.std.specs.Arc.{arc_value};
-ghost use Rattle.region_shop.proofs.PropLemmas.{fact_props};
-ghost use Rattle.shop_owner.specs.Posts.{common_shop, IsPostOf};
+ghost use Rattle.std.specs.Mem.{manually_drop_value};
+ghost use Rattle.region_shop.proofs.PostLemmas.{post_props};
+ghost use Rattle.region_shop.specs.Posts.{IsPostOf};
+ghost use Rattle.shop_owner.specs.Posts.{common_shop};
 
 use crate::common::ShopCommon;
-use crate::post::Post;
 use job_lanes::{Lane, Submitted};
 use kept_places::{KeptLane, leave};
+use region_shop::Post;
+use std::mem::ManuallyDrop;
 use std::sync::Arc;
 
 /// The right to submit jobs to one lane.
@@ -23,8 +26,8 @@ pub struct Producer {
 pub struct DispatchWorker {
     pub(crate) common: Arc<ShopCommon>,
     pub(crate) number: u32,
-    pub(crate) post: Post,
-    ghost of_shop: { IsPostOf (common_shop (arc_value common)) post } by { Prim.hlevel fact_props },
+    pub(crate) post: ManuallyDrop<Post>,
+    ghost of_shop: { IsPostOf (common_shop (arc_value common)) (manually_drop_value post) } by { Prim.hlevel post_props },
     ghost inside: { number < (common_shop (arc_value common)).lanes.plan.sizes.workers },
 }
 

@@ -8,9 +8,8 @@ ghost use Rattle.region_shop.specs.Sleep.{IsSleeperOf};
 ghost use Rattle.shop_owner.specs.Posts.{common_shop};
 
 use crate::common::ShopCommon;
-use crate::outcome::NextOutcome;
 use crate::sides::DispatchWorker;
-use region_shop::ShopSleeper;
+use region_shop::{NextOutcome, ShopSleeper};
 use std::mem::ManuallyDrop;
 use std::sync::Arc;
 

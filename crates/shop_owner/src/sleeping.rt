@@ -3,23 +3,21 @@ ghost use Rattle.std.specs.Prelude.{◌≡◌, ◌<◌, false, true, IfSome};
 ghost use Rattle.std.specs.Arc.{arc_value};
 ghost use Rattle.std.specs.Mem.{manually_drop_value};
 ghost use Rattle.kept_places.specs.declared.tries.TheConstants.{TRIES};
-ghost use Rattle.region_shop.specs.Handles.{known_of, running_known};
 ghost use Rattle.region_shop.specs.Next.{Before};
 ghost use Rattle.region_shop.specs.Sleep.{asleep_of, IsGot, IsParked, IsSleeperOf, IsTurn, IsUp};
-ghost use Rattle.shop_owner.specs.Calls.{outcome_of};
+ghost use Rattle.region_shop.specs.Posts.{number_of, outcome_of};
 ghost use Rattle.shop_owner.specs.Posts.{common_shop};
-ghost use Rattle.shop_owner.specs.Sleeps.{number_of, turn_outcome, BerthsAt, HasSought, HasSoughtAgain, IsDownAt, IsSameSleeper, IsUpAt};
+ghost use Rattle.shop_owner.specs.Seats.{post_of};
+ghost use Rattle.shop_owner.specs.Sleeps.{turn_outcome, BerthsAt, HasSought, HasSoughtAgain, IsDownAt, IsSameSleeper, IsUpAt};
 ghost use Rattle.shop_owner.specs.declared.sleeper.FindOutcome.TheVariants as find;
 
-use crate::calls::after;
 use crate::common::ShopCommon;
-use crate::kept::{KeptIdle, KeptRunning};
-use crate::outcome::NextOutcome;
-use crate::post::Post;
+use crate::seating::seated;
 use crate::sides::DispatchWorker;
 use crate::sleeper::{Berth, DispatchSleeper, FindOutcome, KeptAsleep};
 use kept_places::TRIES;
-use region_shop::{Next, ShopSleeper, Turn};
+use region_shop::{Next, NextOutcome, Reason, ShopSleeper, Turn};
+use std::mem::ManuallyDrop;
 use std::sync::Arc;
 
 // Returns a worker that lies down.
@@ -42,12 +40,8 @@ fn up(common: Arc<ShopCommon>, number: u32, next: Next) -> (Berth, FindOutcome)
     ensures berth { IsUpAt (arc_value common) number next result.0 }
     ensures outcome { result.1 ≡ find.Next (outcome_of next) }
 {
-    let (post, outcome) = after(next);
-    let worker = DispatchWorker {
-        common,
-        number,
-        post,
-    };
+    let (post, outcome) = next.into_post();
+    let worker = seated(common, number, post);
     (Berth::Up(worker), FindOutcome::Next(outcome))
 }
 
@@ -63,7 +57,7 @@ fn settle(common: Arc<ShopCommon>, number: u32, turn: Turn) -> (Berth, FindOutco
         Turn::Park(sleeper) => (down(common, number, sleeper), FindOutcome::Park),
         Turn::Again(sleeper) => (down(common, number, sleeper), FindOutcome::Again),
         Turn::Refused(sleeper) => {
-            let refused = FindOutcome::Next(NextOutcome::OlderJob);
+            let refused = FindOutcome::Next(NextOutcome::NoRegion(Reason::OlderJob));
             (down(common, number, sleeper), refused)
         }
     }
@@ -77,49 +71,29 @@ impl DispatchWorker {
         ensures woken { IfSome result.2 (λ number.
             number < (common_shop (arc_value self.common)).lanes.plan.sizes.workers) }
     {
-        if let Post::Running(_) = &self.post {
-            let runs = FindOutcome::Next(NextOutcome::RunsJob);
-            return (Berth::Up(self), runs, None);
-        }
         let DispatchWorker {
             common,
             number,
             post,
         } = self;
-        let Post::Idle(kept) = post else {
-            unreachable!()
+        let worker = match ManuallyDrop::into_inner(post).into_worker() {
+            Ok(worker) => worker,
+            Err(post) => {
+                let worker = seated(common, number, post);
+                let runs = FindOutcome::Next(NextOutcome::RunsJob);
+                return (Berth::Up(worker), runs, None);
+            }
         };
-        let (turn, woken) = common.shop().find(kept.into_worker(), TRIES);
+        let (turn, woken) = common.shop().find(worker, TRIES);
         let (berth, outcome) = settle(common, number, turn);
         (berth, outcome, woken)
     }
 
     /// Returns the worker's number among those of its dispatcher.
     pub fn number(&self) -> u32
-        ensures { result ≡ number_of self.now.post }
+        ensures { result ≡ number_of (post_of self.now) }
     {
-        match &self.post {
-            Post::Idle(kept) => kept.number(),
-            Post::Running(kept) => kept.number(),
-        }
-    }
-}
-
-impl KeptIdle {
-    // Returns the worker's number.
-    fn number(&self) -> u32
-        ensures { result ≡ (known_of (manually_drop_value self.now.worker)).number }
-    {
-        self.worker.number()
-    }
-}
-
-impl KeptRunning {
-    // Returns the worker's number.
-    fn number(&self) -> u32
-        ensures { result ≡ (running_known (manually_drop_value self.now.running)).number }
-    {
-        self.running.number()
+        self.post.number()
     }
 }
 

@@ -1,26 +1,18 @@
--- The worker keeps no job, and its place is for workers of the dispatcher.
-use Rattle.std.proofs.Common.{◌≡◌, ◌∙◌, ap, arith, get_or, subst, sym}
-use Rattle.std.specs.Arc.{arc_value}
-use Rattle.job_lanes.specs.declared.sizes.Sizes.{Sizes}
-use Rattle.region_shop.specs.Handles.{shop_of}
-use Rattle.shop_owner.specs.declared.common.ShopCommon.{ShopCommon}
-use Rattle.shop_owner.specs.declared.outcome.WorkerState.TheVariants.{Free}
-use Rattle.shop_owner.specs.Ending.{IsStateOf}
-use Rattle.shop_owner.specs.Posts.{common_shop}
-use Rattle.shop_owner.specs.Stages.{IsFree}
-use Rattle.shop_owner.proofs.OpenLemmas.{post_free}
+-- The worker that comes back is the one that was in the place.
+use Rattle.std.proofs.Common.{◌∙◌, ap, subst, sym}
+use Rattle.std.specs.Mem.{manually_drop_value}
+use Rattle.region_shop.specs.declared.post.Post.{Post}
+use Rattle.region_shop.specs.declared.worker.ShopWorker.{ShopWorker}
+use Rattle.region_shop.specs.Posts.{IsIdle}
+use Rattle.region_shop.proofs.PostLemmas.{same_idle}
+use Rattle.shop_owner.specs.declared.kept.KeptIdle.{KeptIdle}
+use Rattle.shop_owner.proofs.ReturnLemmas.{same_worker}
 use Rattle.shop_owner.proofs.sides.DispatchWorker.leave.Goals as goal
 
-pub leave-requires : goal.leave-requires
-leave-requires c =
-    let self = c.args.self in let common = arc_value self.common in let shop = common_shop common in let kept = c.in-Idle.kept in let found = c.index.result.now in
-    let free : IsFree shop kept = (self.of_shop.0 kept c.in-Idle.is, subst (λ p. IsStateOf p Free) c.in-Idle.is c.requires.free) in
-    let here : shop_of found ≡ shop = ap shop_of c.index.ensures ∙ (ap (λ (x : ShopCommon). shop_of (get_or x.workers.items self.number found)) c.deref.ensures
-    ∙ common.workers_named self.number found (omega (arith, self.inside, ap (λ (z : Sizes). z.workers) common.sizes_are))) in
-    record { fits = subst (λ s. IsFree s kept) (sym here) free }
-
-pub invariant_of-result-clause-of_shop : goal.invariant_of-result-clause-of_shop
-invariant_of-result-clause-of_shop c =
-    let self = c.args.self in let shop = common_shop (arc_value self.common) in let kept = c.in-Idle.kept in
-    let free : IsFree shop kept = (self.of_shop.0 kept c.in-Idle.is, subst (λ p. IsStateOf p Free) c.in-Idle.is c.requires.free) in
-    post_free shop c.in-Err.kept (subst (IsFree shop) (sym c.in-Err.ensures.refused) free)
+pub returns-in-Err-leave : goal.returns-in-Err-leave
+returns-in-Err-leave c =
+    let worker = c.in-Ok.worker in
+    let back = c.into_worker-in-Err-leave.ensures ∙ (ap (λ (k : KeptIdle). manually_drop_value k.worker) c.in-Err-leave.ensures.refused ∙ c.of.ensures) in
+    let there = subst (λ (w : ShopWorker). IsIdle w c.of-post.result) back c.of-post.ensures in
+    same_worker c.seated.result c.args.self c.seated.ensures.common c.seated.ensures.number
+    (c.seated.ensures.post ∙ (same_idle worker c.of-post.result c.into_inner.result there c.in-Ok.ensures.worker ∙ c.into_inner.ensures))

@@ -1,0 +1,179 @@
+//! A worker that stays in its place, whether it runs a job or not.
+ghost use Rattle.std.specs.Prelude.{◌≡◌, ℕ, Option, None, IfErr, IfOk, IsSome};
+ghost use Rattle.job_lanes.specs.declared.record.LaneJob.{LaneJob};
+ghost use Rattle.region_shop.specs.Handles.{ShopId};
+ghost use Rattle.region_shop.specs.Inner.{HasBlock, HasPermit};
+ghost use Rattle.region_shop.specs.Posts.{outcome_of, IsAfter, IsIdle, IsPostOf, IsRunning, IsStateOf, number_of};
+
+use crate::next::Next;
+use crate::outcome::{NextOutcome, WorkerState};
+use crate::worker::{Hand, RunningJob, ShopWorker};
+use bitmap_tree::{HeldBlock, Permit};
+use job_lanes::LaneJob;
+use std::mem::replace;
+
+/// A worker that stays in its place while it takes jobs and runs them. It cannot be dropped.
+pub struct Post {
+    pub(crate) hand: Hand,
+    pub(crate) hold: Hold,
+}
+
+/// What a worker holds in its place.
+pub enum Hold {
+    /// The right to hold a block, the job that it keeps, with its lane, and the ticket of that job,
+    /// or 0. It runs no job.
+    Permit(Permit, Option<(u32, LaneJob)>, u64),
+    /// The block on which it runs this job, with its lane.
+    Block(HeldBlock, (u32, LaneJob)),
+    /// Neither: a call has borrowed it.
+    Away,
+}
+
+// Whether a worker is free that runs no job.
+fn state_by(kept: Option<(u32, LaneJob)>) -> WorkerState
+    ensures free { kept ≡ None → result ≡ WorkerState.Free }
+    ensures keeps { IsSome kept → result ≡ WorkerState.KeepsJob }
+{
+    match kept {
+        None => WorkerState::Free,
+        Some(_) => WorkerState::KeepsJob,
+    }
+}
+
+impl Post {
+    ghost use Rattle.region_shop.specs.declared.post.Hold.TheVariants as holds;
+
+    /// Puts a worker that runs no job in its place.
+    #[inline(always)]
+    pub fn of(worker: ShopWorker) -> Post
+        ensures { IsIdle worker result }
+    {
+        let ShopWorker {
+            hand,
+            permit,
+            kept,
+            ticket,
+        } = worker;
+        Post {
+            hand,
+            hold: Hold::Permit(permit, kept, ticket),
+        }
+    }
+
+    // Puts a worker that runs a job in its place.
+    fn of_running(running: RunningJob) -> Post
+        ensures { IsRunning running result }
+    {
+        let RunningJob { hand, block, job } = running;
+        Post {
+            hand,
+            hold: Hold::Block(block, job),
+        }
+    }
+
+    // Puts back what a call has borrowed.
+    #[inline(always)]
+    pub(crate) fn put(&mut self, hold: Hold)
+        requires { self.old.hold ≡ holds.Away }
+        ensures hand { self.new.hand ≡ self.old.hand }
+        ensures hold { self.new.hold ≡ hold }
+    {
+        match replace(&mut self.hold, hold) {
+            Hold::Away => (),
+            _other => unreachable!(),
+        }
+    }
+
+    // Borrows the permit of a worker that runs no job, with the ticket.
+    #[inline(always)]
+    pub(crate) fn take_permit(&mut self) -> (Permit, u64)
+        requires { HasPermit self.old.hold }
+        ensures was { (kept : Option (ℕ × LaneJob))
+            × (self.old.hold ≡ holds.Permit result.0 kept result.1) }
+        ensures hand { self.new.hand ≡ self.old.hand }
+        ensures hold { self.new.hold ≡ holds.Away }
+    {
+        match replace(&mut self.hold, Hold::Away) {
+            Hold::Permit(permit, _, ticket) => (permit, ticket),
+            _other => unreachable!(),
+        }
+    }
+
+    // Borrows the block of a worker that runs a job, with the job.
+    #[inline(always)]
+    pub(crate) fn take_block(&mut self) -> (HeldBlock, (u32, LaneJob))
+        requires { HasBlock self.old.hold }
+        ensures was { self.old.hold ≡ holds.Block result.0 result.1 }
+        ensures hand { self.new.hand ≡ self.old.hand }
+        ensures hold { self.new.hold ≡ holds.Away }
+    {
+        match replace(&mut self.hold, Hold::Away) {
+            Hold::Block(block, job) => (block, job),
+            _other => unreachable!(),
+        }
+    }
+
+    /// Returns whether the worker is free, keeps a job or runs one.
+    pub fn state(&self) -> WorkerState
+        requires { (shop : ShopId) × IsPostOf shop self.now }
+        ensures { IsStateOf self.now result }
+    {
+        match &self.hold {
+            Hold::Permit(_, kept, _) => state_by(*kept),
+            Hold::Block(_, _) => WorkerState::RunsJob,
+            Hold::Away => unreachable!(),
+        }
+    }
+
+    /// Returns the worker's number among the workers.
+    pub fn number(&self) -> u32
+        ensures { result ≡ number_of self.now }
+    {
+        self.hand.seat.number()
+    }
+
+    /// Takes a worker that runs no job out of its place.
+    pub fn into_worker(self) -> Result<ShopWorker, Post>
+        requires { (shop : ShopId) × IsPostOf shop self }
+        ensures worker { IfOk result (λ worker. IsIdle worker self) }
+        ensures runs { IfErr result (λ post. IsStateOf self WorkerState.RunsJob × (post ≡ self)) }
+    {
+        let Post { hand, hold } = self;
+        match hold {
+            Hold::Permit(permit, kept, ticket) => Ok(ShopWorker {
+                hand,
+                permit,
+                kept,
+                ticket,
+            }),
+            Hold::Block(block, job) => Err(Post {
+                hand,
+                hold: Hold::Block(block, job),
+            }),
+            Hold::Away => unreachable!(),
+        }
+    }
+}
+
+impl Next {
+    /// Puts the worker in its place. Returns the place and the outcome.
+    pub fn into_post(self) -> (Post, NextOutcome)
+        ensures after { IsAfter self result.0 }
+        ensures outcome { result.1 ≡ outcome_of self }
+    {
+        match self {
+            Next::Run(running) => {
+                let (lane, job) = running.job();
+                let block = running.region();
+                (
+                    Post::of_running(running),
+                    NextOutcome::Run(lane, job, block),
+                )
+            }
+            Next::NoRegion(worker, reason) => (Post::of(worker), NextOutcome::NoRegion(reason)),
+            Next::TooLarge(worker) => (Post::of(worker), NextOutcome::TooLarge),
+            Next::Empty(worker) => (Post::of(worker), NextOutcome::Empty),
+            Next::Ended(worker) => (Post::of(worker), NextOutcome::Ended),
+        }
+    }
+}
