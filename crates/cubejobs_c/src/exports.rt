@@ -5,6 +5,7 @@ ghost use Rattle.cube_shape.specs.declared.region.Region.{Region as HeldRegion};
 ghost use Rattle.cube_shape.specs.Region.{Covers, block};
 ghost use Rattle.cube_shape.specs.Machine.{Gives, HasNoFit, IsFirstFit, TakesBack};
 ghost use Rattle.region_bits.specs.Represents.{bit_of};
+ghost use Rattle.falling_widths.specs.Falling.{HoldsNoNarrower, IsFull};
 ghost use Rattle.cubejobs_c.specs.Machine.{IsSound, held_in, region_of};
 
 use crate::codes::{
@@ -94,6 +95,9 @@ pub extern "C" fn cubejobs_take(machine: &mut Machine, station: u32, k: u32) -> 
         × IsSome (held_in machine.old station)) }
     ensures no_subcube { result.code ≡ NO_SUBCUBE
         → HasNoFit machine.old.dim k (held_in machine.old) }
+    // Once no held block is narrower, only a full machine refuses.
+    ensures full { result.code ≡ NO_SUBCUBE → HoldsNoNarrower k (held_in machine.old)
+        → IsFull machine.old.dim (held_in machine.old) }
     ensures first { result.code ≡ DONE → (m : ℕ) × (region_of result ≡ block k m)
         × IsFirstFit machine.old.dim k (held_in machine.old) m }
     ensures given { result.code ≡ DONE → Gives machine.old.dim station k

@@ -3,6 +3,9 @@
 
 ghost use Rattle.std.specs.Prelude.{◌≡◌, ◌≢◌, ℕ, ◌-◌, ◌^◌, ◌<◌, ◌≤◌, length, true};
 ghost use Rattle.cube_shape.specs.Region.{block};
+ghost use Rattle.cube_shape.specs.Machine.{Holdings};
+ghost use Rattle.falling_widths.specs.Falling.{HoldsNoNarrower, IsFull};
+ghost use Rattle.region_bits.specs.Represents.{Represents};
 ghost use Rattle.region_bits.specs.Bits.{HasBits, HasNoClear, IsFirstClear, Writes};
 ghost use Rattle.cubejobs_c.specs.Machine.{region_of};
 
@@ -46,6 +49,9 @@ pub extern "C" fn cubejobs_bits_take(bits: &mut [bool], n: u32, k: u32) -> Answe
         → result.code ≡ NO_SUBCUBE }
     ensures done { HasBits n bits.old → k ≤ n → (m : ℕ) → IsFirstClear n k bits.old m
         → result.code ≡ DONE }
+    // Once no held block is narrower, only a full machine refuses.
+    ensures full { (held : Holdings) → Represents n held bits.old → HoldsNoNarrower k held
+        → result.code ≡ NO_SUBCUBE → IsFull n held }
     ensures first { result.code ≡ DONE → (m : ℕ) × (region_of result ≡ block k m)
         × IsFirstClear n k bits.old m }
     ensures taken { result.code ≡ DONE → Writes (region_of result) true bits.old bits.new }

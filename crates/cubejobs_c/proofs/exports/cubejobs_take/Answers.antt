@@ -2,11 +2,17 @@
 use Rattle.std.proofs.Common.{◌≡◌, sym, subst, None, arith, rules}
 use Rattle.cube_shape.specs.Machine.{Gives}
 use Rattle.region_bits.proofs.RepresentsLemmas.{Gives-first_fit}
+use Rattle.falling_widths.proofs.FallingLemmas.{IsFull-of}
 use Rattle.cubejobs_c.specs.Machine.{holdings}
 use Rattle.cubejobs_c.proofs.exports.cubejobs_take.Goals as goal
 
 pub returns-in_default-clause-no_subcube : goal.returns-in_default-clause-no_subcube
 returns-in_default-clause-no_subcube c = λ code. c.in_default.ensures.none (holdings c.args.machine.now.slots) c.requires.sound
+
+pub returns-in_default-clause-full : goal.returns-in_default-clause-full
+returns-in_default-clause-full c = λ code wide.
+    let held = holdings c.args.machine.now.slots in
+    IsFull-of c.args.machine.now.dim c.args.k held c.requires.sound.lawful wide (omega arith) (c.in_default.ensures.none held c.requires.sound)
 
 pub returns-clause-sound : goal.returns-clause-sound
 returns-clause-sound c =

@@ -1,0 +1,18 @@
+//! The law, over held blocks.
+
+ghost use Rattle.std.specs.Prelude.{ℕ, ◌^◌, ◌<◌, ◌≤◌};
+ghost use Rattle.cube_shape.specs.Machine.{HasNoFit, Holdings, IsLawful};
+ghost use Rattle.falling_widths.specs.Falling.{HasStations, HoldsNoNarrower, IsFull, IsHeld, ServesFalling};
+
+/// States the law of falling widths. If each held block has a dimension of at least `k`, no block
+/// of dimension `k` fits only if every processor is held. So if no request is wider than the one
+/// before it, a refused take shows that the machine is full. This is a law, and does nothing.
+pub fn falling_widths_never_fragment()
+    ensures full { (n k : ℕ) (held : Holdings) → IsLawful n held → HoldsNoNarrower k held
+        → k ≤ n → HasNoFit n k held → IsFull n held }
+    ensures refusal { (n k : ℕ) (held : Holdings) → ServesFalling n k held
+        → k ≤ n → HasNoFit n k held → IsFull n held }
+    ensures held { (n count : ℕ) (held : Holdings) → HasStations count held → IsFull n held
+        → (p : ℕ) → p < 2 ^ n → IsHeld held p }
+    ensures lawful { (n k : ℕ) (held : Holdings) → ServesFalling n k held → IsLawful n held }
+{}
