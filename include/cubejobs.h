@@ -22,6 +22,9 @@
  * Everything else is checked. A refused call returns a code and changes nothing. A copy of a whole
  * machine is another machine. A machine that was never opened has dimension 0.
  *
+ * Sort by size, largest first, and nothing fragments. If no take is larger than the one before it,
+ * a take is refused only if every processor is held. This is proved.
+ *
  * A machine has 48 stations, so at most 48 blocks are held at once. cubejobs_fit_open and the calls
  * below it are the same first fit without stations: any number of blocks, in your own memory.
  */

@@ -1,5 +1,5 @@
-//! Links the proved libraries: `libcubejobs_c.a`, and for the features `dispatch` and `regions` one
-//! more each. They are in the folder that `CUBEJOBS_LIB` names, or else in `lib/`, which has copies of the files of
+//! Links the proved libraries: `libcubejobs_c.a` and `libcubejobs_rounds.a`, and for the features
+//! `dispatch` and `regions` one more each. They are in the folder that `CUBEJOBS_LIB` names, or else in `lib/`, which has copies of the files of
 //! `release/`.
 
 use std::env;
@@ -30,7 +30,7 @@ fn link() -> Result<(), String> {
     println!("cargo::rerun-if-env-changed=CUBEJOBS_LIB");
     let dispatch = env::var_os("CARGO_FEATURE_DISPATCH").map(|_| "libcubejobs_dispatch.a");
     let regions = env::var_os("CARGO_FEATURE_REGIONS").map(|_| "libcubejobs_regions.a");
-    for name in ["libcubejobs_c.a"].into_iter().chain(dispatch).chain(regions) {
+    for name in ["libcubejobs_c.a", "libcubejobs_rounds.a"].into_iter().chain(dispatch).chain(regions) {
         let library = folder.join(name);
         println!("cargo::rerun-if-changed={}", library.display());
         if !library.exists() {

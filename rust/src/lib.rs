@@ -11,6 +11,7 @@
 //! | jobs for worker threads | `lanes::Lanes`, in the default feature `dispatch` |
 //! | one thread, or threads under your lock; up to [`MAX_STATIONS`] blocks | [`Machine`] |
 //! | the same, with any number of blocks, in your own memory | [`fit::FirstFit`] |
+//! | messages of your own between ranks | [`rounds::Collective`] |
 //!
 //! A [`Machine`] is exact first fit for stations (allocator handles; here numbers). A take gets the
 //! first fit: the block with the least base that overlaps no held block. A station holds at most
@@ -68,6 +69,8 @@ pub mod regions;
 mod regions_ffi;
 #[cfg(feature = "dispatch")]
 mod room;
+pub mod rounds;
+mod rounds_ffi;
 #[cfg(feature = "dispatch")]
 mod shared;
 #[cfg(feature = "dispatch")]
