@@ -1,0 +1,124 @@
+//! A producer with a lane of its own.
+
+use crate::error::{ClientError, Refused};
+use crate::job::Job;
+use crate::pool::{Detached, One};
+use crate::shared::Shared;
+use crate::ticket::{Packet, Promise, Ticket};
+use cubejobs::lanes::{DealError, Lane};
+use std::fmt;
+use std::sync::Arc;
+
+/// A producer of one-worker jobs with a lane of its own. Workers take its jobs in their order.
+///
+/// It needs no turn with other threads, so it is the fastest way into a pool. If it is dropped, its
+/// lane is for the next client, and its jobs are run. See [`Pool::client`](crate::Pool::client).
+pub struct Client {
+    pool: Arc<Shared>,
+    lane: Lane<u64>,
+}
+
+impl Client {
+    pub(crate) fn new(pool: &Arc<Shared>) -> Result<Self, ClientError> {
+        match pool.ones.lane() {
+            Ok(lane) => Ok(Client { pool: pool.clone(), lane }),
+            Err(DealError::NoneLeft) => Err(ClientError::NoneLeft),
+            Err(DealError::OutOfMemory) => Err(ClientError::OutOfMemory),
+        }
+    }
+}
+
+impl Client {
+    /// Runs `call` on one worker. If the lane is full, it sleeps until there is room.
+    ///
+    /// # Errors
+    ///
+    /// The reason is `Closed`, or `Full` in a worker of the pool, which never waits for room. The
+    /// closure comes back.
+    ///
+    /// ```
+    /// # let pool = cubejobs_pool::Pool::builder().workers_log2(0).build()?;
+    /// use std::sync::mpsc::channel;
+    ///
+    /// let mut client = pool.client().unwrap();
+    /// let (sender, receiver) = channel();
+    /// for number in 0..3 {
+    ///     let sender = sender.clone();
+    ///     client.spawn(move || sender.send(number)).unwrap().join().unwrap()?;
+    /// }
+    /// drop(sender);
+    /// assert_eq!(receiver.iter().collect::<Vec<_>>(), [0, 1, 2]);
+    /// # Ok::<(), Box<dyn std::error::Error>>(())
+    /// ```
+    pub fn spawn<F, T>(&mut self, call: F) -> Result<Ticket<T>, Refused<F>>
+    where
+        F: FnOnce() -> T + Send + 'static,
+        T: Send + 'static,
+    {
+        self.submit(call, true)
+    }
+
+    /// Runs `call` on one worker, as [`Client::spawn`] does. It never waits.
+    ///
+    /// # Errors
+    ///
+    /// The reason is `Full` or `Closed`. The closure comes back.
+    ///
+    /// ```
+    /// use cubejobs_pool::{Pool, Reason};
+    ///
+    /// let pool = Pool::builder().build()?;
+    /// let mut client = pool.client().unwrap();
+    /// pool.close();
+    /// let refused = client.try_spawn(|| 7).unwrap_err();
+    /// assert_eq!((refused.reason, (refused.job)()), (Reason::Closed, 7));
+    /// # Ok::<(), std::io::Error>(())
+    /// ```
+    pub fn try_spawn<F, T>(&mut self, call: F) -> Result<Ticket<T>, Refused<F>>
+    where
+        F: FnOnce() -> T + Send + 'static,
+        T: Send + 'static,
+    {
+        self.submit(call, false)
+    }
+
+    /// Runs `call` on one worker, as [`Client::spawn`] does, without a ticket.
+    ///
+    /// # Errors
+    ///
+    /// Those of [`Client::spawn`].
+    ///
+    /// ```
+    /// # let pool = cubejobs_pool::Pool::builder().build()?;
+    /// let mut client = pool.client().unwrap();
+    /// let (sender, receiver) = std::sync::mpsc::channel();
+    /// client.detach(move || sender.send(7).unwrap()).unwrap();
+    /// assert_eq!(receiver.recv(), Ok(7));
+    /// # Ok::<(), std::io::Error>(())
+    /// ```
+    pub fn detach<F: FnOnce() + Send + 'static>(&mut self, call: F) -> Result<(), Refused<F>> {
+        let Client { pool, lane } = self;
+        let passed = Job::pass(Detached(call), |job| pool.submit_by_client(lane, job, true));
+        passed.map_err(|(reason, Detached(call))| Refused { reason, job: call })
+    }
+
+    fn submit<F, T>(&mut self, call: F, may_wait: bool) -> Result<Ticket<T>, Refused<F>>
+    where
+        F: FnOnce() -> T + Send + 'static,
+        T: Send + 'static,
+    {
+        let Client { pool, lane } = self;
+        let packet = Packet::new(1, None);
+        let work = One { call, promise: Promise::new(packet.clone()) };
+        match Job::pass(work, |job| pool.submit_by_client(lane, job, may_wait)) {
+            Ok(()) => Ok(Ticket { packet, pool: pool.id() }),
+            Err((reason, One { call, .. })) => Err(Refused { reason, job: call }),
+        }
+    }
+}
+
+impl fmt::Debug for Client {
+    fn fmt(&self, f: &mut fmt::Formatter<'_>) -> fmt::Result {
+        f.debug_struct("Client").finish_non_exhaustive()
+    }
+}

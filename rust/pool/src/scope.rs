@@ -1,0 +1,342 @@
+//! Jobs that borrow.
+
+use crate::current;
+use crate::error::{Reason, Refused};
+use crate::gang::{self, Body, Gang};
+use crate::group::Group;
+use crate::job::{Job, Work};
+use crate::shared::Shared;
+use crate::ticket::{Ends, Packet, Promise, Ticket};
+use crate::util::{drop_quietly, lock, Padded, Payload};
+use std::fmt;
+use std::marker::PhantomData;
+use std::mem;
+use std::panic::{catch_unwind, resume_unwind, AssertUnwindSafe};
+use std::sync::atomic::{AtomicBool, AtomicUsize, Ordering::SeqCst};
+use std::sync::{Arc, Mutex};
+use std::thread::{self, Thread};
+
+/// The count of a scope's jobs.
+pub(crate) struct ScopeState {
+    begun: Padded<AtomicUsize>,
+    /// The number of jobs that have ended: at each worker, and at all other threads.
+    ended: Vec<Padded<AtomicUsize>>,
+    /// Whether the owner waits for the end.
+    is_ending: Padded<AtomicBool>,
+    owner: Thread,
+    panic: Mutex<Option<Payload>>,
+}
+
+impl ScopeState {
+    fn new(workers: usize) -> Arc<Self> {
+        Arc::new(ScopeState {
+            begun: Padded::default(),
+            ended: (0..=workers).map(|_| Padded::default()).collect(),
+            is_ending: Padded::default(),
+            owner: thread::current(),
+            panic: Mutex::new(None),
+        })
+    }
+
+    fn is_over(&self) -> bool {
+        // A job counts its children before its own end. So the sum, read first, is not too large.
+        let ended: usize = self.ended.iter().map(|it| it.load(SeqCst)).sum();
+        ended == self.begun.load(SeqCst)
+    }
+
+    pub fn keep_panic(&self, payload: Payload) {
+        let mut first = lock(&self.panic);
+        if first.is_none() {
+            *first = Some(payload);
+            return;
+        }
+        drop(first);
+        drop_quietly(payload);
+    }
+
+    fn end(&self, worker: usize) {
+        self.ended[worker].fetch_add(1, SeqCst);
+        if self.is_ending.load(SeqCst) && self.is_over() {
+            self.owner.unpark();
+        }
+    }
+}
+
+/// A job's claim on its scope, which lasts until the job is counted as ended. A job that was
+/// refused drops it. No accepted job of a scope is dropped: the scope borrows the pool, so nobody
+/// closes it.
+struct Claim {
+    state: *const ScopeState,
+}
+
+// SAFETY: a `ScopeState` may be shared by threads, and `share` says why it is there.
+unsafe impl Send for Claim {}
+
+impl Claim {
+    fn new(state: &Arc<ScopeState>) -> Self {
+        state.begun.fetch_add(1, SeqCst);
+        Claim { state: Arc::as_ptr(state) }
+    }
+
+    /// Returns a share of the state.
+    fn share(&self) -> Arc<ScopeState> {
+        // SAFETY: the pointer is of `Arc::as_ptr`. The scope holds a share until all its jobs are
+        // counted as ended, and this one is not.
+        unsafe {
+            Arc::increment_strong_count(self.state);
+            Arc::from_raw(self.state)
+        }
+    }
+
+    /// Counts the job as ended.
+    fn end(self, panic: Option<Payload>) {
+        self.count(panic);
+        mem::forget(self);
+    }
+
+    /// Counts the job as ended. After that the scope may be gone, so the thread holds a share of
+    /// the state. A worker keeps it for the next job, which is most often of the same scope.
+    fn count(&self, panic: Option<Payload>) {
+        let local = current::any();
+        let kept = local.as_ref().and_then(|it| it.scope.take());
+        let state = match kept {
+            Some(state) if Arc::as_ptr(&state) == self.state => state,
+            _ => self.share(),
+        };
+        if let Some(payload) = panic {
+            state.keep_panic(payload);
+        }
+        let others = state.ended.len() - 1;
+        state.end(local.as_ref().map_or(others, |it| it.index.min(others)));
+        if let Some(local) = local {
+            local.scope.replace(Some(state));
+        }
+    }
+}
+
+impl Drop for Claim {
+    fn drop(&mut self) {
+        self.count(None);
+    }
+}
+
+/// A one-worker job of a scope.
+struct Scoped<F> {
+    call: F,
+    claim: Claim,
+}
+
+impl<F: FnOnce() + Send> Work for Scoped<F> {
+    fn run(self) {
+        let Scoped { call, claim } = self;
+        claim.end(catch_unwind(AssertUnwindSafe(call)).err());
+    }
+}
+
+/// A scope of a pool: its jobs may borrow what outlives the scope. See
+/// [`Pool::scope`](crate::Pool::scope).
+pub struct Scope<'scope, 'env: 'scope> {
+    pool: &'scope Arc<Shared>,
+    state: Arc<ScopeState>,
+    scope: PhantomData<&'scope mut &'scope ()>,
+    env: PhantomData<&'env mut &'env ()>,
+}
+
+/// The way to the results of a job of a scope. If it is dropped, the job runs on, and its panic is
+/// that of the scope. See [`Scope::spawn`].
+#[must_use = "without its ticket, a job's results are lost: `detach` makes none"]
+pub struct ScopeTicket<'scope, T> {
+    ticket: Ticket<T>,
+    scope: PhantomData<&'scope mut &'scope ()>,
+}
+
+/// Runs `call` with a scope, and waits for the jobs of the scope. See
+/// [`Pool::scope`](crate::Pool::scope).
+pub(crate) fn run<'env, R>(
+    pool: &Arc<Shared>,
+    call: impl for<'scope> FnOnce(&'scope Scope<'scope, 'env>) -> R,
+) -> R {
+    let is_in_gang = current::of(pool).is_some_and(|it| it.in_gang.get());
+    assert!(!is_in_gang, "a member of a gang opens a scope of its own pool: the pool could stand still");
+    let state = ScopeState::new(pool.size());
+    let scope = Scope { pool, state: state.clone(), scope: PhantomData, env: PhantomData };
+    let result = catch_unwind(AssertUnwindSafe(|| call(&scope)));
+    state.is_ending.store(true, SeqCst);
+    current::help(pool.id(), &|| state.is_over());
+    while !state.is_over() {
+        thread::park();
+    }
+    let panic = lock(&state.panic).take();
+    match (result, panic) {
+        (Err(payload), _) | (Ok(_), Some(payload)) => resume_unwind(payload),
+        (Ok(result), None) => result,
+    }
+}
+
+impl<'scope> Scope<'scope, '_> {
+    /// Runs `call` on one worker. If the lane is full, a worker of the pool runs it at once, and
+    /// another thread sleeps until there is room. Its panic is that of the scope.
+    ///
+    /// ```
+    /// # let pool = cubejobs_pool::Pool::builder().build()?;
+    /// let mut squares = [1, 2, 3, 4];
+    /// pool.scope(|scope| {
+    ///     for number in &mut squares {
+    ///         scope.detach(|| *number *= *number);
+    ///     }
+    /// });
+    /// assert_eq!(squares, [1, 4, 9, 16]);
+    /// # Ok::<(), std::io::Error>(())
+    /// ```
+    pub fn detach<F: FnOnce() + Send + 'scope>(&'scope self, call: F) {
+        let work = Scoped { call, claim: Claim::new(&self.state) };
+        // SAFETY: what the work borrows outlives the scope, which returns only once the job is
+        // counted as ended. Before that the closure is gone: by `Scoped::run`, or in the order of
+        // the fields of a `Scoped` that is dropped.
+        let job = unsafe { Job::scoped(work) };
+        if let Err(job) = self.pool.submit_one(job) {
+            drop(job);
+            panic!("{}", Reason::Closed);
+        }
+    }
+
+    /// Runs `call` on one worker, as [`Scope::detach`] does, and returns the way to its result.
+    ///
+    /// ```
+    /// # let pool = cubejobs_pool::Pool::builder().build()?;
+    /// let words = ["a", "bc"];
+    /// let lengths = pool.scope(|scope| {
+    ///     let tickets = words.map(|word| scope.spawn(|| word.len()));
+    ///     tickets.map(|ticket| ticket.join().unwrap())
+    /// });
+    /// assert_eq!(lengths, [1, 2]);
+    /// # Ok::<(), std::io::Error>(())
+    /// ```
+    pub fn spawn<F, T>(&'scope self, call: F) -> ScopeTicket<'scope, T>
+    where
+        F: FnOnce() -> T + Send + 'scope,
+        T: Send + 'scope,
+    {
+        let (packet, ours) = self.packets(1);
+        let promise = Promise::new(ours);
+        self.detach(move || promise.keep(catch_unwind(AssertUnwindSafe(call))));
+        self.ticket(packet)
+    }
+
+    /// Runs `call` on each worker of an aligned group of `2^dim`, as
+    /// [`Pool::submit`](crate::Pool::submit) does. Returns the way to its results.
+    ///
+    /// ```
+    /// # let pool = cubejobs_pool::Pool::builder().build()?;
+    /// let words = ["a", "bc"];
+    /// let lengths = pool.scope(|scope| {
+    ///     let gang = scope.submit(1, |group| words[group.rank()].len()).unwrap();
+    ///     gang.join_all().unwrap()
+    /// });
+    /// assert_eq!(lengths, [1, 2]);
+    /// # Ok::<(), std::io::Error>(())
+    /// ```
+    pub fn submit<F, T>(&'scope self, dim: u32, call: F) -> Result<ScopeTicket<'scope, T>, Refused<F>>
+    where
+        F: Fn(&Group<'_>) -> T + Send + Sync + 'scope,
+        T: Send + 'scope,
+    {
+        if dim > self.pool.dim {
+            return Err(Refused { reason: Reason::TooWide, job: call });
+        }
+        let call = Arc::new(call);
+        let weak = Arc::downgrade(&call);
+        let (packet, ours) = self.packets(1 << dim);
+        let body: Arc<dyn Fn(&Group<'_>) + Send + Sync + 'scope> =
+            Arc::new(move |group: &Group<'_>| ours.keep(group.rank(), call(group)));
+        let ends: Arc<dyn Ends + 'scope> = packet.clone();
+        // SAFETY: only lifetimes change. What the two borrow outlives the scope, which returns only
+        // once the gang is counted as ended. Before that, its last member drops the body, and the
+        // end below drops the other.
+        let (body, ends): (Body, Arc<dyn Ends>) = unsafe { mem::transmute((body, ends)) };
+        let claim = Claim::new(&self.state);
+        let end = move |panic| {
+            ends.end(panic);
+            drop(ends);
+            claim.end(None);
+        };
+        match self.pool.submit_gang(Gang::new(dim, body, Box::new(end)), true) {
+            Ok(()) => Ok(self.ticket(packet)),
+            Err((reason, gang)) => Err(Refused { reason, job: gang::closure(gang, &weak) }),
+        }
+    }
+
+    /// Returns two references to places for this number of results.
+    fn packets<T>(&self, size: usize) -> (Arc<Packet<T>>, Arc<Packet<T>>) {
+        let packet = Packet::new(size, Some(self.state.clone()));
+        (packet.clone(), packet)
+    }
+
+    fn ticket<T>(&self, packet: Arc<Packet<T>>) -> ScopeTicket<'scope, T> {
+        ScopeTicket { ticket: Ticket { packet, pool: self.pool.id() }, scope: PhantomData }
+    }
+}
+
+impl<T> ScopeTicket<'_, T> {
+    /// Returns whether the job has ended.
+    ///
+    /// ```
+    /// # let pool = cubejobs_pool::Pool::builder().build()?;
+    /// pool.scope(|scope| {
+    ///     let ticket = scope.spawn(|| 7);
+    ///     while !ticket.is_finished() {
+    ///         std::thread::yield_now();
+    ///     }
+    /// });
+    /// # Ok::<(), std::io::Error>(())
+    /// ```
+    pub fn is_finished(&self) -> bool {
+        self.ticket.is_finished()
+    }
+
+    /// Sleeps until the job has ended, as [`Ticket::join`] does. A panic that this returns is not
+    /// that of the scope.
+    ///
+    /// ```
+    /// # let pool = cubejobs_pool::Pool::builder().build()?;
+    /// let both = pool.scope(|scope| {
+    ///     let panics = scope.spawn(|| -> u8 { std::panic::resume_unwind(Box::new("no")) });
+    ///     let seven = scope.spawn(|| 7);
+    ///     (panics.join().is_err(), seven.join().unwrap())
+    /// });
+    /// assert_eq!(both, (true, 7));
+    /// # Ok::<(), std::io::Error>(())
+    /// ```
+    pub fn join(self) -> thread::Result<T> {
+        self.ticket.join()
+    }
+
+    /// Sleeps until the job has ended, as [`Ticket::join_all`] does. A panic that this returns is
+    /// not that of the scope.
+    ///
+    /// ```
+    /// # let pool = cubejobs_pool::Pool::builder().build()?;
+    /// let words = ["a", "b"];
+    /// let both = pool.scope(|scope| {
+    ///     let gang = scope.submit(1, |group| words[group.rank()]).unwrap();
+    ///     gang.join_all().unwrap()
+    /// });
+    /// assert_eq!(both, words);
+    /// # Ok::<(), std::io::Error>(())
+    /// ```
+    pub fn join_all(self) -> thread::Result<Vec<T>> {
+        self.ticket.join_all()
+    }
+}
+
+impl fmt::Debug for Scope<'_, '_> {
+    fn fmt(&self, f: &mut fmt::Formatter<'_>) -> fmt::Result {
+        f.debug_struct("Scope").finish_non_exhaustive()
+    }
+}
+
+impl<T> fmt::Debug for ScopeTicket<'_, T> {
+    fn fmt(&self, f: &mut fmt::Formatter<'_>) -> fmt::Result {
+        f.debug_struct("ScopeTicket").field("is_finished", &self.is_finished()).finish_non_exhaustive()
+    }
+}

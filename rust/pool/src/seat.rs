@@ -1,0 +1,137 @@
+//! The place of a worker: its mailbox, and what it says as a member of a gang.
+
+use crate::gang::Gang;
+use crate::util::{drop_quietly, lock, Padded, Payload};
+use std::any::TypeId;
+use std::sync::atomic::{AtomicBool, AtomicU32, AtomicU64, Ordering::SeqCst};
+use std::sync::{Arc, Mutex};
+
+/// A value on its way to another member. A word needs no box.
+pub(crate) enum Value {
+    Word(TypeId, u64),
+    Boxed(Payload),
+}
+
+/// A place for a value on its way.
+#[derive(Default)]
+pub(crate) struct Outbox {
+    /// The receiver of the value, plus 1, or 0 if there is no value.
+    receiver: AtomicU32,
+    value: Mutex<Option<Value>>,
+}
+
+impl Outbox {
+    /// Returns the worker for which there is a value.
+    pub fn receiver(&self) -> Option<usize> {
+        self.receiver.load(SeqCst).checked_sub(1).map(|it| it as usize)
+    }
+
+    /// Puts a value into the outbox, which is empty.
+    fn put(&self, to: usize, value: Value) {
+        *lock(&self.value) = Some(value);
+        self.receiver.store(to as u32 + 1, SeqCst);
+    }
+
+    /// Takes the value.
+    pub fn take(&self) -> Option<Value> {
+        let value = lock(&self.value).take();
+        self.receiver.store(0, SeqCst);
+        value
+    }
+}
+
+/// The barrier of the groups of one dimension whose member of rank 0 has this seat.
+#[derive(Default)]
+pub(crate) struct Barrier {
+    pub arrived: AtomicU32,
+    pub round: AtomicU32,
+}
+
+/// The place of a worker. The gang that holds the worker's processor in its block is the only one
+/// that uses it, since blocks that are held never overlap.
+#[derive(Default)]
+pub(crate) struct Seat {
+    /// Whether the thread sleeps for want of work.
+    pub is_idle: AtomicBool,
+    /// Whether a gang has this seat.
+    pub is_held: AtomicBool,
+    /// Whether there is a gang in the mailbox.
+    pub is_called: AtomicBool,
+    mail: Mutex<Option<Arc<Gang>>>,
+    /// Whether the member sleeps until another one has done something, and what that is.
+    pub is_asleep: AtomicBool,
+    pub want: AtomicU64,
+    /// The member's values that are not taken. It puts one into each outbox in turn. With two, a
+    /// member is seldom late for a partner that is one exchange ahead.
+    outboxes: [Outbox; 2],
+    /// How many values it has put.
+    puts: AtomicU32,
+    /// Whether the member has left its gang.
+    pub has_left: AtomicBool,
+    /// A barrier for each dimension.
+    pub barriers: Vec<Barrier>,
+}
+
+impl Seat {
+    /// Makes a seat of a pool of dimension `dim`.
+    pub fn new(dim: u32) -> Padded<Self> {
+        let barriers = (0..=dim).map(|_| Barrier::default()).collect();
+        Padded(Seat { barriers, ..Seat::default() })
+    }
+
+    /// Puts a gang into the mailbox, which is empty.
+    pub fn call(&self, gang: Arc<Gang>) {
+        *lock(&self.mail) = Some(gang);
+        self.is_called.store(true, SeqCst);
+    }
+
+    /// Takes the gang out of the mailbox, in which there is one.
+    pub fn answer(&self) -> Arc<Gang> {
+        self.is_called.store(false, SeqCst);
+        lock(&self.mail).take().expect("a worker that is called has a gang in its mailbox")
+    }
+
+    /// Returns the outbox of the next value.
+    pub fn next_outbox(&self) -> &Outbox {
+        &self.outboxes[self.puts.load(SeqCst) as usize % 2]
+    }
+
+    /// Puts a value into the next outbox, which is empty.
+    pub fn put(&self, to: usize, value: Value) {
+        let outbox = self.next_outbox();
+        // A member that sees this value sees the count, and so knows which one is older.
+        self.puts.fetch_add(1, SeqCst);
+        outbox.put(to, value);
+    }
+
+    /// Returns the outbox with the oldest value for a worker.
+    pub fn outbox_for(&self, worker: usize) -> Option<&Outbox> {
+        loop {
+            let puts = self.puts.load(SeqCst);
+            let mut by_age = [0, 1].map(|it| &self.outboxes[(puts as usize + it) % 2]).into_iter();
+            let found = by_age.find(|outbox| outbox.receiver() == Some(worker));
+            // If a value was put meanwhile, the one that was found may be younger than it.
+            if self.puts.load(SeqCst) == puts {
+                return found;
+            }
+        }
+    }
+
+    /// Makes the seat that of a member of a new gang.
+    pub fn prepare(&self) {
+        self.is_held.store(true, SeqCst);
+        self.has_left.store(false, SeqCst);
+    }
+
+    /// Drops what a gang that has ended left here. If the gang has failed, its barriers may be
+    /// in the middle of a round.
+    pub fn clear(&self, has_failed: bool) {
+        self.outboxes.iter().for_each(|outbox| drop_quietly(outbox.take()));
+        if has_failed {
+            for barrier in &self.barriers {
+                barrier.arrived.store(0, SeqCst);
+            }
+        }
+        self.is_held.store(false, SeqCst);
+    }
+}

@@ -1,0 +1,216 @@
+//! The results of a job, and the thread that waits for them.
+#![forbid(unsafe_code)]
+
+use crate::current;
+use crate::error::Cancelled;
+use crate::scope::ScopeState;
+use crate::util::{drop_quietly, lock, Payload};
+use std::fmt;
+use std::iter;
+use std::sync::atomic::{fence, AtomicBool, Ordering::SeqCst};
+use std::sync::{Arc, Mutex, OnceLock};
+use std::thread::{self, Thread};
+
+/// A place for the result of each member, and for the first panic.
+pub(crate) struct Packet<T> {
+    // Most jobs have one result, which needs no allocation of its own.
+    first: Mutex<Option<T>>,
+    others: Vec<Mutex<Option<T>>>,
+    panic: Mutex<Option<Payload>>,
+    is_done: AtomicBool,
+    waiter: OnceLock<Thread>,
+    /// The scope of the job, which gets a panic that nobody takes.
+    scope: Option<Arc<ScopeState>>,
+}
+
+impl<T> Packet<T> {
+    pub fn new(size: usize, scope: Option<Arc<ScopeState>>) -> Arc<Self> {
+        Arc::new(Packet {
+            scope,
+            first: Mutex::new(None),
+            others: (1..size).map(|_| Mutex::new(None)).collect(),
+            panic: Mutex::new(None),
+            is_done: AtomicBool::new(false),
+            waiter: OnceLock::new(),
+        })
+    }
+
+    fn slots(&self) -> impl Iterator<Item = &Mutex<Option<T>>> {
+        iter::once(&self.first).chain(&self.others)
+    }
+
+    /// Keeps the result of the member of this rank.
+    pub fn keep(&self, rank: usize, value: T) {
+        let slot = if rank == 0 { &self.first } else { &self.others[rank - 1] };
+        *lock(slot) = Some(value);
+    }
+
+    /// Says that the job has ended, and wakes the thread that waits.
+    pub fn end(&self, panic: Option<Payload>) {
+        *lock(&self.panic) = panic;
+        self.is_done.store(true, SeqCst);
+        // Either this sees the waiter, or the waiter sees that the job is done.
+        fence(SeqCst);
+        if let Some(thread) = self.waiter.get() {
+            thread.unpark();
+        }
+    }
+
+    pub fn is_done(&self) -> bool {
+        self.is_done.load(SeqCst)
+    }
+
+    /// Takes the payload of the panic, if there is one.
+    pub fn take_panic(&self) -> Option<Payload> {
+        lock(&self.panic).take()
+    }
+
+    /// Sleeps until the job is done. A worker of this pool runs other jobs meanwhile.
+    fn wait(&self, pool: usize) {
+        if self.is_done() {
+            return;
+        }
+        let _ = self.waiter.set(thread::current());
+        fence(SeqCst);
+        current::help(pool, &|| self.is_done());
+        while !self.is_done() {
+            thread::park();
+        }
+    }
+
+    fn take_first(&self) -> T {
+        lock(&self.first).take().expect("the member of rank 0 has left its result")
+    }
+
+    fn take_all(&self) -> Vec<T> {
+        self.slots().map(|slot| lock(slot).take().expect("each member has left its result")).collect()
+    }
+}
+
+impl<T> Drop for Packet<T> {
+    /// Drops what nobody took, one by one: two drops of one list that panic would end the process.
+    fn drop(&mut self) {
+        for slot in iter::once(&mut self.first).chain(&mut self.others) {
+            drop_quietly(lock(slot).take());
+        }
+        match (self.take_panic(), &self.scope) {
+            (Some(payload), Some(scope)) => scope.keep_panic(payload),
+            (payload, _) => drop_quietly(payload),
+        }
+    }
+}
+
+/// The end of a packet, whatever its results are.
+pub(crate) trait Ends: Send + Sync {
+    fn end(&self, panic: Option<Payload>);
+}
+
+impl<T: Send> Ends for Packet<T> {
+    fn end(&self, panic: Option<Payload>) {
+        Packet::end(self, panic);
+    }
+}
+
+/// The duty of a one-worker job to end its packet. A drop ends it as cancelled.
+pub(crate) struct Promise<T>(Arc<Packet<T>>);
+
+impl<T> Promise<T> {
+    pub fn new(packet: Arc<Packet<T>>) -> Self {
+        Promise(packet)
+    }
+
+    pub fn keep(self, result: thread::Result<T>) {
+        let panic = match result {
+            Ok(value) => {
+                self.0.keep(0, value);
+                None
+            }
+            Err(payload) => Some(payload),
+        };
+        self.0.end(panic);
+    }
+}
+
+impl<T> Drop for Promise<T> {
+    fn drop(&mut self) {
+        if !self.0.is_done() {
+            self.0.end(Some(Box::new(Cancelled)));
+        }
+    }
+}
+
+/// The way to the results of a job. If it is dropped, the job runs on, and its results and its
+/// panic are lost.
+///
+/// ```
+/// use cubejobs_pool::Pool;
+///
+/// let pool = Pool::builder().build()?;
+/// let seven = pool.spawn(|| 3 + 4);
+/// assert_eq!(seven.join().unwrap(), 7);
+/// let panics = pool.spawn(|| -> u32 { std::panic::resume_unwind(Box::new("no")) });
+/// assert_eq!(panics.join().unwrap_err().downcast_ref(), Some(&"no"));
+/// # Ok::<(), std::io::Error>(())
+/// ```
+#[must_use = "without its ticket, a job's results and its panic are lost"]
+pub struct Ticket<T> {
+    pub(crate) packet: Arc<Packet<T>>,
+    /// Which pool has the job.
+    pub(crate) pool: usize,
+}
+
+impl<T> Ticket<T> {
+    /// Returns whether the job has ended.
+    ///
+    /// ```
+    /// # let pool = cubejobs_pool::Pool::builder().build()?;
+    /// let ticket = pool.spawn(|| 7);
+    /// while !ticket.is_finished() {
+    ///     std::thread::yield_now();
+    /// }
+    /// assert_eq!(ticket.join().unwrap(), 7);
+    /// # Ok::<(), std::io::Error>(())
+    /// ```
+    pub fn is_finished(&self) -> bool {
+        self.packet.is_done()
+    }
+
+    /// Sleeps until the job has ended. Returns the result of the member of rank 0. The error is the
+    /// payload of the first panic, or [`Cancelled`](crate::Cancelled).
+    ///
+    /// A one-worker job of the same pool runs other jobs while it waits.
+    ///
+    /// # Panics
+    ///
+    /// Panics in a gang of the same pool, unless the job has ended: the pool could stand still.
+    pub fn join(self) -> thread::Result<T> {
+        self.packet.wait(self.pool);
+        match self.packet.take_panic() {
+            Some(payload) => Err(payload),
+            None => Ok(self.packet.take_first()),
+        }
+    }
+
+    /// Sleeps until the job has ended, as [`Ticket::join`] does. Returns the results of all members
+    /// in the order of their ranks.
+    ///
+    /// ```
+    /// # let pool = cubejobs_pool::Pool::builder().build()?;
+    /// let ticket = pool.submit(1, |group| group.rank() * 10).unwrap();
+    /// assert_eq!(ticket.join_all().unwrap(), [0, 10]);
+    /// # Ok::<(), std::io::Error>(())
+    /// ```
+    pub fn join_all(self) -> thread::Result<Vec<T>> {
+        self.packet.wait(self.pool);
+        match self.packet.take_panic() {
+            Some(payload) => Err(payload),
+            None => Ok(self.packet.take_all()),
+        }
+    }
+}
+
+impl<T> fmt::Debug for Ticket<T> {
+    fn fmt(&self, f: &mut fmt::Formatter<'_>) -> fmt::Result {
+        f.debug_struct("Ticket").field("is_finished", &self.is_finished()).finish_non_exhaustive()
+    }
+}
