@@ -1,7 +1,8 @@
 """Calls the proved libraries for C from C (with the compiler's checks of addresses and undefined behaviour, and of
 races), from C++ and from Rust.
 
-Of the exact allocator: 100,000 random calls on a machine of each dimension, beside a plain model; and as many of first
+Of the rounds of collectives: each step and message on up to 128 ranks, beside the textbook's rules, and the results that
+they give. Commands are pinned to blocks of CPUs. Of the exact allocator: 100,000 random calls on a machine of each dimension, beside a plain model; and as many of first
 fit over the caller's own bytes, which processes share and which stand in a file. Of the regions with no lock: each code
 where it must come, handles that are shut, foreign or of the wrong kind, eight threads with a table of counters and with
 plain memory that blocks guard, and each request for memory refused in turn. Threads release blocks of others, and wait
@@ -20,15 +21,16 @@ import subprocess
 import tempfile
 from typing import NamedTuple, Sequence
 
-from checks.built import archive, batch, preload, static, wait_faults
+from checks.built import archive, batch, pinjobs, preload, static, wait_faults
 from checks.lib.repository import files_below, path, read
 from checks.lib.rows import Row, Skipped, answer, must, put, run_rows
 from checks.lib.toolchain import AFTER_GATE, FOR_ANY
 
-EXACT, DISPATCH, REGIONS = archive.LIBRARIES
+EXACT, DISPATCH, ROUNDS, REGIONS = archive.LIBRARIES
 OF_REGIONS = ("cube_shape", "region_bits", "bitmap_tree", "bitmap_occupancy", "hidden_box")
+OF_ROUNDS = ("collectives", "cube_shape", "rank_steps")
 OF_DISPATCH = ("bitmap_tree", "hidden_box", "job_lanes", "kept_places", "region_shop", "shop_owner")
-BELOW = {EXACT: ("cube_shape", "region_bits"), DISPATCH: OF_DISPATCH, REGIONS: OF_REGIONS}
+BELOW = {EXACT: ("cube_shape", "falling_widths", "region_bits"), DISPATCH: OF_DISPATCH, REGIONS: OF_REGIONS, ROUNDS: OF_ROUNDS}
 LONGER, SECONDS, HALF_AN_HOUR = 100, 7200, 1800
 STRICT = ["-O1", "-g", "-Wall", "-Wextra", "-Werror", "-pedantic", f"-I{path('include')}"]
 C, CXX = ["gcc", "-std=c11", "-xc"], ["g++", "-std=c++11", "-xc++"]
@@ -126,6 +128,8 @@ def programs(longer):
             yield Program(CALLS(name), [EXACT], compiler, words=[str(100_000 * min(longer, 10))])
         for name in ("subcubes", "fit"):
             yield Program(f"examples/{name}.c", [EXACT], compiler, shown=f"examples/{name}.out")
+        yield Program(CALLS("rounds"), [ROUNDS], compiler)
+        yield Program("examples/rounds.c", [ROUNDS], compiler, shown="examples/rounds.out")
 
 
 # The compilers and tools that watch a program.
@@ -294,10 +298,15 @@ def rows(room, longer, seconds):
     yield from rows_of_crowds(room, longer, seconds)
     yield from rows_of_waits(room)
     yield from rows_of_owners(room, longer)
+    for compiler in (CHECKED, [*CLANG[:2], "-xc"]):
+        program = Program("examples/pinjobs.c", [EXACT], compiler)
+        yield Row(f"{program.source} by {' '.join(compiler)}", pinjobs.must_work, (room, program))
+    for what, old, new in pinjobs.WRONG_PROGRAMS:
+        yield Row(f"{what}: it is seen", pinjobs.must_see, (room, Program("examples/pinjobs.c", [EXACT], C), old, new))
     for program in programs(longer):
         yield Row(f"{program.source} by {' '.join(program.compiler)}", must_run, (room, program))
     # A library keeps its names to itself: it is linked whole beside the other one, and beside a program's own names.
-    for whole in ([EXACT, DISPATCH, REGIONS], [REGIONS, DISPATCH, EXACT], []):
+    for whole in ([EXACT, DISPATCH, ROUNDS, REGIONS], [REGIONS, ROUNDS, DISPATCH, EXACT], []):
         both = ["-Wl,--whole-archive", *whole, "-Wl,--no-whole-archive"] if whole else [REGIONS]
         names = Program("examples/regions.c", both, C, ["-xc", f"{room}/own.c", "-xnone"], shown="examples/regions.out")
         yield Row(f"names of its own, and {' and '.join(whole) or REGIONS}", must_run, (room, names))

@@ -56,7 +56,7 @@ batch() {
     ended=$1
 }
 
-libraries='libcubejobs_c.a libcubejobs_dispatch.a libcubejobs_regions.a'
+libraries='libcubejobs_c.a libcubejobs_rounds.a libcubejobs_dispatch.a libcubejobs_regions.a'
 jobs='40 jobs ran on 248 processors in all'
 subcubes='0 4, then: no free subcube of this dimension'
 groups='3000 jobs on groups of 16 workers'

@@ -14,7 +14,7 @@ import tempfile
 from checks.lib.repository import path, read, write
 from checks.lib.rows import Row, Skipped, answer, must, run_rows
 
-NAMES = ("cubejobs.h", "cubejobs_dispatch.h", "cubejobs_regions.h")
+NAMES = ("cubejobs.h", "cubejobs_dispatch.h", "cubejobs_regions.h", "cubejobs_rounds.h")
 # Headers that begin with a later standard, and those in which they have no part.
 LATER = {"cubejobs_wait.h": ("c89", "c99", "c++98"), "cubejobs.hpp": ("c89", "c99", "c11", "c17", "c2x", "c++98")}
 NOWHERE = ["-o", "/dev/null"]

@@ -24,6 +24,7 @@ FILES = {
     "cubejobs": "crates/jobs_cli/out/jobs_cli",
     "libcubejobs_c.a": "out/libcubejobs_c.a",
     "libcubejobs_dispatch.a": "out/libcubejobs_dispatch.a",
+    "libcubejobs_rounds.a": "out/libcubejobs_rounds.a",
     "libcubejobs_regions.a": "out/libcubejobs_regions.a",
 }
 LIBRARIES = [name for name in FILES if name.endswith(".a")]

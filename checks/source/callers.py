@@ -37,6 +37,7 @@ QUOTES = {
     "cubejobs_c": ("../examples/subcubes.c", "../examples/fit.c"),
     "cubejobs_dispatch": ("../examples/lanes.c",),
     "cubejobs_regions": ("../examples/regions.c",),
+    "cubejobs_rounds": ("../examples/rounds.c",),
     "devices": (
         "jobs_csv/src/writing.rt#pub fn write_rows<",
         "atomic_file/src/system_temp_file.rt#impl<F> Device for SystemReader",
@@ -44,6 +45,7 @@ QUOTES = {
     "dispatcher": ("uses/src/counting.rt",),
     "floors": ("uses/src/any_floor.rt",),
     "shop_owner": ('cubejobs_dispatch/src/work_exports.rt#pub extern "C" fn cubejobs_dispatch_done',),
+    "falling_widths": ("cubejobs_c/proofs/exports/cubejobs_take/Answers.antt",),
     "hidden_box": ("cubejobs_dispatch/src/opaque_ptr.rt#pub fn of",),
     "kept_places": ("cubejobs_dispatch/src/dealing.rt#fn deal_lane",),
     "job_lanes": ("tests_lanes/src/tests/script.rt#fn three_lanes_and_what_is_left",),
@@ -58,6 +60,7 @@ QUOTES = {
     "line_locked": ("cube_bench/src/dispatch.rt#fn measure_shop",),
     "backoff": ("floor_tree/src/floor_tree.rt#fn take",),
     "region_shop": ("tests_region_shop/src/stage.rt#fn ask",),
+    "rank_steps": ('cubejobs_rounds/src/exports.rt#pub extern "C" fn cubejobs_step',),
     "region_bits": ("alloc_bits/src/alloc_bits.rt#pub fn take",),
     "line_ruled": ("uses/src/answering.rt",),
     "shared_lane": ("tests_lanes/src/tests/sharing.rt#fn two_sharers",),

@@ -16,17 +16,18 @@ from checks.lib.rattle_source import COMMENT_OF_ANTT, LITERAL, all_items, items_
 from checks.lib.repository import crate_names, files_below, path, place, read
 from checks.lib.rows import blind, print_faults
 
-MOST_IN_SENTENCE, MOST_COLUMNS, MOST_IN_CELL, MOST_IN_ALL = 25, 100, 60, 47000
+MOST_IN_SENTENCE, MOST_COLUMNS, MOST_IN_CELL, MOST_IN_ALL = 25, 100, 60, 48000
 GENERATED = ("docs/DEFINITIONS.md", "docs/THEOREM.md")
 # The most words of each document, and of the pages on calling together.
 PAGES = "crates/*/CALLING.md"
 BUDGET = {
-    "README.md": 1200, "CONTRIBUTING.md": 1000, "CHANGELOG.md": 1800, "docs/ALGORITHM.md": 1300,
-    "docs/REGIONS.md": 950, "docs/theorem/top.md": 2650, "docs/READING.md": 700, "docs/STATUS.md": 4950,
-    "docs/EVIDENCE.md": 1850,
-    "docs/ARCHITECTURE.md": 2400, "docs/ADDING.md": 1020, "docs/DECISIONS.md": 5600, "docs/PROVING.md": 4000,
-    "docs/PERFORMANCE.md": 2450, "docs/GUIDE.md": 1500, "docs/C.md": 2250, "docs/RUST.md": 1000,
-    "docs/COMPARED.md": 1200, "docs/GLOSSARY.md": 1750, "docs/TREE.md": 900, "docs/LANES.md": 700, PAGES: 5700,
+    "README.md": 1200, "CONTRIBUTING.md": 1000, "CHANGELOG.md": 1900, "docs/ALGORITHM.md": 1300,
+    "docs/REGIONS.md": 950, "docs/theorem/top.md": 2650, "docs/READING.md": 700, "docs/STATUS.md": 5050,
+    "docs/EVIDENCE.md": 1900,
+    "docs/ARCHITECTURE.md": 2400, "docs/ADDING.md": 1020, "docs/DECISIONS.md": 5800, "docs/PROVING.md": 4000,
+    "docs/PERFORMANCE.md": 2650, "docs/GUIDE.md": 1500, "docs/C.md": 2250, "docs/RUST.md": 1050,
+    "docs/COMPARED.md": 1200, "docs/GLOSSARY.md": 1750, "docs/TREE.md": 900, "docs/LANES.md": 700,
+    "docs/MACHINES.md": 900, PAGES: 5700,
 }
 # Words that are not written, and what to say.
 BANNED = {

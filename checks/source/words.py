@@ -35,7 +35,7 @@ ALLOWED = {
     "Refused": ("bitmap_tree cube_core job_queue", "a refused take, call of the pure machine, and job of a line"),
     "Request": ("cli_args job_types", "of a command line, and of a job; a caller of either sees one"),
     "Row": ("jobs_csv tests_kit", "what is written as a line of CSV, and a row of a test"),
-    "Post": ("shop_owner tests_region_shop", "a worker at its work, of an owner and of a test"),
+    "Post": ("region_shop tests_region_shop", "a worker at its work, in its place and of a test"),
     "Sizes": ("job_lanes job_queue", "of lanes of jobs, and of a line"),
     "Taken": ("job_lanes job_queue", "the outcome of a take, from a lane of jobs and from a line"),
     "Tally": ("collectives uses", "rounds and messages, and what a stranger's line counts"),
