@@ -30,7 +30,7 @@ EXACT, DISPATCH, ROUNDS, REGIONS = archive.LIBRARIES
 OF_REGIONS = ("cube_shape", "region_bits", "bitmap_tree", "bitmap_occupancy", "hidden_box")
 OF_ROUNDS = ("collectives", "cube_shape", "rank_steps")
 OF_DISPATCH = ("bitmap_tree", "hidden_box", "job_lanes", "kept_places", "region_shop", "shop_owner")
-BELOW = {EXACT: ("cube_shape", "falling_widths", "region_bits"), DISPATCH: OF_DISPATCH, REGIONS: OF_REGIONS, ROUNDS: OF_ROUNDS}
+BELOW = {EXACT: ("cube_shape", "region_bits"), DISPATCH: OF_DISPATCH, REGIONS: OF_REGIONS, ROUNDS: OF_ROUNDS}
 LONGER, SECONDS, HALF_AN_HOUR = 100, 7200, 1800
 STRICT = ["-O1", "-g", "-Wall", "-Wextra", "-Werror", "-pedantic", f"-I{path('include')}"]
 C, CXX = ["gcc", "-std=c11", "-xc"], ["g++", "-std=c++11", "-xc++"]

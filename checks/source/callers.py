@@ -45,7 +45,6 @@ QUOTES = {
     "dispatcher": ("uses/src/counting.rt",),
     "floors": ("uses/src/any_floor.rt",),
     "shop_owner": ('cubejobs_dispatch/src/work_exports.rt#pub extern "C" fn cubejobs_dispatch_done',),
-    "falling_widths": ("cubejobs_c/proofs/exports/cubejobs_take/Answers.antt",),
     "hidden_box": ("cubejobs_dispatch/src/opaque_ptr.rt#pub fn of",),
     "kept_places": ("cubejobs_dispatch/src/dealing.rt#fn deal_lane",),
     "job_lanes": ("tests_lanes/src/tests/script.rt#fn three_lanes_and_what_is_left",),

@@ -4,4 +4,4 @@ pub use Rattle.cube_shape.specs.Machine.{Gives, HasNoFit, Holdings, IsFirstFit, 
 pub use Rattle.region_bits.specs.Bits.{HasBits, HasNoClear, IsClear, IsFirstClear, IsSet, Writes}
 pub use Rattle.region_bits.specs.Count.{IsCount}
 pub use Rattle.region_bits.specs.Represents.{bit_of, Represents}
-pub use Rattle.falling_widths.specs.Falling.{HoldsNoNarrower, IsFull}
+pub use Rattle.cube_shape.specs.Falling.{HoldsNoNarrower, IsFull}

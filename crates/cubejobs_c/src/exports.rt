@@ -5,7 +5,7 @@ ghost use Rattle.cube_shape.specs.declared.region.Region.{Region as HeldRegion};
 ghost use Rattle.cube_shape.specs.Region.{Covers, block};
 ghost use Rattle.cube_shape.specs.Machine.{Gives, HasNoFit, IsFirstFit, TakesBack};
 ghost use Rattle.region_bits.specs.Represents.{bit_of};
-ghost use Rattle.falling_widths.specs.Falling.{HoldsNoNarrower, IsFull};
+ghost use Rattle.cube_shape.specs.Falling.{HoldsNoNarrower, IsFull};
 ghost use Rattle.cubejobs_c.specs.Machine.{IsSound, held_in, region_of};
 
 use crate::codes::{

@@ -4,7 +4,7 @@
 ghost use Rattle.std.specs.Prelude.{◌≡◌, ◌≢◌, ℕ, ◌-◌, ◌^◌, ◌<◌, ◌≤◌, length, true};
 ghost use Rattle.cube_shape.specs.Region.{block};
 ghost use Rattle.cube_shape.specs.Machine.{Holdings};
-ghost use Rattle.falling_widths.specs.Falling.{HoldsNoNarrower, IsFull};
+ghost use Rattle.cube_shape.specs.Falling.{HoldsNoNarrower, IsFull};
 ghost use Rattle.region_bits.specs.Represents.{Represents};
 ghost use Rattle.region_bits.specs.Bits.{HasBits, HasNoClear, IsFirstClear, Writes};
 ghost use Rattle.cubejobs_c.specs.Machine.{region_of};

@@ -2,7 +2,7 @@
 use Rattle.std.proofs.Common.{◌≡◌, sym, subst, None, arith, rules}
 use Rattle.cube_shape.specs.Machine.{Gives}
 use Rattle.region_bits.proofs.RepresentsLemmas.{Gives-first_fit}
-use Rattle.falling_widths.proofs.FallingLemmas.{IsFull-of}
+use Rattle.cube_shape.proofs.FallingLemmas.{IsFull-of}
 use Rattle.cubejobs_c.specs.Machine.{holdings}
 use Rattle.cubejobs_c.proofs.exports.cubejobs_take.Goals as goal
 

@@ -1,6 +1,6 @@
 -- Where no block is clear, none is free.
 use Rattle.std.proofs.Common.{arith}
-use Rattle.falling_widths.proofs.FallingLemmas.{IsFull-of}
+use Rattle.cube_shape.proofs.FallingLemmas.{IsFull-of}
 use Rattle.cubejobs_c.proofs.fit.cubejobs_bits_take.Goals as goal
 
 pub returns-in_default-clause-full : goal.returns-in_default-clause-full

@@ -2,7 +2,7 @@
 
 ghost use Rattle.std.specs.Prelude.{ℕ, ◌^◌, ◌<◌, ◌≤◌};
 ghost use Rattle.cube_shape.specs.Machine.{HasNoFit, Holdings, IsLawful};
-ghost use Rattle.falling_widths.specs.Falling.{HasStations, HoldsNoNarrower, IsFull, IsHeld, ServesFalling};
+ghost use Rattle.cube_shape.specs.Falling.{HasStations, HoldsNoNarrower, IsFull, IsHeld, ServesFalling};
 
 /// States the law of falling widths. If each held block has a dimension of at least `k`, no block
 /// of dimension `k` fits only if every processor is held. So if no request is wider than the one

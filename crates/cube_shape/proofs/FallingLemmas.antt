@@ -7,7 +7,7 @@ use Rattle.cube_shape.specs.Region.{Covers, IsAligned, block}
 use Rattle.cube_shape.specs.Machine.{Gives, HasNoFit, Holdings, IsFree, IsLawful, TakesBack}
 use Rattle.cube_shape.proofs.RegionLemmas.{Covers-block}
 use Rattle.cube_shape.proofs.MachineLemmas.{IsLawful-none, IsLawful-gives, IsLawful-takes_back}
-use Rattle.falling_widths.specs.Falling.{HasStations, HoldsNoNarrower, IsFreeProcessor, IsFull, IsHeld, ServesFalling, begins, takes, refuses, releases}
+use Rattle.cube_shape.specs.Falling.{HasStations, HoldsNoNarrower, IsFreeProcessor, IsFull, IsHeld, ServesFalling, begins, takes, refuses, releases}
 
 -- two processors of one block of dimension `k` are in the same blocks that are no narrower
 Covers-wider : (n k m p q : ℕ) (a : Region)

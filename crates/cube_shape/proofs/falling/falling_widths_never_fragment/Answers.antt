@@ -1,5 +1,5 @@
-use Rattle.falling_widths.proofs.FallingLemmas.{IsFull-of, IsHeld-of_full, ServesFalling-lawful, ServesFalling-wide}
-use Rattle.falling_widths.proofs.law.falling_widths_never_fragment.Goals as goal
+use Rattle.cube_shape.proofs.FallingLemmas.{IsFull-of, IsHeld-of_full, ServesFalling-lawful, ServesFalling-wide}
+use Rattle.cube_shape.proofs.falling.falling_widths_never_fragment.Goals as goal
 
 pub returns-clause-full : goal.returns-clause-full
 returns-clause-full c = IsFull-of
