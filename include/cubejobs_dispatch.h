@@ -20,7 +20,7 @@
  *
  * Memory. A handle is 16 bytes in your memory. Only the calls that open lanes or a dispatcher, or
  * give out a handle, take memory, by malloc. An open of lanes takes 64 bytes for each job that the
- * lanes can hold and 440 for each lane. It takes 200 for each worker, 8 for each lane of each
+ * lanes can hold and 960 for each lane. It takes 200 for each worker, 8 for each lane of each
  * worker, and 600 more. A handle of lanes takes at most 300. All of it is freed when the handles
  * and the lanes are.
  *

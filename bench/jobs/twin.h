@@ -12,7 +12,7 @@
 #define MARK (UINT64_C(1) << 63)
 #define MOST_JOBS (UINT64_C(1) << 62)
 #define OPEN_TAG UINT64_C(0x6375626566616b65)
-enum { TAIL = 0, HEAD = 8, CELLS = 16 };
+enum { TAIL = 16, HEAD = 32, CELLS = 48 };
 enum kind { NO_KIND, PRODUCER, WORKER };
 /* A count is below the first number. A job that is kept has waited for this many takes for each processor. */
 #define COUNTS (UINT64_C(1) << 26)

@@ -3,9 +3,9 @@
 use std::sync::atomic::{AtomicU64, Ordering::SeqCst};
 
 const CLOSED: u64 = 1 << 63;
-const TAIL: usize = 0;
-const HEAD: usize = 8;
-const CELLS: usize = 16;
+const TAIL: usize = 16;
+const HEAD: usize = 32;
+const CELLS: usize = 48;
 
 pub struct Lanes {
     words: Box<[AtomicU64]>,

@@ -64,6 +64,15 @@ place_word n s p low within =
     let is : place_in n s p / 64 ≡ first_word (n / 6 - s) + p / 2 ^ (6 * s) / 64 = omega arith in
     omega (arith, there, is)
 
+-- the word of the lowest level around a processor is one of the machine
+pub word_near : (n p : ℕ)
+    → p < 2 ^ n
+    → (first_word (n / 6) + p / 2 ^ 6 < word_count n) × (p / 2 ^ 6 < 2 ^ (n - 6))
+word_near n p within =
+    let below : p / 2 ^ (6 * 0) / 64 < 2 ^ (n - 6 * 0 - 6) = word_below n 0 p (omega arith) within in
+    let less : 2 ^ (n - 6 * 0 - 6) ≤ 2 ^ (n - 6) = (let e : n - 6 * 0 - 6 ≤ n - 6 = omega arith in pow_mono e) in
+    (omega (arith, below, less), omega (arith, below, less))
+
 -- the place of a processor of the top level is in the first word
 top_word : (n l p : ℕ) → l ≡ n / 6 → p < 2 ^ n → place_in n l p / 64 ≡ 0
 top_word n l p is within =

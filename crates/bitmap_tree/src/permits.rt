@@ -20,6 +20,7 @@ use std::alloc::{AllocError, Global};
 impl BitmapTree {
     /// Takes an aligned block of dimension `k` by a permit, which comes back where the take is
     /// refused.
+    #[inline(always)]
     pub fn take_by_permit(
         &self,
         permit: Permit,
@@ -50,7 +51,7 @@ impl BitmapTree {
             length (permit_trail refused.0) ≤ take_steps (dim_of self.now)) }
     {
         let Permit { mut seat } = permit;
-        self.begin(&mut seat);
+        self.begin(&mut seat, self.word_near(processor));
         match self.take_by(&mut seat, k, processor) {
             Ok(region) => Ok(self.hold(seat, region)),
             Err(contended) => Err((Permit { seat }, contended)),
@@ -58,6 +59,7 @@ impl BitmapTree {
     }
 
     /// Releases a block. Returns its permit.
+    #[inline(always)]
     pub fn release_to_permit(&self, held: HeldBlock) -> Permit
         requires { IsHeldByPermit self.now held }
         ensures permit { IsPermitOf self.now result }
@@ -157,7 +159,7 @@ impl BitmapTree {
         ensures nothing { (q : ℕ) → times q result.me.0.runs ≡ 0 }
         ensures slots { result.me.1 ≡ [] }
     {
-        let mut seat = self.enter();
+        let mut seat = self.enter(0);
         while let Some(permit) = permits.pop() {
             self.gather_one(&mut seat, permit);
         }

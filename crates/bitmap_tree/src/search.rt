@@ -30,6 +30,17 @@ impl BitmapTree {
         1 << (self.size.dim - 6 * level).min(WORD_DIM)
     }
 
+    // The word of the lowest level around a processor. A call begins by a load of it, since it will
+    // look there next, and other threads look elsewhere.
+    #[tactic(auto, using(crate::proofs::FreeLemmas::word_near))]
+    #[inline(always)]
+    pub(crate) fn word_near(&self, processor: u64) -> u32
+        requires { processor < 2 ^ dim_of self.now }
+        ensures { result < word_count (dim_of self.now) }
+    {
+        first_word(self.size.dim / 6) + (processor >> WORD_DIM) as u32
+    }
+
     // Whether a level may have a free unit: by its marks, or by the word of the top level.
     fn has_unit(&self, level: u32) -> bool
         requires { level ≤ dim_of self.now / 6 }

@@ -17,21 +17,23 @@ use crate::rule::{
 use crate::view::Run;
 
 impl BitmapTree {
-    // Makes a new seat, with an empty run.
-    pub(crate) fn enter(&self) -> Seat
+    // Makes a new seat, with an empty run, by a load of a word.
+    pub(crate) fn enter(&self, word: u32) -> Seat
+        requires word { word < word_count (dim_of self.now) }
         ensures table { result.table_id ≡ id_of self.now }
         ensures run { HasRun (run 0 0) result.me }
         ensures trail { length result.me.0.trail ≡ 1 }
         ensures right { AreRightSteps (dim_of self.now) result.me.0.trail }
         ensures permits { result.me.0.permits ≡ 0 }
     {
-        let (_found, seat) = self.table.shared.load_new_seat::<Enter>(0);
+        let (_found, seat) = self.table.shared.load_new_seat::<Enter>(word as usize);
         seat
     }
 
     // Loads a word at the beginning of a call.
-    pub(crate) fn begin(&self, seat: &mut Seat)
-        requires { seat.old.table_id ≡ id_of self.now }
+    pub(crate) fn begin(&self, seat: &mut Seat, word: u32)
+        requires table { seat.old.table_id ≡ id_of self.now }
+        requires word { word < word_count (dim_of self.now) }
         ensures table { seat.new.table_id ≡ id_of self.now }
         ensures runs { seat.new.me.0.runs ≡ seat.old.me.0.runs }
         ensures slots { seat.new.me.1 ≡ seat.old.me.1 }
@@ -39,7 +41,7 @@ impl BitmapTree {
         ensures trail { length seat.new.me.0.trail ≡ 1 }
         ensures right { AreRightSteps (dim_of self.now) seat.new.me.0.trail }
     {
-        self.table.shared.load::<Begin>(seat, 0);
+        self.table.shared.load::<Begin>(seat, word as usize);
     }
 
     // Loads a word.

@@ -15,6 +15,7 @@ use cube_shape::Region;
 
 impl BitmapTree {
     // Takes a block by the marks, by a seat with an empty run.
+    #[inline(always)]
     fn take_quickly(&self, seat: &mut Seat, k: u32, processor: u64) -> Option<Region>
         requires table { seat.old.table_id ≡ id_of self.now }
         requires may { MayClaim self.now seat.old.me }
@@ -54,7 +55,7 @@ impl BitmapTree {
         ensures few { IfSome result (λ held.
             length (held_trail held) ≤ quick_steps (dim_of self.now)) }
     {
-        let mut seat = self.enter();
+        let mut seat = self.enter(self.word_near(processor));
         match self.take_quickly(&mut seat, k, processor) {
             Some(region) => Some(self.hold(seat, region)),
             None => None,
@@ -63,6 +64,7 @@ impl BitmapTree {
 
     // Takes a block after the marks gave none. It shuts the empty words below the level of the
     // dimension. Then it looks at each word of this level and of those above.
+    #[cold]
     fn take_exactly(&self, seat: &mut Seat, k: u32) -> Result<Region, u32>
         requires table { seat.old.table_id ≡ id_of self.now }
         requires may { MayClaim self.now seat.old.me }
@@ -94,6 +96,7 @@ impl BitmapTree {
     }
 
     // Takes a block: by the marks, and else by a look at each word.
+    #[inline(always)]
     pub(crate) fn take_by(&self, seat: &mut Seat, k: u32, processor: u64) -> Result<Region, u32>
         requires table { seat.old.table_id ≡ id_of self.now }
         requires may { MayClaim self.now seat.old.me }
@@ -121,6 +124,7 @@ impl BitmapTree {
     }
 
     // Makes a held block of a block that a seat has taken.
+    #[inline(always)]
     pub(crate) fn hold(&self, seat: Seat, region: Region) -> HeldBlock
         requires table { seat.table_id ≡ id_of self.now }
         requires may { MayClaim self.now seat.me }
@@ -167,7 +171,7 @@ impl BitmapTree {
         ensures few_refused { IfErr result (λ refused.
             length (refused_trail refused) ≤ take_steps (dim_of self.now)) }
     {
-        let mut seat = self.enter();
+        let mut seat = self.enter(self.word_near(processor));
         match self.take_by(&mut seat, k, processor) {
             Ok(region) => Ok(self.hold(seat, region)),
             Err(contended) => Err(Refused { contended, seat }),
@@ -233,7 +237,7 @@ impl BitmapTree {
         ensures few_refused { IfErr result (λ refused.
             length (refused_trail refused) ≤ block_steps (dim_of self.now)) }
     {
-        let mut seat = self.enter();
+        let mut seat = self.enter(self.word_near(block.base));
         match self.take_named(&mut seat, block) {
             Ok(()) => Ok(self.hold(seat, block)),
             Err(contended) => Err(Refused { contended, seat }),

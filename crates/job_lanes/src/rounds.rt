@@ -75,6 +75,7 @@ impl Lanes {
 
     /// Takes the job at the head of the first lane where it can, in one round of all lanes from the
     /// lane `from` on. It makes at most five atomic steps in each lane.
+    #[inline(always)]
     pub fn take_any(&self, worker: &mut Worker, from: u32) -> TakenAny
         requires id { worker.old.id ≡ self.now }
         requires from { from < self.now.plan.sizes.lanes }

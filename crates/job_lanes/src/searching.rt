@@ -196,6 +196,7 @@ impl Lanes {
 
     // Takes the job at the head of the lane, as the searcher or as an idle worker.
     #[tactic(auto, using(crate::proofs::CallLemmas::only_again))]
+    #[inline(always)]
     pub(crate) fn take_as(&self, sleeper: &mut Sleeper, lane: u32, searches: bool) -> Taken
         requires id { sleeper.old.id ≡ self.now }
         requires phase { sleeper.old.phase ≡ ready_phase searches }
@@ -248,6 +249,7 @@ impl Lanes {
     }
 
     // Takes a job of one lane in a round. `all_ended` is whether all lanes so far had ended.
+    #[inline(always)]
     fn try_lane(
         &self,
         sleeper: &mut Sleeper,
@@ -281,6 +283,7 @@ impl Lanes {
 
     // Takes the job at the head of the first lane where it can, in one round of all lanes from the
     // lane `from` on.
+    #[inline(always)]
     pub(crate) fn take_round(&self, sleeper: &mut Sleeper, from: u32, searches: bool) -> TakenAny
         requires id { sleeper.old.id ≡ self.now }
         requires phase { sleeper.old.phase ≡ ready_phase searches }

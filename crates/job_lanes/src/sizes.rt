@@ -18,13 +18,13 @@ pub(crate) const MAX_BASE: u64 = 1 << 20;
 // The closed mark in the first word of a lane. Below it is the count of accepted jobs.
 pub(crate) const CLOSED: u64 = 1 << 63;
 
-// Of a lane's words: the count of accepted jobs, the count of taken jobs, and the first cell. They
-// are apart, so that the producer and the workers write different cache lines.
-pub(crate) const TAIL: usize = 0;
+// Of a lane's words: the count of accepted jobs, the count of taken jobs, and the first cell. Each
+// is 128 bytes from what is before it, as processors fetch cache lines in pairs.
+pub(crate) const TAIL: usize = 16;
 
-pub(crate) const HEAD: usize = 8;
+pub(crate) const HEAD: usize = 32;
 
-pub(crate) const CELLS: usize = 16;
+pub(crate) const CELLS: usize = 48;
 
 /// The numbers of lanes and of workers, and the capacity of each lane.
 #[derive(Clone, Copy, Debug, PartialEq, Eq)]

@@ -133,10 +133,16 @@ impl Ageing {
 
     // Counts a take by a worker with this ticket, if it saw a job that is older. If its own job
     // was the oldest, no job is.
+    #[inline(always)]
     pub(crate) fn count_take(&self, seen: u64, ticket: u64) {
-        if seen / COUNTS == 0 {
-            return;
+        if seen / COUNTS > 0 {
+            self.count_beside(seen, ticket);
         }
+    }
+
+    // The same, if a job is kept.
+    #[cold]
+    fn count_beside(&self, seen: u64, ticket: u64) {
         if seen / COUNTS == ticket {
             self.leave(ticket);
             return;
