@@ -158,9 +158,6 @@ impl Local {
                 return Step::Ran;
             }
         }
-        if self.shared.is_ending.load(SeqCst) {
-            return self.run_last();
-        }
         match self.find() {
             Next::Job(job) => {
                 self.is_turn_of_one.set(false);
@@ -170,17 +167,6 @@ impl Local {
             Next::Park if is_called => Step::Ran,
             Next::Park => Step::NoWork,
             Next::End => Step::Ended,
-        }
-    }
-
-    /// Runs a job while the lanes are closed, if there is one.
-    fn run_last(&self) -> Step {
-        match self.shared.take_last() {
-            Some(job) => {
-                self.shared.begin(job);
-                Step::Ran
-            }
-            None => Step::Ended,
         }
     }
 
@@ -262,8 +248,7 @@ impl Local {
     fn sleep(&self, until: &dyn Fn() -> bool) {
         let seat = &self.shared.seats[self.index];
         seat.is_idle.store(true, Relaxed);
-        let is_ending = || self.shared.is_ending.load(SeqCst);
-        while !self.is_called() && !until() && !is_ending() && !self.is_awake() {
+        while !self.is_called() && !until() && !self.is_awake() {
             thread::park();
         }
         seat.is_idle.store(false, Relaxed);

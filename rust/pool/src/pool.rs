@@ -30,9 +30,9 @@ pub const MAX_WORKERS_LOG2: u32 = 10;
 /// The most lanes of each kind. See [`Builder::shared_lanes`] and [`Builder::client_lanes`].
 pub const MAX_LANES: u32 = 1024;
 
-// There are the workers and the judge. Jobs that come back have at most one lane for each worker,
-// and each worker has one. The others are those that threads share, and those of clients.
-const _: () = assert!((1 << MAX_WORKERS_LOG2) < lanes::MAX_WORKERS);
+// Jobs that come back have at most one lane for each worker, and each worker has one. The others are
+// those that threads share, and those of clients.
+const _: () = assert!((1 << MAX_WORKERS_LOG2) <= lanes::MAX_WORKERS);
 const _: () = assert!(2 * (1 << MAX_WORKERS_LOG2) + 2 * MAX_LANES <= lanes::MAX_LANES);
 
 /// How often a member looks before it sleeps, unless [`Builder::looks`] says otherwise.
@@ -147,17 +147,15 @@ impl Builder {
         let size = 1 << self.dim;
         let first_own = beds::lanes_for(size, self.capacity) + self.shared_lanes;
         let lane_count = first_own + size + self.client_lanes;
-        // One worker is the judge.
-        let ones = self.open(lane_count, size + 1)?;
+        let ones = self.open(lane_count, size)?;
         let gangs = self.open(self.shared_lanes, 1)?;
         // Lanes are dealt out in the order of their numbers.
         let returned = (self.shared_lanes..first_own).map(|_| lane(&ones)).collect::<io::Result<_>>()?;
         let beds = Beds::new(size as usize, returned);
         let shared = self.shared_lanes;
         let outside = Outside { ones: shared_lanes(&ones, shared)?, gangs: shared_lanes(&gangs, shared)? };
-        // Workers are dealt out in the order of their numbers too, and the judge is the last one.
+        // Workers are dealt out in the order of their numbers too.
         let workers = (0..size).map(|_| worker(&ones)).collect::<io::Result<_>>()?;
-        let judge = worker(&ones)?;
         let machine = Machine::new(self.dim).map_err(|_| no_memory())?;
         let placer = Placer::new(machine, worker(&gangs)?, self.shared_lanes);
         let shared = Shared {
@@ -174,8 +172,6 @@ impl Builder {
             live: Padded::default(),
             is_closed: AtomicBool::new(false),
             is_cancelled: AtomicBool::new(false),
-            is_ending: AtomicBool::new(false),
-            judge: Mutex::new(judge),
             looks: self.looks,
         };
         started(Arc::new(shared), workers)

@@ -11,7 +11,7 @@ use crate::placer::Placer;
 use crate::room::Room;
 use crate::seat::Seat;
 use crate::util::{drop_quietly, lock, Padded};
-use cubejobs::lanes::{Accepted, Lane, Lanes, Payload, Refused, SubmitError, TakeError, Worker};
+use cubejobs::lanes::{Accepted, Lane, Lanes, Payload, Refused, SubmitError};
 use std::sync::atomic::{AtomicBool, AtomicUsize, Ordering::SeqCst};
 use std::sync::{Arc, Mutex};
 use std::thread;
@@ -39,10 +39,6 @@ pub(crate) struct Shared {
     pub live: Padded<AtomicUsize>,
     pub is_closed: AtomicBool,
     pub is_cancelled: AtomicBool,
-    /// Whether the lanes of one-worker jobs are about to be closed, or are. See `take_last`.
-    pub is_ending: AtomicBool,
-    /// A worker that never lies down, and that no thread has.
-    pub judge: Mutex<Worker<u64>>,
     /// How often a member looks before it sleeps.
     pub looks: u32,
 }
@@ -252,30 +248,9 @@ impl Shared {
     /// threads end.
     fn end_if_over(&self) {
         if self.is_closed.load(SeqCst) && self.live.load(SeqCst) == 0 {
-            self.is_ending.store(true, SeqCst);
             self.ones.close();
             self.room.wake();
             self.beds.unpark_all();
-        }
-    }
-
-    /// Takes a job while the lanes are closed. Returns `None` at the end: they are closed, and none
-    /// has a job.
-    ///
-    /// A close wakes each worker that lies down. If that worker then misses the last job, since
-    /// another one takes it, it lies down again, and no call wakes it. So no worker that may lie
-    /// down takes part in the end.
-    pub fn take_last(&self) -> Option<Job> {
-        loop {
-            let taken = lock(&self.judge).take_any(0);
-            match taken {
-                Ok(job) => {
-                    self.beds.count_taken(job.lane);
-                    return Some(Job::taken(job));
-                }
-                Err(TakeError::Ended) => return None,
-                Err(_) => thread::yield_now(),
-            }
         }
     }
 
