@@ -13,6 +13,12 @@ use std::thread;
 /// How many jobs in a row come from one lane, if it has them.
 const MOST_IN_A_ROW: u32 = 64;
 
+/// How often a worker looks for a job after its last one, before it lies down.
+const LOOKS: u32 = 32;
+
+/// The most lanes that it looks at meanwhile. So a pool of many lanes has fewer looks.
+const LOOKED_LANES: u32 = 4096;
+
 /// How many waits of one thread may run jobs on top of each other. Deeper down, a job is run where
 /// it is submitted, so that the stack stays small.
 const MOST_WAITS: u32 = 16;
@@ -33,6 +39,8 @@ pub(crate) struct Local {
     /// The lane of the next job, and how many came from it in a row.
     from: Cell<u32>,
     in_a_row: Cell<u32>,
+    /// How often the worker still looks for a job before it lies down.
+    looks: Cell<u32>,
     /// Whether a one-worker job goes first, since the last job was a gang.
     is_turn_of_one: Cell<bool>,
     pub in_gang: Cell<bool>,
@@ -44,6 +52,7 @@ pub(crate) struct Local {
 /// What the thread of a worker can do.
 enum Next {
     Job(Job),
+    Look,
     Park,
     End,
 }
@@ -101,6 +110,7 @@ pub(crate) fn work(shared: Arc<Shared>, worker: Worker<u64>, lane: Lane<u64>, fr
         lane: RefCell::new(lane),
         from: Cell::new(from),
         in_a_row: Cell::new(0),
+        looks: Cell::new(0),
         is_turn_of_one: Cell::new(false),
         in_gang: Cell::new(false),
         waits: Cell::new(0),
@@ -149,7 +159,7 @@ impl Local {
         if is_called {
             if self.is_turn_of_one.take() {
                 if let Some(job) = self.take_awake() {
-                    self.shared.begin(job);
+                    self.run(job);
                     return Step::Ran;
                 }
             }
@@ -160,14 +170,20 @@ impl Local {
         }
         match self.find() {
             Next::Job(job) => {
-                self.is_turn_of_one.set(false);
-                self.shared.begin(job);
+                self.run(job);
                 Step::Ran
             }
+            Next::Look => Step::Ran,
             Next::Park if is_called => Step::Ran,
             Next::Park => Step::NoWork,
             Next::End => Step::Ended,
         }
+    }
+
+    fn run(&self, job: Job) {
+        self.is_turn_of_one.set(false);
+        self.shared.begin(job);
+        self.has_worked();
     }
 
     fn serve(&self) {
@@ -175,6 +191,12 @@ impl Local {
         self.shared.serve(self.index);
         self.in_gang.set(false);
         self.is_turn_of_one.set(true);
+        self.has_worked();
+    }
+
+    /// Lets the worker look for the next job before it lies down.
+    fn has_worked(&self) {
+        self.looks.set(LOOKS.min(LOOKED_LANES / self.shared.lane_count));
     }
 
     fn with_worker<R>(&self, call: impl FnOnce(&mut Worker<u64>) -> R) -> R {
@@ -182,10 +204,27 @@ impl Local {
         call(kept.get_or_insert_with(|| self.shared.beds.get_back(self.index)))
     }
 
-    /// Finds a job in the lanes, or has the worker lie down.
+    /// Finds a job in the lanes. If there is none, has the worker look again, or lie down.
+    ///
+    /// A submit wakes a worker that lies down, which takes longer than many jobs. It may also take
+    /// the processor from the thread that submits. So a worker looks some times before.
     fn find(&self) -> Next {
+        let looks = self.looks.get();
+        if looks == 0 || self.may_lie.get() {
+            return self.find_or_lie_down();
+        }
+        if let Some(job) = self.take_awake() {
+            return Next::Job(job);
+        }
+        self.looks.set(looks - 1);
+        self.idle(thread::yield_now);
+        Next::Look
+    }
+
+    /// Finds a job in the lanes, or has the worker lie down.
+    fn find_or_lie_down(&self) -> Next {
         loop {
-            let from = if self.shared.beds.has_returned() { 0 } else { self.from.get() };
+            let from = self.first_lane();
             let Finding { found, woken } = self.with_worker(|worker| worker.find(from));
             self.shared.rouse(woken);
             self.may_lie.set(matches!(found, Found::Park | Found::Again));
@@ -203,11 +242,21 @@ impl Local {
 
     /// Takes a job, unless the worker lies down.
     fn take_awake(&self) -> Option<Job> {
-        let taken = self.with_worker(|worker| worker.take_any(self.from.get()));
+        let from = self.first_lane();
+        let taken = self.with_worker(|worker| worker.take_any(from));
         self.may_lie.set(taken == Err(TakeError::Asleep));
         let job = taken.ok()?;
         self.took(job.lane);
         Some(Job::taken(job))
+    }
+
+    /// Returns the lane at which a search begins. Jobs that have come back go first.
+    fn first_lane(&self) -> u32 {
+        if self.shared.beds.has_returned() {
+            0
+        } else {
+            self.from.get()
+        }
     }
 
     /// Sees to the lanes after a job of this lane was taken.
@@ -246,11 +295,18 @@ impl Local {
 
     /// Sleeps while the worker lies down, until it is woken or called, or `until` holds.
     fn sleep(&self, until: &dyn Fn() -> bool) {
+        self.idle(|| {
+            while !self.is_called() && !until() && !self.is_awake() {
+                thread::park();
+            }
+        });
+    }
+
+    /// Makes a call during which the worker has no work.
+    fn idle(&self, call: impl FnOnce()) {
         let seat = &self.shared.seats[self.index];
         seat.is_idle.store(true, Relaxed);
-        while !self.is_called() && !until() && !self.is_awake() {
-            thread::park();
-        }
+        call();
         seat.is_idle.store(false, Relaxed);
     }
 

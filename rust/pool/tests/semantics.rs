@@ -747,6 +747,8 @@ fn an_idle_pool_takes_no_time() {
     let _limited = limited(30);
     let pool = pool(3);
     pool.run(3, |group| group.barrier());
+    // After its last job a worker looks for another one, and only then lies down.
+    pool.scope(|scope| (0..1_000).for_each(|_| scope.detach(|| ())));
     thread::sleep(Duration::from_millis(100));
     let before = used();
     thread::sleep(Duration::from_secs(1));
