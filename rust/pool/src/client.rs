@@ -1,34 +1,40 @@
-//! A producer with a lane of its own.
+//! A producer with lanes of its own.
 
 use crate::error::{ClientError, Refused};
+use crate::group::Group;
 use crate::job::Job;
-use crate::pool::{Detached, One};
+use crate::outside::GangWord;
+use crate::pool::{submit_gang, Detached, One};
 use crate::shared::Shared;
 use crate::ticket::{Packet, Promise, Ticket};
 use cubejobs::lanes::{DealError, Lane};
 use std::fmt;
 use std::sync::Arc;
 
-/// A producer of one-worker jobs with a lane of its own. Workers take its jobs in their order.
+/// A producer with a lane of its own for one-worker jobs, and one for gangs. Workers take its jobs
+/// in their order. Its gangs go their own way: see [`Pool::submit`](crate::Pool::submit).
 ///
-/// It needs no turn with other threads, so it is the fastest way into a pool. If it is dropped, its
-/// lane is for the next client, and its jobs are run. See [`Pool::client`](crate::Pool::client).
+/// It needs no turn with other threads, so it is the fastest way into a pool. It may outlive the
+/// pool. If it is dropped, its lanes are for the next client, and its jobs are run. See
+/// [`Pool::client`](crate::Pool::client).
 pub struct Client {
     pool: Arc<Shared>,
+    // This lane goes back first, and is dealt out last. So there is one for each `lane`.
+    gangs: Lane<GangWord>,
     lane: Lane<u64>,
 }
 
 impl Client {
     pub(crate) fn new(pool: &Arc<Shared>) -> Result<Self, ClientError> {
-        match pool.ones.lane() {
-            Ok(lane) => Ok(Client { pool: pool.clone(), lane }),
-            Err(DealError::NoneLeft) => Err(ClientError::NoneLeft),
-            Err(DealError::OutOfMemory) => Err(ClientError::OutOfMemory),
-        }
+        let refused = |error| match error {
+            DealError::NoneLeft => ClientError::NoneLeft,
+            DealError::OutOfMemory => ClientError::OutOfMemory,
+        };
+        let lane = pool.ones.lane().map_err(refused)?;
+        let gangs = pool.gangs.lane().map_err(refused)?;
+        Ok(Client { pool: pool.clone(), gangs, lane })
     }
-}
 
-impl Client {
     /// Runs `call` on one worker. If the lane is full, it sleeps until there is room.
     ///
     /// # Errors
@@ -55,7 +61,7 @@ impl Client {
         F: FnOnce() -> T + Send + 'static,
         T: Send + 'static,
     {
-        self.submit(call, true)
+        self.submit_one(call, true)
     }
 
     /// Runs `call` on one worker, as [`Client::spawn`] does. It never waits.
@@ -79,7 +85,7 @@ impl Client {
         F: FnOnce() -> T + Send + 'static,
         T: Send + 'static,
     {
-        self.submit(call, false)
+        self.submit_one(call, false)
     }
 
     /// Runs `call` on one worker, as [`Client::spawn`] does, without a ticket.
@@ -97,17 +103,79 @@ impl Client {
     /// # Ok::<(), std::io::Error>(())
     /// ```
     pub fn detach<F: FnOnce() + Send + 'static>(&mut self, call: F) -> Result<(), Refused<F>> {
-        let Client { pool, lane } = self;
+        let Client { pool, lane, .. } = self;
         let passed = Job::pass(Detached(call), |job| pool.submit_by_client(lane, job, true));
         passed.map_err(|(reason, Detached(call))| Refused { reason, job: call })
     }
 
-    fn submit<F, T>(&mut self, call: F, may_wait: bool) -> Result<Ticket<T>, Refused<F>>
+    /// Runs `call` as a gang, as [`Pool::submit`](crate::Pool::submit) does.
+    ///
+    /// # Errors
+    ///
+    /// The reason is the first of these that applies: `TooWide`, `Closed`, or `Full` at a worker of
+    /// the pool. The closure comes back.
+    ///
+    /// ```
+    /// # let pool = cubejobs_pool::Pool::builder().build()?;
+    /// let mut client = pool.client().unwrap();
+    /// let producer = std::thread::spawn(move || {
+    ///     let gang = client.submit(1, |group| group.exchange(1 - group.rank(), group.rank()));
+    ///     gang.unwrap().join_all().unwrap()
+    /// });
+    /// assert_eq!(producer.join().unwrap(), [1, 0]);
+    /// # Ok::<(), std::io::Error>(())
+    /// ```
+    pub fn submit<F, T>(&mut self, dim: u32, call: F) -> Result<Ticket<T>, Refused<F>>
+    where
+        F: Fn(&Group<'_>) -> T + Send + Sync + 'static,
+        T: Send + 'static,
+    {
+        self.submit_gang(dim, call, true)
+    }
+
+    /// Runs `call` as a gang, as [`Client::submit`] does. It never waits.
+    ///
+    /// # Errors
+    ///
+    /// The reason is the first of these that applies: `TooWide`, `Closed`, `Full`. The closure
+    /// comes back.
+    ///
+    /// ```
+    /// use cubejobs_pool::{Pool, Reason};
+    ///
+    /// let pool = Pool::builder().build()?;
+    /// let mut client = pool.client().unwrap();
+    /// let gang = client.try_submit(2, |group| group.rank()).unwrap();
+    /// assert_eq!(gang.join_all().unwrap(), [0, 1, 2, 3]);
+    /// pool.close();
+    /// let refused = client.try_submit(2, |group| group.rank()).unwrap_err();
+    /// assert_eq!(refused.reason, Reason::Closed);
+    /// # Ok::<(), std::io::Error>(())
+    /// ```
+    pub fn try_submit<F, T>(&mut self, dim: u32, call: F) -> Result<Ticket<T>, Refused<F>>
+    where
+        F: Fn(&Group<'_>) -> T + Send + Sync + 'static,
+        T: Send + 'static,
+    {
+        self.submit_gang(dim, call, false)
+    }
+
+    fn submit_gang<F, T>(&mut self, dim: u32, call: F, may_wait: bool) -> Result<Ticket<T>, Refused<F>>
+    where
+        F: Fn(&Group<'_>) -> T + Send + Sync + 'static,
+        T: Send + 'static,
+    {
+        let Client { pool, gangs, .. } = self;
+        let submit = |gang| pool.submit_gang_by(gang, may_wait, |word| gangs.submit(word, 0));
+        submit_gang(pool, dim, call, submit)
+    }
+
+    fn submit_one<F, T>(&mut self, call: F, may_wait: bool) -> Result<Ticket<T>, Refused<F>>
     where
         F: FnOnce() -> T + Send + 'static,
         T: Send + 'static,
     {
-        let Client { pool, lane } = self;
+        let Client { pool, lane, .. } = self;
         let packet = Packet::new(1, None);
         let work = One { call, promise: Promise::new(packet.clone()) };
         match Job::pass(work, |job| pool.submit_by_client(lane, job, may_wait)) {

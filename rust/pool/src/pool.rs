@@ -7,7 +7,7 @@ use crate::error::{ClientError, Reason, Refused};
 use crate::gang::{self, Gang};
 use crate::group::Group;
 use crate::job::{Job, Work};
-use crate::outside::Outside;
+use crate::outside::{GangWord, Outside};
 use crate::placer::Placer;
 use crate::room::Room;
 use crate::scope::{self, Scope};
@@ -71,7 +71,7 @@ impl Builder {
         self
     }
 
-    /// Sets the number of jobs that each lane holds, from 1 to [`MAX_CAPACITY`]. It is
+    /// Sets the number of jobs or gangs that each lane holds, from 1 to [`MAX_CAPACITY`]. It is
     /// `MAX_CAPACITY` without this call. Each worker has a lane, and each place in a lane takes 64
     /// bytes.
     ///
@@ -85,7 +85,7 @@ impl Builder {
         self
     }
 
-    /// Sets the number of lanes that other threads share, from 1 to [`MAX_LANES`]. There are 4
+    /// Sets the number of lanes that other threads share, for jobs and for gangs each, from 1 to [`MAX_LANES`]. There are 4
     /// without this call.
     ///
     /// ```
@@ -98,8 +98,8 @@ impl Builder {
         self
     }
 
-    /// Sets the number of lanes for a [`Client`] each, at most [`MAX_LANES`]. There are 4 without
-    /// this call.
+    /// Sets how many [`Client`]s there may be at once, at most [`MAX_LANES`]. Each has a lane for
+    /// jobs and one for gangs. There are 4 without this call.
     ///
     /// ```
     /// let pool = cubejobs_pool::Pool::builder().client_lanes(0).build()?;
@@ -148,7 +148,8 @@ impl Builder {
         let first_own = beds::lanes_for(size, self.capacity) + self.shared_lanes;
         let lane_count = first_own + size + self.client_lanes;
         let ones = self.open(lane_count, size)?;
-        let gangs = self.open(self.shared_lanes, 1)?;
+        let gang_lanes = self.shared_lanes + self.client_lanes;
+        let gangs = self.open(gang_lanes, 1)?;
         // Lanes are dealt out in the order of their numbers.
         let returned = (self.shared_lanes..first_own).map(|_| lane(&ones)).collect::<io::Result<_>>()?;
         let beds = Beds::new(size as usize, returned);
@@ -157,7 +158,7 @@ impl Builder {
         // Workers are dealt out in the order of their numbers too.
         let workers = (0..size).map(|_| worker(&ones)).collect::<io::Result<_>>()?;
         let machine = Machine::new(self.dim).map_err(|_| no_memory())?;
-        let placer = Placer::new(machine, worker(&gangs)?, self.shared_lanes);
+        let placer = Placer::new(machine, worker(&gangs)?, gang_lanes);
         let shared = Shared {
             dim: self.dim,
             ones,
@@ -250,6 +251,32 @@ impl<F: FnOnce() + Send> Work for Detached<F> {
         if let Err(payload) = catch_unwind(AssertUnwindSafe(self.0)) {
             drop_quietly(payload);
         }
+    }
+}
+
+/// Submits a closure as a gang by a call.
+pub(crate) fn submit_gang<F, T>(
+    shared: &Shared,
+    dim: u32,
+    call: F,
+    submit: impl FnOnce(Gang) -> Result<(), (Reason, GangWord)>,
+) -> Result<Ticket<T>, Refused<F>>
+where
+    F: Fn(&Group<'_>) -> T + Send + Sync + 'static,
+    T: Send + 'static,
+{
+    if dim > shared.dim {
+        return Err(Refused { reason: Reason::TooWide, job: call });
+    }
+    let call = Arc::new(call);
+    let weak = Arc::downgrade(&call);
+    let packet = Packet::new(1 << dim, None);
+    let (ours, ends) = (packet.clone(), packet.clone());
+    let body = move |group: &Group<'_>| ours.keep(group.rank(), call(group));
+    let end = move |panic| ends.end(panic);
+    match submit(Gang::new(dim, Arc::new(body), Box::new(end))) {
+        Ok(()) => Ok(Ticket { packet, pool: shared.id() }),
+        Err((reason, gang)) => Err(Refused { reason, job: gang::closure(gang, &weak) }),
     }
 }
 
@@ -406,19 +433,7 @@ impl Pool {
         F: Fn(&Group<'_>) -> T + Send + Sync + 'static,
         T: Send + 'static,
     {
-        if dim > self.dim() {
-            return Err(Refused { reason: Reason::TooWide, job: call });
-        }
-        let call = Arc::new(call);
-        let weak = Arc::downgrade(&call);
-        let packet = Packet::new(1 << dim, None);
-        let (ours, ends) = (packet.clone(), packet.clone());
-        let body = move |group: &Group<'_>| ours.keep(group.rank(), call(group));
-        let end = move |panic| ends.end(panic);
-        match self.shared.submit_gang(Gang::new(dim, Arc::new(body), Box::new(end)), may_wait) {
-            Ok(()) => Ok(Ticket { packet, pool: self.shared.id() }),
-            Err((reason, gang)) => Err(Refused { reason, job: gang::closure(gang, &weak) }),
-        }
+        submit_gang(&self.shared, dim, call, |gang| self.shared.submit_gang(gang, may_wait))
     }
 
     /// Runs `call` as a gang, sleeps until it has ended, and returns the results of all members in
@@ -504,7 +519,7 @@ impl Pool {
         scope::run(&self.shared, call)
     }
 
-    /// Returns a client, which has a lane of its own.
+    /// Returns a client, which has lanes of its own.
     ///
     /// # Errors
     ///

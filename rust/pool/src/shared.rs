@@ -20,7 +20,7 @@ use std::thread;
 const YIELDS: u32 = 4;
 
 /// What a submit has done.
-type Submitted<P> = Result<Accepted, Refused<SubmitError, P>>;
+pub(crate) type Submitted<P> = Result<Accepted, Refused<SubmitError, P>>;
 
 pub(crate) struct Shared {
     pub dim: u32,
@@ -148,13 +148,23 @@ impl Shared {
         self.settle(submitted).map_err(|(reason, refused)| (reason, Job::refused(refused)))
     }
 
-    /// Submits a gang. If its lane is full, a thread that is no worker of the pool sleeps until
-    /// there is room, if it may wait. Returns the gang if it was not accepted.
+    /// Submits a gang to a lane that threads share, as `submit_gang_by` does.
     pub fn submit_gang(self: &Arc<Self>, gang: Gang, may_wait: bool) -> Result<(), (Reason, GangWord)> {
+        self.submit_gang_by(gang, may_wait, |gang| outside::submit_gang(self, gang))
+    }
+
+    /// Submits a gang by a call. If its lane is full, a thread that is no worker of the pool sleeps
+    /// until there is room, if it may wait. Returns the gang if it was not accepted.
+    pub fn submit_gang_by(
+        &self,
+        gang: Gang,
+        may_wait: bool,
+        mut submit: impl FnMut(GangWord) -> Submitted<GangWord>,
+    ) -> Result<(), (Reason, GangWord)> {
         self.live.fetch_add(1, SeqCst);
-        let mut submitted = outside::submit_gang(self, Box::new(gang));
+        let mut submitted = submit(Box::new(gang));
         if may_wait && current::of(self).is_none() {
-            submitted = self.wait_for_room(submitted, |gang| outside::submit_gang(self, gang));
+            submitted = self.wait_for_room(submitted, submit);
         }
         // No worker of these lanes sleeps, so a submit wakes none.
         let result = self.settle(submitted).map_err(|(reason, refused)| (reason, refused.payload));
@@ -259,7 +269,6 @@ impl Shared {
         self.is_cancelled.fetch_or(at_once, SeqCst);
         self.is_closed.store(true, SeqCst);
         self.gangs.close();
-        self.room.wake();
         self.place();
         self.end_if_over();
     }

@@ -102,23 +102,26 @@ fn a_thousand_workers() {
 /// Submits random jobs. `inside` has the number of gangs at each worker, which is at most one.
 fn submit_random(pool: &Pool, seed: u64, inside: &Arc<Vec<AtomicUsize>>) {
     let mut numbers = Numbers::new(seed);
+    let mut client = pool.client().unwrap();
     let mut tickets: VecDeque<(Ticket<u64>, usize, u64)> = VecDeque::new();
     for number in 0..3_000 {
         let dim = numbers.below(4) as u32;
         let inside = inside.clone();
-        let ticket = if numbers.below(2) == 0 {
-            (pool.spawn(move || number), 1, number)
-        } else {
-            let gang = move |group: &Group<'_>| {
-                let place = &inside[group.base() + group.rank()];
-                assert_eq!(place.fetch_add(1, SeqCst), 0, "two gangs at one worker");
-                assert_eq!(group.all_reduce(1, |a, b| a + b), group.size());
-                place.fetch_sub(1, SeqCst);
-                number
-            };
-            (pool.submit(dim, gang).unwrap(), 1 << dim, number)
+        let job = move || number;
+        let gang = move |group: &Group<'_>| {
+            let place = &inside[group.base() + group.rank()];
+            assert_eq!(place.fetch_add(1, SeqCst), 0, "two gangs at one worker");
+            assert_eq!(group.all_reduce(1, |a, b| a + b), group.size());
+            place.fetch_sub(1, SeqCst);
+            number
         };
-        tickets.push_back(ticket);
+        let (ticket, size) = match numbers.below(4) {
+            0 => (pool.spawn(job), 1),
+            1 => (client.spawn(job).unwrap(), 1),
+            2 => (pool.submit(dim, gang).unwrap(), 1 << dim),
+            _ => (client.submit(dim, gang).unwrap(), 1 << dim),
+        };
+        tickets.push_back((ticket, size, number));
         if tickets.len() > 40 || number == 2_999 {
             for (ticket, size, number) in tickets.drain(..) {
                 assert_eq!(ticket.join_all().unwrap(), vec![number; size]);

@@ -357,16 +357,21 @@ fn until_full<T, F>(
 fn a_full_lane_of_gangs_gives_the_closure_back() {
     let _limited = limited(30);
     let pool = Pool::builder().workers_log2(1).lane_capacity(2).shared_lanes(1).build().unwrap();
+    let mut client = pool.client().unwrap();
     let holder = Holder::new(&pool);
     let word = || {
         let word = String::from("mine");
         move |_: &Group<'_>| word.len()
     };
     let (mut gangs, refused) = until_full(|call| pool.try_submit(1, call), word);
-    // Two gangs wait for a block, and two are in the lane.
+    // Two gangs wait for a block, and two are in the lane. Two more are in that of the client.
     assert_eq!(gangs.len(), 4);
+    let (ours, other) = until_full(|call| client.try_submit(1, call), word);
+    assert_eq!(ours.len(), 2);
     drop(holder);
+    gangs.extend(ours);
     gangs.push(pool.submit(1, refused).unwrap());
+    gangs.push(client.submit(1, other).unwrap());
     assert!(gangs.into_iter().all(|ticket| ticket.join_all().unwrap() == [4, 4]));
 }
 
@@ -641,29 +646,37 @@ fn a_closed_pool_refuses_its_clients() {
     assert_eq!((reason, job()), (Reason::Closed, 8));
     assert_eq!(client.try_spawn(|| 8).unwrap_err().reason, Reason::Closed);
     assert_eq!(client.detach(|| ()).unwrap_err().reason, Reason::Closed);
+    assert_eq!(client.submit(1, |_| ()).unwrap_err().reason, Reason::Closed);
+    let Refused { reason, job } = client.try_submit(2, |_| 9).unwrap_err();
+    assert_eq!(reason, Reason::TooWide);
+    assert_eq!(client.try_submit(0, job).unwrap_err().reason, Reason::Closed);
     wait_for_threads(0);
 }
 
-/// A client sleeps until there is room, while the pool is closed: it hears of that.
+/// A client sleeps until there is room, while the pool is closed: it hears of that at once, and not
+/// from the next job that is taken.
 #[test]
 fn a_close_wakes_a_client_that_waits_for_room() {
     let _limited = limited(30);
-    for round in 0..50 {
+    for round in 0..100 {
         let pool = Pool::builder().workers_log2(0).lane_capacity(1).build().unwrap();
         let (sender, receiver) = channel::<()>();
         let first = pool.spawn(move || receiver.recv().is_ok());
         let mut client = pool.client().unwrap();
         let producer = thread::spawn(move || {
-            let accepted = std::iter::from_fn(|| client.spawn(|| 7).ok());
+            let accepted = std::iter::from_fn(|| match round % 2 {
+                0 => client.spawn(|| 7).ok(),
+                _ => client.submit(0, |_| 7).ok(),
+            });
             accepted.collect::<Vec<_>>()
         });
-        thread::sleep(Duration::from_micros(100 * round));
+        thread::sleep(Duration::from_micros(50 * round));
         let closer = thread::spawn(|| pool.close());
-        thread::sleep(Duration::from_millis(2));
+        let tickets = producer.join().unwrap();
         sender.send(()).unwrap();
         closer.join().unwrap();
         assert!(first.join().unwrap());
-        assert!(producer.join().unwrap().into_iter().all(|ticket| ticket.join().unwrap() == 7));
+        assert!(tickets.into_iter().all(|ticket| ticket.join().unwrap() == 7));
     }
 }
 
