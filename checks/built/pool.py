@@ -1,11 +1,13 @@
 """Tests the Rust package `cubejobs-pool`: its tests, documents and examples, without a warning.
 
     checks/run pool                 one run of all
-    checks/run pool --long          25 runs of the tests, and each mutant: a test sees it within a limit of time
+    checks/run pool --long          25 runs of the tests, every other one on two processors; a run under AddressSanitizer,
+                                    which sees leaks too; and each mutant: a test sees it within a limit of time
     checks/run pool --mutants NAME..  these mutants alone
 
 A mutant is a file of rust/pool/mutants: the file that it changes, the tests that see it, the old text and the new one.
-The tests are `unit`, `crowds` or `semantics`, and a part of the test's name.
+The tests are `unit`, `crowds` or `semantics`, and a part of the test's name. After `addresses` they run under
+AddressSanitizer. ThreadSanitizer has no part here: it would need the library and std compiled for it.
 """
 import os
 import re
@@ -20,6 +22,9 @@ PACKAGE = "rust/pool"
 # The seconds of a build, of a whole run of the tests, and of a test and of the tests of a mutant.
 BUILD, RUN, TEST, TESTS = 600, 300, 20, 60
 RUNS = 25
+# A user of rustc may ask for a sanitizer only as one of its developers.
+TRIPLE = "x86_64-unknown-linux-gnu"
+ADDRESSES = {"RUSTC_BOOTSTRAP": "1", "RUSTFLAGS": "-Awarnings -Zsanitizer=address"}
 EXAMPLES = {
     "sort": r"1000 numbers in order on 4 workers, .*",
     "mixed": r"100000 small jobs ran, 270 gangs have their sum, 30 failed, .*",
@@ -28,9 +33,12 @@ EXAMPLES = {
 WORDS = {"sort": ["1000"]}
 
 
-def run(folder, target, words, seconds=BUILD):
+def run(folder, target, words, seconds=BUILD, is_sanitized=False):
     """Runs cargo in a folder. Returns its status and what it says; a run that takes too long has the status None."""
     env = dict(os.environ, CARGO_TARGET_DIR=target, CARGO_TERM_COLOR="never", RUST_BACKTRACE="0")
+    if is_sanitized:
+        env |= ADDRESSES
+        words = [words[0], "--target", TRIPLE, *words[1:]]
     command = ["cargo", words[0], "--offline", *words[1:]]
     with subprocess.Popen(command, cwd=folder, env=env, stdout=subprocess.PIPE, stderr=subprocess.STDOUT, text=True,
                           errors="replace", start_new_session=True) as ran:
@@ -42,8 +50,8 @@ def run(folder, target, words, seconds=BUILD):
             return None, ran.communicate()[0]
 
 
-def must(folder, target, words, seconds=BUILD):
-    status, said = run(folder, target, words, seconds)
+def must(folder, target, words, seconds=BUILD, is_sanitized=False):
+    status, said = run(folder, target, words, seconds, is_sanitized)
     if status != 0:
         raise Wrong(f"cargo {' '.join(words)}:\n{said[-3000:]}")
     return said
@@ -69,11 +77,31 @@ def whole(target):
 
 
 def many(target):
+    processors = os.sched_getaffinity(0)
     for number in range(1, RUNS + 1):
+        os.sched_setaffinity(0, processors if number % 2 else sorted(processors)[:2])
         status, said = run(path(PACKAGE), target, ["test", "--tests"], RUN)
         if status != 0:
             raise Wrong(f"run {number} of the tests:\n{said[-3000:]}")
+    os.sched_setaffinity(0, processors)
     print(f"pool: {RUNS} runs of the tests pass")
+
+
+def can_sanitize(work):
+    """Returns whether rustc has AddressSanitizer, and the system lets it look for leaks."""
+    program, command = os.path.join(work, "empty"), ["rustc", "-Zsanitizer=address", "-", "-o"]
+    built = subprocess.run([*command, program], input=b"fn main() {}", env=dict(os.environ, **ADDRESSES), check=False,
+                           capture_output=True)
+    can = built.returncode == 0 and subprocess.run([program], check=False, capture_output=True).returncode == 0
+    if not can:
+        print("pool: no AddressSanitizer here")
+    return can
+
+
+def sanitized(target):
+    if can_sanitize(target):
+        must(path(PACKAGE), target, ["test", "--tests"], BUILD + RUN, True)
+        print("pool: AddressSanitizer has nothing to say of the tests")
 
 
 def mutants():
@@ -95,10 +123,12 @@ def try_mutant(folder, target, edit):
     with open(file, "w", encoding="utf-8") as source:
         source.write(text.replace(edit["old"], edit["new"]))
     try:
-        kind, _, name = edit["test"].partition(" ")
+        test = edit["test"].removeprefix("addresses ")
+        is_sanitized = test != edit["test"]
+        kind, _, name = test.partition(" ")
         words = ["test", "--lib"] if kind == "unit" else ["test", "--test", kind]
-        must(os.path.join(folder, "pool"), target, [*words, "--no-run"])
-        status, said = run(os.path.join(folder, "pool"), target, [*words, name], TESTS)
+        must(os.path.join(folder, "pool"), target, [*words, "--no-run"], BUILD, is_sanitized)
+        status, said = run(os.path.join(folder, "pool"), target, [*words, name], TESTS, is_sanitized)
     finally:
         with open(file, "w", encoding="utf-8") as source:
             source.write(text)
@@ -108,6 +138,8 @@ def try_mutant(folder, target, edit):
         if not re.search(r"[1-9]\d* passed", said):
             raise Wrong(f"there is no test {edit['test']}")
         return None
+    if is_sanitized:
+        return "AddressSanitizer reports it" if "ERROR: " in said and "Sanitizer: " in said else None
     return "it does not end" if "has not ended within" in said or "ABRT" in said else "a test fails"
 
 
@@ -121,13 +153,15 @@ def see_mutants(names):
         folder, target = os.path.join(work, "rust"), os.path.join(work, "target")
         shutil.copytree(path("rust"), folder, ignore=shutil.ignore_patterns("target"))
         os.environ.update(RUSTFLAGS="-Awarnings", POOL_TEST_SECONDS=str(TEST))
-        for name in names or known:
+        can = can_sanitize(work)
+        tried = [name for name in names or known if can or not known[name]["test"].startswith("addresses ")]
+        for name in tried:
             seen = try_mutant(folder, target, known[name])
             print(f"{name}: {seen or 'NOT SEEN'}", flush=True)
             missed += [] if seen else [name]
     if missed:
         raise Wrong(f"no test sees {', '.join(missed)}")
-    print(f"pool: the tests see {len(names or known)} mutants")
+    print(f"pool: the tests see {len(tried)} mutants")
 
 
 def main(words):
@@ -140,5 +174,6 @@ def main(words):
         whole(target)
         if words == ["--long"]:
             many(target)
+            sanitized(target)
     if words == ["--long"]:
         see_mutants([])
