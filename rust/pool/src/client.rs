@@ -17,6 +17,14 @@ use std::sync::Arc;
 /// It needs no turn with other threads, so it is the fastest way into a pool. It may outlive the
 /// pool. If it is dropped, its lanes are for the next client, and its jobs are run. See
 /// [`Pool::client`](crate::Pool::client).
+///
+/// ```
+/// # let pool = cubejobs_pool::Pool::builder().build()?;
+/// let mut client = pool.client().unwrap();
+/// let producer = std::thread::spawn(move || client.spawn(|| 7).unwrap().join().unwrap());
+/// assert_eq!(producer.join().unwrap(), 7);
+/// # Ok::<(), std::io::Error>(())
+/// ```
 pub struct Client {
     pool: Arc<Shared>,
     // This lane goes back first, and is dealt out last. So there is one for each `lane`.

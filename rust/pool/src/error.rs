@@ -4,6 +4,15 @@ use std::error::Error;
 use std::fmt;
 
 /// The reason why a job was not accepted. See [`Refused`].
+///
+/// ```
+/// use cubejobs_pool::{Pool, Reason};
+///
+/// let pool = Pool::builder().build()?; // 4 workers
+/// assert_eq!(pool.try_submit(3, |_| ()).unwrap_err().reason, Reason::TooWide);
+/// assert_eq!(Reason::TooWide.to_string(), "the group is larger than the pool");
+/// # Ok::<(), std::io::Error>(())
+/// ```
 #[derive(Clone, Copy, Debug, PartialEq, Eq)]
 pub enum Reason {
     /// The lane has as many jobs as its capacity.
@@ -35,10 +44,29 @@ pub struct Refused<F> {
 
 /// The payload of a job that [`Pool::close_now`](crate::Pool::close_now) dropped before it began.
 /// [`Ticket::join`](crate::Ticket::join) returns it as the error.
+///
+/// ```
+/// # let pool = cubejobs_pool::Pool::builder().build()?;
+/// let ticket = pool.spawn(|| 7);
+/// pool.close_now();
+/// match ticket.join() {
+///     Ok(number) => assert_eq!(number, 7), // it had begun
+///     Err(payload) => assert_eq!(payload.downcast_ref(), Some(&cubejobs_pool::Cancelled)),
+/// }
+/// # Ok::<(), std::io::Error>(())
+/// ```
 #[derive(Clone, Copy, Debug, PartialEq, Eq)]
 pub struct Cancelled;
 
 /// The error of a pool that has no lane left for another [`Client`](crate::Client).
+///
+/// ```
+/// use cubejobs_pool::{ClientError, Pool};
+///
+/// let pool = Pool::builder().client_lanes(0).build()?;
+/// assert_eq!(pool.client().unwrap_err(), ClientError::NoneLeft);
+/// # Ok::<(), std::io::Error>(())
+/// ```
 #[derive(Clone, Copy, Debug, PartialEq, Eq)]
 pub enum ClientError {
     /// All lanes for clients are out. See

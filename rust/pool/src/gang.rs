@@ -8,6 +8,7 @@ use std::sync::atomic::{AtomicBool, AtomicUsize, Ordering::SeqCst};
 use std::sync::{Arc, Mutex, Weak};
 
 pub(crate) type Body = Arc<dyn Fn(&Group<'_>) + Send + Sync>;
+
 /// Returns the closure of a gang that was not accepted. A share of it would be in the way: if the
 /// members ended first, the submitter would drop the closure.
 pub(crate) fn closure<F>(gang: Box<Gang>, call: &Weak<F>) -> F {

@@ -25,9 +25,21 @@ use std::sync::{Arc, Mutex};
 use std::thread::{self, JoinHandle};
 
 /// The largest pool has `2^MAX_WORKERS_LOG2` workers.
+///
+/// ```
+/// use cubejobs_pool::{Pool, MAX_WORKERS_LOG2};
+///
+/// assert!(Pool::builder().workers_log2(MAX_WORKERS_LOG2 + 1).build().is_err());
+/// ```
 pub const MAX_WORKERS_LOG2: u32 = 10;
 
 /// The most lanes of each kind. See [`Builder::shared_lanes`] and [`Builder::client_lanes`].
+///
+/// ```
+/// use cubejobs_pool::{Pool, MAX_LANES};
+///
+/// assert!(Pool::builder().client_lanes(MAX_LANES + 1).build().is_err());
+/// ```
 pub const MAX_LANES: u32 = 1024;
 
 // Jobs that come back have at most one lane for each worker, and each worker has one. The others are
@@ -39,6 +51,13 @@ const _: () = assert!(2 * (1 << MAX_WORKERS_LOG2) + 2 * MAX_LANES <= lanes::MAX_
 const LOOKS: u32 = 30;
 
 /// What a pool is to be. See [`Pool::builder`].
+///
+/// ```
+/// let small = cubejobs_pool::Pool::builder().workers_log2(1).lane_capacity(8);
+/// let (one, other) = (small.clone().build()?, small.build()?);
+/// assert_eq!((one.workers(), other.workers()), (2, 2));
+/// # Ok::<(), std::io::Error>(())
+/// ```
 #[derive(Clone, Debug)]
 #[must_use = "a builder makes a pool by `build`"]
 pub struct Builder {
@@ -52,6 +71,13 @@ pub struct Builder {
 /// Threads for jobs that take one worker, or an aligned group of `2^k` workers.
 ///
 /// If it is dropped, it is closed: see [`Pool::close`].
+///
+/// ```
+/// let pool = cubejobs_pool::Pool::builder().build()?;
+/// let gang = pool.submit(1, |group| group.all_reduce(group.rank(), |a, b| a + b)).unwrap();
+/// assert_eq!((pool.spawn(|| 7).join().unwrap(), gang.join().unwrap()), (7, 1));
+/// # Ok::<(), std::io::Error>(())
+/// ```
 pub struct Pool {
     shared: Arc<Shared>,
     threads: Vec<JoinHandle<()>>,

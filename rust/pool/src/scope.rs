@@ -135,6 +135,23 @@ impl<F: FnOnce() + Send> Work for Scoped<F> {
 
 /// A scope of a pool: its jobs may borrow what outlives the scope. See
 /// [`Pool::scope`](crate::Pool::scope).
+///
+/// ```
+/// # let pool = cubejobs_pool::Pool::builder().build()?;
+/// use std::sync::atomic::{AtomicUsize, Ordering::SeqCst};
+///
+/// let leaves = AtomicUsize::new(0);
+/// pool.scope(|scope| {
+///     // A job may submit others.
+///     scope.detach(|| {
+///         for _ in 0..4 {
+///             scope.detach(|| drop(leaves.fetch_add(1, SeqCst)));
+///         }
+///     });
+/// });
+/// assert_eq!(leaves.into_inner(), 4);
+/// # Ok::<(), std::io::Error>(())
+/// ```
 pub struct Scope<'scope, 'env: 'scope> {
     pool: &'scope Arc<Shared>,
     state: Arc<ScopeState>,
@@ -144,6 +161,14 @@ pub struct Scope<'scope, 'env: 'scope> {
 
 /// The way to the results of a job of a scope. If it is dropped, the job runs on, and its panic is
 /// that of the scope. See [`Scope::spawn`].
+///
+/// ```
+/// # let pool = cubejobs_pool::Pool::builder().build()?;
+/// let word = String::from("abc");
+/// let length = pool.scope(|scope| scope.spawn(|| word.len()).join().unwrap());
+/// assert_eq!(length, 3);
+/// # Ok::<(), std::io::Error>(())
+/// ```
 #[must_use = "without its ticket, a job's results are lost: `detach` makes none"]
 pub struct ScopeTicket<'scope, T> {
     ticket: Ticket<T>,

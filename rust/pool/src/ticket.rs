@@ -183,6 +183,13 @@ impl<T> Ticket<T> {
     /// # Panics
     ///
     /// Panics in a gang of the same pool, unless the job has ended: the pool could stand still.
+    ///
+    /// ```
+    /// # let pool = cubejobs_pool::Pool::builder().build()?;
+    /// let gang = pool.submit(1, |group| group.rank() + 7).unwrap();
+    /// assert_eq!(gang.join().unwrap(), 7);
+    /// # Ok::<(), std::io::Error>(())
+    /// ```
     pub fn join(self) -> thread::Result<T> {
         self.packet.wait(self.pool);
         match self.packet.take_panic() {
