@@ -4,8 +4,10 @@ mod common;
 
 use common::{expect_panics, limited, planned, pool, text, wait_for_threads, Counted, Planned};
 use cubejobs_pool::{Cancelled, ClientError, Group, Pool, Reason, Refused, Ticket};
+use std::env;
 use std::io::ErrorKind;
 use std::panic::{catch_unwind, resume_unwind, AssertUnwindSafe};
+use std::process::Command;
 use std::sync::atomic::{AtomicBool, AtomicUsize, Ordering::SeqCst};
 use std::sync::mpsc::channel;
 use std::sync::{Arc, Barrier, Mutex};
@@ -441,6 +443,27 @@ fn a_worker_runs_its_job_in_place_if_its_lane_is_full() {
     assert_eq!(here, there);
 }
 
+/// A worker never waits for room: it could be the one that makes it.
+#[test]
+fn a_worker_gets_its_gang_back_if_the_lane_is_full() {
+    let _limited = limited(30);
+    let pool = Arc::new(Pool::builder().workers_log2(0).lane_capacity(1).shared_lanes(1).build().unwrap());
+    let inner = pool.clone();
+    let job = pool.spawn(move || {
+        let mut client = inner.client().unwrap();
+        let gang = || |group: &Group<'_>| group.size();
+        let (mut gangs, refused) = until_full(|call| inner.submit(0, call), gang);
+        // One gang has called this worker, one waits for a block, and one is in the lane.
+        assert_eq!(gangs.len(), 3);
+        let (ours, other) = until_full(|call| client.submit(0, call), gang);
+        assert_eq!((ours.len(), [refused, other].len()), (1, 2));
+        gangs.extend(ours);
+        gangs
+    });
+    let gangs = job.join().unwrap();
+    assert!(gangs.into_iter().all(|gang| gang.join_all().unwrap() == [1]));
+}
+
 #[test]
 fn a_wait_in_a_gang_panics_with_advice() {
     let _limited = limited(30);
@@ -753,6 +776,28 @@ fn numbers_out_of_range_are_refused() {
         text(Pool::builder().client_lanes(1025)),
         "the number of client lanes is 1025, and not from 0 to 1024"
     );
+}
+
+/// Memory runs out for the lanes, and then for the threads: the builder says so, and leaves no
+/// thread. The test runs again in a process with a limit.
+#[test]
+fn a_limit_of_memory_is_an_error() {
+    const LIMITED: &str = "POOL_TEST_IS_LIMITED";
+    if env::var_os(LIMITED).is_none() {
+        let again = "ulimit -v 200000 && exec \"$0\" --exact a_limit_of_memory_is_an_error";
+        let test = env::current_exe().unwrap();
+        let output = Command::new("sh").arg("-c").arg(again).arg(test).env(LIMITED, "yes").output().unwrap();
+        let said = String::from_utf8_lossy(&output.stdout);
+        assert!(output.status.success() && said.contains("1 passed"), "{said}");
+        return;
+    }
+    let _limited = limited(30);
+    let large = Pool::builder().workers_log2(10).shared_lanes(1024).client_lanes(1024);
+    assert_eq!(large.build().unwrap_err().kind(), ErrorKind::OutOfMemory);
+    let many = Pool::builder().workers_log2(8).lane_capacity(16);
+    assert_eq!(many.build().unwrap_err().kind(), ErrorKind::WouldBlock);
+    wait_for_threads(0);
+    assert!(is_whole(&pool(1)));
 }
 
 #[test]
