@@ -46,6 +46,9 @@ fn main() {
     if wants("ones") {
         ones::measure(&peers, rounds);
     }
+    if wants("busy") {
+        ones::measure_busy(&peers, rounds);
+    }
     if wants("gangs") {
         gangs::measure(&peers, rounds);
     }

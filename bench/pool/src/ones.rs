@@ -116,11 +116,16 @@ fn by_four(peers: &Peers, total: usize) -> Vec<System<'_>> {
     ]
 }
 
+/// How many jobs there are.
+const JOBS: usize = 1_000_000;
+
 pub fn measure(peers: &Peers, rounds: usize) {
-    let (many, few) = (1_000_000, 60_000);
-    table("10^6 empty jobs in a scope, ns a job", rounds, in_scopes(peers, many, 0, 1.1));
-    table("10^6 empty jobs from outside, ns a job", rounds, outside(peers, many, 0, 0.9));
-    table("10^6 empty jobs from four threads, ns a job", rounds, by_four(peers, many));
-    table("60,000 jobs of about 1 us in a scope, ns a job", rounds, in_scopes(peers, few, 500, 1.05));
-    table("60,000 jobs of about 1 us from outside, ns a job", rounds, outside(peers, few, 500, 1.05));
+    table("10^6 empty jobs in a scope, ns a job", rounds, in_scopes(peers, JOBS, 0, 1.1));
+    table("10^6 empty jobs from outside, ns a job", rounds, outside(peers, JOBS, 0, 0.9));
+    table("10^6 empty jobs from four threads, ns a job", rounds, by_four(peers, JOBS));
+}
+
+pub fn measure_busy(peers: &Peers, rounds: usize) {
+    table("10^6 jobs of about 1 us in a scope, ns a job", rounds, in_scopes(peers, JOBS, 500, 1.05));
+    table("10^6 jobs of about 1 us from outside, ns a job", rounds, outside(peers, JOBS, 500, 1.05));
 }
