@@ -183,7 +183,7 @@ impl Local {
     fn run(&self, job: Job) {
         self.is_turn_of_one.set(false);
         self.shared.begin(job);
-        self.has_worked();
+        self.looks.set(LOOKS.min(LOOKED_LANES / self.shared.lane_count));
     }
 
     fn serve(&self) {
@@ -191,12 +191,8 @@ impl Local {
         self.shared.serve(self.index);
         self.in_gang.set(false);
         self.is_turn_of_one.set(true);
-        self.has_worked();
-    }
-
-    /// Lets the worker look for the next job before it lies down.
-    fn has_worked(&self) {
-        self.looks.set(LOOKS.min(LOOKED_LANES / self.shared.lane_count));
+        // A look lets other threads go on, and the next gang would wait for this worker.
+        self.looks.set(0);
     }
 
     fn with_worker<R>(&self, call: impl FnOnce(&mut Worker<u64>) -> R) -> R {

@@ -3,7 +3,7 @@
 
 use crate::gang::{Freed, Gang};
 use crate::seat::{Outbox, Seat, Value};
-use crate::shared::Shared;
+use crate::shared::{Looks, Shared};
 use std::any::{Any, TypeId};
 use std::fmt;
 use std::hint;
@@ -11,6 +11,7 @@ use std::marker::PhantomData;
 use std::panic::resume_unwind;
 use std::sync::atomic::Ordering::SeqCst;
 use std::thread;
+use std::time::Instant;
 
 /// A member's view of its group: `2^k` workers, each of which runs the same closure.
 ///
@@ -336,17 +337,35 @@ impl<'a> Group<'a> {
         }
     }
 
-    /// Sleeps until this has happened. Unwinds if a member has panicked, or if it cannot happen.
+    /// Looks until this has happened, or sleeps. Unwinds if a member has panicked, or if it cannot
+    /// happen.
     fn wait(&self, want: Want) {
-        for _ in 0..self.pool.looks {
-            if self.is_met(self.me, want) {
-                return;
-            }
-            hint::spin_loop();
+        let patience = &self.seat(self.me).patience;
+        let is_long = patience.next_is_long();
+        if self.look(want, is_long) {
+            return patience.has_paid(is_long);
         }
+        patience.was_vain();
         if !self.may_go_on(want) {
             self.sleep(want);
         }
+    }
+
+    /// Looks some times, or for a longer time, until this has happened. Returns whether it did.
+    fn look(&self, want: Want, is_long: bool) -> bool {
+        let Looks { short, long } = self.pool.looks;
+        let look = |_| {
+            hint::spin_loop();
+            self.is_met(self.me, want)
+        };
+        let mut is_met = self.is_met(self.me, want) || (0..short).any(look);
+        if is_long && !is_met {
+            let start = Instant::now();
+            while !is_met && start.elapsed() < long {
+                is_met = (0..short).any(look);
+            }
+        }
+        is_met
     }
 
     fn sleep(&self, want: Want) {

@@ -12,17 +12,19 @@ use crate::placer::Placer;
 use crate::room::Room;
 use crate::scope::{self, Scope};
 use crate::seat::Seat;
-use crate::shared::Shared;
+use crate::shared::{Looks, Shared};
 use crate::ticket::{Packet, Promise, Ticket};
 use crate::util::{drop_quietly, Padded};
 use cubejobs::lanes::{self, Lane, Lanes, Payload, SharedLane, Sizes, Worker, MAX_CAPACITY};
 use cubejobs::regions::Machine;
 use std::fmt;
 use std::io;
+use std::num::NonZero;
 use std::panic::{catch_unwind, AssertUnwindSafe};
 use std::sync::atomic::AtomicBool;
 use std::sync::{Arc, Mutex};
 use std::thread::{self, JoinHandle};
+use std::time::Duration;
 
 /// The largest pool has `2^MAX_WORKERS_LOG2` workers.
 ///
@@ -47,8 +49,9 @@ pub const MAX_LANES: u32 = 1024;
 const _: () = assert!((1 << MAX_WORKERS_LOG2) <= lanes::MAX_WORKERS);
 const _: () = assert!(2 * (1 << MAX_WORKERS_LOG2) + 2 * MAX_LANES <= lanes::MAX_LANES);
 
-/// How often a member looks before it sleeps, unless [`Builder::looks`] says otherwise.
-const LOOKS: u32 = 30;
+/// How a member looks before it sleeps, unless [`Builder::looks`] says otherwise. A long look takes
+/// more time than a wake.
+const LOOKS: Looks = Looks { short: 30, long: Duration::from_micros(20) };
 
 /// What a pool is to be. See [`Pool::builder`].
 ///
@@ -65,7 +68,7 @@ pub struct Builder {
     capacity: u64,
     shared_lanes: u32,
     client_lanes: u32,
-    looks: u32,
+    looks: Option<u32>,
 }
 
 /// Threads for jobs that take one worker, or an aligned group of `2^k` workers.
@@ -137,8 +140,9 @@ impl Builder {
         self
     }
 
-    /// Sets how often a member of a gang looks, before it sleeps until another member acts. Without
-    /// this call it is 30. A look takes some tens of nanoseconds.
+    /// Sets how often a member of a gang looks, before it sleeps until another member acts. A look
+    /// takes some tens of nanoseconds. Without this call it looks 30 times. If the machine has a
+    /// processor for each worker, it looks up to 20 microseconds while that pays.
     ///
     /// ```
     /// let pool = cubejobs_pool::Pool::builder().looks(300).build()?;
@@ -147,7 +151,7 @@ impl Builder {
     /// # Ok::<(), std::io::Error>(())
     /// ```
     pub fn looks(mut self, looks: u32) -> Self {
-        self.looks = looks;
+        self.looks = Some(looks);
         self
     }
 
@@ -199,9 +203,18 @@ impl Builder {
             live: Padded::default(),
             is_closed: AtomicBool::new(false),
             is_cancelled: AtomicBool::new(false),
-            looks: self.looks,
+            looks: self.all_looks(),
         };
         started(Arc::new(shared), workers)
+    }
+
+    fn all_looks(&self) -> Looks {
+        let processors = thread::available_parallelism().map_or(1, NonZero::get);
+        match self.looks {
+            Some(looks) => Looks { short: looks, long: Duration::ZERO },
+            None if 1 << self.dim <= processors => LOOKS,
+            None => Looks { long: Duration::ZERO, ..LOOKS },
+        }
     }
 
     fn open<P: Payload>(&self, lanes: u32, workers: u32) -> io::Result<Lanes<P>> {
@@ -315,7 +328,7 @@ impl Pool {
     /// # Ok::<(), std::io::Error>(())
     /// ```
     pub fn builder() -> Builder {
-        Builder { dim: 2, capacity: MAX_CAPACITY, shared_lanes: 4, client_lanes: 4, looks: LOOKS }
+        Builder { dim: 2, capacity: MAX_CAPACITY, shared_lanes: 4, client_lanes: 4, looks: None }
     }
 
     /// Returns the number of workers.

@@ -3,7 +3,8 @@
 use crate::gang::Gang;
 use crate::util::{drop_quietly, lock, Padded, Payload};
 use std::any::TypeId;
-use std::sync::atomic::{AtomicBool, AtomicU32, AtomicU64, Ordering::SeqCst};
+use std::sync::atomic::Ordering::{Relaxed, SeqCst};
+use std::sync::atomic::{AtomicBool, AtomicU32, AtomicU64};
 use std::sync::{Arc, Mutex};
 
 /// A value on its way to another member. A word needs no box.
@@ -47,6 +48,49 @@ pub(crate) struct Barrier {
     pub round: AtomicU32,
 }
 
+/// How often a member in a row looks long in vain, and how often it then looks shortly.
+const MOST_LONG: u32 = 8;
+const MOST_SHORT: u32 = 256;
+
+/// Whether a member looks long for what it waits for, before it sleeps. The member alone uses it.
+///
+/// Long looks pay if each member has a processor. Otherwise they take time from the member that is
+/// waited for. So after some in vain, the next ones are short. The first one in a gang is short too:
+/// others may come late.
+#[derive(Default)]
+pub(crate) struct Patience {
+    has_waited: AtomicBool,
+    vain: AtomicU32,
+}
+
+impl Patience {
+    fn begin(&self) {
+        self.has_waited.store(false, Relaxed);
+    }
+
+    pub fn next_is_long(&self) -> bool {
+        self.has_waited.load(Relaxed) && self.vain.load(Relaxed) < MOST_LONG
+    }
+
+    /// Says that what the member looked for has happened.
+    pub fn has_paid(&self, is_long: bool) {
+        self.has_waited.store(true, Relaxed);
+        if is_long {
+            self.vain.store(0, Relaxed);
+        }
+    }
+
+    /// Says that it has not.
+    pub fn was_vain(&self) {
+        if self.has_waited.load(Relaxed) {
+            let vain = self.vain.load(Relaxed);
+            let is_over = vain >= MOST_LONG + MOST_SHORT;
+            self.vain.store(if is_over { MOST_LONG - 1 } else { vain + 1 }, Relaxed);
+        }
+        self.has_waited.store(true, Relaxed);
+    }
+}
+
 /// The place of a worker. The gang that holds the worker's processor in its block is the only one
 /// that uses it, since blocks that are held never overlap.
 #[derive(Default)]
@@ -61,6 +105,7 @@ pub(crate) struct Seat {
     /// Whether the member sleeps until another one has done something, and what that is.
     pub is_asleep: AtomicBool,
     pub want: AtomicU64,
+    pub patience: Patience,
     /// The member's values that are not taken. It puts one into each outbox in turn. With two, a
     /// member is seldom late for a partner that is one exchange ahead.
     outboxes: [Outbox; 2],
@@ -120,6 +165,7 @@ impl Seat {
     /// Makes the seat that of a member of a new gang.
     pub fn prepare(&self) {
         self.is_held.store(true, SeqCst);
+        self.patience.begin();
         self.has_left.store(false, SeqCst);
     }
 

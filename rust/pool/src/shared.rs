@@ -15,12 +15,20 @@ use cubejobs::lanes::{Accepted, Lane, Lanes, Payload, Refused, SubmitError};
 use std::sync::atomic::{AtomicBool, AtomicUsize, Ordering::SeqCst};
 use std::sync::{Arc, Mutex};
 use std::thread;
+use std::time::Duration;
 
 /// How often a thread whose lane is full lets others go on, before it sleeps.
 const YIELDS: u32 = 4;
 
 /// What a submit has done.
 pub(crate) type Submitted<P> = Result<Accepted, Refused<SubmitError, P>>;
+
+/// How a member looks before it sleeps: this number of times, and longer while that pays.
+#[derive(Clone, Copy, Debug)]
+pub(crate) struct Looks {
+    pub short: u32,
+    pub long: Duration,
+}
 
 pub(crate) struct Shared {
     pub dim: u32,
@@ -39,8 +47,7 @@ pub(crate) struct Shared {
     pub live: Padded<AtomicUsize>,
     pub is_closed: AtomicBool,
     pub is_cancelled: AtomicBool,
-    /// How often a member looks before it sleeps.
-    pub looks: u32,
+    pub looks: Looks,
 }
 
 impl Shared {
