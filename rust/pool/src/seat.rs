@@ -72,10 +72,13 @@ impl Patience {
         self.has_waited.load(Relaxed) && self.vain.load(Relaxed) < MOST_LONG
     }
 
-    /// Says that what the member looked for has happened.
+    /// Says that what the member looked for has happened. Others read this seat, so it writes only
+    /// what changes.
     pub fn has_paid(&self, is_long: bool) {
-        self.has_waited.store(true, Relaxed);
-        if is_long {
+        if !self.has_waited.load(Relaxed) {
+            self.has_waited.store(true, Relaxed);
+        }
+        if is_long && self.vain.load(Relaxed) != 0 {
             self.vain.store(0, Relaxed);
         }
     }
