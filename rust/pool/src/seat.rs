@@ -87,7 +87,7 @@ impl Patience {
     pub fn was_vain(&self) {
         if self.has_waited.load(Relaxed) {
             let vain = self.vain.load(Relaxed);
-            let is_over = vain >= MOST_LONG + MOST_SHORT;
+            let is_over = vain + 1 >= MOST_LONG + MOST_SHORT;
             self.vain.store(if is_over { MOST_LONG - 1 } else { vain + 1 }, Relaxed);
         }
         self.has_waited.store(true, Relaxed);
@@ -182,5 +182,35 @@ impl Seat {
             }
         }
         self.is_held.store(false, SeqCst);
+    }
+}
+
+#[cfg(test)]
+mod tests {
+    use super::{Patience, MOST_LONG, MOST_SHORT};
+
+    /// Looks in vain this number of times, and sees that all looks are as long as `is_long` says.
+    fn look_in_vain(patience: &Patience, times: u32, is_long: bool) {
+        for _ in 0..times {
+            assert_eq!(patience.next_is_long(), is_long);
+            patience.was_vain();
+        }
+    }
+
+    #[test]
+    fn long_looks_in_vain_are_followed_by_short_ones() {
+        let patience = Patience::default();
+        look_in_vain(&patience, 1, false);
+        look_in_vain(&patience, MOST_LONG, true);
+        for _ in 0..3 {
+            look_in_vain(&patience, MOST_SHORT, false);
+            look_in_vain(&patience, 1, true);
+        }
+        look_in_vain(&patience, MOST_SHORT, false);
+        // A long look that pays, and another gang.
+        patience.has_paid(true);
+        patience.begin();
+        look_in_vain(&patience, 1, false);
+        look_in_vain(&patience, MOST_LONG, true);
     }
 }
