@@ -527,7 +527,7 @@ fn a_job_that_waits_hears_of_new_jobs() {
 fn a_wait_leaves_its_worker_up() {
     let _limited = limited(30);
     let pool = Arc::new(pool(1));
-    for _ in 0..50 {
+    for _ in 0..200 {
         let (start, begun) = channel();
         let (end, ended) = channel::<()>();
         let (go, wait) = channel::<()>();
