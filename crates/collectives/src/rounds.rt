@@ -24,6 +24,28 @@ pub(crate) fn all_reduce_round<M: Monoid>(items: &mut [M], half: usize)
     ensures joined { TurnsPairs M.unit half (λ low. M.join) (λ low. M.join) items.old items.new }
     ensures values { All M.is_value items.new }
 {
+    if half == 1 {
+        all_reduce_blocks(items, 1);
+    } else if half == 2 {
+        all_reduce_blocks(items, 2);
+    } else if half == 4 {
+        all_reduce_blocks(items, 4);
+    } else {
+        all_reduce_blocks(items, half);
+    }
+}
+
+// Makes a round of the all-reduce, block by block. Each short distance is a constant where this is
+// inlined, so the loop over the pairs of a block is unrolled.
+#[inline(always)]
+fn all_reduce_blocks<M: Monoid>(items: &mut [M], half: usize)
+    requires half { 0 < half }
+    requires block { 2 * half ≤ length items.old }
+    requires whole { length items.old % (2 * half) ≡ 0 }
+    requires values { All M.is_value items.old }
+    ensures joined { TurnsPairs M.unit half (λ low. M.join) (λ low. M.join) items.old items.new }
+    ensures values { All M.is_value items.new }
+{
     for block in 0..items.len() / (2 * half) {
         all_reduce_block(items, block * (2 * half), half);
     }
@@ -62,6 +84,32 @@ fn all_reduce_pair<M: Monoid>(items: &mut [M], low: usize, high: usize)
 // Puts the total of each pair's lower rank before the prefix of its higher rank. Then joins the two
 // totals of each pair in the order of the ranks, and stores the result at both ranks.
 pub(crate) fn scan_round<M: Monoid>(prefixes: &mut [M], totals: &mut [M], half: usize)
+    requires half { 0 < half }
+    requires block { 2 * half ≤ length prefixes.old }
+    requires whole { length prefixes.old % (2 * half) ≡ 0 }
+    requires places { length totals.old ≡ length prefixes.old }
+    requires values { All M.is_value prefixes.old }
+    requires total_values { All M.is_value totals.old }
+    ensures prepended { TurnsPairs M.unit half (λ low a b. a)
+        (λ low a b. M.join (item_at M.unit totals.old low) b) prefixes.old prefixes.new }
+    ensures joined { TurnsPairs M.unit half (λ low. M.join) (λ low. M.join) totals.old totals.new }
+    ensures values { All M.is_value prefixes.new }
+    ensures total_values { All M.is_value totals.new }
+{
+    if half == 1 {
+        scan_blocks(prefixes, totals, 1);
+    } else if half == 2 {
+        scan_blocks(prefixes, totals, 2);
+    } else if half == 4 {
+        scan_blocks(prefixes, totals, 4);
+    } else {
+        scan_blocks(prefixes, totals, half);
+    }
+}
+
+// Makes a round of the scan, block by block, inlined for each short distance.
+#[inline(always)]
+fn scan_blocks<M: Monoid>(prefixes: &mut [M], totals: &mut [M], half: usize)
     requires half { 0 < half }
     requires block { 2 * half ≤ length prefixes.old }
     requires whole { length prefixes.old % (2 * half) ≡ 0 }

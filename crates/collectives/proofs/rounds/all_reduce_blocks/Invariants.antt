@@ -1,7 +1,7 @@
 use Rattle.std.proofs.Common.{◌*◌}
 use Rattle.std.specs.Prelude.{All}
 use Rattle.collectives.specs.Inner.Rounds.{TurnsPairsIn}
-use Rattle.collectives.proofs.rounds.all_reduce_round.Given as goal
+use Rattle.collectives.proofs.rounds.all_reduce_blocks.Given as goal
 
 -- the pairs of the blocks before this one have turned
 abbrev pub invariant-loop-block : goal.invariant-loop-block

@@ -2,7 +2,7 @@ use Rattle.std.proofs.Math.Nat.{mul-mod_left}
 use Rattle.std.proofs.Common.{arith, ap, inr, subst, ◌≡◌, ◌+◌, ◌*◌}
 use Rattle.collectives.specs.Inner.Rounds.{item_at, TurnsPairsIn}
 use Rattle.collectives.proofs.PairLemmas.{Turned-alike, Turned-join}
-use Rattle.collectives.proofs.rounds.scan_round.Goals as goal
+use Rattle.collectives.proofs.rounds.scan_blocks.Goals as goal
 
 pub scan_block-requires-clause-start : goal.scan_block-requires-clause-start
 scan_block-requires-clause-start g c = mul-mod_left c.loop-block.block (2 * c.args.half)
