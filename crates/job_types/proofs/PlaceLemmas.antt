@@ -3,7 +3,7 @@ use Rattle.std.proofs.Common.{◌≡◌, ℕ, suc, ◌+◌, ◌-◌, ◌<◌, �
 use Rattle.std.proofs.lemmas.List.{length-take, set-append_right, take_more, take_more_set, take-replicate}
 use Rattle.std.proofs.Math.Pow.{pow_mono}
 use Rattle.cube_shape.specs.declared.limits.TheConstants.{MAX_DIM}
-use Rattle.job_types.specs.declared.arrays.TheConstants.{SMALL_DIM, MIDDLE_DIM, LARGE_DIM, SMALL_PLACES, MIDDLE_PLACES, LARGE_PLACES, MOST_PLACES}
+use Rattle.job_types.specs.declared.arrays.TheConstants.{TINY_DIM, SMALL_DIM, MIDDLE_DIM, LARGE_DIM, TINY_PLACES, SMALL_PLACES, MIDDLE_PLACES, LARGE_PLACES, MOST_PLACES}
 
 -- one item more before the units
 put_first : (front : List ℕ) (n rank u x : ℕ) → length front ≡ rank → rank < n
@@ -17,6 +17,9 @@ put_first front n rank u x long within =
     ∙ sym (append_assoc front (x ∷ []) (replicate (n - (rank + 1)) u))
 
 -- the number of places of each size of array is large enough for its dimensions
+pub tiny_fit : (k : ℕ) → k ≤ TINY_DIM → 2 ^ k ≤ TINY_PLACES
+tiny_fit k within = pow_mono within
+
 pub small_fit : (k : ℕ) → k ≤ SMALL_DIM → 2 ^ k ≤ SMALL_PLACES
 small_fit k within = pow_mono within
 

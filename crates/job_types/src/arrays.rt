@@ -7,21 +7,27 @@ ghost use Rattle.job_types.specs.Inner.Kept.{CanRun, IsShown};
 
 use crate::kept::Kept;
 use crate::kind::{Kind, Op};
-use crate::rounds::on_front;
+use crate::rounds::{on_front, scan_on_front};
 use collectives::{
     Addition, BitwiseAnd, BitwiseOr, BitwiseXor, Maximum, Minimum, Monoid, Operand, Operator,
 };
 use cube_shape::MAX_DIM;
 
-// The largest dimension of a job that works on the smallest arrays. The next sizes are four times
-// as large as the one below, so that a job fills few places that it does not need.
+// The largest dimension of a job that works on the smallest arrays: that of jobs whose items lie in
+// the job.
+pub(crate) const TINY_DIM: u32 = 2;
+
+// The largest dimension of a job that works on the second size of arrays. The next sizes are four
+// times as large as the one below, so that a job fills few places that it does not need.
 pub(crate) const SMALL_DIM: u32 = MAX_DIM - 6;
 
-// The largest dimension of a job that works on the second size of arrays.
+// The largest dimension of a job that works on the third size of arrays.
 pub(crate) const MIDDLE_DIM: u32 = MAX_DIM - 4;
 
-// The largest dimension of a job that works on the third size of arrays.
+// The largest dimension of a job that works on the fourth size of arrays.
 pub(crate) const LARGE_DIM: u32 = MAX_DIM - 2;
+
+pub(crate) const TINY_PLACES: usize = 1 << TINY_DIM;
 
 pub(crate) const SMALL_PLACES: usize = 1 << SMALL_DIM;
 
@@ -58,6 +64,10 @@ fn answer_by<O: Operator, const N: usize>(items: &[u64], kind: Kind, k: u32, kep
     ensures { IsShown kind items.now kept.new }
 {
     let mut places = [Operand::<O>::unit(); N];
-    let mut scratch = [Operand::<O>::unit(); N];
-    on_front(items, kind, k, &mut places, &mut scratch, kept);
+    if kind.is_scan() {
+        let mut scratch = [Operand::<O>::unit(); N];
+        scan_on_front(items, kind, k, &mut places, &mut scratch, kept);
+    } else {
+        on_front(items, kind, k, &mut places, kept);
+    }
 }

@@ -5,6 +5,7 @@ ghost use Rattle.cube_shape.specs.Region.{IsAligned};
 ghost use Rattle.job_types.specs.Dim.{IsLeastDim, dim_of};
 ghost use Rattle.job_types.specs.Job.{refusal_of};
 
+use crate::items::Items;
 use crate::kept::Kept;
 use crate::kind::Kind;
 use crate::reply::{JobId, Reply};
@@ -65,15 +66,15 @@ impl Job {
         let Ok(kept) = Kept::new(alloc, kind, items.len()) else {
             return Err((items, JobRefused::OutOfMemory));
         };
-        let work = Work {
-            request: Request::new(n, lane, kind, items),
-            base: 0,
+        let blank = Work {
+            request: Request::blank(n, lane),
             kept,
         };
-        match Box::new(alloc, work) {
-            Ok(work) => Ok(Job { work }),
-            Err(failed) => Err((failed.value.request.into_items(), JobRefused::OutOfMemory)),
-        }
+        let Ok(mut work) = Box::new(alloc, blank) else {
+            return Err((items, JobRefused::OutOfMemory));
+        };
+        work.request = Request::new(n, lane, kind, Items::new(items));
+        Ok(Job { work })
     }
 
     /// Returns the dimension of the machine.
@@ -130,8 +131,8 @@ impl Job {
         ensures { result ≡ record { id = id; job = self; region = region } }
     {
         let Job { mut work } = self;
-        work.base = region.base;
         work.run();
+        work.kept.put_base(region.base);
         Reply::new(id, work)
     }
 }

@@ -12,9 +12,11 @@
 #![tactic(auto)]
 
 mod arrays;
+mod items;
 mod job;
 mod kept;
 mod kind;
+mod packed_kind;
 mod reply;
 mod request;
 mod rounds;

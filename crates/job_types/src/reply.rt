@@ -5,6 +5,7 @@ ghost use Rattle.cube_shape.specs.Region.{IsAligned};
 ghost use Rattle.collectives.specs.Shape.{tally_of};
 ghost use Rattle.job_types.specs.Collective.{result_at, shape_of};
 ghost use Rattle.job_types.specs.Dim.{dim_of};
+ghost use Rattle.job_types.specs.Inner.Kept.{base_in};
 ghost use Rattle.job_types.specs.Inner.Reply.{IsAnswer, region_at};
 
 use crate::kind::Kind;
@@ -33,6 +34,7 @@ pub struct Reply {
 
 impl Model for Reply {
     ghost use Rattle.job_types.specs.Reply.{ReplyData};
+    ghost use Rattle.job_types.specs.Inner.Kept.{base_in};
     ghost use Rattle.job_types.specs.Inner.Reply.{IsAnswer, region_at};
 
     ghost Value = { ReplyData };
@@ -40,21 +42,21 @@ impl Model for Reply {
     ghost view = { λ r. record {
       id = r.id;
       job = r.work.value.request;
-      region = region_at r.work.value.request r.work.value.base;
+      region = region_at r.work.value.request (base_in r.work.value.kept);
     } };
 
     ghost invariant = { λ r.
-        IsAnswer r.work.value.request r.work.value.base r.work.value.kept };
+        IsAnswer r.work.value.request (base_in r.work.value.kept) r.work.value.kept };
 }
 
 impl Reply {
     // Makes the reply of these parts, which fit together.
     pub(crate) fn new(id: JobId, work: Box<Work>) -> Self
-        requires { IsAnswer work.value.request work.value.base work.value.kept }
+        requires { IsAnswer work.value.request (base_in work.value.kept) work.value.kept }
         ensures { result ≡ record {
           id = id;
           job = work.value.request;
-          region = region_at work.value.request work.value.base;
+          region = region_at work.value.request (base_in work.value.kept);
         } }
     {
         Reply { id, work }
@@ -81,7 +83,7 @@ impl Reply {
         ensures dimension { result.dim ≡ dim_of (length self.now.job.items) }
     {
         Region {
-            base: self.work.base,
+            base: self.work.kept.base(),
             dim: self.work.request.dim(),
         }
     }

@@ -3,10 +3,13 @@
 ghost use Rattle.std.specs.Prelude.{◌≡◌, ℕ, ◌^◌, ◌<◌, ◌≤◌, length, None};
 ghost use Rattle.job_types.specs.Dim.{IsLeastDim, dim_of};
 ghost use Rattle.job_types.specs.Job.{refusal_of};
+ghost use Rattle.job_types.specs.Inner.Items.{numbers_in};
 ghost use Rattle.job_types.specs.Inner.Kept.{HasRoomFor, IsShown};
 
+use crate::items::Items;
 use crate::kept::Kept;
-use crate::kind::Kind;
+use crate::kind::{Kind, Op};
+use crate::packed_kind::PackedKind;
 use crate::rounds::answer;
 use cube_shape::{MAX_DIM, MAX_LANES};
 use std::marker::Model;
@@ -36,20 +39,21 @@ pub enum JobRefused {
 pub struct Request {
     machine: u32,
     lane: u32,
-    kind: Kind,
-    items: Vec<u64>,
+    kind: PackedKind,
+    items: Items,
 }
 
 impl Model for Request {
     ghost use Rattle.job_types.specs.Job.{JobData};
+    ghost use Rattle.job_types.specs.Inner.Items.{numbers_in};
     ghost use Rattle.job_types.specs.Inner.Job.{IsJob};
 
     ghost Value = { JobData };
 
     ghost view = { λ r.
-        record { machine = r.machine; lane = r.lane; kind = r.kind; items = r.items.items } };
+        record { machine = r.machine; lane = r.lane; kind = r.kind; items = numbers_in r.items } };
 
-    ghost invariant = { λ r. IsJob r.machine r.lane r.kind r.items.items };
+    ghost invariant = { λ r. IsJob r.machine r.lane r.kind (numbers_in r.items) };
 }
 
 // Returns why a machine of dimension `n` refuses these items: the first reason, in the order of
@@ -82,33 +86,41 @@ pub(crate) fn least_dim(count: usize) -> u32
 
 impl Request {
     // Makes a request for items that no reason refuses.
-    pub(crate) fn new(n: u32, lane: u32, kind: Kind, items: Vec<u64>) -> Self
+    pub(crate) fn new(n: u32, lane: u32, kind: Kind, items: Items) -> Self
         requires machine { n ≤ MAX_DIM }
         requires lane { lane < MAX_LANES }
-        requires accepted { refusal_of n kind items.items ≡ None }
-        ensures { result ≡ record { machine = n; lane = lane; kind = kind; items = items.items } }
+        requires accepted { refusal_of n kind (numbers_in items) ≡ None }
+        ensures { result ≡
+            record { machine = n; lane = lane; kind = kind; items = numbers_in items } }
     {
         Request {
             machine: n,
             lane,
-            kind,
+            kind: PackedKind::new(kind),
             items,
+        }
+    }
+
+    // Makes a request for one item, in whose place another one may be put.
+    pub(crate) fn blank(n: u32, lane: u32) -> Self
+        requires machine { n ≤ MAX_DIM }
+        requires lane { lane < MAX_LANES }
+    {
+        Request {
+            machine: n,
+            lane,
+            kind: PackedKind::new(Kind::AllReduce { op: Op::Add }),
+            items: Items::One([0]),
         }
     }
 
     // Runs the collective on the items, and keeps its result.
     pub(crate) fn run_into(&self, kept: &mut Kept)
         requires { HasRoomFor self.now.kind (length self.now.items) kept.old }
-        ensures { IsShown self.now.kind self.now.items kept.new }
+        ensures shown { IsShown self.now.kind self.now.items kept.new }
+        ensures limit { self.now.machine ≤ MAX_DIM }
     {
-        answer(&self.items, self.kind, self.dim(), kept);
-    }
-
-    // Returns the items.
-    pub(crate) fn into_items(self) -> Vec<u64>
-        ensures { result.items ≡ self.items }
-    {
-        self.items
+        answer(self.items.as_slice(), self.kind(), self.dim(), kept);
     }
 
     /// Returns the dimension of the machine.
@@ -131,7 +143,7 @@ impl Request {
     pub fn kind(&self) -> Kind
         ensures { result ≡ self.now.kind }
     {
-        self.kind
+        self.kind.kind()
     }
 
     /// Returns the least dimension that holds the items: that of the smallest block with a
@@ -145,7 +157,7 @@ impl Request {
         // What `dim_of` means, for any number of items.
         ensures means { (p : ℕ) → IsLeastDim p (dim_of p) }
     {
-        least_dim(self.items.len())
+        least_dim(self.items.as_slice().len())
     }
 
     /// Returns the items. The `i`-th one is on the `i`-th processor of the block.
@@ -154,6 +166,6 @@ impl Request {
         ensures some { 0 < length result.now }
         ensures fits { length result.now ≤ 2 ^ self.now.machine }
     {
-        &self.items
+        self.items.as_slice()
     }
 }

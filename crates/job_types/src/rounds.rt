@@ -1,30 +1,32 @@
 //! The rounds of a job. They work on the stack, on a place for each rank of its block.
 
-ghost use Rattle.std.specs.Prelude.{◌≡◌, ◌^◌, ◌<◌, ◌≤◌, false, length, replicate, take, All};
+ghost use Rattle.std.specs.Prelude.{◌≡◌, ◌^◌, ◌<◌, ◌≤◌, true, false, length, replicate, take, All};
 ghost use Rattle.collectives.specs.Operations.{IsU64};
 ghost use Rattle.collectives.specs.Places.{padded};
 ghost use Rattle.job_types.specs.Collective.{join, unit_of};
 ghost use Rattle.job_types.specs.Job.{has_bad_root};
 ghost use Rattle.job_types.specs.Inner.Collective.{IsResult, MakesResult, operation_of};
-ghost use Rattle.job_types.specs.Inner.Kept.{CanRun, HasRoomFor, IsShown};
+ghost use Rattle.job_types.specs.Inner.Kept.{CanRun, HasRoomFor, IsShown, is_scan};
 
 use crate::arrays::{
     LARGE_DIM, LARGE_PLACES, MIDDLE_DIM, MIDDLE_PLACES, MOST_PLACES, SMALL_DIM, SMALL_PLACES,
-    answer_on,
+    TINY_DIM, TINY_PLACES, answer_on,
 };
 use crate::kept::Kept;
 use crate::kind::Kind;
-use collectives::{Operand, Operator, all_reduce, broadcast, exscan, reduce, scan};
+use collectives::{Monoid, Operand, Operator, all_reduce, broadcast, exscan, reduce, scan};
 use cube_shape::MAX_DIM;
 
 // Runs the collective on `2^k` places, which hold the items and then the unit, and keeps its
 // result. Uses the stack only.
-#[tactic(auto, using(crate::proofs::PlaceLemmas::small_fit, crate::proofs::PlaceLemmas::middle_fit, crate::proofs::PlaceLemmas::large_fit, crate::proofs::PlaceLemmas::all_fit))]
+#[tactic(auto, using(crate::proofs::PlaceLemmas::tiny_fit, crate::proofs::PlaceLemmas::small_fit, crate::proofs::PlaceLemmas::middle_fit, crate::proofs::PlaceLemmas::large_fit, crate::proofs::PlaceLemmas::all_fit))]
 pub(crate) fn answer(items: &[u64], kind: Kind, k: u32, kept: &mut Kept)
     requires job { CanRun kind k items.now kept.old }
     ensures { IsShown kind items.now kept.new }
 {
-    if k <= SMALL_DIM {
+    if k <= TINY_DIM {
+        answer_on::<TINY_PLACES>(items, kind, k, kept);
+    } else if k <= SMALL_DIM {
         answer_on::<SMALL_PLACES>(items, kind, k, kept);
     } else if k <= MIDDLE_DIM {
         answer_on::<MIDDLE_PLACES>(items, kind, k, kept);
@@ -35,9 +37,29 @@ pub(crate) fn answer(items: &[u64], kind: Kind, k: u32, kept: &mut Kept)
     }
 }
 
-// Runs it on the first `2^k` of these places, which hold the unit. Uses as many places of
-// `scratch`.
+// Runs a collective that is no scan on the first `2^k` of these places, which hold the unit.
 pub(crate) fn on_front<O: Operator>(
+    items: &[u64],
+    kind: Kind,
+    k: u32,
+    places: &mut [Operand<O>],
+    kept: &mut Kept,
+)
+    requires units { places.old ≡ replicate (length places.old) O.unit }
+    requires places { 2 ^ k ≤ length places.old }
+    requires unit { O.unit ≡ unit_of (operation_of kind) }
+    requires join { O.join ≡ join (operation_of kind) }
+    requires job { CanRun kind k items.now kept.old }
+    requires no_scan { is_scan kind ≡ false }
+    ensures { IsShown kind items.now kept.new }
+{
+    let mut no_scratch = [Operand::<O>::unit(); 0];
+    on_places(items, kind, k, &mut places[..1 << k], &mut no_scratch, kept);
+}
+
+// Runs a scan on the first `2^k` of these places, which hold the unit. Uses as many places of
+// `scratch`.
+pub(crate) fn scan_on_front<O: Operator>(
     items: &[u64],
     kind: Kind,
     k: u32,
@@ -63,7 +85,7 @@ pub(crate) fn on_front<O: Operator>(
     );
 }
 
-// Runs it on these places, which hold the unit. Uses as many places of `scratch`.
+// Runs it on these places, which hold the unit. A scan uses as many places of `scratch`.
 fn on_places<O: Operator>(
     items: &[u64],
     kind: Kind,
@@ -73,7 +95,7 @@ fn on_places<O: Operator>(
     kept: &mut Kept,
 )
     requires units { places.old ≡ replicate (2 ^ k) O.unit }
-    requires scratch { length scratch.old ≡ 2 ^ k }
+    requires scratch { is_scan kind ≡ true → length scratch.old ≡ 2 ^ k }
     requires unit { O.unit ≡ unit_of (operation_of kind) }
     requires join { O.join ≡ join (operation_of kind) }
     requires job { CanRun kind k items.now kept.old }
@@ -108,7 +130,7 @@ fn run_rounds<O: Operator>(
     requires unit { O.unit ≡ unit_of (operation_of kind) }
     requires join { O.join ≡ join (operation_of kind) }
     requires places { length places.old ≡ 2 ^ k }
-    requires scratch { length scratch.old ≡ 2 ^ k }
+    requires scratch { is_scan kind ≡ true → length scratch.old ≡ 2 ^ k }
     requires root { has_bad_root kind (2 ^ k) ≡ false }
     requires values { All IsU64 places.old }
     ensures result { MakesResult kind k places.old places.new }
@@ -133,8 +155,8 @@ fn show<O: Operator>(items: &[u64], kind: Kind, places: &[Operand<O>], kept: &mu
     ensures { IsShown kind items.now kept.new }
 {
     match kept {
-        Kept::One(number) => *number = places[kind.shown_place() as usize].number(),
-        Kept::Each(numbers) => copy_numbers(places, numbers),
+        Kept::One { number, .. } => *number = places[kind.shown_place() as usize].number(),
+        Kept::Each { numbers, .. } => copy_numbers(places, numbers),
     }
 }
 

@@ -1,17 +1,17 @@
 //! What a job and its reply hold on the heap.
 
-ghost use Rattle.std.specs.Prelude.{◌≡◌, length};
+ghost use Rattle.std.specs.Prelude.{◌≡◌, ◌≤◌, length};
 ghost use Rattle.job_types.specs.Inner.Kept.{HasRoomFor, IsShown};
 
 use crate::kept::Kept;
 use crate::request::Request;
+use cube_shape::MAX_DIM;
 
-// A request, the least processor of the block that it ran on, and what is kept of its result. Jobs
-// and replies hold it in a box, since they are moved often.
+// A request, and what is kept of its run. Jobs and replies hold it in a box, since they are moved
+// often.
 #[derive(Debug, Drop)]
 pub(crate) struct Work {
     pub request: Request,
-    pub base: u64,
     pub kept: Kept,
 }
 
@@ -20,7 +20,7 @@ impl Work {
     pub(crate) fn run(&mut self)
         requires { HasRoomFor self.old.request.kind (length self.old.request.items) self.old.kept }
         ensures request { self.new.request ≡ self.old.request }
-        ensures base { self.new.base ≡ self.old.base }
+        ensures limit { self.old.request.machine ≤ MAX_DIM }
         ensures shown { IsShown self.old.request.kind self.old.request.items self.new.kept }
     {
         self.request.run_into(&mut self.kept);

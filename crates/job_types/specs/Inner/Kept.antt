@@ -26,16 +26,21 @@ shown_place (AllReduce op) = 0
 shown_place (Scan op) = 0
 shown_place (ExScan op) = 0
 
+-- The least processor of the block that the job ran on.
+abbrev pub base_in : Kept → ℕ
+base_in (One base number) = base
+base_in (Each base numbers) = base
+
 -- The number that is kept for a place.
 abbrev pub shown_at : Kept → ℕ → Option ℕ
-shown_at (One number) place = Some number
-shown_at (Each numbers) place = slice_get (boxed_slice_items numbers) place
+shown_at (One base number) place = Some number
+shown_at (Each base numbers) place = slice_get (boxed_slice_items numbers) place
 
 -- There is memory for the result of the collective on `count` items: a number for each if it is a
 -- scan, else one number.
 abbrev pub HasRoomFor : Kind → ℕ → Kept → Type 0
-HasRoomFor kind count (One number) = is_scan kind ≡ false
-HasRoomFor kind count (Each numbers) =
+HasRoomFor kind count (One base number) = is_scan kind ≡ false
+HasRoomFor kind count (Each base numbers) =
     (is_scan kind ≡ true) × (length (boxed_slice_items numbers) ≡ count)
 
 -- At the place of each item, the kept numbers show the collective's result on the items.

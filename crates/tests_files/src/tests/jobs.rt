@@ -282,15 +282,34 @@ fn answers_small_jobs(rt: HostRuntime) {
     expect_replies(&rt, rt.alloc(), &SMALL_JOBS);
 }
 
-// Jobs around the end of the smallest arrays. The rows are those of `expect_replies`.
-static JOBS_AT_ENDS: [(u32, Kind, &[u64], &[Option<u64>], u32, u64); 4] = [
+// Jobs around the ends of the two smallest sizes of arrays, and of the items that lie in a job. The
+// rows are those of `expect_replies`.
+static JOBS_AT_ENDS: [(u32, Kind, &[u64], &[Option<u64>], u32, u64); 8] = [
+    (2, SUM, &[1, 2, 3], &[Some(6); 3], 2, 8),
+    (2, SUMS, &[1, 2, 3], &[Some(1), Some(3), Some(6)], 2, 8),
+    (
+        2,
+        SUMS,
+        &[1, 2, 3, 4],
+        &[Some(1), Some(3), Some(6), Some(10)],
+        2,
+        8,
+    ),
+    (
+        3,
+        SUMS,
+        &[1, 2, 3, 4, 5],
+        &[Some(1), Some(3), Some(6), Some(10), Some(15)],
+        3,
+        24,
+    ),
     (6, SUM, &[1; 64], &[Some(64); 64], 6, 384),
     (7, SUM, &[1; 65], &[Some(65); 65], 7, 896),
     (6, GREATEST, &[3; 64], &[Some(3); 64], 6, 384),
     (7, GREATEST, &[3; 65], &[Some(3); 65], 7, 896),
 ];
 
-// Jobs that still work on the smallest arrays, and jobs that are one item too large for these.
+// Jobs that just fit a size of arrays, and jobs that are one item too large for it.
 #[test]
 fn answers_jobs_at_the_end_of_the_smallest_arrays(rt: HostRuntime) {
     expect_replies(&rt, rt.alloc(), &JOBS_AT_ENDS);
