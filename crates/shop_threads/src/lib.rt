@@ -1,7 +1,7 @@
 //! A thread pool that runs a dispatcher: lists of jobs in, all of their replies out.
 //!
 //! The lanes are producers, and the workers are consumers. All work at once. Each worker has a
-//! thread of its own, and the lanes share as many threads as there are processors. Nothing is lost,
+//! thread of its own, and the lanes share a thread for each four processors. Nothing is lost,
 //! even if a thread cannot be started or memory runs out.
 #![tactic(auto)]
 

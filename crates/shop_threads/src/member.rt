@@ -24,6 +24,9 @@ use std::collections::VecDeque;
 use std::marker::{Brand, Model, PhantomData};
 use std::sync::Wait;
 
+// The number of jobs that a thread submits for a lane before it goes to the next lane.
+const JOBS_OF_A_TURN: u32 = 8;
+
 /// A name for one run: its dispatcher, and the jobs of each lane.
 pub(crate) trait Naming {
     ghost use Rattle.std.specs.Prelude.{ℕ, List};
@@ -177,6 +180,19 @@ impl<J: Naming, L: JobLine> LaneSlot<J, L> {
         };
         self.progress = Progress::Stopped(stop);
         false
+    }
+
+    // Submits the next few jobs unless the feed has stopped. Returns whether the feed goes on.
+    pub fn turns<R: Wait, F: Floor>(&mut self, rt: &R, shop: &Shop<L, F>, pause: &mut Pause) -> bool
+        requires { shop.now ≡ J.shop }
+        ensures { self.new ≡ result }
+    {
+        for _ in 1..JOBS_OF_A_TURN {
+            if !self.turn(rt, shop, pause) {
+                return false;
+            }
+        }
+        self.turn(rt, shop, pause)
     }
 
     // Submits what is left, if the feed is under way.

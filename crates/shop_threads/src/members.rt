@@ -30,14 +30,14 @@ type Slots<J, L, F> = (
 impl<'a, J: Naming, L: JobLine, F: Floor, T: Runner> ShopMembers<'a, J, L, F, T> {
     ghost use Rattle.std.specs.Prelude.{◌≡◌, length};
 
-    // Submits one job of each lane of a thread. Returns whether one of the lanes has more to do.
+    // Submits some jobs of each lane of a thread. Returns whether one of the lanes has more to do.
     fn round<R: Wait>(&self, rt: &R, index: usize, pause: &mut Pause) -> bool
         requires { self.now.shop.now ≡ J.shop }
     {
         let mut goes_on = false;
         let mut lane = index;
         while let Some(slot) = self.lane_slots.get(lane) {
-            goes_on |= slot.lock(rt).turn(rt, self.shop, pause);
+            goes_on |= slot.lock(rt).turns(rt, self.shop, pause);
             lane = lane.saturating_add(self.feeder_threads.max(1));
         }
         goes_on

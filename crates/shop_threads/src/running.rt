@@ -103,10 +103,11 @@ fn part<L: JobLine>(
     (lanes, ends)
 }
 
-// Returns how many processors there are for threads, or 1 if the system does not say.
-fn processors<R: Threads>(rt: &R) -> usize {
+// Returns how many threads share the lanes: one for each four processors, and at least one. Such a
+// thread mostly waits for room in the queue, and its tries then slow the workers.
+fn feeder_threads<R: Threads>(rt: &R) -> usize {
     match available_parallelism(rt) {
-        Ok(count) => count.get(),
+        Ok(processors) => (processors.get() / 4).max(1),
         Err(_) => 1,
     }
 }
@@ -205,7 +206,7 @@ fn run_named<
         alloc,
         worker_slots,
         lane_slots,
-        feeder_threads: processors(rt),
+        feeder_threads: feeder_threads(rt),
         closer_slot: Mutex::new(CloserSlot::new(closer)),
     };
     if all_have_slots {
@@ -227,9 +228,9 @@ fn run_named<
 /// Runs a dispatcher of these sizes on threads, with a lane for each list of jobs.
 ///
 /// It opens the dispatcher, submits all lists at once while all workers run jobs, closes the
-/// dispatcher and finishes it. Each worker has a thread of its own. The lanes have as many threads
-/// as there are processors, and at most one each. A thread with several lanes submits a job of each
-/// in turn.
+/// dispatcher and finishes it. Each worker has a thread of its own. The lanes share a thread for
+/// each four processors, and have at most one each. A thread with several lanes submits some jobs
+/// of each in turn.
 ///
 /// In the end each accepted job has one right reply. The jobs that a lane has accepted, followed by
 /// those that it did not submit, are its list. If a thread cannot be started, or memory runs out
