@@ -6,7 +6,7 @@ ghost use Rattle.jobs_csv.specs.Inner.Parse.{ReturnsParse};
 
 use crate::fault::FaultKind;
 use crate::fields;
-use cube_shape::MAX_LANES;
+use cube_shape::{MAX_DIM, MAX_LANES};
 use job_types::{Kind, Op};
 use std::alloc::Global;
 
@@ -85,6 +85,15 @@ pub(crate) fn has_superfluous_root(kind: Kind, root: &[u8]) -> bool
     }
 }
 
+// Returns how many pieces the spaces of a field part it into. No result depends on it, only memory.
+fn piece_count(field: &[u8]) -> usize {
+    let mut count = 1usize;
+    for byte in field {
+        count = count.saturating_add(usize::from(*byte == b' '));
+    }
+    count
+}
+
 /// Reads the items of a field: numbers with one space between each two. An empty field has none.
 pub(crate) fn items(alloc: Global, field: &[u8]) -> Result<Vec<u64>, FaultKind>
     ensures { ReturnsParse (λ items. items.items) (items_of field.now) result }
@@ -92,8 +101,9 @@ pub(crate) fn items(alloc: Global, field: &[u8]) -> Result<Vec<u64>, FaultKind>
     if field.is_empty() {
         return Ok(Vec::new(alloc));
     }
-    // A capacity that doubles from 1 on is the size of the job's block, and no more.
-    let Ok(mut items) = Vec::with_capacity(alloc, 1) else {
+    // No job has more items than the largest machine has processors.
+    let room = piece_count(field).min(1 << MAX_DIM);
+    let Ok(mut items) = Vec::with_capacity(alloc, room) else {
         return Err(FaultKind::OutOfMemory);
     };
     for piece in field.split(|byte| *byte == b' ') {
