@@ -1,6 +1,7 @@
 """Runs `cubejobs` beside other programs of the same job, in turn on the same inputs."""
 import os
 import random
+import statistics
 import subprocess
 import sys
 import tempfile
@@ -20,6 +21,7 @@ SETTING_INPUTS = (
     (4, "scan", 300_000, 16, 16),
     (6, "scan", 100_000, 64, 4),
     (10, "scan", 20_000, 1_024, 4),
+    (10, "allreduce", 20_000, 1_024, 4),
 )
 
 
@@ -82,6 +84,13 @@ def built(folder, source):
     return program
 
 
+def built_by_cargo(folder, project):
+    """The program of a Cargo project of this folder, built into `folder`, or None where its crates are missing."""
+    command = ["cargo", "build", "--release", "--offline", "--quiet", "--target-dir", folder]
+    done = subprocess.run(command, cwd=os.path.join(BENCH, project))
+    return os.path.join(folder, "release", project) if done.returncode == 0 else None
+
+
 def proved():
     """The path of `cubejobs`, which is built first where its sources have changed."""
     subprocess.run([os.path.join(ROOT, "cubejobs"), "--help"], stdout=subprocess.DEVNULL, check=True)
@@ -139,9 +148,29 @@ def compare(arguments, source, plain_arguments, inputs, program=None):
                 print(f"{label:40} {name:8} {cost.processor:8.3f} {cost.memory:7.1f} {time_ratio:7.2f} {memory_ratio:7.2f}")
 
 
-def compare_settings(commands_of, inputs):
-    """Prints a line for each input and command: the least processor time, the least time on the clock and the
-    greatest peak memory of several runs, with their ratios to those of the first command.
+def is_loaded():
+    """Whether other programs use more than half of each processor."""
+    return os.getloadavg()[0] > os.cpu_count() / 2
+
+
+def medians_in_turn(commands, path, folder, turns):
+    """The median cost of each command in several turns, by its name. It fails where two commands wrote different
+    bytes."""
+    outputs = {name: os.path.join(folder, f"output {number}") for number, name in enumerate(commands)}
+    costs = {name: [] for name in commands}
+    for _ in range(turns):
+        for name, command in commands.items():
+            costs[name].append(measured(command, path, outputs[name]))
+    first = next(iter(outputs.values()))
+    for name, output in outputs.items():
+        if subprocess.run(["cmp", "-s", first, output]).returncode != 0:
+            sys.exit(f"{name} wrote different bytes")
+    return {name: Cost(*map(statistics.median, zip(*own))) for name, own in costs.items()}
+
+
+def compare_settings(commands_of, inputs, turns=TURNS):
+    """Prints a line for each input and command: the median processor time, time on the clock and peak memory of
+    several runs, with their ratios to those of the first command. A star marks a row that began or ended under load.
 
     An input is a label, what `commands_of` makes its commands by name of, and a function that writes the input.
     """
@@ -150,12 +179,14 @@ def compare_settings(commands_of, inputs):
         print(f"{'input':48} program        processor   clock      MB    processor  clock  memory")
         for label, what, write in inputs:
             write(path)
-            best = measured_in_turn(commands_of(what), path, folder)
-            base = next(iter(best.values()))
-            for name, cost in best.items():
+            was_loaded = is_loaded()
+            costs = medians_in_turn(commands_of(what), path, folder, turns)
+            mark = " *" if was_loaded or is_loaded() else ""
+            base = next(iter(costs.values()))
+            for name, cost in costs.items():
                 ratios = [own / other for own, other in zip(cost, base)]
                 print(
                     f"{label:48} {name:14} {cost.processor:9.3f} {cost.clock:7.3f} {cost.memory:7.1f}"
-                    f" {ratios[0]:12.2f} {ratios[1]:6.2f} {ratios[2]:7.2f}",
+                    f" {ratios[0]:12.2f} {ratios[1]:6.2f} {ratios[2]:7.2f}{mark}",
                     flush=True,
                 )
