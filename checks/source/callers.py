@@ -72,7 +72,9 @@ QUOTES = {
     "wake_table": ("wake_table/src/tests.rt#fn a_sleeper_is_woken_for_a_job",),
 }
 # A library that nobody calls, and why.
-UNCALLED = {"ghost_history": "it has no code that runs", "ghost_log": "its calls do nothing at run time"}
+UNCALLED = {
+    "ghost_history": "it has no code that runs", "ghost_log": "its calls do nothing at run time",
+    "messages_csv": "no command calls it yet"}
 OPENING = re.compile(r"\A(//.*\n)+\n?")
 BLOCK = re.compile(r"((?<=```rust\n)|(?<=```antt\n)|(?<=```c\n)).*?(?=```\n)", re.DOTALL)
 NAMED = re.compile(r"`((?:crates|examples)/[^`\s]+)`")

@@ -18,7 +18,7 @@ OTHERS = (
     (r"jobs_csv/", r"48 \+|- 48|== 48|48 ≤ byte", "the byte of the digit 0"),
     (r"jobs_csv/proofs/CsvRecords\.antt", r"c == 13", "the byte of a carriage return"),
     (r"jobs_csv/.*/(name|Name|NameLemmas|PlainLemmas)\.", r"1[67]", "the bytes of a name"),
-    (r"cli_args/src/command_line\.rt", r"1 to 16 bytes", "the bytes of a name"),
+    (r"(cli_args/src/command_line|jobs_csv/src/wanted)\.rt", r"1 to 16 bytes", "the bytes of a name"),
     (r"cli_args/src/command_line\.rt", r"or 16 in a scan", "the bytes of an item in a job"),
     (r"cli_args/", r'default_value\("16"\)|codes "16"', "the room of a line where no word says it"),
     (r"uses/src/(answering|whole)\.rt", r"capacity: 16", "the room of this caller's line"),
@@ -33,6 +33,7 @@ OTHERS = (
     (r"region_shop/src/ageing\.rt", r"PATIENCE: u64 = 16", "how often others wait for a job, for each processor"),
     # Limits that have to be written out: when one is changed, its entry here is one that no literal needs.
     (r"cli_args/src/command_line\.rt", r"lane is below 16", "MAX_LANES in the help"),
+    (r"jobs_csv/src/wanted\.rt", r"a number below 16", "MAX_LANES in a list of refusals"),
     (r"cubejobs_c/src/machine\.rt", r"\[bool; 4096\]", "2^MAX_DIM in the struct for C"),
     (r"cubejobs_c/src/machine\.rt", r"\[Slot; 48\]", "MAX_STATIONS in the struct for C"),
 )

@@ -82,7 +82,7 @@ no_record header_of row_of None all = tt
 no_record header_of row_of (Some bytes) all = λ _. ap (file_of header_of row_of) (whole_records (strip_bom bytes) [] all)
 
 -- the records that were given are the first of the file
-given_first : {R : Type 0} (rem : R → Option (List ℕ)) (bytes : List ℕ) (records : List Record)
+pub given_first : {R : Type 0} (rem : R → Option (List ℕ)) (bytes : List ℕ) (records : List Record)
     (reader : Reader R)
     → HasGiven rem (Some bytes) records reader
     → (more : List Record) × (all_records default_config (strip_bom bytes) ≡ records ++ more)
@@ -103,14 +103,14 @@ bad_header header_of row_of rem (Some bytes) header w reader given parse = λ is
     ap (file_of header_of row_of) all.1 ∙ ap (λ (h : Result (Unit {0}) FaultKind). at_row 0 h >>= (λ _. rows_from row_of 1 all.0)) (refusal_parsed (header_of header) w is parse)
 
 -- the rows of a file with a good header
-file_rows : {Row : Type 0} (header_of : Headers) (row_of : Rows Row) (header : Record)
+pub file_rows : {Row : Type 0} (header_of : Headers) (row_of : Rows Row) (header : Record)
     (records : List Record)
     → header_of header ≡ Ok tt
     → file_of header_of row_of (header ∷ records) ≡ rows_from row_of 1 records
 unfolding file_of
 file_rows header_of row_of header records good = ap (λ (h : Result (Unit {0}) FaultKind). at_row 0 h >>= (λ _. rows_from row_of 1 records)) good
 
-no_more_rows : {Row : Type 0} (row_of : Rows Row) (number : ℕ) → rows_from row_of number [] ≡ Ok []
+pub no_more_rows : {Row : Type 0} (row_of : Rows Row) (number : ℕ) → rows_from row_of number [] ≡ Ok []
 unfolding rows_from
 no_more_rows row_of number = refl
 
@@ -126,7 +126,7 @@ behind_row : {Row : Type 0} (row : Row) (rest : Result (List Row) Fault)
 behind_row row (Ok rows) = refl
 behind_row row (Err fault) = refl
 
-first_row : {Row : Type 0} (row_of : Rows Row) (number : ℕ) (fields : Record)
+pub first_row : {Row : Type 0} (row_of : Rows Row) (number : ℕ) (fields : Record)
     (records : List Record) (row : Row)
     → numbered_row row_of number fields ≡ Ok row
     → rows_from row_of number (fields ∷ records)
@@ -140,7 +140,7 @@ both_fronts rows row (Ok more) = ap Ok (sym (append_assoc rows (row ∷ []) more
 both_fronts rows row (Err fault) = refl
 
 -- a record whose number is within the limit of a file
-in_range : {Row : Type 0} (row_of : Rows Row) (number : ℕ) (fields : Record)
+pub in_range : {Row : Type 0} (row_of : Rows Row) (number : ℕ) (fields : Record)
     → number ≤ MAX_RECORDS
     → numbered_row row_of number fields ≡ at_row number (row_of fields)
 in_range row_of number fields within =

@@ -14,3 +14,4 @@ pub mod PlaceTextLemmas
 pub mod SentLemmas
 pub mod LaneLemmas
 pub mod ReportLemmas
+pub mod RefusalLemmas

@@ -5,5 +5,6 @@ pub mod Input
 pub mod Name
 pub mod Output
 pub mod Parse
+pub mod Refused
 pub mod Rows
 pub mod ReportRows

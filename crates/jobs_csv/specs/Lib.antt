@@ -14,6 +14,8 @@ pub mod JobFields
 pub mod Jobs
 pub mod Replies
 pub mod Lanes
+pub mod BadFields
+pub mod Refusals
 pub mod Inner
 pub use Rattle.devices.specs.Device
 pub use Rattle.job_types.specs.Job

@@ -68,8 +68,8 @@ impl FaultKind {
         }
     }
 
-    // Returns the name of the kind, and for a job the reason.
-    fn text(&self) -> &'static str
+    /// Returns the name of the kind, and for a job the reason.
+    pub(crate) fn text(&self) -> &'static str
         ensures { result.now ≡ kind_text self.now }
     {
         match *self {

@@ -28,8 +28,8 @@ use std::io::Read;
 
 // The format of jobs, for a machine of this dimension.
 #[derive(Clone, Copy)]
-struct Jobs {
-    n: u32,
+pub(crate) struct Jobs {
+    pub n: u32,
     ghost limit: { n ≤ MAX_DIM },
 }
 

@@ -9,6 +9,8 @@
 //! is the device's exactly if that count rose, or had reached its end.
 #![tactic(auto)]
 
+mod bad_field;
+mod check;
 mod columns;
 mod fault;
 mod fields;
@@ -18,17 +20,22 @@ mod job_fields;
 mod jobs;
 mod lanes;
 mod line_buffer;
+mod line_number;
 mod name;
 mod observer;
 mod place;
 mod place_rows;
+mod refusal_rows;
 mod replay_rows;
 mod replies;
 mod report_rows;
 mod row;
 mod schedule;
+mod wanted;
 mod writing;
 
+pub use bad_field::Column;
+pub use check::{check_jobs, check_place, check_schedule};
 pub use cube_core::{Event, Refused};
 pub use devices::{Counted, Device};
 pub use fault::{Fault, FaultKind, WriteError};
@@ -40,6 +47,7 @@ pub use name::Name;
 pub use observer::{Observer, RecordCount};
 pub use place::{Command, read_place};
 pub use place_rows::PlaceRow;
+pub use refusal_rows::{MAX_SHOWN, RefusalRow};
 pub use replay_rows::ReplayRow;
 pub use report_rows::ReportRow;
 pub use row::{Row, RowFields};

@@ -1,11 +1,13 @@
 // The lines of a file, buffered on their way to a borrowed writer.
 ghost use Rattle.std.specs.Prelude.{◌≡◌, [], ◌++◌, ℕ, List, IfOk, OnOk};
 ghost use Rattle.std.specs.Io.KnownBytes.{Appends, Keeps};
+ghost use Rattle.csv.specs.Records.{fields_of};
+ghost use Rattle.csv.specs.Writing.{default_writer, row_text};
 ghost use Rattle.jobs_csv.specs.Text.{line_of};
 
 use crate::fault::WriteError;
 use crate::row::{Row, RowFields};
-use csv::Writer;
+use csv::{ByteRecord, Writer};
 use std::alloc::{AllocError, Global};
 use std::io::Write;
 use std::marker::Model;
@@ -83,6 +85,17 @@ impl LineBuffer {
         self.fields.clear();
         row.push_fields(self.alloc, &mut self.fields)?;
         self.fields.write_to(&mut self.writer)?;
+        Ok(self)
+    }
+
+    /// Buffers a record. A field that needs quotes gets them.
+    pub(crate) fn push_record(mut self, fields: &ByteRecord) -> Result<Self, AllocError>
+        ensures { IfOk result (λ lines.
+            lines ≡ self ++ row_text default_writer (fields_of fields.now)) }
+    {
+        let Ok(()) = self.writer.write_byte_record(fields) else {
+            return Err(AllocError);
+        };
         Ok(self)
     }
 

@@ -29,8 +29,8 @@ pub enum Command {
 
 // The format of commands, for a machine of this dimension.
 #[derive(Clone, Copy)]
-struct Commands {
-    n: u32,
+pub(crate) struct Commands {
+    pub n: u32,
 }
 
 #[tactic(auto, unfolding(crate::specs::Place::name_of))]

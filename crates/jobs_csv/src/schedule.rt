@@ -37,7 +37,7 @@ pub enum Line {
 
 // The format of schedules.
 #[derive(Clone, Copy)]
-struct Schedule;
+pub(crate) struct Schedule;
 
 // Reads the line of a station with this keyword and this last field.
 #[tactic(auto, unfolding(crate::specs::Schedule::keyword_line))]

@@ -1,0 +1,52 @@
+// The line of a file on which a record begins, by the reader's count of line feeds.
+use csv::ByteRecord;
+
+// Returns how many line feeds a field has.
+fn feeds_in(field: &[u8]) -> u64 {
+    let mut feeds: u64 = 0;
+    for byte in field {
+        if *byte == b'\n' {
+            feeds = feeds.saturating_add(1);
+        }
+    }
+    feeds
+}
+
+// Returns the line on which a record begins if its line end is not yet read. The line is `end` once
+// the record is read, and each line feed in its fields is one line.
+fn unended(record: &ByteRecord, end: u64) -> u64 {
+    let mut line = end;
+    for index in 0..record.len() {
+        if let Some(field) = record.get(index) {
+            line = line.saturating_sub(feeds_in(field));
+        }
+    }
+    line
+}
+
+// Returns the line at which the read of a record began. Blank lines may be between it and the
+// record.
+fn start_of(record: &ByteRecord) -> u64 {
+    match record.position() {
+        Some(position) => position.line(),
+        None => 1,
+    }
+}
+
+/// Returns whether the read of this record, the first of a file, went on to a line feed. Otherwise
+/// lines end with a carriage return first, which ends the record.
+pub(crate) fn ends_with_feed(record: &ByteRecord, end: u64) -> bool {
+    unended(record, end) > start_of(record)
+}
+
+/// Returns the line on which a record begins, if the line is `end` once it is read.
+///
+/// If the last record follows a blank line and has no line end, this is the blank line.
+pub(crate) fn begins_on(record: &ByteRecord, end: u64, feeds: bool) -> u64 {
+    let line = unended(record, end);
+    if feeds && line > start_of(record) {
+        line - 1
+    } else {
+        line
+    }
+}
