@@ -1,0 +1,3 @@
+pub mod CheckLine
+pub mod MessagesLine
+pub use Rattle.cli_args.specs.CommandLine.{HasOptionValue, dim_rule, file_named, file_rule, versioned_app}
