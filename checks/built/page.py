@@ -1,27 +1,31 @@
-"""Compares view/index.html with the program: `checks/run page PROGRAM`. With `--draw` it writes the pictures of docs/.
+"""Compares view/index.html with the program: `checks/run page PROGRAM`. With `--draw` it writes the pictures of docs/
+and the examples in the page, with `--draw` and `--module` also the library in the page.
 
 What the page shows after each event of a schedule is compared with a replay that is cut there: the words with its end
 rows, the row, and that there is a sentence for it. What it shows after each command of `place` is compared with the
-rows. Files that are no output of the program must each be refused with a reason. The pictures of docs/ must be those
-that the page saves.
+rows. Files that are no output of the program must each be refused with a reason. The rules of the tree must accept each
+row of random schedules, and name each row that was altered. The proved library in the page must be the one that
+the toolchain builds from crates/cubejobs_c, and answer 10,000 calls as `place` does. The pictures of docs/ must be those
+that the page draws.
 
-The scripts of the page run under node, over a small stand-in for a document; where there is a Chromium, the page itself
-is opened in it too, at several events. Without node the check is skipped, and without a Chromium that part of it.
+The scripts of the page run under node; where there is a Chromium, the page itself is opened in it too: at several
+events, by click, drag and key, at 1,280 and at 360 px. Without node the check is skipped, and without a Chromium or the
+toolchain that part of it.
 """
-import html
-import json
+import base64
 import os
+import random
 import re
 import shutil
-import tempfile
-import urllib.parse
 
-from checks.lib.repository import path, read, write
-from checks.lib.rows import Skipped, answer, must, output, print_faults
-from checks.lib.toolchain import program
+from checks.built import page_browser
+from checks.lib.browser import browser_here
+from checks.lib.page_scripts import PAGE, block, in_page, set_block
+from checks.lib.repository import path, read, read_bytes, write
+from checks.lib.rows import Skipped, output, print_faults
+from checks.lib.toolchain import program, wasm_module
 
-PAGE, PICTURES = "view/index.html", "docs/pictures"
-BROWSERS = ("chromium", "chromium-browser", "google-chrome", "chrome")
+PICTURES = "docs/pictures"
 
 # Each schedule of examples/: its machine's dimension and stations, and the event of its picture in docs/, or None.
 SCHEDULES = {
@@ -35,75 +39,61 @@ SCHEDULES = {
     "schedule": (2, 3, None),
 }
 
+# The cards of the page: the example, the event at which it opens, a title and what it shows.
+CARDS = (
+    ("events", 30, "The jobs of a run", "24 jobs on 16 processors: which ran where, and when."),
+    ("place", 6, "Names that take subcubes", "Each take gets the first free block; one is refused."),
+    ("schedules/overtaken-release", 30, "A release that is overtaken", "Two releases want to clear one node, and one leaves it."),
+    ("schedules/roll-back", 8, "A take that is rolled back", "It finds an owner above its node, and undoes its claim."),
+    ("schedules/three-marks", 34, "Marks of two stations", "Each may clear the root only if its own mark is the last."),
+    ("schedules/root-taken-again", 15, "The root is taken again", "A claim takes the root between a mark and a clear."),
+    ("schedules/lost-claim", 8, "A claim that is lost", "Two stations find a node clear, and one claims it first."),
+    ("schedules/lost-wakeup", 13, "A wakeup that is lost", "A take is refused although no block is held."),
+    ("schedules/largest-machine", 60, "4,096 processors", "Two stations climb from leaves to the root and back."),
+)
+
 # Files that are none, and a word of the reason that each is refused for.
 BAD_FILES = {
     "": "nothing in it",
-    "hello\n": "neither the output",
+    "hello\n": "none of the outputs",
     "lane,kind,op,root,items\n0,scan,add,0,1\n": "file of jobs",
     "station,call,arg\n0,take,1\n": "input of replay",
     "command,name,dim\ntake,a,1\n": "input of place",
     "group,key,count,processors\n": "a report",
-    **{f"station,event,node,word,note\n{rows}\n": reason for rows, reason in (
-        ("0,look,4,-", "five fields"),
-        ("0,look,4,-,climb", "no such note"),
-        ("0,constructor,4,-,ok", "no such note"),
-        ("99,look,4,-,free", "a station is a number"),
-        ("48,look,4,-,free", "a station is a number"),
-        ("0,look,0,-,free", "a node is a number"),
-        ("0,look,8192,-,free", "a node is a number"),
-        ("0,look,4,<b>,free", "no such word"),
-        ("-,end,-,-,0\n0,look,4,-,free", "after the end rows"),
-        ("0,end,4,-,0", "no such end row"),
+    "lane,seq,kind,dim,result,rounds,messages\n": "output of run",
+    "record,line,field,text,fault,wanted\n": "output of check",
+    **{f"station,event,node,word,note\n{rows}\n": f"Line {line}, {row}: {reason}" for rows, line, row, reason in (
+        ("0,look,4,-", 2, "0,look,4,-", "it should have five fields"),
+        ("0,look,4,-,climb", 2, "0,look,4,-,climb", "no such event, or it has no such note"),
+        ("0,constructor,4,-,ok", 2, "0,constructor,4,-,ok", "no such event, or it has no such note"),
+        ("99,look,4,-,free", 2, "99,look,4,-,free", "a station is a number"),
+        ("0,look,4,-,free\n48,look,4,-,free", 3, "48,look,4,-,free", "a station is a number"),
+        ("0,look,0,-,free", 2, "0,look,0,-,free", "a node is a number"),
+        ("0,look,8192,-,free", 2, "0,look,8192,-,free", "a node is a number"),
+        ("0,look,4,<b>,free", 2, "0,look,4,<b>,free", "no such word"),
+        ("-,end,-,-,0\n0,look,4,-,free", 3, "0,look,4,-,free", "an event after the end rows"),
+        ("0,end,4,-,0", 2, "0,end,4,-,0", "no such end row"),
     )},
-    **{f"command,name,dim,base,outcome\n{row}\n": reason for row, reason in (
-        ("take,a,1,1,given", "multiple of the region"),
+    **{f"command,name,dim,base,outcome\n{row}\n": f"Line 2, {row}: {reason}" for row, reason in (
+        ("take,a,1,1,given", "the base should be a multiple of the region"),
         ("take,A,1,0,given", "a name has"),
-        ("take,a,13,0,given", "a number up to"),
+        ("take,a,13,0,given", "the dimension should be a number up to"),
         ("take,a,1,0,freed", "no such command"),
     )},
 }
 
-# A stand-in for a document, in which the page's scripts run; then what the page shows after each row.
-STAND_IN = """
-const elements = new Map();
-function newElement() {
-  const names = new Set();
-  return {
-    textContent: "", innerHTML: "", value: "", hidden: false, dataset: {}, style: {},
-    clientWidth: 1000, scrollWidth: 0, scrollLeft: 0,
-    classList: { add: (name) => names.add(name), remove: (name) => names.delete(name) },
-    setAttribute() {}, focus() {}, click() {},
-  };
+# Files that read well and that the program never writes: the row that is named, a word of the reason, and the first
+# processor that is shown in red after the last row, or None.
+FORGED = {
+    "command,name,dim,base,outcome\ntake,a,1,0,given\ntake,b,0,1,given\n": (2, "a and b both hold processor 1", 1),
+    "command,name,dim,base,outcome\ntake,a,1,0,given\ntake,a,1,2,given\n": (2, "a holds a block already", None),
+    "command,name,dim,base,outcome\ntake,a,1,0,given\nfree,a,1,2,freed\n": (2, "a does not hold this block", None),
+    "command,name,dim,base,outcome\ntake,l0s0,1,4,given\ntake,l1s3,1,4,given\n": (2, "job 0 of lane 0 and job 3 of lane 1 both hold processor 4", 4),
+    "station,event,node,word,note\n0,look,1,-,free\n1,look,1,-,free\n0,claim,1,OLR,held\n1,claim,1,OLR,held\n-,end,1,OLR,-\n-,end,-,-,1\n": (4, "its note should be lost", 0),
+    "station,event,node,word,note\n0,claim,1,OLR,held\n": (1, "station 0 can make no claim", None),
+    "station,event,node,word,note\n0,look,2,-,free\n0,claim,3,OLR,climb\n": (2, "the claim of station 0 is due at node 2", None),
+    "station,event,node,word,note\n0,look,2,-,free\n0,claim,2,OLR,climb\n0,refused,-,-,resting\n": (3, "not refused as resting", None),
 }
-const root = newElement();
-globalThis.document = {
-  documentElement: root, body: newElement(),
-  getElementById: (id) => elements.get(id) ?? elements.set(id, newElement()).get(id),
-  createElement: newElement,
-};
-globalThis.location = { search: "", hash: "" };
-globalThis.matchMedia = () => ({ matches: false });
-globalThis.onresize = null;
-document.getElementById("pace").value = "2";
-document.getElementById("zoom").value = "1";
-"""
-DRIVER = """
-const asked = JSON.parse(require("fs").readFileSync(0, "utf8"));
-const told = asked.map(({ text, event, n }) => {
-  load(text);
-  if (!file) return { error: by("error").textContent };
-  if (n !== undefined) setDim(n);
-  if (event !== undefined) { show(event); return { picture: draw(LIGHT, drawingWidth()) }; }
-  const shown = [];
-  for (let row = 0; row <= file.rows.length; row++) {
-    show(row);
-    const text = (id) => by(id).textContent;
-    shown.push(Object.fromEntries(["count", "now", "row", "words", "holders", "end"].map((id) => [id, text(id)])));
-  }
-  return { shown };
-});
-process.stdout.write(JSON.stringify(told));
-"""
 
 failed = []
 
@@ -113,13 +103,21 @@ def expect(holds, what):
         failed.append(what)
 
 
-def page_in_node(asked):
-    """Returns what the page shows of each file that is asked for."""
-    scripts = re.findall(r'<script id="\w+">(.*?)</script>', read(PAGE), re.S)
-    with tempfile.NamedTemporaryFile("w", suffix=".js", encoding="utf-8") as script:
-        script.write(STAND_IN + "\n".join(text.replace('"use strict";', "") for text in scripts) + DRIVER)
-        script.flush()
-        return json.loads(output(["node", script.name], json.dumps(asked)))
+SHOWN = """
+return asked.map(({ text, event, n }) => {
+  load(text);
+  if (!file) return { error: by("error").textContent };
+  if (n !== undefined) setDim(n);
+  if (event !== undefined) { show(event); return { picture: draw(LIGHT, drawingWidth()) }; }
+  const shown = [];
+  for (let row = 0; row <= file.rows.length; row++) {
+    show(row);
+    const text = (id) => by(id).textContent;
+    shown.push(Object.fromEntries(["count", "now", "row", "words", "holders", "end", "warning"].map((id) => [id, text(id)])));
+  }
+  return { shown, wrong, drawing: by("scroll").innerHTML, strip: by("share").innerHTML };
+});
+"""
 
 
 def example(name):
@@ -169,6 +167,7 @@ class Schedule:
             is_told = now.endswith(".") and not re.search("undefined|NaN|null", now + seen["holders"])
             expect(not event or seen["row"] == self.rows[event - 1], f"{at}: its row")
             expect(not event or is_told, f"{at}: {now}")
+            expect(seen["warning"] == "", f"{at}: {seen['warning']}")
             if event in self.cuts:
                 words = self.cuts[event]
                 wanted = f"Words that are not 0: {words}." if words else "Each word is 0."
@@ -177,10 +176,17 @@ class Schedule:
         expect(end == "The file's end rows agree with these words.", f"{self.name}: {end}")
 
 
-def compare_place(text, shown):
-    held = {}
-    for number, row in enumerate(text.splitlines()[1:], 1):
+def title_of(name, is_run):
+    lane, _, number = name[1:].partition("s")
+    return f"job {number} of lane {lane}" if is_run else name
+
+
+def compare_place(what, text, seen, is_run=False):
+    """Compares what the page shows of commands with the rows, and its drawing and strip with them too."""
+    held, shown, rows = {}, seen["shown"], text.splitlines()[1:]
+    for number, row in enumerate(rows, 1):
         _, name, dim, base, outcome = row.split(",")
+        name = title_of(name, is_run)
         if outcome == "given":
             first, length = int(base), 1 << int(dim)
             many = f"processors {first} to {first + length - 1} by {name}"
@@ -188,15 +194,163 @@ def compare_place(text, shown):
         elif outcome == "freed":
             del held[name]
         wanted = f"Held: {'; '.join(held.values())}." if held else "No processor is held."
-        expect(shown[number]["row"] == row, f"place, command {number}: its row")
-        expect(shown[number]["holders"] == wanted, f"place, command {number}: {shown[number]['holders']}")
+        expect(shown[number]["row"] == row, f"{what}, command {number}: its row")
+        expect(shown[number]["holders"] == wanted, f"{what}, command {number}: {shown[number]['holders']}")
+        expect(shown[number]["warning"] == "", f"{what}, command {number}: {shown[number]['warning']}")
+        expect(not is_run or name in shown[number]["now"].lower(), f"{what}, command {number}: {shown[number]['now']}")
+    given = [title_of(row.split(",")[1], is_run) for row in rows if row.endswith(",given")]
+    titles = re.findall(r'data-span="\d+"><title>(.*?), processor', seen["drawing"])
+    expect(titles == given, f"{what}: the blocks of its drawing are {titles}")
+    marks = re.search(r'd="([^"]*)"[^>]*data-part="refused"', seen["strip"])[1].count("M")
+    refused = sum(not row.endswith(("given", "freed")) for row in rows)
+    expect(marks == refused, f"{what}: {marks} red marks on the strip for {refused} refusals")
+
+
+def random_schedule(chance, n, stations, calls):
+    """Returns a schedule in which stations mix their steps, and make some calls that are refused."""
+    lines = ["station,call,arg"]
+    for _ in range(calls):
+        station = chance.randrange(stations)
+        call = chance.choices(("take", "release", "step", "run", "retire"), (3, 2, 9, 1, 0.02))[0]
+        arg = {"take": chance.randrange(1, 2 << n), "step": chance.randrange(1, 4)}.get(call, "-")
+        lines.append(f"{station},{call},{arg}")
+    return "\n".join([*lines, ""])
+
+
+def other_notes():
+    """Returns the notes of each event, as the page lists them."""
+    return in_page("return NOTES;")
+
+
+def altered(rows, notes, chance):
+    """Yields copies of a schedule's rows in each of which one row has another word or note, with its number."""
+    for number, row in enumerate(rows, 1):
+        station, event, node, word, note = row.split(",")
+        if event == "refused":
+            continue
+        for other in notes[event]:
+            if other != note:
+                yield [*rows[: number - 1], ",".join((station, event, node, word, other)), *rows[number:]], number
+        wrong = chance.choice([it for it in ("-", "O", "L", "R", "OLR", "LR", "L+3", "-+1") if it != word])
+        yield [*rows[: number - 1], ",".join((station, event, node, wrong, note)), *rows[number:]], number
+
+
+def check_rules(built, schedules):
+    """Sees the rules accept each row of random schedules, and name the first row that was altered."""
+    chance, texts, notes = random.Random(1), [one.text for one in schedules], other_notes()
+    for n, stations in ((0, 1), (0, 3), (1, 4), (2, 3), (3, 8), (4, 16), (6, 30), (9, 40), (12, 48)):
+        given = random_schedule(chance, n, stations, 3000)
+        texts.append(output([built, "replay", "--dim", str(n), "--stations", str(stations)], given))
+    wrongs = in_page("return asked.map((text) => { const found = readFile(text); return [found.rows.length, firstWrong(found)]; });", texts)
+    for text, (_, wrong) in zip(texts, wrongs):
+        expect(wrong is None, f"the rules refuse a right row of {text[:60]!r}: {wrong}")
+    forged = [pair for one in schedules for pair in altered(one.rows, notes, chance)]
+    files = ["\n".join(["station,event,node,word,note", *rows, ""]) for rows, _ in forged]
+    found = in_page("return asked.map((text) => firstWrong(readFile(text))?.row ?? 0);", files)
+    for (rows, number), row in zip(forged, found):
+        expect(row == number, f"the altered row {number}, {rows[number - 1]}, is not named: {row}")
+    seen = in_page(SHOWN, [{"text": text} for text in FORGED])
+    for (text, (row, why, red)), one in zip(FORGED.items(), seen):
+        warning = one["shown"][-1]["warning"]
+        expect(one["wrong"]["row"] == row and f"Row {row}, " in warning and why in warning, f"{text!r}: {warning}")
+        reds = re.findall(r'data-overlap="(\d+)"', one["drawing"])
+        expect(reds == ([] if red is None else [str(red)]), f"{text!r}: in red are {reds}")
+    return sum(length for length, _ in wrongs), len(forged)
+
+
+def light(colour):
+    """Returns the luminance of a colour, by the formula of the accessibility guidelines."""
+    parts = [int(colour[at : at + 2], 16) / 255 for at in (1, 3, 5)]
+    red, green, blue = (it / 12.92 if it <= 0.04045 else ((it + 0.055) / 1.055) ** 2.4 for it in parts)
+    return 0.2126 * red + 0.7152 * green + 0.0722 * blue
+
+
+def contrast(one, other):
+    low, high = sorted((light(one), light(other)))
+    return (high + 0.05) / (low + 0.05)
+
+
+def check_contrast():
+    """Sees that texts have a contrast of 4.5 and lines one of 3, in each theme and for each station."""
+    body = """return [LIGHT, DARK].map((theme) => ({ theme, stations: Array.from({ length: 200 }, (_, number) =>
+        ({ fill: colourOf(number), ink: inkOn(colourOf(number)), line: lineOf(number, theme) })) }));"""
+    for name, one in zip(("light", "dark"), in_page(body)):
+        theme = one["theme"]
+        pairs = [(ink, on, 4.5) for ink in ("ink", "faint") for on in ("paper", "box")] + [("ink", "side", 4.5)]
+        pairs += [("ring", "paper", 4.5), ("ring", "box", 3)]
+        pairs += [(line, on, 3) for line in ("line", "thin") for on in ("paper", "box")]
+        for ink, on, least in pairs:
+            expect(contrast(theme[ink], theme[on]) >= least, f"{name}: {ink} on {on} has {contrast(theme[ink], theme[on]):.2f}")
+        for number, it in enumerate(one["stations"]):
+            expect(contrast(it["ink"], it["fill"]) >= 4.5, f"{name}: the ink of {number}")
+            least = min(contrast(it["line"], theme[on]) for on in ("paper", "box"))
+            expect(least >= 3, f"{name}: the line of {number} has {least:.2f}")
+    styles = re.findall(r"--paper: (#\w+); --ink: (#\w+); --faint: (#\w+); --line: (#\w+); --soft: (#\w+); --ring: (#\w+);", read(PAGE))
+    expect(len(styles) == 4, f"{len(styles)} sets of colours in the style")
+    for paper, ink, faint, line, soft, ring in ([it if len(it) > 4 else "#" + "".join(2 * x for x in it[1:]) for it in one] for one in styles):
+        least = min(contrast(text, on) for text in (ink, faint, ring) for on in (paper, soft))
+        expect(least >= 4.5, f"the style's texts on {paper} have {least:.2f}")
+        expect(contrast(line, paper) >= 3, f"the style's lines on {paper} have {contrast(line, paper):.2f}")
+
+
+def check_paths(built):
+    """Sees a machine of dimension 12 with 48 stations drawn by its paths in use, in boxes that can be read."""
+    takes = [f"{station},take,{4096 + 85 * station}\n{station},run,-" for station in range(48)]
+    text = output([built, "replay", "--dim", "12", "--stations", "48"], "\n".join(["station,call,arg", *takes, ""]))
+    body = """load(asked); show(file.rows.length); return [1240, 328].map((width) => draw(LIGHT, width));"""
+    used = {node >> up for node in (4096 + 85 * station for station in range(48)) for up in range(13)}
+    for width, drawing in zip((1240, 328), in_page(body, text)):
+        nodes = {int(it) for it in re.findall(r'data-node="(\d+)"', drawing)}
+        expect(nodes == used, f"at {width} px the paths in use have {len(nodes)} nodes and not {len(used)}")
+        boxes = re.findall(r'data-node="\d+"><title>[^<]*</title><rect x="[\d.-]+" y="[\d.]+" width="([\d.]+)"', drawing)
+        expect(len(boxes) == len(used) and min(map(float, boxes)) >= 22, f"at {width} px a box is too narrow")
+        wide = int(re.search(r'<svg [^>]*width="(\d+)"', drawing)[1])
+        expect(wide <= 1300, f"at {width} px the drawing is {wide} px wide")
+
+
+def check_library(built, writes):
+    """Compares the library in the page with the one that the toolchain builds, and its answers with those of `place`."""
+    chance, commands = random.Random(2), []
+    for _ in range(10000):
+        name = f"n{chance.randrange(70)}"
+        commands.append(["take", name, chance.choice((0, 0, 0, 1, 1, 2, 3, 4, 7))] if chance.random() < 0.55 else ["free", name, "-"])
+    if shutil.which("rt"):
+        module = wasm_module("cubejobs_c")
+        if writes:
+            lines = re.findall(".{1,100}", base64.b64encode(module).decode())
+            set_block("library", "\n" + "\n".join(lines) + "\n")
+        expect(base64.b64decode(block("library")) == module, f"the library in {PAGE} is the one that rattle builds: --draw --module writes it")
+    else:
+        print("page: the library in it is not built anew, since there is no rt")
+    wanted = output([built, "place", "--dim", "9"], "\n".join(["command,name,dim", *(",".join(map(str, it)) for it in commands), ""]))
+    body = """const machine = openExact(await loadLibrary(by("library").textContent), 9);
+        return asked.map(([command, name, k]) => (command === "take" ? machine.take(name, k) : machine.free(name)));"""
+    got = in_page(body, commands, ["--experimental-wasm-memory64"])
+    for number, (one, other) in enumerate(zip(got, wanted.splitlines()[1:]), 1):
+        expect(one == other, f"call {number} of the library in the page: {one} and not {other}")
+    expect({row.rpartition(",")[2] for row in got} == {"given", "freed", "nosubcube", "held", "nostation", "nothingheld"}, "each outcome")
+    expect(len(got) == 10000, f"{len(got)} calls")
+    policy = re.search(r'Content-Security-Policy" content="([^"]*)"', read(PAGE))[1]
+    wanted = "default-src 'none'; style-src 'unsafe-inline'; script-src 'unsafe-inline' 'wasm-unsafe-eval'; img-src data: blob:"
+    expect(policy == wanted, f"the page's policy: {policy}")
+
+
+def check_cards(files, writes):
+    """Sees that the page has each example, with the rows that the program writes."""
+    cards = [f"= {event} | {title} | {says}\n{files[name]}" for name, event, title, says in CARDS]
+    wanted = "\n" + "".join(cards)
+    if writes:
+        set_block("tales", wanted)
+    expect(block("tales") == wanted, f"the examples in {PAGE} are those of examples/: --draw writes them")
+    told = in_page("showExamples(); return by('examples').innerHTML;")
+    expect(told.count("<button") == told.count("<svg") == len(CARDS), "a card with a picture for each example")
 
 
 def check_pictures(schedules, draws):
     """Sees that docs/TREE.md has each of these schedules, with its command line and the picture that the page draws."""
     told_of = read("docs/TREE.md")
     asked = [{"text": one.text, "event": one.event, "n": one.n} for one in schedules]
-    for one, told in zip(schedules, page_in_node(asked)):
+    for one, told in zip(schedules, in_page(SHOWN, asked)):
         picture = f"{os.path.basename(one.name)}.svg"
         command = f"$ ./cubejobs {one.words} < examples/{one.name}.csv\n"
         expect(command in told_of, f"docs/TREE.md: {command.strip()}")
@@ -208,42 +362,32 @@ def check_pictures(schedules, draws):
         expect(stands, f"{file} is what the page saves: checks/run page --draw writes it")
 
 
-def check_browser(browser, schedules):
-    for one in schedules:
-        shown = page_in_node([{"text": one.text, "n": one.n}])[0]["shown"]
-        for event in (0, 1, one.event or 2, len(one.rows)):
-            link = f"file://{path(PAGE)}?event={event}&n={one.n}#csv={urllib.parse.quote(one.text)}"
-            with tempfile.TemporaryDirectory() as folder:
-                words = [browser, "--headless", "--no-sandbox", "--disable-gpu", f"--user-data-dir={folder}"]
-                status, dom, _ = answer([*words, "--dump-dom", link], "", text=True)
-            must(status == 0, f"{browser} ends with status {status}")
-            for name, wanted in shown[event].items():
-                found = re.search(rf'id="{name}"[^>]*>(.*?)</', dom, re.S)
-                text = html.unescape(found[1]) if found else ""
-                expect(text.strip() == wanted.strip(), f"{one.name}, event {event}, in the browser: {name} is {text!r}")
-            expect("<svg" in dom, f"{one.name}, event {event}: a drawing in the browser")
-
-
 def main(words):
     if not shutil.which("node"):
         raise Skipped("there is no node")
-    built = program(words)
+    built, draws = program(words), "--draw" in words
     schedules = [Schedule(built, name) for name in SCHEDULES]
-    place = output([built, "place", "--dim", "3"], read("examples", "place.csv"))
-    told = page_in_node([*({"text": one.text} for one in schedules), {"text": place}])
+    place, events = output([built, "place", "--dim", "3"], read("examples", "place.csv")), read("examples", "events.csv")
+    told = in_page(SHOWN, [*({"text": one.text} for one in schedules), {"text": place}, {"text": events}])
     for one, seen in zip(schedules, told):
         one.compare(seen["shown"])
-    compare_place(place, told[-1]["shown"])
-    for text, seen in zip(BAD_FILES, page_in_node([{"text": text} for text in BAD_FILES])):
+    compare_place("place", place, told[-2])
+    compare_place("events", events, told[-1], is_run=True)
+    for text, seen in zip(BAD_FILES, in_page(SHOWN, [{"text": text} for text in BAD_FILES])):
         expect(BAD_FILES[text] in seen.get("error", ""), f"{text!r} is refused: {seen.get('error', 'it was drawn')}")
-    check_pictures([one for one in schedules if one.event is not None], "--draw" in words)
-    browser = next(filter(None, map(shutil.which, BROWSERS)), None)
+    rows, forged = check_rules(built, schedules)
+    check_contrast()
+    check_paths(built)
+    check_cards({**{one.name: one.text for one in schedules}, "place": place, "events": events}, draws)
+    check_library(built, draws and "--module" in words)
+    check_pictures([one for one in schedules if one.event is not None], draws)
+    browser = browser_here()
     if browser:
-        check_browser(browser, schedules)
+        failed.extend(page_browser.faults(browser, schedules, len(CARDS)))
     else:
         print("page: not opened in a browser, since there is no Chromium")
     cuts, commands = sum(len(one.cuts) for one in schedules), len(place.splitlines()) - 1
     status = print_faults(failed)
     tried = f"{cuts} cuts of {len(schedules)} schedules, {commands} commands, {len(BAD_FILES)} bad files"
-    print(f"page: {tried}, {len(failed)} failed")
+    print(f"page: {tried}, {rows} rows by the rules, {forged} altered rows, 10000 calls, {len(failed)} failed")
     return status

@@ -7,6 +7,7 @@ import re
 import shutil
 import subprocess
 import sys
+import tempfile
 
 from checks.lib.repository import ROOT, path, read
 from checks.lib.rows import output
@@ -39,6 +40,22 @@ def build_below(tops, after_gate):
         is_left = after_gate and os.path.isdir(dep.rlib) and not os.path.exists(f"{os.path.dirname(dep.rlib)}/stamp")
         if not is_left and dep.build_rlib(["--jobs", "1"], anew=False):
             sys.exit(f"the library {dep.name} was not built")
+
+
+def wasm_module(name):
+    """Builds a static library for WebAssembly with 64-bit memories, and returns the bytes of its module."""
+    crate = crates()[name]
+    build_below([crate], after_gate=True)
+    keeps = os.path.isdir(f"{crate.folder}/out/incremental")
+    to = ["--target", "wasm64-unknown-unknown", "--toolchain", f"{kit().KIT}/toolchain", "-o"]
+    with tempfile.TemporaryDirectory() as folder:
+        archive, module = os.path.join(folder, "library.a"), os.path.join(folder, "library.wasm")
+        build = [kit().RATTLE, "build", *crate.words(["--jobs", "1"], keeps=keeps), *to, archive]
+        link = [f"{kit().KIT}/bin/rattle-link", *to, module, archive]
+        for words in (build, link):
+            subprocess.run(words, cwd=crate.folder, stdin=subprocess.DEVNULL, capture_output=True, check=True)
+        with open(module, "rb") as it:
+            return it.read()
 
 
 def check_words(crate, functions, folder=None):
