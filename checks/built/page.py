@@ -270,6 +270,12 @@ def contrast(one, other):
     return (high + 0.05) / (low + 0.05)
 
 
+def mixed(colour, ground, share):
+    """Returns the colour that is seen where this share of a colour covers a ground."""
+    parts = [[int(it[at : at + 2], 16) for at in (1, 3, 5)] for it in (colour, ground)]
+    return "#" + "".join(f"{round(share * one + (1 - share) * other):02x}" for one, other in zip(*parts))
+
+
 def check_contrast():
     """Sees that texts have a contrast of 4.5 and lines one of 3, in each theme and for each station."""
     body = """return [LIGHT, DARK].map((theme) => ({ theme, stations: Array.from({ length: 200 }, (_, number) =>
@@ -283,6 +289,8 @@ def check_contrast():
             expect(contrast(theme[ink], theme[on]) >= least, f"{name}: {ink} on {on} has {contrast(theme[ink], theme[on]):.2f}")
         for number, it in enumerate(one["stations"]):
             expect(contrast(it["ink"], it["fill"]) >= 4.5, f"{name}: the ink of {number}")
+            faded = mixed(it["fill"], theme["box"], 0.35)
+            expect(contrast(theme["ink"], faded) >= 4.5, f"{name}: the ink of {number} where it is past has {contrast(theme['ink'], faded):.2f}")
             least = min(contrast(it["line"], theme[on]) for on in ("paper", "box"))
             expect(least >= 3, f"{name}: the line of {number} has {least:.2f}")
     styles = re.findall(r"--paper: (#\w+); --ink: (#\w+); --faint: (#\w+); --line: (#\w+); --soft: (#\w+); --ring: (#\w+);", read(PAGE))
@@ -346,20 +354,41 @@ def check_cards(files, writes):
     expect(told.count("<button") == told.count("<svg") == len(CARDS), "a card with a picture for each example")
 
 
-def check_pictures(schedules, draws):
-    """Sees that docs/TREE.md has each of these schedules, with its command line and the picture that the page draws."""
-    told_of = read("docs/TREE.md")
+WAY = "Jobs wait in a queue. A worker takes a job, and a block of processors for it. It runs the job and releases the block."
+HELD = "station,call,arg\n1,take,4\n1,run,-\n2,take,3\n2,run,-\n"
+
+
+def pictures(built, schedules):
+    """Yields each picture of the documents in both themes: its name, the document with its place, and what is drawn."""
+    body = """return asked.map(({ text, event, n, way }) => [LIGHT, DARK].map((colours) => {
+        load(text, event);
+        setDim(n);
+        return way ? drawWay(colours, 720, { n, world, row: null, said: way }) : draw(colours, 1000); }));"""
+    held = output([built, "replay", "--dim", "2", "--stations", "3"], HELD)
     asked = [{"text": one.text, "event": one.event, "n": one.n} for one in schedules]
-    for one, told in zip(schedules, in_page(SHOWN, asked)):
-        picture = f"{os.path.basename(one.name)}.svg"
+    asked += [{"text": read("examples", "events.csv"), "event": 30, "n": 4}, {"text": held, "event": len(parts(held)[0]), "n": 2, "way": WAY}]
+    names = [(os.path.basename(one.name), "docs/TREE.md", "pictures") for one in schedules]
+    names += [("events", "docs/GUIDE.md", "pictures"), ("way", "README.md", "docs/pictures")]
+    for (name, document, folder), drawn in zip(names, in_page(body, asked)):
+        for theme, text in zip(("light", "dark"), drawn):
+            yield f"{name}-{theme}.svg", document, folder, text
+
+
+def check_pictures(built, schedules, draws):
+    """Sees that the documents have the pictures that the page draws, and docs/TREE.md each schedule's command line."""
+    for one in schedules:
         command = f"$ ./cubejobs {one.words} < examples/{one.name}.csv\n"
-        expect(command in told_of, f"docs/TREE.md: {command.strip()}")
-        expect(f"](pictures/{picture})" in told_of, f"docs/TREE.md: the picture of {one.name}")
-        file = f"{PICTURES}/{picture}"
+        expect(command in read("docs/TREE.md"), f"docs/TREE.md: {command.strip()}")
+    wanted = set()
+    for name, document, folder, text in pictures(built, schedules):
+        expect(f'="{folder}/{name}"' in read(document), f"{document}: the picture {name}")
+        file = f"{PICTURES}/{name}"
+        wanted.add(name)
         if draws:
-            write(file, told["picture"] + "\n")
-        stands = os.path.exists(path(file)) and read(file) == told["picture"] + "\n"
-        expect(stands, f"{file} is what the page saves: checks/run page --draw writes it")
+            write(file, text + "\n")
+        stands = os.path.exists(path(file)) and read(file) == text + "\n"
+        expect(stands, f"{file} is what the page draws: checks/run page --draw writes it")
+    expect(set(os.listdir(path(PICTURES))) == wanted, f"{PICTURES} has {sorted(set(os.listdir(path(PICTURES))) ^ wanted)} beside the page's pictures, or not")
 
 
 def main(words):
@@ -380,7 +409,7 @@ def main(words):
     check_paths(built)
     check_cards({**{one.name: one.text for one in schedules}, "place": place, "events": events}, draws)
     check_library(built, draws and "--module" in words)
-    check_pictures([one for one in schedules if one.event is not None], draws)
+    check_pictures(built, [one for one in schedules if one.event is not None], draws)
     browser = browser_here()
     if browser:
         failed.extend(page_browser.faults(browser, schedules, len(CARDS)))

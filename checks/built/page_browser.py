@@ -60,6 +60,10 @@ class Visit:
         self.is_same(self.text("name"), "A release that is overtaken", "the name of what a card opens")
         self.expect(self.text("count").startswith("Event 30 of"), "a card opens at its event")
         self.is_same(self.page.script("getComputedStyle(by('examples')).display"), "none", "the cards beside a drawing")
+        self.is_same(self.text("least"), "at least 2 by its rows, which do not say it", "what is said of the dimension")
+        self.open("example=8")
+        rest = "46 stations at rest: 0 to 31, 33 to 46"
+        self.expect(self.text("holding").endswith(rest), f"the stations at rest: {self.text('holding')}")
 
     def sizes(self, cards):
         for width, theme in SIZES:
