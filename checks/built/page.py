@@ -42,7 +42,7 @@ SCHEDULES = {
 # The cards of the page: the example, the event at which it opens, a title and what it shows.
 CARDS = (
     ("events", 30, "The jobs of a run", "24 jobs on 16 processors: which ran where, and when."),
-    ("place", 6, "Names that take subcubes", "Each take gets the first free block; one is refused."),
+    ("place", 6, "Names that take blocks", "Each take gets the first free block; one is refused."),
     ("schedules/overtaken-release", 30, "A release that is overtaken", "Two releases want to clear one node, and one leaves it."),
     ("schedules/roll-back", 8, "A take that is rolled back", "It finds an owner above its node, and undoes its claim."),
     ("schedules/three-marks", 34, "Marks of two stations", "Each may clear the root only if its own mark is the last."),

@@ -46,11 +46,11 @@ def wasm_module(name):
     """Builds a static library for WebAssembly with 64-bit memories, and returns the bytes of its module."""
     crate = crates()[name]
     build_below([crate], after_gate=True)
-    keeps = os.path.isdir(f"{crate.folder}/out/incremental")
+    kept = ["--incremental", "out/incremental"] if os.path.isdir(f"{crate.folder}/out/incremental") else []
     to = ["--target", "wasm64-unknown-unknown", "--toolchain", f"{kit().KIT}/toolchain", "-o"]
     with tempfile.TemporaryDirectory() as folder:
         archive, module = os.path.join(folder, "library.a"), os.path.join(folder, "library.wasm")
-        build = [kit().RATTLE, "build", *crate.words(["--jobs", "1"], keeps=keeps), *to, archive]
+        build = [kit().RATTLE, "build", *crate.words(["--jobs", "1"], keeps=False), *kept, *to, archive]
         link = [f"{kit().KIT}/bin/rattle-link", *to, module, archive]
         for words in (build, link):
             subprocess.run(words, cwd=crate.folder, stdin=subprocess.DEVNULL, capture_output=True, check=True)
