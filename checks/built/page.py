@@ -252,9 +252,12 @@ def check_rules(built, schedules):
     seen = in_page(SHOWN, [{"text": text} for text in FORGED])
     for (text, (row, why, red)), one in zip(FORGED.items(), seen):
         warning = one["shown"][-1]["warning"]
-        expect(one["wrong"]["row"] == row and f"Row {row}, " in warning and why in warning, f"{text!r}: {warning}")
+        named = (one["wrong"] or {}).get("row")
+        expect(named == row and f"Row {row}, " in warning and why in warning, f"{text!r}: {warning}")
         reds = re.findall(r'data-overlap="(\d+)"', one["drawing"])
         expect(reds == ([] if red is None else [str(red)]), f"{text!r}: in red are {reds}")
+    [cut] = in_page(SHOWN, [{"text": "station,event,node,word,note\n0,look,1,-,free\n"}])
+    expect({it["warning"] for it in cut["shown"]} == {"The file has no end rows: it may have been cut."}, "a file that was cut")
     return sum(length for length, _ in wrongs), len(forged)
 
 
