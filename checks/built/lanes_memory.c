@@ -145,7 +145,7 @@ static void expect_sizes(void) {
     const uint64_t capacity[] = {1, 1024, 16};
     unsigned i;
     for (i = 0; i < 3; i++) {
-        long most = lanes[i] * (440 + 64 * (long)capacity[i]) + workers[i] * (200 + 8 * (long)lanes[i]) + 600;
+        long most = lanes[i] * (960 + 64 * (long)capacity[i]) + workers[i] * (200 + 8 * (long)lanes[i]) + 600;
         left = 100000, bytes = 0;
         expect(!cubejobs_lanes_open(&owner, lanes[i], workers[i], capacity[i]), "open");
         expect(bytes <= most, "lanes take more memory than the header says");

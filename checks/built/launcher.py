@@ -44,7 +44,7 @@ REFUSED = {
     "": "no command is given", "walk --dim 3": "'walk' is no command", "RUN --dim 3": "'RUN' is no command",
     "run": "run needs --dim", "replay --stations 2": "replay needs --dim",
 }
-JUDGED = ("run --dim=3", "place x --dim 3", "run --help", "run --version", "place -V", "--version", "help run")
+JUDGED = ("run --dim=3", "place x --dim 3", "run --help", "run --version", "place -V", "--version", "help run", "check run", "messages")
 
 # The stand-in. `calls` has a line for each call; `plan` says what a build does, the last line for all further ones.
 RT = """#!/bin/sh

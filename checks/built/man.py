@@ -14,11 +14,17 @@ PAGE, MOST_COLUMNS = "docs/cubejobs.1", 80
 COMMAND = re.compile(r"^  (\w+) +\S.*$", re.M)
 
 
+def listed(text):
+    """Returns the commands that a help lists."""
+    return [name for name in COMMAND.findall(text.partition("Commands:\n")[2].partition("\n\n")[0]) if name != "help"]
+
+
 def helps(built):
     shown = {"": output([built, "--help"])}
-    listed = shown[""].partition("Commands:\n")[2].partition("\n\n")[0]
-    shown.update({name: output([built, name, "--help"]) for name in COMMAND.findall(listed) if name != "help"})
-    must(len(shown) >= 5, f"the help lists {len(shown) - 1} commands")
+    for name in listed(shown[""]):
+        shown[name] = output([built, name, "--help"])
+        shown.update({f"{name} {kind}": output([built, name, kind, "--help"]) for kind in listed(shown[name])})
+    must(len(shown) >= 10, f"the helps list {len(shown) - 1} commands")
     return shown
 
 
@@ -45,7 +51,7 @@ def page(built):
 
 def long_lines(built):
     for command in helps(built):
-        for words in ([command, "--help"], [command, "-h"]) if command else (["--help"], ["-h"]):
+        for words in ([*command.split(), "--help"], [*command.split(), "-h"]):
             for line in output([built, *words]).split("\n"):
                 if len(line) > MOST_COLUMNS:
                     yield f"{' '.join(words)}: {len(line)} columns: {line}"

@@ -4,8 +4,9 @@ For each input it runs the program once for each of its requests, with that one 
 two after it, and with all after it. The answer must be that of ample memory, or status 3 with OutOfMemory on standard
 error and at most the first lines of the output. A file that is named may be named there, and the output must be whole
 or as it was. A run in which a thread and all later ones cannot be started ends with that fault and no output. No run
-may hang. There must be a thread for each dispatcher, and as many that feed as there are lanes or, if fewer, processors.
-Where the second that feeds cannot start, the first must stop feeding at once. `checks/run memory FILE` tries FILE.
+may hang. There must be a thread for each dispatcher. For each four processors one more feeds the lanes, and there is at
+most one for each lane. Where the second that feeds cannot start, the first must stop feeding at once.
+`checks/run memory FILE` tries FILE.
 """
 import os
 import subprocess
@@ -17,7 +18,7 @@ from checks.lib.toolchain import program, shim
 
 # A run that takes longer, in seconds, hangs.
 SECONDS = 60
-PROCESSORS = len(os.sched_getaffinity(0))
+FEEDERS = max(len(os.sched_getaffinity(0)) // 4, 1)
 # How many jobs each of two long lanes has. The list of LONG replies takes at least REPLY_BYTES for each of them.
 LONG, REPLY_BYTES = 10_000, 16
 # How many requests are refused in a row: one alone; or three, and all from the first one on.
@@ -103,12 +104,12 @@ class Command:
         return [int(number) for number in read_bytes(self.path("count")).split()]
 
     def threads(self):
-        """Returns how many threads it starts: for each dispatcher, and for each open lane or processor, if fewer."""
+        """Returns how many threads it starts: for each dispatcher, and for each open lane or four processors, if fewer."""
         if self.words[1] not in ("run", "report"):
             return 0
         dispatchers = int(self.words[self.words.index("--dispatchers") + 1]) if "--dispatchers" in self.words else 2
         lanes = 1 + max(int(line.split(b",")[0]) for line in self.text.splitlines()[1:])
-        return dispatchers + min(lanes, PROCESSORS)
+        return dispatchers + min(lanes, FEEDERS)
 
 
 def refuse_each(built, shims, arguments, text, counts):
@@ -137,8 +138,8 @@ def must_stop_feeding(built, shims):
     """Tries two long lanes. A worker keeps its replies in a list that grows, so the bytes that a run asks for show how
     many jobs were answered: all where nothing is refused, none where the dispatcher is, and few where the second thread
     that feeds is. If the first thread went on, all jobs of its lane would be."""
-    if PROCESSORS < 2:
-        raise Skipped("on one processor one thread feeds, so a second one is not refused")
+    if FEEDERS < 2:
+        raise Skipped("with fewer than eight processors one thread feeds, so a second one is not refused")
     text, sizes = HEADER.encode() + LONG * b"0,allreduce,add,0,1\n1,allreduce,add,0,1\n", []
     with tempfile.TemporaryDirectory() as folder:
         command = Command(built, "run --dim 3 --dispatchers 1 --capacity 1", text, folder, shims)

@@ -69,14 +69,14 @@ QUOTES = {
     "atomic_file": ("cli_commands/src/files.rt#pub(crate) fn settle_output<",),
     "messages_csv": ("tool_commands/src/messages_command.rt#pub fn messages<",),
     "tool_args": ("tool_commands/src/check_command.rt#pub fn check<",),
+    "tool_commands": ("jobs_cli/src/main.rt#fn tool",),
     "wake_pool": ("wake_calls/src/steps.rt#pub fn rise<",),
     "wake_calls": ("wake_table/src/tests.rt#fn sleeps", "wake_table/src/tests.rt#fn wakes"),
     "wake_table": ("wake_table/src/tests.rt#fn a_sleeper_is_woken_for_a_job",),
 }
 # A library that nobody calls, and why.
 UNCALLED = {
-    "ghost_history": "it has no code that runs", "ghost_log": "its calls do nothing at run time",
-    "tool_commands": "the program does not call it yet"}
+    "ghost_history": "it has no code that runs", "ghost_log": "its calls do nothing at run time"}
 OPENING = re.compile(r"\A(//.*\n)+\n?")
 BLOCK = re.compile(r"((?<=```rust\n)|(?<=```antt\n)|(?<=```c\n)).*?(?=```\n)", re.DOTALL)
 NAMED = re.compile(r"`((?:crates|examples)/[^`\s]+)`")

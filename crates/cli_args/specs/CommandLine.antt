@@ -105,13 +105,20 @@ abbrev pub bare_program : Shape
 bare_program =
     record (new_app (codes "cubejobs")).top { subcommand_required = true; has_version = true }
 
--- The program as `clap` sees it: its four commands with their options.
+-- A program with the names of the commands `check` and `messages`. Both have command lines of their
+-- own, which are not read here.
+abbrev pub with_tools : App → App
+with_tools app =
+    with_subcommand (with_subcommand app (versioned_app (codes "check")).top)
+    (versioned_app (codes "messages")).top
+
+-- The program as `clap` sees it: its four commands with their options, and the names of two more.
 abbrev pub program_app : App
 program_app =
-    with_subcommand (with_subcommand (with_subcommand
+    with_tools (with_subcommand (with_subcommand (with_subcommand
     (with_subcommand (record { top = bare_program; subs = [] })
     (shop_app (codes "run")).top) (shop_app (codes "report")).top)
-    (command_app (codes "place")).top) (with_rule (command_app (codes "replay")) stations_rule).top
+    (command_app (codes "place")).top) (with_rule (command_app (codes "replay")) stations_rule).top)
 
 -- The option has this number, in digits, by the words or by its default.
 abbrev pub HasOptionValue : List Row → Text → ℕ → Type 0

@@ -2,7 +2,7 @@
 ghost use Rattle.std.specs.Prelude.{◌≡◌, ◌≤◌, false, IfOk, IfSome, List, Some, codes, map, option_map, string_bytes};
 ghost use Rattle.clap.specs.Words.{FailsBy, Row, app_of, fault_of, first_of, found_of, rows_of, rule_of, subcommand_rows_of, with_rule};
 ghost use Rattle.clap.specs.declared.builder.command.Command.TheViews.{out-Command};
-ghost use Rattle.cli_args.specs.CommandLine.{AreShopSizes, AsksFor, HasFileNames, HasFlag, HasOptionValue, HasOptionValues, HasShopOptions, IsWithinLimits, capacity_rule, command_app, command_of, dim_rule, dispatchers_rule, file_named, file_rule, output_rule, program_app, quiet_rule, shop_app, stations_rule, versioned_app};
+ghost use Rattle.cli_args.specs.CommandLine.{AreShopSizes, AsksFor, HasFileNames, HasFlag, HasOptionValue, HasOptionValues, HasShopOptions, IsWithinLimits, capacity_rule, command_app, command_of, dim_rule, dispatchers_rule, file_named, file_rule, output_rule, program_app, quiet_rule, shop_app, stations_rule, versioned_app, with_tools};
 ghost use Rattle.cli_args.specs.InnerCommands.{bare_app, shops_app};
 
 use crate::invocation::{FileNames, Invocation, Request, ShopOptions};
@@ -126,6 +126,14 @@ node whose word is not 0, and one with the number of these.
 
 Example: cubejobs replay --dim 2 --stations 3 schedule.csv";
 
+const ABOUT_CHECK: &str = "Lists all faults of an input";
+
+const AFTER_CHECK: &str = "cubejobs check --help describes this command.";
+
+const ABOUT_MESSAGES: &str = "Lists the messages of a collective";
+
+const AFTER_MESSAGES: &str = "cubejobs messages --help describes this command.";
+
 // How the records of a file are counted, at the end of each command's help.
 const RECORDS: &str = "Records:
   The header is record 0, and the next one is record 1. A blank line is no
@@ -135,8 +143,9 @@ const RECORDS: &str = "Records:
 
 // The memory that `run` and `report` need, and the faults of a file of jobs.
 const OF_JOBS: &str = "Memory:
-  All jobs and replies are kept until the last job is done. A job takes up to
-  180 bytes, and 8 for each processor of its subcube, or 16 in a scan.
+  All jobs and replies are kept until the last job is done. A job takes about
+  140 bytes, and 8 for each item if it has more than four. A scan takes another
+  16 bytes, and 8 for each item.
 
 Faults of the input:
   Fields         a record has too few or too many fields, or there is no header
@@ -438,6 +447,30 @@ fn with_shops<'a>(alloc: Global, limits: &'a Limits) -> Result<Command<'a>, Allo
     program.subcommand(report)
 }
 
+// Returns a command that has its own command line, under its name alone.
+fn tool<'a>(
+    alloc: Global,
+    name: &'a str,
+    about: &'a str,
+    after_help: &'a str,
+) -> Result<Command<'a>, AllocError>
+    ensures app { IfOk result (λ command. app_of command ≡ versioned_app name.entry.now) }
+    ensures local { IfOk result (λ command. (out-Command command).has_globals ≡ false) }
+{
+    let tool = versioned(alloc, name)?;
+    Ok(tool.about(about).after_help(after_help))
+}
+
+// Returns the program with the names of `check` and `messages`, which have their own command lines.
+fn with_tools<'a>(alloc: Global, program: Command<'a>) -> Result<Command<'a>, AllocError>
+    ensures { IfOk result (λ all. app_of all ≡ with_tools (app_of program.entry)) }
+{
+    let check = tool(alloc, "check", ABOUT_CHECK, AFTER_CHECK)?;
+    let with_check = program.subcommand(check)?;
+    let messages = tool(alloc, "messages", ABOUT_MESSAGES, AFTER_MESSAGES)?;
+    with_check.subcommand(messages)
+}
+
 // Returns the program with all its commands.
 fn program<'a>(alloc: Global, limits: &'a Limits) -> Result<Command<'a>, AllocError>
     ensures { IfOk result (λ program. app_of program ≡ program_app) }
@@ -453,7 +486,8 @@ fn program<'a>(alloc: Global, limits: &'a Limits) -> Result<Command<'a>, AllocEr
     )?;
     let program = shops.subcommand(place)?;
     let replay = replay_command(alloc, limits)?;
-    program.subcommand(replay)
+    let files = program.subcommand(replay)?;
+    with_tools(alloc, files)
 }
 
 // Returns the dimension that a command was given.

@@ -6,13 +6,16 @@
 //! standard input. It writes CSV to the file that `--output` names, whole or not at all, or to
 //! standard output.
 //!
+//! Two more commands run no job and write no file. `cubejobs check` lists the faults of an input,
+//! and `cubejobs messages` the messages of a collective.
+//!
 //! Jobs run on threads. `--dispatchers` sets the number of workers, and `--capacity` that of the
 //! jobs that may wait. If standard error is a terminal that can rewrite a line, it shows the
 //! progress of a long run, unless `--quiet` is given. If standard input is read and is a terminal,
 //! standard error says what is waited for.
 //!
-//! The whole program is `program::run` of `cli_commands`, over any words, files and streams. This
-//! file ties it to the process, which ends by `program::exit_code`.
+//! The whole program is `program::run` of `cli_commands`, and `check` and `messages` of
+//! `tool_commands`, over any words, files and streams. This file ties them to the process.
 #![tactic(auto)]
 
 use atomic_file::SystemFiles;
@@ -47,11 +50,49 @@ fn is_dumb(rt: &impl Env) -> bool {
     rt.var("TERM", &mut term).is_ok() && term == *b"dumb"
 }
 
+// Carries out `check` or `messages`, if the words name one of them.
+fn tool(rt: &HostRuntime, words: &[String]) -> Option<ExitCode> {
+    let (_program, words) = words.split_first()?;
+    let command = words.first()?;
+    if command.as_str() == "messages" {
+        let (mut writer, mut errors) = (Counted::new(rt.stdout()), rt.stderr());
+        let ending = tool_commands::messages(rt.alloc(), words, &mut writer, &mut errors);
+        return Some(tool_commands::exit_code(ending));
+    }
+    if command.as_str() != "check" {
+        return None;
+    }
+    let input = rt.stdin();
+    let prompt = if input.is_terminal() {
+        Some(rt.stderr())
+    } else {
+        None
+    };
+    let process_id = process::id(rt.process());
+    let store = SystemFiles { rt, process_id };
+    let mut console = tool_commands::ToolConsole {
+        reader: Counted::new(input),
+        writer: Counted::new(rt.stdout()),
+        errors: rt.stderr(),
+        prompt,
+    };
+    let ending = tool_commands::check(rt.alloc(), words, &store, &mut console);
+    // The store holds nothing that must be ended.
+    let SystemFiles {
+        rt: _,
+        process_id: _,
+    } = store;
+    Some(tool_commands::exit_code(ending))
+}
+
 fn main(rt: HostRuntime) -> ExitCode {
     let words = match words(&rt) {
         Ok(words) => words,
         Err(error) => return program::exit_code(report_words(&rt, &error)),
     };
+    if let Some(code) = tool(&rt, &words) {
+        return code;
+    }
     let input = rt.stdin();
     let prompt = if input.is_terminal() {
         Some(rt.stderr())

@@ -96,7 +96,7 @@ fn root_option<'a>(alloc: Global) -> Arg<'a>
     Arg::new(alloc, "root")
         .long("root")
         .value_name("R")
-        .help("Rank of the root, below 2^K; 0 for allreduce, scan and exscan")
+        .help("Rank of the root; 0 if there is none")
         .default_value("0")
         .value_parser(value_parser!(u64))
 }

@@ -1,0 +1,3 @@
+//! The tests. Expected values are worked out by hand.
+
+mod listings;
