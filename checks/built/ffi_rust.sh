@@ -2,7 +2,8 @@
 # Tests the Rust package over the libraries for C of a folder: `checks/run ffi_rust FOLDER`. Each warning of rustc,
 # clippy and rustdoc is an error. The tests, documents and examples are of FOLDER's libraries, and so is a program that
 # names the package by its path. `cargo package` and `cargo vendor` take the libraries of release/: what they make is
-# built with nothing of the repository beside it. A missing library, and a target that has none, are a sentence each.
+# built with nothing of the repository beside it. A missing library is a sentence. The form of plain Rust passes the same
+# tests and examples, also those of the pool, and asks for no library. A target that has none takes that form.
 set -eu
 lib=$(cd "$1" && pwd)
 cd "$(dirname "$0")/../../rust"
@@ -106,11 +107,29 @@ for name in $libraries; do
 done
 quiet rustc --edition 2021 build.rs -o "$work/script"
 for target in 'linux on aarch64' 'macos on x86_64'; do
-    refused "the libraries of cubejobs are for Linux on x86-64 only, not for $target" \
-        env CARGO_MANIFEST_DIR="$package" CARGO_CFG_TARGET_OS="${target% on *}" \
+    shows 'cargo::rerun-if-changed=build.rs' env CARGO_MANIFEST_DIR="$work/some" CARGO_CFG_TARGET_OS="${target% on *}" \
         CARGO_CFG_TARGET_ARCH="${target#* on }" "$work/script"
 done
-echo "ffi: a Rust program names the package by its path; a missing library or another target is one sentence"
+echo "ffi: a Rust program names the package by its path; a missing library is one sentence"
+
+# The folder of the libraries is empty here.
+mkdir "$work/empty_lib"
+export CUBEJOBS_LIB="$work/empty_lib"
+quiet cargo test --offline --features source
+for features in '' dispatch 'dispatch std' regions 'regions std' 'dispatch regions'; do
+    quiet cargo check --offline --no-default-features --features "source $features" --all-targets
+done
+if cargo clippy --version > "$work/log" 2>&1; then
+    quiet cargo clippy --offline --all-targets --features source
+fi
+quiet cargo doc --offline --no-deps --features source
+shows "$subcubes" cargo run --quiet --offline --features source --example subcubes
+shows "$groups" cargo run --quiet --offline --features source --example groups
+shows "$blocks" cargo run --quiet --offline --features source --example blocks
+shows "$jobs" cargo run --quiet --offline --features source --example jobs
+shows 55 cargo run --quiet --offline --features source --example park
+quiet cargo test --offline -p cubejobs-pool --features cubejobs/source
+echo "ffi: the form of plain Rust passes the tests, documents and examples of the Rust package and of the pool"
 
 # A package that could not be made leaves no build script that looks for the libraries in that package. Each of these
 # has a folder of its own: where both have one target folder, cargo takes a copy of the package for the package itself.
@@ -131,6 +150,8 @@ export CARGO_TARGET_DIR="$work/unpacked"
 shows "$subcubes" cargo run --quiet --offline --example subcubes
 shows "$groups" cargo run --quiet --offline --example groups
 shows "$jobs" cargo run --quiet --offline --example jobs
+rm -r lib
+shows "$jobs" cargo run --quiet --offline --features source --example jobs
 echo "ffi: the package that cargo makes is built on its own"
 
 command -v git > "$work/path" || { echo "ffi: no git here, so no vendored package"; exit 0; }

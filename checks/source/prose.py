@@ -13,11 +13,14 @@ import os
 import re
 
 from checks.lib.rattle_source import COMMENT_OF_ANTT, LITERAL, all_items, items_in, spaces
+from checks.lib import erase
 from checks.lib.repository import crate_names, files_below, path, place, read
 from checks.lib.rows import blind, print_faults
 
-MOST_IN_SENTENCE, MOST_COLUMNS, MOST_IN_CELL, MOST_IN_ALL = 25, 100, 60, 48000
+MOST_IN_SENTENCE, MOST_COLUMNS, MOST_IN_CELL, MOST_IN_ALL = 25, 100, 60, 48700
 GENERATED = ("docs/DEFINITIONS.md", "docs/THEOREM.md")
+# What is made from sources that are read themselves.
+ERASED = tuple(f"rust/src/source/{it}/" for it in erase.CRATES)
 # The most words of each document, and of the pages on calling together.
 PAGES = "crates/*/CALLING.md"
 BUDGET = {
@@ -27,7 +30,7 @@ BUDGET = {
     "docs/ARCHITECTURE.md": 2400, "docs/ADDING.md": 1020, "docs/DECISIONS.md": 6000, "docs/PROVING.md": 4000,
     "docs/PERFORMANCE.md": 2650, "docs/GUIDE.md": 1800, "docs/C.md": 2250, "docs/RUST.md": 1050,
     "docs/COMPARED.md": 1200, "docs/GLOSSARY.md": 1750, "docs/TREE.md": 900, "docs/LANES.md": 700,
-    "docs/MACHINES.md": 900, PAGES: 6000,
+    "docs/MACHINES.md": 900, "docs/SOURCE.md": 700, PAGES: 6000,
 }
 # Words that are not written, and what to say.
 BANNED = {
@@ -158,8 +161,9 @@ def documents():
 
 def sources():
     folders = [f"crates/{crate}/{part}" for crate in crate_names() for part in ("src", "specs", "proofs")]
-    return [place(it) for folder in [*folders, "include", "rust/src"] for it in
-            files_below(folder, ".rt", ".antt", ".h", ".rs")]
+    found = [place(it) for folder in [*folders, "include", "rust/src"] for it in
+             files_below(folder, ".rt", ".antt", ".h", ".rs")]
+    return [it for it in found if not it.startswith(ERASED)]
 
 
 def words_of(text):

@@ -264,7 +264,9 @@ impl<P: Payload> Dispatcher<P> {
         let sizes = ffi::Sizes { lanes, workers, capacity };
         let open = |owner: &mut _| ffi::cubejobs_dispatch_open_version(owner, ffi::VERSION, dim, sizes);
         match Room::open(sizes, open) {
-            Ok(room) => Shared::new(room).map(|room| Dispatcher { room }).ok_or(OpenError::OutOfMemory),
+            Ok(room) => {
+                Shared::try_new(room).map(|room| Dispatcher { room }).map_err(|_| OpenError::OutOfMemory)
+            }
             Err(ffi::BAD_DIMENSION) => Err(OpenError::BadDimension),
             Err(ffi::BAD_SIZES) => Err(OpenError::BadSizes),
             Err(ffi::OUT_OF_MEMORY) => Err(OpenError::OutOfMemory),

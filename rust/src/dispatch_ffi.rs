@@ -183,6 +183,11 @@ unsafe extern "C" {
     pub safe fn cubejobs_lanes_finish(owner: &mut Lanes) -> Numbered;
     pub safe fn cubejobs_lanes_rest(owner: &mut Lanes) -> Job;
     pub safe fn cubejobs_lanes_free(owner: &mut Lanes) -> u32;
+    pub safe fn cubejobs_lanes_share(lane: &mut OneLane, shared: &mut SharedLane) -> u32;
+    pub safe fn cubejobs_lanes_share_again(one: &mut SharedLane, other: &mut SharedLane) -> u32;
+    pub safe fn cubejobs_lanes_submit_shared(lane: &mut SharedLane, payload: u64, dim: u32) -> Submitted;
+    pub safe fn cubejobs_lanes_wake_shared(lane: &mut SharedLane) -> Numbered;
+    pub safe fn cubejobs_lanes_free_shared(lane: &mut SharedLane) -> u32;
     pub safe fn cubejobs_dispatch_open_version(
         owner: &mut Dispatch,
         version: u32,

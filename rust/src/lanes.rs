@@ -295,7 +295,7 @@ impl<P: Payload> Lanes<P> {
         let sizes = ffi::Sizes { lanes, workers, capacity };
         let open = |owner: &mut _| ffi::cubejobs_lanes_open_version(owner, ffi::VERSION, sizes);
         match Room::open(sizes, open) {
-            Ok(room) => Shared::new(room).map(|room| Lanes { room }).ok_or(OpenError::OutOfMemory),
+            Ok(room) => Shared::try_new(room).map(|room| Lanes { room }).map_err(|_| OpenError::OutOfMemory),
             Err(code) => Err(OpenError::of(code)),
         }
     }

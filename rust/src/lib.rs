@@ -45,11 +45,23 @@ extern crate std;
 #[cfg(feature = "dispatch")]
 pub mod dispatch;
 #[cfg(feature = "dispatch")]
+#[cfg_attr(
+    any(feature = "source", not(all(target_arch = "x86_64", target_os = "linux"))),
+    path = "over/dispatch_ffi.rs"
+)]
 mod dispatch_ffi;
 #[cfg(all(any(feature = "dispatch", feature = "regions"), feature = "std"))]
 mod event;
+#[cfg_attr(
+    any(feature = "source", not(all(target_arch = "x86_64", target_os = "linux"))),
+    path = "over/ffi.rs"
+)]
 mod ffi;
 pub mod fit;
+#[cfg_attr(
+    any(feature = "source", not(all(target_arch = "x86_64", target_os = "linux"))),
+    path = "over/fit_ffi.rs"
+)]
 mod fit_ffi;
 #[cfg(all(doctest, feature = "dispatch"))]
 mod forbidden;
@@ -66,15 +78,26 @@ mod place;
 #[cfg(feature = "regions")]
 pub mod regions;
 #[cfg(feature = "regions")]
+#[cfg_attr(
+    any(feature = "source", not(all(target_arch = "x86_64", target_os = "linux"))),
+    path = "over/regions_ffi.rs"
+)]
 mod regions_ffi;
 #[cfg(feature = "dispatch")]
 mod room;
 pub mod rounds;
+#[cfg_attr(
+    any(feature = "source", not(all(target_arch = "x86_64", target_os = "linux"))),
+    path = "over/rounds_ffi.rs"
+)]
 mod rounds_ffi;
-#[cfg(feature = "dispatch")]
+#[cfg(any(feature = "dispatch", feature = "regions"))]
 mod shared;
 #[cfg(feature = "dispatch")]
 mod sharing;
+#[cfg(any(feature = "source", not(all(target_arch = "x86_64", target_os = "linux"))))]
+#[rustfmt::skip]
+mod source;
 
 use core::error::Error;
 use core::fmt;

@@ -1,21 +1,15 @@
 //! Lanes that several producers share.
 
-use crate::dispatch_ffi::{self as ffi, Handle, OneLane, Plain, SharedLane as Sharer};
-use crate::dispatch_ffi::{Numbered, Submitted};
+use crate::dispatch_ffi::{self as ffi, Handle, Plain};
+use crate::dispatch_ffi::{
+    cubejobs_lanes_free_shared, cubejobs_lanes_share, cubejobs_lanes_share_again,
+    cubejobs_lanes_submit_shared, cubejobs_lanes_wake_shared,
+};
 use crate::lanes::{Accepted, DealError, Lane, Payload, Refused, SubmitError};
 use crate::room::Room;
 use crate::shared::Shared;
 use core::error::Error;
 use core::fmt;
-
-// SAFETY: as for the other functions of the library in `dispatch_ffi`.
-unsafe extern "C" {
-    safe fn cubejobs_lanes_share(lane: &mut OneLane, shared: &mut Sharer) -> u32;
-    safe fn cubejobs_lanes_share_again(one: &mut Sharer, other: &mut Sharer) -> u32;
-    safe fn cubejobs_lanes_submit_shared(lane: &mut Sharer, payload: u64, dim: u32) -> Submitted;
-    safe fn cubejobs_lanes_wake_shared(lane: &mut Sharer) -> Numbered;
-    safe fn cubejobs_lanes_free_shared(lane: &mut Sharer) -> u32;
-}
 
 /// The handle of one of several producers that share a lane. See [`Lane::into_shared`].
 #[must_use = "the last one that is dropped gives the lane back"]

@@ -1,7 +1,9 @@
 //! Workers that keep a job, over a library whose answers come in scripted orders. Each order is one
 //! in which a worker sleeps for ever if another one does not wake it after its call.
 //!
-//! This program defines the functions of the library, so that it is not linked.
+//! This program defines the functions of the library, so that it is not linked. The form of plain
+//! Rust calls no such function, so it has no part here.
+#![cfg(all(target_arch = "x86_64", target_os = "linux", not(feature = "source")))]
 
 use cubejobs::dispatch::{Dispatcher, NextError, Sizes, Worker};
 use std::sync::mpsc::channel;

@@ -1,0 +1,549 @@
+//! Makes the same random calls of the archives and of the erased sources, in one process, and compares all answers:
+//! `beside CALLS` makes that many of each library. Bad arguments, shut handles and handles of other machines are among
+//! them. A difference is a panic that shows both answers.
+#![allow(dead_code)]
+
+extern crate alloc;
+
+#[path = "../../rust/src/dispatch_ffi.rs"]
+mod dispatch_ffi;
+#[path = "../../rust/src/ffi.rs"]
+mod ffi;
+#[path = "../../rust/src/fit_ffi.rs"]
+mod fit_ffi;
+#[path = "../../rust/src/place.rs"]
+mod place;
+#[path = "../../rust/src/regions_ffi.rs"]
+mod regions_ffi;
+#[path = "../../rust/src/rounds_ffi.rs"]
+mod rounds_ffi;
+#[path = "../../rust/src/shared.rs"]
+mod shared;
+#[path = "../../rust/src/source/mod.rs"]
+#[rustfmt::skip]
+mod source;
+
+use source::kit::alloc::Global;
+use source::kit::opaque::Opaque;
+use source::{
+    cubejobs_c as exact, cubejobs_dispatch as jobs, cubejobs_regions as blocks, cubejobs_rounds as rounds,
+};
+
+/// Random numbers, by splitmix64.
+struct Dice(u64);
+
+impl Dice {
+    fn next(&mut self) -> u64 {
+        self.0 = self.0.wrapping_add(0x9e37_79b9_7f4a_7c15);
+        let mixed = (self.0 ^ self.0 >> 30).wrapping_mul(0xbf58_476d_1ce4_e5b9);
+        let mixed = (mixed ^ mixed >> 27).wrapping_mul(0x94d0_49bb_1331_11eb);
+        mixed ^ mixed >> 31
+    }
+
+    /// Returns a number below a limit.
+    fn below(&mut self, limit: u64) -> u64 {
+        self.next() % limit
+    }
+
+    fn small(&mut self, limit: u32) -> u32 {
+        self.below(limit.into()) as u32
+    }
+
+    fn place(&mut self, limit: usize) -> usize {
+        self.below(limit as u64) as usize
+    }
+}
+
+/// Compares fields of two answers, or two numbers. Returns the first field, or the number.
+macro_rules! same {
+    ($what:expr, $one:expr, $other:expr) => {{
+        let (one, other) = ($one, $other);
+        assert_eq!(one, other, "{}: the archive, and the source", $what);
+        one
+    }};
+    ($what:expr, $one:expr, $other:expr, $first:ident $(, $field:ident)*) => {{
+        let (one, other) = ($one, $other);
+        assert_eq!((one.$first, $(one.$field),*), (other.$first, $(other.$field),*),
+            "{}: the archive, and the source", $what);
+        one.$first
+    }};
+}
+
+/// Calls the exact allocator.
+fn call_exact(dice: &mut Dice, calls: u64) {
+    let mut done = 0;
+    while done < calls {
+        let n = dice.small(15);
+        let mut one = ffi::open(n);
+        let nothing = exact::Slot { base: 0, dim: 0, held: false };
+        let (bits, slots) = ([false; 1 << ffi::MAX_DIM], [nothing; ffi::MAX_STATIONS]);
+        let mut other = exact::Machine { dim: 0, bits, slots };
+        let code = exact::cubejobs_open_sized(&mut other, exact::MACHINE_BYTES, n);
+        assert_eq!(one.is_some(), code == ffi::DONE, "an open of dimension {n}");
+        done += 1;
+        let Some(one) = &mut one else { continue };
+        for _ in 0..dice.below(4000) {
+            exact_call(dice, n, one, &mut other);
+            done += 1;
+        }
+    }
+}
+
+fn exact_call(dice: &mut Dice, n: u32, one: &mut ffi::Machine, other: &mut exact::Machine) {
+    let (station, k) = (dice.small(50), dice.small(n + 2));
+    let base = dice.below(1 << n) >> k.min(n) << k.min(n) | u64::from(dice.below(8) == 0);
+    match dice.below(10) {
+        0..=2 => {
+            same!("take", one.take(station, k), exact::cubejobs_take(other, station, k), code, dim, base)
+        }
+        3 => same!("take_any", one.take_any(k), exact::cubejobs_take_any(other, k), code, station, dim, base),
+        4 => {
+            let answer = exact::cubejobs_take_region(other, station, base, k);
+            same!("take_region", one.take_region(station, base, k), answer, code, dim, base)
+        }
+        5 => same!("region", one.region(station), exact::cubejobs_region(other, station), code, dim, base),
+        6 => same!("free_regions", one.free_regions(k), exact::cubejobs_free_regions(other, k)) as u32,
+        7 => same!("holder", one.holder(base), exact::cubejobs_holder(other, base), station, found),
+        8 => same!("is_wholly_free", one.is_wholly_free(), exact::cubejobs_is_wholly_free(other)).into(),
+        _ => same!("release", one.release(station), exact::cubejobs_release(other, station), code, dim, base),
+    };
+}
+
+/// Calls first fit over bits of the caller.
+fn call_fit(dice: &mut Dice, calls: u64) {
+    let mut done = 0;
+    while done < calls {
+        let n = dice.small(12);
+        let mut one = vec![false; (1 << n) + dice.place(3)];
+        let mut bytes = vec![7; one.len()];
+        let opened = exact::cubejobs_bits_open(&mut bytes, n);
+        same!("bits_open", fit_ffi::open(&mut one, n), opened);
+        let mut other: Vec<bool> = bytes.iter().take(1 << n).map(|byte| *byte != 0).collect();
+        other.resize(one.len(), false);
+        for _ in 0..dice.below(2000) {
+            fit_call(dice, n, &mut one, &mut other);
+            assert!(done % 64 != 0 || one == other, "the bits differ");
+            done += 1;
+        }
+    }
+}
+
+fn fit_call(dice: &mut Dice, n: u32, one: &mut [bool], other: &mut [bool]) {
+    // Sometimes a dimension that is too large, for the bits or for any machine.
+    let n = if dice.below(50) == 0 { n + 3 + dice.small(12) } else { n };
+    let k = dice.small(n.min(12) + 2);
+    let base = dice.below(1 << n.min(12)) >> k << k | u64::from(dice.below(16) == 0);
+    match dice.below(8) {
+        0..=2 => same!(
+            "bits_take",
+            fit_ffi::take(one, n, k),
+            exact::cubejobs_bits_take(other, n, k),
+            code,
+            dim,
+            base
+        ),
+        3 => {
+            let answer = exact::cubejobs_bits_take_region(other, n, base, k);
+            same!("bits_take_region", fit_ffi::take_region(one, n, base, k), answer, code, dim, base)
+        }
+        4 => {
+            let is_free = exact::cubejobs_bits_is_free(other, n, base, k);
+            same!("bits_is_free", fit_ffi::is_free(one, n, base, k), is_free).into()
+        }
+        5 => {
+            let free = exact::cubejobs_bits_free_regions(other, n, k);
+            same!("bits_free_regions", fit_ffi::free_regions(one, n, k), free) as u32
+        }
+        6 => same!(
+            "bits_largest",
+            fit_ffi::largest(one, n),
+            exact::cubejobs_bits_largest(other, n),
+            code,
+            dim,
+            base
+        ),
+        _ => {
+            let code = exact::cubejobs_bits_release(other, n, base, k);
+            same!("bits_release", fit_ffi::release(one, n, base, k), code)
+        }
+    };
+}
+
+/// Calls the rounds.
+fn call_rounds(dice: &mut Dice, calls: u64) {
+    for _ in 0..calls {
+        let (shape, k) = (dice.small(5), dice.small(35));
+        let ranks = 1_u64 << k.min(40);
+        let (root, rank) = (dice.below(ranks + 1), dice.below(ranks + 1));
+        let (number, round) = (dice.below(k as u64 * ranks + 2), dice.small(36));
+        same!(
+            "count",
+            rounds_ffi::count(shape, k),
+            rounds::cubejobs_message_count(shape, k),
+            code,
+            rounds,
+            messages
+        );
+        let (one, other) =
+            (rounds_ffi::message(shape, k, root, number), rounds::cubejobs_message(shape, k, root, number));
+        same!("message", one, other, code, round, from, to);
+        let (one, other) = (
+            rounds_ffi::step(shape, k, root, rank, round),
+            rounds::cubejobs_step(shape, k, root, rank, round),
+        );
+        same!("step", one, other, code, to, from);
+    }
+}
+
+const MACHINES: usize = 2;
+const THREADS: usize = 3;
+const BLOCKS: usize = 40;
+
+/// Handles of both forms, of machines and of blocks.
+struct Regions {
+    one: Vec<regions_ffi::Handle>,
+    other: Vec<blocks::Handle>,
+    held: Vec<regions_ffi::BlockHandle>,
+    other_held: Vec<blocks::BlockHandle>,
+}
+
+impl Regions {
+    fn new() -> Self {
+        let seat = || blocks::hidden_seat::HiddenSeat {};
+        let shut = || blocks::Handle { tag: 0, ptr: Opaque::nothing(Global), seat: seat() };
+        Regions {
+            one: (0..MACHINES * THREADS).map(|_| regions_ffi::Handle::SHUT).collect(),
+            other: (0..MACHINES * THREADS).map(|_| shut()).collect(),
+            held: (0..BLOCKS).map(|_| regions_ffi::BlockHandle::EMPTY).collect(),
+            other_held: (0..BLOCKS)
+                .map(|_| blocks::BlockHandle { tag: 0, machine: 0, seat: seat() })
+                .collect(),
+        }
+    }
+
+    fn open(&mut self, at: usize, dim: u32, number: u64) {
+        let code = blocks::cubejobs_regions_open_version(&mut self.other[at], blocks::VERSION, dim, number);
+        same!("open", regions_ffi::open(&mut self.one[at], dim), code);
+    }
+
+    /// Makes one of the calls with a block, by a thread's handle of a machine.
+    fn call(&mut self, dice: &mut Dice, at: usize, n: u32) {
+        let (i, k) = (dice.place(BLOCKS), dice.small(n + 2));
+        let base = dice.below(1 << n) >> k.min(n) << k.min(n) | u64::from(dice.below(8) == 0);
+        let (one, other) = (&mut self.one[at], &mut self.other[at]);
+        let (block, its) = (&mut self.held[i], &mut self.other_held[i]);
+        let (what, a, b) = match dice.below(10) {
+            0..=2 => ("take", regions_ffi::take(one, block, k), blocks::cubejobs_regions_take(other, its, k)),
+            3 => (
+                "exact",
+                regions_ffi::take_exact(one, block, k),
+                blocks::cubejobs_regions_take_exact(other, its, k),
+            ),
+            4 => {
+                let answer = blocks::cubejobs_regions_take_at(other, its, base, k);
+                ("take_at", regions_ffi::take_at(one, block, base, k), answer)
+            }
+            5 => ("block", regions_ffi::block(block), blocks::cubejobs_regions_block(its)),
+            _ => {
+                let code = blocks::cubejobs_regions_release(other, its);
+                same!("release", regions_ffi::release(one, block), code);
+                return;
+            }
+        };
+        assert_eq!(
+            (a.code(), a.dim(), a.contended, a.base),
+            (b.code.into(), b.dim.into(), b.contended, b.base),
+            "{what}: the archive, and the source"
+        );
+    }
+
+    fn halves(&mut self, dice: &mut Dice, at: usize) {
+        let (i, j) = (dice.place(BLOCKS - 1), BLOCKS - 1);
+        let (one, other) = (&mut self.one[at], &mut self.other[at]);
+        let [(left, right), ..] = [self.held.split_at_mut(j)];
+        let [(its_left, its_right), ..] = [self.other_held.split_at_mut(j)];
+        let (block, half, its, its_half) = (&mut left[i], &mut right[0], &mut its_left[i], &mut its_right[0]);
+        let code = blocks::cubejobs_regions_split(other, its, its_half);
+        same!("split", regions_ffi::split(one, block, half), code);
+        // Sometimes the half of another block, or none.
+        if dice.below(3) == 0 {
+            let i = dice.place(j);
+            let code = blocks::cubejobs_regions_join(other, &mut its_left[i], its_half);
+            same!("join", regions_ffi::join(one, &mut left[i], half), code);
+        } else {
+            let code = blocks::cubejobs_regions_join(other, its, its_half);
+            same!("join", regions_ffi::join(one, block, half), code);
+        }
+        let code = blocks::cubejobs_regions_release(other, its_half);
+        same!("release", regions_ffi::release(one, half), code);
+    }
+
+    fn look(&mut self, at: usize) {
+        let (one, other) = (&mut self.one[at], &mut self.other[at]);
+        let (one, other) = (regions_ffi::occupancy(one), blocks::cubejobs_regions_occupancy(other));
+        same!("occupancy", one, other, code, largest, has_free, held, free);
+    }
+
+    fn free(&mut self, at: usize) {
+        let code = blocks::cubejobs_regions_free(&mut self.other[at]);
+        same!("free", regions_ffi::free(&mut self.one[at]), code);
+    }
+
+    /// Gives the handles after the first of a machine.
+    fn share(&mut self, first: usize) {
+        for at in first + 1..first + THREADS {
+            let (left, right) = self.one.split_at_mut(at);
+            let (its_left, its_right) = self.other.split_at_mut(at);
+            let code = blocks::cubejobs_regions_share(&mut its_left[first], &mut its_right[0]);
+            same!("share", regions_ffi::share(&mut left[first], &mut right[0]), code);
+        }
+    }
+}
+
+/// Calls the lock-free allocator, with two machines of three handles each.
+fn call_regions(dice: &mut Dice, calls: u64) {
+    let (mut done, mut number) = (0, 0);
+    while done < calls {
+        let (mut regions, dims) = (Regions::new(), [dice.small(14), dice.small(21)]);
+        for (machine, dim) in dims.into_iter().enumerate() {
+            number += 1;
+            regions.open(THREADS * machine, dim, number);
+            regions.share(THREADS * machine);
+        }
+        for _ in 0..dice.below(6000) {
+            let at = dice.place(MACHINES * THREADS);
+            match dice.below(400) {
+                0 => regions.look(at),
+                1 => regions.free(at),
+                2 => regions.share(at / THREADS * THREADS),
+                3..=60 => regions.halves(dice, at),
+                _ => regions.call(dice, at, dims[at / THREADS]),
+            }
+            done += 1;
+        }
+        (0..MACHINES * THREADS).rev().for_each(|at| regions.free(at));
+    }
+}
+
+const SIDES: usize = 4;
+
+/// The handles of lanes or of a dispatcher, in both forms.
+struct Sides<O, L, W> {
+    owner: O,
+    lanes: Vec<L>,
+    workers: Vec<W>,
+    other: jobs::Handle,
+    other_lanes: Vec<jobs::Handle>,
+    other_workers: Vec<jobs::Handle>,
+}
+
+fn shut() -> jobs::Handle {
+    jobs::Handle { tag: 0, ptr: Opaque::nothing(Global) }
+}
+
+impl<O, L, W> Sides<O, L, W> {
+    fn new(owner: O, lane: fn() -> L, worker: fn() -> W) -> Self {
+        Sides {
+            owner,
+            lanes: (0..SIDES).map(|_| lane()).collect(),
+            workers: (0..SIDES).map(|_| worker()).collect(),
+            other: shut(),
+            other_lanes: (0..SIDES).map(|_| shut()).collect(),
+            other_workers: (0..SIDES).map(|_| shut()).collect(),
+        }
+    }
+}
+
+/// Makes a call of both forms: `call!(name (handle, its), ..; numbers => fields)`.
+macro_rules! call {
+    ($name:ident $(($one:expr, $other:expr)),+; $($number:expr),* $(=> $($field:ident),+)?) => {
+        same!(stringify!($name), dispatch_ffi::$name($(&mut $one,)+ $($number),*),
+            jobs::$name($(&mut $other,)+ $($number),*) $(, $($field),+)?)
+    };
+}
+
+fn sizes_of(dice: &mut Dice) -> (dispatch_ffi::Sizes, jobs::LaneSizes) {
+    let (lanes, workers, capacity) =
+        (dice.small(6), dice.small(6), dice.below(9) + 1024 * (dice.below(30) / 29));
+    (dispatch_ffi::Sizes { lanes, workers, capacity }, jobs::LaneSizes { lanes, workers, capacity })
+}
+
+/// Compares a wake, whose answers have other names.
+fn same_wake(one: dispatch_ffi::Numbered, other: jobs::WakeAnswer) {
+    assert_eq!((one.code, one.number), (other.code, other.worker), "wake: the archive, and the source");
+}
+
+type Lanes = Sides<dispatch_ffi::Lanes, dispatch_ffi::OneLane, dispatch_ffi::OneWorker>;
+type Shop = Sides<dispatch_ffi::Dispatch, dispatch_ffi::ShopLane, dispatch_ffi::ShopWorker>;
+
+/// Calls the lanes.
+fn call_lanes(dice: &mut Dice, calls: u64) {
+    let mut done = 0;
+    while done < calls {
+        let shut_one = dispatch_ffi::Lanes::SHUT;
+        let mut it = Lanes::new(shut_one, || dispatch_ffi::OneLane::SHUT, || dispatch_ffi::OneWorker::SHUT);
+        let mut shares = [dispatch_ffi::SharedLane::SHUT, dispatch_ffi::SharedLane::SHUT];
+        let mut its_shares = [shut(), shut()];
+        let (one, other) = sizes_of(dice);
+        let opened = jobs::cubejobs_lanes_open_version(&mut it.other, jobs::VERSION, other);
+        same!("open", dispatch_ffi::cubejobs_lanes_open_version(&mut it.owner, jobs::VERSION, one), opened);
+        for _ in 0..dice.below(5000) {
+            if dice.below(8) == 0 {
+                share_call(dice, &mut it, &mut shares, &mut its_shares);
+            } else {
+                lanes_call(dice, &mut it);
+            }
+            done += 1;
+        }
+        for at in 0..2 {
+            call!(cubejobs_lanes_free_shared (shares[at], its_shares[at]););
+        }
+        end_lanes(&mut it);
+        done += 1;
+    }
+}
+
+fn share_call(
+    dice: &mut Dice,
+    it: &mut Lanes,
+    [one, two]: &mut [dispatch_ffi::SharedLane; 2],
+    [its, second]: &mut [jobs::Handle; 2],
+) {
+    let (i, dim) = (dice.place(SIDES), dice.small(9));
+    match dice.below(12) {
+        0 => call!(cubejobs_lanes_share (it.lanes[i], it.other_lanes[i]), (*one, *its);),
+        1 => call!(cubejobs_lanes_share_again (*one, *its), (*two, *second);),
+        2..=5 => call!(cubejobs_lanes_submit_shared (*one, *its); i as u64, dim => code, seq),
+        6..=8 => call!(cubejobs_lanes_submit_shared (*two, *second); i as u64, dim => code, seq),
+        9 => {
+            let other = jobs::cubejobs_lanes_wake_shared(its);
+            same_wake(dispatch_ffi::cubejobs_lanes_wake_shared(one), other);
+            0
+        }
+        10 => call!(cubejobs_lanes_free_shared (*two, *second);),
+        _ => call!(cubejobs_lanes_free_shared (*one, *its);),
+    };
+}
+
+fn lanes_call(dice: &mut Dice, it: &mut Lanes) {
+    let (i, from, dim) = (dice.place(SIDES), dice.small(6), dice.small(70));
+    let payload = dice.next();
+    match dice.below(40) {
+        0 => call!(cubejobs_lanes_lane (it.owner, it.other), (it.lanes[i], it.other_lanes[i]);),
+        1 => call!(cubejobs_lanes_worker (it.owner, it.other), (it.workers[i], it.other_workers[i]);),
+        2 => call!(cubejobs_lanes_worker_number (it.workers[i], it.other_workers[i]); => code, number),
+        3..=16 => call!(cubejobs_lanes_submit (it.lanes[i], it.other_lanes[i]); payload, dim => code, seq),
+        17..=18 => {
+            let other = jobs::cubejobs_lanes_wake(&mut it.other_lanes[i]);
+            same_wake(dispatch_ffi::cubejobs_lanes_wake(&mut it.lanes[i]), other);
+            0
+        }
+        19..=24 => call!(cubejobs_lanes_take (it.workers[i], it.other_workers[i]); from
+            => code, lane, dim, seq, payload, left),
+        25..=27 => call!(cubejobs_lanes_take_any (it.workers[i], it.other_workers[i]); from
+            => code, lane, dim, seq, payload, left),
+        28 => call!(cubejobs_lanes_look (it.workers[i], it.other_workers[i]); from => code, jobs),
+        29..=34 => call!(cubejobs_lanes_find (it.workers[i], it.other_workers[i]); from
+            => code, lane, dim, woken, seq, payload, left),
+        35 => call!(cubejobs_lanes_awake (it.workers[i], it.other_workers[i]);),
+        36 => call!(cubejobs_lanes_free_lane (it.lanes[i], it.other_lanes[i]);),
+        37 => call!(cubejobs_lanes_free_worker (it.workers[i], it.other_workers[i]);),
+        38 if dice.below(90) == 0 => call!(cubejobs_lanes_close (it.owner, it.other); => code, accepted),
+        39 if dice.below(90) == 0 => call!(cubejobs_lanes_finish (it.owner, it.other); => code, number),
+        _ => call!(cubejobs_lanes_rest (it.owner, it.other); => code, lane, dim, seq, payload, left),
+    };
+}
+
+/// Ends lanes as far as they can be ended.
+fn end_lanes(it: &mut Lanes) {
+    for at in 0..SIDES {
+        call!(cubejobs_lanes_free_lane (it.lanes[at], it.other_lanes[at]););
+        call!(cubejobs_lanes_free_worker (it.workers[at], it.other_workers[at]););
+    }
+    call!(cubejobs_lanes_close (it.owner, it.other); => code, accepted);
+    call!(cubejobs_lanes_finish (it.owner, it.other); => code, number);
+    let mut code = jobs::DONE;
+    while code == jobs::DONE {
+        code = call!(cubejobs_lanes_rest (it.owner, it.other); => code, lane, dim, seq, payload, left);
+    }
+    call!(cubejobs_lanes_free (it.owner, it.other););
+}
+
+/// Calls the dispatcher.
+fn call_shop(dice: &mut Dice, calls: u64) {
+    let mut done = 0;
+    while done < calls {
+        let shut_one = dispatch_ffi::Dispatch::SHUT;
+        let mut it = Shop::new(shut_one, || dispatch_ffi::ShopLane::SHUT, || dispatch_ffi::ShopWorker::SHUT);
+        let (n, (one, other)) = (dice.small(12) + 30 * (dice.small(30) / 29), sizes_of(dice));
+        let opened = jobs::cubejobs_dispatch_open_version(&mut it.other, jobs::VERSION, n, other);
+        same!(
+            "open",
+            dispatch_ffi::cubejobs_dispatch_open_version(&mut it.owner, jobs::VERSION, n, one),
+            opened
+        );
+        for _ in 0..dice.below(5000) {
+            shop_call(dice, &mut it, n);
+            done += 1;
+        }
+        end_shop(&mut it);
+        done += 1;
+    }
+}
+
+fn shop_call(dice: &mut Dice, it: &mut Shop, n: u32) {
+    let (i, dim) = (dice.place(SIDES), dice.small(n + 2));
+    let payload = dice.next();
+    match dice.below(40) {
+        0 => call!(cubejobs_dispatch_lane (it.owner, it.other), (it.lanes[i], it.other_lanes[i]);),
+        1 => call!(cubejobs_dispatch_worker (it.owner, it.other), (it.workers[i], it.other_workers[i]);),
+        2 => call!(cubejobs_dispatch_worker_number (it.workers[i], it.other_workers[i]); => code, number),
+        3..=14 => call!(cubejobs_dispatch_submit (it.lanes[i], it.other_lanes[i]); payload, dim => code, seq),
+        15..=16 => {
+            let other = jobs::cubejobs_dispatch_wake(&mut it.other_lanes[i]);
+            same_wake(dispatch_ffi::cubejobs_dispatch_wake(&mut it.lanes[i]), other);
+            0
+        }
+        17..=22 => call!(cubejobs_dispatch_next (it.workers[i], it.other_workers[i]);
+            => code, lane, dim, base, seq, payload),
+        23..=27 => call!(cubejobs_dispatch_find (it.workers[i], it.other_workers[i]);
+            => code, lane, dim, woken, base, seq, payload),
+        28 => call!(cubejobs_dispatch_awake (it.workers[i], it.other_workers[i]);),
+        29..=34 => call!(cubejobs_dispatch_done (it.workers[i], it.other_workers[i]);),
+        35 => call!(cubejobs_dispatch_give_back (it.workers[i], it.other_workers[i]);
+            => code, lane, dim, base, seq, payload),
+        36 => call!(cubejobs_dispatch_free_lane (it.lanes[i], it.other_lanes[i]);),
+        37 => call!(cubejobs_dispatch_free_worker (it.workers[i], it.other_workers[i]);),
+        38 if dice.below(90) == 0 => call!(cubejobs_dispatch_close (it.owner, it.other); => code, accepted),
+        39 if dice.below(90) == 0 => call!(cubejobs_dispatch_finish (it.owner, it.other); => code, number),
+        _ => call!(cubejobs_dispatch_rest (it.owner, it.other); => code, lane, dim, seq, payload, left),
+    };
+}
+
+/// Ends a dispatcher as far as it can be ended.
+fn end_shop(it: &mut Shop) {
+    for at in 0..SIDES {
+        call!(cubejobs_dispatch_done (it.workers[at], it.other_workers[at]););
+        call!(cubejobs_dispatch_free_lane (it.lanes[at], it.other_lanes[at]););
+        call!(cubejobs_dispatch_free_worker (it.workers[at], it.other_workers[at]););
+    }
+    call!(cubejobs_dispatch_close (it.owner, it.other); => code, accepted);
+    call!(cubejobs_dispatch_finish (it.owner, it.other); => code, number);
+    let mut code = jobs::DONE;
+    while code == jobs::DONE {
+        code = call!(cubejobs_dispatch_rest (it.owner, it.other); => code, lane, dim, seq, payload, left);
+    }
+    call!(cubejobs_dispatch_free (it.owner, it.other););
+}
+
+fn main() {
+    let calls = std::env::args().nth(1).and_then(|word| word.parse().ok()).expect("beside CALLS");
+    let mut dice = Dice(1);
+    call_exact(&mut dice, calls);
+    call_fit(&mut dice, calls);
+    call_rounds(&mut dice, calls);
+    call_regions(&mut dice, calls);
+    call_lanes(&mut dice, calls);
+    call_shop(&mut dice, calls);
+    println!("{calls} calls of each library, and all answers are the same");
+}

@@ -1,0 +1,136 @@
+//! The calls of lanes and of a dispatcher over them, over the erased sources.
+//!
+//! Their clauses ask nothing: a handle says whether it is open, and what it is of.
+
+use crate::source::cubejobs_dispatch as source;
+use crate::source::kit::alloc::Global;
+use crate::source::kit::opaque::Opaque;
+use core::marker::PhantomData;
+
+pub use crate::source::cubejobs_dispatch::codes::{
+    AGAIN, ASLEEP, BAD_DIMENSION, BAD_LANE, BAD_SIZES, BUSY, CLOSED, DONE, EMPTY, ENDED, FULL, LANE_OUT,
+    LOST, NOBODY, NONE_LEFT, NO_REGION, NO_WORKER, OLDER_JOB, OUT_OF_MEMORY, PARK, SPENT, STILL_SHARED,
+    VERSION, WORKER_OUT,
+};
+pub use crate::source::cubejobs_dispatch::{
+    CloseAnswer as Closed, FindAnswer as Found, JobAnswer as Job, LaneSizes as Sizes, LookAnswer as Looked,
+    SubmitAnswer as Submitted, WorkAnswer as Work, WorkFindAnswer as FoundWork,
+};
+pub use crate::source::job_lanes::{MAX_CAPACITY, MAX_LANES, MAX_WORKERS};
+
+pub const MAX_DIM: u32 = crate::source::cube_shape::MAX_BITMAP_DIM;
+
+/// Lanes alone.
+pub enum Plain {}
+
+/// Lanes with a machine: a dispatcher.
+pub enum Shop {}
+
+/// The role of the handle that owns lanes or a dispatcher.
+pub enum Owner {}
+
+/// The role of a producer's handle.
+pub enum Lane {}
+
+/// The role of a handle of producers that share a lane.
+pub enum Shared {}
+
+/// The role of a worker's handle.
+pub enum Worker {}
+
+/// A handle of role `R` in a thing of kind `K`. It cannot be cloned or copied.
+pub struct Handle<R, K> {
+    inner: source::Handle,
+    role: PhantomData<fn() -> (R, K)>,
+}
+
+impl<R, K> Handle<R, K> {
+    pub const SHUT: Self =
+        Handle { inner: source::Handle { tag: 0, ptr: Opaque::nothing(Global) }, role: PhantomData };
+}
+
+/// A code with the number of a lane or of a worker.
+pub struct Numbered {
+    pub code: u32,
+    pub number: u32,
+}
+
+impl From<source::NumberAnswer> for Numbered {
+    fn from(answer: source::NumberAnswer) -> Self {
+        Numbered { code: answer.code, number: answer.number }
+    }
+}
+
+impl From<source::WakeAnswer> for Numbered {
+    fn from(answer: source::WakeAnswer) -> Self {
+        Numbered { code: answer.code, number: answer.worker }
+    }
+}
+
+impl From<source::FinishAnswer> for Numbered {
+    fn from(answer: source::FinishAnswer) -> Self {
+        Numbered { code: answer.code, number: answer.number }
+    }
+}
+
+pub type Lanes = Handle<Owner, Plain>;
+pub type OneLane = Handle<Lane, Plain>;
+pub type SharedLane = Handle<Shared, Plain>;
+pub type OneWorker = Handle<Worker, Plain>;
+pub type Dispatch = Handle<Owner, Shop>;
+pub type ShopLane = Handle<Lane, Shop>;
+pub type ShopWorker = Handle<Worker, Shop>;
+
+/// Declares calls. Each has the name of the erased function that it makes, with the same handles
+/// and numbers.
+macro_rules! calls {
+    ($($name:ident($($handle:ident: &mut $kind:ty),+; $($number:ident: $type:ty),*) -> $answer:ty;)*) => {
+        $(
+            pub fn $name($($handle: &mut $kind,)+ $($number: $type),*) -> $answer {
+                source::$name($(&mut $handle.inner,)+ $($number),*).into()
+            }
+        )*
+    };
+}
+
+calls! {
+    cubejobs_lanes_open_version(owner: &mut Lanes; version: u32, sizes: Sizes) -> u32;
+    cubejobs_lanes_lane(owner: &mut Lanes, lane: &mut OneLane;) -> u32;
+    cubejobs_lanes_worker(owner: &mut Lanes, worker: &mut OneWorker;) -> u32;
+    cubejobs_lanes_worker_number(worker: &mut OneWorker;) -> Numbered;
+    cubejobs_lanes_submit(lane: &mut OneLane; payload: u64, dim: u32) -> Submitted;
+    cubejobs_lanes_wake(lane: &mut OneLane;) -> Numbered;
+    cubejobs_lanes_take(worker: &mut OneWorker; lane: u32) -> Job;
+    cubejobs_lanes_take_any(worker: &mut OneWorker; from: u32) -> Job;
+    cubejobs_lanes_look(worker: &mut OneWorker; lane: u32) -> Looked;
+    cubejobs_lanes_find(worker: &mut OneWorker; from: u32) -> Found;
+    cubejobs_lanes_awake(worker: &mut OneWorker;) -> u32;
+    cubejobs_lanes_close(owner: &mut Lanes;) -> Closed;
+    cubejobs_lanes_free_lane(lane: &mut OneLane;) -> u32;
+    cubejobs_lanes_free_worker(worker: &mut OneWorker;) -> u32;
+    cubejobs_lanes_finish(owner: &mut Lanes;) -> Numbered;
+    cubejobs_lanes_rest(owner: &mut Lanes;) -> Job;
+    cubejobs_lanes_free(owner: &mut Lanes;) -> u32;
+    cubejobs_lanes_share(lane: &mut OneLane, shared: &mut SharedLane;) -> u32;
+    cubejobs_lanes_share_again(one: &mut SharedLane, other: &mut SharedLane;) -> u32;
+    cubejobs_lanes_submit_shared(lane: &mut SharedLane; payload: u64, dim: u32) -> Submitted;
+    cubejobs_lanes_wake_shared(lane: &mut SharedLane;) -> Numbered;
+    cubejobs_lanes_free_shared(lane: &mut SharedLane;) -> u32;
+    cubejobs_dispatch_open_version(owner: &mut Dispatch; version: u32, dim: u32, sizes: Sizes) -> u32;
+    cubejobs_dispatch_lane(owner: &mut Dispatch, lane: &mut ShopLane;) -> u32;
+    cubejobs_dispatch_worker(owner: &mut Dispatch, worker: &mut ShopWorker;) -> u32;
+    cubejobs_dispatch_worker_number(worker: &mut ShopWorker;) -> Numbered;
+    cubejobs_dispatch_submit(lane: &mut ShopLane; payload: u64, dim: u32) -> Submitted;
+    cubejobs_dispatch_wake(lane: &mut ShopLane;) -> Numbered;
+    cubejobs_dispatch_next(worker: &mut ShopWorker;) -> Work;
+    cubejobs_dispatch_find(worker: &mut ShopWorker;) -> FoundWork;
+    cubejobs_dispatch_awake(worker: &mut ShopWorker;) -> u32;
+    cubejobs_dispatch_done(worker: &mut ShopWorker;) -> u32;
+    cubejobs_dispatch_give_back(worker: &mut ShopWorker;) -> Work;
+    cubejobs_dispatch_close(owner: &mut Dispatch;) -> Closed;
+    cubejobs_dispatch_free_lane(lane: &mut ShopLane;) -> u32;
+    cubejobs_dispatch_free_worker(worker: &mut ShopWorker;) -> u32;
+    cubejobs_dispatch_finish(owner: &mut Dispatch;) -> Numbered;
+    cubejobs_dispatch_rest(owner: &mut Dispatch;) -> Job;
+    cubejobs_dispatch_free(owner: &mut Dispatch;) -> u32;
+}

@@ -1,0 +1,48 @@
+// Made from crates/bitmap_occupancy/src/totals.rt by checks/lib/erase.py. Change that file.
+//! The counts of a machine.
+
+use crate::source::bitmap_occupancy::counter::{Counter, add};
+use crate::source::bitmap_occupancy::pass::read_words;
+use crate::source::bitmap_occupancy::processors::{LEVELS, is_held};
+use crate::source::bitmap_occupancy::summary::{FREE_PLACES, Occupancy};
+use crate::source::bitmap_tree::{BitmapTree, BlockSeat};
+
+// Returns the largest dimension at which a count is not 0.
+fn largest_free(free: &[u64; FREE_PLACES]) -> Option<u32> {
+    let mut largest = None;
+    for dim in 0..FREE_PLACES {
+        if free[dim] > 0 {
+            largest = Some(dim as u32);
+        }
+    }
+    largest
+}
+
+/// Counts the free blocks and the held processors of a machine. Reads each word once, and returns
+/// the seat that knows what the loads found.
+///
+/// # Clauses of the proved source
+///
+/// - ensures table: `result.1.table_id ≡ id_of tree.now`
+/// - ensures counted: `IsCountOf (dim_of tree.now) result.1.me.0.trail result.0`
+/// - ensures no_slot: `result.1.me.1 ≡ []`
+pub fn occupancy(tree: &BitmapTree) -> (Occupancy, BlockSeat) {
+    let n = tree.dim();
+    let (top, mut seat) = tree.read_top();
+    let mut path = [top; LEVELS];
+    let mut counter = Counter {
+        from: 0,
+        held: 0,
+        free: [0; FREE_PLACES],
+    };
+    for processor in 0..1u64 << n {
+        read_words(tree, &mut seat, &mut path, processor);
+        add(n, &mut counter, processor, is_held(n, &path, processor));
+    }
+    let found = Occupancy {
+        free: counter.free,
+        held: counter.held,
+        largest: largest_free(&counter.free),
+    };
+    (found, seat)
+}

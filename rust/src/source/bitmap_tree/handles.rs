@@ -1,0 +1,53 @@
+// Made from crates/bitmap_tree/src/handles.rt by checks/lib/erase.py. Change that file.
+//! A machine, and what its callers hold.
+
+use crate::source::kit::prelude::{Vec};
+
+use crate::source::bitmap_tree::marks::Marks;
+use crate::source::bitmap_tree::rule::BitmapRule;
+use crate::source::bitmap_tree::spares::Spares;
+use crate::source::bitmap_tree::view::{Run, Size, View};
+use crate::source::kit::atomic_table::Table;
+use crate::source::cube_shape::Region;
+use crate::source::kit::alloc::Global;
+
+/// A seat at the table of a machine. It has no bytes.
+pub type Seat = crate::source::kit::atomic_table::Seat<Run, View>;
+
+/// The bitmaps of a machine, which threads share by `&`.
+pub struct BitmapTree {
+    pub(crate) table: Table<Run, View, Size, BitmapRule, Global>,
+    pub(crate) size: Size,
+    // Where a search need not look, for each level below the top, and which words stay open.
+    pub(crate) marks: Vec<Marks>,
+    pub(crate) spares: Spares,
+    // Where the words go at the end.
+    pub(crate) room: Vec<u64>,
+}
+
+/// A block that is held. It cannot be dropped.
+#[must_use = "the proved source spends each value of this type by a call"]
+pub struct HeldBlock {
+    pub(crate) region: Region,
+    pub(crate) dim: u32,
+    pub(crate) seat: Seat,
+}
+
+/// A take that was refused, and what its steps found.
+pub struct Refused {
+    /// The number of words that it gave up, in each of which it lost several exchanges to other
+    /// calls.
+    pub contended: u32,
+    pub(crate) seat: Seat,
+}
+
+/// A block that was released, and what the steps of the release changed.
+pub struct Released {
+    pub(crate) seat: Seat,
+}
+
+/// The right to hold one block at a time, in a machine that has permits. It cannot be dropped.
+#[must_use = "the proved source spends each value of this type by a call"]
+pub struct Permit {
+    pub(crate) seat: Seat,
+}

@@ -1,0 +1,81 @@
+// Made from crates/cubejobs_dispatch/src/lib.rt by checks/lib/erase.py. Change that file.
+//! Job lanes and the dispatcher of opaque jobs for callers in C and C++, as a static library.
+
+pub(crate) mod answers;
+pub(crate) mod closing;
+pub(crate) mod codes;
+pub(crate) mod common;
+pub(crate) mod dealing;
+pub(crate) mod end_exports;
+pub(crate) mod ending;
+pub(crate) mod find_answer;
+pub(crate) mod found_work;
+pub(crate) mod handle;
+pub(crate) mod handles;
+pub(crate) mod job_exports;
+pub(crate) mod kinds;
+pub(crate) mod left;
+pub(crate) mod left_exports;
+pub(crate) mod opaque_ptr;
+pub(crate) mod opening;
+pub(crate) mod owner;
+pub(crate) mod owner_exports;
+pub(crate) mod returning;
+pub(crate) mod seeking;
+pub(crate) mod share;
+pub(crate) mod share_exports;
+pub(crate) mod shared_waking;
+pub(crate) mod sharing;
+pub(crate) mod shop_calls;
+pub(crate) mod shop_end_exports;
+pub(crate) mod shop_exports;
+pub(crate) mod shop_sleep_exports;
+pub(crate) mod sides;
+pub(crate) mod sizes;
+pub(crate) mod sleep_exports;
+pub(crate) mod sleeper_side;
+pub(crate) mod stage;
+pub(crate) mod state;
+pub(crate) mod waking;
+pub(crate) mod work_answer;
+pub(crate) mod work_exports;
+
+pub use answers::{CloseAnswer, FinishAnswer, JobAnswer, LookAnswer, SubmitAnswer};
+pub use codes::{DONE, NO_WORKER, OPEN, VERSION};
+pub use end_exports::{
+    cubejobs_lanes_close, cubejobs_lanes_finish, cubejobs_lanes_free_lane,
+    cubejobs_lanes_free_worker,
+};
+pub use find_answer::{FindAnswer, NumberAnswer, WakeAnswer};
+pub use found_work::WorkFindAnswer;
+pub use handle::Handle;
+pub use job_exports::{
+    cubejobs_lanes_look, cubejobs_lanes_submit, cubejobs_lanes_take, cubejobs_lanes_take_any,
+};
+pub use left_exports::{cubejobs_lanes_free, cubejobs_lanes_rest};
+pub use owner_exports::{cubejobs_lanes_lane, cubejobs_lanes_open_version, cubejobs_lanes_worker};
+pub use share_exports::{
+    cubejobs_lanes_free_shared, cubejobs_lanes_share, cubejobs_lanes_share_again,
+    cubejobs_lanes_submit_shared,
+};
+pub use shared_waking::cubejobs_lanes_wake_shared;
+pub use shop_end_exports::{
+    cubejobs_dispatch_close, cubejobs_dispatch_finish, cubejobs_dispatch_free,
+    cubejobs_dispatch_free_lane, cubejobs_dispatch_free_worker, cubejobs_dispatch_rest,
+};
+pub use shop_exports::{
+    cubejobs_dispatch_lane, cubejobs_dispatch_open_version, cubejobs_dispatch_worker,
+};
+pub use shop_sleep_exports::{
+    cubejobs_dispatch_awake, cubejobs_dispatch_find, cubejobs_dispatch_wake,
+    cubejobs_dispatch_worker_number,
+};
+pub use sizes::LaneSizes;
+pub use sleep_exports::{
+    cubejobs_lanes_awake, cubejobs_lanes_find, cubejobs_lanes_wake, cubejobs_lanes_worker_number,
+};
+pub use work_answer::WorkAnswer;
+pub use work_exports::{
+    cubejobs_dispatch_done, cubejobs_dispatch_give_back, cubejobs_dispatch_next,
+    cubejobs_dispatch_submit,
+};

@@ -1,0 +1,86 @@
+// Made from crates/cubejobs_regions/src/takes.rt by checks/lib/erase.py. Change that file.
+//! Takes of a block into a handle.
+
+use crate::source::cubejobs_regions::aligned::is_block;
+use crate::source::cubejobs_regions::answer::{Answer, done, refused};
+use crate::source::cubejobs_regions::block_handle::BlockHandle;
+use crate::source::cubejobs_regions::codes::{BAD_BASE, BAD_DIMENSION, DONE, NO_ROOM, NOT_NOW, NOT_OPEN, TAKEN};
+use crate::source::cubejobs_regions::handle::Handle;
+use crate::source::cubejobs_regions::machine::Machine;
+use crate::source::bitmap_tree::HeldBlock;
+use crate::source::cube_shape::Region;
+
+// Returns why a take through a handle of a machine cannot fill a handle of a block, or `DONE`.
+#[inline(always)]
+pub(crate) fn refusal(thread: &Handle, region: &BlockHandle) -> u32 {
+    if !thread.is_open() {
+        return NOT_OPEN;
+    }
+    region.refusal()
+}
+
+// Puts a held block into a handle.
+#[inline(always)]
+fn fill(number: u64, region: &mut BlockHandle, held: HeldBlock) -> Answer {
+    let answer = done(held.region());
+    *region = BlockHandle::of(held, number);
+    answer
+}
+
+// Makes the answer of a take that found nothing free: this code, unless it gave up words.
+#[inline(always)]
+fn sought(code: u32, contended: u32) -> Answer {
+    if contended == 0 {
+        return refused(code, 0);
+    }
+    refused(NOT_NOW, contended)
+}
+
+/// Takes a block of dimension `k` by the marks.
+#[inline(always)]
+pub(crate) fn take(machine: &Machine, region: &mut BlockHandle, k: u32) -> Answer {
+    let common = machine.common();
+    if k > common.tree.dim() {
+        return refused(BAD_DIMENSION, 0);
+    }
+    match common.tree.take_quick(k, machine.start) {
+        Some(held) => fill(common.number, region, held),
+        None => refused(NOT_NOW, 0),
+    }
+}
+
+/// Takes a block of dimension `k`. Looks at each word before it is refused.
+pub(crate) fn take_exact(machine: &Machine, region: &mut BlockHandle, k: u32) -> Answer {
+    let common = machine.common();
+    if k > common.tree.dim() {
+        return refused(BAD_DIMENSION, 0);
+    }
+    match common.tree.take(k, machine.start) {
+        Ok(held) => fill(common.number, region, held),
+        Err(refusal) => {
+            let contended = refusal.contended;
+            region.keep(refusal.into_seat());
+            sought(NO_ROOM, contended)
+        }
+    }
+}
+
+/// Takes one block.
+pub(crate) fn take_at(machine: &Machine, region: &mut BlockHandle, block: Region) -> Answer {
+    let common = machine.common();
+    let n = common.tree.dim();
+    if block.dim > n {
+        return refused(BAD_DIMENSION, 0);
+    }
+    if !is_block(n, block) {
+        return refused(BAD_BASE, 0);
+    }
+    match common.tree.take_at(block) {
+        Ok(held) => fill(common.number, region, held),
+        Err(refusal) => {
+            let contended = refusal.contended;
+            region.keep(refusal.into_seat());
+            sought(TAKEN, contended)
+        }
+    }
+}

@@ -1,0 +1,22 @@
+//! The shim: what the proved sources take from their toolchain, written by hand in safe Rust.
+//!
+//! It is trusted: no proof speaks of it. `docs/SOURCE.md` of the repository has a table that puts
+//! each function beside the text of the toolchain that it replaces.
+
+pub mod alloc;
+pub mod atomic_table;
+pub mod collections;
+#[cfg(feature = "dispatch")]
+pub mod counted_slot;
+pub mod heap;
+pub mod opaque;
+#[cfg(feature = "dispatch")]
+pub mod snapshot;
+pub mod sync;
+
+/// The names that are known everywhere in the proved sources.
+pub mod prelude {
+    pub(crate) use super::collections::vec;
+    pub use super::collections::Vec;
+    pub use super::heap::Box;
+}

@@ -1,0 +1,46 @@
+//! The proved sources as plain Rust: made by erasing the contracts from `crates/`.
+//!
+//! `checks/lib/erase.py` of the repository makes each folder here except [`kit`], which is written
+//! by hand. Nothing of this is public. The modules of the folder `over` make the calls, and keep
+//! what their clauses ask.
+#![forbid(unsafe_code)]
+// What clauses alone read is not used here. The layout is that of the proved sources.
+#![allow(dead_code, unused_imports, unused_mut, unused_variables, private_interfaces, clippy::all)]
+#![warn(clippy::incompatible_msrv)]
+
+#[cfg(not(target_has_atomic = "64"))]
+compile_error!("the crate cubejobs needs a processor with atomic accesses of 64 bits");
+
+pub mod collectives;
+pub mod cube_shape;
+pub mod cubejobs_c;
+pub mod cubejobs_rounds;
+pub mod rank_steps;
+pub mod region_bits;
+
+#[cfg(any(feature = "dispatch", feature = "regions"))]
+pub mod bitmap_tree;
+#[cfg(any(feature = "dispatch", feature = "regions"))]
+pub mod kit;
+
+#[cfg(feature = "regions")]
+pub mod bitmap_occupancy;
+#[cfg(feature = "regions")]
+pub mod cubejobs_regions;
+
+#[cfg(feature = "dispatch")]
+pub mod cubejobs_dispatch;
+#[cfg(feature = "dispatch")]
+pub mod ghost_log;
+#[cfg(feature = "dispatch")]
+pub mod job_lanes;
+#[cfg(feature = "dispatch")]
+pub mod kept_places;
+#[cfg(feature = "dispatch")]
+pub mod region_shop;
+#[cfg(feature = "dispatch")]
+pub mod shop_owner;
+#[cfg(feature = "dispatch")]
+pub mod wake_calls;
+#[cfg(feature = "dispatch")]
+pub mod wake_pool;

@@ -1,0 +1,21 @@
+// Made from crates/region_bits/src/lib.rt by checks/lib/erase.py. Change that file.
+//! First-fit allocation of aligned power-of-two blocks over a slice of bits that the caller keeps.
+//!
+//! The buddy strategy keeps an allocation bit for each processor. A request for dimension `k` finds
+//! the least `m` such that all bits of the aligned block `(m, k)` are clear, and sets them. A
+//! release clears them. Source: Chen and Shin, "Processor Allocation in an N-Cube Multiprocessor
+//! Using Gray Codes", IEEE Transactions on Computers, 1987.
+//!
+//! This crate has these three steps. The caller records which station holds which block: contracts
+//! speak of all holdings that the bits represent.
+
+pub(crate) mod bits;
+pub(crate) mod counts;
+pub(crate) mod limits;
+pub(crate) mod regions;
+
+pub use bits::{first_clear, is_clear, is_set, write};
+pub use counts::{count_clear, largest_clear};
+pub use crate::source::cube_shape::{MAX_DIM, Region};
+pub use limits::MAX_BITS_DIM;
+pub use regions::{clear_all, clear_region, count_free, first_fit, is_free, set_region};
