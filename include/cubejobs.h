@@ -51,6 +51,11 @@ __extension__ typedef _Bool cubejobs_bool;
 extern "C" {
 #endif
 
+/* The version of this header, as a text and as a number: 1.2.3 is 10203. The library returns its own
+ * by cubejobs_version_number. */
+#define CUBEJOBS_VERSION "0.2.0-dev"
+#define CUBEJOBS_VERSION_NUMBER 200
+
 /* The largest dimension of a machine, and its number of stations: their numbers are 0 to 47. */
 #define CUBEJOBS_MAX_DIM 12
 #define CUBEJOBS_MAX_STATIONS 48
@@ -281,6 +286,9 @@ static CUBEJOBS_INLINE uint64_t cubejobs_fit_free_regions(const struct cubejobs_
 static CUBEJOBS_INLINE struct cubejobs_answer cubejobs_fit_largest(const struct cubejobs_fit *fit) {
     return cubejobs_bits_largest(cubejobs_fit_bits(fit), cubejobs_fit_count(fit), fit->dim);
 }
+
+/* Returns the version of the library: CUBEJOBS_VERSION_NUMBER of the header that it came with. */
+uint32_t cubejobs_version_number(void);
 
 #ifdef __cplusplus
 }

@@ -61,6 +61,11 @@
 extern "C" {
 #endif
 
+/* The version of this header, as a text and as a number: 1.2.3 is 10203. The library returns its own
+ * by cubejobs_dispatch_version_number. */
+#define CUBEJOBS_VERSION "0.2.0-dev"
+#define CUBEJOBS_VERSION_NUMBER 200
+
 /* The most lanes, the most workers, and the most jobs that a lane holds. */
 #define CUBEJOBS_LANES_MAX_LANES 4096
 #define CUBEJOBS_LANES_MAX_WORKERS 4096
@@ -407,6 +412,9 @@ uint32_t cubejobs_dispatch_free_worker(struct cubejobs_shop_worker *worker);
 struct cubejobs_finish_answer cubejobs_dispatch_finish(struct cubejobs_dispatch *owner);
 struct cubejobs_job_answer cubejobs_dispatch_rest(struct cubejobs_dispatch *owner);
 uint32_t cubejobs_dispatch_free(struct cubejobs_dispatch *owner);
+
+/* Returns the version of the library: CUBEJOBS_VERSION_NUMBER of the header that it came with. */
+uint32_t cubejobs_dispatch_version_number(void);
 
 /* Returns what a code of this library or of the library of regions means, or that they have no such
  * code. Both headers have this function, with the same text. */

@@ -62,6 +62,11 @@ __extension__ typedef _Bool cubejobs_regions_bool;
 extern "C" {
 #endif
 
+/* The version of this header, as a text and as a number: 1.2.3 is 10203. The library returns its own
+ * by cubejobs_regions_version_number. */
+#define CUBEJOBS_VERSION "0.2.0-dev"
+#define CUBEJOBS_VERSION_NUMBER 200
+
 /* The largest dimension of a machine. */
 #define CUBEJOBS_REGIONS_MAX_DIM 20
 
@@ -190,6 +195,9 @@ struct cubejobs_regions_occupancy_answer cubejobs_regions_occupancy(struct cubej
 /* Shuts a handle. The last one frees the machine, if nothing is held. Codes: NOT_OPEN, STILL_HELD,
  * DONE. */
 uint32_t cubejobs_regions_free(struct cubejobs_regions *thread);
+
+/* Returns the version of the library: CUBEJOBS_VERSION_NUMBER of the header that it came with. */
+uint32_t cubejobs_regions_version_number(void);
 
 /* Returns what a code of this library or of the library for jobs means, or that they have no such
  * code. Both headers have this function, with the same text. */

@@ -32,6 +32,11 @@
 extern "C" {
 #endif
 
+/* The version of this header, as a text and as a number: 1.2.3 is 10203. The library returns its own
+ * by cubejobs_rounds_version_number. */
+#define CUBEJOBS_VERSION "0.2.0-dev"
+#define CUBEJOBS_VERSION_NUMBER 200
+
 /* The largest dimension of a collective. */
 #define CUBEJOBS_ROUNDS_MAX_DIM 31
 
@@ -103,6 +108,9 @@ struct cubejobs_message_answer cubejobs_message(uint32_t shape, uint32_t k, uint
  * CUBEJOBS_ROUNDS_BAD_DIMENSION, CUBEJOBS_ROUNDS_BAD_ROOT, CUBEJOBS_ROUNDS_BAD_RANK,
  * CUBEJOBS_ROUNDS_BAD_ROUND. */
 struct cubejobs_step_answer cubejobs_step(uint32_t shape, uint32_t k, uint64_t root, uint64_t rank, uint32_t round);
+
+/* Returns the version of the library: CUBEJOBS_VERSION_NUMBER of the header that it came with. */
+uint32_t cubejobs_rounds_version_number(void);
 
 #ifdef __cplusplus
 }

@@ -1,7 +1,8 @@
 """What the rows of all commands share: headers, files of one job, and rows of tables."""
 from checks.lib.rows import Row, must_answer
+from checks.source import version
 
-VERSION = "cubejobs 0.1.0\n"
+VERSION = f"cubejobs {version.of_sources()}\n"
 JOBS, REPLIES = "lane,kind,op,root,items", "lane,seq,kind,dim,result,rounds,messages"
 TOTALS = "group,key,count,processors,idle"
 COMMANDS, ANSWERS = "command,name,dim", "command,name,dim,base,outcome"

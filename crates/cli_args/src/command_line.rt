@@ -10,9 +10,8 @@ use clap::{Arg, ArgAction, ArgMatches, Command, Error, value_parser};
 use cube_shape::{Dim, MAX_CAPACITY, MAX_DIM, MAX_DISPATCHERS, MAX_STATIONS};
 use dispatcher::ShopSizes;
 use jobs_csv::MAX_RECORDS;
+use release_version::VERSION;
 use std::alloc::{AllocError, Global};
-
-const VERSION: &str = "0.1.0";
 
 // The name of the program.
 const PROGRAM: &str = "cubejobs";

@@ -7,9 +7,8 @@ ghost use Rattle.tool_args.specs.CheckLine.{AsksForCheck, HasDim, IsWithin, bare
 
 use clap::{Arg, ArgMatches, Command, Error, value_parser};
 use cube_shape::{Dim, MAX_DIM};
+use release_version::VERSION;
 use std::alloc::{AllocError, Global};
-
-const VERSION: &str = "0.1.0";
 
 const ABOUT: &str = "Lists all faults of an input";
 

@@ -8,9 +8,8 @@ ghost use Rattle.tool_args.specs.MessagesLine.{AsksForMessages, HasOptions, mess
 use clap::{Arg, ArgMatches, Command, Error, value_parser};
 use collectives::Shape;
 use cube_shape::{Dim, MAX_DIM};
+use release_version::VERSION;
 use std::alloc::{AllocError, Global};
-
-const VERSION: &str = "0.1.0";
 
 const ABOUT: &str = "Lists the messages of a collective";
 
