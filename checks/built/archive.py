@@ -1,10 +1,13 @@
 """Makes the libraries for C as they are shipped, each one file to link: `checks/run archive FOLDER` writes
 libcubejobs_c.a, libcubejobs_dispatch.a, libcubejobs_rounds.a and libcubejobs_regions.a there, from what stands in the
-folders `out` of their crates.
+folders `out` of their crates. Of each it makes a shared object too, libcubejobs_c.so and so on.
 
 A library that asks for memory gets the allocator of the toolchain, three functions round malloc, realloc and free. Of
 what a file defines, the functions of its header alone stay visible, so a program can link it beside another library of
 Rattle and names of its own. The toolchain's linker and archiver make the bytes, and no other tool has a part in them.
+
+The name that a program looks for (soname) ends in the first two parts of the version: while the first is 0, the second
+changes with each change of the calls.
 """
 import os
 import struct
@@ -14,6 +17,7 @@ import tempfile
 from checks.lib.repository import path, read_bytes
 from checks.lib.rows import Wrong, must, put
 from checks.lib.toolchain import kit
+from checks.source import version
 
 LIBRARIES = ("cubejobs_c", "cubejobs_dispatch", "cubejobs_rounds", "cubejobs_regions")
 # What the names of the headers' functions begin with.
@@ -89,6 +93,18 @@ def make(name, out, room):
     os.chmod(out, 0o644)
 
 
+def share(name, folder, room):
+    """Makes the shared object of a library of a folder."""
+    tools, libc = f"{kit().KIT}/toolchain/bin", f"{kit().KIT}/toolchain/lib/libc.so.6"
+    interface, names = ".".join(version.of_sources().split(".")[:2]), f"{room}/{name}.map"
+    put(names, f"CUBEJOBS_{interface} {{ global: cubejobs_*; local: *; }};\n".encode())
+    flags = ["-z", "defs", "-z", "now", "--hash-style=gnu", "--build-id=none", "--as-needed", "--version-script", names]
+    whole = ["--whole-archive", f"{folder}/lib{name}.a", "--no-whole-archive", libc]
+    link = [f"{tools}/ld.lld", "-shared", "-soname", f"lib{name}.so.{interface}", *flags, "-o", f"{room}/{name}.so"]
+    subprocess.run([*link, *whole], check=True)
+    put(f"{folder}/lib{name}.so", read_bytes(f"{room}/{name}.so"), 0o644)
+
+
 def main(words):
     if len(words) != 1:
         raise Wrong(__doc__)
@@ -96,4 +112,5 @@ def main(words):
     with tempfile.TemporaryDirectory() as room:
         for name in LIBRARIES:
             make(name, os.path.join(words[0], f"lib{name}.a"), room)
-    print(f"archive: {len(LIBRARIES)} libraries, each one file to link")
+            share(name, words[0], room)
+    print(f"archive: {len(LIBRARIES)} libraries, each one file to link, and as many shared objects")

@@ -20,14 +20,9 @@ from checks.lib.toolchain import FOR_ANY, sum_of_sources
 
 RELEASE = path("release", "linux-x86_64")
 # What is shipped, and where `rt` or the check `archive` puts it.
-FILES = {
-    "cubejobs": "crates/jobs_cli/out/jobs_cli",
-    "libcubejobs_c.a": "out/libcubejobs_c.a",
-    "libcubejobs_dispatch.a": "out/libcubejobs_dispatch.a",
-    "libcubejobs_rounds.a": "out/libcubejobs_rounds.a",
-    "libcubejobs_regions.a": "out/libcubejobs_regions.a",
-}
-LIBRARIES = [name for name in FILES if name.endswith(".a")]
+LIBRARIES = [f"lib{name}.a" for name in archive.LIBRARIES]
+SHARED = [f"lib{name}.so" for name in archive.LIBRARIES]
+FILES = {"cubejobs": "crates/jobs_cli/out/jobs_cli", **{name: f"out/{name}" for name in LIBRARIES + SHARED}}
 NEWEST_GLIBC = (2, 34)
 DIFFERS = "differs from what was built"
 # Where the Rust package has copies of the libraries: a package holds the files that it links.

@@ -1,0 +1,229 @@
+"""Installs what was built into a folder of its own, uses it as an installed package is used, and uninstalls it.
+
+`checks/run install FOLDER` makes a clone whose release/ has the files of FOLDER, runs its `./install`, and then compiles
+and runs examples with pkg-config, CMake, cargo and Python, without a file of the clone. A part whose tool is missing is
+skipped and named. In the end nothing may be left. Bad options, a damaged file and a folder that cannot be written end
+with their status, and change nothing.
+"""
+import os
+import re
+import shutil
+import subprocess
+import tempfile
+
+from checks.built.readme import copy_to
+from checks.lib.repository import path, read, write
+from checks.lib.rows import AS_NOBODY, Row, Skipped, answer, must, output, put, run_rows
+from checks.source import version
+
+# The examples in C and C++ that end by themselves, with the words that they need. Their output is beside them.
+EXAMPLES = ("arena.c", "blocks.cpp", "fit.c", "jobs.cpp", "lanes.c", "regions.c", "rounds.c", "subcubes.c", "wait.c")
+CMAKE = """cmake_minimum_required(VERSION 3.13)
+project(user C CXX)
+find_package(cubejobs 0.2 REQUIRED)
+add_executable(regions regions.c)
+target_link_libraries(regions cubejobs::regions)
+add_executable(jobs jobs.cpp)
+target_link_libraries(jobs cubejobs::dispatch_static cubejobs::regions_static cubejobs::c_static)
+"""
+GANG = """use cubejobs_pool::Pool;
+fn main() {
+    let pool = Pool::builder().workers_log2(2).build().unwrap();
+    println!("{:?}", pool.run(2, |group| group.all_reduce(group.rank(), |a, b| a + b)));
+}
+"""
+
+
+def tree(folder):
+    """Returns all that is below a folder: each path with its mode, and what it holds or leads to."""
+    found = {}
+    for at, folders, files in os.walk(folder):
+        for name in folders + files:
+            it = os.path.join(at, name)
+            held = os.readlink(it) if os.path.islink(it) else None
+            if held is None and os.path.isfile(it):
+                with open(it, "rb") as file:
+                    held = file.read()
+            found[os.path.relpath(it, folder)] = os.lstat(it).st_mode, held
+    return found
+
+
+def needs(*tools):
+    for tool in tools:
+        if not shutil.which(tool):
+            raise Skipped(f"no {tool} here")
+
+
+class Place:
+    """A clone, and a prefix into which it is installed. The prefix has a space: a folder of a user may have one."""
+
+    def __init__(self, work, built):
+        self.work, self.clone, self.prefix = work, os.path.join(work, "clone"), os.path.join(work, "the prefix")
+        copy_to(self.clone, built)
+        sums = os.path.join(self.clone, "release", "linux-x86_64", "SHA256SUMS")
+        write(sums, f"# version {version.of_sources()}\n{read(sums)}")
+
+    def install(self, *words, **how):
+        return answer([os.path.join(self.clone, "install"), *words], "", text=True, cwd=self.work, **how)
+
+    def must_install(self, *words):
+        status, _, said = self.install(*words)
+        must(status == 0 and not said, f"install {' '.join(words)}: status {status}, errors {said[:600]!r}")
+
+    def env(self, **more):
+        lib = os.path.join(self.prefix, "lib")
+        return {**os.environ, "LD_LIBRARY_PATH": lib, "PKG_CONFIG_PATH": os.path.join(lib, "pkgconfig"), **more}
+
+    def room(self, name):
+        folder = os.path.join(self.work, name)
+        os.makedirs(folder)
+        return folder
+
+    def of(self, *names):
+        return os.path.join(self.prefix, *names)
+
+    def with_pkg_config(self, example):
+        compiler = "c++" if example.endswith("pp") else "cc"
+        needs("pkg-config", compiler)
+        source, room = self.of("share", "doc", "cubejobs", "examples", example), self.room(f"pkg-{example}")
+        flags = output(["pkg-config", "--cflags", "--libs", "cubejobs"], env=self.env()).replace("\\ ", "\0").split()
+        flags = [it.replace("\0", " ") for it in flags]
+        subprocess.run([compiler, source, *flags, "-o", f"{room}/a.out"], check=True)
+        wanted = read(os.path.splitext(source)[0] + ".out")
+        must(output([f"{room}/a.out"], cwd=room, env=self.env()) == wanted, f"{example} has another output")
+
+    def with_cmake(self):
+        needs("cmake", "cc", "c++")
+        room = self.room("cmake")
+        write(f"{room}/CMakeLists.txt", CMAKE)
+        for name in ("regions.c", "jobs.cpp"):
+            shutil.copy(self.of("share", "doc", "cubejobs", "examples", name), room)
+        for words in (["-S", room, "-B", f"{room}/build", f"-DCMAKE_PREFIX_PATH={self.prefix}"], ["--build", f"{room}/build"]):
+            status, out, said = answer(["cmake", *words], "", text=True)
+            must(status == 0, f"cmake: {out[-300:]} {said[-600:]}")
+        for name in ("regions", "jobs"):
+            wanted = read(self.of("share", "doc", "cubejobs", "examples", f"{name}.out"))
+            must(output([f"{room}/build/{name}"]) == wanted, f"{name} has another output")
+        write(f"{room}/CMakeLists.txt", CMAKE.replace("cubejobs 0.2", "cubejobs 0.1"))
+        must(answer(["cmake", "-S", room, "-B", f"{room}/old", f"-DCMAKE_PREFIX_PATH={self.prefix}"])[0] != 0,
+             "cmake takes this version for another one")
+
+    def with_cargo(self):
+        needs("cargo", "cc")
+        room, rust = self.room("cargo"), self.of("share", "cubejobs", "rust")
+        lines = ["[package]", 'name = "user"', 'version = "0.1.0"', 'edition = "2021"', "[dependencies]"]
+        write(f"{room}/Cargo.toml", "\n".join([*lines, f'cubejobs-pool = {{ path = "{rust}/pool" }}', ""]))
+        write(f"{room}/src/main.rs", GANG)
+        env = {**os.environ, "CARGO_TARGET_DIR": f"{room}/target"}
+        said = output(["cargo", "run", "--quiet", "--offline"], cwd=room, env=env, timeout=300)
+        must(said == "[6, 6, 6, 6]\n", f"the gang says {said!r}")
+        said = output(["cargo", "run", "--quiet", "--offline", "--example", "subcubes"], cwd=rust, env=env, timeout=300)
+        must(said == read("examples", "subcubes.out"), f"the example says {said!r}")
+
+    def with_python(self):
+        needs("python3")
+        folder = self.of("share", "cubejobs", "python")
+        said = output(["python3", "-B", "-m", "doctest", "-v", f"{folder}/cubejobs.py"], cwd=folder)
+        must(re.search(r"\n\d\d passed and 0 failed\.\nTest passed\.\n$", said), said[-400:])
+
+    def with_man(self):
+        needs("man")
+        for section, name in (("1", "cubejobs"), ("3", "cubejobs_regions"), ("3", "cubejobs_dispatch")):
+            page = self.of("share", "man", f"man{section}", f"{name}.{section}")
+            must("NAME" in output(["man", "-l", page], env={**os.environ, "MANWIDTH": "80"}), f"no page {name}")
+
+    def with_the_program(self):
+        jobs = self.of("share", "doc", "cubejobs", "examples", "jobs.csv")
+        said = output([self.of("bin", "cubejobs"), "run", "--dim", "3", jobs])
+        must(said.startswith("lane,seq,kind,dim,result,rounds,messages\n0,0,"), f"the program says {said[:80]!r}")
+
+    def again(self):
+        """A second installation changes nothing, and one in which a file is missing puts it back."""
+        before = tree(self.prefix)
+        os.remove(self.of("bin", "cubejobs"))
+        self.must_install("--prefix", self.prefix)
+        must(tree(self.prefix) == before, "a second installation made something else")
+
+    def of_a_later_version(self):
+        """What the new version has no more goes, and what another hand put there stays."""
+        put(self.of("include", "cubejobs_old.h"))
+        with open(self.of("share", "cubejobs", "installed"), "a", encoding="utf-8") as it:
+            it.write(f"file {self.of('include', 'cubejobs_old.h')}\n")
+        put(self.of("include", "other.h"))
+        self.must_install("--prefix", self.prefix)
+        must(not os.path.exists(self.of("include", "cubejobs_old.h")), "an old header is still there")
+        must(os.path.exists(self.of("include", "other.h")), "a file of others is gone")
+
+    def uninstalled(self):
+        """All of it goes. A file of others stays, with its folders."""
+        self.must_install("--prefix", self.prefix, "--uninstall")
+        must([*tree(self.prefix)] == ["include", "include/other.h"], f"these are left: {[*tree(self.prefix)][:5]}")
+        status, _, said = self.install("--prefix", self.prefix, "--uninstall")
+        must(status == 1 and "nothing is installed" in said, f"a second one: status {status}, {said!r}")
+
+    def for_a_package(self):
+        """With --destdir the same files go below a folder, and name the prefix alone."""
+        package = os.path.join(self.work, "package")
+        self.must_install("--prefix", "/usr", "--libdir", "/usr/lib/64", "--pythondir", "/usr/lib/py", "--destdir", package)
+        must("package" not in read(package, "usr/lib/64/pkgconfig/cubejobs_c.pc"), "the package names the folder")
+        must(os.path.exists(f"{package}/usr/lib/py/cubejobs.py"), "the Python module is elsewhere")
+        self.must_install("--prefix", "/usr", "--destdir", package, "--uninstall")
+        must(not tree(package), f"these are left: {[*tree(package)][:5]}")
+
+    def refusal(self, words, wanted, saying):
+        status, out, said = self.install(*words)
+        must((status, out) == (wanted, "") and saying in said, f"status {status}, {out!r}, {said!r}")
+
+    def damaged(self):
+        target, file = os.path.join(self.work, "damaged"), os.path.join(self.clone, "release/linux-x86_64/libcubejobs_c.a")
+        with open(file, "r+b") as it:
+            first = it.read(1)
+            it.seek(0)
+            it.write(b"?")
+        try:
+            self.refusal(["--prefix", target], 1, "is damaged")
+            must(not os.path.exists(target), "something was installed")
+        finally:
+            with open(file, "r+b") as it:
+                it.write(first)
+
+    def without_rights(self):
+        if not AS_NOBODY:
+            raise Skipped("only the superuser can start as another user")
+        target = os.path.join(self.work, "closed")
+        os.makedirs(target, 0o755)
+        os.chmod(self.work, 0o755)
+        status, _, said = self.install("--prefix", target, **AS_NOBODY)
+        must(status == 1 and "cannot make the folder" in said and not tree(target), f"status {status}, {said!r}")
+
+    def with_few_tools(self):
+        """It needs sh and coreutils alone: here PATH has nothing else."""
+        needs("dpkg")
+        room, target = self.room("tools"), os.path.join(self.work, "few")
+        names = [it for it in output(["dpkg", "-L", "coreutils"]).split() if re.fullmatch(r"(/usr)?/bin/[^/]+", it)]
+        for name in [*names, "/bin/sh"]:
+            os.symlink(os.path.realpath(shutil.which(os.path.basename(name))), os.path.join(room, os.path.basename(name)))
+        for words in ([], ["--uninstall"]):
+            status, _, said = self.install("--prefix", target, *words, env={"PATH": room})
+            must(status == 0 and not said, f"status {status}, {said!r}")
+        must(not os.path.exists(target), "something is left")
+
+
+def rows(place):
+    yield Row("the installation", place.must_install, ("--prefix", place.prefix))
+    yield Row("the program", place.with_the_program)
+    yield from (Row(f"{it} with pkg-config", place.with_pkg_config, (it,)) for it in EXAMPLES)
+    for act in (place.with_cmake, place.with_cargo, place.with_python, place.with_man, place.again,
+                place.of_a_later_version, place.uninstalled, place.for_a_package, place.damaged, place.without_rights,
+                place.with_few_tools):
+        yield Row(act.__name__.replace("_", " "), act)
+    for words, wanted, saying in ((["--prefx", "/x"], 2, "no option --prefx"), (["--prefix"], 2, "needs a folder"),
+                                  (["--prefix", "here"], 2, "begins with /"), (["--prefix", "/a\nb"], 2, "a line break")):
+        yield Row(f"the words {words!r}", place.refusal, (words, wanted, saying))
+
+
+def main(words):
+    must(len(words) == 1 and os.path.isdir(words[0]), __doc__)
+    needs("sh", "sha256sum")
+    with tempfile.TemporaryDirectory() as work:
+        return run_rows("install", rows(Place(work, os.path.realpath(words[0]))))
