@@ -118,7 +118,7 @@ class Place:
         said = output(["cargo", "run", "--quiet", "--offline"], cwd=room, env=env, timeout=300)
         must(said == "[6, 6, 6, 6]\n", f"the gang says {said!r}")
         said = output(["cargo", "run", "--quiet", "--offline", "--example", "subcubes"], cwd=rust, env=env, timeout=300)
-        must(said == read("examples", "subcubes.out"), f"the example says {said!r}")
+        must(said == "0 4, then: no free subcube of this dimension\n", f"the example says {said!r}")
 
     def with_python(self):
         needs("python3")
