@@ -13,6 +13,7 @@ import os
 import struct
 import subprocess
 import tempfile
+from typing import NamedTuple
 
 from checks.lib.repository import path, read_bytes
 from checks.lib.rows import Wrong, must, put
@@ -26,6 +27,22 @@ SYMBOL = struct.Struct("<IBBHQQ")
 RELOCATION = struct.Struct("<QQq")
 SYMTAB, RELA = 2, 4
 GLOBAL = 1
+
+
+class System(NamedTuple):
+    """A system for which the libraries are made: where its archives, its heap and its C library are."""
+
+    archives: str
+    heap: str
+    libc: str
+
+    def archive(self, name):
+        return self.archives.format(name=name)
+
+
+def x86_64():
+    return System(path("crates", "{name}", "out", "lib{name}.a"), f"{kit().KIT}/c/liblibc_c.a",
+                  f"{kit().KIT}/toolchain/lib/libc.so.6")
 
 
 class Object:
@@ -75,11 +92,11 @@ class Object:
                 RELOCATION.pack_into(self.data, place, where, new[of >> 32] << 32 | of & 0xFFFFFFFF, more)
 
 
-def make(name, out, room):
-    tools = f"{kit().KIT}/toolchain/bin"
-    archives = [path("crates", name, "out", f"lib{name}.a"), f"{kit().KIT}/c/liblibc_c.a"]
-    whole = f"{room}/{name}.o"
-    link = [f"{tools}/ld.lld", "-r", "-o", whole, "--whole-archive", archives[0], "--no-whole-archive", archives[1]]
+def make(system, name, out, room):
+    """Makes the archive of a library: one file, in which the functions of its header alone are visible."""
+    tools, whole = f"{kit().KIT}/toolchain/bin", f"{room}/{name}.o"
+    link = [f"{tools}/ld.lld", "-r", "-o", whole, "--whole-archive", system.archive(name), "--no-whole-archive"]
+    link += [system.heap]
     subprocess.run(link, check=True)
     made = Object(read_bytes(whole))
     made.hide()
@@ -93,24 +110,29 @@ def make(name, out, room):
     os.chmod(out, 0o644)
 
 
-def share(name, folder, room):
+def share(system, name, folder, room):
     """Makes the shared object of a library of a folder."""
-    tools, libc = f"{kit().KIT}/toolchain/bin", f"{kit().KIT}/toolchain/lib/libc.so.6"
+    tools = f"{kit().KIT}/toolchain/bin"
     interface, names = ".".join(version.of_sources().split(".")[:2]), f"{room}/{name}.map"
     put(names, f"CUBEJOBS_{interface} {{ global: cubejobs_*; local: *; }};\n".encode())
     flags = ["-z", "defs", "-z", "now", "--hash-style=gnu", "--build-id=none", "--as-needed", "--version-script", names]
-    whole = ["--whole-archive", f"{folder}/lib{name}.a", "--no-whole-archive", libc]
+    whole = ["--whole-archive", f"{folder}/lib{name}.a", "--no-whole-archive", system.libc]
     link = [f"{tools}/ld.lld", "-shared", "-soname", f"lib{name}.so.{interface}", *flags, "-o", f"{room}/{name}.so"]
     subprocess.run([*link, *whole], check=True)
     put(f"{folder}/lib{name}.so", read_bytes(f"{room}/{name}.so"), 0o644)
 
 
+def make_all(system, folder):
+    """Makes the archive and the shared object of each library."""
+    os.makedirs(folder, exist_ok=True)
+    with tempfile.TemporaryDirectory() as room:
+        for name in LIBRARIES:
+            make(system, name, os.path.join(folder, f"lib{name}.a"), room)
+            share(system, name, folder, room)
+
+
 def main(words):
     if len(words) != 1:
         raise Wrong(__doc__)
-    os.makedirs(words[0], exist_ok=True)
-    with tempfile.TemporaryDirectory() as room:
-        for name in LIBRARIES:
-            make(name, os.path.join(words[0], f"lib{name}.a"), room)
-            share(name, words[0], room)
+    make_all(x86_64(), words[0])
     print(f"archive: {len(LIBRARIES)} libraries, each one file to link, and as many shared objects")

@@ -54,14 +54,20 @@ def needs(*tools):
             raise Skipped(f"no {tool} here")
 
 
+def clone_with(work, built):
+    """Makes a clone whose release/ has what was built. Returns its folder."""
+    clone = os.path.join(work, "clone")
+    copy_to(clone, built)
+    sums = os.path.join(clone, "release", "linux-x86_64", "SHA256SUMS")
+    write(sums, f"# version {version.of_sources()}\n{read(sums)}")
+    return clone
+
+
 class Place:
     """A clone, and a prefix into which it is installed. The prefix has a space: a folder of a user may have one."""
 
     def __init__(self, work, built):
-        self.work, self.clone, self.prefix = work, os.path.join(work, "clone"), os.path.join(work, "the prefix")
-        copy_to(self.clone, built)
-        sums = os.path.join(self.clone, "release", "linux-x86_64", "SHA256SUMS")
-        write(sums, f"# version {version.of_sources()}\n{read(sums)}")
+        self.work, self.clone, self.prefix = work, clone_with(work, built), os.path.join(work, "the prefix")
 
     def install(self, *words, **how):
         return answer([os.path.join(self.clone, "install"), *words], "", text=True, cwd=self.work, **how)

@@ -79,9 +79,9 @@ class Release:
             put(os.path.join(self.folder, name), read_bytes(file), 0o755 if name == "cubejobs" else 0o644)
         self.write_sums(output([files["cubejobs"], "--version"]).split()[1], build_here())
 
-    def write_sums(self, version, by):
-        """Writes the sums of the files that stand here, and what they were built from and by."""
-        lines = [f"# version {version}", f"# sources {sum_of_sources()}", f"# built by {by}"]
+    def write_sums(self, version, by, *more):
+        """Writes the sums of the files that stand here, and what they were built from and by, with more lines."""
+        lines = [f"# version {version}", f"# sources {sum_of_sources()}", f"# built by {by}", *more]
         write(self.sums, "\n".join([*lines, *(f"{sum_of(self.bytes_of(name))}  {name}" for name in FILES)]) + "\n")
 
     def faults(self, built):

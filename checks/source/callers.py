@@ -59,6 +59,7 @@ QUOTES = {
     "line_locked": ("cube_bench/src/dispatch.rt#fn measure_shop",),
     "backoff": ("floor_tree/src/floor_tree.rt#fn take",),
     "region_shop": ("tests_region_shop/src/stage.rt#fn ask",),
+    "release_version": ("cubejobs_rounds/src/version.rt",),
     "rank_steps": ('cubejobs_rounds/src/exports.rt#pub extern "C" fn cubejobs_step',),
     "region_bits": ("alloc_bits/src/alloc_bits.rt#pub fn take",),
     "line_ruled": ("uses/src/answering.rt",),

@@ -17,18 +17,18 @@ from checks.lib import erase
 from checks.lib.repository import crate_names, files_below, path, place, read
 from checks.lib.rows import blind, print_faults
 
-MOST_IN_SENTENCE, MOST_COLUMNS, MOST_IN_CELL, MOST_IN_ALL = 25, 100, 60, 48700
+MOST_IN_SENTENCE, MOST_COLUMNS, MOST_IN_CELL, MOST_IN_ALL = 25, 100, 60, 50500
 GENERATED = ("docs/DEFINITIONS.md", "docs/THEOREM.md")
 # What is made from sources that are read themselves.
 ERASED = tuple(f"rust/src/source/{it}/" for it in erase.CRATES)
 # The most words of each document, and of the pages on calling together.
 PAGES = "crates/*/CALLING.md"
 BUDGET = {
-    "README.md": 1200, "CONTRIBUTING.md": 1000, "CHANGELOG.md": 1900, "docs/ALGORITHM.md": 1300,
-    "docs/REGIONS.md": 950, "docs/theorem/top.md": 2650, "docs/READING.md": 700, "docs/STATUS.md": 5250,
+    "README.md": 1200, "CONTRIBUTING.md": 1000, "CHANGELOG.md": 2100, "SECURITY.md": 300, "docs/ALGORITHM.md": 1300,
+    "docs/REGIONS.md": 950, "docs/theorem/top.md": 2650, "docs/READING.md": 700, "docs/STATUS.md": 5350,
     "docs/EVIDENCE.md": 1920,
     "docs/ARCHITECTURE.md": 2400, "docs/ADDING.md": 1020, "docs/DECISIONS.md": 6000, "docs/PROVING.md": 4000,
-    "docs/PERFORMANCE.md": 2650, "docs/GUIDE.md": 1800, "docs/C.md": 2250, "docs/RUST.md": 1050,
+    "docs/PERFORMANCE.md": 2650, "docs/GUIDE.md": 1800, "docs/C.md": 2350, "docs/RUST.md": 1050,
     "docs/COMPARED.md": 1200, "docs/GLOSSARY.md": 1750, "docs/TREE.md": 900, "docs/LANES.md": 700,
     "docs/MACHINES.md": 900, "docs/SOURCE.md": 700, PAGES: 6000,
 }

@@ -55,7 +55,7 @@ fn check_pairs(group: &Group<'_>) {
 
 #[test]
 fn collectives_of_each_size() {
-    let _limited = limited(60);
+    let _limited = limited(200);
     for dim in 0..=6 {
         let pool = pool(dim);
         for width in 0..=dim {
@@ -78,7 +78,7 @@ fn collectives_of_each_size() {
 /// A pool of the most workers.
 #[test]
 fn a_thousand_workers() {
-    let _limited = limited(60);
+    let _limited = limited(200);
     let pool = Pool::builder().workers_log2(10).lane_capacity(16).build().unwrap();
     assert_eq!(pool.workers(), 1024);
     wait_for_threads(1024);
@@ -132,7 +132,7 @@ fn submit_random(pool: &Pool, seed: u64, inside: &Arc<Vec<AtomicUsize>>) {
 
 #[test]
 fn gangs_never_meet() {
-    let _limited = limited(60);
+    let _limited = limited(200);
     for (capacity, lanes, looks) in [(16, 1, 0), (16, 4, 30), (4, 2, 0), (1024, 4, 100), (1, 1, 1), (3, 3, 3)]
     {
         let builder = Pool::builder().workers_log2(3).lane_capacity(capacity).shared_lanes(lanes);
@@ -228,7 +228,7 @@ fn a_third_of_the_jobs_panics() {
 /// Three threads, each of which waits for its job, so that the workers sleep in between.
 #[test]
 fn no_wake_is_lost() {
-    let _limited = limited(60);
+    let _limited = limited(200);
     let pool = Pool::builder().looks(0).lane_capacity(4).build().unwrap();
     thread::scope(|threads| {
         for thread in 0..3 {
@@ -251,7 +251,7 @@ fn no_wake_is_lost() {
 /// As many jobs as workers, each of which waits for all others: each worker is to be woken.
 #[test]
 fn each_worker_is_woken() {
-    let _limited = limited(60);
+    let _limited = limited(200);
     for dim in 1..=3 {
         let pool = pool(dim);
         for round in 0..1_000 {
@@ -275,7 +275,7 @@ fn each_worker_is_woken() {
 /// half. The waker may name a worker of the gang, and that wake must go on to another worker.
 #[test]
 fn the_wake_of_a_member_goes_on() {
-    let _limited = limited(60);
+    let _limited = limited(200);
     let pool = pool(2);
     for round in 0..1_000 {
         let (begun, ended) = (Arc::new(Barrier::new(3)), Arc::new(Barrier::new(3)));
@@ -302,7 +302,7 @@ fn the_wake_of_a_member_goes_on() {
 /// the gang's worker.
 #[test]
 fn a_call_and_a_wake_at_once() {
-    let _limited = limited(60);
+    let _limited = limited(200);
     let pool = pool(1);
     let both = Barrier::new(2);
     for _ in 0..20_000 {
@@ -322,7 +322,7 @@ fn a_call_and_a_wake_at_once() {
 /// Jobs that wait run others on top of themselves. The stack stays small.
 #[test]
 fn waits_are_not_deep() {
-    let _limited = limited(60);
+    let _limited = limited(200);
     let pool = pool(2);
     let ran = AtomicUsize::new(0);
     pool.scope(|scope| {
@@ -344,7 +344,7 @@ fn waits_in_a_tree_are_not_deep() {
     thread_local! {
         static DEPTH: Cell<usize> = const { Cell::new(0) };
     }
-    let _limited = limited(60);
+    let _limited = limited(200);
     let pool = pool(2);
     let (ran, deepest) = (AtomicUsize::new(0), AtomicUsize::new(0));
     let (ours, count, most) = (&pool, &ran, &deepest);
@@ -366,7 +366,7 @@ fn waits_in_a_tree_are_not_deep() {
 /// Each worker waits in a job for jobs, and for gangs that take the whole pool.
 #[test]
 fn jobs_wait_for_jobs_and_gangs() {
-    let _limited = limited(60);
+    let _limited = limited(200);
     let builder = Pool::builder().workers_log2(1).lane_capacity(2).shared_lanes(1);
     let pool = Arc::new(builder.build().unwrap());
     for _ in 0..200 {
@@ -387,7 +387,7 @@ fn jobs_wait_for_jobs_and_gangs() {
 
 #[test]
 fn close_runs_what_was_accepted() {
-    let _limited = limited(60);
+    let _limited = limited(200);
     for round in 0..200_usize {
         let pool = pool(2);
         let gangs: Vec<_> = (0..40_u32)
@@ -414,7 +414,7 @@ fn close_runs_what_was_accepted() {
 /// The last jobs of a closed pool: its workers race for them, and all see the end.
 #[test]
 fn all_threads_see_the_end() {
-    let _limited = limited(60);
+    let _limited = limited(200);
     for round in 0..1_000 {
         let builder = Pool::builder().shared_lanes(1).client_lanes(0).lane_capacity(16);
         let pool = builder.build().unwrap();
@@ -431,7 +431,7 @@ fn all_threads_see_the_end() {
 /// Each job of a pool that is closed at once runs, or its ticket says that it was cancelled.
 #[test]
 fn close_now_answers_each_ticket() {
-    let _limited = limited(60);
+    let _limited = limited(200);
     let live = Arc::new(AtomicUsize::new(0));
     for _ in 0..200 {
         let pool = pool(2);
@@ -472,7 +472,7 @@ fn drops_that_panic_end_no_worker() {
             planned();
         }
     }
-    let _limited = limited(60);
+    let _limited = limited(200);
     let pool = pool(2);
     for _ in 0..50 {
         drop(pool.spawn(|| {
@@ -500,7 +500,7 @@ fn drops_that_panic_end_no_worker() {
 /// room.
 #[test]
 fn small_lanes_lose_no_job() {
-    let _limited = limited(60);
+    let _limited = limited(200);
     let pool = Pool::builder().workers_log2(1).lane_capacity(1).shared_lanes(1).build().unwrap();
     let ran = AtomicUsize::new(0);
     let count = || {
@@ -524,7 +524,7 @@ fn small_lanes_lose_no_job() {
 /// A member sends as fast as it can, and another one takes the values while they come.
 #[test]
 fn values_never_pass_each_other() {
-    let _limited = limited(60);
+    let _limited = limited(200);
     for looks in [0, 30, 3_000] {
         let pool = Pool::builder().workers_log2(1).looks(looks).build().unwrap();
         pool.run(1, |group| {
@@ -541,7 +541,7 @@ fn values_never_pass_each_other() {
 /// Scopes of one job, which ends at each time: before its owner waits, and while it falls asleep.
 #[test]
 fn scopes_end_while_their_owner_sleeps() {
-    let _limited = limited(60);
+    let _limited = limited(200);
     let pool = pool(1);
     for round in 0..20_000 {
         pool.scope(|scope| {
@@ -554,7 +554,7 @@ fn scopes_end_while_their_owner_sleeps() {
 /// Panics of jobs in scopes of many threads: each scope gets one of its own.
 #[test]
 fn scopes_get_their_panics() {
-    let _limited = limited(60);
+    let _limited = limited(200);
     let pool = pool(2);
     thread::scope(|threads| {
         for thread in 0..4_u32 {

@@ -828,7 +828,7 @@ fn used() -> u64 {
 /// then it has its block.
 #[test]
 fn the_oldest_gang_is_not_passed_for_ever() {
-    let _limited = limited(60);
+    let _limited = limited(200);
     let pool = pool(3);
     let stop = AtomicBool::new(false);
     let begun = AtomicUsize::new(0);
@@ -860,7 +860,7 @@ fn the_oldest_gang_is_not_passed_for_ever() {
 /// Threads whose gangs always fill two lanes of four. The other lanes have their turn.
 #[test]
 fn a_full_lane_keeps_no_other_lane_waiting() {
-    let _limited = limited(60);
+    let _limited = limited(200);
     let pool = Pool::builder().workers_log2(3).lane_capacity(16).build().unwrap();
     let stop = AtomicBool::new(false);
     thread::scope(|threads| {
@@ -916,7 +916,7 @@ fn a_small_job_goes_first_after_a_gang() {
 /// over.
 #[test]
 fn a_gang_is_not_starved_by_small_jobs() {
-    let _limited = limited(60);
+    let _limited = limited(200);
     let pool = pool(2);
     let stop = AtomicBool::new(false);
     thread::scope(|threads| {

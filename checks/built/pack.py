@@ -1,0 +1,143 @@
+"""Makes the packages of a release: a tarball, from which `./install` installs, and a Debian package of the same files.
+
+`checks/run pack FOLDER` takes what was just built, makes both twice, in other time zones and with other masks of modes,
+and compares them to the byte. It installs from the tarball alone. `checks/run pack --out DIR` makes both in DIR, of the
+files of release/. Both are small and made at will, so the repository does not keep them.
+"""
+import gzip
+import os
+import re
+import shutil
+import subprocess
+import tarfile
+import tempfile
+
+from checks.built.install import clone_with, tree
+from checks.lib.repository import ROOT, path, read, write
+from checks.lib.rows import Row, Skipped, answer, must, run_rows
+from checks.source import version
+
+# What the tarball has, of the files that git knows.
+PARTS = ("CHANGELOG.md", "README.md", "SECURITY.md", "completions", "docs", "examples", "include", "install", "python",
+         "release", "rust", "view")
+CONTROL = """Package: cubejobs
+Version: {version}
+Architecture: amd64
+Maintainer: the owner of this copy <root@localhost>
+Depends: libc6 (>= 2.34)
+Section: devel
+Priority: optional
+Description: lock-free allocator of aligned blocks, and dispatcher of jobs
+ Blocks that are held at the same time never overlap, and each accepted job runs once. Both are proved for every
+ interleaving. The package has the program, the libraries for C, C++, Rust and Python, manual pages and examples.
+"""
+COPYRIGHT = """No licence has been chosen yet. You may read and measure this software. Ask its owner before you ship it.
+"""
+
+
+def date():
+    """Returns the seconds since 1970 of the newest release in CHANGELOG.md, or 0."""
+    found = re.search(r"^## \S+, (\d{4}-\d\d-\d\d)$", read("CHANGELOG.md"), re.M)
+    words = ["date", "--utc", f"--date={found[1]}", "+%s"] if found else []
+    return int(subprocess.run(words, check=True, capture_output=True).stdout) if found else 0
+
+
+def files(clone):
+    """Returns the files of the tarball, sorted."""
+    found = []
+    for part in PARTS:
+        top = os.path.join(clone, part)
+        for at, _, names in os.walk(top):
+            found += [os.path.relpath(os.path.join(at, name), clone) for name in names]
+        found += [part] if os.path.isfile(top) else []
+    return sorted(it for it in found if not re.search(r"(^|/)(target|mutants|__pycache__)/|^rust/lib/.*\.tmp$", it))
+
+
+def tarball(clone, out):
+    """Writes the tarball, and returns its path. Its bytes depend on the files alone."""
+    name = f"cubejobs-{version.of_sources()}"
+    made = os.path.join(out, f"{name}-linux.tar.gz")
+    with open(made, "wb") as raw, gzip.GzipFile("", "wb", 9, raw, 0) as packed, \
+            tarfile.open(fileobj=packed, mode="w", format=tarfile.PAX_FORMAT) as tar:
+        for file in files(clone):
+            it = tar.gettarinfo(os.path.join(clone, file), f"{name}/{file}")
+            it.uid = it.gid = 0
+            it.uname = it.gname = "root"
+            it.mtime, it.mode = date(), 0o755 if it.mode & 0o100 else 0o644
+            with open(os.path.join(clone, file), "rb") as data:
+                tar.addfile(it, data)
+    return made
+
+
+def debian(clone, out):
+    """Writes the Debian package, and returns its path."""
+    if not shutil.which("dpkg-deb"):
+        raise Skipped("no dpkg-deb here")
+    number = version.of_sources().replace("-", "~")
+    made = os.path.join(out, f"cubejobs_{number}_amd64.deb")
+    with tempfile.TemporaryDirectory() as room:
+        os.chmod(room, 0o755)
+        words = ["--prefix", "/usr", "--libdir", "/usr/lib/x86_64-linux-gnu", "--destdir", room]
+        words += ["--pythondir", "/usr/lib/python3/dist-packages"]
+        status, _, said = answer([os.path.join(clone, "install"), *words], "", text=True)
+        must(status == 0, f"install: {said}")
+        # The system's own list of files replaces that of ./install.
+        os.remove(os.path.join(room, "usr/share/cubejobs/installed"))
+        write(f"{room}/usr/share/doc/cubejobs/copyright", COPYRIGHT)
+        os.chmod(f"{room}/usr/share/doc/cubejobs/copyright", 0o644)
+        write(f"{room}/DEBIAN/control", CONTROL.format(version=number))
+        for it in ("DEBIAN", "DEBIAN/control"):
+            os.chmod(f"{room}/{it}", 0o755 if it == "DEBIAN" else 0o644)
+        env = {**os.environ, "SOURCE_DATE_EPOCH": str(date())}
+        for at, folders, names in os.walk(room):
+            for it in folders + names:
+                os.utime(os.path.join(at, it), (date(), date()), follow_symlinks=False)
+        words = ["dpkg-deb", "--root-owner-group", "-Zxz", "--build", room, made]
+        subprocess.run(words, check=True, stdout=subprocess.DEVNULL, env=env)
+    return made
+
+
+def same_twice(make, clone, work):
+    """Sees that two runs make the same bytes, and says how many."""
+    made = []
+    for number, (zone, mask) in enumerate((("UTC", 0o022), ("Asia/Kolkata", 0o077))):
+        out = os.path.join(work, f"{make.__name__}{number}")
+        os.makedirs(out)
+        os.environ["TZ"], old = zone, os.umask(mask)
+        try:
+            with open(make(clone, out), "rb") as it:
+                made.append(it.read())
+        finally:
+            os.umask(old)
+    must(made[0] == made[1], f"two runs of {make.__name__} make other bytes")
+    print(f"pack: the {make.__name__} has {len(made[0]):,} bytes")
+
+
+def installs_from_a_tarball(clone, work):
+    """Sees that the tarball has all that an installation needs, and makes what a clone makes."""
+    places = []
+    room = os.path.join(work, "unpacked")
+    os.makedirs(room)
+    with tarfile.open(tarball(clone, room)) as it:
+        it.extractall(room, filter="data")
+    for top in (clone, os.path.join(room, f"cubejobs-{version.of_sources()}")):
+        places.append(os.path.join(work, f"installed{len(places)}"))
+        status, _, said = answer([os.path.join(top, "install"), "--prefix", "/p", "--destdir", places[-1]], "", text=True)
+        must(status == 0 and not said, f"install: status {status}, {said!r}")
+    must(tree(places[0]) == tree(places[1]), "the tarball installs something else than a clone")
+
+
+def rows(clone, work):
+    for make in (tarball, debian):
+        yield Row(f"the same {make.__name__} twice", same_twice, (make, clone, work))
+    yield Row("an installation from the tarball", installs_from_a_tarball, (clone, work))
+
+
+def main(words):
+    if words[:1] == ["--out"] and len(words) == 2:
+        for make in (tarball, debian):
+            print(make(ROOT, words[1]))
+        return 0
+    must(len(words) == 1 and os.path.isdir(path(words[0])), __doc__)
+    with tempfile.TemporaryDirectory() as work:
+        return run_rows("pack", rows(clone_with(work, os.path.realpath(words[0])), work))
