@@ -4,14 +4,20 @@ It reads elements and never pixels: what is shown at several events of each sche
 drag over a timeline, keys, the panel, widths of 1,280 and 360 px in both themes, print, and how long a large file takes.
 """
 import json
+import os
+import tempfile
+import time
 import urllib.parse
 
 from checks.lib.browser import opened
 from checks.lib.page_scripts import PAGE, in_page
-from checks.lib.repository import path
+from checks.lib.repository import path, read
+from checks.lib.rows import put
 
 # The longest times for a million rows: to load them, and for one step, in milliseconds.
 MOST_LOAD, MOST_STEP = 4000, 60
+# How long a download may take.
+MOST_SECONDS = 20
 # A shared machine is slower: the check allows this many times the longest times.
 SLACK = 2
 
@@ -75,6 +81,56 @@ class Visit:
                 back = self.page.script("getComputedStyle(document.body).backgroundColor")
                 self.is_same(back, "rgb(255, 255, 255)" if theme == "light" else "rgb(20, 23, 27)", f"paper, {theme}")
         self.page.size(1280)
+
+    def files(self, text):
+        """Gives the page a file by its field, by a drop and by a paste, and one that it does not know."""
+        with tempfile.TemporaryDirectory() as folder:
+            known, unknown = os.path.join(folder, "known.csv"), os.path.join(folder, "unknown.csv")
+            put(known, text)
+            put(unknown, "a,b\n1,2\n")
+            rows = text.count("\n") - 1
+            ways = {"chosen": lambda file: self.page.choose("#file", file),
+                    "dropped": lambda file: self.page.drop("#drop", {"files": [file]})}
+            for way, give in ways.items():
+                self.open()
+                give(known)
+                self.page.wait("file")
+                self.is_same((self.page.script("file.rows.length"), self.text("name")), (rows, "known.csv"), f"a file that was {way}")
+                give(unknown)
+                self.page.wait("!file")
+                self.expect(self.text("error").startswith("Not drawn. "), f"an unknown file that was {way}: {self.text('error')!r}")
+        paste = f"""(() => {{ const data = new DataTransfer(); data.setData("text", {json.dumps(text)});
+            document.body.dispatchEvent(new ClipboardEvent("paste", {{ clipboardData: data, bubbles: true }})); }})()"""
+        self.open()
+        self.page.script(paste)
+        self.is_same((self.page.script("file?.rows.length"), self.text("name")), (rows, "what was pasted"), "a text that was pasted")
+
+    def plays(self):
+        """Plays to the end of a file, where it stops by itself, and stops in the middle."""
+        self.open("example=2&event=0")
+        self.page.script("by('pace').value = '20'")
+        self.page.click("#play")
+        self.page.wait("at > 3")
+        self.is_same(self.text("play"), "stop", "the button while it plays")
+        self.page.click("#play")
+        self.page.wait("by('play').textContent === 'play'")
+        self.page.script("show(file.rows.length - 2), play(true)")
+        self.page.wait("by('play').textContent === 'play'")
+        self.is_same(self.page.script("at - file.rows.length"), 0, "the row at which it stops")
+
+    def saves(self):
+        """Saves a frame, which is the drawing of the page in light colours."""
+        with tempfile.TemporaryDirectory() as folder:
+            self.page.call("Browser.setDownloadBehavior", behavior="allow", downloadPath=folder)
+            self.open("example=2&event=7")
+            wanted = self.page.script("draw(LIGHT, drawingWidth())")
+            self.page.click("#save")
+            saved = os.path.join(folder, "replay-7.svg")
+            end = time.monotonic() + MOST_SECONDS
+            while not os.path.exists(saved) and time.monotonic() < end:
+                time.sleep(0.05)
+            got = read(saved) if os.path.exists(saved) else None
+            self.expect(got == wanted and wanted.startswith("<svg"), f"what is saved: {str(got)[:80]!r}, of {os.listdir(folder)}")
 
     def strip(self):
         self.open("example=2&event=0")
@@ -164,6 +220,9 @@ def faults(browser, schedules, cards):
         visit = Visit(page)
         visit.schedules(schedules)
         visit.cards(cards)
+        visit.files(schedules[0].text)
+        visit.plays()
+        visit.saves()
         visit.strip()
         visit.keys()
         visit.timeline()

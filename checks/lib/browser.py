@@ -111,6 +111,18 @@ class Page:
         for kind in ("keyDown", "keyUp"):
             self.call("Input.dispatchKeyEvent", type=kind, key=key)
 
+    def drop(self, selector, data):
+        """Drops files or texts on an element, from outside the page."""
+        x, y = self.middle(selector)
+        for kind in ("dragEnter", "dragOver", "drop"):
+            self.call("Input.dispatchDragEvent", type=kind, x=x, y=y, data={"items": [], "dragOperationsMask": 1, **data})
+
+    def choose(self, selector, file):
+        """Chooses a file for a field of the page."""
+        root = self.call("DOM.getDocument")["root"]["nodeId"]
+        node = self.call("DOM.querySelector", nodeId=root, selector=selector)["nodeId"]
+        self.call("DOM.setFileInputFiles", nodeId=node, files=[file])
+
     def picture(self, file):
         """Saves the whole page as a PNG."""
         with open(file, "wb") as out:
