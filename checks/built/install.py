@@ -126,6 +126,19 @@ class Place:
         said = output(["cargo", "run", "--quiet", "--offline", "--example", "subcubes"], cwd=rust, env=env, timeout=300)
         must(said == "0 4, then: no free subcube of this dimension\n", f"the example says {said!r}")
 
+    def as_packages(self):
+        """Makes both packages of Rust, as soon as they may be published: cargo has no package over one that may not."""
+        needs("cargo", "cc")
+        room = self.room("packages")
+        shutil.copytree(os.path.join(self.clone, "rust"), f"{room}/rust", ignore=shutil.ignore_patterns("target"))
+        for name in ("rust/Cargo.toml", "rust/pool/Cargo.toml"):
+            write(f"{room}/{name}", read(f"{room}/{name}").replace("publish = false\n", ""))
+        env = {**os.environ, "CARGO_TARGET_DIR": f"{room}/target", "CARGO_TERM_COLOR": "never"}
+        words = ["cargo", "package", "--offline", "--workspace", "--allow-dirty"]
+        status, _, said = answer(words, "", text=True, cwd=f"{room}/rust", env=env, timeout=300)
+        warned = [it for it in re.findall(r"^warning: (.*)$", said, re.M) if not it.startswith("manifest has no license")]
+        must(status == 0 and not warned, f"cargo package: status {status}, {warned}, {said[-600:]}")
+
     def with_python(self):
         needs("python3")
         folder = self.of("share", "cubejobs", "python")
@@ -219,7 +232,7 @@ def rows(place):
     yield Row("the installation", place.must_install, ("--prefix", place.prefix))
     yield Row("the program", place.with_the_program)
     yield from (Row(f"{it} with pkg-config", place.with_pkg_config, (it,)) for it in EXAMPLES)
-    for act in (place.with_cmake, place.with_cargo, place.with_python, place.with_man, place.again,
+    for act in (place.with_cmake, place.with_cargo, place.as_packages, place.with_python, place.with_man, place.again,
                 place.of_a_later_version, place.uninstalled, place.for_a_package, place.damaged, place.without_rights,
                 place.with_few_tools):
         yield Row(act.__name__.replace("_", " "), act)

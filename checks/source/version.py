@@ -25,6 +25,7 @@ PLACES = (
     *((f"include/{name}", r'(#define CUBEJOBS_VERSION ")([^"]*)(")', False) for name in HEADERS),
     *((f"include/{name}", r"(#define CUBEJOBS_VERSION_NUMBER )(\d+)()", True) for name in HEADERS),
     ("rust/Cargo.toml", r'(\[workspace\.package\]\nversion = ")([^"]*)(")', False),
+    ("rust/pool/Cargo.toml", r'(cubejobs = \{ path = "\.\.", version = ")([^"]*)(")', False),
     ("rust/Cargo.lock", r'(name = "cubejobs"\nversion = ")([^"]*)(")', False),
     ("rust/Cargo.lock", r'(name = "cubejobs-pool"\nversion = ")([^"]*)(")', False),
     ("python/cubejobs.py", r'(__version__ = ")([^"]*)(")', False),
