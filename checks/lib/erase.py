@@ -23,7 +23,8 @@ from checks.lib.repository import files_below, read
 
 # The erased crates, each above those that it uses, with the features that need it. They are modules of `crate::source`.
 CRATES = {
-    "cube_shape": (), "region_bits": (), "cubejobs_c": (), "collectives": (), "rank_steps": (), "cubejobs_rounds": (),
+    "release_version": (), "cube_shape": (), "region_bits": (), "cubejobs_c": (), "collectives": (), "rank_steps": (),
+    "cubejobs_rounds": (),
     "bitmap_tree": ("regions", "dispatch"), "bitmap_occupancy": ("regions",), "cubejobs_regions": ("regions",),
     "ghost_log": ("dispatch",), "wake_pool": ("dispatch",), "wake_calls": ("dispatch",), "job_lanes": ("dispatch",),
     "kept_places": ("dispatch",), "region_shop": ("dispatch",), "shop_owner": ("dispatch",),

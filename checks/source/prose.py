@@ -24,7 +24,7 @@ ERASED = tuple(f"rust/src/source/{it}/" for it in erase.CRATES)
 # The most words of each document, and of the pages on calling together.
 PAGES = "crates/*/CALLING.md"
 BUDGET = {
-    "README.md": 1200, "CONTRIBUTING.md": 1060, "CHANGELOG.md": 2100, "SECURITY.md": 300, "docs/ALGORITHM.md": 1300,
+    "README.md": 1200, "CONTRIBUTING.md": 1100, "CHANGELOG.md": 2100, "SECURITY.md": 300, "docs/ALGORITHM.md": 1300,
     "docs/REGIONS.md": 950, "docs/theorem/top.md": 2650, "docs/READING.md": 700, "docs/STATUS.md": 5350,
     "docs/EVIDENCE.md": 1920,
     "docs/ARCHITECTURE.md": 2400, "docs/ADDING.md": 1020, "docs/DECISIONS.md": 6000, "docs/PROVING.md": 4000,

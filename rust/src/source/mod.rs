@@ -17,6 +17,7 @@ pub mod cubejobs_c;
 pub mod cubejobs_rounds;
 pub mod rank_steps;
 pub mod region_bits;
+pub mod release_version;
 
 #[cfg(any(feature = "dispatch", feature = "regions"))]
 pub mod bitmap_tree;

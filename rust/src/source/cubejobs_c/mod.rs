@@ -16,6 +16,7 @@ pub(crate) mod fit_regions;
 pub(crate) mod machine;
 pub(crate) mod regions;
 pub(crate) mod slots;
+pub(crate) mod version;
 
 pub use any_station::cubejobs_take_any;
 pub use codes::{
@@ -32,3 +33,4 @@ pub use fit_open::{cubejobs_bits_check, cubejobs_bits_open, cubejobs_fit_bytes};
 pub use fit_regions::{cubejobs_bits_release, cubejobs_bits_take_region};
 pub use machine::{Answer, Holder, MACHINE_BYTES, Machine, Slot, StationAnswer};
 pub use regions::{cubejobs_free_regions, cubejobs_region, cubejobs_take_region};
+pub use version::cubejobs_version_number;

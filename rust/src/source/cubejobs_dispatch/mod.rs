@@ -36,6 +36,7 @@ pub(crate) mod sleep_exports;
 pub(crate) mod sleeper_side;
 pub(crate) mod stage;
 pub(crate) mod state;
+pub(crate) mod version;
 pub(crate) mod waking;
 pub(crate) mod work_answer;
 pub(crate) mod work_exports;
@@ -74,6 +75,7 @@ pub use sizes::LaneSizes;
 pub use sleep_exports::{
     cubejobs_lanes_awake, cubejobs_lanes_find, cubejobs_lanes_wake, cubejobs_lanes_worker_number,
 };
+pub use version::cubejobs_dispatch_version_number;
 pub use work_answer::WorkAnswer;
 pub use work_exports::{
     cubejobs_dispatch_done, cubejobs_dispatch_give_back, cubejobs_dispatch_next,

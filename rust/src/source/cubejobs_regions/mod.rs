@@ -25,6 +25,7 @@ pub(crate) mod state;
 pub(crate) mod tag;
 pub(crate) mod take_exports;
 pub(crate) mod takes;
+pub(crate) mod version;
 
 pub use answer::{Answer, OccupancyAnswer};
 pub use block_exports::{
@@ -41,3 +42,4 @@ pub use occupancy::cubejobs_regions_occupancy;
 pub use take_exports::{
     cubejobs_regions_take, cubejobs_regions_take_at, cubejobs_regions_take_exact,
 };
+pub use version::cubejobs_regions_version_number;

@@ -9,8 +9,10 @@ pub(crate) mod answers;
 pub(crate) mod codes;
 pub(crate) mod exports;
 pub(crate) mod shapes;
+pub(crate) mod version;
 
 pub use answers::{CountAnswer, MessageAnswer, NO_RANK, StepAnswer};
 pub use codes::{BAD_DIMENSION, BAD_NUMBER, BAD_RANK, BAD_ROOT, BAD_ROUND, BAD_SHAPE, DONE};
 pub use exports::{cubejobs_message, cubejobs_message_count, cubejobs_step};
 pub use shapes::{ALLREDUCE, BROADCAST, REDUCE, SCAN, SHAPES};
+pub use version::cubejobs_rounds_version_number;
