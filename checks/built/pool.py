@@ -83,6 +83,7 @@ def many(target):
         status, said = run(path(PACKAGE), target, ["test", "--tests"], RUN)
         if status != 0:
             raise Wrong(f"run {number} of the tests:\n{said[-3000:]}")
+        print(f"pool: run {number} of {RUNS} passes", flush=True)
     os.sched_setaffinity(0, processors)
     print(f"pool: {RUNS} runs of the tests pass")
 
