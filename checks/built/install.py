@@ -88,15 +88,24 @@ class Place:
     def of(self, *names):
         return os.path.join(self.prefix, *names)
 
-    def with_pkg_config(self, example):
-        compiler = "c++" if example.endswith("pp") else "cc"
+    def linked(self, source, package, room):
+        """Compiles a program with the words of pkg-config, runs it, and returns its output."""
+        compiler = "c++" if source.endswith("pp") else "cc"
         needs("pkg-config", compiler)
-        source, room = self.of("share", "doc", "cubejobs", "examples", example), self.room(f"pkg-{example}")
-        flags = output(["pkg-config", "--cflags", "--libs", "cubejobs"], env=self.env()).replace("\\ ", "\0").split()
+        flags = output(["pkg-config", "--cflags", "--libs", package], env=self.env()).replace("\\ ", "\0").split()
         flags = [it.replace("\0", " ") for it in flags]
         subprocess.run([compiler, source, *flags, "-o", f"{room}/a.out"], check=True)
-        wanted = read(os.path.splitext(source)[0] + ".out")
-        must(output([f"{room}/a.out"], cwd=room, env=self.env()) == wanted, f"{example} has another output")
+        return output([f"{room}/a.out"], cwd=room, env=self.env())
+
+    def with_pkg_config(self, example):
+        source = self.of("share", "doc", "cubejobs", "examples", example)
+        said = self.linked(source, "cubejobs", self.room(f"pkg-{example}"))
+        must(said == read(os.path.splitext(source)[0] + ".out"), f"{example} has another output")
+
+    def the_program_of_the_readme(self):
+        room = self.room("readme")
+        write(f"{room}/first.c", re.search(r"^```c\n(.*?)^```", read("README.md"), re.M | re.S)[1])
+        must(self.linked(f"{room}/first.c", "cubejobs_regions", room) == "", "the program of README writes something")
 
     def with_cmake(self):
         needs("cmake", "cc", "c++")
@@ -232,7 +241,7 @@ def rows(place):
     yield Row("the installation", place.must_install, ("--prefix", place.prefix))
     yield Row("the program", place.with_the_program)
     yield from (Row(f"{it} with pkg-config", place.with_pkg_config, (it,)) for it in EXAMPLES)
-    for act in (place.with_cmake, place.with_cargo, place.as_packages, place.with_python, place.with_man, place.again,
+    for act in (place.the_program_of_the_readme, place.with_cmake, place.with_cargo, place.as_packages, place.with_python, place.with_man, place.again,
                 place.of_a_later_version, place.uninstalled, place.for_a_package, place.damaged, place.without_rights,
                 place.with_few_tools):
         yield Row(act.__name__.replace("_", " "), act)
