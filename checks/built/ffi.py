@@ -10,8 +10,10 @@ for blocks, and so do processes that share memory. Of the lanes: the same, besid
 eight workers, by lanes and by a dispatcher. Workers sleep, also in scripted orders of threads. Wrong libraries, and
 headers with a fault, must be seen. The examples are built and run. A language whose compiler is not there is skipped.
 
-`checks/run ffi [--after-gate] [--long] [--seconds N] [--only WORD]`. With `--after-gate` it takes the libraries below as
-`rt ci` has just left them. With `--long` it makes more than 10^7 calls of the exact allocator, 10^8 takes of the regions,
+The libraries of plain Rust (`rust/c`) are called too, in the gate by the plainest programs.
+
+`checks/run ffi [--after-gate] [--source] [--long] [--seconds N] [--only WORD]`. With `--source` it calls only the
+libraries of plain Rust, by all programs. With `--after-gate` it takes the libraries below as `rt ci` has just left them. With `--long` it makes more than 10^7 calls of the exact allocator, 10^8 takes of the regions,
 and passes 10^7 jobs. Regions and jobs run under each sanitizer for N seconds each, or half an hour. With `--only` it runs
 the rows whose names have the word.
 """
@@ -22,6 +24,7 @@ import tempfile
 from typing import NamedTuple, Sequence
 
 from checks.built import archive, batch, pinjobs, preload, static, wait_faults
+from checks.lib import erase
 from checks.lib.repository import files_below, path, read
 from checks.lib.rows import Row, Skipped, answer, must, put, run_rows
 from checks.lib.toolchain import AFTER_GATE, FOR_ANY
@@ -31,6 +34,8 @@ OF_REGIONS = ("cube_shape", "region_bits", "bitmap_tree", "bitmap_occupancy", "h
 OF_ROUNDS = ("collectives", "cube_shape", "rank_steps")
 OF_DISPATCH = ("bitmap_tree", "hidden_box", "job_lanes", "kept_places", "region_shop", "shop_owner")
 BELOW = {EXACT: ("cube_shape", "region_bits"), DISPATCH: OF_DISPATCH, REGIONS: OF_REGIONS, ROUNDS: OF_ROUNDS}
+# What the names of rows begin with that look into archives.
+OF_ARCHIVES = ("names of its own", "the Rust package")
 LONGER, SECONDS, HALF_AN_HOUR = 100, 7200, 1800
 STRICT = ["-O1", "-g", "-Wall", "-Wextra", "-Werror", "-pedantic", f"-I{path('include')}"]
 C, CXX = ["gcc", "-std=c11", "-xc"], ["g++", "-std=c++11", "-xc++"]
@@ -312,6 +317,18 @@ def rows(room, longer, seconds):
         yield Row(f"names of its own, and {' and '.join(whole) or REGIONS}", must_run, (room, names))
 
 
+def build_sources(room):
+    """Builds the library of plain Rust for each header, and puts it into a folder by the name of the archive."""
+    if not shutil.which("cargo"):
+        raise Skipped("no cargo here")
+    for crate, feature in erase.LIBRARIES.items():
+        words = ["cargo", "build", "--quiet", "--offline", "--release", "--package=cubejobs-c", "--no-default-features"]
+        words += [f"--features={feature}", f"--manifest-path={path('rust', 'Cargo.toml')}"]
+        status, _, said = answer([*words, f"--target-dir={room}/target"], timeout=SECONDS)
+        must(status == 0, said.decode(errors="replace"))
+        shutil.copy(f"{room}/target/release/libcubejobs_source.a", f"{room}/lib{crate}.a")
+
+
 def rust(room):
     if not shutil.which("cargo"):
         raise Skipped("no cargo here")
@@ -322,14 +339,34 @@ def word_after(words, option, default):
     return words[words.index(option) + 1] if option in words else default
 
 
+def prepared(room):
+    """Puts into a folder what rows compile beside the libraries. Returns the folder."""
+    put(f"{room}/own.c", OWN_NAMES)
+    unlike(room, "unmarked", "cubejobs_regions.h", "__has_feature(memory_sanitizer)", "0")
+    return room
+
+
+def rows_of_sources(room, longer, seconds, is_short):
+    """Yields the rows over the libraries of plain Rust. In short they are programs that must end well, by gcc and with
+    nothing that watches them."""
+    for row in rows(room, longer, seconds):
+        is_plain = row.act is must_run and row.arguments[1].compiler[0] in ("gcc", "g++") and not row.arguments[1].placed
+        if not row.name.startswith(OF_ARCHIVES) and (is_plain or not is_short):
+            yield row._replace(name=f"plain Rust: {row.name}")
+
+
 def main(words):
-    for crate in archive.LIBRARIES:
-        build(crate, AFTER_GATE in words)
+    is_source, is_long = "--source" in words, "--long" in words
+    longer, only = LONGER if is_long else 1, word_after(words, "--only", "")
+    seconds, wanted = int(word_after(words, "--seconds", HALF_AN_HOUR)), []
     with tempfile.TemporaryDirectory() as room:
-        archive.main([room])
-        put(f"{room}/own.c", OWN_NAMES)
-        unlike(room, "unmarked", "cubejobs_regions.h", "__has_feature(memory_sanitizer)", "0")
-        longer, only = LONGER if "--long" in words else 1, word_after(words, "--only", "")
-        seconds = int(word_after(words, "--seconds", HALF_AN_HOUR))
-        wanted = [*rows(room, longer, seconds), Row("the Rust package", rust, (room,))]
+        if not is_source:
+            for crate in archive.LIBRARIES:
+                build(crate, AFTER_GATE in words)
+            archive.main([room])
+            wanted += [*rows(prepared(room), longer, seconds), Row("the Rust package", rust, (room,))]
+        if is_source or shutil.which("cargo"):
+            os.mkdir(f"{room}/source")
+            build_sources(f"{room}/source")
+            wanted += rows_of_sources(prepared(f"{room}/source"), longer, seconds, not is_source and not is_long)
         return run_rows("ffi", [row for row in wanted if only in row.name], says_ok=True)

@@ -121,6 +121,7 @@ for features in '' dispatch 'dispatch std' regions 'regions std' 'dispatch regio
 done
 if cargo clippy --version > "$work/log" 2>&1; then
     quiet cargo clippy --offline --all-targets --features source
+    quiet cargo clippy --offline -p cubejobs-c
 fi
 quiet cargo doc --offline --no-deps --features source
 shows "$subcubes" cargo run --quiet --offline --features source --example subcubes

@@ -35,6 +35,8 @@ KIT_CRATES = ("atomic_table", "counted_slot")
 KIT_STD = ("alloc", "collections", "snapshot", "sync::Arc")
 CORE = ("cmp", "fmt", "marker", "mem", "ops", "sync::atomic")
 PRELUDE = ("Box", "Vec", "vec")
+# Types that are not those of a crate.
+PLAIN = ("bool", "u8", "u16", "u32", "u64", "usize")
 # The attributes that stay, and those that the prover or the linker reads.
 KEPT, DROPPED = ("cold", "derive", "doc", "inline", "must_use", "repr"), ("tactic", "unsafe")
 # Modules that no other erased one uses.
@@ -64,6 +66,15 @@ MENDED = (
      "pub const MACHINE_BYTES: u64 = core::mem::size_of::<Machine>() as u64;\n\n"
      "const _: () = assert!(core::mem::align_of::<u64>() != 8 || MACHINE_BYTES == 4872);"),
 )
+# The crates that export functions to C, and the modules of the library for C that do so here.
+LIBRARIES = {
+    "cubejobs_c": "exact", "cubejobs_rounds": "rounds", "cubejobs_regions": "regions", "cubejobs_dispatch": "dispatch"}
+EXPORTS = """// Made by checks/lib/erase.py from the functions that crates/CRATE exports. Change those.
+//! The functions of C of `CRATE`, over the erased sources.
+
+use crate::source;
+"""
+SLICES = "use crate::slices::{slice, slice_mut};\n"
 MUST_USE = '#[must_use = "the proved source spends each value of this type by a call"]\n'
 # Forms with another meaning in Rust: a clone that may fail under `map`, a range with no end, the texts of errors.
 DIFFERING = re.compile(r"\bmap\(\|\w+\| \w+\.clone\(\)\)|\(\d\w*\.\.\)|\bfor \w+ in \d\w*\.\. *\{|\banyhow\b"
@@ -183,12 +194,35 @@ def strip_head(out):
     out.append(token("\n\n" if out and last(out) in (";", "}") else "\n", "space"))
 
 
+def exported(crate, name, parameters, head):
+    """Returns the function of C that calls an erased function. A slice is a pointer and a number there."""
+    taken, given, counts = [], [], []
+    for parameter, kind in re.findall(r"(\w+): (&?(?:mut )?(?:\[\w+\]|\w+))", shown(parameters)):
+        is_slice = kind.endswith("]")
+        pointer = "*mut " if "mut" in kind else "*const "
+        inside = re.search(r"\w+(?=\]?$)", kind)[0]
+        named = inside if inside in PLAIN else f"source::{crate}::{inside}"
+        if is_slice:
+            counts.append(parameter)
+            taken += [f"{parameter}: {pointer}{named}", f"{parameter}_count: usize"]
+            given.append(f"unsafe {{ slice{'_mut' if 'mut' in kind else ''}({parameter}, {parameter}_count) }}")
+        else:
+            taken.append(f"{parameter}: {kind.replace(inside, named)}")
+            given.append(parameter)
+    result = re.search(r"-> (\w+)", head)[1]
+    named = result if result in PLAIN else f"source::{crate}::{result}"
+    safety = "/// # Safety\n/// The pointer and the number are of a slice that no other call uses.\n" if counts else ""
+    word = "unsafe " if counts else ""
+    return (f"{safety}#[no_mangle]\npub {word}extern \"C\" fn {name}({', '.join(taken)}) -> {named} {{\n"
+            f"    source::{crate}::{name}({', '.join(given)})\n}}\n")
+
+
 class Eraser:
     """What is known of a crate while its files are erased."""
 
     def __init__(self, crate, droppable):
         self.crate, self.droppable = crate, droppable
-        self.file, self.is_for_c, self.derived, self.drops = "", False, [], []
+        self.file, self.is_for_c, self.derived, self.drops, self.exports = "", False, [], [], []
 
     def erased(self, items):
         """Returns a tree without what is not Rust."""
@@ -349,6 +383,8 @@ class Eraser:
             comma = until(taken, 0, ",")
             taken = tree(taken[after(taken, comma + 1) if comma < len(taken) else comma :], "(")
             body.insert(0, token("\n    let alloc = Global;"))
+        if is_for_c:
+            self.exports.append(exported(self.crate, str(items[name]), taken, shown(head)))
         out += [items[at], *self.erased(items[at + 1 : given]), taken, *self.erased(head)]
         if body is None:
             return end
@@ -514,7 +550,7 @@ def with_head(name, text):
 
 
 def erased_crate(crate):
-    """Returns the erased files of a crate by their names, and the drops that were left out."""
+    """Returns the erased files of a crate by their names, and the eraser that has read them."""
     files = {re.sub(r".*/", "", it)[: -len(".rt")]: read(it) for it in files_below(f"crates/{crate}/src", ".rt")}
     files = {it: text for it, text in files.items() if it != "tests" and f"{crate}/{it}" not in UNUSED}
     droppable = {it for text in files.values() for it in re.findall(r"\bimpl(?:<[^{]*?>)? Drop for (\w+)", text)}
@@ -530,20 +566,24 @@ def erased_crate(crate):
             raise Unknown(f"{name}: Rust gives `{differs[0]}` another meaning")
         erased = shown(eraser.erased(parsed(mended(name, text))))
         made["mod" if file == "lib" else file] = with_head(name, erased)
-    return made, eraser.drops
+    return made, eraser
 
 
 def erased_all():
-    """Returns the text of each file of `rust/src/source` that is made, by its place there."""
-    made, drops, ends = {}, [], Ends()
+    """Returns the text of each file that is made, by its place below `rust`."""
+    made, exports, drops, ends = {}, {}, [], Ends()
     for crate in CRATES:
-        files, left_out = erased_crate(crate)
-        drops += left_out
+        files, eraser = erased_crate(crate)
+        drops += eraser.drops
+        exports[crate] = "\n".join(eraser.exports)
         for file, text in files.items():
-            made[f"{crate}/{file}.rs"] = text
+            made[f"src/source/{crate}/{file}.rs"] = text
             ends.add(file, text)
     ends.settle()
     for drop in drops:
         if not ends.only_ends(drop.owner, drop.body):
             raise Unknown(f"{drop.file}: a Drop that does something: {' '.join(drop.body.split())}")
+    for crate, file in LIBRARIES.items():
+        imports = SLICES if "slice" in exports[crate] else ""
+        made[f"c/src/{file}.rs"] = f"{EXPORTS.replace('CRATE', crate)}{imports}\n{exports[crate]}"
     return made

@@ -19,7 +19,8 @@ from checks.lib.repository import files_below, path, place, read, write
 from checks.lib.rows import Row, Skipped, Wrong, must, run_rows
 from checks.lib.toolchain import kit
 
-HOME, SHIM, PAGE = "rust/src/source", "rust/src/source/kit", "docs/SOURCE.md"
+HOME, SHIM, EXPORTS, PAGE = "rust/src/source", "rust/src/source/kit", "rust/c/src", "docs/SOURCE.md"
+BY_HAND = (f"{HOME}/mod.rs", f"{EXPORTS}/lib.rs", f"{EXPORTS}/slices.rs")
 LINES_OF_SHIM = 300
 # The files of the toolchain that the shim stands for, by the first half of the checksum that each had when it was read.
 READ = {
@@ -54,9 +55,9 @@ REFUSED = (
 
 def made_anew():
     """Sees that the committed text is what the eraser makes."""
-    made = {f"{HOME}/{it}": text for it, text in erase.erased_all().items()}
-    found = [place(it) for it in files_below(HOME, ".rs")]
-    others = [it for it in found if it not in made and not it.startswith(SHIM) and it != f"{HOME}/mod.rs"]
+    made = {f"rust/{it}": text for it, text in erase.erased_all().items()}
+    found = [place(it) for home in (HOME, EXPORTS) for it in files_below(home, ".rs")]
+    others = [it for it in found if it not in made and not it.startswith(SHIM) and it not in BY_HAND]
     must(not others, f"{others} are made of no source")
     stale = [it for it, text in made.items() if it not in found or read(it) != text]
     must(not stale, f"checks/run source --write renews {stale}")
@@ -67,7 +68,7 @@ def write_all():
     for crate in erase.CRATES:
         shutil.rmtree(path(HOME, crate), ignore_errors=True)
     for name, text in erase.erased_all().items():
-        write(f"{HOME}/{name}", text)
+        write(f"rust/{name}", text)
 
 
 def words_of(text):

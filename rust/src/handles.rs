@@ -4,7 +4,7 @@
 //! no handle belongs to a thread. A thread usually borrows the same one, which no other thread
 //! wants.
 
-use crate::place::{Borrowed, Place};
+use crate::place::{Apart, Borrowed, Place};
 use crate::regions_ffi::{self as ffi, Handle};
 use core::hint::spin_loop;
 
@@ -15,15 +15,15 @@ const COUNT: usize = 32;
 /// The first handle of a machine, which is only for opening others, and for calls that get none of
 /// these. The others are opened when they are first borrowed.
 pub struct Handles {
-    first: Place<Handle>,
-    others: [Place<Handle>; COUNT],
+    first: Apart<Place<Handle>>,
+    others: [Apart<Place<Handle>>; COUNT],
 }
 
 impl Handles {
     /// Opens a machine. Returns its handles, or the code of the refusal.
     pub fn open(dim: u32) -> Result<Self, u32> {
-        let mut handles =
-            Handles { first: Place::new(Handle::SHUT), others: [const { Place::new(Handle::SHUT) }; COUNT] };
+        let first = Apart(Place::new(Handle::SHUT));
+        let mut handles = Handles { first, others: [const { Apart(Place::new(Handle::SHUT)) }; COUNT] };
         match ffi::open(handles.first.get_mut(), dim) {
             ffi::DONE => Ok(handles),
             code => Err(code),
@@ -64,7 +64,7 @@ impl Handles {
     pub fn free(&mut self) -> bool {
         for place in &mut self.others {
             ffi::free(place.get_mut());
-            *place = Place::new(Handle::SHUT);
+            *place = Apart(Place::new(Handle::SHUT));
         }
         ffi::free(self.first.get_mut()) == ffi::DONE
     }

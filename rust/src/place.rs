@@ -14,8 +14,11 @@ pub fn pause() {
     core::hint::spin_loop();
 }
 
-/// A value, and whether it is borrowed.
+/// A value in a cache line of its own.
 #[repr(align(64))]
+pub struct Apart<T>(pub T);
+
+/// A value, and whether it is borrowed.
 pub struct Place<T> {
     is_borrowed: AtomicBool,
     value: UnsafeCell<T>,
@@ -61,6 +64,20 @@ impl<T> Place<T> {
 
     pub fn get_mut(&mut self) -> &mut T {
         self.value.get_mut()
+    }
+}
+
+impl<T> Deref for Apart<T> {
+    type Target = T;
+
+    fn deref(&self) -> &T {
+        &self.0
+    }
+}
+
+impl<T> DerefMut for Apart<T> {
+    fn deref_mut(&mut self) -> &mut T {
+        &mut self.0
     }
 }
 

@@ -11,7 +11,7 @@ use crate::event::Event;
 #[cfg(feature = "std")]
 use crate::parking::Parking;
 use crate::payload::Payload;
-use crate::place::{pause, Place};
+use crate::place::{pause, Apart, Place};
 use alloc::vec::Vec;
 use core::cmp::Reverse;
 use core::marker::PhantomData;
@@ -56,7 +56,7 @@ struct Inner<K> {
 }
 
 pub struct Room<K: Kind, P: Payload> {
-    inner: Place<Inner<K>>,
+    inner: Apart<Place<Inner<K>>>,
     #[cfg(feature = "std")]
     pub parking: Parking,
     // Raised when a worker that keeps a job may get its block.
@@ -78,7 +78,7 @@ impl<K: Kind, P: Payload> Room<K, P> {
         let parking = Parking::new(workers).ok_or(ffi::OUT_OF_MEMORY)?;
         match open(&mut inner.owner) {
             ffi::DONE => Ok(Room {
-                inner: Place::new(inner),
+                inner: Apart(Place::new(inner)),
                 #[cfg(feature = "std")]
                 parking,
                 #[cfg(feature = "std")]
