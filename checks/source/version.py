@@ -27,6 +27,7 @@ PLACES = (
     ("rust/Cargo.toml", r'(\[workspace\.package\]\nversion = ")([^"]*)(")', False),
     ("rust/pool/Cargo.toml", r'(cubejobs = \{ path = "\.\.", version = ")([^"]*)(")', False),
     ("rust/Cargo.lock", r'(name = "cubejobs"\nversion = ")([^"]*)(")', False),
+    ("rust/Cargo.lock", r'(name = "cubejobs-c"\nversion = ")([^"]*)(")', False),
     ("rust/Cargo.lock", r'(name = "cubejobs-pool"\nversion = ")([^"]*)(")', False),
     ("python/cubejobs.py", r'(__version__ = ")([^"]*)(")', False),
     ("docs/cubejobs.1", r'(\.TH CUBEJOBS 1 "" "cubejobs )([^"]*)(")', False),

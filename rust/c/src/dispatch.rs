@@ -179,6 +179,11 @@ pub extern "C" fn cubejobs_lanes_wake(lane: &mut source::cubejobs_dispatch::Hand
 }
 
 #[no_mangle]
+pub extern "C" fn cubejobs_dispatch_version_number() -> u32 {
+    source::cubejobs_dispatch::cubejobs_dispatch_version_number()
+}
+
+#[no_mangle]
 pub extern "C" fn cubejobs_dispatch_submit(lane: &mut source::cubejobs_dispatch::Handle, payload: u64, dim: u32) -> source::cubejobs_dispatch::SubmitAnswer {
     source::cubejobs_dispatch::cubejobs_dispatch_submit(lane, payload, dim)
 }

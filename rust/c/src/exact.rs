@@ -109,3 +109,8 @@ pub extern "C" fn cubejobs_region(machine: &source::cubejobs_c::Machine, station
 pub extern "C" fn cubejobs_free_regions(machine: &source::cubejobs_c::Machine, k: u32) -> u64 {
     source::cubejobs_c::cubejobs_free_regions(machine, k)
 }
+
+#[no_mangle]
+pub extern "C" fn cubejobs_version_number() -> u32 {
+    source::cubejobs_c::cubejobs_version_number()
+}

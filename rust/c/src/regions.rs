@@ -57,3 +57,8 @@ pub extern "C" fn cubejobs_regions_take_exact(thread: &mut source::cubejobs_regi
 pub extern "C" fn cubejobs_regions_take_at(thread: &mut source::cubejobs_regions::Handle, region: &mut source::cubejobs_regions::BlockHandle, base: u64, k: u32) -> source::cubejobs_regions::Answer {
     source::cubejobs_regions::cubejobs_regions_take_at(thread, region, base, k)
 }
+
+#[no_mangle]
+pub extern "C" fn cubejobs_regions_version_number() -> u32 {
+    source::cubejobs_regions::cubejobs_regions_version_number()
+}

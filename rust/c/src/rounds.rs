@@ -17,3 +17,8 @@ pub extern "C" fn cubejobs_message(shape: u32, k: u32, root: u64, i: u64) -> sou
 pub extern "C" fn cubejobs_step(shape: u32, k: u32, root: u64, rank: u64, round: u32) -> source::cubejobs_rounds::StepAnswer {
     source::cubejobs_rounds::cubejobs_step(shape, k, root, rank, round)
 }
+
+#[no_mangle]
+pub extern "C" fn cubejobs_rounds_version_number() -> u32 {
+    source::cubejobs_rounds::cubejobs_rounds_version_number()
+}
