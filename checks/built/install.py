@@ -143,7 +143,7 @@ class Place:
         for name in ("rust/Cargo.toml", "rust/pool/Cargo.toml"):
             write(f"{room}/{name}", read(f"{room}/{name}").replace("publish = false\n", ""))
         env = {**os.environ, "CARGO_TARGET_DIR": f"{room}/target", "CARGO_TERM_COLOR": "never"}
-        words = ["cargo", "package", "--offline", "--workspace", "--allow-dirty"]
+        words = ["cargo", "package", "--offline", "--workspace", "--exclude", "cubejobs-c", "--allow-dirty"]
         status, _, said = answer(words, "", text=True, cwd=f"{room}/rust", env=env, timeout=300)
         warned = [it for it in re.findall(r"^warning: (.*)$", said, re.M) if not it.startswith("manifest has no license")]
         must(status == 0 and not warned, f"cargo package: status {status}, {warned}, {said[-600:]}")
