@@ -4,6 +4,11 @@ answers. It is compiled with checks of overflow.
 `checks/run beside [--long] [--slips [NAME..]]`. In the gate it makes 100,000 calls of each library, and with `--long`
 1,000,000. With `--slips`, and with `--long`, it puts each slip of SLIPS into a copy of the text or of the shim, and
 must see a difference.
+
+With `--long` ThreadSanitizer watches plain memory that blocks and jobs guard, where `rustc +nightly` has it. The same
+program with relaxed orders in the shim must be seen. The tests of the Rust package run on other processors, by
+emulators or as 32-bit programs. They need a compiler (of the variable RUSTC, if it is set) with the target's standard
+library, and a C compiler that links for it.
 """
 import os
 import shutil
@@ -14,10 +19,19 @@ from typing import NamedTuple
 from checks.lib.repository import path, read
 from checks.lib.rows import Row, Skipped, answer, must, run_rows
 
-CALLS, MANY, SECONDS = 100_000, 1_000_000, 600
-PROGRAM, RELEASE = "checks/built/beside.rs", "release/linux-x86_64"
+CALLS, MANY, ROUNDS, SECONDS = 100_000, 1_000_000, 16_000, 1800
+PROGRAM, RACE, RELEASE = "checks/built/beside.rs", "checks/built/race.rs", "release/linux-x86_64"
 WORDS = ["--edition", "2021", "-Coverflow-checks=on", "-Cdebug-assertions=on", "-O"]
 FEATURES = [f'--cfg=feature="{it}"' for it in ("dispatch", "regions", "std")]
+
+
+WATCHED = ["+nightly", "-Zsanitizer=thread", "-Cunsafe-allow-abi-mismatch=sanitizer"]
+# Processors other than this one: the C compiler that links for each, and its emulator, if it needs one.
+TARGETS = (
+    ("aarch64-unknown-linux-gnu", "aarch64-linux-gnu-gcc", "qemu-aarch64 -L /usr/aarch64-linux-gnu"),
+    ("s390x-unknown-linux-gnu", "s390x-linux-gnu-gcc", "qemu-s390x -L /usr/s390x-linux-gnu"),
+    ("i686-unknown-linux-gnu", "i686-linux-gnu-gcc", ""),
+)
 
 
 class Slip(NamedTuple):
@@ -54,10 +68,10 @@ SLIPS = (
 )
 
 
-def built(root, folder):
-    """Builds the program over the sources below a root, with the archives that are shipped."""
-    program = os.path.join(folder, "beside")
-    words = [*WORDS, *FEATURES, f"-Lnative={path(RELEASE)}", "-o", program, os.path.join(root, PROGRAM)]
+def built(root, folder, source=PROGRAM, more=()):
+    """Builds a program over the sources below a root, with the archives that are shipped."""
+    program = os.path.join(folder, "program")
+    words = [*more, *WORDS, *FEATURES, f"-Lnative={path(RELEASE)}", "-o", program, os.path.join(root, source)]
     status, _, err = answer(["nice", "rustc", *words], "", timeout=SECONDS, text=True)
     must(status == 0, f"rustc refuses the program:\n{err[:2000]}")
     return program
@@ -73,16 +87,22 @@ def all_same(calls):
     return out.strip()
 
 
-def differs(slip):
-    """Sees that a slip gives other answers, or no end."""
-    text = read("rust/src/source", slip.file)
-    must(text.count(slip.old) == 1, f"the text {slip.old!r} is there {text.count(slip.old)} times, and not once")
-    with tempfile.TemporaryDirectory() as folder:
-        shutil.copytree(path("rust/src"), os.path.join(folder, "rust/src"))
-        os.makedirs(os.path.join(folder, os.path.dirname(PROGRAM)))
-        shutil.copy(path(PROGRAM), os.path.join(folder, PROGRAM))
+def copied(folder, source, slips):
+    """Copies a program and what it reads to a folder, with slips."""
+    shutil.copytree(path("rust/src"), os.path.join(folder, "rust/src"))
+    os.makedirs(os.path.join(folder, os.path.dirname(source)))
+    shutil.copy(path(source), os.path.join(folder, source))
+    for slip in slips:
+        text = read("rust/src/source", slip.file)
+        must(text.count(slip.old) == 1, f"the text {slip.old!r} is there {text.count(slip.old)} times, and not once")
         with open(os.path.join(folder, "rust/src/source", slip.file), "w", encoding="utf-8") as file:
             file.write(text.replace(slip.old, slip.new))
+
+
+def differs(slip):
+    """Sees that a slip gives other answers, or no end."""
+    with tempfile.TemporaryDirectory() as folder:
+        copied(folder, PROGRAM, [slip])
         program = built(folder, folder)
         try:
             status, _, err = answer([program, str(CALLS)], "", timeout=60, text=True)
@@ -92,9 +112,52 @@ def differs(slip):
     return next((it for it in err.splitlines() if "the archive, and" in it), err.strip().splitlines()[1])[-90:]
 
 
+# The orders that must be seen.
+RELAXED = [Slip("", f"kit/{it}.rs", "Ordering::SeqCst}", "Ordering::Relaxed as SeqCst}") for it in
+           ("atomic_table", "counted_slot")]
+
+
+def watched(what, slips):
+    """Sees that the sanitizer finds no race in plain memory that is guarded, or one if the orders are relaxed."""
+    if not shutil.which("rustc") or answer(["rustc", "+nightly", "--version"])[0]:
+        raise Skipped("there is no rustc +nightly")
+    with tempfile.TemporaryDirectory() as folder:
+        copied(folder, RACE, slips)
+        program = built(folder, folder, RACE, WATCHED)
+        environment = {**os.environ, "TSAN_OPTIONS": "report_thread_leaks=0"}
+        words = ["setarch", "-R", program, str(ROUNDS), what]
+        status, _, err = answer(words, "", timeout=SECONDS, text=True, env=environment)
+    is_race = "WARNING: ThreadSanitizer: data race" in err
+    must(is_race == bool(slips) and (slips or not status), f"status {status}: {err[:2000]}")
+
+
+def runs_on(target, linker, emulator):
+    """Runs the tests of the Rust package on another processor."""
+    compiler = os.environ.get("RUSTC", "rustc")
+    for word in (compiler, "cargo", linker, *emulator.split()[:1]):
+        if not shutil.which(word):
+            raise Skipped(f"there is no {word}")
+    found = answer([compiler, "--print", "target-libdir", "--target", target], "", text=True)[1].strip()
+    if not os.path.isdir(found):
+        raise Skipped(f"{compiler} has no standard library for {target}")
+    with tempfile.TemporaryDirectory() as folder:
+        name = target.upper().replace("-", "_")
+        environment = {**os.environ, "CARGO_TARGET_DIR": folder, f"CARGO_TARGET_{name}_LINKER": linker}
+        if emulator:
+            environment[f"CARGO_TARGET_{name}_RUNNER"] = emulator
+        words = ["nice", "cargo", "test", "--quiet", "--offline", "--tests", f"--target={target}"]
+        status, out, err = answer(words, "", timeout=SECONDS, text=True, env=environment, cwd=path("rust"))
+    must(status == 0, (out + err)[-2000:])
+
+
 def main(words):
     is_long, names = "--long" in words, [it for it in words if not it.startswith("--")]
     rows = [] if names else [Row("all answers are the same", all_same, (MANY if is_long else CALLS,))]
     if is_long or "--slips" in words:
         rows += [Row(it.name, differs, (it,)) for it in SLIPS if not names or it.name in names]
+    if is_long:
+        for what in ("blocks", "lanes", "dispatch"):
+            rows.append(Row(f"no race beside {what}", watched, (what, [])))
+            rows.append(Row(f"a race beside {what} is seen if orders are relaxed", watched, (what, RELAXED)))
+        rows += [Row(f"the tests on {target[0]}", runs_on, target) for target in TARGETS]
     return run_rows("beside", rows, says_ok=True)

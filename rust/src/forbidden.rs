@@ -1,4 +1,31 @@
-//! What the types of `lanes` and `dispatch` forbid. Each of these programs must not compile.
+//! What the types of `regions`, `lanes` and `dispatch` forbid. Each of these programs must not
+//! compile.
+//!
+//! No block outlives the machine that it borrows:
+//!
+//! ```compile_fail,E0505
+//! let machine = cubejobs::regions::Machine::new(4).unwrap();
+//! let block = machine.take(1).unwrap();
+//! drop(machine);
+//! drop(block);
+//! ```
+//!
+//! A block is released once:
+//!
+//! ```compile_fail,E0382
+//! fn release(block: cubejobs::regions::Block<&cubejobs::regions::Machine>) {
+//!     drop(block);
+//!     drop(block);
+//! }
+//! ```
+//!
+//! A block has no copy, and is made by a take alone:
+//!
+//! ```compile_fail,E0277
+//! fn copy<T: Clone>() {}
+//!
+//! copy::<cubejobs::regions::Held>();
+//! ```
 //!
 //! A handle has no copy:
 //!

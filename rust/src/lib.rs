@@ -63,7 +63,7 @@ pub mod fit;
     path = "over/fit_ffi.rs"
 )]
 mod fit_ffi;
-#[cfg(all(doctest, feature = "dispatch"))]
+#[cfg(all(doctest, feature = "dispatch", feature = "regions"))]
 mod forbidden;
 #[cfg(feature = "regions")]
 mod handles;

@@ -1,0 +1,95 @@
+//! Times calls of the Rust package, in nanoseconds. Each line is a row of calls and its time. `bench/source` compares
+//! the times over the archives and over plain Rust.
+
+use cubejobs::dispatch::Dispatcher;
+use cubejobs::fit::FirstFit;
+use cubejobs::lanes::{Lanes, Sizes};
+use cubejobs::regions;
+use cubejobs::rounds::{Collective, Shape};
+use cubejobs::Machine;
+use std::hint::black_box;
+use std::time::Instant;
+
+const CALLS: u32 = 20_000;
+const TURNS: u32 = 15;
+
+/// Prints the least time of a call, of several turns.
+fn row(name: &str, mut call: impl FnMut(u32)) {
+    let turn = |_| {
+        let start = Instant::now();
+        (0..CALLS).for_each(&mut call);
+        start.elapsed().as_nanos() as f64 / f64::from(CALLS)
+    };
+    let least = (0..TURNS).map(turn).fold(f64::MAX, f64::min);
+    println!("{name}\t{least}");
+}
+
+fn exact() {
+    let mut machine = Machine::new(12).unwrap();
+    row("exact, n = 12: a pair of dimension 0 to 3", |i| {
+        black_box(machine.take(5, i % 4).unwrap());
+        machine.release(5).unwrap();
+    });
+    (0..31).for_each(|station| _ = machine.take(station, station % 7).unwrap());
+    row("exact, n = 12: a pair beside 31 blocks", |i| {
+        black_box(machine.take(40, i % 7).unwrap());
+        machine.release(40).unwrap();
+    });
+    row("exact, n = 12: a refused take", |_| assert!(black_box(machine.take(40, 12)).is_err()));
+    let mut fit = FirstFit::new(vec![false; 1 << 12], 12).unwrap();
+    row("first fit, n = 12: a pair of dimension 0 to 3", |i| {
+        let region = black_box(fit.take(i % 4).unwrap());
+        fit.release(region).unwrap();
+    });
+}
+
+fn blocks() {
+    let machine = regions::Machine::new(12).unwrap();
+    row("regions, n = 12: a quick pair of dimension 0 to 3", |i| {
+        drop(black_box(machine.take(i % 4).unwrap()))
+    });
+    row("regions, n = 12: a quick pair of dimension 7 to 9", |i| {
+        drop(black_box(machine.take(7 + i % 3).unwrap()))
+    });
+    row("regions, n = 12: an exact pair of dimension 0 to 3", |i| {
+        drop(black_box(machine.take_exact(i % 4).unwrap()))
+    });
+    let _held = machine.take(11).unwrap();
+    row("regions, n = 12, half held: a quick pair", |i| drop(black_box(machine.take(i % 4).unwrap())));
+    row("regions, n = 12, half held: a refused exact take", |_| {
+        assert!(black_box(machine.take_exact(12)).is_err())
+    });
+    let machine = regions::Machine::new(20).unwrap();
+    row("regions, n = 20: a quick pair of dimension 0 to 3", |i| {
+        drop(black_box(machine.take(i % 4).unwrap()))
+    });
+}
+
+fn jobs() {
+    let sizes = Sizes { lanes: 4, workers: 2, capacity: 64 };
+    let lanes = Lanes::<u64>::new(sizes).unwrap();
+    let (mut lane, mut worker) = (lanes.lane().unwrap(), lanes.worker().unwrap());
+    row("lanes: a submit and a take", |i| {
+        lane.submit(i.into(), 0).unwrap();
+        black_box(worker.take_any(0).unwrap());
+    });
+    let shop = Dispatcher::<u64>::new(10, sizes).unwrap();
+    let (mut lane, mut worker) = (shop.lane().unwrap(), shop.worker().unwrap());
+    row("dispatch: a submit, a job with its block, a release", |i| {
+        lane.submit(i.into(), i % 4).unwrap();
+        drop(black_box(worker.try_next().unwrap()));
+    });
+}
+
+fn rounds() {
+    let reduce = Collective::new(Shape::Reduce, 10, 3).unwrap();
+    row("rounds: a step", |i| _ = black_box(reduce.step(u64::from(i % 1024), i % 10)));
+    row("rounds: a message", |i| _ = black_box(reduce.message(u64::from(i % 1023))));
+}
+
+fn main() {
+    exact();
+    blocks();
+    jobs();
+    rounds();
+}
