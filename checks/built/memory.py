@@ -43,6 +43,13 @@ def jobs(count, lanes):
     return (HEADER + "".join(rows)).encode()
 
 
+def refused_jobs(count):
+    """Returns a file in which every third job is refused, for another column in turn."""
+    wrong = ("x,scan,add,0,1\n", "0,sum,add,0,1\n", "0,scan,add,0,01\n")
+    rows = (wrong[at // 3 % 3] if at % 3 == 2 else row(0, KINDS[0], range(3)) for at in range(count))
+    return (HEADER + "".join(rows)).encode()
+
+
 def example(name):
     return read_bytes("examples", f"{name}.csv")
 
@@ -68,6 +75,10 @@ def inputs():
         (f"place --dim 2 {INPUT_FILE}", example("place"), EACH_WAY),
         ("place --dim 2", example("place"), EACH_WAY),
         ("replay --dim 2 --stations 3", example("schedule"), EACH_WAY),
+        ("check run --dim 3", refused_jobs(30), EACH_WAY),
+        (f"check run --dim 3 {INPUT_FILE}", refused_jobs(200), ONE),
+        ("check replay", example("schedule"), EACH_WAY),
+        ("messages --shape allreduce --dim 3", b"", EACH_WAY),
     ]
 
 
@@ -116,7 +127,8 @@ def refuse_each(built, shims, arguments, text, counts):
     with tempfile.TemporaryDirectory() as folder:
         command = Command(built, arguments, text, folder, shims)
         wanted = command.run(0)
-        must(wanted[0] == 0, f"status {wanted[0]} with ample memory")
+        status = 1 if command.words[1:3] == ["check", "run"] else 0
+        must(wanted[0] == status, f"status {wanted[0]} with ample memory")
         total, threads, _ = command.counted()
         must(total and threads == command.threads(), f"{total} requests, {threads} threads for {command.threads()}")
         wants = 0
