@@ -30,6 +30,10 @@ CHECKS = {
         "place --dim 3", COMMANDS_HEADER + '\n\n"free",a,-\n"free","\n",-\ntake,a,4\n', 1,
         '2,5,name,"\n",Word,"1 to 16 bytes, each of them a to z or a digit"\n'
         '3,7,dim,4,Number,"for take a number from 0 to N, for free -"\n'),
+    # against the line before the record
+    "a last record after a blank line, with no line end": (
+        "replay", CALLS_HEADER + "0,run,-\n\n0,run,1", 1,
+        '2,4,arg,1,Word,"for take a node, for step a number from 1 to 100, for any other -"\n'),
     "a schedule": (
         "replay", CALLS_HEADER + "0,step,0\n0,step,1\n0,stop,-\n", 1,
         '1,2,arg,0,Number,"for take a node, for step a number from 1 to 100, for any other -"\n'

@@ -14,6 +14,7 @@ ghost use Rattle.jobs_csv.specs.declared.bad_field.Column.{Column as TheColumn};
 ghost use Rattle.jobs_csv.specs.declared.refusal_rows.RefusalRow.{RefusalRow as TheRow};
 
 use crate::bad_field::{self, Column};
+use crate::end_seen::{EndSeen, SeesEnd};
 use crate::fault::{Fault, FaultKind, WriteError};
 use crate::format::Format;
 use crate::input::{self, MAX_RECORDS};
@@ -219,7 +220,7 @@ fn push_found<W: Write>(
 
 // Lists the refusals of the records after a good header, after the lines that are buffered. Returns
 // how many there are.
-fn list_rows<F: Checked, R: Read, W: Write>(
+fn list_rows<F: Checked, R: Read + SeesEnd, W: Write>(
     alloc: Global,
     format: &F,
     reader: &mut Reader<R>,
@@ -248,7 +249,8 @@ fn list_rows<F: Checked, R: Read, W: Write>(
             lines.finish(writer)?;
             return Ok(count);
         }
-        let line = line_number::begins_on(record, reader.position().line(), feeds);
+        let ends = feeds && !reader.get_ref().has_ended();
+        let line = line_number::begins_on(record, reader.position().line(), ends);
         let refusal = refusal_at(alloc, format, number, record, line)?;
         let (more, refused) = push_found(alloc, lines, refusal, writer)?;
         lines = more;
@@ -309,7 +311,7 @@ fn header_refusal<F: Checked, R: Read>(
 }
 
 // Lists the refusals of a file, and returns how many there are.
-fn list_file<F: Checked, R: Read + Drop, W: Write>(
+fn list_file<F: Checked, R: Read + SeesEnd + Drop, W: Write>(
     alloc: Global,
     format: &F,
     text: R,
@@ -349,7 +351,7 @@ fn check_file<F: Checked, R: Read + Device, W: Write + Device>(
         ⊎ (fault ≡ attribute FaultKind.Write (W.failures writer.old) (W.failures writer.new))) }
 {
     let (reads, writes) = (reader.failures(), writer.failures());
-    match list_file(alloc, format, &mut *reader, writer) {
+    match list_file(alloc, format, EndSeen::new(&mut *reader), writer) {
         Ok(count) => Ok(count),
         Err(CheckError::Input) => Err(Fault::attribute(FaultKind::Read, reads, reader.failures())),
         Err(CheckError::Output) => Err(Fault::attribute(

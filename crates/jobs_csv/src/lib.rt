@@ -12,6 +12,7 @@
 mod bad_field;
 mod check;
 mod columns;
+mod end_seen;
 mod fault;
 mod fields;
 mod format;

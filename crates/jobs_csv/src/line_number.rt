@@ -39,14 +39,9 @@ pub(crate) fn ends_with_feed(record: &ByteRecord, end: u64) -> bool {
     unended(record, end) > start_of(record)
 }
 
-/// Returns the line on which a record begins, if the line is `end` once it is read.
-///
-/// If the last record follows a blank line and has no line end, this is the blank line.
-pub(crate) fn begins_on(record: &ByteRecord, end: u64, feeds: bool) -> u64 {
+/// Returns the line on which a record begins, if the line is `end` once it is read. `ends` says
+/// whether a line feed ended the record.
+pub(crate) fn begins_on(record: &ByteRecord, end: u64, ends: bool) -> u64 {
     let line = unended(record, end);
-    if feeds && line > start_of(record) {
-        line - 1
-    } else {
-        line
-    }
+    if ends { line.saturating_sub(1) } else { line }
 }

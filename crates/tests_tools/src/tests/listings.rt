@@ -65,6 +65,14 @@ fn each_fault_has_a_line(rt: HostRuntime) {
 }
 
 #[test]
+fn a_last_record_with_no_line_end_has_its_line(rt: HostRuntime) {
+    let input: &[u8] = b"lane,kind,op,root,items\n\n16,scan,add,0,1";
+    let lines: &[u8] =
+        b"1,3,lane,16,Number,\"a number below 16, with no sign and no leading zero\"\n";
+    expect_jobs(&rt, input, 1, lines);
+}
+
+#[test]
 fn the_input_of_another_command_is_named(rt: HostRuntime) {
     let input: &[u8] = b"command,name,dim\ntake,a,1\n";
     let lines: &[u8] = b"0,1,,,Fields,another file: this is the input of place\n";
