@@ -77,7 +77,7 @@ QUOTES = {
 }
 # A library that nobody calls, and why.
 UNCALLED = {
-    "ghost_history": "it has no code that runs", "ghost_log": "its calls do nothing at run time"}
+    "job_events": "the program does not call it yet", "ghost_history": "it has no code that runs", "ghost_log": "its calls do nothing at run time"}
 OPENING = re.compile(r"\A(//.*\n)+\n?")
 BLOCK = re.compile(r"((?<=```rust\n)|(?<=```antt\n)|(?<=```c\n)).*?(?=```\n)", re.DOTALL)
 NAMED = re.compile(r"`((?:crates|examples)/[^`\s]+)`")
