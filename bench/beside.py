@@ -79,7 +79,7 @@ def write_schedule(kind, count, path):
 
 def built(folder, source):
     """The plain program of a source file, built into the folder."""
-    program = os.path.join(folder, "plain")
+    program = os.path.join(folder, os.path.splitext(source)[0])
     subprocess.run(["rustc", "--edition", "2021", "-O", "-o", program, os.path.join(BENCH, source)], check=True)
     return program
 
