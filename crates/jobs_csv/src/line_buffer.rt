@@ -11,6 +11,7 @@ use csv::{ByteRecord, Writer};
 use std::alloc::{AllocError, Global};
 use std::io::Write;
 use std::marker::Model;
+use std::mem::replace;
 
 // The buffer is full if it has this many bytes.
 const FULL: usize = 65_536;
@@ -115,29 +116,19 @@ impl LineBuffer {
     }
 
     /// Writes out the buffered lines and empties the buffer.
-    pub fn flush<W: Write>(self, writer: &mut W) -> Result<Self, WriteError>
+    pub fn flush<W: Write>(mut self, writer: &mut W) -> Result<Self, WriteError>
         ensures written { OnOk result
             (Appends (W.contents writer.old) (W.contents writer.new) self) }
         ensures empty { IfOk result (λ lines. lines ≡ []) }
     {
-        let LineBuffer {
-            writer: buffer,
-            fields,
-            alloc,
-        } = self;
-        let Ok(mut text) = Box::into_inner(buffer).into_inner() else {
+        let full = replace(&mut *self.writer, Writer::from_writer(Vec::new(self.alloc)));
+        let Ok(mut text) = full.into_inner() else {
             return Err(WriteError);
         };
         write_out(&text, writer)?;
         text.clear();
-        let Ok(writer) = Box::new(alloc, Writer::from_writer(text)) else {
-            return Err(WriteError);
-        };
-        Ok(LineBuffer {
-            writer,
-            fields,
-            alloc,
-        })
+        *self.writer = Writer::from_writer(text);
+        Ok(self)
     }
 
     /// Writes out the buffered lines, as `flush` does, if the buffer is full.

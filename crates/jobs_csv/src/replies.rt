@@ -50,13 +50,13 @@ fn push_place(text: &mut String, rank: u64, item: Option<u64>) -> Result<(), All
     Ok(())
 }
 
-// Returns what the places hold at the end, by rank, with a space between each two.
-fn places(alloc: Global, reply: &Reply) -> Result<String, AllocError>
+// Appends what the places hold at the end to an empty text, by rank, with a space between each two.
+fn places(mut text: String, reply: &Reply) -> Result<String, AllocError>
+    requires empty { string_bytes text ≡ [] }
     ensures text { IfOk result (λ text. string_bytes text
         ≡ places_text (length reply.now.job.items) reply.now.job) }
     ensures plain { IfOk result (λ text. IsPlainField (string_bytes text)) }
 {
-    let mut text = String::new(alloc);
     let ranks = reply.job().items().len() as u64;
     for rank in 0..ranks {
         push_place(&mut text, rank, reply.at(rank))?;
@@ -85,12 +85,13 @@ impl Row for Reply {
     fn push_fields(&self, alloc: Global, line: &mut RowFields) -> Result<(), AllocError> {
         let id = self.id();
         let tally = self.tally();
-        let items = places(alloc, self)?;
+        let items = places(line.take_room(alloc), self)?;
         line.push_number(u64::from(id.lane))?;
         line.push_number(id.seq)?;
         line.push_text(kind_keyword(self.job().kind()).as_bytes())?;
         line.push_number(u64::from(self.job().dim()))?;
         line.push_text(items.as_bytes())?;
+        line.put_room(items);
         line.push_number(u64::from(tally.rounds))?;
         line.push_number(tally.messages)
     }

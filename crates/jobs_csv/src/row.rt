@@ -1,5 +1,5 @@
 // A row that is written, and the fields of its line.
-ghost use Rattle.std.specs.Prelude.{◌≡◌, ◌∷◌, [], ◌++◌, ◌≤◌, ℕ, List, OnOk, length};
+ghost use Rattle.std.specs.Prelude.{◌≡◌, ◌∷◌, [], ◌++◌, ◌≤◌, ℕ, List, OnOk, length, string_bytes};
 ghost use Rattle.std.specs.Fmt.{decimal};
 ghost use Rattle.csv.specs.Records.{fields_of};
 ghost use Rattle.jobs_csv.specs.Inner.Output.{AddsLine, HasPlainFields, items_held};
@@ -9,6 +9,7 @@ use csv::{ByteRecord, Writer};
 use itoa::Buffer;
 use std::alloc::{AllocError, Global};
 use std::marker::Model;
+use std::mem::replace;
 
 /// A row that is written: its columns and its fields.
 pub trait Row {
@@ -38,6 +39,8 @@ pub trait Row {
 #[derive(Drop)]
 pub struct RowFields {
     fields: ByteRecord,
+    // The room of the texts that rows make, so that not each of them reserves memory.
+    room: String,
 }
 
 impl Model for RowFields {
@@ -73,7 +76,25 @@ impl RowFields {
     {
         RowFields {
             fields: ByteRecord::new(alloc),
+            room: String::new(alloc),
         }
+    }
+
+    // Takes an empty text out, with the room of the text that was put back last.
+    pub(crate) fn take_room(&mut self, alloc: Global) -> String
+        ensures text { string_bytes result ≡ [] }
+        ensures fields { self.new ≡ self.old }
+    {
+        let mut text = replace(&mut self.room, String::new(alloc));
+        text.clear();
+        text
+    }
+
+    // Puts a text back, so that the next one can use its room.
+    pub(crate) fn put_room(&mut self, text: String)
+        ensures { self.new ≡ self.old }
+    {
+        self.room = text;
     }
 
     /// Removes all fields.

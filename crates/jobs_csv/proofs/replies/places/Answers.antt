@@ -7,8 +7,8 @@ use Rattle.jobs_csv.proofs.replies.places.Goals as goal
 
 pub loop-rank-init : goal.loop-rank-init
 loop-rank-init c = record {
-  text = c.new-text.ensures.bytes ∙ sym (no_places c.args.reply.now.job);
-  plain = rw c.new-text.ensures.bytes plain_nothing;
+  text = c.requires.empty ∙ sym (no_places c.args.reply.now.job);
+  plain = rw c.requires.empty plain_nothing;
 }
 
 pub loop-rank-preserved : goal.loop-rank-preserved
