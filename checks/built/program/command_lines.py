@@ -42,6 +42,7 @@ TWICE = {
     "two outputs": ("run --dim 3 --output a --output b", "--output <FILE>"),
     "two dimensions": ("run --dim 3 --dim 3", N),
     "two dimensions in two ways": ("run --dim 3 --dim=3", N),
+    "two dimensions, one by its letter": ("run --dim 3 -n 3", N),
     "two counts of dispatchers": ("run --dim 3 --dispatchers 2 --dispatchers 2", D),
     "a report that is quiet twice": ("report --dim 3 --quiet --quiet", "--quiet"),
 }
@@ -55,7 +56,7 @@ UNEXPECTED = {
     "a negative number as a word of its own": ("run --dim -1", "-1"),
     "an option in capital letters": ("run --DIM 3", "--DIM"),
     "the first letter of an option": ("run -d 3", "-d"),
-    "the first letter of --quiet": ("run --dim 3 -q", "-q"),
+    "a quiet place by its letter": ("place --dim 3 -q", "-q"),
     "two dashes": ("run --dim 3 - -", "-"),
     "an option after two dashes": ("run -- --dim 3", "3"),
     "stations of a report": ("report --dim 3 --stations 2", "--stations"),

@@ -27,6 +27,8 @@ ANSWERED = {
     "an input that is standard input by its name": ("/dev/stdin", GOOD, None),
     "an input that is a dash": ("-", GOOD, None),
     "an output": ("--output new.csv", GOOD, "new.csv"),
+    "an output by its letter, of a quiet run": ("-q -o new.csv", GOOD, "new.csv"),
+    "a place with letters": ("place -n 3 -onew.csv place.csv", "", "new.csv", PLACED[1]),
     "an output over a file": ("--output=old.csv", GOOD, "old.csv"),
     "an output in a folder": ("--output=folder/new.csv", GOOD, "folder/new.csv"),
     "an output over the file of a link": ("--output link.csv", GOOD, "old.csv"),

@@ -34,6 +34,7 @@ CHECKS = {
     "a last record after a blank line, with no line end": (
         "replay", CALLS_HEADER + "0,run,-\n\n0,run,1", 1,
         '2,4,arg,1,Word,"for take a node, for step a number from 1 to 100, for any other -"\n'),
+    "a dimension by its letter": ("run -n 1", JOBS_HEADER + "0,scan,add,0,1 2\n", 0, ""),
     "a schedule": (
         "replay", CALLS_HEADER + "0,step,0\n0,step,1\n0,stop,-\n", 1,
         '1,2,arg,0,Number,"for take a node, for step a number from 1 to 100, for any other -"\n'
@@ -56,7 +57,7 @@ CHECKS = {
 LISTS = {
     "a broadcast of root 1": ("--shape broadcast --dim 2 --root 1", "0,1,0\n1,1,3\n1,0,2\n"),
     "a reduction to root 2": ("--shape reduce --dim 2 --root 2", "0,1,0\n0,3,2\n1,0,2\n"),
-    "an all-reduce": ("--shape allreduce --dim 1", "0,0,1\n0,1,0\n"),
+    "an all-reduce": ("--shape allreduce -n 1", "0,0,1\n0,1,0\n"),
     "a scan": ("--shape scan --dim 1", "0,0,1\n0,1,0\n"),
     "an exclusive scan": ("--shape=exscan --dim=1 --root=0", "0,0,1\n0,1,0\n"),
     "one processor": ("--shape reduce --dim 0", ""),

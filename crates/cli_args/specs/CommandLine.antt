@@ -29,10 +29,11 @@ IsWithinLimits (Report shop) = AreShopSizes shop.sizes
 IsWithinLimits (Place n) = n ≤ MAX_DIM
 IsWithinLimits (Replay n stations) = (n ≤ MAX_DIM) × (1 ≤ stations) × (stations ≤ MAX_STATIONS)
 
--- The required option `--dim N`, a number from 0 to `MAX_DIM`.
+-- The required option `--dim N` or `-n N`, a number from 0 to `MAX_DIM`.
 abbrev pub dim_rule : Rule
 dim_rule =
     record (new_rule (codes "dim")) {
+      short = Some 110;
       long = Some (codes "dim");
       value_names = 1;
       required = true;
@@ -76,14 +77,23 @@ capacity_rule =
 abbrev pub file_rule : Rule
 file_rule = record (new_rule (codes "file")) { value_names = 1 }
 
--- The option `--output FILE`.
+-- The option `--output FILE` or `-o FILE`.
 abbrev pub output_rule : Rule
-output_rule = record (new_rule (codes "output")) { long = Some (codes "output"); value_names = 1 }
+output_rule =
+    record (new_rule (codes "output")) {
+      short = Some 111;
+      long = Some (codes "output");
+      value_names = 1;
+    }
 
--- The flag `--quiet`.
+-- The flag `--quiet` or `-q`.
 abbrev pub quiet_rule : Rule
 quiet_rule =
-    record (new_rule (codes "quiet")) { long = Some (codes "quiet"); action = Some SetTrue }
+    record (new_rule (codes "quiet")) {
+      short = Some 113;
+      long = Some (codes "quiet");
+      action = Some SetTrue;
+    }
 
 -- A command that has a version.
 abbrev pub versioned_app : Text → App

@@ -283,6 +283,7 @@ fn dim_option<'a>(alloc: Global, limits: &'a Limits) -> Arg<'a>
     ensures local { result.global ≡ false }
 {
     Arg::new(alloc, "dim")
+        .short('n')
         .long("dim")
         .value_name("N")
         .help(&limits.dim)
@@ -306,6 +307,7 @@ fn output_option<'a>(alloc: Global) -> Arg<'a>
     ensures local { result.global ≡ false }
 {
     Arg::new(alloc, "output")
+        .short('o')
         .long("output")
         .value_name("FILE")
         .help("File to write, whole or not at all")
@@ -343,6 +345,7 @@ fn quiet_option<'a>(alloc: Global) -> Arg<'a>
     ensures local { result.global ≡ false }
 {
     Arg::new(alloc, "quiet")
+        .short('q')
         .long("quiet")
         .help("Shows no line of progress")
         .action(ArgAction::SetTrue)

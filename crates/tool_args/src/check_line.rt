@@ -75,6 +75,7 @@ fn dim_option<'a>(alloc: Global, help: &'a str) -> Arg<'a>
     ensures local { result.global ≡ false }
 {
     Arg::new(alloc, "dim")
+        .short('n')
         .long("dim")
         .value_name("N")
         .help(help)
