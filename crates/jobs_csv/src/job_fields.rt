@@ -1,5 +1,5 @@
 // The fields of a job's record.
-ghost use Rattle.std.specs.Prelude.{◌≡◌, ◌-◌, ◌<◌, IfOk};
+ghost use Rattle.std.specs.Prelude.{◌≡◌, ◌-◌, ◌<◌, [], ◌∷◌, Ok, IfOk};
 ghost use Rattle.jobs_csv.specs.JobFields.{collective_of, has_superfluous_root, items_of, op_of};
 ghost use Rattle.jobs_csv.specs.Fields.{number_within};
 ghost use Rattle.jobs_csv.specs.Inner.Parse.{ReturnsParse};
@@ -94,12 +94,25 @@ fn piece_count(field: &[u8]) -> usize {
     count
 }
 
+// Returns a list of one item.
+fn one_item(alloc: Global, item: u64) -> Result<Vec<u64>, FaultKind>
+    ensures { ReturnsParse (λ items. items.items) (Ok (item ∷ [])) result }
+{
+    let Ok(items) = vec![in alloc; item; 1] else {
+        return Err(FaultKind::OutOfMemory);
+    };
+    Ok(items)
+}
+
 /// Reads the items of a field: numbers with one space between each two. An empty field has none.
 pub(crate) fn items(alloc: Global, field: &[u8]) -> Result<Vec<u64>, FaultKind>
     ensures { ReturnsParse (λ items. items.items) (items_of field.now) result }
 {
     if field.is_empty() {
         return Ok(Vec::new(alloc));
+    }
+    if let Some(item) = fields::number(field) {
+        return one_item(alloc, item);
     }
     // No job has more items than the largest machine has processors.
     let room = piece_count(field).min(1 << MAX_DIM);
