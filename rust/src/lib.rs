@@ -46,20 +46,29 @@ extern crate std;
 pub mod dispatch;
 #[cfg(feature = "dispatch")]
 #[cfg_attr(
-    any(feature = "source", not(all(target_arch = "x86_64", target_os = "linux"))),
+    any(
+        feature = "source",
+        not(all(target_os = "linux", any(target_arch = "x86_64", target_arch = "aarch64")))
+    ),
     path = "over/dispatch_ffi.rs"
 )]
 mod dispatch_ffi;
 #[cfg(all(any(feature = "dispatch", feature = "regions"), feature = "std"))]
 mod event;
 #[cfg_attr(
-    any(feature = "source", not(all(target_arch = "x86_64", target_os = "linux"))),
+    any(
+        feature = "source",
+        not(all(target_os = "linux", any(target_arch = "x86_64", target_arch = "aarch64")))
+    ),
     path = "over/ffi.rs"
 )]
 mod ffi;
 pub mod fit;
 #[cfg_attr(
-    any(feature = "source", not(all(target_arch = "x86_64", target_os = "linux"))),
+    any(
+        feature = "source",
+        not(all(target_os = "linux", any(target_arch = "x86_64", target_arch = "aarch64")))
+    ),
     path = "over/fit_ffi.rs"
 )]
 mod fit_ffi;
@@ -79,7 +88,10 @@ mod place;
 pub mod regions;
 #[cfg(feature = "regions")]
 #[cfg_attr(
-    any(feature = "source", not(all(target_arch = "x86_64", target_os = "linux"))),
+    any(
+        feature = "source",
+        not(all(target_os = "linux", any(target_arch = "x86_64", target_arch = "aarch64")))
+    ),
     path = "over/regions_ffi.rs"
 )]
 mod regions_ffi;
@@ -87,7 +99,10 @@ mod regions_ffi;
 mod room;
 pub mod rounds;
 #[cfg_attr(
-    any(feature = "source", not(all(target_arch = "x86_64", target_os = "linux"))),
+    any(
+        feature = "source",
+        not(all(target_os = "linux", any(target_arch = "x86_64", target_arch = "aarch64")))
+    ),
     path = "over/rounds_ffi.rs"
 )]
 mod rounds_ffi;
@@ -95,7 +110,7 @@ mod rounds_ffi;
 mod shared;
 #[cfg(feature = "dispatch")]
 mod sharing;
-#[cfg(any(feature = "source", not(all(target_arch = "x86_64", target_os = "linux"))))]
+#[cfg(any(feature = "source", not(all(target_os = "linux", any(target_arch = "x86_64", target_arch = "aarch64")))))]
 #[rustfmt::skip]
 mod source;
 
