@@ -9,8 +9,9 @@ gives paths the names that they have in `rust/src/source`. It writes nothing of 
 - `#[must_use]` at a type whose values the prover does not allow to be dropped,
 - `let alloc = Global;` in a function for C, to which C passes no allocator,
 - `ManuallyDrop::new(x)` for `unsafe { ManuallyDrop::new_unchecked(x) }`,
-- two nested `if` for an `if let` with `&&`, which older compilers do not know, and
-- the texts of MENDED, each for one text of a source, which must still be there.
+- two nested `if` for an `if let` with `&&`, which older compilers do not know,
+- the texts of MENDED, each for one text of a source, which must still be there, and
+- the functions of `rust/c`, each a call of the erased function for C of its name.
 
 It stops (`Unknown`) at a form that it does not know, and at one that Rust and Rattle both accept with different
 meanings.
@@ -21,14 +22,11 @@ from typing import NamedTuple
 from checks.lib.rattle_source import functions_in
 from checks.lib.repository import files_below, read
 
-# The erased crates, each above those that it uses, with the features that need it. They are modules of `crate::source`.
-CRATES = {
-    "release_version": (), "cube_shape": (), "region_bits": (), "cubejobs_c": (), "collectives": (), "rank_steps": (),
-    "cubejobs_rounds": (),
-    "bitmap_tree": ("regions", "dispatch"), "bitmap_occupancy": ("regions",), "cubejobs_regions": ("regions",),
-    "ghost_log": ("dispatch",), "wake_pool": ("dispatch",), "wake_calls": ("dispatch",), "job_lanes": ("dispatch",),
-    "kept_places": ("dispatch",), "region_shop": ("dispatch",), "shop_owner": ("dispatch",),
-    "cubejobs_dispatch": ("dispatch",)}
+# The erased crates, each after those that it uses. They are modules of `crate::source`.
+CRATES = (
+    "release_version", "cube_shape", "region_bits", "cubejobs_c", "collectives", "rank_steps", "cubejobs_rounds",
+    "bitmap_tree", "bitmap_occupancy", "cubejobs_regions", "ghost_log", "wake_pool", "wake_calls", "job_lanes", "kept_places",
+    "region_shop", "shop_owner", "cubejobs_dispatch")
 SOURCE, KIT = "crate::source", "crate::source::kit"
 # What the shim has of the toolchain's crates and of its `std`. Other paths of `std` are those of `core`, if listed.
 KIT_CRATES = ("atomic_table", "counted_slot")
