@@ -52,6 +52,8 @@ _cubejobs() {
     fi
     if [ "$offered" = FILE ]; then
         mapfile -t COMPREPLY < <(compgen -f -- "$current")
+    elif [ "$offered" = - ]; then
+        COMPREPLY=()
     else
         mapfile -t COMPREPLY < <(compgen -W "$offered" -- "$current")
     fi

@@ -30,6 +30,8 @@ LINES = (
     ("check replay --d", ""),
     ("messages --shape s", "scan"),
     ("messages jo", ""),
+    ("messages --root ", ""),
+    ("run -n 1", "1 10 11 12"),
     ("help r", "replay report run"),
 )
 BASH = """\
@@ -52,6 +54,8 @@ _cubejobs() {{
     fi
     if [ "$offered" = FILE ]; then
         mapfile -t COMPREPLY < <(compgen -f -- "$current")
+    elif [ "$offered" = - ]; then
+        COMPREPLY=()
     else
         mapfile -t COMPREPLY < <(compgen -W "$offered" -- "$current")
     fi
