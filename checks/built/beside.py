@@ -5,6 +5,9 @@ answers. It is compiled with checks of overflow.
 1,000,000. With `--slips`, and with `--long`, it puts each slip of SLIPS into a copy of the text or of the shim, and
 must see a difference.
 
+A self-test makes 250,000 calls of the Rust package, and gives a number that depends on each answer. Both forms must give
+the same one. With `--long` it must be the same on other processors, and in WebAssembly by node.
+
 With `--long` ThreadSanitizer watches plain memory that blocks and jobs guard, where `rustc +nightly` has it. The same
 program with relaxed orders in the shim must be seen. The tests of the Rust package run on other processors, by
 emulators or as 32-bit programs. They need a compiler (of the variable RUSTC, if it is set) with the target's standard
@@ -32,6 +35,14 @@ TARGETS = (
     ("s390x-unknown-linux-gnu", "s390x-linux-gnu-gcc", "qemu-s390x -L /usr/s390x-linux-gnu"),
     ("i686-unknown-linux-gnu", "i686-linux-gnu-gcc", ""),
 )
+
+
+# The self-test in WebAssembly. A toolchain of Debian has no linker of its own.
+SELF_TEST, WASM = "checks/built/selftest.rs", "wasm32-unknown-unknown"
+WASM_LINKERS = ("wasm-ld", "wasm-ld-19")
+RUN_WASM = """import { readFileSync } from "node:fs";
+const { instance } = await WebAssembly.instantiate(readFileSync(process.argv[1]), {});
+console.log(BigInt.asUintN(64, instance.exports.selftest()).toString());"""
 
 
 class Slip(NamedTuple):
@@ -131,28 +142,79 @@ def watched(what, slips):
     must(is_race == bool(slips) and (slips or not status), f"status {status}: {err[:2000]}")
 
 
-def runs_on(target, linker, emulator):
-    """Runs the tests of the Rust package on another processor."""
+def compiler_for(target, *tools):
+    """Returns a compiler that has the standard library of a target, if these tools are there too."""
     compiler = os.environ.get("RUSTC", "rustc")
-    for word in (compiler, "cargo", linker, *emulator.split()[:1]):
+    for word in (compiler, *tools):
         if not shutil.which(word):
             raise Skipped(f"there is no {word}")
     found = answer([compiler, "--print", "target-libdir", "--target", target], "", text=True)[1].strip()
     if not os.path.isdir(found):
         raise Skipped(f"{compiler} has no standard library for {target}")
+    return compiler
+
+
+def self_test(compiler, form, runner, *words):
+    """Builds and runs the self-test over a form of the package. Returns the number that it gives."""
+    features = [f'--cfg=feature="{it}"' for it in ("dispatch", "regions", *form)]
+    with tempfile.TemporaryDirectory() as folder:
+        library, program = f"{folder}/libcubejobs.rlib", f"{folder}/selftest"
+        common = ["nice", compiler, "--edition=2021", "-O", f"-Lnative={path(RELEASE)}"]
+        target = [it for it in words if it.startswith("--target")]
+        package = ["--crate-name=cubejobs", "--crate-type=rlib", *features, *target, path("rust/src/lib.rs"), "-o", library]
+        for made in (package, [*words, f"--extern=cubejobs={library}", path(SELF_TEST), "-o", program]):
+            status, _, err = answer([*common, *made], "", timeout=SECONDS, text=True)
+            must(status == 0 and "warning" not in err, f"rustc: {err[:2000]}")
+        status, out, err = answer([*runner, program], "", timeout=SECONDS, text=True)
+    must(status == 0 and out.strip().isdigit(), f"the self-test: status {status}, {out[:200]!r}, {err[:600]}")
+    return out.strip()
+
+
+def number_of(form=("source",)):
+    """Returns the number that the self-test gives on this machine over a form of the package."""
+    return self_test(compiler_for("x86_64-unknown-linux-gnu"), form, ())
+
+
+def same_in_both_forms():
+    numbers = number_of(("source",)), number_of(())
+    must(numbers[0] == numbers[1], f"plain Rust gives {numbers[0]}, and the libraries {numbers[1]}")
+    return numbers[0]
+
+
+def same_on(target, linker, emulator):
+    """Sees that the self-test gives the same number on another processor."""
+    compiler = compiler_for(target, linker, *emulator.split()[:1])
+    got = self_test(compiler, ("source",), emulator.split(), f"--target={target}", f"-Clinker={linker}")
+    must(got == number_of(), f"{got} is not the number of this processor")
+
+
+def same_in_wasm():
+    """Sees that the self-test gives the same number in WebAssembly."""
+    compiler = compiler_for(WASM, "node")
+    linker = next(filter(shutil.which, WASM_LINKERS), None)
+    words = [f"-Clinker={linker}", "-Clinker-flavor=wasm-ld"] if linker else []
+    runner = ["node", "--input-type=module", "--eval", RUN_WASM, "--"]
+    got = self_test(compiler, ("source",), runner, f"--target={WASM}", "--crate-type=cdylib", *words)
+    must(got == number_of(), f"{got} is not the number of this processor")
+
+
+def runs_on(target, linker, emulator):
+    """Runs the tests of the Rust package on another processor."""
+    compiler_for(target, "cargo", linker, *emulator.split()[:1])
     with tempfile.TemporaryDirectory() as folder:
         name = target.upper().replace("-", "_")
         environment = {**os.environ, "CARGO_TARGET_DIR": folder, f"CARGO_TARGET_{name}_LINKER": linker}
         if emulator:
             environment[f"CARGO_TARGET_{name}_RUNNER"] = emulator
-        words = ["nice", "cargo", "test", "--quiet", "--offline", "--tests", f"--target={target}"]
+        words = ["nice", "cargo", "test", "--quiet", "--offline", "--tests", "--features=source", f"--target={target}"]
         status, out, err = answer(words, "", timeout=SECONDS, text=True, env=environment, cwd=path("rust"))
     must(status == 0, (out + err)[-2000:])
 
 
 def main(words):
     is_long, names = "--long" in words, [it for it in words if not it.startswith("--")]
-    rows = [] if names else [Row("all answers are the same", all_same, (MANY if is_long else CALLS,))]
+    rows = [] if names else [Row("all answers are the same", all_same, (MANY if is_long else CALLS,)),
+                             Row("a self-test gives the same number in both forms", same_in_both_forms)]
     if is_long or "--slips" in words:
         rows += [Row(it.name, differs, (it,)) for it in SLIPS if not names or it.name in names]
     if is_long:
@@ -160,4 +222,6 @@ def main(words):
             rows.append(Row(f"no race beside {what}", watched, (what, [])))
             rows.append(Row(f"a race beside {what} is seen if orders are relaxed", watched, (what, RELAXED)))
         rows += [Row(f"the tests on {target[0]}", runs_on, target) for target in TARGETS]
+        rows += [Row(f"the self-test on {target[0]}", same_on, target) for target in TARGETS]
+        rows.append(Row("the self-test in WebAssembly", same_in_wasm))
     return run_rows("beside", rows, says_ok=True)
