@@ -1,6 +1,6 @@
 //! Links the proved libraries: `libcubejobs_c.a` and `libcubejobs_rounds.a`, and for the features
-//! `dispatch` and `regions` one more each. They are in the folder that `CUBEJOBS_LIB` names, or else
-//! in `lib/`, which has copies of the files of `release/`: `lib/aarch64` those for aarch64.
+//! `dispatch` and `regions` one more each. They are in the folder that `CUBEJOBS_LIB` names, or else in `lib/`, which has copies of the files of
+//! `release/`.
 
 use std::env;
 use std::path::PathBuf;
@@ -19,18 +19,14 @@ fn main() -> ExitCode {
 fn link() -> Result<(), String> {
     let of_target = |name| env::var(name).unwrap_or_default();
     let (arch, os) = (of_target("CARGO_CFG_TARGET_ARCH"), of_target("CARGO_CFG_TARGET_OS"));
-    let of_package = match (arch.as_str(), os.as_str()) {
-        ("x86_64", "linux") => Some("lib"),
-        ("aarch64", "linux") => Some("lib/aarch64"),
-        _ => None,
-    };
-    let (Some(of_package), None) = (of_package, env::var_os("CARGO_FEATURE_SOURCE")) else {
+    let has_libraries = (arch.as_str(), os.as_str()) == ("x86_64", "linux");
+    if !has_libraries || env::var_os("CARGO_FEATURE_SOURCE").is_some() {
         println!("cargo::rerun-if-changed=build.rs");
         return Ok(());
-    };
+    }
     // Read as the script runs: cargo may have compiled it in another copy of the package.
     let package = env::var_os("CARGO_MANIFEST_DIR").ok_or("cargo has not set CARGO_MANIFEST_DIR")?;
-    let folder = env::var_os("CUBEJOBS_LIB").map_or(PathBuf::from(package).join(of_package), PathBuf::from);
+    let folder = env::var_os("CUBEJOBS_LIB").map_or(PathBuf::from(package).join("lib"), PathBuf::from);
     println!("cargo::rerun-if-env-changed=CUBEJOBS_LIB");
     let dispatch = env::var_os("CARGO_FEATURE_DISPATCH").map(|_| "libcubejobs_dispatch.a");
     let regions = env::var_os("CARGO_FEATURE_REGIONS").map(|_| "libcubejobs_regions.a");

@@ -99,7 +99,6 @@ def compare(folder):
         print(f"aarch64: the release was linked with {held.said('linked with')}, so it is not compared: skipped")
         return
     yield from held.faults(folder)
-    yield from release.stale_copies(RELEASE, os.path.join(release.RUST, "aarch64"))
 
 
 def emulated(folder, *words, given=b""):
@@ -143,8 +142,6 @@ def rows(folder):
 def renew(folder):
     for name in release.FILES:
         put(os.path.join(RELEASE, name), read_bytes(folder, name), 0o755 if name == "cubejobs" else 0o644)
-    for name in release.LIBRARIES:
-        put(os.path.join(release.RUST, "aarch64", name), read_bytes(RELEASE, name))
     held = release.Release(RELEASE)
     held.write_sums(version.of_sources(), release.build_here(), f"# linked with {packages()}")
 

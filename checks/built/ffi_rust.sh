@@ -106,7 +106,7 @@ for name in $libraries; do
     cp -- "$lib/$name" "$work/some"
 done
 quiet rustc --edition 2021 build.rs -o "$work/script"
-for target in 'linux on riscv64' 'macos on x86_64'; do
+for target in 'linux on aarch64' 'macos on x86_64'; do
     shows 'cargo::rerun-if-changed=build.rs' env CARGO_MANIFEST_DIR="$work/some" CARGO_CFG_TARGET_OS="${target% on *}" \
         CARGO_CFG_TARGET_ARCH="${target#* on }" "$work/script"
 done

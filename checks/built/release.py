@@ -139,12 +139,12 @@ def lacking(folder):
             yield f"{name} has {len(found)} instructions that an x86-64 may lack, of {len(lines)}: {some}"
 
 
-def stale_copies(released=RELEASE, copies=RUST):
+def stale_copies():
     """Yields each library of which the Rust package has another copy, or none."""
     for name in LIBRARIES:
-        twin = os.path.join(copies, name)
-        if not os.path.exists(twin) or read_bytes(twin) != read_bytes(released, name):
-            yield f"{os.path.relpath(twin, path())} is not the file of release/"
+        twin = os.path.join(RUST, name)
+        if not os.path.exists(twin) or read_bytes(twin) != read_bytes(RELEASE, name):
+            yield f"rust/lib/{name} is not the file of release/"
 
 
 def renew():

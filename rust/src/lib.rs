@@ -46,29 +46,20 @@ extern crate std;
 pub mod dispatch;
 #[cfg(feature = "dispatch")]
 #[cfg_attr(
-    any(
-        feature = "source",
-        not(all(target_os = "linux", any(target_arch = "x86_64", target_arch = "aarch64")))
-    ),
+    any(feature = "source", not(all(target_arch = "x86_64", target_os = "linux"))),
     path = "over/dispatch_ffi.rs"
 )]
 mod dispatch_ffi;
 #[cfg(all(any(feature = "dispatch", feature = "regions"), feature = "std"))]
 mod event;
 #[cfg_attr(
-    any(
-        feature = "source",
-        not(all(target_os = "linux", any(target_arch = "x86_64", target_arch = "aarch64")))
-    ),
+    any(feature = "source", not(all(target_arch = "x86_64", target_os = "linux"))),
     path = "over/ffi.rs"
 )]
 mod ffi;
 pub mod fit;
 #[cfg_attr(
-    any(
-        feature = "source",
-        not(all(target_os = "linux", any(target_arch = "x86_64", target_arch = "aarch64")))
-    ),
+    any(feature = "source", not(all(target_arch = "x86_64", target_os = "linux"))),
     path = "over/fit_ffi.rs"
 )]
 mod fit_ffi;
@@ -88,10 +79,7 @@ mod place;
 pub mod regions;
 #[cfg(feature = "regions")]
 #[cfg_attr(
-    any(
-        feature = "source",
-        not(all(target_os = "linux", any(target_arch = "x86_64", target_arch = "aarch64")))
-    ),
+    any(feature = "source", not(all(target_arch = "x86_64", target_os = "linux"))),
     path = "over/regions_ffi.rs"
 )]
 mod regions_ffi;
@@ -99,10 +87,7 @@ mod regions_ffi;
 mod room;
 pub mod rounds;
 #[cfg_attr(
-    any(
-        feature = "source",
-        not(all(target_os = "linux", any(target_arch = "x86_64", target_arch = "aarch64")))
-    ),
+    any(feature = "source", not(all(target_arch = "x86_64", target_os = "linux"))),
     path = "over/rounds_ffi.rs"
 )]
 mod rounds_ffi;
@@ -110,7 +95,7 @@ mod rounds_ffi;
 mod shared;
 #[cfg(feature = "dispatch")]
 mod sharing;
-#[cfg(any(feature = "source", not(all(target_os = "linux", any(target_arch = "x86_64", target_arch = "aarch64")))))]
+#[cfg(any(feature = "source", not(all(target_arch = "x86_64", target_os = "linux"))))]
 #[rustfmt::skip]
 mod source;
 
