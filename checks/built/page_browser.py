@@ -82,13 +82,14 @@ class Visit:
                 self.is_same(back, "rgb(255, 255, 255)" if theme == "light" else "rgb(20, 23, 27)", f"paper, {theme}")
         self.page.size(1280)
 
-    def files(self, text):
+    def files(self, one):
         """Gives the page a file by its field, by a drop and by a paste, and one that it does not know."""
+        text = one.text
         with tempfile.TemporaryDirectory() as folder:
             known, unknown = os.path.join(folder, "known.csv"), os.path.join(folder, "unknown.csv")
             put(known, text)
             put(unknown, "a,b\n1,2\n")
-            rows = text.count("\n") - 1
+            rows = len(one.rows)
             ways = {"chosen": lambda file: self.page.choose("#file", file),
                     "dropped": lambda file: self.page.drop("#drop", {"files": [file]})}
             for way, give in ways.items():
@@ -220,7 +221,7 @@ def faults(browser, schedules, cards):
         visit = Visit(page)
         visit.schedules(schedules)
         visit.cards(cards)
-        visit.files(schedules[0].text)
+        visit.files(schedules[0])
         visit.plays()
         visit.saves()
         visit.strip()
