@@ -15,8 +15,9 @@ import subprocess
 import tempfile
 
 from checks.built import archive, ffi, release
+from checks.built.install import needs
 from checks.lib.repository import path, read_bytes
-from checks.lib.rows import Row, Skipped, answer, must, output, print_faults, put, run_rows
+from checks.lib.rows import Row, answer, must, output, print_faults, put, run_rows
 from checks.lib.toolchain import build_below, crates, kit, sum_of_sources
 from checks.source import version
 
@@ -28,12 +29,6 @@ OF_LIBC = ("Scrt1.o", "crti.o", "crtn.o", "libc_nonshared.a", "libc.so.6", "libm
            "ld-linux-aarch64.so.1")
 OF_GCC = ("crtbeginS.o", "crtendS.o", "libgcc.a")
 C, CXX = [COMPILER, "-static", "-std=c11", "-xc"], ["aarch64-linux-gnu-g++", "-static", "-std=c++20", "-xc++"]
-
-
-def needs(*tools):
-    for tool in tools:
-        if not shutil.which(tool):
-            raise Skipped(f"no {tool} here")
 
 
 def packages():

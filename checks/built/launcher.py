@@ -354,8 +354,8 @@ class Situations(Clone):
     def a_release_for_another_machine(self):
         self.release()
         os.remove(f"{self.tools}/uname")
-        put(f"{self.tools}/uname", "#!/bin/sh\necho Linux riscv64\n", 0o755)
-        self.passes_over("is for Linux on x86_64 and aarch64, and this machine is Linux riscv64")
+        put(f"{self.tools}/uname", "#!/bin/sh\necho Linux aarch64\n", 0o755)
+        self.passes_over("is for Linux x86_64, and this machine is Linux aarch64")
 
     def a_release_of_other_sources_is_passed_over(self):
         why = "was built from other sources than those that are here"

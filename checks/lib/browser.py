@@ -24,9 +24,9 @@ class Page:
 
     def __init__(self, write_end, read_end):
         self.out, self.into = os.fdopen(write_end, "wb"), os.fdopen(read_end, "rb")
-        self.asked, self.session, self.faults = 0, None, []
+        self.asked, self.tab, self.faults = 0, None, []
         target = self.call("Target.createTarget", url="about:blank")["targetId"]
-        self.session = self.call("Target.attachToTarget", targetId=target, flatten=True)["sessionId"]
+        self.tab = self.call("Target.attachToTarget", targetId=target, flatten=True)["sessionId"]
         for part in ("Page", "Runtime", "Log"):
             self.call(f"{part}.enable")
 
@@ -47,8 +47,8 @@ class Page:
     def call(self, method, **words):
         self.asked += 1
         asked = {"id": self.asked, "method": method, "params": words}
-        if self.session:
-            asked["sessionId"] = self.session
+        if self.tab:
+            asked["sessionId"] = self.tab
         self.out.write(json.dumps(asked).encode() + b"\0")
         self.out.flush()
         while (answer := self.message()).get("id") != self.asked:
