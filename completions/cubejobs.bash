@@ -11,10 +11,12 @@ _cubejobs() {
         'run -o'|'run --output') offered='FILE' ;;
         'run --dispatchers') offered='1 2 3 4 5 6 7 8 9 10 11 12 13 14 15 16' ;;
         'run --capacity') offered='-' ;;
+        'run --events') offered='FILE' ;;
         'report -n'|'report --dim') offered='0 1 2 3 4 5 6 7 8 9 10 11 12' ;;
         'report -o'|'report --output') offered='FILE' ;;
         'report --dispatchers') offered='1 2 3 4 5 6 7 8 9 10 11 12 13 14 15 16' ;;
         'report --capacity') offered='-' ;;
+        'report --events') offered='FILE' ;;
         'place -n'|'place --dim') offered='0 1 2 3 4 5 6 7 8 9 10 11 12' ;;
         'place -o'|'place --output') offered='FILE' ;;
         'replay -n'|'replay --dim') offered='0 1 2 3 4 5 6 7 8 9 10 11 12' ;;
@@ -29,8 +31,8 @@ _cubejobs() {
     if [ -z "$offered" ]; then
         case "$current:$command" in
             -*:'') offered='-h --help -V --version' ;;
-            -*:'run') offered='-n --dim -o --output --dispatchers --capacity -q --quiet -h --help -V --version' ;;
-            -*:'report') offered='-n --dim -o --output --dispatchers --capacity -q --quiet -h --help -V --version' ;;
+            -*:'run') offered='-n --dim -o --output --dispatchers --capacity -q --quiet --events --long -h --help -V --version' ;;
+            -*:'report') offered='-n --dim -o --output --dispatchers --capacity -q --quiet --events -h --help -V --version' ;;
             -*:'place') offered='-n --dim -o --output -h --help -V --version' ;;
             -*:'replay') offered='-n --dim -o --output --stations -h --help -V --version' ;;
             -*:'check') offered='-h --help -V --version' ;;

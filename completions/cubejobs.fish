@@ -14,6 +14,8 @@ complete -c cubejobs -n '__fish_seen_subcommand_from run; and not __fish_seen_su
 complete -c cubejobs -n '__fish_seen_subcommand_from run; and not __fish_seen_subcommand_from check help' -l dispatchers -x -a '1 2 3 4 5 6 7 8 9 10 11 12 13 14 15 16' -d 'Dispatchers that run jobs: 1 to 16'
 complete -c cubejobs -n '__fish_seen_subcommand_from run; and not __fish_seen_subcommand_from check help' -l capacity -x -a '' -d 'Jobs that may wait: 1 to 1024'
 complete -c cubejobs -n '__fish_seen_subcommand_from run; and not __fish_seen_subcommand_from check help' -s q -l quiet -d 'Shows no line of progress'
+complete -c cubejobs -n '__fish_seen_subcommand_from run; and not __fish_seen_subcommand_from check help' -l events -r -F -d 'File for the events of the run, whole or not at all'
+complete -c cubejobs -n '__fish_seen_subcommand_from run; and not __fish_seen_subcommand_from check help' -l long -d 'Writes a line for each number of a result'
 complete -c cubejobs -n '__fish_seen_subcommand_from run; and not __fish_seen_subcommand_from check help' -s h -l help -d 'Print help (see a summary with \'-h\')'
 complete -c cubejobs -n '__fish_seen_subcommand_from run; and not __fish_seen_subcommand_from check help' -s V -l version -d 'Print version'
 complete -c cubejobs -n '__fish_seen_subcommand_from run; and not __fish_seen_subcommand_from check help' -F
@@ -22,6 +24,7 @@ complete -c cubejobs -n '__fish_seen_subcommand_from report; and not __fish_seen
 complete -c cubejobs -n '__fish_seen_subcommand_from report; and not __fish_seen_subcommand_from check help' -l dispatchers -x -a '1 2 3 4 5 6 7 8 9 10 11 12 13 14 15 16' -d 'Dispatchers that run jobs: 1 to 16'
 complete -c cubejobs -n '__fish_seen_subcommand_from report; and not __fish_seen_subcommand_from check help' -l capacity -x -a '' -d 'Jobs that may wait: 1 to 1024'
 complete -c cubejobs -n '__fish_seen_subcommand_from report; and not __fish_seen_subcommand_from check help' -s q -l quiet -d 'Shows no line of progress'
+complete -c cubejobs -n '__fish_seen_subcommand_from report; and not __fish_seen_subcommand_from check help' -l events -r -F -d 'File for the events of the run, whole or not at all'
 complete -c cubejobs -n '__fish_seen_subcommand_from report; and not __fish_seen_subcommand_from check help' -s h -l help -d 'Print help (see a summary with \'-h\')'
 complete -c cubejobs -n '__fish_seen_subcommand_from report; and not __fish_seen_subcommand_from check help' -s V -l version -d 'Print version'
 complete -c cubejobs -n '__fish_seen_subcommand_from report; and not __fish_seen_subcommand_from check help' -F

@@ -10,7 +10,9 @@
 //
 // HyperQueue, Slurm and Flux do more: time limits, other machines, memory, resume. Two runs do not
 // know of each other. A block is released when its shell ends: what a command leaves in the
-// background may share it then. We measured no gain of speed by pinning, and claim none.
+// background may share it then. We measured no gain of speed by pinning, and claim none. In a clone:
+//
+//     cc -Iinclude examples/pinjobs.c release/linux-x86_64/libcubejobs_c.a -o pinjobs
 #define _GNU_SOURCE
 #include <fcntl.h>
 #include <sched.h>

@@ -1,9 +1,10 @@
 //! Links the proved libraries: `libcubejobs_c.a` and `libcubejobs_rounds.a`, and for the features
-//! `dispatch` and `regions` one more each. They are in the folder that `CUBEJOBS_LIB` names, or else in `lib/`, which has copies of the files of
-//! `release/`.
+//! `dispatch` and `regions` one more each. They are in the folder that `CUBEJOBS_LIB` names, or else
+//! in `lib/`, which has copies of the files of `release/`: `lib/aarch64` those for aarch64. With the
+//! feature `source`, for another target, and for aarch64 without files for it, it links nothing.
 
 use std::env;
-use std::path::PathBuf;
+use std::path::{Path, PathBuf};
 use std::process::ExitCode;
 
 fn main() -> ExitCode {
@@ -16,18 +17,36 @@ fn main() -> ExitCode {
     }
 }
 
-fn link() -> Result<(), String> {
+/// Returns the folder of the libraries for the target, if there are any.
+fn folder_of(package: &Path) -> Option<PathBuf> {
     let of_target = |name| env::var(name).unwrap_or_default();
-    let (arch, os) = (of_target("CARGO_CFG_TARGET_ARCH"), of_target("CARGO_CFG_TARGET_OS"));
-    let has_libraries = (arch.as_str(), os.as_str()) == ("x86_64", "linux");
-    if !has_libraries || env::var_os("CARGO_FEATURE_SOURCE").is_some() {
-        println!("cargo::rerun-if-changed=build.rs");
-        return Ok(());
+    let own = match of_target("CARGO_CFG_TARGET_ARCH").as_str() {
+        "x86_64" => package.join("lib"),
+        "aarch64" => package.join("lib/aarch64"),
+        _ => return None,
+    };
+    if of_target("CARGO_CFG_TARGET_OS") != "linux" || env::var_os("CARGO_FEATURE_SOURCE").is_some() {
+        return None;
     }
+    println!("cargo::rerun-if-env-changed=CUBEJOBS_LIB");
+    match env::var_os("CUBEJOBS_LIB") {
+        Some(folder) => Some(PathBuf::from(folder)),
+        None if own.ends_with("aarch64") && !own.exists() => {
+            println!("cargo::rerun-if-changed={}", package.join("lib").display());
+            None
+        }
+        None => Some(own),
+    }
+}
+
+fn link() -> Result<(), String> {
+    println!("cargo::rustc-check-cfg=cfg(cubejobs_archives)");
+    println!("cargo::rerun-if-changed=build.rs");
     // Read as the script runs: cargo may have compiled it in another copy of the package.
     let package = env::var_os("CARGO_MANIFEST_DIR").ok_or("cargo has not set CARGO_MANIFEST_DIR")?;
-    let folder = env::var_os("CUBEJOBS_LIB").map_or(PathBuf::from(package).join("lib"), PathBuf::from);
-    println!("cargo::rerun-if-env-changed=CUBEJOBS_LIB");
+    let Some(folder) = folder_of(Path::new(&package)) else {
+        return Ok(());
+    };
     let dispatch = env::var_os("CARGO_FEATURE_DISPATCH").map(|_| "libcubejobs_dispatch.a");
     let regions = env::var_os("CARGO_FEATURE_REGIONS").map(|_| "libcubejobs_regions.a");
     for name in ["libcubejobs_c.a", "libcubejobs_rounds.a"].into_iter().chain(dispatch).chain(regions) {
@@ -41,5 +60,6 @@ fn link() -> Result<(), String> {
         }
     }
     println!("cargo::rustc-link-search=native={}", folder.display());
+    println!("cargo::rustc-cfg=cubejobs_archives");
     Ok(())
 }

@@ -6,22 +6,22 @@
 
 The toolchain's helpers in C are for x86-64 only. aarch64_heap.c and aarch64_os.c replace them, compiled by the
 toolchain's own compiler. The shared objects and the program are linked with the C library of Debian's cross packages,
-whose versions SHA256SUMS has. Where other versions are here, the comparison is skipped, and where none is, all of it.
-An emulator on x86-64 hides weak memory orders: these runs show wrong code, and no missing order.
+whose versions SHA256SUMS has. Where other versions are here, or release/ has no files of these sources, the comparison
+is skipped, and where none is, all of it. `--renew` copies the libraries into rust/lib/aarch64 too. An emulator on x86-64 hides weak memory orders: these runs show wrong code, and no missing order.
 """
 import os
 import shutil
 import subprocess
 import tempfile
 
-from checks.built import archive, ffi, release
+from checks.built import archive, beside, ffi, install, release
 from checks.built.install import needs
 from checks.lib.repository import path, read_bytes
-from checks.lib.rows import Row, answer, must, output, print_faults, put, run_rows
+from checks.lib.rows import Row, Skipped, answer, must, output, put, run_rows
 from checks.lib.toolchain import build_below, crates, kit, sum_of_sources
 from checks.source import version
 
-RELEASE, TRIPLE, PROGRAM = path("release", "linux-aarch64"), "aarch64-unknown-linux-gnu", "jobs_cli"
+RELEASE, TRIPLE, PROGRAM = release.AARCH64, "aarch64-unknown-linux-gnu", "jobs_cli"
 LIBRARIES, COMPILER, EMULATOR = "/usr/aarch64-linux-gnu", "aarch64-linux-gnu-gcc", "qemu-aarch64"
 PACKAGES = ("libc6-arm64-cross", "libc6-dev-arm64-cross", "libgcc-s1-arm64-cross")
 # What the linker of the toolchain looks for, of the C library and of the compiler.
@@ -34,7 +34,8 @@ C, CXX = [COMPILER, "-static", "-std=c11", "-xc"], ["aarch64-linux-gnu-g++", "-s
 def packages():
     """Returns the versions of the cross packages, as SHA256SUMS has them."""
     words = ["dpkg-query", "--show", "--showformat=${Package} ${Version}, ", *PACKAGES]
-    return output(words).strip(", ") if shutil.which("dpkg-query") else ""
+    status, out, _ = answer(words, "", text=True) if shutil.which("dpkg-query") else (1, "", "")
+    return "" if status else out.strip(", ")
 
 
 def toolchain(room):
@@ -85,15 +86,16 @@ def build(folder):
 
 
 def compare(folder):
-    """Yields what differs from the release, if that is of these sources and made with these packages."""
+    """Sees that the files of release/ are those that were built, if they are of these sources and packages."""
     held = release.Release(RELEASE)
+    if not os.path.isdir(RELEASE):
+        raise Skipped("release/ has no files for aarch64")
     if held.said("sources") != sum_of_sources():
-        print("aarch64: the files of release/ are of other sources; to renew them: checks/run aarch64 --renew FOLDER")
-        return
+        raise Skipped("the files of release/ are of other sources; to renew them: checks/run aarch64 --renew FOLDER")
     if held.said("linked with") != packages():
-        print(f"aarch64: the release was linked with {held.said('linked with')}, so it is not compared: skipped")
-        return
-    yield from held.faults(folder)
+        raise Skipped(f"release/ was linked with {held.said('linked with')}, and here is {packages() or 'none of these'}")
+    faults = [*held.faults(folder)]
+    must(not faults, "; ".join(faults))
 
 
 def emulated(folder, *words, given=b""):
@@ -120,7 +122,30 @@ def programs():
     yield ffi.Program("examples/jobs.cpp", [dispatch], CXX, (), (), [EMULATOR], "examples/jobs.out")
 
 
+def needs_no_later_library(folder):
+    """Sees that nothing asks for a later C library than the files for x86-64 do."""
+    for name in release.FILES:
+        newest = release.newest_symbol(read_bytes(folder, name))
+        must(newest <= release.NEWEST_GLIBC, f"{name} needs the C library {'.'.join(map(str, newest))}")
+
+
+def in_rust(folder):
+    """Runs the examples of the Rust package over these libraries, by a compiler that has its standard library."""
+    beside.compiler_for(TRIPLE, "cargo")
+    with tempfile.TemporaryDirectory() as room:
+        name = f"CARGO_TARGET_{TRIPLE.upper().replace('-', '_')}"
+        env = {**os.environ, "CUBEJOBS_LIB": folder, "CARGO_TARGET_DIR": room, f"{name}_LINKER": COMPILER,
+               f"{name}_RUNNER": f"{EMULATOR} -L {LIBRARIES}"}
+        for example, wanted in install.IN_RUST.items():
+            words = ["cargo", "run", "--quiet", "--offline", f"--target={TRIPLE}", "--example", example]
+            more = ["--", path("examples", "batch.jobs")] if example == "batch" else []
+            said = output([*words, *more], cwd=path("rust"), env=env, timeout=300)
+            must(said == wanted, f"the example {example} says {said[-200:]!r}")
+
+
 def rows(folder):
+    yield Row("the examples in Rust on aarch64", in_rust, (folder,))
+    yield Row("the C library that is needed", needs_no_later_library, (folder,))
     for program in programs():
         yield Row(f"{program.source} on aarch64", ffi.must_run, (folder, program))
     built = path("crates", PROGRAM, "out", PROGRAM)
@@ -137,6 +162,8 @@ def rows(folder):
 def renew(folder):
     for name in release.FILES:
         put(os.path.join(RELEASE, name), read_bytes(folder, name), 0o755 if name == "cubejobs" else 0o644)
+    for name in release.LIBRARIES:
+        put(os.path.join(release.RUST, "aarch64", name), read_bytes(RELEASE, name))
     held = release.Release(RELEASE)
     held.write_sums(version.of_sources(), release.build_here(), f"# linked with {packages()}")
 
@@ -150,5 +177,5 @@ def main(words):
         build(folder)
     if words[0] == "--renew":
         return renew(folder)
-    faults = [] if words[0] == "--run" else print_faults(f"aarch64: {it}" for it in compare(folder))
-    return run_rows("aarch64", rows(folder)) or faults
+    compared = [] if words[0] == "--run" else [Row("the files of release/linux-aarch64", compare, (folder,))]
+    return run_rows("aarch64", [*compared, *rows(folder)])

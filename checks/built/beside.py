@@ -5,6 +5,10 @@ answers. It is compiled with checks of overflow.
 1,000,000. With `--slips`, and with `--long`, it puts each slip of SLIPS into a copy of the text or of the shim, and
 must see a difference.
 
+A driver in Rattle makes 60,000 calls of the proved crates, and prints each answer. It runs by `rt try`, without a proof.
+Its own erased text runs over the erased crates, and must print the same. With `--slips` it must see those of SEEN. With
+`--long` an interpreter of Rattle runs it too, beside what the compiler of Rattle makes.
+
 A self-test makes 250,000 calls of the Rust package, and gives a number that depends on each answer. Both forms must give
 the same one. With `--long` it must be the same on other processors, and in WebAssembly by node.
 
@@ -13,13 +17,15 @@ program with relaxed orders in the shim must be seen. The tests of the Rust pack
 emulators or as 32-bit programs. They need a compiler (of the variable RUSTC, if it is set) with the target's standard
 library, and a C compiler that links for it.
 """
+import functools
 import os
 import shutil
 import subprocess
 import tempfile
 from typing import NamedTuple
 
-from checks.lib.repository import path, read
+from checks.lib import erase
+from checks.lib.repository import path, read, write
 from checks.lib.rows import Row, Skipped, answer, must, run_rows
 
 CALLS, MANY, ROUNDS, SECONDS = 100_000, 1_000_000, 16_000, 1800
@@ -43,6 +49,10 @@ WASM_LINKERS = ("wasm-ld", "wasm-ld-19")
 RUN_WASM = """import { readFileSync } from "node:fs";
 const { instance } = await WebAssembly.instantiate(readFileSync(process.argv[1]), {});
 console.log(BigInt.asUintN(64, instance.exports.selftest()).toString());"""
+
+# The driver, what it uses, and how many steps its interpreter makes at most.
+DRIVER, STEPS = "checks/built/driver", 5 * 10**9
+USED = "bitmap_occupancy bitmap_tree collectives cube_shape cubejobs_c job_lanes rank_steps region_shop wake_calls"
 
 
 class Slip(NamedTuple):
@@ -77,6 +87,10 @@ SLIPS = (
          "if station >= MAX_STATIONS {\n        return refused(BAD_STATION);\n    }\n    if",
          "if station > MAX_STATIONS {\n        return refused(BAD_STATION);\n    }\n    if"),
 )
+
+# Those that the driver must see. It does not call what the others are in, or has one thread, which does not meet them.
+SEEN = [it for it in SLIPS if it.name not in (
+    "the swap returns the new word", "a slot stays taken", "a shared lane is not given back")]
 
 
 def built(root, folder, source=PROGRAM, more=()):
@@ -123,6 +137,74 @@ def differs(slip):
     return next((it for it in err.splitlines() if "the archive, and" in it), err.strip().splitlines()[1])[-90:]
 
 
+def driver_sources():
+    """Returns the texts of the driver by name. Its files end in .in, since `rt ci` refuses sources that no crate has."""
+    names = sorted(it for it in os.listdir(path(DRIVER)) if it.endswith(".rt.in"))
+    return {name.removesuffix(".rt.in"): read(DRIVER, name) for name in names}
+
+
+@functools.cache
+def driven(steps):
+    """Runs the driver by `rt try`, in a copy of the crates in which each is a library. Returns what it prints."""
+    if not shutil.which("rt"):
+        raise Skipped("there is no rt")
+    with tempfile.TemporaryDirectory() as folder:
+        shutil.copytree(path("crates"), f"{folder}/crates", ignore=shutil.ignore_patterns("out"))
+        for name, text in driver_sources().items():
+            write(f"{folder}/crates/driver/src/{name}.rt", text)
+        write(f"{folder}/crates.txt", f"{read('crates.txt').replace(' staticlib:', ':')}driver: {USED}\n")
+        words = ["nice", "rt", "try", "--steps", str(steps), "--seconds", str(SECONDS)]
+        status, out, err = answer(words, "", timeout=SECONDS, text=True, cwd=f"{folder}/crates/driver")
+    must(status == 0 and out, f"rt try: status {status}, {err[-1000:]}")
+    must(steps < STEPS or "runners=2" in err, f"the interpreter has no answer: {err[-1000:]}")
+    return out
+
+
+def erased_driver(slips):
+    """Runs the driver's erased text over the erased crates, with slips. Returns its status, and what it prints."""
+    sources = {name: text for name, text in driver_sources().items() if name != "main"}
+    texts, _ = erase.erased_files("driver", sources)
+    with tempfile.TemporaryDirectory() as folder:
+        copied(folder, f"{DRIVER}/main.rs", slips)
+        for name, text in {**texts, "mod": "".join(f"pub mod {name};\n" for name in texts)}.items():
+            write(f"{folder}/rust/src/source/driver/{name}.rs", text)
+        with open(f"{folder}/rust/src/source/mod.rs", "a", encoding="utf-8") as file:
+            file.write("pub mod driver;\n")
+        status, out, _ = answer([built(folder, folder, f"{DRIVER}/main.rs")], "", timeout=60, text=True)
+    return status, out
+
+
+def prints_the_same(steps):
+    """Sees that the driver and its erased text print the same."""
+    if not shutil.which("rustc"):
+        raise Skipped("there is no rustc")
+    here = driven(steps)
+    found = difference(here, *erased_driver([]))
+    must(not found, found)
+    return f"{len(here.splitlines())} answers"
+
+
+def difference(here, status, out):
+    """Returns the first answer of the erased text that is not the driver's, or an empty text."""
+    one, other = here.splitlines(), out.splitlines()
+    for number, (wanted, got) in enumerate(zip(one, other)):
+        if wanted != got:
+            return f"answer {number} is {wanted!r}, and {got!r} by the erased text"
+    is_same = status == 0 and len(one) == len(other)
+    return "" if is_same else f"status {status}, and {len(other)} answers of {len(one)} by the erased text"
+
+
+def prints_another(steps, slip):
+    """Sees that the driver's erased text prints something else with a slip, or nothing, or does not end."""
+    here = driven(steps)
+    try:
+        found = difference(here, *erased_driver([slip]))
+    except subprocess.TimeoutExpired:
+        return "no end"
+    must(found, "it prints the same")
+    return found
+
+
 # The orders that must be seen.
 RELAXED = [Slip("", f"kit/{it}.rs", "Ordering::SeqCst}", "Ordering::Relaxed as SeqCst}") for it in
            ("atomic_table", "counted_slot")]
@@ -157,6 +239,7 @@ def compiler_for(target, *tools):
 def self_test(compiler, form, runner, *words):
     """Builds and runs the self-test over a form of the package. Returns the number that it gives."""
     features = [f'--cfg=feature="{it}"' for it in ("dispatch", "regions", *form)]
+    features += [] if form else ["--cfg=cubejobs_archives"]
     with tempfile.TemporaryDirectory() as folder:
         library, program = f"{folder}/libcubejobs.rlib", f"{folder}/selftest"
         common = ["nice", compiler, "--edition=2021", "-O", f"-Lnative={path(RELEASE)}"]
@@ -214,9 +297,12 @@ def runs_on(target, linker, emulator):
 def main(words):
     is_long, names = "--long" in words, [it for it in words if not it.startswith("--")]
     rows = [] if names else [Row("all answers are the same", all_same, (MANY if is_long else CALLS,)),
-                             Row("a self-test gives the same number in both forms", same_in_both_forms)]
+                             Row("a self-test gives the same number in both forms", same_in_both_forms),
+                             Row("a driver in Rattle and its erased text", prints_the_same, (STEPS if is_long else 1,))]
     if is_long or "--slips" in words:
         rows += [Row(it.name, differs, (it,)) for it in SLIPS if not names or it.name in names]
+        rows += [Row(f"by the driver: {it.name}", prints_another, (STEPS if is_long else 1, it)) for it in SEEN
+                 if not names or it.name in names]
     if is_long:
         for what in ("blocks", "lanes", "dispatch"):
             rows.append(Row(f"no race beside {what}", watched, (what, [])))

@@ -106,10 +106,16 @@ for name in $libraries; do
     cp -- "$lib/$name" "$work/some"
 done
 quiet rustc --edition 2021 build.rs -o "$work/script"
-for target in 'linux on aarch64' 'macos on x86_64'; do
+for target in 'linux on riscv64' 'macos on x86_64' 'macos on aarch64'; do
     shows 'cargo::rerun-if-changed=build.rs' env CARGO_MANIFEST_DIR="$work/some" CARGO_CFG_TARGET_OS="${target% on *}" \
         CARGO_CFG_TARGET_ARCH="${target#* on }" "$work/script"
 done
+aarch64="env -u CUBEJOBS_LIB CARGO_MANIFEST_DIR=$work/some CARGO_CFG_TARGET_OS=linux CARGO_CFG_TARGET_ARCH=aarch64"
+shows "cargo::rerun-if-changed=$work/some/lib" $aarch64 "$work/script"
+mkdir -p "$work/some/lib/aarch64"
+refused "there is no $work/some/lib/aarch64/libcubejobs_c.a: .*" $aarch64 "$work/script"
+cp -- "$work/some/"*.a "$work/some/lib/aarch64"
+shows 'cargo::rustc-cfg=cubejobs_archives' $aarch64 "$work/script"
 echo "ffi: a Rust program names the package by its path; a missing library is one sentence"
 
 # The folder of the libraries is empty here.

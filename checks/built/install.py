@@ -1,23 +1,34 @@
 """Installs what was built into a folder of its own, uses it as an installed package is used, and uninstalls it.
 
 `checks/run install FOLDER` makes a clone whose release/ has the files of FOLDER, runs its `./install`, and then compiles
-and runs examples with pkg-config, CMake, cargo and Python, without a file of the clone. A part whose tool is missing is
-skipped and named. In the end nothing may be left. Bad options, a damaged file and a folder that cannot be written end
-with their status, and change nothing.
+and runs examples with pkg-config, CMake, cargo and Python, without a file of the clone. Each example in Rust runs in a
+package of a user, over the libraries and as plain Rust. A part whose tool is missing is skipped and named. In the end
+nothing may be left. Bad options, a damaged file and a folder that cannot be written end with their status, and change
+nothing.
 """
+import hashlib
 import os
 import re
 import shutil
 import subprocess
 import tempfile
 
+from checks.built import pool
 from checks.built.readme import copy_to
-from checks.lib.repository import path, read, write
+from checks.lib.repository import path, read, read_bytes, write
 from checks.lib.rows import AS_NOBODY, Row, Skipped, answer, must, output, put, run_rows
 from checks.source import version
 
 # The examples in C and C++ that end by themselves, with the words that they need. Their output is beside them.
 EXAMPLES = ("arena.c", "blocks.cpp", "fit.c", "jobs.cpp", "lanes.c", "regions.c", "rounds.c", "subcubes.c", "wait.c")
+# The examples in Rust, with what each prints. In `blocks` there are 800 blocks each of 1, 2, 4, 8 and 16 processors, and
+# in `park` the payloads 1 to 10 are added up.
+IN_RUST = {
+    "jobs": "40 jobs ran on 248 processors in all\n", "subcubes": "0 4, then: no free subcube of this dimension\n",
+    "groups": "3000 jobs on groups of 16 workers\n", "blocks": "4000 blocks with 24800 processors in all\n",
+    "park": "55\n", "batch": "40 jobs have ended, and 0 are left\n"}
+# The form of the package, by its feature.
+FORMS = {"": "over the libraries", "source": "as plain Rust"}
 CMAKE = """cmake_minimum_required(VERSION 3.13)
 project(user C CXX)
 find_package(cubejobs 0.2 REQUIRED)
@@ -123,17 +134,39 @@ class Place:
         must(answer(["cmake", "-S", room, "-B", f"{room}/old", f"-DCMAKE_PREFIX_PATH={self.prefix}"])[0] != 0,
              "cmake takes this version for another one")
 
-    def with_cargo(self):
+    def with_cargo(self, form):
+        """Builds a package of a user, which has all examples in Rust. The installed files stay as they are."""
         needs("cargo", "cc")
-        room, rust = self.room("cargo"), self.of("share", "cubejobs", "rust")
-        lines = ["[package]", 'name = "user"', 'version = "0.1.0"', 'edition = "2021"', "[dependencies]"]
-        write(f"{room}/Cargo.toml", "\n".join([*lines, f'cubejobs-pool = {{ path = "{rust}/pool" }}', ""]))
+        before, room, rust = tree(self.prefix), self.room(f"cargo-{form}"), self.of("share", "cubejobs", "rust")
+        lines = ["[package]", 'name = "user"', 'version = "0.1.0"', 'edition = "2021"', "[dependencies]",
+                 f'cubejobs = {{ path = "{rust}", features = ["{form}"] }}'.replace(', features = [""]', ""),
+                 f'cubejobs-pool = {{ path = "{rust}/pool" }}', ""]
+        write(f"{room}/Cargo.toml", "\n".join(lines))
         write(f"{room}/src/main.rs", GANG)
-        env = {**os.environ, "CARGO_TARGET_DIR": f"{room}/target"}
-        said = output(["cargo", "run", "--quiet", "--offline"], cwd=room, env=env, timeout=300)
-        must(said == "[6, 6, 6, 6]\n", f"the gang says {said!r}")
-        said = output(["cargo", "run", "--quiet", "--offline", "--example", "subcubes"], cwd=rust, env=env, timeout=300)
-        must(said == "0 4, then: no free subcube of this dimension\n", f"the example says {said!r}")
+        os.makedirs(f"{room}/examples")
+        for name in (*IN_RUST, *pool.EXAMPLES):
+            shutil.copy(f"{rust}/{'' if name in IN_RUST else 'pool/'}examples/{name}.rs", f"{room}/examples")
+        words = ["cargo", "build", "--quiet", "--offline", "--release", "--bins", "--examples"]
+        output(words, cwd=room, env={**os.environ, "CARGO_TARGET_DIR": f"{room}/target"}, timeout=600)
+        must(output([f"{room}/target/release/user"]) == "[6, 6, 6, 6]\n", "the gang has another sum")
+        must(tree(self.prefix) == before, "cargo has changed the installed files")
+
+    def in_rust(self, form, name):
+        """Runs an example of Rust."""
+        needs("cargo", "cc")
+        words = {"batch": [self.of("share", "doc", "cubejobs", "examples", "batch.jobs")], **pool.WORDS}.get(name, [])
+        said = output([os.path.join(self.work, f"cargo-{form}", "target/release/examples", name), *words], timeout=60)
+        last = said if name in IN_RUST else said.strip().splitlines()[-1]
+        is_so = said == IN_RUST[name] if name in IN_RUST else re.fullmatch(pool.EXAMPLES[name], last)
+        must(is_so, f"the example says {said[-200:]!r}")
+
+    def with_cargo_doc(self):
+        """Runs the tests in the documentation of the package for Rust."""
+        needs("cargo", "cc")
+        env = {**os.environ, "CARGO_TARGET_DIR": os.path.join(self.work, "cargo-doc")}
+        words = ["cargo", "test", "--quiet", "--offline", "--doc"]
+        status, said, more = answer(words, "", text=True, cwd=self.of("share", "cubejobs", "rust"), env=env, timeout=300)
+        must(status == 0 and re.search(r"ok\. [1-9]\d passed; 0 failed", said), (said + more)[-600:])
 
     def as_packages(self):
         """Makes both packages of Rust, as soon as they may be published: cargo has no package over one that may not."""
@@ -198,6 +231,25 @@ class Place:
         self.must_install("--prefix", "/usr", "--destdir", package, "--uninstall")
         must(not tree(package), f"these are left: {[*tree(package)][:5]}")
 
+    def for_another_processor(self):
+        """Takes the files for aarch64, or stand-ins where release/ has none, and refuses a processor without files."""
+        here, there = (os.path.join(self.clone, "release", f"linux-{it}") for it in ("x86_64", "aarch64"))
+        package, is_there = os.path.join(self.work, "of aarch64"), os.path.isdir(there)
+        words = ["--prefix", "/usr", "--processor", "aarch64", "--destdir", package]
+        if not is_there:
+            self.refusal(words, 1, "the release is for Linux x86_64, and this is Linux aarch64")
+            shutil.copytree(here, there)
+            put(f"{there}/cubejobs", "for aarch64\n", 0o755)
+            total = hashlib.sha256(b"for aarch64\n").hexdigest()
+            write(f"{there}/SHA256SUMS", re.sub(r"\w{64}(?=  cubejobs\n)", total, read(f"{there}/SHA256SUMS")))
+        self.must_install(*words)
+        for name, made in (("cubejobs", "bin/cubejobs"), ("libcubejobs_c.a", "lib/libcubejobs_c.a")):
+            is_same = read_bytes(there, name) == read_bytes(package, "usr", made)
+            must(is_same, f"{made} is not the file for aarch64")
+        self.refusal(["--processor", "riscv64"], 1, "for Linux aarch64 and Linux x86_64, and this is Linux riscv64")
+        if not is_there:
+            shutil.rmtree(there)
+
     def refusal(self, words, wanted, saying):
         status, out, said = self.install(*words)
         must((status, out) == (wanted, "") and saying in said, f"status {status}, {out!r}, {said!r}")
@@ -241,12 +293,17 @@ def rows(place):
     yield Row("the installation", place.must_install, ("--prefix", place.prefix))
     yield Row("the program", place.with_the_program)
     yield from (Row(f"{it} with pkg-config", place.with_pkg_config, (it,)) for it in EXAMPLES)
-    for act in (place.the_program_of_the_readme, place.with_cmake, place.with_cargo, place.as_packages, place.with_python, place.with_man, place.again,
-                place.of_a_later_version, place.uninstalled, place.for_a_package, place.damaged, place.without_rights,
-                place.with_few_tools):
+    for form, said in FORMS.items():
+        yield Row(f"a package of Rust {said}", place.with_cargo, (form,))
+        for name in (*IN_RUST, *pool.EXAMPLES):
+            yield Row(f"the example {name} {said}", place.in_rust, (form, name))
+    for act in (place.the_program_of_the_readme, place.with_cmake, place.with_cargo_doc, place.as_packages,
+                place.with_python, place.with_man, place.again, place.of_a_later_version, place.uninstalled,
+                place.for_a_package, place.for_another_processor, place.damaged, place.without_rights, place.with_few_tools):
         yield Row(act.__name__.replace("_", " "), act)
     for words, wanted, saying in ((["--prefx", "/x"], 2, "no option --prefx"), (["--prefix"], 2, "needs a folder"),
-                                  (["--prefix", "here"], 2, "begins with /"), (["--prefix", "/a\nb"], 2, "a line break")):
+                                  (["--prefix", "here"], 2, "begins with /"), (["--prefix", "/a\nb"], 2, "a line break"),
+                                  (["--processor"], 2, "needs a name")):
         yield Row(f"the words {words!r}", place.refusal, (words, wanted, saying))
 
 

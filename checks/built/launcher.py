@@ -133,12 +133,17 @@ class Clone:
     def builds(self):
         return [crate for _, crate in self.calls()].count("jobs_cli")
 
-    def release(self, program="#!/bin/sh\necho \"released: $*\"\n", sources=None, sum_of=None, mode=0o755):
+    def release(self, program="#!/bin/sh\necho \"released: $*\"\n", sources=None, sum_of=None, mode=0o755, to=RELEASED):
         """Puts a program into release/, made from these sources and with the sum of this text."""
-        put(self.at(RELEASED), program, mode)
+        put(self.at(to), program, mode)
         total = hashlib.sha256((sum_of or program).encode()).hexdigest()
         sums = f"# version 9.9.9\n# sources {sources or self.sources()}\n{total}  cubejobs\n{total}  libother.a\n"
-        self.write("release/linux-x86_64/SHA256SUMS", sums)
+        self.write(f"{os.path.dirname(to)}/SHA256SUMS", sums)
+
+    def move_to(self, system):
+        """Makes this machine another one, as `uname -sm` names it."""
+        os.remove(f"{self.tools}/uname")
+        put(f"{self.tools}/uname", f"#!/bin/sh\necho {system}\n", 0o755)
 
     def sources(self):
         self.run("--prove")
@@ -353,9 +358,19 @@ class Situations(Clone):
 
     def a_release_for_another_machine(self):
         self.release()
-        os.remove(f"{self.tools}/uname")
-        put(f"{self.tools}/uname", "#!/bin/sh\necho Linux aarch64\n", 0o755)
-        self.passes_over("is for Linux x86_64, and this machine is Linux aarch64")
+        for system in ("Linux aarch64", "Darwin arm64"):
+            self.move_to(system)
+            self.passes_over(f"is for Linux x86_64, and this machine is {system}")
+
+    def a_release_for_each_machine(self):
+        """Runs the files for aarch64 on aarch64 alone."""
+        self.release()
+        self.release("#!/bin/sh\necho \"elsewhere: $*\"\n", to=RELEASED.replace("x86_64", "aarch64"))
+        must_be(self.run("run --dim 3"), 0, "released: run --dim 3\n", [])
+        self.move_to("Linux aarch64")
+        must_be(self.run("run --dim 3"), 0, "elsewhere: run --dim 3\n", [])
+        self.move_to("Linux riscv64")
+        self.passes_over("is for Linux x86_64, and this machine is Linux riscv64")
 
     def a_release_of_other_sources_is_passed_over(self):
         why = "was built from other sources than those that are here"

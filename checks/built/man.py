@@ -19,7 +19,7 @@ EXAMPLE = re.compile(r"^Example: (.*)$", re.M)
 GATHERED = (
     ("OPTIONS", ("Commands", "Arguments", "Options")),
     ("EXIT STATUS", ("Exit status",)),
-    ("FILES", ("Files",)),
+    ("FILES", ("Files", "Events")),
     ("DIAGNOSTICS", ("Faults of the input", "Other faults", "Faults of a file")),
     ("NOTES", ("Records", "Memory", "")),
 )

@@ -2,15 +2,17 @@
 
 For each input it runs the program once for each of its requests, with that one refused; for small inputs also with the
 two after it, and with all after it. The answer must be that of ample memory, or status 3 with OutOfMemory on standard
-error and at most the first lines of the output. A file that is named may be named there, and the output must be whole
-or as it was. A run in which a thread and all later ones cannot be started ends with that fault and no output. No run
+error and at most the first lines of the output. A file that is named may be named there, and each file that is written
+must be whole or as it was. The room for events is asked for before a thread starts. A run in which a thread and all later ones cannot be started ends with that fault and no output. No run
 may hang. There must be a thread for each dispatcher. For each four processors one more feeds the lanes, and there is at
 most one for each lane. Where the second that feeds cannot start, the first must stop feeding at once.
 `checks/run memory FILE` tries FILE.
 """
 import os
+import pty
 import subprocess
 import tempfile
+import tty
 
 from checks.lib.repository import read_bytes
 from checks.lib.rows import Row, Skipped, Wrong, answer, must, put, run_rows
@@ -19,14 +21,15 @@ from checks.lib.toolchain import program, shim
 # A run that takes longer, in seconds, hangs.
 SECONDS = 60
 FEEDERS = max(len(os.sched_getaffinity(0)) // 4, 1)
-# How many jobs each of two long lanes has. The list of LONG replies takes at least REPLY_BYTES for each of them.
-LONG, REPLY_BYTES = 10_000, 16
+# How many jobs each of two long lanes has. The list of LONG replies takes at least REPLY_BYTES for each of them. The
+# room for the events of a job takes at least EVENT_BYTES for each of two events.
+LONG, REPLY_BYTES, EVENT_BYTES = 10_000, 16, 40
 # How many requests are refused in a row: one alone; or three, and all from the first one on.
 ONE, EACH_WAY = [1], [1, 3, 0]
-# The names, among a command's words, of a file with its input and of one that it writes, which holds OLD before.
-INPUT_FILE, OUTPUT_FILE, OLD = "jobs.csv", "old.csv", b"old\n"
-WANT = b"failed: record 0: OutOfMemory\n"
-WANT_OF_FILE = [b"failed: input: OutOfMemory: jobs.csv\n", b"failed: output: OutOfMemory: old.csv\n"]
+# The names, among a command's words, of a file with its input and of those that it writes, which hold OLD before.
+INPUT_FILE, OUTPUT_FILE, EVENTS_FILE, OLD = "jobs.csv", "old.csv", "events.csv", b"old\n"
+WANT, WANT_OF_WRITE = b"failed: record 0: OutOfMemory\n", b"failed: record 0: Write\n"
+SIDES = {"input": INPUT_FILE, "output": OUTPUT_FILE, "events": EVENTS_FILE}
 HEADER = "lane,kind,op,root,items\n"
 # A kind, an operation and a root of each collective, and the same for jobs of the largest machine.
 KINDS = (("scan", "add", 0), ("broadcast", "-", 0), ("reduce", "min", 0), ("allreduce", "xor", 0), ("exscan", "min", 0))
@@ -60,6 +63,8 @@ def inputs():
     few, many = jobs(20, 2), jobs(200, 16)
     rows = (row(at, kind, (it * 2**at for it in range(4096))) for at, kind in enumerate(LARGEST))
     large = (HEADER + "".join(rows)).encode()
+    # Jobs of one lane and of one processor, whose events have one order.
+    small = (HEADER + "".join(row(0, KINDS[0], [at]) for at in range(10))).encode()
     alone, four = "--dispatchers 1 --capacity 1", "--dispatchers 4 --capacity 1"
     return [
         ("run --dim 3", example("jobs"), EACH_WAY),
@@ -72,6 +77,11 @@ def inputs():
         (f"report --dim 4 {four}", many, ONE),
         (f"run --dim 3 {INPUT_FILE} --output {OUTPUT_FILE}", example("jobs"), EACH_WAY),
         (f"run --dim 4 {four} --output {OUTPUT_FILE}", many, ONE),
+        (f"run --dim 0 {alone} {INPUT_FILE} --events {EVENTS_FILE}", small, EACH_WAY),
+        (f"run --dim 0 {alone} --output {OUTPUT_FILE} --events {EVENTS_FILE}", small, EACH_WAY),
+        (f"report --dim 0 {alone} --events {EVENTS_FILE}", small, ONE),
+        ("run --dim 3 --long", example("jobs"), EACH_WAY),
+        (f"run --dim 12 --long --output {OUTPUT_FILE}", large, ONE),
         (f"place --dim 2 {INPUT_FILE}", example("place"), EACH_WAY),
         ("place --dim 2", example("place"), EACH_WAY),
         ("replay --dim 2 --stations 3", example("schedule"), EACH_WAY),
@@ -79,24 +89,28 @@ def inputs():
         (f"check run --dim 3 {INPUT_FILE}", refused_jobs(200), ONE),
         ("check replay", example("schedule"), EACH_WAY),
         ("messages --shape allreduce --dim 3", b"", EACH_WAY),
+        ("help check", b"", EACH_WAY),
+        ("help messages", b"", EACH_WAY),
     ]
 
 
 class Command:
     def __init__(self, built, arguments, text, folder, shims):
         self.words, self.text, self.folder, self.shims = [built, *arguments.split()], text, folder, shims
-        self.names_input, self.names_output = INPUT_FILE in self.words, OUTPUT_FILE in self.words
+        self.names_input = INPUT_FILE in self.words
+        self.written = [name for name in (OUTPUT_FILE, EVENTS_FILE) if name in self.words]
 
     def path(self, name):
         return os.path.join(self.folder, name)
 
     def run(self, refused, count=1, thread=0):
         """Runs the program with `count` requests for memory refused from this one on, or no thread from this one on
-        started: its status, its output, and its errors."""
+        started: its status, its output, its errors, and the files that it writes."""
         env = {**os.environ, "LD_PRELOAD": self.shims, "COUNT_FILE": self.path("count")}
         env.update(REFUSE=str(refused), REFUSE_COUNT=str(count), REFUSE_THREAD=str(thread))
         put(self.path(INPUT_FILE), self.text)
-        put(self.path(OUTPUT_FILE), OLD)
+        for name in self.written:
+            put(self.path(name), OLD)
         how = f"{count or 'all'} from request {refused} on, or no thread from {thread} on"
         try:
             got = answer(self.words, b"" if self.names_input else self.text, env=env, timeout=SECONDS, cwd=self.folder)
@@ -104,12 +118,17 @@ class Command:
             raise Wrong(f"{how}: it hangs") from None
         left = [name for name in os.listdir(self.folder) if name.startswith(".cubejobs-")]
         must(not left, f"{how}: {left} is left")
-        return got if not self.names_output else (got[0], got[1] + read_bytes(self.path(OUTPUT_FILE)), got[2])
+        return *got, *(read_bytes(self.path(name)) for name in self.written)
 
     def may_fail_by(self, got, wanted):
-        errors = [WANT, *WANT_OF_FILE[:1][: self.names_input], *WANT_OF_FILE[1:][: self.names_output]]
-        is_kept = got[1] == OLD if self.names_output else wanted[1].startswith(got[1])
-        return got[0] == 3 and got[2] in errors and is_kept
+        status, out, said, *files = got
+        named = [f"failed: {side}: OutOfMemory: {name}\n".encode() for side, name in SIDES.items() if name in self.words]
+        # The output is in place before the events, so it may be whole where these could not be put in place.
+        is_late = self.written == [OUTPUT_FILE, EVENTS_FILE] and said == named[-1]
+        is_kept = files == [OLD] * len(files) or (is_late and files == [wanted[3], OLD])
+        # Two temporary files of one folder: the second asks for a name of its own at its first write, which then fails.
+        errors = [WANT, *named, *[WANT_OF_WRITE][: len(self.written) == 2]]
+        return status == 3 and said in errors and wanted[1].startswith(out) and is_kept
 
     def counted(self):
         return [int(number) for number in read_bytes(self.path("count")).split()]
@@ -139,11 +158,41 @@ def refuse_each(built, shims, arguments, text, counts):
             wants += got != wanted
         for thread in range(1, threads + 1):
             got = command.run(0, thread=thread)
-            none = OLD if command.names_output else b""
-            must(got == (3, none, WANT), f"no thread from {thread} on: status {got[0]}, errors {got[2]}")
+            wanted_now = (3, b"", WANT, *[OLD] * len(command.written))
+            must(got == wanted_now, f"no thread from {thread} on: status {got[0]}, errors {got[2]}")
         must(wants, "no request is answered by OutOfMemory")
     ways = f"each of {total} requests refused, in {len(counts)} ways"
     return f"{ways}, {wants} answered by OutOfMemory; so was each of {threads} threads"
+
+
+def refuse_second_line(built, shims):
+    """Refuses each request of a command that refuses its file, with a terminal as standard error. It shows the two lines
+    of such a file, or the first of them, or that memory ran out."""
+    first, second = b"refused: record 1: Word\n", b'  line 2, field command: "give"; wanted: take or free\n'
+    with tempfile.TemporaryDirectory() as folder:
+        put(os.path.join(folder, INPUT_FILE), b"command,name,dim\ngive,a,-\n")
+        env = {**os.environ, "TERM": "xterm", "LD_PRELOAD": shims, "COUNT_FILE": os.path.join(folder, "count")}
+
+        def shown(refused):
+            master, slave = pty.openpty()
+            tty.setraw(slave)
+            env.update(REFUSE=str(refused), REFUSE_COUNT="1", REFUSE_THREAD="0")
+            command = [built, "place", "--dim", "2", INPUT_FILE]
+            status, out, _ = answer(command, b"", env=env, cwd=folder, stderr=slave, timeout=SECONDS)
+            os.close(slave)
+            lines = os.read(master, 4096)
+            os.close(master)
+            return status, out, lines
+
+        must(shown(0) == (1, b"", first + second), f"{shown(0)} with ample memory")
+        total = int(read_bytes(os.path.join(folder, "count")).split()[0])
+        ends = {(1, b"", first + second): 0, (1, b"", first): 0, (3, b"", WANT): 0}
+        for refused in range(1, total + 1):
+            got = shown(refused)
+            must(got in ends, f"request {refused} of {total} refused: {got}")
+            ends[got] += 1
+        must(all(list(ends.values())[1:]), f"{[*ends.values()]} ends")
+    return f"each of {total} requests refused"
 
 
 def must_stop_feeding(built, shims):
@@ -165,10 +214,27 @@ def must_stop_feeding(built, shims):
     return f"{few - none} bytes for replies"
 
 
+def must_reserve_events(built, shims):
+    """Sees that the room for all events is asked for before the first thread starts: it counts the bytes that a run asks
+    for if no thread can be started, with events and without."""
+    text, sizes = HEADER.encode() + LONG * b"0,allreduce,add,0,1\n1,allreduce,add,0,1\n", []
+    with tempfile.TemporaryDirectory() as folder:
+        for more in ("", f" --events {EVENTS_FILE}"):
+            command = Command(built, f"run --dim 3{more}", text, folder, shims)
+            got = command.run(0, thread=1)
+            must(got[:3] == (3, b"", WANT) and all(held == OLD for held in got[3:]), f"status {got[0]}, errors {got[2]}")
+            sizes.append(command.counted()[2])
+    room = sizes[1] - sizes[0]
+    must(room >= 2 * LONG * 2 * EVENT_BYTES, f"{room} bytes are no room for the events of {2 * LONG} jobs")
+    return f"{room} bytes for events"
+
+
 def main(words):
     built = program(words)
     with tempfile.TemporaryDirectory() as folder:
         shims = shim("refuse.c", folder)
         rows = [Row(words, refuse_each, (built, shims, words, *how)) for words, *how in inputs()]
         rows.append(Row("the second thread that feeds refused", must_stop_feeding, (built, shims)))
+        rows.append(Row("room for events", must_reserve_events, (built, shims)))
+        rows.append(Row("a second line on a terminal", refuse_second_line, (built, shims)))
         return run_rows("memory", rows, says_ok=True)

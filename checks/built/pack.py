@@ -1,8 +1,9 @@
-"""Makes the packages of a release: a tarball, from which `./install` installs, and a Debian package of the same files.
+"""Makes the packages of a release: a tarball, from which `./install` installs, and a Debian package of the same files
+for each processor that release/ has files for.
 
-`checks/run pack FOLDER` takes what was just built, makes both twice, in other time zones and with other masks of modes,
-and compares them to the byte. It installs from the tarball alone. `checks/run pack --out DIR` makes both in DIR, of the
-files of release/. Both are small and made at will, so the repository does not keep them.
+`checks/run pack FOLDER` takes what was just built, makes each twice, in other time zones and with other masks of modes,
+and compares them to the byte. It installs from the tarball alone. `checks/run pack --out DIR` makes all in DIR, of the
+files of release/. They are small and made at will, so the repository does not keep them.
 """
 import gzip
 import os
@@ -20,9 +21,11 @@ from checks.source import version
 # What the tarball has, of the files that git knows.
 PARTS = ("CHANGELOG.md", "README.md", "SECURITY.md", "completions", "docs", "examples", "include", "install", "python",
          "release", "rust", "view")
+# The processors as `uname -m` names them, and as Debian does.
+PROCESSORS = {"x86_64": "amd64", "aarch64": "arm64"}
 CONTROL = """Package: cubejobs
 Version: {version}
-Architecture: amd64
+Architecture: {architecture}
 Maintainer: the owner of this copy <root@localhost>
 Depends: libc6 (>= 2.34)
 Section: devel
@@ -69,23 +72,28 @@ def tarball(clone, out):
     return made
 
 
-def debian(clone, out):
-    """Writes the Debian package, and returns its path."""
+def processors(clone):
+    """Returns the processors that release/ of a clone has files for."""
+    return [it for it in PROCESSORS if os.path.isdir(os.path.join(clone, "release", f"linux-{it}"))]
+
+
+def debian(clone, out, processor="x86_64"):
+    """Writes the Debian package for a processor, and returns its path."""
     if not shutil.which("dpkg-deb"):
         raise Skipped("no dpkg-deb here")
-    number = version.of_sources().replace("-", "~")
-    made = os.path.join(out, f"cubejobs_{number}_amd64.deb")
+    number, architecture = version.of_sources().replace("-", "~"), PROCESSORS[processor]
+    made = os.path.join(out, f"cubejobs_{number}_{architecture}.deb")
     with tempfile.TemporaryDirectory() as room:
         os.chmod(room, 0o755)
-        words = ["--prefix", "/usr", "--libdir", "/usr/lib/x86_64-linux-gnu", "--destdir", room]
-        words += ["--pythondir", "/usr/lib/python3/dist-packages"]
+        words = ["--prefix", "/usr", "--libdir", f"/usr/lib/{processor}-linux-gnu", "--destdir", room]
+        words += ["--pythondir", "/usr/lib/python3/dist-packages", "--processor", processor]
         status, _, said = answer([os.path.join(clone, "install"), *words], "", text=True)
         must(status == 0, f"install: {said}")
         # The system's own list of files replaces that of ./install.
         os.remove(os.path.join(room, "usr/share/cubejobs/installed"))
         write(f"{room}/usr/share/doc/cubejobs/copyright", COPYRIGHT)
         os.chmod(f"{room}/usr/share/doc/cubejobs/copyright", 0o644)
-        write(f"{room}/DEBIAN/control", CONTROL.format(version=number))
+        write(f"{room}/DEBIAN/control", CONTROL.format(version=number, architecture=architecture))
         for it in ("DEBIAN", "DEBIAN/control"):
             os.chmod(f"{room}/{it}", 0o755 if it == "DEBIAN" else 0o644)
         env = {**os.environ, "SOURCE_DATE_EPOCH": str(date())}
@@ -97,20 +105,20 @@ def debian(clone, out):
     return made
 
 
-def same_twice(make, clone, work):
+def same_twice(make, clone, work, *words):
     """Sees that two runs make the same bytes, and says how many."""
-    made = []
+    made, name = [], " ".join((make.__name__, *words))
     for number, (zone, mask) in enumerate((("UTC", 0o022), ("Asia/Kolkata", 0o077))):
-        out = os.path.join(work, f"{make.__name__}{number}")
+        out = os.path.join(work, f"{name}{number}")
         os.makedirs(out)
         os.environ["TZ"], old = zone, os.umask(mask)
         try:
-            with open(make(clone, out), "rb") as it:
+            with open(make(clone, out, *words), "rb") as it:
                 made.append(it.read())
         finally:
             os.umask(old)
-    must(made[0] == made[1], f"two runs of {make.__name__} make other bytes")
-    print(f"pack: the {make.__name__} has {len(made[0]):,} bytes")
+    must(made[0] == made[1], f"two runs of {name} make other bytes")
+    print(f"pack: the {name} has {len(made[0]):,} bytes")
 
 
 def installs_from_a_tarball(clone, work):
@@ -128,15 +136,16 @@ def installs_from_a_tarball(clone, work):
 
 
 def rows(clone, work):
-    for make in (tarball, debian):
-        yield Row(f"the same {make.__name__} twice", same_twice, (make, clone, work))
+    yield Row("the same tarball twice", same_twice, (tarball, clone, work))
+    for it in processors(clone):
+        yield Row(f"the same Debian package twice for {it}", same_twice, (debian, clone, work, it))
     yield Row("an installation from the tarball", installs_from_a_tarball, (clone, work))
 
 
 def main(words):
     if words[:1] == ["--out"] and len(words) == 2:
-        for make in (tarball, debian):
-            print(make(ROOT, words[1]))
+        for made in (tarball(ROOT, words[1]), *(debian(ROOT, words[1], it) for it in processors(ROOT))):
+            print(made)
         return 0
     must(len(words) == 1 and os.path.isdir(path(words[0])), __doc__)
     with tempfile.TemporaryDirectory() as work:

@@ -70,7 +70,7 @@ def whole(target):
     must(folder, target, ["test"], BUILD + RUN)
     must(folder, target, ["doc", "--no-deps"])
     for name, last in EXAMPLES.items():
-        said = must(folder, target, ["run", "--quiet", "--example", name, "--", *WORDS.get(name, [])])
+        said = must(folder, target, ["run", "--quiet", "--release", "--example", name, "--", *WORDS.get(name, [])])
         if not re.fullmatch(last, said.strip().splitlines()[-1]):
             raise Wrong(f"the example {name} says {said.strip().splitlines()[-1]!r}")
     print("pool: the tests, documents and examples pass, with no warning")

@@ -3,7 +3,8 @@
 A long run shows how many records are read and how many replies are done, in one line that is wiped at the end; all else
 is as in a run with `--quiet`. Nothing is shown for short work, with `--quiet`, where TERM is dumb, and where standard
 error is no terminal. A terminal that is stopped or unread holds up a run by a second at most. With a terminal as
-standard input each command says in one line what it waits for. `checks/run progress FILE` tries the program FILE.
+standard input each command says in one line what it waits for. Where the input is a file and is refused, a second line
+says where, and what is wanted there. `checks/run progress FILE` tries the program FILE.
 """
 import contextlib
 import itertools
@@ -11,6 +12,7 @@ import os
 import pty
 import re
 import subprocess
+import tempfile
 import threading
 import time
 import tty
@@ -192,6 +194,76 @@ TYPED = {
 }
 
 
+# An input that each command refuses, the line of standard error, and the second one on a terminal.
+REFUSED = {
+    "run --dim 3": (
+        f"{HEADER}0,scan,add,0,7\n0,scan,add,x1,7\n", "refused: record 2: Number",
+        '  line 3, field root: "x1"; wanted: a number below 2^64, with no sign and no leading zero'),
+    "run --dim 3 --long": (
+        f"{HEADER}16,scan,add,0,7\n", "refused: record 1: Number",
+        '  line 2, field lane: "16"; wanted: a number below 16, with no sign and no leading zero'),
+    # against a progress line that stays, or is wiped after the two lines
+    "run --dim 3 --capacity 1024": (
+        jobs(SOME, "0,scan,plus,0,4\n0,scan,plus,0,4\n").decode(), f"refused: record {SOME + 1}: Word",
+        f'  line {SOME + 2}, field op: "plus"; wanted: add, min, max, xor, and, or; for a broadcast -'),
+    "report --dim 0 --quiet": (
+        f"{HEADER}0,scan,add,0,7 8\n", "refused: record 1: Job TooLarge",
+        "  line 2; wanted: no more items than the machine has processors"),
+    # against bytes that a terminal would obey
+    "place --dim 2": (
+        "command,name,dim\ntake,\x1b[2J\u009b,1\n", "refused: record 1: Word",
+        '  line 2, field name: "\\u{1b}[2J\\u{9b}"; wanted: 1 to 16 bytes, each of them a to z or a digit'),
+    # against a line that counts records
+    "replay --dim 3 --stations 1": (
+        "station,call,arg\n\n0,run,-\n0,step,101\n", "refused: record 2: Number",
+        '  line 4, field arg: "101"; wanted: for take a node, for step a number from 1 to 100, for any other -'),
+    "replay --dim 2 --stations 1": (
+        "command,name,dim\n", "refused: record 0: Word",
+        '  line 1, field station: "command"; wanted: another file: this is the input of place'),
+    "place --dim 3": ("", "refused: record 0: Fields", "  line 1; wanted: 3 fields: command,name,dim"),
+}
+
+
+def shown_lines(command, stdin, env=()):
+    """Returns what a terminal shows that is the standard error of a command that refuses its input."""
+    terminal = Terminal(is_read=True)
+    started = subprocess.Popen(
+        command, stdin=stdin, stdout=subprocess.PIPE, stderr=terminal.slave, env={**ENVIRONMENT, **dict(env)})
+    os.close(terminal.slave)
+    try:
+        out, _ = started.communicate(timeout=60)
+    except subprocess.TimeoutExpired:
+        started.kill()
+        raise Wrong("it does not end") from None
+    finally:
+        terminal.close()
+    must((started.returncode, out) == (1, b""), f"status {started.returncode}, output {out}")
+    return screen(bytes(terminal.sent))
+
+
+def piped(given):
+    """Returns the end of a pipe from which this text is read."""
+    return subprocess.Popen(["printf", "%s", given], stdout=subprocess.PIPE).stdout
+
+
+def refused_input(built, words, given, first, second):
+    """Sees that a file has the second line, and that a pipe has not, and a terminal that cannot rewrite a line."""
+    command = [built, *words.split()]
+    with tempfile.NamedTemporaryFile("w", encoding="utf-8") as file:
+        file.write(given)
+        file.flush()
+        named, both, one = [*command, file.name], [first, second, ""], [first, ""]
+        must(shown_lines(named, subprocess.DEVNULL) == both, f"{shown_lines(named, subprocess.DEVNULL)}")
+        with open(file.name, "rb") as stdin:
+            must(shown_lines(command, stdin) == both, "a file that is standard input has no second line")
+        dumb = shown_lines(named, subprocess.DEVNULL, {"TERM": "dumb"})
+        must(dumb == one, f"where TERM is dumb it shows {dumb}")
+        must(answer(named, b"") == (1, b"", f"{first}\n".encode()), "a file gets another line")
+    if len(given) < 1000:
+        must(shown_lines(command, piped(given)) == one, "a pipe that is read has a second line")
+        must(shown_lines([*command, "/dev/stdin"], piped(given)) == one, "a pipe that is named has a second line")
+
+
 def typed_answer(built, words, typed):
     master, slave = pty.openpty()
     os.write(master, typed)
@@ -220,5 +292,6 @@ def main(words):
     for name in ("run", "report"):
         parts = Parts(built, name)
         rows += [Row(f"{name}: {title(part)}", part, (parts,)) for part in methods(Parts)]
+    rows += [Row(f"{words}: refused input", refused_input, (built, words, *refused)) for words, refused in REFUSED.items()]
     rows += [Row(f"{words}: typed input", typed_input, (built, words, *typed)) for words, typed in TYPED.items()]
     return run_rows("progress", rows)

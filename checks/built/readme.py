@@ -2,7 +2,7 @@
 
 The commands run in a copy of this repository without what was made in it, on a PATH with no `rt`, with the program and
 libraries of FOLDER as those of release/: `checks/run readme FOLDER`. A line `..` is for all that follows. A line whose
-compiler is not there is passed over, and named.
+compiler or reader of tables is not there is passed over, and named.
 """
 import glob
 import hashlib
@@ -17,6 +17,11 @@ from checks.lib.toolchain import sum_of_sources
 
 BLOCK = re.compile(r"^```\w*\n(\$ .*?)^```$", re.M | re.S)
 COMPILERS = {"cc": "cc", "c++": "c++", "(cd rust": "cargo"}
+# What reads rows, and a command that ends well where it is there.
+READERS = {
+    "| mlr ": ["mlr", "--version"], "| sqlite3 ": ["sqlite3", "--version"],
+    "import pandas": ["python3", "-c", "import pandas"],
+}
 SECONDS = 120
 MOST_LINES = 130
 # How many commands are shown at least: a document that shows fewer is not read right.
@@ -43,11 +48,18 @@ def commands(document):
             yield command, shown
 
 
+def works(trial, env):
+    return bool(shutil.which(trial[0], path=env["PATH"])) and answer(trial, env=env)[0] == 0
+
+
 def must_show(command, shown, folder, env):
     """Sees that a command ends well, with an empty standard error and the output that is shown."""
     compiler = next((it for word, it in COMPILERS.items() if command.startswith(word)), None)
     if compiler and not shutil.which(compiler):
         raise Skipped(f"no {compiler} here")
+    for word, trial in READERS.items():
+        if word in command and not works(trial, env):
+            raise Skipped(f"no {word.split()[-1]} here")
     status, out, err = answer(["sh", "-c", command], "", text=True, cwd=folder, env=env, timeout=SECONDS)
     is_so = out.startswith(shown[: -len("..\n")]) if shown.endswith("\n..\n") else out == shown
     must(status == 0 and err == "" and shown and is_so, f"status {status}, output {out[:400]!r}, errors {err[:400]!r}")

@@ -1,10 +1,13 @@
 """Compares the files of release/ with what was built from these sources, to the byte.
 
 `checks/run release FOLDER` finds in FOLDER what was just built from nothing. Where release/ is of these sources, each
-of its files must be that very file, and need no symbol of a C library later than 2.34. Where another build of the
+of its files for x86-64 must be that very file, and need no symbol of a C library later than 2.34. Where another build of the
 toolchain made release/ and this one makes other bytes, the comparison is skipped. Where the sources have moved on, it
 says how to renew release/, which is no failure: the launcher passes such a release over. The libraries must have no
 instruction that an x86-64 may lack. `checks/run release --renew` proves and builds, and puts files and sums there.
+
+If release/ has files for aarch64, they must be of the same sources as those for x86-64, with the sums that SHA256SUMS
+has. `checks/run aarch64` builds them anew.
 """
 import hashlib
 import os
@@ -14,11 +17,11 @@ import subprocess
 import tempfile
 
 from checks.built import archive
-from checks.lib.repository import path, read, read_bytes, write
+from checks.lib.repository import path, place, read, read_bytes, write
 from checks.lib.rows import Skipped, Wrong, must, output, print_faults, put
 from checks.lib.toolchain import FOR_ANY, sum_of_sources
 
-RELEASE = path("release", "linux-x86_64")
+RELEASE, AARCH64 = path("release", "linux-x86_64"), path("release", "linux-aarch64")
 # What is shipped, and where `rt` or the check `archive` puts it.
 LIBRARIES = [f"lib{name}.a" for name in archive.LIBRARIES]
 SHARED = [f"lib{name}.so" for name in archive.LIBRARIES]
@@ -85,7 +88,8 @@ class Release:
         write(self.sums, "\n".join([*lines, *(f"{sum_of(self.bytes_of(name))}  {name}" for name in FILES)]) + "\n")
 
     def faults(self, built):
-        """Yields a sentence for each fault of a file, which begins with its name."""
+        """Yields a sentence for each fault of a file, which begins with its name. Compares it with what was built, if
+        anything was."""
         sums = re.findall(r"^(\w{64})  (\S+)$", read(self.sums), re.M) if os.path.exists(self.sums) else []
         sums = {name: total for total, name in sums}
         if sorted(sums) != sorted(FILES):
@@ -95,7 +99,8 @@ class Release:
             if not os.path.exists(os.path.join(self.folder, name)):
                 yield f"{name} is not there"
                 continue
-            data, own = self.bytes_of(name), read_bytes(built, name)
+            data = self.bytes_of(name)
+            own = read_bytes(built, name) if built else data
             if sum_of(data) != sums[name]:
                 yield f"{name} is not the file whose sum SHA256SUMS has"
             if data != own:
@@ -139,12 +144,28 @@ def lacking(folder):
             yield f"{name} has {len(found)} instructions that an x86-64 may lack, of {len(lines)}: {some}"
 
 
-def stale_copies():
+def stale_copies(released=RELEASE, copies=RUST):
     """Yields each library of which the Rust package has another copy, or none."""
     for name in LIBRARIES:
-        twin = os.path.join(RUST, name)
-        if not os.path.exists(twin) or read_bytes(twin) != read_bytes(RELEASE, name):
-            yield f"rust/lib/{name} is not the file of release/"
+        twin = os.path.join(copies, name)
+        if not os.path.exists(twin) or read_bytes(twin) != read_bytes(released, name):
+            yield f"{place(twin)} is not the file of release/"
+
+
+def faults_of_aarch64():
+    """Yields what is wrong with the files for aarch64, if there are any, as far as it shows without a build."""
+    copies = os.path.join(RUST, "aarch64")
+    if not os.path.isdir(AARCH64):
+        yield from [f"there is {place(copies)}, and no {place(AARCH64)}"] if os.path.isdir(copies) else []
+        return
+    release = Release(AARCH64)
+    faults = [*release.faults(None)]
+    yield from (f"for aarch64, {it}" for it in faults)
+    for word in ("version", "sources"):
+        said, wanted = release.said(word), Release(RELEASE).said(word)
+        if said != wanted:
+            yield f"for aarch64, {word} {said}, and for x86-64 {wanted}: checks/run aarch64 --renew FOLDER"
+    yield from stale_copies(AARCH64, copies) if not faults else []
 
 
 def renew():
@@ -203,7 +224,7 @@ def not_seen_of_instructions(release, built):
 
 
 def compare(built):
-    release, wrong = Release(RELEASE), [*lacking(built), *stale_copies()]
+    release, wrong = Release(RELEASE), [*lacking(built), *stale_copies(), *faults_of_aarch64()]
     if release.said("sources") != sum_of_sources():
         print("release: the files of release/ are of other sources; to renew them: checks/run release --renew")
         return wrong

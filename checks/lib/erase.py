@@ -547,10 +547,19 @@ def with_head(name, text):
     return laid_out(f"{first}{doc}\n{imports}{text[len(doc):]}")
 
 
+def sources_below(folder):
+    """Returns the texts of the sources in a folder by their names."""
+    return {re.sub(r".*/", "", it)[: -len(".rt")]: read(it) for it in files_below(folder, ".rt")}
+
+
 def erased_crate(crate):
     """Returns the erased files of a crate by their names, and the eraser that has read them."""
-    files = {re.sub(r".*/", "", it)[: -len(".rt")]: read(it) for it in files_below(f"crates/{crate}/src", ".rt")}
-    files = {it: text for it, text in files.items() if it != "tests" and f"{crate}/{it}" not in UNUSED}
+    files = sources_below(f"crates/{crate}/src")
+    return erased_files(crate, {it: files[it] for it in files if it != "tests" and f"{crate}/{it}" not in UNUSED})
+
+
+def erased_files(crate, files):
+    """Returns the erased texts of these sources of a crate by their names, and the eraser that has read them."""
     droppable = {it for text in files.values() for it in re.findall(r"\bimpl(?:<[^{]*?>)? Drop for (\w+)", text)}
     eraser, made = Eraser(crate, droppable), {}
     for file, text in files.items():

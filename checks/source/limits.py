@@ -19,7 +19,7 @@ OTHERS = (
     (r"jobs_csv/proofs/CsvRecords\.antt", r"c == 13", "the byte of a carriage return"),
     (r"jobs_csv/.*/(name|Name|NameLemmas|PlainLemmas)\.", r"1[67]", "the bytes of a name"),
     (r"(cli_args/src/command_line|jobs_csv/src/wanted)\.rt", r"1 to 16 bytes", "the bytes of a name"),
-    (r"cli_args/src/command_line\.rt", r"  16 bytes, and 8 for each item", "the bytes of a scan's result"),
+    (r"cli_args/src/command_line\.rt", r"  105 bytes, and 16 for each item", "the bytes of a scan"),
     (r"cli_args/", r'default_value\("16"\)|codes "16"', "the room of a line where no word says it"),
     (r"uses/src/(answering|whole)\.rt", r"capacity: 16", "the room of this caller's line"),
     (r"cubejobs_(dispatch|regions)/src/codes\.rt", r"[A-Z_]+: u32 = \d+;", "the code of an answer"),

@@ -36,7 +36,7 @@ OF_THE_THEOREM = (("dispatcher", "finish"), ("dispatcher", "run"), ("job_queue",
 WHOLES = {
     "the theorem": (OF_THE_THEOREM, 340),
     "the theorem over threads": ((*OF_THE_THEOREM, ("shop_threads", "run")), 430),
-    "the program": ((("cli_commands", None), ("tool_commands", None)), 1660),
+    "the program": ((("cli_commands", None), ("tool_commands", None)), 1800),
 }
 
 # A name or a path of names: anything but spaces, brackets, commas and semicolons.

@@ -1,8 +1,8 @@
 """Compares the version, which src/lib.rt of release_version has, with each other place that writes it.
 
-They are the headers, the Rust packages, the manual pages, the Python module and the newest heading of CHANGELOG.md.
-release/VERSIONS has a line for each released version: its date, and the sum of its sources. A released version is of
-exactly these sources: after a change of one the version must be the next, with `-dev` behind it.
+They are the headers, the Rust packages with their plain Rust, the manual pages, the Python module and the newest
+heading of CHANGELOG.md. release/VERSIONS has a line for each released version: its date, and the sum of its sources. A
+released version is of exactly these sources: after a change of one the version must be the next, with `-dev` behind it.
 
     checks/run version              what differs
     checks/run version --set V      writes a version, such as 0.2.1-dev, to all places but CHANGELOG.md
@@ -17,6 +17,7 @@ from checks.lib.toolchain import sum_of_sources
 SOURCE, VERSIONS, CHANGELOG = "crates/release_version/src/lib.rt", "release/VERSIONS", "CHANGELOG.md"
 VERSION = r"(\d+)\.(\d+)\.(\d+)(-dev)?"
 TEXT, NUMBER = r'(VERSION: &str = ")([^"]*)(")', r"(VERSION_NUMBER: u32 = )(\d+)(;)"
+ERASED = "rust/src/source/release_version/mod.rs"
 HEADERS = ("cubejobs.h", "cubejobs_dispatch.h", "cubejobs_regions.h", "cubejobs_rounds.h")
 # Where a version is written: the file, the words around it, and whether it is the number.
 PLACES = (
@@ -24,6 +25,8 @@ PLACES = (
     (SOURCE, NUMBER, True),
     *((f"include/{name}", r'(#define CUBEJOBS_VERSION ")([^"]*)(")', False) for name in HEADERS),
     *((f"include/{name}", r"(#define CUBEJOBS_VERSION_NUMBER )(\d+)()", True) for name in HEADERS),
+    (ERASED, TEXT, False),
+    (ERASED, NUMBER, True),
     ("rust/Cargo.toml", r'(\[workspace\.package\]\nversion = ")([^"]*)(")', False),
     ("rust/pool/Cargo.toml", r'(cubejobs = \{ path = "\.\.", version = ")([^"]*)(")', False),
     ("rust/Cargo.lock", r'(name = "cubejobs"\nversion = ")([^"]*)(")', False),

@@ -5,9 +5,10 @@
 
 use cubejobs::dispatch::{Dispatcher, Lane, Sizes, SubmitError, Worker};
 use std::error::Error;
+use std::io::{self, IsTerminal};
 use std::sync::atomic::{AtomicBool, AtomicUsize, Ordering::SeqCst};
 use std::time::Duration;
-use std::{env, fs, io, thread};
+use std::{env, fs, thread};
 
 /// The dimension of the machine.
 const DIM: u32 = 4;
@@ -82,6 +83,14 @@ fn work(mut worker: Worker<Box<Task>>, last: usize) -> Tasks {
     Tasks::new()
 }
 
+/// Shows on a terminal how many of all jobs have started and ended.
+fn show(all: usize, end: &str) {
+    if io::stderr().is_terminal() {
+        let (started, ended) = (STARTED.load(SeqCst), ENDED.load(SeqCst));
+        eprint!("\r{started} of {all} jobs have started, {ended} have ended{end}");
+    }
+}
+
 /// Runs all tasks, or those up to the stop. Returns those that have not started.
 fn run(tasks: Tasks, last: usize) -> Result<Tasks, Box<dyn Error>> {
     let sizes = Sizes { lanes: SUBMITTERS as u32, workers: WORKERS as u32, capacity: 16 };
@@ -105,10 +114,10 @@ fn run(tasks: Tasks, last: usize) -> Result<Tasks, Box<dyn Error>> {
         if STOP.load(SeqCst) || submitters.iter().all(|it| it.is_finished()) {
             dispatcher.close();
         }
-        eprint!("\r{} of {all} jobs have started, {} have ended", STARTED.load(SeqCst), ENDED.load(SeqCst));
+        show(all, "");
         thread::sleep(Duration::from_millis(20));
     }
-    eprintln!();
+    show(all, "\n");
     // The workers may all have stopped before the close. A submitter may wait for room in its lane.
     dispatcher.close();
     let mut left = Tasks::new();

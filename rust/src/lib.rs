@@ -45,23 +45,14 @@ extern crate std;
 #[cfg(feature = "dispatch")]
 pub mod dispatch;
 #[cfg(feature = "dispatch")]
-#[cfg_attr(
-    any(feature = "source", not(all(target_arch = "x86_64", target_os = "linux"))),
-    path = "over/dispatch_ffi.rs"
-)]
+#[cfg_attr(not(cubejobs_archives), path = "over/dispatch_ffi.rs")]
 mod dispatch_ffi;
 #[cfg(all(any(feature = "dispatch", feature = "regions"), feature = "std"))]
 mod event;
-#[cfg_attr(
-    any(feature = "source", not(all(target_arch = "x86_64", target_os = "linux"))),
-    path = "over/ffi.rs"
-)]
+#[cfg_attr(not(cubejobs_archives), path = "over/ffi.rs")]
 mod ffi;
 pub mod fit;
-#[cfg_attr(
-    any(feature = "source", not(all(target_arch = "x86_64", target_os = "linux"))),
-    path = "over/fit_ffi.rs"
-)]
+#[cfg_attr(not(cubejobs_archives), path = "over/fit_ffi.rs")]
 mod fit_ffi;
 #[cfg(all(doctest, feature = "dispatch", feature = "regions"))]
 mod forbidden;
@@ -78,24 +69,18 @@ mod place;
 #[cfg(feature = "regions")]
 pub mod regions;
 #[cfg(feature = "regions")]
-#[cfg_attr(
-    any(feature = "source", not(all(target_arch = "x86_64", target_os = "linux"))),
-    path = "over/regions_ffi.rs"
-)]
+#[cfg_attr(not(cubejobs_archives), path = "over/regions_ffi.rs")]
 mod regions_ffi;
 #[cfg(feature = "dispatch")]
 mod room;
 pub mod rounds;
-#[cfg_attr(
-    any(feature = "source", not(all(target_arch = "x86_64", target_os = "linux"))),
-    path = "over/rounds_ffi.rs"
-)]
+#[cfg_attr(not(cubejobs_archives), path = "over/rounds_ffi.rs")]
 mod rounds_ffi;
 #[cfg(any(feature = "dispatch", feature = "regions"))]
 mod shared;
 #[cfg(feature = "dispatch")]
 mod sharing;
-#[cfg(any(feature = "source", not(all(target_arch = "x86_64", target_os = "linux"))))]
+#[cfg(not(cubejobs_archives))]
 #[rustfmt::skip]
 mod source;
 

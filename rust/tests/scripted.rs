@@ -3,7 +3,7 @@
 //!
 //! This program defines the functions of the library, so that it is not linked. The form of plain
 //! Rust calls no such function, so it has no part here.
-#![cfg(all(target_arch = "x86_64", target_os = "linux", not(feature = "source")))]
+#![cfg(cubejobs_archives)]
 
 use cubejobs::dispatch::{Dispatcher, NextError, Sizes, Worker};
 use std::sync::mpsc::channel;

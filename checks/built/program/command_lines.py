@@ -1,7 +1,8 @@
 """Rows of command lines that are refused, whatever the input is; and each help, and the version."""
 import re
 
-from checks.built.program.texts import ANSWERS, BAD, CALLS, COMMANDS, EVENTS, JOBS, REPLIES, TOTALS, VERSION, WRITE
+from checks.built.program.texts import (
+    ANSWERS, BAD, CALLS, COMMANDS, EVENTS, JOBS, REPLIES, TOTALS, VALUES, VERSION, WRITE)
 from checks.lib.rows import Row, answer, must, must_answer, output, shown
 
 COMMANDS_OF_CLI = ("run", "report", "place", "replay")
@@ -45,6 +46,7 @@ TWICE = {
     "two dimensions, one by its letter": ("run --dim 3 -n 3", N),
     "two counts of dispatchers": ("run --dim 3 --dispatchers 2 --dispatchers 2", D),
     "a report that is quiet twice": ("report --dim 3 --quiet --quiet", "--quiet"),
+    "a run that is long twice": ("run --dim 3 --long --long", "--long"),
 }
 # The words, and the one that is not expected.
 UNEXPECTED = {
@@ -59,6 +61,9 @@ UNEXPECTED = {
     "a quiet place by its letter": ("place --dim 3 -q", "-q"),
     "two dashes": ("run --dim 3 - -", "-"),
     "an option after two dashes": ("run -- --dim 3", "3"),
+    "a long report": ("report --dim 3 --long", "--long"),
+    "a long place": ("place --dim 3 --long", "--long"),
+    "a long run by the letter": ("run --dim 3 -l", "-l"),
     "stations of a report": ("report --dim 3 --stations 2", "--stations"),
     "stations of a place": ("place --dim 3 --stations 1", "--stations"),
     "a quiet place": ("place --dim 3 --quiet", "--quiet"),
@@ -83,6 +88,7 @@ OTHERS = {
     "help after a number out of range": ("run --dim 13 --help", f"invalid value '13' for '{N}': 13 is not in 0..=12"),
     "a report with no dimension": ("report", MISSING),
     "a quiet run with a value": ("run --dim 3 --quiet=yes", f"unexpected value 'yes' for '--quiet' {NO_MORE}"),
+    "a long run with a value": ("run --dim 3 --long=1", f"unexpected value '1' for '--long' {NO_MORE}"),
     "a word that is no text": (["run", "--dim", b"\xff"], NO_TEXT),
     "a command that is no text": ([b"\xff"], NO_TEXT),
 }
@@ -114,9 +120,9 @@ OF_EVERY_FILE = [
     r"(?i)exit status", r"record 0", r"blank line", r"(?i)memory",
 ]
 # What the help of a command must not say, since the command cannot answer it.
-NOT_OF_A_COMMAND = [r"\bSpent\b", r"\bJob Empty\b", r"\bTooLarge\b", r"\bBadRoot\b", r"--quiet\b"]
+NOT_OF_A_COMMAND = [r"\bSpent\b", r"\bJob Empty\b", r"\bTooLarge\b", r"\bBadRoot\b", r"--quiet\b", r"--long\b"]
 EACH = [rf"\b{name}\b" for name in COMMANDS_OF_CLI]
-OF_RUN = [JOBS, REPLIES, *OF_EVERY_FILE, *OF_A_SHOP, *JOB_FAULTS, r"\bSpent\b", r"cubejobs run --dim \d"]
+OF_RUN = [JOBS, REPLIES, VALUES, r"--long\b", *OF_EVERY_FILE, *OF_A_SHOP, *JOB_FAULTS, r"\bSpent\b", r"cubejobs run --dim \d"]
 HELPS = {
     "the program": ("--help", [*EACH, r"Usage: cubejobs <COMMAND>", r"-V, --version"]),
     "the program, in short": ("-h", EACH),

@@ -5,7 +5,7 @@ import shutil
 import tempfile
 
 from checks.built.program.devices import open_pipe
-from checks.built.program.texts import ANSWERS, BAD, CALLS, COMMANDS, EVENTS, GOOD, REPLY, TOTALS
+from checks.built.program.texts import ANSWERS, BAD, CALLS, COMMANDS, EVENTS, GOOD, REPLY, TOTALS, VALUES
 from checks.lib.repository import read_bytes
 from checks.lib.rows import AS_NOBODY, Row, encoded, must, must_answer, put
 
@@ -36,6 +36,7 @@ ANSWERED = {
     "an input and an output": ("jobs.csv --output new.csv", BAD, "new.csv"),
     "one file as both": ("jobs.csv --output jobs.csv", BAD, "jobs.csv"),
     "one file as both, by two names": ("jobs.csv --output folder/../jobs.csv", BAD, "jobs.csv"),
+    "a long run": ("run --dim 3 --long jobs.csv --output new.csv", "", "new.csv", f"{VALUES}\n0,0,0,7\n"),
     "a report": ("report --dim 0 jobs.csv --output new.csv", "", "new.csv", REPORTED),
     "a place": ("place --dim 3 place.csv --output new.csv", "", "new.csv", PLACED[1]),
     "a replay": ("replay --dim 3 --stations 1 calls.csv --output new.csv", "", "new.csv", PLAYED[1]),
@@ -47,6 +48,7 @@ FAILED = {
     "an input by a link": ("link.csv", "", "record 0: Fields"),
     "a refused input and an output": ("bad.csv --output new.csv", GOOD, "record 1: Word"),
     "a refused input and an output over a file": ("bad.csv --output old.csv", GOOD, "record 1: Word"),
+    "a refused input of a long run, and an output": ("--long bad.csv --output old.csv", GOOD, "record 1: Word"),
     "one refused file as both": ("bad.csv --output bad.csv", GOOD, "record 1: Word"),
     "a missing input": ("none.csv", GOOD, "input: Missing: none.csv"),
     "a missing input and an output over a file": ("none.csv --output old.csv", GOOD, "input: Missing: none.csv"),

@@ -1,5 +1,6 @@
 """Rows of `run`, and the refused files of jobs."""
-from checks.built.program.texts import GOOD, JOBS, MOST, NO_HEADER, REPLIES, REPLY, answered, first, many, refused
+from checks.built.program.texts import (
+    GOOD, JOBS, MOST, NO_HEADER, REPLIES, REPLY, VALUES, answered, first, lines_of, many, refused)
 from checks.lib.rows import Row, must_answer
 
 OPERATIONS = ("add", "min", "max", "xor", "and", "or")
@@ -222,7 +223,34 @@ OTHER_WORDS = {
 }
 
 
+# The dimension, records of jobs, and the lines of `--long`.
+LONG = {
+    "no jobs": ("3", "", ""),
+    "a scan": ("2", "0,scan,add,0,4 5 6", "0,0,0,4; 0,0,1,9; 0,0,2,15"),
+    # against lines of places that hold nothing, and places that are counted from 1
+    "a reduction": ("2", "0,reduce,min,2,5 3 9 4", "0,0,2,3"),
+    # against lines in the order of the file, or of the places of all jobs
+    "three jobs in two lanes": (
+        "1", "7,allreduce,max,0,2 9; 3,exscan,add,0,8 1; 7,broadcast,-,1,4 6",
+        "3,0,0,0; 3,0,1,8; 7,0,0,9; 7,0,1,9; 7,1,0,6; 7,1,1,6"),
+    "the greatest number": ("0", "15,scan,or,0,18446744073709551615", "15,0,0,18446744073709551615"),
+}
+
+
+def values_of(replies):
+    """Returns the lines of `--long` for lines of replies: one for each number of a result."""
+    for reply in lines_of(replies):
+        lane, seq, _, _, result, _, _ = reply.split(",")
+        yield from (f"{lane},{seq},{place},{value}" for place, value in enumerate(result.split(" ")) if value != "-")
+
+
 def rows(program):
+    for name, (n, given, out) in LONG.items():
+        yield Row(f"run --long, worked: {name}", *answered(program, f"run --long --dim {n}", JOBS, given, VALUES, out))
+    for name, (n, given, out) in RUNS.items():
+        lines = [*values_of(out)]
+        yield Row(f"run --long: {name}", *answered(program, f"run --dim {n} --long -q", JOBS, given, VALUES, lines))
+    yield from refused(program, "run --long", {name: REFUSED[name] for name in ("no byte", "four fields", "lane 16")})
     for name, (n, given, out) in RUNS.items():
         for shop in SHOPS:
             yield Row(f"run {shop}: {name}", *answered(program, f"run --dim {n} {shop}", JOBS, given, REPLIES, out))

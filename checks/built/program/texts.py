@@ -4,6 +4,7 @@ from checks.source import version
 
 VERSION = f"cubejobs {version.of_sources()}\n"
 JOBS, REPLIES = "lane,kind,op,root,items", "lane,seq,kind,dim,result,rounds,messages"
+VALUES = "lane,seq,place,value"
 TOTALS = "group,key,count,processors,idle"
 COMMANDS, ANSWERS = "command,name,dim", "command,name,dim,base,outcome"
 CALLS, EVENTS = "station,call,arg", "station,event,node,word,note"
@@ -45,7 +46,7 @@ def refused(program, command, table):
     """Yields rows of refused files: status 1, one line of errors, no output. A fault with no record is of the first."""
     for name, (fault, *lines) in table.items():
         bare = lines[:1] == [NO_HEADER]
-        given = "".join(f"{line}\n" for line in (lines[1:] if bare else [HEADERS[command], *lines]))
+        given = "".join(f"{line}\n" for line in (lines[1:] if bare else [HEADERS.get(command, JOBS), *lines]))
         told = fault if fault.startswith("record") else f"record 1: {fault}"
         words = [program, *command.split(), "--dim", "3"]
-        yield Row(f"{command.split()[0]}: {name}", must_answer, (words, given, 1, "", f"refused: {told}\n"))
+        yield Row(f"{command}: {name}", must_answer, (words, given, 1, "", f"refused: {told}\n"))

@@ -3,7 +3,7 @@ import os
 import tempfile
 
 from checks.built.program.texts import MOST
-from checks.lib.rows import Row, answer, must, must_answer, shown
+from checks.lib.rows import Row, answer, must, must_answer, output, shown
 
 LISTED = "record,line,field,text,fault,wanted\n"
 MESSAGES = "round,from,to\n"
@@ -75,6 +75,13 @@ BAD = {
     "a root past the last rank": ("messages --shape reduce --dim 3 --root 8", "invalid value for '--root <R>'"),
     "a root of a scan": ("messages --shape scan --dim 3 --root 1", "invalid value for '--root <R>'"),
     "a file of messages": ("messages --shape scan --dim 3 x", "unexpected argument 'x' found"),
+    "help of no kind of input": ("help check report", "unrecognized subcommand 'report'"),
+    "help of messages with a word": ("help messages x", "unexpected argument 'x' found"),
+}
+# The words that ask for help, and those that ask for the same help.
+HELPS = {
+    "help check": "check --help", "help messages": "messages --help", "help check run": "check run --help",
+    "help check replay": "check replay --help", "check help": "check --help",
 }
 
 
@@ -94,6 +101,12 @@ def must_read_a_file(program):
         must_answer([program, "check", "run", "--dim", "3", file], "", 1, rows, "")
 
 
+def same_help(program, words, same):
+    text = output([program, *same.split()])
+    must(same.split()[0] in text, f"{same} says {shown(text)}")
+    must_answer([program, *words.split()], "", 0, text, "")
+
+
 def rows(program):
     for name, (words, text, status, listed) in CHECKS.items():
         yield Row(f"check: {name}", must_answer, ([program, "check", *words.split()], text, status, LISTED + listed, ""))
@@ -101,6 +114,8 @@ def rows(program):
         yield Row(f"messages: {name}", must_answer, ([program, "messages", *words.split()], "", 0, MESSAGES + listed, ""))
     for name, (words, first) in BAD.items():
         yield Row(f"bad command line of a tool: {name}", must_be_bad, (program, words, first))
+    for words, same in HELPS.items():
+        yield Row(f"help: {words}", same_help, (program, words, same))
     yield Row("check: a file that is named", must_read_a_file, (program,))
     for words in ("check run --dim 0", "messages --shape scan --dim 1"):
         full = ["sh", "-c", f'exec "$0" {words} >/dev/full', program]

@@ -31,6 +31,7 @@ reason_text why.Other = codes "Other"
 abbrev pub side_text : FileSide → List ℕ
 side_text side.Input = codes "input"
 side_text side.Output = codes "output"
+side_text side.Events = codes "events"
 
 -- The error message of a file's fault, without the line feed: `failed`, the side and the reason.
 abbrev pub file_fault_text : FileFault → List ℕ

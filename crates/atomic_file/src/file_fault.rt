@@ -22,13 +22,15 @@ pub enum FileReason {
     Other,
 }
 
-/// The file that a command reads, or the file that it writes.
+/// Which of its files a command reads or writes.
 #[derive(Clone, Copy, Debug, PartialEq, Eq)]
 pub enum FileSide {
     /// The file that is read.
     Input,
     /// The file that is written.
     Output,
+    /// The file of the events of a run, which is also written.
+    Events,
 }
 
 /// A file of a command that could not be opened or replaced, and why.
@@ -75,6 +77,7 @@ impl FileSide {
         match *self {
             FileSide::Input => "input",
             FileSide::Output => "output",
+            FileSide::Events => "events",
         }
     }
 }

@@ -1,5 +1,5 @@
 // The contract of a store of files.
-ghost use Rattle.std.specs.Prelude.{◌≡◌, Some, IfErr, IfOk, OnOk};
+ghost use Rattle.std.specs.Prelude.{◌≡◌, Some, IfErr, IfOk, IfSome, OnOk};
 ghost use Rattle.atomic_file.specs.Store.{KeepsFiles, KeepsOthers};
 
 use crate::file_fault::FileReason;
@@ -32,6 +32,14 @@ pub trait FileStore {
     /// The file does not exist, it is a folder, or the system refuses it.
     fn open(&self, name: &str) -> Result<Self::Reader, FileReason>
         ensures { IfOk result (λ reader.
+            Self.Reader.remaining reader ≡ bytes self.now name.now) };
+
+    /// Opens the file of this name once more, if it can be read again from its beginning.
+    ///
+    /// Returns `None` for a pipe or a device, whose bytes are gone once they are read, and if the
+    /// file cannot be opened.
+    fn open_again(&self, name: &str) -> Option<Self::Reader>
+        ensures { IfSome result (λ reader.
             Self.Reader.remaining reader ≡ bytes self.now name.now) };
 
     /// Begins a temporary file for the file of this name, which need not exist. No file changes.

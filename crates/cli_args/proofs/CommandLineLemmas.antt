@@ -1,11 +1,15 @@
 -- The parse of the program's words.
-use Rattle.std.proofs.Common.{◌≡◌, ℕ, Bool, true, false, List, Option, Some, None, IfSome, Ok, bytes_eq, codes, if◌then◌else◌, refl, sym, ap, ◌∙◌}
+use Rattle.std.proofs.Common.{◌≡◌, ◌⊎◌, inl, inr, ℕ, Bool, true, false, List, [], ◌∷◌, Option, Some, None, IfSome, Ok, bytes_eq, codes, if◌then◌else◌, refl, sym, ap, ap₂, subst, ◌∙◌}
 use Rattle.std.specs.Str.Parse.{ParsesBool, digits_value, without_leading_plus}
-use Rattle.clap.specs.Words.{ReadsOne, Text, first_of, first_value, is_simple, is_simple_and_free, one_text, rows_of}
+use Rattle.clap.specs.Words.{ReadsOne, Text, fault_of, first_of, first_value, is_simple, is_simple_and_free, one_text, rows_of}
 use Rattle.clap.specs.declared.parser.matches.Found.{Found}
 use Rattle.clap.proofs.OnLiterals.{clap_on_literals}
 use Rattle.clap.proofs.WalkLemmas.{first_value-rows, one_text-rows}
-use Rattle.cli_args.specs.CommandLine.{HasFlag, HasOptionValue, file_named, program_app}
+use Rattle.clap.specs.Words.{HasKind, IsAmong, Row, kind_of}
+use Rattle.clap.specs.declared.error.Error.{Error}
+use Rattle.clap.specs.declared.error.kind.ErrorKind.{ErrorKind}
+use Rattle.clap.specs.declared.error.kind.ErrorKind.TheVariants.{ArgumentConflict, OutOfMemory}
+use Rattle.cli_args.specs.CommandLine.{HasFlag, HasOptionValue, are_apart, file_faults, file_named, first_faults, program_app}
 
 -- the program is one whose parse `clap` defines
 pub program_is_simple : is_simple program_app ≡ true
@@ -53,6 +57,18 @@ named : (found : Found) (argument : Text) (value : Option Text)
     → file_named value ≡ file_named (first_of argument (rows_of found))
 named found argument value is = ap file_named (is ∙ first_value-rows found argument)
 
+-- the name that an argument was given, whatever it is
+pub not_given : (found : Found) (argument : Text)
+    → None ≡ first_value found argument
+    → None ≡ first_of argument (rows_of found)
+not_given found argument is = is ∙ first_value-rows found argument
+
+pub given_name : (found : Found) (argument text name : Text)
+    → Some text ≡ first_value found argument
+    → name ≡ text
+    → Some name ≡ first_of argument (rows_of found)
+given_name found argument text name is same = ap Some same ∙ is ∙ first_value-rows found argument
+
 -- an argument that is not given
 pub no_file : (found : Found) (argument : Text)
     → None ≡ first_value found argument
@@ -73,3 +89,50 @@ pub a_file : (found : Found) (argument text name : Text)
     → name ≡ text
     → Some name ≡ file_named (first_of argument (rows_of found))
 a_file found argument text name is differs same = ap Some same ∙ sym (ap (λ (b : Bool). if b then None else Some text) differs) ∙ named found argument (Some text) is
+
+-- ---- what is wrong with the words
+
+among_first : (kind : ErrorKind) (kinds others : List ErrorKind)
+    → IsAmong kind kinds
+    → IsAmong kind (first_faults kinds others)
+among_first kind [] others among = absurd among
+among_first kind (first ∷ more) others among = among
+
+-- what `clap` finds is wrong with them
+pub still_wrong : (e : Error) (kinds others : List ErrorKind)
+    → HasKind kinds e
+    → HasKind (first_faults kinds others) e
+still_wrong e kinds others (inl memory) = inl memory
+still_wrong e kinds others (inr among) = inr (among_first (kind_of e) kinds others among)
+
+-- the faults of files, by what `clap` finds
+faults_in : (options : List Row) (command : Text) (output events : Option Text) (apart : Bool)
+    → output ≡ file_named (first_of (codes "output") options)
+    → events ≡ first_of (codes "events") options
+    → apart ≡ are_apart output events
+    → file_faults (Some (command, options)) ≡ (if apart then [] else ArgumentConflict ∷ [])
+faults_in options command output events apart is_output is_events is =
+    ap (λ (b : Bool). if b then [] else ArgumentConflict ∷ [])
+    (sym (is ∙ ap₂ are_apart is_output is_events))
+
+-- the words are good, or their events have no file of their own
+pub own_file : (words : List Text) (options : List Row) (command : Text)
+    (output events : Option Text) (apart : Bool) (found : Option (Text × List Row))
+    → fault_of program_app words ≡ []
+    → found ≡ Some (command, options)
+    → output ≡ file_named (first_of (codes "output") options)
+    → events ≡ first_of (codes "events") options
+    → apart ≡ are_apart output events
+    → first_faults (fault_of program_app words) (file_faults found)
+    ≡ (if apart then [] else ArgumentConflict ∷ [])
+own_file words options command output events apart found good is is_output is_events same =
+    ap (λ (kinds : List ErrorKind). first_faults kinds (file_faults found)) good
+    ∙ ap file_faults is ∙ faults_in options command output events apart is_output is_events same
+
+-- an error of such words
+pub no_file_of_its_own : (e : Error) (kinds : List ErrorKind)
+    → kinds ≡ ArgumentConflict ∷ []
+    → (kind_of e ≡ ArgumentConflict) ⊎ (kind_of e ≡ OutOfMemory)
+    → HasKind kinds e
+no_file_of_its_own e kinds is (inl conflict) = inr (subst (IsAmong (kind_of e)) (sym is) (inl conflict))
+no_file_of_its_own e kinds is (inr memory) = inl memory

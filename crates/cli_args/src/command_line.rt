@@ -1,11 +1,12 @@
 // The parser of the command line, and the texts of its help.
-ghost use Rattle.std.specs.Prelude.{◌≡◌, ◌≤◌, false, IfOk, IfSome, List, Some, codes, map, option_map, string_bytes};
-ghost use Rattle.clap.specs.Words.{FailsBy, Row, app_of, fault_of, first_of, found_of, rows_of, rule_of, subcommand_rows_of, with_rule};
+ghost use Rattle.std.specs.Prelude.{◌≡◌, ◌⊎◌, ◌≤◌, false, true, IfOk, IfSome, List, Some, codes, map, option_map, string_bytes};
+ghost use Rattle.clap.specs.Words.{FailsBy, Row, app_of, first_of, found_of, kind_of, rows_of, rule_of, subcommand_rows_of, with_rule};
 ghost use Rattle.clap.specs.declared.builder.command.Command.TheViews.{out-Command};
-ghost use Rattle.cli_args.specs.CommandLine.{AreShopSizes, AsksFor, HasFileNames, HasFlag, HasOptionValue, HasOptionValues, HasShopOptions, IsWithinLimits, capacity_rule, command_app, command_of, dim_rule, dispatchers_rule, file_named, file_rule, output_rule, program_app, quiet_rule, shop_app, stations_rule, versioned_app, with_tools};
+ghost use Rattle.cli_args.specs.CommandLine.{AreShopSizes, AsksFor, HasFileNames, HasFlag, HasOptionValue, HasOptionValues, HasShopOptions, IsWithinLimits, capacity_rule, command_app, command_of, dim_rule, dispatchers_rule, file_named, file_rule, long_rule, output_rule, program_app, quiet_rule, run_app, shop_app, stations_rule, versioned_app, with_tools, are_apart, events_rule, faults_of};
 ghost use Rattle.cli_args.specs.InnerCommands.{bare_app, shops_app};
 
 use crate::invocation::{FileNames, Invocation, Request, ShopOptions};
+use clap::error::ErrorKind;
 use clap::{Arg, ArgAction, ArgMatches, Command, Error, value_parser};
 use cube_shape::{Dim, MAX_CAPACITY, MAX_DIM, MAX_DISPATCHERS, MAX_STATIONS};
 use dispatcher::ShopSizes;
@@ -15,6 +16,9 @@ use std::alloc::{AllocError, Global};
 
 // The name of the program.
 const PROGRAM: &str = "cubejobs";
+
+// What is wrong with a command line whose events have no file of their own.
+const NO_OWN_FILE: &str = "the file of '--events' must be neither the file of '--output' nor '-'";
 
 const ABOUT: &str = "Dispatches jobs to the subcubes of a hypercube machine";
 
@@ -45,6 +49,11 @@ has a line for each job, sorted by lane; the jobs of a lane keep the order of
 the file. The result has a number for each item, or - for nothing. The rounds
 and messages are those of all processors of the subcube.
 
+With --long, the output is CSV with the header lane,seq,place,value. It has a
+line for each number of a result: place is that of the item, from 0 on. The
+lines are sorted by lane, seq and place. A place that holds nothing has no line,
+so a reduction has one line, that of the root.
+
 The jobs run on threads: some put the jobs of the lanes into one queue, and the
 dispatchers take them from it and run them. The output does not depend on the
 number of dispatchers or the capacity of the queue. For large jobs, use a
@@ -53,6 +62,10 @@ larger capacity is faster.
 
 If standard error is a terminal, one line of it shows the progress of a long
 run, unless --quiet is given.
+
+With --events FILE the command also writes when each job took its subcube, and
+when it freed it. The rows are those of `cubejobs place`, in an order of time:
+a take and a later free under the name l2s5 for job 5 of lane 2.
 
 Example: cubejobs run --dim 3 jobs.csv";
 
@@ -66,8 +79,9 @@ and writes the file of --output or standard output.
 The input is a file of jobs as `cubejobs run` reads it, CSV with the header
 lane,kind,op,root,items, and is refused for the same faults;
 `cubejobs run --help` describes it. The jobs run on threads in the same way,
-with the same line of progress on a terminal. The output does not depend on the
-number of dispatchers or the capacity of the queue.
+with the same line of progress on a terminal and the same file of events. The
+output does not depend on the number of dispatchers or the capacity of the
+queue.
 
 The output is CSV with the header group,key,count,processors,idle, and has
 these lines:
@@ -142,9 +156,15 @@ const RECORDS: &str = "Records:
 
 // The memory that `run` and `report` need, and the faults of a file of jobs.
 const OF_JOBS: &str = "Memory:
-  All jobs and replies are kept until the last job is done. A job takes about
-  140 bytes, and 8 for each item if it has more than four. A scan takes another
-  16 bytes, and 8 for each item.
+  All jobs and replies are kept until the last job is done. A job of up to four
+  items takes about 88 bytes, a larger one 95 and 8 for each item. A scan takes
+  105 bytes, and 16 for each item. With --events a job takes another 112 bytes.
+
+Events:
+  The file of --events is written whole or not at all, as that of --output. It
+  is put in place last, when the output is complete. It must be neither the file
+  of --output nor -. If two different names lead to one file, it holds the
+  events in the end. If the memory for all events is refused, no job runs.
 
 Faults of the input:
   Fields         a record has too few or too many fields, or there is no header
@@ -237,9 +257,11 @@ Faults of a file, as in `failed: output: Missing: results/new.csv`:
 // The end of each command's help.
 const STREAMS: &str = "
 If standard input is read and is a terminal, one line of standard error says
-what the command waits for; Ctrl-D ends the input. If the reader of standard
-output closes it early, standard error says `failed: record 0: Write`, and the
-status is 3.";
+what the command waits for; Ctrl-D ends the input. If standard error is a
+terminal and the input is a file that is refused, a second line says on which
+line of the file, in which field, and what is wanted there. If the reader of
+standard output closes it early, standard error says `failed: record 0: Write`,
+and the status is 3.";
 
 // Returns the end of a command's help: how records are counted, the memory it needs, the faults.
 fn end_of_help(alloc: Global, of_input: &str, of_others: &str) -> Result<String, AllocError> {
@@ -351,6 +373,28 @@ fn quiet_option<'a>(alloc: Global) -> Arg<'a>
         .action(ArgAction::SetTrue)
 }
 
+// Returns the flag that asks for a line for each value.
+fn long_option<'a>(alloc: Global) -> Arg<'a>
+    ensures rule { rule_of result ≡ long_rule }
+    ensures local { result.global ≡ false }
+{
+    Arg::new(alloc, "long")
+        .long("long")
+        .help("Writes a line for each number of a result")
+        .action(ArgAction::SetTrue)
+}
+
+// Returns the option for the file of the events.
+fn events_option<'a>(alloc: Global) -> Arg<'a>
+    ensures rule { rule_of result ≡ events_rule }
+    ensures local { result.global ≡ false }
+{
+    Arg::new(alloc, "events")
+        .long("events")
+        .value_name("FILE")
+        .help("File for the events of the run, whole or not at all")
+}
+
 // Returns the option for the number of stations.
 fn stations_option<'a>(alloc: Global, limits: &'a Limits) -> Arg<'a>
     ensures rule { rule_of result ≡ stations_rule }
@@ -395,7 +439,7 @@ fn command<'a>(
         .arg(output_option(alloc))
 }
 
-// Returns a command that runs jobs. It also has the options of workers and of the queue.
+// Returns a command that runs jobs. It also has the options of workers, of the queue and of events.
 fn shop_command<'a>(
     alloc: Global,
     name: &'a str,
@@ -409,7 +453,17 @@ fn shop_command<'a>(
     let shop = command(alloc, name, about, long_about, &limits.after_jobs, limits)?;
     shop.arg(dispatchers_option(alloc, limits))?
         .arg(capacity_option(alloc, limits))?
-        .arg(quiet_option(alloc))
+        .arg(quiet_option(alloc))?
+        .arg(events_option(alloc))
+}
+
+// Returns the command `run`, which also has the flag for a line for each value.
+fn run_command<'a>(alloc: Global, limits: &'a Limits) -> Result<Command<'a>, AllocError>
+    ensures app { IfOk result (λ command. app_of command ≡ run_app) }
+    ensures local { IfOk result (λ command. (out-Command command).has_globals ≡ false) }
+{
+    let run = shop_command(alloc, "run", ABOUT_RUN, LONG_ABOUT_RUN, limits)?;
+    run.arg(long_option(alloc))
 }
 
 // Returns the command `replay`, which also has stations.
@@ -443,7 +497,7 @@ fn bare_program<'a>(alloc: Global) -> Command<'a>
 fn with_shops<'a>(alloc: Global, limits: &'a Limits) -> Result<Command<'a>, AllocError>
     ensures { IfOk result (λ program. app_of program ≡ shops_app) }
 {
-    let run = shop_command(alloc, "run", ABOUT_RUN, LONG_ABOUT_RUN, limits)?;
+    let run = run_command(alloc, limits)?;
     let program = bare_program(alloc).subcommand(run)?;
     let report = shop_command(alloc, "report", ABOUT_REPORT, LONG_ABOUT_REPORT, limits)?;
     program.subcommand(report)
@@ -553,6 +607,14 @@ fn is_quiet_in(matches: &ArgMatches<'_>) -> Option<bool>
     matches.get_one::<bool>("quiet")
 }
 
+// Returns whether a line for each value is asked for.
+fn is_long_in(matches: &ArgMatches<'_>) -> Option<bool>
+    ensures { IfSome result (λ is_long.
+        HasFlag (rows_of (found_of matches.now)) (codes "long") is_long) }
+{
+    matches.get_one::<bool>("long")
+}
+
 // Returns the options that a command that runs jobs was given, or their defaults.
 fn shop_in(matches: &ArgMatches<'_>) -> Option<ShopOptions>
     ensures limits { IfSome result (λ shop. AreShopSizes shop.sizes) }
@@ -566,6 +628,20 @@ fn shop_in(matches: &ArgMatches<'_>) -> Option<ShopOptions>
     };
     let is_quiet = is_quiet_in(matches)?;
     Some(ShopOptions { sizes, is_quiet })
+}
+
+// Returns what the command `run` is asked for.
+fn run_in(matches: &ArgMatches<'_>) -> Option<Invocation>
+    ensures limits { IfSome result IsWithinLimits }
+    ensures command { IfSome result (λ invocation. command_of invocation ≡ codes "run") }
+    ensures options { IfSome result (HasOptionValues (rows_of (found_of matches.now))) }
+{
+    let shop = shop_in(matches)?;
+    if is_long_in(matches)? {
+        Some(Invocation::RunLong(shop))
+    } else {
+        Some(Invocation::Run(shop))
+    }
 }
 
 // Returns the name of the file that a command was given by this argument, if it was given one.
@@ -587,6 +663,18 @@ fn file_in(
     Ok(Some(name))
 }
 
+// Returns the name of the file of the events that a command was given, if it was given one.
+fn events_in(alloc: Global, matches: &ArgMatches<'_>) -> Result<Option<String>, AllocError>
+    ensures { IfOk result (λ events. option_map string_bytes events
+        ≡ first_of (codes "events") (rows_of (found_of matches.now))) }
+{
+    let Some(text) = matches.get_str("events") else {
+        return Ok(None);
+    };
+    let name = String::from_str(alloc, text)?;
+    Ok(Some(name))
+}
+
 // Returns the names of the files that a command was given.
 fn files_in(alloc: Global, matches: &ArgMatches<'_>) -> Option<FileNames>
     ensures { IfSome result (λ files. HasFileNames (rows_of (found_of matches.now)) files) }
@@ -597,7 +685,14 @@ fn files_in(alloc: Global, matches: &ArgMatches<'_>) -> Option<FileNames>
     let Ok(output) = file_in(alloc, matches, "output") else {
         return None;
     };
-    Some(FileNames { input, output })
+    let Ok(events) = events_in(alloc, matches) else {
+        return None;
+    };
+    Some(FileNames {
+        input,
+        output,
+        events,
+    })
 }
 
 // Returns the request of a parsed command line, if there is memory for it.
@@ -609,9 +704,8 @@ fn request_in(alloc: Global, matches: &ArgMatches<'_>) -> Option<Request>
         × HasFileNames options request.files) }
 {
     if let Some(run) = matches.subcommand_matches("run") {
-        let shop = shop_in(run)?;
+        let invocation = run_in(run)?;
         let files = files_in(alloc, run)?;
-        let invocation = Invocation::Run(shop);
         return Some(Request { invocation, files });
     }
     if let Some(report) = matches.subcommand_matches("report") {
@@ -634,6 +728,41 @@ fn request_in(alloc: Global, matches: &ArgMatches<'_>) -> Option<Request>
     Some(Request { invocation, files })
 }
 
+// Returns whether the events, if there are any, have a file of their own.
+fn are_apart(files: &FileNames) -> bool
+    ensures { result ≡ are_apart (option_map string_bytes files.now.output)
+        (option_map string_bytes files.now.events) }
+{
+    let Some(events) = &files.events else {
+        return true;
+    };
+    if events.as_str() == "-" {
+        return false;
+    }
+    let Some(output) = &files.output else {
+        return true;
+    };
+    if output == events {
+        return false;
+    }
+    true
+}
+
+// Returns the error of a command line whose events have no file of their own.
+fn no_own_file(alloc: Global, limits: &Limits) -> Error
+    ensures { (kind_of result ≡ ErrorKind.ArgumentConflict)
+        ⊎ (kind_of result ≡ ErrorKind.OutOfMemory) }
+{
+    let Ok(program) = program(alloc, limits) else {
+        return Error::from(AllocError);
+    };
+    let mut program = program;
+    match program.error(ErrorKind::ArgumentConflict, NO_OWN_FILE) {
+        Ok(error) => error,
+        Err(error) => Error::from(error),
+    }
+}
+
 /// Returns the request of a command line, whose first word is the program's name.
 ///
 /// # Errors
@@ -641,8 +770,11 @@ fn request_in(alloc: Global, matches: &ArgMatches<'_>) -> Option<Request>
 /// The help or the version was asked for, the command line is bad, or memory ran out.
 pub fn parse_args(alloc: Global, words: &[String]) -> Result<Request, Error>
     ensures limits { IfOk result (λ request. IsWithinLimits request.invocation) }
+    ensures apart { IfOk result (λ request. are_apart
+        (option_map string_bytes request.files.output)
+        (option_map string_bytes request.files.events) ≡ true) }
     ensures asked { IfOk result (λ request. AsksFor (map string_bytes words.now) request) }
-    ensures fails { FailsBy (fault_of program_app (map string_bytes words.now)) result }
+    ensures fails { FailsBy (faults_of (map string_bytes words.now)) result }
 {
     let limits = Limits::new(alloc)?;
     let program = program(alloc, &limits)?;
@@ -654,5 +786,8 @@ pub fn parse_args(alloc: Global, words: &[String]) -> Result<Request, Error>
     let Some(request) = request_in(alloc, &matches) else {
         return Err(Error::from(AllocError));
     };
+    if !are_apart(&request.files) {
+        return Err(no_own_file(alloc, &limits));
+    }
     Ok(request)
 }

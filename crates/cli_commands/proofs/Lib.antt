@@ -8,3 +8,5 @@ pub mod ReplayLemmas
 pub mod ReportLemmas
 pub mod ProgramLemmas
 pub mod FileLemmas
+pub mod WholeLemmas
+pub mod RecordLemmas

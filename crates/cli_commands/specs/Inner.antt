@@ -3,6 +3,7 @@
 pub mod Ending
 pub mod Files
 pub mod Names
+pub mod Recording
 pub mod Replay
 pub mod ReportRows
 pub mod Shop

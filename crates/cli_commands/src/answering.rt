@@ -4,7 +4,7 @@ ghost use Rattle.cli_args.specs.CommandLine.{IsWithinLimits};
 ghost use Rattle.cli_commands.specs.Answer.{IsMetBeforeWriting};
 ghost use Rattle.cli_commands.specs.Program.{IsAnswerTo, IsFaultOf, ShowsProgress};
 
-use crate::output::{Replies, Report};
+use crate::output::{Replies, Report, Values};
 use crate::place::place_on;
 use crate::replay::replay_on;
 use crate::shop::answer_file;
@@ -74,6 +74,13 @@ where
                 rt, alloc, options, runner, reader, terminal,
             );
             write_output::<Replies, TreeFloor, W>(alloc, dim, ran, writer)
+        }
+        Invocation::RunLong(options) => {
+            let dim = options.sizes.dim;
+            let ran = answer_file::<H, RuledLine, TreeFloor, T, R, P>(
+                rt, alloc, options, runner, reader, terminal,
+            );
+            write_output::<Values, TreeFloor, W>(alloc, dim, ran, writer)
         }
         Invocation::Report(options) => {
             let dim = options.sizes.dim;

@@ -5,6 +5,7 @@
 #![tactic(auto)]
 
 mod answering;
+mod event_sink;
 mod files;
 mod lanes;
 mod names;
@@ -13,6 +14,8 @@ mod place;
 mod play;
 pub mod program;
 mod progress;
+mod recording;
+mod refusal;
 mod replay;
 mod report;
 mod run;
@@ -21,8 +24,9 @@ mod stations;
 mod writing;
 
 pub use answering::{Task, answer};
-pub use output::{Output, Replies, Report};
+pub use output::{Output, Replies, Report, Values};
 pub use place::place_on;
+pub use recording::{RecordedRun, record, record_file};
 pub use replay::replay_on;
 pub use report::report_rows;
 pub use run::{report_on, run_on};

@@ -1,21 +1,24 @@
 //! The program, from the words of its command line to its exit status.
-ghost use Rattle.std.specs.Prelude.{◌≡◌, ◌⊎◌, ◌++◌, ◌∷◌, [], ℕ, Bool, true, IfErr, List, None, Option, map, option_map, string_bytes};
+ghost use Rattle.std.specs.Prelude.{◌≡◌, ◌⊎◌, ◌++◌, ◌∷◌, [], Bool, false, true, IfErr, IfSome, None, OnOk, map, option_map, string_bytes};
 ghost use Rattle.std.specs.Io.KnownBytes.{Appends};
 ghost use Rattle.std.specs.Process.{exit_status as status_of_process};
-ghost use Rattle.clap.specs.Words.{FailsBy, fault_of, kind_of};
+ghost use Rattle.clap.specs.Words.{kind_of};
 ghost use Rattle.clap.specs.declared.error.kind.ErrorKind.TheVariants.{DisplayHelp, DisplayVersion, OutOfMemory};
 ghost use Rattle.jobs_csv.specs.Fault.{attribute, fault_text};
 ghost use Rattle.jobs_csv.specs.declared.fault.Fault.{Fault as TheFault};
-ghost use Rattle.cli_args.specs.CommandLine.{IsWithinLimits, program_app};
+ghost use Rattle.cli_args.specs.CommandLine.{IsWithinLimits, are_apart};
 ghost use Rattle.cli_commands.specs.Answer.{IsMetBeforeWriting};
 ghost use Rattle.cli_commands.specs.Inner.Ending.{EndsOn, EndsWith, IsShown};
-ghost use Rattle.cli_commands.specs.Inner.Files.{IsOutcome, StopsBeforeWriting};
-ghost use Rattle.cli_commands.specs.Program.{AsksForInput, AsksForOutput, AsksForProgress, EndsBeforeWriting, EndsBy, IsFaultIn, MayWrite, ReportsFault, ReportsFileFault, ShowsProgress, exit_status, file_line, input_of, name_of, output_of};
-ghost use Rattle.atomic_file.specs.Store.{KeepsFiles, KeepsOthers, begun_by, held_by};
+ghost use Rattle.cli_commands.specs.Inner.Recording.{IsSunk};
+ghost use Rattle.cli_commands.specs.Inner.Files.{IsOutcome, IsOutputAlone, IsWholeOutcome, StopsBeforeWriting, StopsForEvents};
+ghost use Rattle.cli_commands.specs.Program.{AsksForInput, AsksForOutput, AsksForProgress, EndsBy, IsFaultIn, IsRefused, LeavesFiles, ReportsFault, ReportsFileFault, ShowsProgress, events_of, exit_status, file_line, input_of, name_of, output_of};
+ghost use Rattle.atomic_file.specs.Store.{KeepsFiles, begun_by, held_by};
 ghost use Rattle.atomic_file.specs.declared.file_fault.FileFault.{FileFault as TheFileFault};
 
-use crate::answering::{Task, answer};
-use crate::files::{CommandError, answered, begin_output, open_input, settle_output};
+use crate::answering::Task;
+use crate::event_sink::{EventSink, EventsFile, NoEvents, answer_to};
+use crate::files::{CommandError, answered, begin_file, open_input, settle_events, settle_output};
+use crate::refusal::show_refusal;
 use atomic_file::{FileFault, FileSide, FileStore};
 use clap::error::ErrorKind;
 use cli_args::{FileNames, Invocation, Request, parse_args};
@@ -36,7 +39,8 @@ pub struct Console<R, W, E, P, Q> {
     pub writer: W,
     /// Standard error. Errors are reported there.
     pub errors: E,
-    /// The terminal that shows the progress of a long run, if there is one.
+    /// The terminal, if there is one. It shows the progress of a long run, and where the input
+    /// is refused.
     pub terminal: Option<P>,
     /// Where the program says what it waits for, if the input is typed.
     pub prompt: Option<Q>,
@@ -111,7 +115,8 @@ fn report<E: Write>(answer: Result<(), CommandError>, files: &FileNames, errors:
     ensures file_line { (fault : TheFileFault) → result ≡ Ending.FileFailed fault true
         → Appends (E.contents errors.old) (E.contents errors.new)
         (file_line (name_of (option_map string_bytes files.now.input)
-        (option_map string_bytes files.now.output) fault.side) fault) }
+        (option_map string_bytes files.now.output)
+        (option_map string_bytes files.now.events) fault.side) fault) }
     ensures quiet { result ≡ Ending.Done → errors.new ≡ errors.old }
 {
     let error = match answer {
@@ -124,20 +129,21 @@ fn report<E: Write>(answer: Result<(), CommandError>, files: &FileNames, errors:
             let name = match fault.side {
                 FileSide::Input => &files.input,
                 FileSide::Output => &files.output,
+                FileSide::Events => &files.events,
             };
             return report_file(fault, name, errors);
         }
     }
 }
 
-// Carries out the request on the files that it names. Uses a stream of the console if it names no
-// file.
-fn carry_out<H, S, R, W, E, P, Q>(
+// Carries out the request from the file that it reads to the file that it writes. Uses a stream of
+// the console if it names no file. The events go to the sink.
+fn answer_request<H, S, R, W, E, P, Q, K>(
     rt: &H,
-    alloc: Global,
     request: &Request,
     store: &mut S,
     console: &mut Console<R, W, E, P, Q>,
+    sink: &mut K,
 ) -> Result<(), CommandError>
 where
     H: Threads + Wait + Clone + Send + Sync + 'static,
@@ -145,13 +151,19 @@ where
     R: Read + Device,
     W: Write + Device,
     P: Write + Send + Drop + 'static,
-    requires { IsWithinLimits request.now.invocation }
+    K: EventSink,
+    requires limits { IsWithinLimits request.now.invocation }
+    requires sink { events_of request.now ≡ None → K.has_file ≡ false }
     ensures outcome { IsOutcome S.fresh (S.bytes store.old) (S.bytes store.new)
         (held_by (S.bytes store.old) (R.remaining console.old.reader) (input_of request.now))
         (W.contents console.old.writer) (W.contents console.new.writer)
         (R.failures console.old.reader) (R.failures console.new.reader)
         (W.failures console.old.writer) (W.failures console.new.writer)
-        (input_of request.now) (output_of request.now) request.now.invocation result }
+        (input_of request.now) (output_of request.now) (events_of request.now)
+        request.now.invocation result }
+    ensures written { OnOk result (IfSome (held_by (S.bytes store.old)
+        (R.remaining console.old.reader) (input_of request.now))
+        (IsSunk K.has_file (K.writes sink.old sink.new) request.now.invocation)) }
     ensures untouched { IfErr result (λ error.
         StopsBeforeWriting error → console.new.writer ≡ console.old.writer) }
     ensures aside { (console.new.writer ≡ console.old.writer)
@@ -172,32 +184,85 @@ where
     match (&request.files.input, &request.files.output) {
         (None, None) => {
             let (reader, writer) = (&mut console.reader, &mut console.writer);
-            answered(answer(rt, alloc, task, reader, writer, terminal))
+            answered(answer_to(rt, task, reader, writer, terminal, sink))
         }
         (Some(input), None) => {
             let mut file = open_input(store, input)?;
             let writer = &mut console.writer;
-            answered(answer(rt, alloc, task, &mut file, writer, terminal))
+            answered(answer_to(rt, task, &mut file, writer, terminal, sink))
         }
         (None, Some(output)) => {
-            let mut temp_file = begin_output(store, output)?;
+            let mut temp_file = begin_file(store, FileSide::Output, output)?;
             let reader = &mut console.reader;
-            let answer = answer(rt, alloc, task, reader, &mut temp_file, terminal);
+            let answer = answer_to(rt, task, reader, &mut temp_file, terminal, sink);
             settle_output(store, temp_file, output, answer)
         }
         (Some(input), Some(output)) => {
             let mut file = open_input(store, input)?;
-            let mut temp_file = begin_output(store, output)?;
-            let answer = answer(rt, alloc, task, &mut file, &mut temp_file, terminal);
+            let mut temp_file = begin_file(store, FileSide::Output, output)?;
+            let answer = answer_to(rt, task, &mut file, &mut temp_file, terminal, sink);
             settle_output(store, temp_file, output, answer)
         }
     }
 }
 
+// Carries out the request on the files that it names. The file of the events is put in place last,
+// once all else is done.
+fn carry_out<H, S, R, W, E, P, Q>(
+    rt: &H,
+    alloc: Global,
+    request: &Request,
+    store: &mut S,
+    console: &mut Console<R, W, E, P, Q>,
+) -> Result<(), CommandError>
+where
+    H: Threads + Wait + Clone + Send + Sync + 'static,
+    S: FileStore,
+    R: Read + Device,
+    W: Write + Device,
+    P: Write + Send + Drop + 'static,
+    requires limits { IsWithinLimits request.now.invocation }
+    requires apart { are_apart (output_of request.now) (events_of request.now) ≡ true }
+    ensures outcome { IsWholeOutcome S.fresh (S.bytes store.old) (S.bytes store.new)
+        (held_by (S.bytes store.old) (R.remaining console.old.reader) (input_of request.now))
+        (W.contents console.old.writer) (W.contents console.new.writer)
+        (R.failures console.old.reader) (R.failures console.new.reader)
+        (W.failures console.old.writer) (W.failures console.new.writer)
+        (input_of request.now) (output_of request.now) (events_of request.now)
+        request.now.invocation result }
+    ensures late { IfErr result (λ error. StopsForEvents error →
+        KeepsFiles (S.bytes store.old) (S.bytes store.new)
+        × (console.new.writer ≡ console.old.writer)
+        ⊎ IsOutputAlone (S.bytes store.old) (S.bytes store.new)
+        (held_by (S.bytes store.old) (R.remaining console.old.reader) (input_of request.now))
+        (begun_by S.fresh (W.contents console.old.writer) (output_of request.now))
+        (held_by (S.bytes store.new) (W.contents console.new.writer) (output_of request.now))
+        (output_of request.now) request.now.invocation) }
+    ensures untouched { IfErr result (λ error. StopsBeforeWriting error →
+        (console.new.writer ≡ console.old.writer) ⊎ StopsForEvents error) }
+    ensures aside { (console.new.writer ≡ console.old.writer)
+        ⊎ (request.now.files.output ≡ None) }
+    ensures unread { (console.new.reader ≡ console.old.reader)
+        ⊎ (request.now.files.input ≡ None) }
+    ensures shown { (console.new.terminal ≡ console.old.terminal)
+        ⊎ ShowsProgress request.now.invocation }
+    ensures errors { console.new.errors ≡ console.old.errors }
+    ensures prompt { console.new.prompt ≡ console.old.prompt }
+{
+    let Some(name) = &request.files.events else {
+        return answer_request(rt, request, store, console, &mut NoEvents { alloc });
+    };
+    let file = begin_file(store, FileSide::Events, name)?;
+    let mut sink = EventsFile { alloc, file };
+    let done = answer_request(rt, request, store, console, &mut sink);
+    let EventsFile { alloc: _, file } = sink;
+    settle_events(store, file, name, done)
+}
+
 // Returns the line that says what a request waits for if its input is typed.
 fn awaited(invocation: Invocation) -> &'static str {
     match invocation {
-        Invocation::Run(_) | Invocation::Report(_) => {
+        Invocation::Run(_) | Invocation::RunLong(_) | Invocation::Report(_) => {
             "waiting for jobs, CSV with the header lane,kind,op,root,items; Ctrl-D ends it"
         }
         Invocation::Place { .. } => {
@@ -266,12 +331,14 @@ fn explain<W: Write + Device, E: Write>(
 /// Carries out what the words of a command line ask for. The first word is the program's name.
 ///
 /// Uses the console's reader and writer if the words name no file. An output file is a temporary
-/// file until all of it is there, so it is whole or as it was before.
+/// file until all of it is there, so it is whole or as it was before. So is the file of the events,
+/// which is put in place last.
 ///
 /// Each fault is reported in one line to the console's `errors`, which also gets what is wrong with
 /// a command line. Jobs run on threads of the runtime. The terminal, if there is one, shows the
-/// progress of a long run, unless the words ask for none. The prompt, if there is one, says what a
-/// command waits for that reads no file.
+/// progress of a long run, unless the words ask for none. If the input is a file that is refused,
+/// the terminal also shows where, and what is wanted there. The prompt, if there is one, says what
+/// a command waits for that reads no file.
 pub fn run<H, S, R, W, E, P, Q>(
     rt: &H,
     alloc: Global,
@@ -299,14 +366,16 @@ where
         (E.contents console.old.errors) (E.contents console.new.errors) }
     ensures quiet { result ≡ Ending.Done → console.new.errors ≡ console.old.errors }
     ensures rejected { result ≡ Ending.Rejected → console.new.reader ≡ console.old.reader }
-    ensures others { (name : Option (List ℕ)) × MayWrite (map string_bytes words.now) name
-        × KeepsOthers name (S.bytes store.old) (S.bytes store.new) }
-    ensures kept { (result ≡ Ending.Done) ⊎ KeepsFiles (S.bytes store.old) (S.bytes store.new) }
+    ensures files { LeavesFiles (map string_bytes words.now)
+        (held_by (S.bytes store.old) (R.remaining console.old.reader)) S.fresh
+        (W.contents console.old.writer) (W.contents console.new.writer)
+        (S.bytes store.old) (S.bytes store.new)
+        (console.new.writer ≡ console.old.writer) result }
     ensures shown { (console.new.terminal ≡ console.old.terminal)
-        ⊎ AsksForProgress (map string_bytes words.now) }
+        ⊎ AsksForProgress (map string_bytes words.now)
+        ⊎ IsRefused result }
     ensures prompted { (console.new.prompt ≡ console.old.prompt)
         ⊎ AsksForInput (map string_bytes words.now) }
-    ensures untouched { EndsBeforeWriting result → console.new.writer ≡ console.old.writer }
     ensures aside { (console.new.writer ≡ console.old.writer)
         ⊎ AsksForOutput (map string_bytes words.now) }
     ensures unread { (console.new.reader ≡ console.old.reader)
@@ -318,5 +387,7 @@ where
     };
     announce(&request, &mut console.prompt);
     let answer = carry_out(rt, alloc, &request, store, console);
-    report(answer, &request.files, &mut console.errors)
+    let ending = report(answer, &request.files, &mut console.errors);
+    show_refusal(alloc, &request, ending, store, &mut console.terminal);
+    ending
 }

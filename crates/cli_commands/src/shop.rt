@@ -59,7 +59,7 @@ fn to_error<M: Drop>(stopped: RunError<M>) -> AnswerError<M>
 }
 
 // Runs the jobs of these lanes. Each open lane has a producer that submits its jobs.
-fn answer_lanes<H, L, F, T>(
+pub(crate) fn answer_lanes<H, L, F, T>(
     rt: &H,
     alloc: Global,
     sizes: ShopSizes,

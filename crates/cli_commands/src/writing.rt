@@ -6,7 +6,6 @@ ghost use Rattle.floors.specs.Floor.{IsWhollyFree};
 ghost use Rattle.job_types.specs.Job.{JobData};
 ghost use Rattle.jobs_csv.specs.Fault.{attribute};
 ghost use Rattle.jobs_csv.specs.Jobs.{parse_jobs};
-ghost use Rattle.jobs_csv.specs.Text.{file_text};
 ghost use Rattle.cli_commands.specs.Answer.{IsAnswer, IsMetBeforeWriting};
 ghost use Rattle.cli_commands.specs.FileRun.{ReturnsRun};
 ghost use Rattle.cli_commands.specs.Inner.Shop.{fault_in};
@@ -23,7 +22,7 @@ use std::alloc::Global;
 use std::io::Write;
 
 // Writes the rows that are made of a finished run.
-fn write_finished<O: Output, F: Floor, W: Write + Device>(
+pub(crate) fn write_finished<O: Output, F: Floor, W: Write + Device>(
     alloc: Global,
     n: u32,
     finished: Finished<F::Machine>,
@@ -37,7 +36,7 @@ where
     ensures written { (jobs : List JobData) → AnswersJobs n jobs finished → OnOk result
         ((rows : List O.Row) × O.are_rows n jobs rows
         × Appends (W.contents writer.old) (W.contents writer.new)
-        (file_text O.Row.columns O.Row.fields rows)) }
+        (O.text rows)) }
     ensures failed { IfErr result (λ fault.
         (fault ≡ attribute FaultKind.Write (W.failures writer.old) (W.failures writer.new))
         ⊎ (fault ≡ record { row = 0; what = FaultKind.OutOfMemory })) }
@@ -45,7 +44,7 @@ where
     let Ok(rows) = O::rows::<F>(alloc, n, finished) else {
         return Err(Fault::no_memory());
     };
-    jobs_csv::write_rows(alloc, rows, writer)
+    O::write(alloc, rows, writer)
 }
 
 // Writes the rows of a finished run, or returns the fault of one that failed.
@@ -63,7 +62,7 @@ where
         IsWhollyFree n (F.machine_words end.finished.machine)) }
     ensures answered { (bytes : List ℕ) →
         ReturnsRun F.machine_words n (parse_jobs n bytes) answer →
-        IsAnswer (parse_jobs n bytes) (O.are_rows n) (file_text O.Row.columns O.Row.fields)
+        IsAnswer (parse_jobs n bytes) (O.are_rows n) O.text
         (W.contents writer.old) (W.contents writer.new) result }
     ensures failed { IfErr result (λ fault. (fault_in answer ≡ Some fault)
         ⊎ (fault ≡ attribute FaultKind.Write (W.failures writer.old) (W.failures writer.new))

@@ -19,7 +19,7 @@ pub struct Slip {
 }
 
 // Returns how many processors of the job's block have none of its items.
-fn idle_processors(job: &Request) -> u64
+fn idle_processors(job: &Request<'_>) -> u64
     ensures value { result ≡ 2 ^ dim_of (length job.now.items) - length job.now.items }
     ensures few { result < 2 ^ dim_of (length job.now.items) }
 {
@@ -39,7 +39,7 @@ impl Slip {
         Slip {
             id: reply.id(),
             region,
-            idle: idle_processors(reply.job()),
+            idle: idle_processors(&reply.job()),
         }
     }
 }

@@ -5,3 +5,4 @@ pub mod Job
 pub mod Kept
 pub mod PackedKind
 pub mod Reply
+pub mod Work

@@ -1,11 +1,10 @@
 //! The arrays on the stack that the rounds of a job work on.
 
-ghost use Rattle.std.specs.Prelude.{◌≡◌, ◌^◌, ◌≤◌};
+ghost use Rattle.std.specs.Prelude.{◌≡◌, ◌^◌, ◌≤◌, length};
 ghost use Rattle.job_types.specs.Collective.{join, unit_of};
 ghost use Rattle.job_types.specs.Inner.Collective.{operation_of};
 ghost use Rattle.job_types.specs.Inner.Kept.{CanRun, IsShown};
 
-use crate::kept::Kept;
 use crate::kind::{Kind, Op};
 use crate::rounds::{on_front, scan_on_front};
 use collectives::{
@@ -38,11 +37,12 @@ pub(crate) const LARGE_PLACES: usize = 1 << LARGE_DIM;
 pub(crate) const MOST_PLACES: usize = 1 << MAX_DIM;
 
 // Runs the collective on arrays of `N` places, and keeps its result.
-pub(crate) fn answer_on<const N: usize>(items: &[u64], kind: Kind, k: u32, kept: &mut Kept)
+pub(crate) fn answer_on<const N: usize>(items: &[u64], kind: Kind, k: u32, kept: &mut [u64])
     requires job { CanRun kind k items.now kept.old }
     requires enough { 2 ^ k ≤ N }
     requires stack { N ≤ MOST_PLACES }
-    ensures { IsShown kind items.now kept.new }
+    ensures shown { IsShown kind items.now kept.new }
+    ensures length { length kept.new ≡ length kept.old }
 {
     match kind.operation() {
         Op::Add => answer_by::<Addition, N>(items, kind, k, kept),
@@ -55,13 +55,14 @@ pub(crate) fn answer_on<const N: usize>(items: &[u64], kind: Kind, k: u32, kept:
 }
 
 // Runs it by the operator `O`, which joins as the job's operation does.
-fn answer_by<O: Operator, const N: usize>(items: &[u64], kind: Kind, k: u32, kept: &mut Kept)
+fn answer_by<O: Operator, const N: usize>(items: &[u64], kind: Kind, k: u32, kept: &mut [u64])
     requires unit { O.unit ≡ unit_of (operation_of kind) }
     requires join { O.join ≡ join (operation_of kind) }
     requires job { CanRun kind k items.now kept.old }
     requires enough { 2 ^ k ≤ N }
     requires stack { N ≤ MOST_PLACES }
-    ensures { IsShown kind items.now kept.new }
+    ensures shown { IsShown kind items.now kept.new }
+    ensures length { length kept.new ≡ length kept.old }
 {
     let mut places = [Operand::<O>::unit(); N];
     if kind.is_scan() {

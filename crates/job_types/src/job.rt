@@ -6,10 +6,10 @@ ghost use Rattle.job_types.specs.Dim.{IsLeastDim, dim_of};
 ghost use Rattle.job_types.specs.Job.{refusal_of};
 
 use crate::items::Items;
-use crate::kept::Kept;
 use crate::kind::Kind;
+use crate::packed_kind::PackedKind;
 use crate::reply::{JobId, Reply};
-use crate::request::{JobRefused, Request, refusal};
+use crate::request::{JobRefused, refusal};
 use crate::work::Work;
 use cube_shape::{MAX_DIM, MAX_LANES, Region};
 use std::alloc::Global;
@@ -22,16 +22,14 @@ pub struct Job {
 }
 
 impl Model for Job {
-    ghost use Rattle.std.specs.Prelude.{length};
     ghost use Rattle.job_types.specs.Job.{JobData};
-    ghost use Rattle.job_types.specs.Inner.Kept.{HasRoomFor};
+    ghost use Rattle.job_types.specs.Inner.Work.{IsMade, job_in};
 
     ghost Value = { JobData };
 
-    ghost view = { λ j. j.work.value.request };
+    ghost view = { λ j. job_in j.work.value };
 
-    ghost invariant = { λ j. HasRoomFor j.work.value.request.kind
-        (length j.work.value.request.items) j.work.value.kept };
+    ghost invariant = { λ j. IsMade j.work.value };
 }
 
 impl Job {
@@ -63,18 +61,17 @@ impl Job {
         if let Some(refused) = refusal(n, kind, &items) {
             return Err((items, refused));
         }
-        let Ok(kept) = Kept::new(alloc, kind, items.len()) else {
+        let Ok(mut work) = Box::new(alloc, Work::blank(n, lane)) else {
             return Err((items, JobRefused::OutOfMemory));
         };
-        let blank = Work {
-            request: Request::blank(n, lane),
-            kept,
-        };
-        let Ok(mut work) = Box::new(alloc, blank) else {
-            return Err((items, JobRefused::OutOfMemory));
-        };
-        work.request = Request::new(n, lane, kind, Items::new(items));
-        Ok(Job { work })
+        match Items::new(kind, items) {
+            Ok(items) => {
+                work.kind = PackedKind::new(kind);
+                work.items = items;
+                Ok(Job { work })
+            }
+            Err(items) => Err((items, JobRefused::OutOfMemory)),
+        }
     }
 
     /// Returns the dimension of the machine.
@@ -82,7 +79,7 @@ impl Job {
         ensures value { result ≡ self.now.machine }
         ensures limit { result ≤ MAX_DIM }
     {
-        self.work.request.machine()
+        self.work.machine()
     }
 
     /// Returns the lane that the job was made for.
@@ -90,14 +87,14 @@ impl Job {
         ensures value { result ≡ self.now.lane }
         ensures below { result < MAX_LANES }
     {
-        self.work.request.lane()
+        self.work.lane()
     }
 
     /// Returns the collective.
     pub fn kind(&self) -> Kind
         ensures { result ≡ self.now.kind }
     {
-        self.work.request.kind()
+        self.work.kind()
     }
 
     /// Returns the least dimension that holds the items: that of the smallest block with a
@@ -111,7 +108,7 @@ impl Job {
         // What `dim_of` means, for any number of items.
         ensures means { (p : ℕ) → IsLeastDim p (dim_of p) }
     {
-        self.work.request.dim()
+        self.work.dim()
     }
 
     /// Returns the items. The `i`-th one is on the `i`-th processor of the block.
@@ -120,7 +117,7 @@ impl Job {
         ensures some { 0 < length result.now }
         ensures fits { length result.now ≤ 2 ^ self.now.machine }
     {
-        self.work.request.items()
+        self.work.items()
     }
 
     /// Runs the job on a block of its machine: the smallest with a processor for each item. Needs
@@ -132,7 +129,7 @@ impl Job {
     {
         let Job { mut work } = self;
         work.run();
-        work.kept.put_base(region.base);
-        Reply::new(id, work)
+        work.put_run(id.lane, region.base);
+        Reply::new(id.seq, work)
     }
 }

@@ -14,7 +14,6 @@
 mod arrays;
 mod items;
 mod job;
-mod kept;
 mod kind;
 mod packed_kind;
 mod reply;

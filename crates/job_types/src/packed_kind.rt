@@ -1,4 +1,4 @@
-//! A collective in eight bytes.
+//! A collective in four bytes.
 
 ghost use Rattle.std.specs.Prelude.{◌≡◌, ◌^◌, false};
 ghost use Rattle.job_types.specs.Job.{has_bad_root};
@@ -22,7 +22,7 @@ pub(crate) enum Form {
 pub(crate) struct PackedKind {
     form: Form,
     op: Op,
-    root: u32,
+    root: u16,
 }
 
 impl Model for PackedKind {
@@ -41,8 +41,8 @@ impl PackedKind {
         ensures { result ≡ kind }
     {
         let (form, op, root) = match kind {
-            Kind::Broadcast { root } => (Form::Spread, Op::Add, root as u32),
-            Kind::Reduce { op, root } => (Form::Gather, op, root as u32),
+            Kind::Broadcast { root } => (Form::Spread, Op::Add, root as u16),
+            Kind::Reduce { op, root } => (Form::Gather, op, root as u16),
             Kind::AllReduce { op } => (Form::Total, op, 0),
             Kind::Scan { op } => (Form::Prefixes, op, 0),
             Kind::ExScan { op } => (Form::Earlier, op, 0),

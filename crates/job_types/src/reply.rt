@@ -5,8 +5,8 @@ ghost use Rattle.cube_shape.specs.Region.{IsAligned};
 ghost use Rattle.collectives.specs.Shape.{tally_of};
 ghost use Rattle.job_types.specs.Collective.{result_at, shape_of};
 ghost use Rattle.job_types.specs.Dim.{dim_of};
-ghost use Rattle.job_types.specs.Inner.Kept.{base_in};
 ghost use Rattle.job_types.specs.Inner.Reply.{IsAnswer, region_at};
+ghost use Rattle.job_types.specs.Inner.Work.{job_in, ran_as};
 
 use crate::kind::Kind;
 use crate::request::Request;
@@ -28,52 +28,54 @@ pub struct JobId {
 /// number of rounds and messages.
 #[derive(Debug, Drop)]
 pub struct Reply {
-    id: JobId,
+    seq: u64,
     work: Box<Work>,
 }
 
 impl Model for Reply {
     ghost use Rattle.job_types.specs.Reply.{ReplyData};
-    ghost use Rattle.job_types.specs.Inner.Kept.{base_in};
     ghost use Rattle.job_types.specs.Inner.Reply.{IsAnswer, region_at};
+    ghost use Rattle.job_types.specs.Inner.Work.{job_in, ran_as};
 
     ghost Value = { ReplyData };
 
     ghost view = { λ r. record {
-      id = r.id;
-      job = r.work.value.request;
-      region = region_at r.work.value.request (base_in r.work.value.kept);
+      id = record { lane = ran_as r.work.value; seq = r.seq };
+      job = job_in r.work.value;
+      region = region_at (job_in r.work.value) r.work.value.base;
     } };
 
-    ghost invariant = { λ r.
-        IsAnswer r.work.value.request (base_in r.work.value.kept) r.work.value.kept };
+    ghost invariant = { λ r. IsAnswer r.work.value };
 }
 
 impl Reply {
-    // Makes the reply of these parts, which fit together.
-    pub(crate) fn new(id: JobId, work: Box<Work>) -> Self
-        requires { IsAnswer work.value.request (base_in work.value.kept) work.value.kept }
+    // Makes the reply of a job that has run, under this number.
+    pub(crate) fn new(seq: u64, work: Box<Work>) -> Self
+        requires { IsAnswer work.value }
         ensures { result ≡ record {
-          id = id;
-          job = work.value.request;
-          region = region_at work.value.request (base_in work.value.kept);
+          id = record { lane = ran_as work.value; seq = seq };
+          job = job_in work.value;
+          region = region_at (job_in work.value) work.value.base;
         } }
     {
-        Reply { id, work }
+        Reply { seq, work }
     }
 
     /// Returns the id of the job.
     pub fn id(&self) -> JobId
         ensures { result ≡ self.now.id }
     {
-        self.id
+        JobId {
+            lane: self.work.items.id_lane(),
+            seq: self.seq,
+        }
     }
 
     /// Returns what the job asked for.
-    pub fn job(&self) -> &Request
-        ensures { result.now ≡ self.now.job }
+    pub fn job(&self) -> Request<'_>
+        ensures { result ≡ self.now.job }
     {
-        &self.work.request
+        Request::of(&self.work)
     }
 
     /// Returns the block that the job ran on, the smallest with a processor for each item.
@@ -83,8 +85,8 @@ impl Reply {
         ensures dimension { result.dim ≡ dim_of (length self.now.job.items) }
     {
         Region {
-            base: self.work.kept.base(),
-            dim: self.work.request.dim(),
+            base: u64::from(self.work.base),
+            dim: self.work.dim(),
         }
     }
 
@@ -93,11 +95,7 @@ impl Reply {
         ensures { result ≡
             tally_of (shape_of self.now.job.kind) (dim_of (length self.now.job.items)) }
     {
-        self.work
-            .request
-            .kind()
-            .shape()
-            .tally(self.work.request.dim())
+        self.work.kind().shape().tally(self.work.dim())
     }
 
     /// Returns what the processor of this rank holds at the end. Returns `None` for a rank without
@@ -106,12 +104,12 @@ impl Reply {
     pub fn at(&self, rank: u64) -> Option<u64>
         ensures { result ≡ result_at self.now.job.kind self.now.job.items rank }
     {
-        if rank >= self.work.request.items().len() as u64 {
+        if rank >= self.work.items().len() as u64 {
             return None;
         }
-        match self.work.request.kind() {
+        match self.work.kind() {
             Kind::Reduce { root, .. } if rank != root => None,
-            _ => self.work.kept.at(rank),
+            _ => self.work.kept_at(rank),
         }
     }
 }

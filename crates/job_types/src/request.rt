@@ -1,16 +1,12 @@
 //! What a job asks for, and why a request is refused.
 
-ghost use Rattle.std.specs.Prelude.{◌≡◌, ℕ, ◌^◌, ◌<◌, ◌≤◌, length, None};
+ghost use Rattle.std.specs.Prelude.{◌≡◌, ℕ, ◌^◌, ◌<◌, ◌≤◌, length};
 ghost use Rattle.job_types.specs.Dim.{IsLeastDim, dim_of};
 ghost use Rattle.job_types.specs.Job.{refusal_of};
-ghost use Rattle.job_types.specs.Inner.Items.{numbers_in};
-ghost use Rattle.job_types.specs.Inner.Kept.{HasRoomFor, IsShown};
+ghost use Rattle.job_types.specs.Inner.Work.{IsMade, job_in};
 
-use crate::items::Items;
-use crate::kept::Kept;
-use crate::kind::{Kind, Op};
-use crate::packed_kind::PackedKind;
-use crate::rounds::answer;
+use crate::kind::Kind;
+use crate::work::Work;
 use cube_shape::{MAX_DIM, MAX_LANES};
 use std::marker::Model;
 use thiserror::Error;
@@ -33,27 +29,22 @@ pub enum JobRefused {
     OutOfMemory,
 }
 
-/// What a job asks for. Every request can be met: it has at least one item, and its machine has
-/// blocks of the least dimension that holds its items.
+/// What the job of a reply asked for. It has at least one item, and its machine has blocks of the
+/// least dimension that holds its items.
 #[derive(Debug, Drop)]
-pub struct Request {
-    machine: u32,
-    lane: u32,
-    kind: PackedKind,
-    items: Items,
+pub struct Request<'a> {
+    work: &'a Work,
 }
 
-impl Model for Request {
+impl<'a> Model for Request<'a> {
     ghost use Rattle.job_types.specs.Job.{JobData};
-    ghost use Rattle.job_types.specs.Inner.Items.{numbers_in};
-    ghost use Rattle.job_types.specs.Inner.Job.{IsJob};
+    ghost use Rattle.job_types.specs.Inner.Work.{IsMade, job_in};
 
     ghost Value = { JobData };
 
-    ghost view = { λ r.
-        record { machine = r.machine; lane = r.lane; kind = r.kind; items = numbers_in r.items } };
+    ghost view = { λ r. job_in r.work.now };
 
-    ghost invariant = { λ r. IsJob r.machine r.lane r.kind (numbers_in r.items) };
+    ghost invariant = { λ r. IsMade r.work.now };
 }
 
 // Returns why a machine of dimension `n` refuses these items: the first reason, in the order of
@@ -84,43 +75,13 @@ pub(crate) fn least_dim(count: usize) -> u32
     usize::BITS - (count - 1).leading_zeros()
 }
 
-impl Request {
-    // Makes a request for items that no reason refuses.
-    pub(crate) fn new(n: u32, lane: u32, kind: Kind, items: Items) -> Self
-        requires machine { n ≤ MAX_DIM }
-        requires lane { lane < MAX_LANES }
-        requires accepted { refusal_of n kind (numbers_in items) ≡ None }
-        ensures { result ≡
-            record { machine = n; lane = lane; kind = kind; items = numbers_in items } }
+impl<'a> Request<'a> {
+    // Returns the request of a job.
+    pub(crate) fn of(work: &'a Work) -> Self
+        requires { IsMade work.now }
+        ensures { result ≡ job_in work.now }
     {
-        Request {
-            machine: n,
-            lane,
-            kind: PackedKind::new(kind),
-            items,
-        }
-    }
-
-    // Makes a request for one item, in whose place another one may be put.
-    pub(crate) fn blank(n: u32, lane: u32) -> Self
-        requires machine { n ≤ MAX_DIM }
-        requires lane { lane < MAX_LANES }
-    {
-        Request {
-            machine: n,
-            lane,
-            kind: PackedKind::new(Kind::AllReduce { op: Op::Add }),
-            items: Items::One([0]),
-        }
-    }
-
-    // Runs the collective on the items, and keeps its result.
-    pub(crate) fn run_into(&self, kept: &mut Kept)
-        requires { HasRoomFor self.now.kind (length self.now.items) kept.old }
-        ensures shown { IsShown self.now.kind self.now.items kept.new }
-        ensures limit { self.now.machine ≤ MAX_DIM }
-    {
-        answer(self.items.as_slice(), self.kind(), self.dim(), kept);
+        Request { work }
     }
 
     /// Returns the dimension of the machine.
@@ -128,7 +89,7 @@ impl Request {
         ensures value { result ≡ self.now.machine }
         ensures limit { result ≤ MAX_DIM }
     {
-        self.machine
+        self.work.machine()
     }
 
     /// Returns the lane that the job was made for.
@@ -136,14 +97,14 @@ impl Request {
         ensures value { result ≡ self.now.lane }
         ensures below { result < MAX_LANES }
     {
-        self.lane
+        self.work.lane()
     }
 
     /// Returns the collective.
     pub fn kind(&self) -> Kind
         ensures { result ≡ self.now.kind }
     {
-        self.kind.kind()
+        self.work.kind()
     }
 
     /// Returns the least dimension that holds the items: that of the smallest block with a
@@ -157,15 +118,15 @@ impl Request {
         // What `dim_of` means, for any number of items.
         ensures means { (p : ℕ) → IsLeastDim p (dim_of p) }
     {
-        least_dim(self.items.as_slice().len())
+        self.work.dim()
     }
 
     /// Returns the items. The `i`-th one is on the `i`-th processor of the block.
-    pub fn items(&self) -> &[u64]
+    pub fn items(&self) -> &'a [u64]
         ensures value { result.now ≡ self.now.items }
         ensures some { 0 < length result.now }
         ensures fits { length result.now ≤ 2 ^ self.now.machine }
     {
-        self.items.as_slice()
+        self.work.items()
     }
 }

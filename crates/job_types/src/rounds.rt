@@ -12,7 +12,6 @@ use crate::arrays::{
     LARGE_DIM, LARGE_PLACES, MIDDLE_DIM, MIDDLE_PLACES, MOST_PLACES, SMALL_DIM, SMALL_PLACES,
     TINY_DIM, TINY_PLACES, answer_on,
 };
-use crate::kept::Kept;
 use crate::kind::Kind;
 use collectives::{Monoid, Operand, Operator, all_reduce, broadcast, exscan, reduce, scan};
 use cube_shape::MAX_DIM;
@@ -20,9 +19,10 @@ use cube_shape::MAX_DIM;
 // Runs the collective on `2^k` places, which hold the items and then the unit, and keeps its
 // result. Uses the stack only.
 #[tactic(auto, using(crate::proofs::PlaceLemmas::tiny_fit, crate::proofs::PlaceLemmas::small_fit, crate::proofs::PlaceLemmas::middle_fit, crate::proofs::PlaceLemmas::large_fit, crate::proofs::PlaceLemmas::all_fit))]
-pub(crate) fn answer(items: &[u64], kind: Kind, k: u32, kept: &mut Kept)
+pub(crate) fn answer(items: &[u64], kind: Kind, k: u32, kept: &mut [u64])
     requires job { CanRun kind k items.now kept.old }
-    ensures { IsShown kind items.now kept.new }
+    ensures shown { IsShown kind items.now kept.new }
+    ensures length { length kept.new ≡ length kept.old }
 {
     if k <= TINY_DIM {
         answer_on::<TINY_PLACES>(items, kind, k, kept);
@@ -43,7 +43,7 @@ pub(crate) fn on_front<O: Operator>(
     kind: Kind,
     k: u32,
     places: &mut [Operand<O>],
-    kept: &mut Kept,
+    kept: &mut [u64],
 )
     requires units { places.old ≡ replicate (length places.old) O.unit }
     requires places { 2 ^ k ≤ length places.old }
@@ -51,7 +51,8 @@ pub(crate) fn on_front<O: Operator>(
     requires join { O.join ≡ join (operation_of kind) }
     requires job { CanRun kind k items.now kept.old }
     requires no_scan { is_scan kind ≡ false }
-    ensures { IsShown kind items.now kept.new }
+    ensures shown { IsShown kind items.now kept.new }
+    ensures length { length kept.new ≡ length kept.old }
 {
     let mut no_scratch = [Operand::<O>::unit(); 0];
     on_places(items, kind, k, &mut places[..1 << k], &mut no_scratch, kept);
@@ -65,7 +66,7 @@ pub(crate) fn scan_on_front<O: Operator>(
     k: u32,
     places: &mut [Operand<O>],
     scratch: &mut [Operand<O>],
-    kept: &mut Kept,
+    kept: &mut [u64],
 )
     requires units { places.old ≡ replicate (length places.old) O.unit }
     requires places { 2 ^ k ≤ length places.old }
@@ -73,7 +74,8 @@ pub(crate) fn scan_on_front<O: Operator>(
     requires unit { O.unit ≡ unit_of (operation_of kind) }
     requires join { O.join ≡ join (operation_of kind) }
     requires job { CanRun kind k items.now kept.old }
-    ensures { IsShown kind items.now kept.new }
+    ensures shown { IsShown kind items.now kept.new }
+    ensures length { length kept.new ≡ length kept.old }
 {
     on_places(
         items,
@@ -92,14 +94,15 @@ fn on_places<O: Operator>(
     k: u32,
     places: &mut [Operand<O>],
     scratch: &mut [Operand<O>],
-    kept: &mut Kept,
+    kept: &mut [u64],
 )
     requires units { places.old ≡ replicate (2 ^ k) O.unit }
     requires scratch { is_scan kind ≡ true → length scratch.old ≡ 2 ^ k }
     requires unit { O.unit ≡ unit_of (operation_of kind) }
     requires join { O.join ≡ join (operation_of kind) }
     requires job { CanRun kind k items.now kept.old }
-    ensures { IsShown kind items.now kept.new }
+    ensures shown { IsShown kind items.now kept.new }
+    ensures length { length kept.new ≡ length kept.old }
 {
     put_items(items, k, places);
     run_rounds(places, scratch, kind, k);
@@ -146,17 +149,19 @@ fn run_rounds<O: Operator>(
 }
 
 // Keeps what a reply shows of the collective's result.
-fn show<O: Operator>(items: &[u64], kind: Kind, places: &[Operand<O>], kept: &mut Kept)
+fn show<O: Operator>(items: &[u64], kind: Kind, places: &[Operand<O>], kept: &mut [u64])
     requires rooted { has_bad_root kind (length items.now) ≡ false }
     requires some { 0 < length items.now }
     requires room { HasRoomFor kind (length items.now) kept.old }
     requires fits { length items.now ≤ length places.now }
     requires result { IsResult kind items.now places.now }
-    ensures { IsShown kind items.now kept.new }
+    ensures shown { IsShown kind items.now kept.new }
+    ensures length { length kept.new ≡ length kept.old }
 {
-    match kept {
-        Kept::One { number, .. } => *number = places[kind.shown_place() as usize].number(),
-        Kept::Each { numbers, .. } => copy_numbers(places, numbers),
+    if kind.is_scan() {
+        copy_numbers(places, kept);
+    } else {
+        kept[0] = places[kind.shown_place() as usize].number();
     }
 }
 

@@ -26,6 +26,7 @@ use std::io::IsTerminal;
 use std::process::ExitCode;
 use std::rt::Env;
 use std::{io, process};
+use tool_commands::ToolEnding;
 
 // Returns the words of the command line, from the program's name on.
 fn words<R: Env + AllocGlobal>(rt: &R) -> io::Result<Vec<String>> {
@@ -50,17 +51,21 @@ fn is_dumb(rt: &impl Env) -> bool {
     rt.var("TERM", &mut term).is_ok() && term == *b"dumb"
 }
 
-// Carries out `check` or `messages`, if the words name one of them.
+// Carries out `check` or `messages`, if the words are for one of them.
 fn tool(rt: &HostRuntime, words: &[String]) -> Option<ExitCode> {
-    let (_program, words) = words.split_first()?;
+    let words = match tool_commands::tool_words(rt.alloc(), words) {
+        Ok(words) => words?,
+        Err(_) => {
+            let fault = Fault::no_memory();
+            let _reported = rt.eprintln(fault);
+            return Some(tool_commands::exit_code(ToolEnding::Failed(fault)));
+        }
+    };
     let command = words.first()?;
     if command.as_str() == "messages" {
         let (mut writer, mut errors) = (Counted::new(rt.stdout()), rt.stderr());
-        let ending = tool_commands::messages(rt.alloc(), words, &mut writer, &mut errors);
+        let ending = tool_commands::messages(rt.alloc(), &words, &mut writer, &mut errors);
         return Some(tool_commands::exit_code(ending));
-    }
-    if command.as_str() != "check" {
-        return None;
     }
     let input = rt.stdin();
     let prompt = if input.is_terminal() {
@@ -76,7 +81,7 @@ fn tool(rt: &HostRuntime, words: &[String]) -> Option<ExitCode> {
         errors: rt.stderr(),
         prompt,
     };
-    let ending = tool_commands::check(rt.alloc(), words, &store, &mut console);
+    let ending = tool_commands::check(rt.alloc(), &words, &store, &mut console);
     // The store holds nothing that must be ended.
     let SystemFiles {
         rt: _,

@@ -11,6 +11,7 @@ pub mod RowLemmas
 pub mod BufferLemmas
 pub mod JobLemmas
 pub mod PlaceTextLemmas
+pub mod ValueLemmas
 pub mod SentLemmas
 pub mod LaneLemmas
 pub mod ReportLemmas

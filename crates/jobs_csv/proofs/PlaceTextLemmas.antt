@@ -15,6 +15,13 @@ range_push from (suc n) =
     let last : from + 1 + n ≡ from + suc n = omega arith in
     ap (λ (rest : List ℕ). from ∷ rest) (range_push (from + 1) n ∙ ap (λ (k : ℕ). range_with_len (from + 1) n ++ k ∷ []) last)
 
+-- the numbers below the next one
+pub range_more : (n : ℕ) → range_with_len 0 (n + 1) ≡ range_with_len 0 n ++ n ∷ []
+range_more n =
+    let more : n + 1 ≡ suc n = omega arith in
+    let last : 0 + n ≡ n = omega arith in
+    ap (range_with_len 0) more ∙ range_push 0 n ∙ ap (λ (k : ℕ). range_with_len 0 n ++ k ∷ []) last
+
 -- the text with the place of one more rank
 pub next_place : (rank : ℕ) (job : JobData)
     → places_text (rank + 1) job ≡ places_text rank job

@@ -1,6 +1,7 @@
 -- The refusals of the records that were read so far, and those of a whole file.
-use Rattle.std.proofs.Common.{◌≡◌, ℕ, zero, suc, ◌+◌, ◌<◌, ◌≤◌, Bool, true, false, nat_lt, List, [], ◌∷◌, ◌++◌, length, map, take, Option, Some, None, IfSome, Result, Ok, Err, if◌then◌else◌, refl, sym, ap, ap₂, ◌∙◌, append-nil, append_assoc, add-zero, arith}
+use Rattle.std.proofs.Common.{◌≡◌, ℕ, zero, suc, ◌+◌, ◌<◌, ◌≤◌, ◌-◌, Bool, true, nat_lt, List, [], ◌∷◌, ◌++◌, length, map, slice_get, take, Option, Some, None, IfSome, Result, Ok, Err, if◌then◌else◌, refl, sym, ap, ap₂, ◌∙◌, append-nil, append_assoc, add-zero, arith}
 use Rattle.std.proofs.lemmas.List.{length_push, map-append, take_all, take_at}
+use Rattle.std.proofs.Math.Seq.{take-append-add}
 use Rattle.std.proofs.lemmas.Bool.Decides.{nat_tests}
 use Rattle.std.proofs.lemmas.List.Concat.{flat_map-append}
 use Rattle.csv.specs.Writing.{default_writer, row_text}
@@ -110,6 +111,59 @@ module _ {Row : Type 0} (row_of : Record → Result Row FaultKind)
         k.front ++ all.0,
         all.1,
         k.same ∙ ap (refusals_from row_of bad_of 1) (sym (take_at k.front all.0 (MAX_RECORDS + 1) (omega (arith, k.count, past)))),
+      )
+
+  -- the refusals of some records, and of those after them
+  refusals_split : (number : ℕ) (front rest : List Record)
+      → refusals_from row_of bad_of number (front ++ rest)
+      ≡ refusals_from row_of bad_of number front
+      ++ refusals_from row_of bad_of (number + length front) rest
+  unfolding refusals_from
+  refusals_split number [] rest = ap (λ (n : ℕ). refusals_from row_of bad_of n rest) (sym (add-zero number))
+  refusals_split number (first ∷ front) rest =
+      let same : number + 1 + length front ≡ number + length (first ∷ front) = omega arith in
+      let here = refused_by first (bad_of first) (numbered_row row_of number first) in
+      ap (λ (more : List Refusal). here ++ more)
+      (refusals_split (number + 1) front rest ∙ ap (λ (n : ℕ). refusals_from row_of bad_of (number + 1) front ++ refusals_from row_of bad_of n rest) same)
+      ∙ sym (append_assoc here (refusals_from row_of bad_of (number + 1) front) (refusals_from row_of bad_of (number + length (first ∷ front)) rest))
+
+  -- the first refusal after a header, if there is one
+  abbrev pub IsFirst : Option (List ℕ) → Record → Option Refusal → Type 0
+  IsFirst bytes header found = IfSome bytes (λ b. (front : List Record)
+      × (all_records default_config (strip_bom b) ≡ header ∷ front)
+      × (found ≡ slice_get (refusals_from row_of bad_of 1 (take (MAX_RECORDS + 1) front)) 0))
+
+  -- no record is refused
+  pub none_found : (bytes : Option (List ℕ)) (header : Record)
+      → IfSome bytes (λ b. (front : List Record)
+      × (all_records default_config (strip_bom b) ≡ header ∷ front)
+      × ([] ≡ refusals_from row_of bad_of 1 (take (MAX_RECORDS + 1) front)))
+      → IsFirst bytes header None
+  none_found None header is = tt
+  none_found (Some b) header (front, all, none) = (front, all, ap (λ (list : List Refusal). slice_get list 0) none)
+
+  -- the record that was read last is the first that is refused
+  pub one_found : {R : Type 0} (rem : R → Option (List ℕ)) (bytes : Option (List ℕ))
+      (header : Record) (number : ℕ) (row : RefusalRow) (reader next : Reader R) (fields : Record)
+      → number ≤ MAX_RECORDS + 1
+      → (k : HasListed rem bytes header number [] reader)
+      → HasGiven rem bytes ((header ∷ k.front) ++ fields ∷ []) next
+      → refused_by fields (bad_of fields) (numbered_row row_of number fields)
+      ≡ refusal_in row ∷ []
+      → IsFirst bytes header (Some (refusal_in row))
+  one_found rem None header number row reader next fields within k given is = tt
+  one_found rem (Some b) header number row reader next fields within k given is =
+      let now = one_read rem (Some b) header number [] reader next fields (row ∷ []) k given is in
+      let (rest, all) = given_first rem b (header ∷ now.front) next now.given in
+      let limit = MAX_RECORDS + 1 - length now.front in
+      let enough : MAX_RECORDS + 1 ≡ length now.front + limit = omega (arith, now.count, within) in (
+        now.front ++ rest,
+        all,
+        ap (λ (list : List Refusal). slice_get (list ++ refusals_from row_of bad_of (1 + length now.front) (take limit rest)) 0) now.same
+            ∙ sym (ap (λ (list : List Refusal). slice_get list 0)
+            (ap (λ (m : ℕ). refusals_from row_of bad_of 1 (take m (now.front ++ rest))) enough
+            ∙ ap (refusals_from row_of bad_of 1) (take-append-add now.front rest limit)
+            ∙ refusals_split 1 now.front (take limit rest))),
       )
 
   by_row : (number : ℕ) (fields : Record) (parsed : Result Row Fault)
@@ -224,3 +278,27 @@ module _ {Row : Type 0} (header_of : Record → Result (Unit {0}) FaultKind)
     counts,
     writes,
   )
+
+  -- the first refusal of a file
+  abbrev pub IsFirstOfFile : Option (List ℕ) → Option Refusal → Type 0
+  IsFirstOfFile bytes found = IfSome bytes (λ b. found
+      ≡ slice_get (refusals_in header_of bad_column row_of bad_field (all_records default_config
+      (strip_bom b))) 0)
+
+  -- it is that of the header
+  pub header_found : (bytes : Option (List ℕ)) (row : RefusalRow)
+      → IfSome bytes (λ b. AreRefusals header_of bad_column row_of bad_field b (row ∷ []))
+      → IsFirstOfFile bytes (Some (refusal_in row))
+  header_found None row are = tt
+  header_found (Some b) row are = ap (λ (list : List Refusal). slice_get list 0) are.same
+
+  -- the header is good
+  pub first_found : (bytes : Option (List ℕ)) (header : Record) (found : Option Refusal)
+      → header_of header ≡ Ok tt
+      → IsFirst row_of bad_field bytes header found
+      → IsFirstOfFile bytes found
+  first_found None header found good is = tt
+  first_found (Some b) header found good (front, all, same) =
+      same ∙ sym (ap (λ (list : List Refusal). slice_get list 0)
+      (ap (refusals_in header_of bad_column row_of bad_field) all
+      ∙ ap (refusals_after header (bad_column header) row_of bad_field front) good))

@@ -1,5 +1,5 @@
 -- Which field of a record is at fault: the first that is not what its column asks for.
-use Rattle.std.specs.Prelude.{ℕ, ◌||◌, Bool, true, false, not, is_some, List, [], ◌∷◌, codes, nat_lt, Option, Some, None, if◌then◌else◌}
+use Rattle.std.specs.Prelude.{ℕ, ◌||◌, Bool, false, not, is_some, List, [], ◌∷◌, codes, nat_lt, Option, Some, None, if◌then◌else◌}
 use Rattle.std.specs.Option.{option_map_or}
 use Rattle.std.specs.Str.{bytes_eq}
 use Rattle.cube_shape.specs.declared.limits.TheConstants.{MAX_LANES}

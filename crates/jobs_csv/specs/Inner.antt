@@ -8,3 +8,4 @@ pub mod Parse
 pub mod Refused
 pub mod Rows
 pub mod ReportRows
+pub mod ValueRows

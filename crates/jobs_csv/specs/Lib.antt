@@ -13,6 +13,7 @@ pub mod ReportRows
 pub mod JobFields
 pub mod Jobs
 pub mod Replies
+pub mod ValueRows
 pub mod Lanes
 pub mod BadFields
 pub mod Refusals

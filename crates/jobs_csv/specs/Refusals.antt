@@ -1,5 +1,5 @@
 -- The refused records of a file, and the rows that list them.
-use Rattle.std.specs.Prelude.{◌≡◌, ℕ, ◌+◌, ◌++◌, List, [], ◌∷◌, codes, length, map, take, Option, Some, None, IfOk, IfSome, Result, Ok, Err, string_bytes}
+use Rattle.std.specs.Prelude.{◌≡◌, ℕ, ◌+◌, ◌++◌, List, [], ◌∷◌, codes, length, map, take, Option, Some, None, IfOk, IfSome, Result, Ok, Err, option_map, slice_get, string_bytes}
 use Rattle.std.specs.Fmt.{decimal}
 use Rattle.std.specs.Io.KnownBytes.{Appends}
 use Rattle.std.specs.List.{flat_map}
@@ -149,6 +149,13 @@ module _ {Row : Type 0} (header_of : Record → Result (Unit {0}) FaultKind)
       (rows : List RefusalRow) × AreRefusals b rows × (length rows ≡ count)
       × Appends old new (refusals_text rows)))
 
+  -- The row is that of the first refused record of these bytes, or there is none if the file is
+  -- good.
+  abbrev pub FindsRefusal : Option (List ℕ) → Result (Option RefusalRow) Fault → Type 0
+  FindsRefusal bytes result = IfOk result (λ found. IfSome bytes (λ b.
+      option_map refusal_in found ≡ slice_get (refusals_in header_of bad_column row_of bad_field
+      (records default_config (strip_bom b))) 0))
+
 -- The refusals of a file of jobs, for a machine of dimension `n`, are listed.
 abbrev pub ListsJobs : ℕ → Option (List ℕ) → Option (List ℕ) → Option (List ℕ) → Result ℕ Fault → Type 0
 ListsJobs n bytes old new result =
@@ -168,3 +175,22 @@ ListsLines bytes old new result =
     ListsRefusals (header_of (codes "station" ∷ codes "call" ∷ codes "arg" ∷ []))
     (bad_of_three column.Station column.Call column.Arg) schedule_line bad_line_field bytes old new
     result
+
+-- The first refused job of a file is found, for a machine of dimension `n`.
+abbrev pub FindsJob : ℕ → Option (List ℕ) → Result (Option RefusalRow) Fault → Type 0
+FindsJob n bytes result =
+    FindsRefusal (header_of (codes "lane" ∷ codes "kind" ∷ codes "op" ∷ codes "root"
+    ∷ codes "items" ∷ [])) bad_job_column (job_of n) bad_job_field bytes result
+
+-- The first refused command of a file is found, for a machine of dimension `n`.
+abbrev pub FindsCommand : ℕ → Option (List ℕ) → Result (Option RefusalRow) Fault → Type 0
+FindsCommand n bytes result =
+    FindsRefusal (header_of (codes "command" ∷ codes "name" ∷ codes "dim" ∷ []))
+    (bad_of_three column.Command column.Name column.Dim) (command_of n) bad_command_field bytes
+    result
+
+-- The first refused line of a schedule is found.
+abbrev pub FindsLine : Option (List ℕ) → Result (Option RefusalRow) Fault → Type 0
+FindsLine bytes result =
+    FindsRefusal (header_of (codes "station" ∷ codes "call" ∷ codes "arg" ∷ []))
+    (bad_of_three column.Station column.Call column.Arg) schedule_line bad_line_field bytes result

@@ -20,6 +20,7 @@ use crate::format::Format;
 use crate::input::{self, MAX_RECORDS};
 use crate::jobs::Jobs;
 use crate::line_buffer::LineBuffer;
+use crate::line_number::RecordEnd;
 use crate::place::Commands;
 use crate::refusal_rows::{RefusalRow, refusal_row};
 use crate::schedule::Schedule;
@@ -106,7 +107,7 @@ impl Checked for Schedule {
 
 // Why a file is not listed to its end.
 #[derive(Clone, Copy, Debug, PartialEq, Eq)]
-enum CheckError {
+pub(crate) enum CheckError {
     // A read failed, or memory ran out.
     Input,
     // A write failed, or memory ran out.
@@ -151,13 +152,21 @@ fn next_or_finish<R: Read, W: Write>(
     Err(CheckError::Input)
 }
 
-// Returns the row of a record, which begins on this line, if it is refused.
-fn refusal_at<F: Checked>(
+// Returns the end of the record that was read last. `feeds` says whether line feeds end the lines.
+pub(crate) fn end_of_record<R: Read + SeesEnd>(reader: &Reader<R>, feeds: bool) -> RecordEnd {
+    RecordEnd {
+        line: reader.position().line(),
+        is_feed: feeds && !reader.get_ref().has_ended(),
+    }
+}
+
+// Returns the row of a record, which has this end, if it is refused.
+pub(crate) fn refusal_at<F: Checked>(
     alloc: Global,
     format: &F,
     number: u64,
     record: &ByteRecord,
-    line: u64,
+    end: RecordEnd,
 ) -> Result<Option<RefusalRow>, AllocError>
     ensures { IfOk result (λ found. refused_by (fields_of «record».now)
         (F.bad_field (fields_of «record».now))
@@ -175,6 +184,7 @@ fn refusal_at<F: Checked>(
     };
     let column = format.bad_field(record);
     let wanted = wanted::of_record(what, column, format.header_text());
+    let line = line_number::begins_on(record, end);
     let fault = Fault { row: number, what };
     let row = refusal_row(alloc, record, line, fault, column, wanted)?;
     Ok(Some(row))
@@ -249,9 +259,8 @@ fn list_rows<F: Checked, R: Read + SeesEnd, W: Write>(
             lines.finish(writer)?;
             return Ok(count);
         }
-        let ends = feeds && !reader.get_ref().has_ended();
-        let line = line_number::begins_on(record, reader.position().line(), ends);
-        let refusal = refusal_at(alloc, format, number, record, line)?;
+        let end = end_of_record(reader, feeds);
+        let refusal = refusal_at(alloc, format, number, record, end)?;
         let (more, refused) = push_found(alloc, lines, refusal, writer)?;
         lines = more;
         count += refused;
@@ -262,7 +271,7 @@ fn list_rows<F: Checked, R: Read + SeesEnd, W: Write>(
 
 // Returns the row of the header, if it is refused or there is none. Otherwise the record is the
 // header, which is good.
-fn header_refusal<F: Checked, R: Read>(
+pub(crate) fn header_refusal<F: Checked, R: Read>(
     alloc: Global,
     format: &F,
     reader: &mut Reader<R>,
@@ -297,8 +306,9 @@ fn header_refusal<F: Checked, R: Read>(
     }
     let wanted = wanted::of_header(record, format.header_text());
     let fault = Fault { row: 0, what };
-    let end = reader.position().line();
-    let line = line_number::begins_on(record, end, line_number::ends_with_feed(record, end));
+    let line = reader.position().line();
+    let is_feed = line_number::ends_with_feed(record, line);
+    let line = line_number::begins_on(record, RecordEnd { line, is_feed });
     let row = refusal_row(
         alloc,
         record,

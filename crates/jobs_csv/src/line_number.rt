@@ -39,9 +39,21 @@ pub(crate) fn ends_with_feed(record: &ByteRecord, end: u64) -> bool {
     unended(record, end) > start_of(record)
 }
 
-/// Returns the line on which a record begins, if the line is `end` once it is read. `ends` says
-/// whether a line feed ended the record.
-pub(crate) fn begins_on(record: &ByteRecord, end: u64, ends: bool) -> u64 {
-    let line = unended(record, end);
-    if ends { line.saturating_sub(1) } else { line }
+/// The end of a record that was read.
+#[derive(Clone, Copy)]
+pub(crate) struct RecordEnd {
+    /// The line that the reader is on once the record is read.
+    pub line: u64,
+    /// Whether a line feed ended the record.
+    pub is_feed: bool,
+}
+
+/// Returns the line on which a record begins that has this end.
+pub(crate) fn begins_on(record: &ByteRecord, end: RecordEnd) -> u64 {
+    let line = unended(record, end.line);
+    if end.is_feed {
+        line.saturating_sub(1)
+    } else {
+        line
+    }
 }

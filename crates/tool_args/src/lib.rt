@@ -5,6 +5,8 @@
 
 mod check_line;
 mod messages_line;
+mod tool_line;
 
 pub use check_line::{CheckOptions, Checked, parse_check};
 pub use messages_line::{MessagesOptions, parse_messages};
+pub use tool_line::tool_words;

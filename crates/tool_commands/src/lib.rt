@@ -13,3 +13,4 @@ mod reports;
 pub use check_command::{ToolConsole, check};
 pub use ending::{ToolEnding, exit_code};
 pub use messages_command::messages;
+pub use tool_args::tool_words;

@@ -91,6 +91,13 @@ impl<'a> FileStore for TwoFiles<'a> {
         }
     }
 
+    fn open_again(&self, name: &str) -> Option<Counted<&'a [u8]>> {
+        match self.open(name) {
+            Ok(file) => Some(file),
+            Err(_) => None,
+        }
+    }
+
     fn temp_file(&mut self, name: &str) -> Result<Counted<Vec<u8>>, FileReason> {
         self.temp_files = self.temp_files.wrapping_add(1);
         if name == self.input {

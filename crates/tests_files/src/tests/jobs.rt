@@ -408,7 +408,7 @@ fn is_reply(reply: &Reply, id: JobId, region: Region) -> bool {
 
 // Returns whether this kind on these items was asked for, with this machine, lane and dimension.
 fn is_request(
-    request: &Request,
+    request: &Request<'_>,
     machine: u32,
     lane: u32,
     dim: u32,
@@ -426,7 +426,10 @@ fn is_request(
 fn a_reply_names_its_job_and_region(rt: HostRuntime) {
     let reply = answered(made(&rt, rt.alloc(), 3, 15, SUM, &[5, 6]), ID);
     let names = is_reply(&reply, ID, Region { base: 0, dim: 1 });
-    expect_true(&rt, names & is_request(reply.job(), 3, 15, 1, SUM, &[5, 6]));
+    expect_true(
+        &rt,
+        names & is_request(&reply.job(), 3, 15, 1, SUM, &[5, 6]),
+    );
 }
 
 #[test]

@@ -1,6 +1,7 @@
 //! The program over a store of two files in memory: the one that is written is whole, or as it was.
 ghost use Rattle.std.specs.Prelude.{◌≡◌, ◌⊎◌};
 ghost use Rattle.atomic_file.specs.Store.{KeepsFiles};
+ghost use Rattle.cli_commands.specs.Program.{EndsForEvents};
 
 use crate::tests::facts::expect_all;
 use crate::tests::failing_devices::push;
@@ -49,7 +50,8 @@ struct Ended {
 fn run_over<H, S: FileStore>(rt: &H, line: &str, store: &mut S) -> Ended
 where
     H: AllocGlobal + Abort + Threads + Wait + Clone + Send + Sync + 'static,
-    ensures { (result.ending ≡ Ending.Done) ⊎ KeepsFiles (S.bytes store.old) (S.bytes store.new) }
+    ensures { (result.ending ≡ Ending.Done) ⊎ KeepsFiles (S.bytes store.old) (S.bytes store.new)
+        ⊎ EndsForEvents result.ending }
 {
     let alloc = rt.alloc();
     let words = words_of(rt, line);
@@ -163,6 +165,24 @@ fn a_file_that_cannot_be_had_changes_nothing(rt: HostRuntime) {
                 0,
                 OLD,
                 "failed: input: Denied: new.csv\n",
+            ),
+            ends(
+                &rt,
+                "cubejobs run --dim 3 jobs.csv --events other.csv",
+                JOBS,
+                no_file(FileSide::Events, FileReason::Missing),
+                1,
+                OLD,
+                "failed: events: Missing: other.csv\n",
+            ),
+            ends(
+                &rt,
+                "cubejobs run --dim 3 jobs.csv --events new.csv --output other.csv",
+                JOBS,
+                no_file(FileSide::Output, FileReason::Missing),
+                2,
+                OLD,
+                "failed: output: Missing: other.csv\n",
             ),
         ],
     );

@@ -5,6 +5,7 @@ use crate::tests::facts::expect_true;
 use crate::tests::failing_devices::push;
 use cli_args::{FileNames, Invocation, Request, ShopOptions, parse_args};
 use cube_shape::MAX_STATIONS;
+use dispatcher::ShopSizes;
 use std::process::Abort;
 
 // A machine of dimension 3.
@@ -54,8 +55,16 @@ fn asks_for(
     let files = FileNames {
         input: a_name(rt, input),
         output: a_name(rt, output),
+        events: None,
     };
     ask(rt, line) == Some(Request { invocation, files })
+}
+
+// Returns the file for the events that a line asks for, if it asks for one.
+fn events_in(rt: &(impl AllocGlobal + Abort), line: &str) -> Option<String> {
+    let request = ask(rt, line)?;
+    let files = request.files;
+    files.events
 }
 
 // Expects that each of these lines asks for this, with files of these names.
@@ -124,8 +133,20 @@ fn expect_shops(rt: &(impl AllocGlobal + Abort), rows: &[ShopLine]) {
     }
 }
 
+// A run at dimension 2 with the default sizes, which writes a line for each value.
+const LONG: Invocation = Invocation::RunLong(ShopOptions {
+    sizes: ShopSizes {
+        dim: 2,
+        dispatchers: 2,
+        capacity: 16,
+    },
+    is_quiet: false,
+});
+
 // Lines of the other commands with no file.
-static LINES: [(&str, Invocation, &str, &str); 2] = [
+static LINES: [(&str, Invocation, &str, &str); 4] = [
+    ("cubejobs run --dim 2 --long", LONG, "", ""),
+    ("cubejobs run --long --capacity=16 --dim=2", LONG, "", ""),
     ("cubejobs place --dim 3", PLACE, "", ""),
     ("cubejobs replay --dim 2 --stations 48", REPLAY, "", ""),
 ];
@@ -166,4 +187,13 @@ static FILES: [(&str, Invocation, &str, &str); 8] = [
 #[test]
 fn reads_names_of_files(rt: HostRuntime) {
     expect_lines(&rt, &FILES);
+    let run = events_in(&rt, "cubejobs run --dim 3 --events e.csv");
+    expect_true(&rt, run == a_name(&rt, "e.csv"));
+    let report = events_in(&rt, "cubejobs report --events=e.csv --dim 3 --output o.csv");
+    expect_true(&rt, report == a_name(&rt, "e.csv"));
+    expect_true(
+        &rt,
+        ask(&rt, "cubejobs run --dim 3 --events o.csv --output o.csv").is_none(),
+    );
+    expect_true(&rt, ask(&rt, "cubejobs run --dim 3 --events -").is_none());
 }

@@ -3,9 +3,9 @@ use Rattle.cli_commands.proofs.RunLemmas.{write_failed}
 use Rattle.cli_commands.proofs.writing.write_finished.Goals as goal
 
 pub returns-clause-written : goal.returns-clause-written
-returns-clause-written g c jobs answers = on_ok_weaker c.write_rows.result
-    (λ out. (c.in-Ok.rows.items, c.in-Ok.ensures jobs answers, out)) c.write_rows.ensures.written
+returns-clause-written g c jobs answers = on_ok_weaker c.write.result
+    (λ out. (c.in-Ok.rows.items, c.in-Ok.ensures jobs answers, out)) c.write.ensures.written
 
 pub returns-clause-failed : goal.returns-clause-failed
-returns-clause-failed g c = write_failed (g.W.Device.failures c.args.writer.now) (g.W.Device.failures c.write_rows.new.writer)
-    c.write_rows.result c.write_rows.ensures.failed
+returns-clause-failed g c = write_failed (g.W.Device.failures c.args.writer.now) (g.W.Device.failures c.write.new.writer)
+    c.write.result c.write.ensures.failed

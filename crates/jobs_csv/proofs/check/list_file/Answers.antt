@@ -1,9 +1,9 @@
-use Rattle.std.proofs.Common.{◌≡◌, ◌∷◌, [], ◌++◌, rules, subst, refl, ap}
+use Rattle.std.proofs.Common.{◌≡◌, ◌∷◌, [], ◌++◌, rules, subst, refl}
 use Rattle.std.proofs.lemmas.Result.{IfOk-weaker}
 use Rattle.std.specs.Io.KnownBytes.{Appends}
 use Rattle.csv.specs.Records.{fields_of}
 use Rattle.csv.specs.Writing.{default_writer, row_text}
-use Rattle.jobs_csv.specs.Refusals.{refusal_columns, refusal_lines, refusals_text}
+use Rattle.jobs_csv.specs.Refusals.{refusal_columns, refusal_lines}
 use Rattle.jobs_csv.proofs.RefusalLemmas.{all_listed, one_listed}
 use Rattle.jobs_csv.proofs.SentLemmas.{all_sent, more_sent, nothing_sent}
 use Rattle.jobs_csv.proofs.check.list_file.Goals as goal

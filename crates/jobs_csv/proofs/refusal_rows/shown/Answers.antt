@@ -1,4 +1,4 @@
-use Rattle.std.proofs.Common.{◌≡◌, List, ℕ, Option, length, string_bytes, take, ap, ◌∙◌, min, rules}
+use Rattle.std.proofs.Common.{◌≡◌, List, ℕ, take, ap, ◌∙◌}
 use Rattle.std.proofs.lemmas.List.{take_min}
 use Rattle.std.proofs.lemmas.Result.{IfOk-weaker}
 use Rattle.std.specs.Str.Lossy.{utf8_lossy}

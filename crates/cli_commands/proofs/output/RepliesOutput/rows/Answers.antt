@@ -1,5 +1,5 @@
-use Rattle.cli_commands.proofs.RunLemmas.{are_replies}
+use Rattle.std.proofs.lemmas.Result.{IfOk-weaker}
 use Rattle.cli_commands.proofs.output.RepliesOutput.rows.Goals as goal
 
-pub returns-in-Ok : goal.returns-in-Ok
-returns-in-Ok g c jobs answers = are_replies c.args._n jobs c.args.finished c.in-Ok.replies.items answers c.in-Ok.ensures.same c.in-Ok.ensures.sorted
+pub returns : goal.returns
+returns g c = IfOk-weaker c.replies_of.result _ _ (λ replies is jobs answers. is c.args._n jobs answers) c.replies_of.ensures
