@@ -23,7 +23,9 @@ step_row step.Free id region = row.Freed (job_name id) region.dim region.base
 
 -- The row of an event.
 abbrev pub row_of : JobEvent → PlaceRow
-row_of event = step_row event.step event.id event.region
+row_of event =
+    step_row event.step (record { lane = event.lane; seq = event.seq })
+    (record { base = event.base; dim = event.dim })
 
 -- The fields of the row of an event, as `place` writes them.
 abbrev pub event_fields : JobEvent → List (List ℕ)

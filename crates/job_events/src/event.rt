@@ -5,7 +5,6 @@ ghost use Rattle.job_events.specs.Events.{job_name};
 ghost use Rattle.job_events.specs.Inner.{command_text, outcome_text};
 ghost use Rattle.jobs_csv.specs.Text.{IsPlainField};
 
-use cube_shape::Region;
 use itoa::Buffer;
 use job_types::JobId;
 use jobs_csv::{Row, RowFields};
@@ -21,17 +20,28 @@ pub enum Step {
 }
 
 /// An event of a run: a job takes its block, or frees it.
+///
+/// It has 24 bytes, since a run has two events for each job.
 #[derive(Clone, Copy, Debug, PartialEq, Eq)]
 pub struct JobEvent {
     /// The event's number. An earlier event has a smaller one.
     pub number: u64,
+    /// The job's number among those of its lane, from 0 on.
+    pub seq: u64,
+    /// The lane of the job's id.
+    pub lane: u32,
+    /// The least processor of the block.
+    pub base: u16,
+    /// The dimension of the block.
+    pub dim: u8,
     /// What the job does.
     pub step: Step,
-    /// The id of the job.
-    pub id: JobId,
-    /// The block.
-    pub region: Region,
 }
+
+const _: () = prove!(size_of::<JobEvent>() == 24);
+
+// The most bytes of a job's name: two letters, and the digits of the largest lane and number.
+const NAME_BYTES: usize = 32;
 
 // Appends a number in decimal digits.
 fn push_number(text: &mut String, number: u64) -> Result<(), AllocError>
@@ -46,7 +56,7 @@ fn job_name(alloc: Global, id: JobId) -> Result<String, AllocError>
     ensures name { IfOk result (λ name. string_bytes name ≡ job_name id) }
     ensures plain { OnOk result (IsPlainField (job_name id)) }
 {
-    let mut name = String::new(alloc);
+    let mut name = String::with_capacity(alloc, NAME_BYTES)?;
     name.push_str("l")?;
     push_number(&mut name, u64::from(id.lane))?;
     name.push_str("s")?;
@@ -55,6 +65,17 @@ fn job_name(alloc: Global, id: JobId) -> Result<String, AllocError>
 }
 
 impl JobEvent {
+    // Returns the id of the job.
+    fn id(&self) -> JobId
+        ensures lane { result.lane ≡ self.now.lane }
+        ensures seq { result.seq ≡ self.now.seq }
+    {
+        JobId {
+            lane: self.lane,
+            seq: self.seq,
+        }
+    }
+
     // Returns the keyword of the command.
     #[tactic(auto, using(crate::proofs::EventLemmas::plain_command))]
     fn command(&self) -> &'static str
@@ -98,11 +119,11 @@ impl Row for JobEvent {
     }
 
     fn push_fields(&self, alloc: Global, line: &mut RowFields) -> Result<(), AllocError> {
-        let name = job_name(alloc, self.id)?;
+        let name = job_name(alloc, self.id())?;
         line.push_text(self.command().as_bytes())?;
         line.push_text(name.as_bytes())?;
-        line.push_number(u64::from(self.region.dim))?;
-        line.push_number(self.region.base)?;
+        line.push_number(u64::from(self.dim))?;
+        line.push_number(u64::from(self.base))?;
         line.push_text(self.outcome().as_bytes())
     }
 }

@@ -1,6 +1,8 @@
 // The events of a finished run.
-ghost use Rattle.std.specs.Prelude.{◌≡◌, ◌++◌, [], List, IfOk, OnOk, IsPermutation, map};
+ghost use Rattle.std.specs.Prelude.{◌≡◌, ◌≤◌, ◌++◌, [], List, IfOk, OnOk, IsPermutation, map};
 ghost use Rattle.dispatcher.specs.Answers.{all_replies};
+ghost use Rattle.cube_shape.specs.Region.{IsAligned};
+ghost use Rattle.cube_shape.specs.declared.limits.TheConstants.{MAX_DIM};
 ghost use Rattle.job_types.specs.Reply.{ReplyData};
 ghost use Rattle.job_events.specs.Events.{AreEvents};
 ghost use Rattle.job_events.specs.Inner.{ArePairs, IsPair};
@@ -8,29 +10,43 @@ ghost use Rattle.std.specs.List.Sorted.{IsNonDecreasingBy};
 
 use crate::event::{JobEvent, Step};
 use crate::numbers::EventNumbers;
+use cube_shape::Region;
 use dispatcher::Finished;
 use job_types::{Job, Reply};
 use std::alloc::{AllocError, Global};
 use std::collections::VecDeque;
+
+// Returns the base and the dimension of a block of a machine of dimension `n`. The largest machine
+// is so small that they fit.
+fn small(n: u32, region: Region) -> (u16, u8)
+    requires machine { n ≤ MAX_DIM }
+    requires aligned { IsAligned n region }
+    ensures base { result.0 ≡ region.base }
+    ensures dim { result.1 ≡ region.dim }
+{
+    let _machine = n;
+    (region.base as u16, region.dim as u8)
+}
 
 // Returns the two events of a reply's job.
 fn pair_of(numbers: &EventNumbers, reply: &Reply) -> (JobEvent, JobEvent)
     ensures { IsPair reply.now result.0 result.1 }
 {
     let id = reply.id();
-    let region = reply.region();
+    let (base, dim) = small(reply.job().machine(), reply.region());
     let (take, free) = numbers.pair(id);
     let taken = JobEvent {
         number: take,
+        seq: id.seq,
+        lane: id.lane,
+        base,
+        dim,
         step: Step::Take,
-        id,
-        region,
     };
     let freed = JobEvent {
         number: free,
         step: Step::Free,
-        id,
-        region,
+        ..taken
     };
     (taken, freed)
 }
@@ -52,12 +68,16 @@ fn push_pairs(
     Ok(())
 }
 
-// Sorts the events by their numbers.
+// Sorts the events by their numbers. Those of a worker are in order, and `sort_by_key` merges lists
+// that are. It needs a second list: if there is no memory for it, sorts them in place.
 fn sort(events: &mut Vec<JobEvent>)
     ensures same { IsPermutation events.old.items events.new.items }
     ensures sorted { IsNonDecreasingBy (λ event. event.number) events.new.items }
 {
-    events.sort_unstable_by_key(|event| event.number);
+    let Ok(()) = events.sort_by_key(|event| event.number) else {
+        events.sort_unstable_by_key(|event| event.number);
+        return;
+    };
 }
 
 /// Returns room for the events of these jobs, two for each.
