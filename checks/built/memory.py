@@ -23,7 +23,7 @@ SECONDS = 60
 FEEDERS = max(len(os.sched_getaffinity(0)) // 4, 1)
 # How many jobs each of two long lanes has. The list of LONG replies takes at least REPLY_BYTES for each of them. The
 # room for the events of a job takes at least EVENT_BYTES for each of two events.
-LONG, REPLY_BYTES, EVENT_BYTES = 10_000, 16, 40
+LONG, REPLY_BYTES, EVENT_BYTES = 10_000, 16, 24
 # How many requests are refused in a row: one alone; or three, and all from the first one on.
 ONE, EACH_WAY = [1], [1, 3, 0]
 # The names, among a command's words, of a file with its input and of those that it writes, which hold OLD before.

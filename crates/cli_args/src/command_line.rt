@@ -158,7 +158,7 @@ const RECORDS: &str = "Records:
 const OF_JOBS: &str = "Memory:
   All jobs and replies are kept until the last job is done. A job of up to four
   items takes about 88 bytes, a larger one 95 and 8 for each item. A scan takes
-  105 bytes, and 16 for each item. With --events a job takes another 112 bytes.
+  105 bytes, and 16 for each item. With --events a job takes another 84 bytes.
 
 Events:
   The file of --events is written whole or not at all, as that of --output. It

@@ -10,6 +10,9 @@ use job_types::Reply;
 use std::alloc::{AllocError, Global};
 use std::collections::VecDeque;
 
+// How many values a byte has.
+const BYTES: usize = 256;
+
 // Returns the replies of the only worker, if it has all of them.
 fn only_list<M: Drop>(finished: Finished<M>) -> Result<Vec<Reply>, Finished<M>>
     ensures all { IfOk result (λ replies. replies.items
@@ -66,11 +69,76 @@ fn gather(by_worker: Vec<Vec<Reply>>, rest: Vec<Reply>, room: Vec<Reply>) -> Vec
     all
 }
 
-/// Sorts the replies by lane, and within a lane by number.
-fn sort(replies: &mut Vec<Reply>)
+// Returns the lane of each reply, or the largest byte for a larger lane.
+fn lanes_of(alloc: Global, replies: &[Reply]) -> Result<Vec<u8>, AllocError> {
+    let mut lanes = Vec::with_capacity(alloc, replies.len())?;
+    for reply in replies {
+        let lane = reply.id().lane.min(u32::from(u8::MAX));
+        lanes.push(lane as u8)?;
+    }
+    Ok(lanes)
+}
+
+// Returns how many replies each lane has.
+fn counts_of(lanes: &[u8]) -> [usize; BYTES] {
+    let mut counts = [0usize; BYTES];
+    for lane in lanes {
+        let lane = usize::from(*lane);
+        counts[lane] = counts[lane].wrapping_add(1);
+    }
+    counts
+}
+
+// Returns where the replies of each lane begin if they follow those of the lane before.
+fn starts_of(lanes: &[u8]) -> [usize; BYTES] {
+    let counts = counts_of(lanes);
+    let mut starts = [0usize; BYTES];
+    let mut start: usize = 0;
+    for lane in 0..BYTES {
+        starts[lane] = start;
+        start = start.wrapping_add(counts[lane]);
+    }
+    starts
+}
+
+// Moves each reply to its place, if the replies of each lane are numbered from 0 on. Their order
+// matters for speed alone: what is sorted is sorted in one pass.
+fn place(lanes: &mut [u8], replies: &mut [Reply])
+    ensures { IsPermutation replies.old replies.new }
+{
+    let starts = starts_of(lanes);
+    let mut at = 0;
+    // Each step puts a reply in its place, or goes on to the next one.
+    for _ in 0..replies.len().saturating_mul(2) {
+        let (Some(lane), Some(reply)) = (lanes.get(at), replies.get(at)) else {
+            return;
+        };
+        let place = starts[usize::from(*lane)].saturating_add(reply.id().seq as usize);
+        if place <= at || place >= replies.len() || place >= lanes.len() {
+            at += 1;
+            continue;
+        }
+        lanes.swap(at, place);
+        replies.swap(at, place);
+    }
+}
+
+// Places the replies, if there is memory for the list of their lanes.
+fn place_all(alloc: Global, replies: &mut [Reply])
+    ensures { IsPermutation replies.old replies.new }
+{
+    let Ok(mut lanes) = lanes_of(alloc, replies) else {
+        return;
+    };
+    place(&mut lanes, replies);
+}
+
+// Sorts the replies by lane, and within a lane by number.
+fn sort(alloc: Global, replies: &mut Vec<Reply>)
     ensures same { IsPermutation replies.old.items replies.new.items }
     ensures sorted { AreSorted replies.new.items }
 {
+    place_all(alloc, replies);
     replies.sort_unstable_by_key(|reply| reply.id());
 }
 
@@ -106,7 +174,7 @@ fn all_in_one<M: Drop>(
 ///
 /// It allocates one list, and frees each worker's list when its replies have moved. If one worker
 /// has all replies, it reuses that list. If memory runs out, the replies and the machine come back
-/// unchanged.
+/// unchanged. It takes a byte more for each reply while it sorts, or without that more time.
 pub fn sorted_replies<M: Drop>(
     alloc: Global,
     finished: Finished<M>,
@@ -124,6 +192,6 @@ pub fn sorted_replies<M: Drop>(
         Ok(replies) => replies,
         Err(refused) => return Err(refused),
     };
-    sort(&mut replies);
+    sort(alloc, &mut replies);
     Ok(replies)
 }
