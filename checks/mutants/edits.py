@@ -10,11 +10,12 @@ of the tree's algorithm, which is in definition and code alike, stands alone too
 must be refused, by lemmas of its line `refused by:` and by nothing else. The functions of its line `code:` must be
 proved, unless they only call what stands on the law.
 
-    checks/run edits [--stale | --plan] [--after-gate] [--anew] [--keep FOLDER] [--from FOLDER] [CRATE | CRATE/EDIT ..]
+    checks/run edits [--stale | --plan] [--after-gate] [--anew] [--share N] [--keep FOLDER] [--from FOLDER] [CRATE | CRATE/EDIT ..]
 
 With no name it tries all mutants of mutants/CRATE. --stale only sees that each can be applied. --plan shows which share
 a check. --after-gate takes the libraries below as `rt ci` has just left them; without it they are built first. What was
 refused is kept in ~/.cache/cubejobs/edits, by a sum of all that the verdict stands on, and with --anew each is tried.
+--share tries one of N parts of the mutants. Which one depends on the sources, so that after a change it is another.
 --keep puts what each check said into a folder. --from takes CRATE's mutants from FOLDER/CRATE. It says of a mutant:
 
     refused   its function has a goal of its own that is not proved, or that its proof file does not meet; or its law
@@ -33,10 +34,11 @@ import shutil
 import subprocess
 import sys
 import tempfile
+import zlib
 from concurrent.futures import ThreadPoolExecutor
 
 from checks.lib.repository import PARTS, read, write
-from checks.lib.toolchain import build_below, crates, kit
+from checks.lib.toolchain import build_below, crates, kit, sum_of_sources
 from checks.mutants.mutant import batches_of, edits_of, path_of, texts_of
 from checks.mutants.verdict import Kept, Tally, judge, names_of
 
@@ -155,6 +157,11 @@ def lanes():
     return max(1, min(len(os.sched_getaffinity(0)), free // CHECK_BYTES))
 
 
+def is_in_share(crate, name, options):
+    """Returns whether a mutant is in the part that is tried."""
+    return zlib.crc32(f"{crate}/{name}".encode()) % options.share == options.part
+
+
 def work_of(options, tally):
     """Returns each crate with the batches of the mutants to be tried, and its texts. Reports those that cannot be."""
     work = []
@@ -164,6 +171,7 @@ def work_of(options, tally):
             continue
         texts = texts_of(crate.folder)
         edits = [it for it in edits_of(crate.name, texts, options.from_folder) if not any(wanted) or it.name in wanted]
+        edits = [it for it in edits if is_in_share(crate.name, it.name, options)]
         for edit in edits:
             if edit.why:
                 tally.tell(crate.name, edit.name, "BAD", edit.why)
@@ -194,6 +202,7 @@ def main(words):
     parser = argparse.ArgumentParser(prog="checks/run edits", usage=__doc__.split("\n\n")[2].strip())
     for word in ("--stale", "--plan", "--after-gate", "--anew"):
         parser.add_argument(word, action="store_true")
+    parser.add_argument("--share", type=int, default=1)
     parser.add_argument("--keep")
     parser.add_argument("--from", dest="from_folder")
     parser.add_argument("names", nargs="*")
@@ -201,6 +210,7 @@ def main(words):
     unknown = {it.partition("/")[0] for it in options.names} - {*crates()}
     if unknown:
         sys.exit(f"edits: crates.txt has no crate {', '.join(sorted(unknown))}")
+    options.part = int(sum_of_sources().split()[0]) % options.share
     tally = Tally(Kept(not options.anew))
     work = work_of(options, tally)
     if options.stale or options.plan:
