@@ -7,7 +7,8 @@
 The toolchain's helpers in C are for x86-64 only. aarch64_heap.c and aarch64_os.c replace them, compiled by the
 toolchain's own compiler. The shared objects and the program are linked with the C library of Debian's cross packages,
 whose versions SHA256SUMS has. Where other versions are here, or release/ has no files of these sources, the comparison
-is skipped, and where none is, all of it. `--renew` copies the libraries into rust/lib/aarch64 too. An emulator on x86-64 hides weak memory orders: these runs show wrong code, and no missing order.
+is skipped, and where none is, all of it. `--renew` copies the libraries into rust/lib/aarch64 too. An emulator on
+x86-64 hides weak memory orders: these runs show wrong code, and no missing order.
 """
 import os
 import shutil

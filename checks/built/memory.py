@@ -3,9 +3,10 @@
 For each input it runs the program once for each of its requests, with that one refused; for small inputs also with the
 two after it, and with all after it. The answer must be that of ample memory, or status 3 with OutOfMemory on standard
 error and at most the first lines of the output. A file that is named may be named there, and each file that is written
-must be whole or as it was. The room for events is asked for before a thread starts. A run in which a thread and all later ones cannot be started ends with that fault and no output. No run
-may hang. There must be a thread for each dispatcher. For each four processors one more feeds the lanes, and there is at
-most one for each lane. Where the second that feeds cannot start, the first must stop feeding at once.
+must be whole or as it was. The room for events is asked for before a thread starts. A run in which a thread and all
+later ones cannot be started ends with that fault and no output. No run may hang. There must be a thread for each
+dispatcher. For each four processors one more feeds the lanes, and there is at most one for each lane. Where the second
+that feeds cannot start, the first must stop feeding at once.
 `checks/run memory FILE` tries FILE.
 """
 import os
