@@ -25,6 +25,16 @@ SIZES = [(width, theme) for width in (1280, 360) for theme in ("light", "dark")]
 TEXTS = ("count", "now", "row", "words", "holders", "end", "warning")
 
 
+def span_of(number):
+    """Returns what the page says of a block of examples/events.csv: the job, its processors and the rows."""
+    rows = [line.split(",") for line in read("examples", "events.csv").splitlines()]
+    at = [at for at, row in enumerate(rows) if row[0] == "take"][number]
+    _, name, dim, base, _ = rows[at]
+    end = next(end for end, row in enumerate(rows) if row[:2] == ["free", name])
+    lane, job = name[1:].split("s")
+    return f"job {job} of lane {lane}, processors {base} to {int(base) + 2 ** int(dim) - 1}: rows {at} to {end}."
+
+
 class Visit:
     """A visit to the page. It collects what is not as it should be."""
 
@@ -154,7 +164,7 @@ class Visit:
         self.open("example=0")
         blocks = self.count("#scroll [data-span]")
         self.page.point("#scroll [data-span='3']")
-        self.expect(self.text("pointed").startswith("job 1 of lane 0, processors 8 to 15: rows "), f"under the pointer: {self.text('pointed')}")
+        self.is_same(self.text("pointed"), span_of(3), "under the pointer")
         x, y = self.page.middle("#scroll")
         self.page.drag((x - 100, y), (x + 100, y))
         shown = self.page.script("zoomed?.length")
