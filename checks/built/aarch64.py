@@ -24,6 +24,8 @@ from checks.source import version
 
 RELEASE, TRIPLE, PROGRAM = release.AARCH64, "aarch64-unknown-linux-gnu", "jobs_cli"
 LIBRARIES, COMPILER, EMULATOR = "/usr/aarch64-linux-gnu", "aarch64-linux-gnu-gcc", "qemu-aarch64"
+# With the C library of the cross packages, also where this system has one of its own for aarch64.
+WITH_LIBRARIES = [EMULATOR, "-E", f"LD_LIBRARY_PATH={LIBRARIES}/lib", "-L", LIBRARIES]
 PACKAGES = ("libc6-arm64-cross", "libc6-dev-arm64-cross", "libgcc-s1-arm64-cross")
 # What the linker of the toolchain looks for, of the C library and of the compiler.
 OF_LIBC = ("Scrt1.o", "crti.o", "crtn.o", "libc_nonshared.a", "libc.so.6", "libm.so.6", "libgcc_s.so.1",
@@ -101,7 +103,7 @@ def compare(folder):
 
 def emulated(folder, *words, given=b""):
     """Runs the program in the emulator. Returns its status and its outputs."""
-    return answer([EMULATOR, "-L", LIBRARIES, f"{folder}/cubejobs", *words], given, timeout=300)
+    return answer([*WITH_LIBRARIES, f"{folder}/cubejobs", *words], given, timeout=300)
 
 
 def must_be_as_here(folder, built, words):
@@ -136,7 +138,7 @@ def in_rust(folder):
     with tempfile.TemporaryDirectory() as room:
         name = f"CARGO_TARGET_{TRIPLE.upper().replace('-', '_')}"
         env = {**os.environ, "CUBEJOBS_LIB": folder, "CARGO_TARGET_DIR": room, f"{name}_LINKER": COMPILER,
-               f"{name}_RUNNER": f"{EMULATOR} -L {LIBRARIES}"}
+               f"{name}_RUNNER": " ".join(WITH_LIBRARIES)}
         for example, wanted in install.IN_RUST.items():
             words = ["cargo", "run", "--quiet", "--offline", f"--target={TRIPLE}", "--example", example]
             more = ["--", path("examples", "batch.jobs")] if example == "batch" else []
