@@ -53,8 +53,8 @@ extern "C" {
 
 /* The version of this header, as a text and as a number: 1.2.3 is 10203. The library returns its
  * own by cubejobs_version_number. */
-#define CUBEJOBS_VERSION "0.2.0"
-#define CUBEJOBS_VERSION_NUMBER 200
+#define CUBEJOBS_VERSION "0.2.1-dev"
+#define CUBEJOBS_VERSION_NUMBER 201
 
 /* The largest dimension of a machine, and its number of stations: their numbers are 0 to 47. */
 #define CUBEJOBS_MAX_DIM 12

@@ -26,7 +26,7 @@ import threading
 from types import TracebackType
 from typing import List, NamedTuple, Optional, Type
 
-__version__ = "0.2.0"
+__version__ = "0.2.1-dev"
 __all__ = ["Block", "FirstFit", "MAX_DIM", "NoRoom", "NotHeld", "Occupancy", "Region", "Regions", "StillHeld"]
 
 MAX_DIM = 20
