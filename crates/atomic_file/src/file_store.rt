@@ -17,7 +17,7 @@ pub trait FileStore {
     /// A file that is open for reading.
     type Reader: Read + Device + Drop;
     /// A file that is being written, before it replaces another.
-    type TempFile: Write + Device;
+    type TempFile: Write + Device + Send;
 
     // What is known of the bytes of the file of this name.
     ghost bytes: { Self → List ℕ → Option (List ℕ) };

@@ -1,5 +1,5 @@
 -- A recorded run, its events, and the file that holds them.
-use Rattle.std.proofs.Common.{◌≡◌, inl, inr, ℕ, Bool, true, false, true≢false, List, Option, None, Some, Result, Ok, Err, IfErr, IfOk, IfSome, OnOk, Vec, Global, refl, sym, ap, subst, ◌∙◌, if◌then◌else◌}
+use Rattle.std.proofs.Common.{◌≡◌, ◌⊎◌, inl, inr, ℕ, Bool, true, false, true≢false, List, [], Option, None, Some, Result, Ok, Err, IfErr, IfOk, IfSome, OnOk, refl, sym, ap, subst, ◌∙◌, if◌then◌else◌}
 use Rattle.std.specs.Io.KnownBytes.{Appends}
 use Rattle.job_types.specs.Job.{JobData}
 use Rattle.job_events.specs.Events.{AreEvents, event_fields}
@@ -12,16 +12,16 @@ use Rattle.jobs_csv.specs.PlaceRows.{place_columns}
 use Rattle.jobs_csv.specs.Text.{file_text}
 use Rattle.cli_args.specs.declared.invocation.Invocation.{Invocation}
 use Rattle.cli_args.specs.declared.invocation.Invocation.TheVariants.{Run, RunLong, Report, Place, Replay}
-use Rattle.cli_commands.specs.Answer.{IsMetBeforeWriting}
-use Rattle.cli_commands.specs.Events.{AreEventsOf, HasEvents, WritesEvents, answer_in, run_in}
+use Rattle.cli_commands.specs.Answer.{IsAnswer, IsMetBeforeWriting}
+use Rattle.cli_commands.specs.Events.{AreEventsOf, HasEvents, WritesEvents, run_in}
 use Rattle.cli_commands.specs.FileRun.{ReturnsRun}
 use Rattle.cli_commands.specs.Inner.Files.{IsSettled}
-use Rattle.cli_commands.specs.Inner.Recording.{IsFaultBeside, IsSunk, fault_of_record}
+use Rattle.cli_commands.specs.Inner.Recording.{IfRecorded, IsFaultBeside, IsSunk}
 use Rattle.cli_commands.specs.Program.{IsAnswerTo, IsFaultOf}
-use Rattle.cli_commands.specs.Replies.{replies_in}
+use Rattle.cli_commands.specs.Replies.{AnswersJobs, replies_in}
 use Rattle.cli_commands.specs.declared.files.CommandError.{CommandError}
 use Rattle.cli_commands.specs.declared.files.CommandError.TheVariants as error
-use Rattle.cli_commands.specs.declared.recording.RecordedRun.{RecordedRun}
+use Rattle.cli_commands.specs.declared.recorded_run.RecordedRun.{RecordedRun}
 use Rattle.cli_commands.specs.declared.shop.AnswerError.{AnswerError}
 use Rattle.atomic_file.specs.Store.{held_by}
 use Rattle.cli_commands.proofs.RunLemmas.{write_refuses_nothing}
@@ -45,45 +45,62 @@ run_without_events words_of n parse fault end is (jobs, good, run, answers) = (�
 
 -- ---- the events of a file
 
-some_not_none : {A : Type 0} (x : A) → Some x ≡ None → ⊥
-some_not_none x is = cc
-
-pub are_events_of : {M : Type 0} (words_of : M → List ℕ) (n : ℕ)
-    (parse : Result (List JobData) Fault) (recorded : Result (RecordedRun M) (AnswerError M))
-    (result : Result (Vec JobEvent Global) Fault)
+pub events_written : {M : Type 0} (words_of : M → List ℕ) (n : ℕ) (read : Option (List ℕ))
+    (parse : List ℕ → Result (List JobData) Fault)
+    (recorded : Result (RecordedRun M) (AnswerError M)) (result : Result (Unit {0}) Fault)
+    (writes : List JobEvent → Type 0)
     → IfOk recorded (λ run. AreEvents (replies_in run.end.finished) run.events.items)
-    → IfOk result (λ events. IfOk recorded (λ run. events ≡ run.events))
-    → IfOk result (λ events. fault_of_record recorded ≡ None)
+    → OnOk result (IfRecorded recorded (λ run. writes run.events.items))
+    → IfSome read (λ bytes. ReturnsRun words_of n (parse bytes) (run_in recorded))
+    → OnOk result (IfSome read (λ bytes. (events : List JobEvent)
+    × AreEventsOf n (parse bytes) events × writes events))
+events_written words_of n read parse recorded (Err fault) writes are wrote returns = tt
+events_written words_of n None parse recorded (Ok done) writes are wrote returns = tt
+events_written words_of n (Some bytes) parse (Err error) (Ok done) writes are wrote returns = absurd wrote
+events_written words_of n (Some bytes) parse (Ok run) (Ok done) writes are wrote (jobs, good, filed, answers) = (
+  run.events.items,
+  record {
+    jobs = jobs;
+    replies = replies_in run.end.finished;
+    good = good;
+    same = answers.same;
+    right = answers.right;
+    are_events = are;
+  },
+  wrote,
+)
+
+-- the rows and the events of a run are written, or its fault is passed on
+pub recorded_answer : {M Row : Type 0} (words_of : M → List ℕ) (n : ℕ)
+    (parse : Result (List JobData) Fault) (answers : List JobData → List Row → Type 0)
+    (text : List Row → List ℕ) (old new : Option (List ℕ)) (wb wa kb ka : ℕ)
+    (recorded : Result (RecordedRun M) (AnswerError M)) (run : RecordedRun M)
+    (result : Result (Unit {0}) Fault)
+    → recorded ≡ Ok run
     → ReturnsRun words_of n parse (run_in recorded)
-    → IfOk result (λ events. AreEventsOf n parse events.items)
-are_events_of words_of n parse recorded (Err fault) are same ran returns = tt
-are_events_of words_of n parse (Err error) (Ok events) are same ran returns = absurd (some_not_none error.fault ran)
-are_events_of words_of n parse (Ok run) (Ok events) are same ran (jobs, good, filed, answers) = record {
-  jobs = jobs;
-  replies = replies_in run.end.finished;
-  good = good;
-  same = answers.same;
-  right = answers.right;
-  are_events = subst (λ (e : Vec JobEvent Global). AreEvents (replies_in run.end.finished) e.items) (sym same) are;
-}
+    → ((jobs : List JobData) → AnswersJobs n jobs run.end.finished
+    → OnOk result ((rows : List Row) × answers jobs rows × Appends old new (text rows)))
+    → IfErr result (λ fault. (fault ≡ attribute what.Write wb wa)
+    ⊎ (fault ≡ attribute what.Write kb ka)
+    ⊎ (fault ≡ record { row = 0; what = what.OutOfMemory }))
+    → IsAnswer parse answers text old new result
+recorded_answer {M = M} {Row = Row} words_of n parse answers text old new wb wa kb ka recorded run (Ok done) ran is written failed =
+    let (jobs, good, ended, all) = subst (λ (r : Result (RecordedRun M) (AnswerError M)). ReturnsRun words_of n parse (run_in r)) ran is in
+    let (rows, are, out) = written jobs all in
+    record { things = jobs; rows = rows; good = good; answered = are; written = out }
+recorded_answer words_of n parse answers text old new wb wa kb ka recorded run (Err fault) ran is written (inl rows) = λ refused. absurd (write_refuses_nothing fault wb wa rows refused)
+recorded_answer words_of n parse answers text old new wb wa kb ka recorded run (Err fault) ran is written (inr (inl events)) = λ refused. absurd (write_refuses_nothing fault kb ka events refused)
+recorded_answer words_of n parse answers text old new wb wa kb ka recorded run (Err fault) ran is written (inr (inr memory)) = λ refused. absurd (true≢false (sym refused ∙ ap (λ (f : Fault). is_refusal f.what) memory))
 
--- ---- a command that runs no jobs
-
--- its fault
-pub err_through : {A : Type 0} (P : Fault → Type 0) (answer : Result (Unit {0}) Fault)
-    (result : Result A Fault)
-    → answer_in result ≡ answer
-    → IfErr answer P
-    → IfErr result P
-err_through P answer (Ok events) is failed = tt
-err_through P answer (Err fault) is failed = subst (λ (a : Result (Unit {0}) Fault). IfErr a P) (sym is) failed
-
--- what holds for each input
-pub for_all : (read : Option (List ℕ)) (P : List ℕ → Type 0)
-    → ((bytes : List ℕ) → P bytes)
-    → IfSome read P
-for_all None P holds = tt
-for_all (Some bytes) P holds = holds bytes
+pub recorded_fault : {M Row : Type 0} (words_of : M → List ℕ) (n : ℕ)
+    (parse : Result (List JobData) Fault) (answers : List JobData → List Row → Type 0)
+    (text : List Row → List ℕ) (old : Option (List ℕ))
+    (recorded : Result (RecordedRun M) (AnswerError M)) (error : AnswerError M)
+    → recorded ≡ Err error
+    → ReturnsRun words_of n parse (run_in recorded)
+    → IsAnswer parse answers text old old (Err error.fault)
+recorded_fault {M = M} words_of n parse answers text old recorded error is returns =
+    let passed = subst (λ (r : Result (RecordedRun M) (AnswerError M)). ReturnsRun words_of n parse (run_in r)) is returns in passed.0
 
 -- ---- the file of the events
 
@@ -124,75 +141,95 @@ write_fault (Report shop) rb ra before after fault is = inl (inr is)
 write_fault (Place n) rb ra before after fault is = inr is
 write_fault (Replay n stations) rb ra before after fault is = inr is
 
-module _ (recorded : Result (Vec JobEvent Global) Fault) (result : Result (Unit {0}) Fault)
-    (passed : IfErr recorded (λ fault. result ≡ Err fault))
-    (failed : IfOk recorded (λ events. IfErr result (λ fault. (calls : ℕ × ℕ)
-    × (fault ≡ attribute what.Write calls.0 calls.1)))) where
+-- what holds for each input
+for_all : (read : Option (List ℕ)) (P : List ℕ → Type 0)
+    → ((bytes : List ℕ) → P bytes)
+    → IfSome read P
+for_all None P holds = tt
+for_all (Some bytes) P holds = holds bytes
+
+-- ---- a command that runs no jobs
+
+module _ (answer result : Result (Unit {0}) Fault) (kb ka : ℕ)
+    (passed : IfErr answer (λ fault. result ≡ Err fault))
+    (failed : OnOk answer (IfErr result (λ fault. fault ≡ attribute what.Write kb ka))) where
   -- the command is answered
-  pub recorded_answer : (invocation : Invocation) (read old new : Option (List ℕ))
-      → IfSome read (λ b. IsAnswerTo invocation b old new (answer_in recorded))
+  pub none_answer : (invocation : Invocation) (read old new : Option (List ℕ))
+      → IfSome read (λ b. IsAnswerTo invocation b old new answer)
       → IfSome read (λ b. IsAnswerTo invocation b old new result)
-  recorded_answer invocation read old new answered = by_both recorded result passed failed answered
+  none_answer invocation read old new answered = by_both answer result passed failed answered
     where
-      by_both : (r : Result (Vec JobEvent Global) Fault) (a : Result (Unit {0}) Fault)
+      by_both : (r a : Result (Unit {0}) Fault)
           → IfErr r (λ fault. a ≡ Err fault)
-          → IfOk r (λ events. IfErr a (λ fault. (calls : ℕ × ℕ) × (fault ≡ attribute what.Write calls.0 calls.1)))
-          → IfSome read (λ b. IsAnswerTo invocation b old new (answer_in r))
+          → OnOk r (IfErr a (λ fault. fault ≡ attribute what.Write kb ka))
+          → IfSome read (λ b. IsAnswerTo invocation b old new r)
           → IfSome read (λ b. IsAnswerTo invocation b old new a)
       by_both (Err fault) a is wrote answers = subst (λ (x : Result (Unit {0}) Fault). IfSome read (λ b. IsAnswerTo invocation b old new x)) (sym is) answers
-      by_both (Ok events) (Ok done) is wrote answers = answers
-      by_both (Ok events) (Err fault) is (calls, wrote) answers = for_all read (λ b. IsAnswerTo invocation b old new (Err fault)) (λ b. not_refused_answer invocation b old new fault (write_refuses_nothing fault calls.0 calls.1 wrote))
+      by_both (Ok done) (Ok listed) is wrote answers = answers
+      by_both (Ok done) (Err fault) is wrote answers = for_all read (λ b. IsAnswerTo invocation b old new (Err fault)) (λ b. not_refused_answer invocation b old new fault (write_refuses_nothing fault kb ka wrote))
 
   -- or failed, by itself or by the file of the events
-  pub recorded_failed : (has_file : Bool) (invocation : Invocation) (rb ra wb wa : ℕ)
-      → has_file ≡ true
-      → IfErr recorded (IsFaultOf rb ra wb wa invocation)
-      → IfErr result (IsFaultBeside has_file rb ra wb wa invocation)
-  recorded_failed has_file invocation rb ra wb wa has may = by_both recorded result passed failed may
+  pub none_failed : (invocation : Invocation) (rb ra wb wa : ℕ)
+      → IfErr answer (IsFaultOf rb ra wb wa invocation)
+      → IfErr result (λ fault. IsFaultOf rb ra wb wa invocation fault
+      ⊎ IsFaultOf rb ra kb ka invocation fault)
+  none_failed invocation rb ra wb wa may = by_both answer result passed failed may
     where
-      by_both : (r : Result (Vec JobEvent Global) Fault) (a : Result (Unit {0}) Fault)
+      by_both : (r a : Result (Unit {0}) Fault)
           → IfErr r (λ fault. a ≡ Err fault)
-          → IfOk r (λ events. IfErr a (λ fault. (calls : ℕ × ℕ) × (fault ≡ attribute what.Write calls.0 calls.1)))
+          → OnOk r (IfErr a (λ fault. fault ≡ attribute what.Write kb ka))
           → IfErr r (IsFaultOf rb ra wb wa invocation)
-          → IfErr a (IsFaultBeside has_file rb ra wb wa invocation)
-      by_both (Err fault) a is wrote is_of = subst (λ (x : Result (Unit {0}) Fault). IfErr x (IsFaultBeside has_file rb ra wb wa invocation)) (sym is) ((wb, wa), (λ none. refl), is_of)
-      by_both (Ok events) (Ok done) is wrote is_of = tt
-      by_both (Ok events) (Err fault) is (calls, wrote) is_of = (calls, (λ none. absurd (true≢false (sym has ∙ none))), write_fault invocation rb ra calls.0 calls.1 fault wrote)
+          → IfErr a (λ fault. IsFaultOf rb ra wb wa invocation fault ⊎ IsFaultOf rb ra kb ka invocation fault)
+      by_both (Err fault) a is wrote is_of = subst (λ (x : Result (Unit {0}) Fault). IfErr x (λ f. IsFaultOf rb ra wb wa invocation f ⊎ IsFaultOf rb ra kb ka invocation f)) (sym is) (inl is_of)
+      by_both (Ok done) (Ok listed) is wrote is_of = tt
+      by_both (Ok done) (Err fault) is wrote is_of = inr (write_fault invocation rb ra kb ka fault wrote)
 
   -- and nothing is written before that
-  pub recorded_untouched : (P : Type 0)
-      → IfErr recorded (λ fault. IsMetBeforeWriting fault → P)
+  pub none_untouched : (P : Type 0)
+      → IfErr answer (λ fault. IsMetBeforeWriting fault → P)
       → IfErr result (λ fault. IsMetBeforeWriting fault → P)
-  recorded_untouched P untouched = by_both recorded result passed failed untouched
+  none_untouched P untouched = by_both answer result passed failed untouched
     where
-      by_both : (r : Result (Vec JobEvent Global) Fault) (a : Result (Unit {0}) Fault)
+      by_both : (r a : Result (Unit {0}) Fault)
           → IfErr r (λ fault. a ≡ Err fault)
-          → IfOk r (λ events. IfErr a (λ fault. (calls : ℕ × ℕ) × (fault ≡ attribute what.Write calls.0 calls.1)))
+          → OnOk r (IfErr a (λ fault. fault ≡ attribute what.Write kb ka))
           → IfErr r (λ fault. IsMetBeforeWriting fault → P)
           → IfErr a (λ fault. IsMetBeforeWriting fault → P)
       by_both (Err fault) a is wrote same = subst (λ (x : Result (Unit {0}) Fault). IfErr x (λ f. IsMetBeforeWriting f → P)) (sym is) same
-      by_both (Ok events) (Ok done) is wrote same = tt
-      by_both (Ok events) (Err fault) is (calls, wrote) same = λ met. absurd (write_is_late fault calls.0 calls.1 wrote met)
+      by_both (Ok done) (Ok listed) is wrote same = tt
+      by_both (Ok done) (Err fault) is wrote same = λ met. absurd (write_is_late fault kb ka wrote met)
 
--- if all is done, the events are written
-pub recorded_written : (has_file : Bool) (writes : List JobEvent → Type 0) (invocation : Invocation)
-    (read : Option (List ℕ)) (recorded : Result (Vec JobEvent Global) Fault)
+-- it has no events
+pub none_written : (invocation : Invocation) (writes : List JobEvent → Type 0)
+    (read : Option (List ℕ)) (result : Result (Unit {0}) Fault)
+    → ((bytes : List ℕ) → HasEvents invocation bytes [])
+    → OnOk result (writes [])
+    → OnOk result (IfSome read (λ bytes. (events : List JobEvent)
+    × HasEvents invocation bytes events × writes events))
+none_written invocation writes read (Err fault) none wrote = tt
+none_written invocation writes None (Ok done) none wrote = tt
+none_written invocation writes (Some bytes) (Ok done) none wrote = ([], none bytes, wrote)
+
+-- ---- a command whose events are written
+
+pub file_failed : (has_file : Bool) (invocation : Invocation) (rb ra wb wa kb ka : ℕ)
     (result : Result (Unit {0}) Fault)
-    → IfErr recorded (λ fault. result ≡ Err fault)
-    → IfSome read (λ b. IfOk recorded (λ events. HasEvents invocation b events.items))
-    → IfOk recorded (λ events. OnOk result (writes events.items))
-    → OnOk result (IfSome read (IsSunk has_file writes invocation))
-recorded_written has_file writes invocation read recorded (Err fault) passed has wrote = tt
-recorded_written has_file writes invocation read (Err fault) (Ok done) passed has wrote = absurd (cc)
-recorded_written has_file writes invocation None (Ok events) (Ok done) passed has wrote = tt
-recorded_written has_file writes invocation (Some bytes) (Ok events) (Ok done) passed has wrote = λ file. (events.items, has, wrote)
+    → has_file ≡ true
+    → IfErr result (λ fault. IsFaultOf rb ra wb wa invocation fault
+    ⊎ IsFaultOf rb ra kb ka invocation fault)
+    → IfErr result (IsFaultBeside has_file rb ra wb wa invocation)
+file_failed has_file invocation rb ra wb wa kb ka (Ok done) has failed = tt
+file_failed has_file invocation rb ra wb wa kb ka (Err fault) has (inl rows) = ((wb, wa), (λ none. refl), rows)
+file_failed has_file invocation rb ra wb wa kb ka (Err fault) has (inr events) = ((kb, ka), (λ none. absurd (true≢false (sym has ∙ none))), events)
 
--- the calls of the file that failed
-pub with_calls : (before after : ℕ) (result : Result (Unit {0}) Fault)
-    → IfErr result (λ fault. fault ≡ attribute what.Write before after)
-    → IfErr result (λ fault. (calls : ℕ × ℕ) × (fault ≡ attribute what.Write calls.0 calls.1))
-with_calls before after (Ok done) failed = tt
-with_calls before after (Err fault) failed = ((before, after), failed)
+pub file_sunk : (has_file : Bool) (writes : List JobEvent → Type 0) (invocation : Invocation)
+    (read : Option (List ℕ)) (result : Result (Unit {0}) Fault)
+    → OnOk result (IfSome read (λ bytes. (events : List JobEvent)
+    × HasEvents invocation bytes events × writes events))
+    → OnOk result (IfSome read (IsSunk has_file writes invocation))
+file_sunk has_file writes invocation read (Err fault) wrote = tt
+file_sunk has_file writes invocation None (Ok done) wrote = tt
+file_sunk has_file writes invocation (Some bytes) (Ok done) wrote = λ has. wrote
 
 -- ---- a command whose events are not written
 

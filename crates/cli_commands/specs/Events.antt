@@ -15,7 +15,7 @@ use Rattle.jobs_csv.specs.Text.{file_text}
 use Rattle.cli_args.specs.declared.invocation.Invocation.{Invocation}
 use Rattle.cli_args.specs.declared.invocation.Invocation.TheVariants as invocation
 use Rattle.cli_commands.specs.JobIds.{with_ids}
-use Rattle.cli_commands.specs.declared.recording.RecordedRun.{RecordedRun}
+use Rattle.cli_commands.specs.declared.recorded_run.RecordedRun.{RecordedRun}
 use Rattle.cli_commands.specs.declared.shop.AnswerError.{AnswerError}
 
 -- The file is good, and these are the events of its jobs. They are those of one right reply to each

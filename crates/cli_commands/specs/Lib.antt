@@ -25,4 +25,5 @@ pub use Rattle.cli_args.specs.CommandLine.{AreShopSizes, IsWithinLimits}
 pub use Rattle.atomic_file.specs.Store.{KeepsFiles, KeepsOthers, begun_by, held_by}
 pub use Rattle.dispatcher.specs.Answers.{all_replies}
 pub use Rattle.dispatcher.specs.Reply.{IsRight, answered}
-pub use Rattle.job_events.specs.Events.{AreEvents}
+pub use Rattle.job_events.specs.Events.{AreEvents, event_fields}
+pub use Rattle.jobs_csv.specs.PlaceRows.{place_columns}

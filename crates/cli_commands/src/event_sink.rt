@@ -1,24 +1,15 @@
 // Where the events of a command go.
-ghost use Rattle.std.specs.Prelude.{◌≡◌, ◌⊎◌, ℕ, Err, IfErr, IfOk, IfSome, OnOk};
-ghost use Rattle.cli_args.specs.CommandLine.{IsWithinLimits};
+ghost use Rattle.std.specs.Prelude.{◌≡◌, IfErr, OnOk};
 ghost use Rattle.jobs_csv.specs.Fault.{attribute};
-ghost use Rattle.cli_commands.specs.Answer.{IsMetBeforeWriting};
-ghost use Rattle.cli_commands.specs.Inner.Recording.{IsFaultBeside, IsSunk};
-ghost use Rattle.cli_commands.specs.Program.{IsAnswerTo, ShowsProgress};
 
-use crate::answering::{Task, answer};
-use crate::recording::record;
-use dispatcher::Runner;
 use job_events::JobEvent;
 use jobs_csv::{Device, Fault, FaultKind};
 use std::alloc::Global;
-use std::io::{Read, Write};
-use std::sync::Wait;
-use std::thread::Threads;
+use std::io::Write;
 
 /// Where the events of a command go, if they are written.
 pub(crate) trait EventSink {
-    ghost use Rattle.std.specs.Prelude.{Bool, List};
+    ghost use Rattle.std.specs.Prelude.{ℕ, Bool, List};
     ghost use Rattle.job_events.specs.declared.event.JobEvent.{JobEvent as TheEvent};
 
     // Whether the events are written to a file.
@@ -26,6 +17,9 @@ pub(crate) trait EventSink {
 
     // The rows of these events are written, from one state of the sink to the next.
     ghost writes: { Self → Self → List TheEvent → Type 0 };
+
+    // How many calls of the file have failed, as its device counts them.
+    ghost failures: { Self → ℕ };
 
     /// Returns the allocator of the command.
     fn alloc(&self) -> Global;
@@ -38,11 +32,11 @@ pub(crate) trait EventSink {
     ///
     /// # Errors
     ///
-    /// Returns `Write` if the file failed. Otherwise memory ran out.
+    /// Returns `Write` if a call of the file failed. Otherwise memory ran out.
     fn write(&mut self, events: Vec<JobEvent>) -> Result<(), Fault>
         ensures written { OnOk result (writes self.old self.new events.items) }
-        ensures failed { IfErr result (λ fault. (calls : ℕ × ℕ)
-            × (fault ≡ attribute FaultKind.Write calls.0 calls.1)) };
+        ensures failed { IfErr result (λ fault.
+            fault ≡ attribute FaultKind.Write (failures self.old) (failures self.new)) };
 }
 
 /// The sink of a command whose events are not written.
@@ -58,6 +52,8 @@ impl EventSink for NoEvents {
 
     ghost writes = { λ before after events. ⊤ };
 
+    ghost failures = { λ sink. 0 };
+
     fn alloc(&self) -> Global {
         self.alloc
     }
@@ -71,11 +67,12 @@ impl EventSink for NoEvents {
     }
 }
 
-/// The sink of a command whose events are written to a file.
-pub(crate) struct EventsFile<V> {
-    pub(crate) alloc: Global,
+/// The file that the events of a command are written to.
+pub struct EventsFile<V> {
+    /// Where the memory for the events comes from.
+    pub alloc: Global,
     /// The file.
-    pub(crate) file: V,
+    pub file: V,
 }
 
 impl<V: Write + Device> EventSink for EventsFile<V> {
@@ -90,6 +87,8 @@ impl<V: Write + Device> EventSink for EventsFile<V> {
     ghost writes = { λ before after events. Appends (V.contents before.file)
         (V.contents after.file) (file_text place_columns event_fields events) };
 
+    ghost failures = { λ sink. V.failures sink.file };
+
     fn alloc(&self) -> Global {
         self.alloc
     }
@@ -101,64 +100,4 @@ impl<V: Write + Device> EventSink for EventsFile<V> {
     fn write(&mut self, events: Vec<JobEvent>) -> Result<(), Fault> {
         jobs_csv::write_rows(self.alloc, events, &mut self.file)
     }
-}
-
-// Writes the rows of the events of a command that was done, or returns the fault of one that
-// failed.
-fn write_events<K: EventSink>(
-    recorded: Result<Vec<JobEvent>, Fault>,
-    sink: &mut K,
-) -> Result<(), Fault>
-    ensures passed { IfErr recorded (λ fault. result ≡ Err fault) }
-    ensures written { IfOk recorded (λ events.
-        OnOk result (K.writes sink.old sink.new events.items)) }
-    ensures failed { IfOk recorded (λ events. IfErr result (λ fault. (calls : ℕ × ℕ)
-        × (fault ≡ attribute FaultKind.Write calls.0 calls.1))) }
-{
-    match recorded {
-        Ok(events) => sink.write(events),
-        Err(fault) => Err(fault),
-    }
-}
-
-/// Reads the input of a command, carries it out and writes its rows, as [`answer`] does. Then
-/// writes its events to the sink, if that has a file.
-///
-/// # Errors
-///
-/// The errors are those of `answer`. A fault `Write` may be that of the file of the events. If the
-/// memory for the events is refused, no job runs and nothing is written.
-pub(crate) fn answer_to<H, T, R, W, P, K>(
-    rt: &H,
-    task: Task<'_, T>,
-    reader: &mut R,
-    writer: &mut W,
-    terminal: &mut Option<P>,
-    sink: &mut K,
-) -> Result<(), Fault>
-where
-    H: Threads + Wait + Clone + Send + Sync + 'static,
-    T: Runner + Sync,
-    R: Read + Device,
-    W: Write + Device,
-    P: Write + Send + Drop + 'static,
-    K: EventSink,
-    requires { IsWithinLimits task.invocation }
-    ensures answered { IfSome (R.remaining reader.old) (λ bytes.
-        IsAnswerTo task.entry.invocation bytes
-        (W.contents writer.old) (W.contents writer.new) result) }
-    ensures failed { IfErr result (IsFaultBeside K.has_file
-        (R.failures reader.old) (R.failures reader.new)
-        (W.failures writer.old) (W.failures writer.new) task.entry.invocation) }
-    ensures untouched { IfErr result (λ fault. IsMetBeforeWriting fault → writer.new ≡ writer.old) }
-    ensures shown { (terminal.new ≡ terminal.old) ⊎ ShowsProgress task.entry.invocation }
-    ensures written { OnOk result (IfSome (R.remaining reader.old)
-        (IsSunk K.has_file (K.writes sink.old sink.new) task.entry.invocation)) }
-{
-    let alloc = sink.alloc();
-    if !sink.has_file() {
-        return answer(rt, alloc, task, reader, writer, terminal);
-    }
-    let recorded = record(rt, alloc, task, reader, writer, terminal);
-    write_events(recorded, sink)
 }

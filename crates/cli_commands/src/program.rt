@@ -16,8 +16,9 @@ ghost use Rattle.atomic_file.specs.Store.{KeepsFiles, begun_by, held_by};
 ghost use Rattle.atomic_file.specs.declared.file_fault.FileFault.{FileFault as TheFileFault};
 
 use crate::answering::Task;
-use crate::event_sink::{EventSink, EventsFile, NoEvents, answer_to};
+use crate::event_sink::{EventSink, EventsFile, NoEvents};
 use crate::files::{CommandError, answered, begin_file, open_input, settle_events, settle_output};
+use crate::recording::answer_to;
 use crate::refusal::show_refusal;
 use atomic_file::{FileFault, FileSide, FileStore};
 use clap::error::ErrorKind;
@@ -151,7 +152,7 @@ where
     R: Read + Device,
     W: Write + Device,
     P: Write + Send + Drop + 'static,
-    K: EventSink,
+    K: EventSink + Send,
     requires limits { IsWithinLimits request.now.invocation }
     requires sink { events_of request.now ≡ None → K.has_file ≡ false }
     ensures outcome { IsOutcome S.fresh (S.bytes store.old) (S.bytes store.new)

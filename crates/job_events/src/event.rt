@@ -1,5 +1,5 @@
 // An event of a run, and its row.
-ghost use Rattle.std.specs.Prelude.{◌≡◌, ◌++◌, IfOk, OnOk, string_bytes};
+ghost use Rattle.std.specs.Prelude.{◌≡◌, ◌++◌, [], IfOk, OnOk, string_bytes};
 ghost use Rattle.std.specs.Fmt.{decimal};
 ghost use Rattle.job_events.specs.Events.{job_name};
 ghost use Rattle.job_events.specs.Inner.{command_text, outcome_text};
@@ -40,9 +40,6 @@ pub struct JobEvent {
 
 const _: () = prove!(size_of::<JobEvent>() == 24);
 
-// The most bytes of a job's name: two letters, and the digits of the largest lane and number.
-const NAME_BYTES: usize = 32;
-
 // Appends a number in decimal digits.
 fn push_number(text: &mut String, number: u64) -> Result<(), AllocError>
     ensures { OnOk result (string_bytes text.new ≡ string_bytes text.old ++ decimal number) }
@@ -51,12 +48,12 @@ fn push_number(text: &mut String, number: u64) -> Result<(), AllocError>
     text.push_str(digits.format(number))
 }
 
-// Returns the name of a job.
-fn job_name(alloc: Global, id: JobId) -> Result<String, AllocError>
+// Appends the name of a job to an empty text.
+fn job_name(mut name: String, id: JobId) -> Result<String, AllocError>
+    requires { string_bytes name ≡ [] }
     ensures name { IfOk result (λ name. string_bytes name ≡ job_name id) }
     ensures plain { OnOk result (IsPlainField (job_name id)) }
 {
-    let mut name = String::with_capacity(alloc, NAME_BYTES)?;
     name.push_str("l")?;
     push_number(&mut name, u64::from(id.lane))?;
     name.push_str("s")?;
@@ -119,9 +116,10 @@ impl Row for JobEvent {
     }
 
     fn push_fields(&self, alloc: Global, line: &mut RowFields) -> Result<(), AllocError> {
-        let name = job_name(alloc, self.id())?;
+        let name = job_name(line.take_room(alloc), self.id())?;
         line.push_text(self.command().as_bytes())?;
         line.push_text(name.as_bytes())?;
+        line.put_room(name);
         line.push_number(u64::from(self.dim))?;
         line.push_number(u64::from(self.base))?;
         line.push_text(self.outcome().as_bytes())

@@ -63,17 +63,11 @@ impl EventNumbers {
         self.next.fetch_add(1, Ordering::SeqCst)
     }
 
-    // Numbers the begin of a job.
-    fn begin(&self, id: JobId) {
+    // Keeps the numbers of the two events of a job, both at once: its place is in the cache then.
+    fn keep(&self, id: JobId, take: u64, free: u64) {
         if let Some(numbers) = self.of(id) {
-            numbers.take.store(self.next(), Ordering::SeqCst);
-        }
-    }
-
-    // Numbers the end of a job.
-    fn end(&self, id: JobId) {
-        if let Some(numbers) = self.of(id) {
-            numbers.free.store(self.next(), Ordering::SeqCst);
+            numbers.take.store(take, Ordering::SeqCst);
+            numbers.free.store(free, Ordering::SeqCst);
         }
     }
 
@@ -108,9 +102,9 @@ pub struct Numbered<'a, 'b, T> {
 
 impl<T: Runner> Runner for Numbered<'_, '_, T> {
     fn run<R: Wait>(&self, rt: &R, id: JobId, region: Region, job: Job) -> Reply {
-        self.numbers.begin(id);
+        let take = self.numbers.next();
         let reply = self.runner.run(rt, id, region, job);
-        self.numbers.end(id);
+        self.numbers.keep(id, take, self.numbers.next());
         reply
     }
 }

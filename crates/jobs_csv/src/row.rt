@@ -80,8 +80,8 @@ impl RowFields {
         }
     }
 
-    // Takes an empty text out, with the room of the text that was put back last.
-    pub(crate) fn take_room(&mut self, alloc: Global) -> String
+    /// Takes an empty text out, with the room of the text that was put back last.
+    pub fn take_room(&mut self, alloc: Global) -> String
         ensures text { string_bytes result ≡ [] }
         ensures fields { self.new ≡ self.old }
     {
@@ -90,8 +90,8 @@ impl RowFields {
         text
     }
 
-    // Puts a text back, so that the next one can use its room.
-    pub(crate) fn put_room(&mut self, text: String)
+    /// Puts a text back, so that the next one can use its room.
+    pub fn put_room(&mut self, text: String)
         ensures { self.new ≡ self.old }
     {
         self.room = text;

@@ -9,6 +9,7 @@ mod jobs;
 mod meetings;
 mod progress;
 mod readings;
+mod recordings;
 mod refusals;
 mod rounds;
 mod rows;

@@ -5,13 +5,21 @@ use Rattle.cli_args.specs.declared.invocation.Invocation.{Invocation}
 use Rattle.job_events.specs.declared.event.JobEvent.{JobEvent}
 use Rattle.cli_commands.specs.Events.{HasEvents}
 use Rattle.cli_commands.specs.Program.{IsFaultOf}
-use Rattle.cli_commands.specs.declared.recording.RecordedRun.{RecordedRun}
+use Rattle.cli_commands.specs.declared.recorded_run.RecordedRun.{RecordedRun}
 use Rattle.cli_commands.specs.declared.shop.AnswerError.{AnswerError}
 
 -- The fault that was returned instead of a recorded run, if there is one.
 abbrev pub fault_of_record : {M : Type 0} → Result (RecordedRun M) (AnswerError M) → Option Fault
 fault_of_record (Ok run) = None
 fault_of_record (Err error) = Some error.fault
+
+-- The run was recorded, and this holds of it.
+abbrev pub IfRecorded : {M : Type 0}
+    → Result (RecordedRun M) (AnswerError M)
+    → (RecordedRun M → Type 0)
+    → Type 0
+IfRecorded (Ok run) P = P run
+IfRecorded (Err error) P = ⊥
 
 -- The fault is one that a command may have, by the counts of failed calls. If its events go to a
 -- file, the counts of writes may be the file's.

@@ -2,11 +2,11 @@ use Rattle.std.proofs.Common.{IfSome, Result, sym, subst}
 use Rattle.jobs_csv.specs.Jobs.{parse_jobs}
 use Rattle.cli_commands.specs.Events.{run_in}
 use Rattle.cli_commands.specs.FileRun.{ReturnsRun}
-use Rattle.cli_commands.specs.declared.recording.RecordedRun.{RecordedRun}
+use Rattle.cli_commands.specs.declared.recorded_run.RecordedRun.{RecordedRun}
 use Rattle.cli_commands.specs.declared.shop.AnswerError.{AnswerError}
 use Rattle.cli_commands.proofs.RunLemmas.{fault_unanswered, where_known}
-use Rattle.cli_commands.proofs.recording.record_file.Goals as goal
-use Rattle.cli_commands.proofs.recording.record_file.Goals.{in-Ok, in-Err}
+use Rattle.cli_commands.proofs.recorded_run.record_file.Goals as goal
+use Rattle.cli_commands.proofs.recorded_run.record_file.Goals.{in-Ok, in-Err}
 
 pub returns-clause-answered : goal.returns-clause-answered
 returns-clause-answered g c =

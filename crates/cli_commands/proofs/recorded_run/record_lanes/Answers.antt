@@ -1,5 +1,5 @@
 use Rattle.cli_commands.proofs.RecordLemmas.{no_run, run_without_events}
-use Rattle.cli_commands.proofs.recording.record_lanes.Goals as goal
+use Rattle.cli_commands.proofs.recorded_run.record_lanes.Goals as goal
 
 pub returns-in_default-clause-answered : goal.returns-in_default-clause-answered
 returns-in_default-clause-answered g c parse are = no_run g.F.Floor.machine_words c.args.sizes.dim parse c.no_memory-fault.result c.no_memory-fault.ensures
