@@ -1,61 +1,54 @@
 //! Where workers sleep.
 //!
 //! The waker of the lanes says when a worker without a job may park (`find`), and which worker a
-//! submit has woken. It knows one cause to get up, a job. The threads of a pool have others: a
-//! gang's call, and the end of a job that they wait for. Then the thread has something to do while
-//! its worker still lies down, and may be named as the one that searches.
+//! submit has woken. It knows one cause to get up, a job. The threads of a pool have another one: a
+//! gang's call. Then the thread has something to do while its worker still lies down, and may be
+//! named as the one that searches.
 //!
 //! So the thread leaves its worker in its *bed*. A thread whose call has woken the worker finds it
-//! there. It makes the worker's search, and puts the job that it finds back into a lane. If the bed
+//! there. It makes the worker's search, and puts the job that it finds back into a queue. If the bed
 //! is empty, the worker is with its thread, which is unparked.
 
 use crate::job::Job;
+use crate::overflow::{Overflow, Woken};
+use crate::shared::Shared;
 use crate::util::lock;
-use cubejobs::lanes::{Finding, Found, Lane, SubmitError, Worker};
+use cubejobs::lanes::{Finding, Found, Worker};
 use std::sync::atomic::{AtomicUsize, Ordering::SeqCst};
-use std::sync::{Mutex, OnceLock};
+use std::sync::Mutex;
 use std::thread::{self, Thread};
 
-/// The bed of each worker, the thread of each, and the lanes of the jobs that came back.
+/// The bed of each worker, the thread of each, and the jobs that came back.
 pub(crate) struct Beds {
     /// The workers whose threads have other work.
     left: Vec<Mutex<Option<Worker<u64>>>>,
-    threads: Vec<OnceLock<Thread>>,
-    /// These are the first lanes. They are looked at before all others if a job has come back.
-    lanes: Mutex<Vec<Lane<u64>>>,
-    lane_count: u32,
+    /// The thread that has the worker, or that had it last.
+    threads: Vec<Mutex<Option<Thread>>>,
+    /// The jobs that came back. They go first.
+    queue: Overflow,
     /// How many jobs have come back, at least.
     returned: AtomicUsize,
 }
 
-/// Returns how many lanes the jobs need that come back, if a lane holds `capacity` jobs. There is
-/// room for one job of each worker.
-///
-/// A worker lies down only after it has seen these lanes empty, and a search of it that finds a job
-/// gets it up. So it has at most one job in them.
-pub(crate) fn lanes_for(workers: u32, capacity: u64) -> u32 {
-    u64::from(workers).div_ceil(capacity) as u32
-}
-
 impl Beds {
-    /// Makes the beds of this number of workers. The lanes are those with the least numbers.
-    pub fn new(size: usize, lanes: Vec<Lane<u64>>) -> Self {
+    /// Makes the beds of this number of workers. The queue is that of the jobs that come back.
+    pub fn new(size: usize, queue: Overflow) -> Self {
         Beds {
             left: (0..size).map(|_| Mutex::new(None)).collect(),
-            threads: (0..size).map(|_| OnceLock::new()).collect(),
-            lane_count: lanes.len() as u32,
-            lanes: Mutex::new(lanes),
+            threads: (0..size).map(|_| Mutex::new(None)).collect(),
+            queue,
             returned: AtomicUsize::new(0),
         }
     }
 
-    /// Makes this thread that of a worker. It has made no call for the worker.
+    /// Makes this thread that of a worker. It looks for calls and for the worker's token afterwards,
+    /// since others unpark the thread that was here before.
     pub fn settle(&self, number: usize) {
-        self.threads[number].set(thread::current()).expect("a worker has one thread");
+        *lock(&self.threads[number]) = Some(thread::current());
     }
 
     pub fn unpark(&self, number: usize) {
-        if let Some(thread) = self.threads[number].get() {
+        if let Some(thread) = &*lock(&self.threads[number]) {
             thread.unpark();
         }
     }
@@ -81,44 +74,53 @@ impl Beds {
         lock(&self.left[number]).take().expect("a worker is with its thread, or in its bed")
     }
 
-    /// Returns whether a job has come back.
-    pub fn has_returned(&self) -> bool {
-        self.returned.load(SeqCst) != 0
+    /// Returns the number of the lane of jobs that have come back, if there is one.
+    pub fn returned_lane(&self) -> Option<u32> {
+        (self.returned.load(SeqCst) != 0).then_some(self.queue.number)
     }
 
     /// Counts a job that was taken from a lane. Returns whether it had come back.
     pub fn count_taken(&self, lane: u32) -> bool {
-        let is_one = lane < self.lane_count;
+        let is_one = lane == self.queue.number;
         if is_one {
             self.returned.fetch_sub(1, SeqCst);
         }
         is_one
     }
 
-    /// Wakes the thread of a worker that was woken, or makes the search of that worker. Returns the
-    /// jobs that were found, if the lanes are closed.
-    pub fn rouse(&self, woken: Option<u32>) -> Vec<Job> {
-        let mut next = woken;
-        let (mut others, mut refused) = (Vec::new(), Vec::new());
-        while let Some(number) = next {
+    /// Moves jobs that have come back into their lane. Returns whether there were some.
+    pub fn refill(&self, pool: &Shared) -> bool {
+        let has_listed = self.queue.has_listed();
+        if has_listed {
+            self.rouse(pool, self.queue.refill());
+        }
+        has_listed
+    }
+
+    /// Takes a job that has come back, after the end of the lanes.
+    pub fn take_listed(&self) -> Option<Job> {
+        let job = self.queue.take_listed()?;
+        self.returned.fetch_sub(1, SeqCst);
+        Some(job)
+    }
+
+    /// Wakes the threads of workers that were woken, or makes the searches of those workers.
+    pub fn rouse(&self, pool: &Shared, mut woken: Woken) {
+        while let Some(number) = woken.pop() {
             let mut bed = lock(&self.left[number as usize]);
             match bed.as_mut() {
                 // The bed is locked until the job is back, so that the worker cannot lie down again
                 // before.
-                Some(worker) => refused.extend(self.search(worker, &mut others).err()),
+                Some(worker) => self.search(pool, worker, &mut woken),
                 None => self.unpark(number as usize),
             }
-            drop(bed);
-            next = others.pop();
         }
-        refused
     }
 
-    /// Makes the search of a worker that was woken, and adds the workers that this wakes. Returns
-    /// the job that it has found if the lanes are closed.
-    fn search(&self, worker: &mut Worker<u64>, woken: &mut Vec<u32>) -> Result<(), Job> {
+    /// Makes the search of a worker that was woken, and adds the workers that this wakes.
+    fn search(&self, pool: &Shared, worker: &mut Worker<u64>, woken: &mut Woken) {
         if !worker.awake() {
-            return Ok(());
+            return;
         }
         loop {
             let Finding { found, woken: other } = worker.find(0);
@@ -126,30 +128,14 @@ impl Beds {
             match found {
                 Found::Job(job) => {
                     self.count_taken(job.lane);
-                    woken.extend(self.put_back(Job::taken(job))?);
-                    return Ok(());
+                    pool.made_room(job.lane);
+                    self.returned.fetch_add(1, SeqCst);
+                    woken.extend(self.queue.push_back(Job::taken(job)));
+                    return;
                 }
-                Found::Park | Found::Ended => return Ok(()),
+                Found::Park | Found::Ended => return,
                 Found::Again => {}
             }
         }
-    }
-
-    /// Submits a job again. Returns the worker that this has woken, or the job if the lanes are
-    /// closed.
-    fn put_back(&self, job: Job) -> Result<Option<u32>, Job> {
-        self.returned.fetch_add(1, SeqCst);
-        let mut word = job.into_word();
-        for lane in lock(&self.lanes).iter_mut() {
-            match lane.submit(word, 0) {
-                Ok(accepted) => return Ok(accepted.woken),
-                Err(refused) if refused.reason == SubmitError::Full => word = refused.payload,
-                Err(refused) => {
-                    self.returned.fetch_sub(1, SeqCst);
-                    return Err(Job::refused(refused));
-                }
-            }
-        }
-        unreachable!("there is room for one job of each worker: see `lanes_for`")
     }
 }

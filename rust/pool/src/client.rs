@@ -3,11 +3,11 @@
 use crate::error::{ClientError, Refused};
 use crate::group::Group;
 use crate::job::Job;
-use crate::outside::GangWord;
 use crate::pool::{submit_gang, Detached, One};
-use crate::shared::Shared;
+use crate::shared::{GangWord, Shared, Wait};
 use crate::ticket::{Packet, Promise, Ticket};
-use cubejobs::lanes::{DealError, Lane};
+use crate::util::lock;
+use cubejobs::lanes::Lane;
 use std::fmt;
 use std::sync::Arc;
 
@@ -27,20 +27,27 @@ use std::sync::Arc;
 /// ```
 pub struct Client {
     pool: Arc<Shared>,
-    // This lane goes back first, and is dealt out last. So there is one for each `lane`.
-    gangs: Lane<GangWord>,
-    lane: Lane<u64>,
+    /// The lanes, until the drop.
+    producer: Option<Producer>,
+}
+
+/// The lanes of a client: for one-worker jobs and for gangs. Threads sleep in the rooms of its place
+/// until they have room.
+pub(crate) struct Producer {
+    pub place: usize,
+    pub ones: Lane<u64>,
+    pub gangs: Lane<GangWord>,
 }
 
 impl Client {
     pub(crate) fn new(pool: &Arc<Shared>) -> Result<Self, ClientError> {
-        let refused = |error| match error {
-            DealError::NoneLeft => ClientError::NoneLeft,
-            DealError::OutOfMemory => ClientError::OutOfMemory,
-        };
-        let lane = pool.ones.lane().map_err(refused)?;
-        let gangs = pool.gangs.lane().map_err(refused)?;
-        Ok(Client { pool: pool.clone(), gangs, lane })
+        let producer = lock(&pool.producers).pop().ok_or(ClientError::NoneLeft)?;
+        Ok(Client { pool: pool.clone(), producer: Some(producer) })
+    }
+
+    /// Returns the pool, and the lanes.
+    fn parts(&mut self) -> (&Shared, &mut Producer) {
+        (&self.pool, self.producer.as_mut().expect("a client has lanes until it is dropped"))
     }
 
     /// Runs `call` on one worker. If the lane is full, it sleeps until there is room.
@@ -111,8 +118,8 @@ impl Client {
     /// # Ok::<(), std::io::Error>(())
     /// ```
     pub fn detach<F: FnOnce() + Send + 'static>(&mut self, call: F) -> Result<(), Refused<F>> {
-        let Client { pool, lane, .. } = self;
-        let passed = Job::pass(Detached(call), |job| pool.submit_by_client(lane, job, true));
+        let (pool, producer) = self.parts();
+        let passed = Job::pass(Detached(call), |job| pool.submit_by_client(producer, job, true));
         passed.map_err(|(reason, Detached(call))| Refused { reason, job: call })
     }
 
@@ -138,7 +145,7 @@ impl Client {
         F: Fn(&Group<'_>) -> T + Send + Sync + 'static,
         T: Send + 'static,
     {
-        self.submit_gang(dim, call, true)
+        self.submit_gang(dim, call, Wait::Outside)
     }
 
     /// Runs `call` as a gang, as [`Client::submit`] does. It never waits.
@@ -165,16 +172,16 @@ impl Client {
         F: Fn(&Group<'_>) -> T + Send + Sync + 'static,
         T: Send + 'static,
     {
-        self.submit_gang(dim, call, false)
+        self.submit_gang(dim, call, Wait::Never)
     }
 
-    fn submit_gang<F, T>(&mut self, dim: u32, call: F, may_wait: bool) -> Result<Ticket<T>, Refused<F>>
+    fn submit_gang<F, T>(&mut self, dim: u32, call: F, wait: Wait) -> Result<Ticket<T>, Refused<F>>
     where
         F: Fn(&Group<'_>) -> T + Send + Sync + 'static,
         T: Send + 'static,
     {
-        let Client { pool, gangs, .. } = self;
-        let submit = |gang| pool.submit_gang_by(gang, may_wait, |word| gangs.submit(word, 0));
+        let (pool, Producer { place, gangs, .. }) = self.parts();
+        let submit = |gang| pool.submit_gang_by(gang, *place, wait, |word| gangs.submit(word, 0));
         submit_gang(pool, dim, call, submit)
     }
 
@@ -183,13 +190,19 @@ impl Client {
         F: FnOnce() -> T + Send + 'static,
         T: Send + 'static,
     {
-        let Client { pool, lane, .. } = self;
+        let (pool, producer) = self.parts();
         let packet = Packet::new(1, None);
         let work = One { call, promise: Promise::new(packet.clone()) };
-        match Job::pass(work, |job| pool.submit_by_client(lane, job, may_wait)) {
-            Ok(()) => Ok(Ticket { packet, pool: pool.id() }),
+        match Job::pass_awaited(work, |job| pool.submit_by_client(producer, job, may_wait)) {
+            Ok(job) => Ok(Ticket { packet, pool: pool.id(), job: Some(job) }),
             Err((reason, One { call, .. })) => Err(Refused { reason, job: call }),
         }
+    }
+}
+
+impl Drop for Client {
+    fn drop(&mut self) {
+        lock(&self.pool.producers).extend(self.producer.take());
     }
 }
 

@@ -1,60 +1,63 @@
-//! The thread of a worker, and what it keeps for itself.
+//! The thread of a pool, and what it keeps for itself.
+//!
+//! A waiting job runs on its stack only what it waits for, if that has not begun. So each job on a
+//! stack waits for the one above it, and stacks add no wait to those of the program. If there is
+//! nothing to run, the thread leaves its worker to a spare thread and sleeps. It then goes on without
+//! a worker: if it first needed one, all workers could be held by jobs that wait for this one.
 
-use crate::job::Job;
+use crate::desk::{Desk, Next};
+use crate::gang::Gang;
+use crate::job::{Awaited, Job};
+use crate::overflow::Woken;
 use crate::scope::ScopeState;
 use crate::shared::Shared;
-use cubejobs::lanes::{Finding, Found, Lane, TakeError, Worker};
+use crate::spares::{Given, Inbox, Left};
+use cubejobs::lanes::SubmitError;
 use std::cell::{Cell, RefCell};
+use std::hint::black_box;
 use std::rc::Rc;
-use std::sync::atomic::Ordering::{Relaxed, SeqCst};
+use std::sync::atomic::Ordering::Relaxed;
 use std::sync::Arc;
 use std::thread;
+use std::time::Duration;
 
-/// How many jobs in a row come from one lane, if it has them.
-const MOST_IN_A_ROW: u32 = 64;
+/// How often a thread whose job waits lets others go on, before it leaves its worker.
+const YIELDS: u32 = 16;
 
-/// How often a worker looks for a job after its last one, before it lies down.
-const LOOKS: u32 = 32;
-
-/// The most lanes that it looks at meanwhile. So a pool of many lanes has fewer looks.
-const LOOKED_LANES: u32 = 4096;
-
-/// How many waits of one thread may run jobs on top of each other. Deeper down, a job is run where
-/// it is submitted, so that the stack stays small.
-const MOST_WAITS: u32 = 16;
+/// How long a thread sleeps before it tries again what the system has refused.
+const PAUSE: Duration = Duration::from_millis(1);
 
 thread_local! {
     static CURRENT: RefCell<Option<Rc<Local>>> = const { RefCell::new(None) };
 }
 
-/// What the thread of a worker keeps for itself.
-pub(crate) struct Local {
-    pub shared: Arc<Shared>,
-    pub index: usize,
-    /// The worker, unless it was left in its bed.
-    worker: RefCell<Option<Worker<u64>>>,
-    /// Whether the worker may lie down.
-    may_lie: Cell<bool>,
-    pub lane: RefCell<Lane<u64>>,
-    /// The lane of the next job, and how many came from it in a row.
-    from: Cell<u32>,
-    in_a_row: Cell<u32>,
-    /// How often the worker still looks for a job before it lies down.
-    looks: Cell<u32>,
-    /// Whether a one-worker job goes first, since the last job was a gang.
-    is_turn_of_one: Cell<bool>,
-    pub in_gang: Cell<bool>,
-    waits: Cell<u32>,
-    /// A share of the scope whose job was the last one.
-    pub scope: RefCell<Option<Arc<ScopeState>>>,
+/// What a job waits for. The thread of the job is unparked when it is over.
+pub(crate) trait Wait {
+    fn is_over(&self) -> bool;
+
+    /// Returns a job that is part of this and has not begun.
+    fn next(&self) -> Option<Awaited>;
+
+    /// Says that a job of `next` was not begun.
+    fn put_back(&self, job: Awaited);
+
+    /// Returns whether a gang is part of this.
+    fn has(&self, gang: &Gang) -> bool;
 }
 
-/// What the thread of a worker can do.
-enum Next {
-    Job(Job),
-    Look,
-    Park,
-    End,
+/// What the thread of a pool keeps for itself.
+pub(crate) struct Local {
+    pub shared: Arc<Shared>,
+    /// The number of the thread in its pool.
+    pub number: usize,
+    inbox: Arc<Inbox>,
+    /// The desk of the worker, if the thread has one.
+    desk: RefCell<Option<Box<Desk>>>,
+    pub in_gang: Cell<bool>,
+    /// About where the stack of this thread begins.
+    stack: usize,
+    /// A share of the scope whose job was the last one.
+    pub scope: RefCell<Option<Arc<ScopeState>>>,
 }
 
 /// What the thread of a worker has done.
@@ -65,234 +68,196 @@ enum Step {
     Ended,
 }
 
-/// Returns what this thread keeps as a worker of this pool, if it is one.
+/// Returns what this thread keeps as one of this pool, if it is one.
 pub(crate) fn of(shared: &Shared) -> Option<Rc<Local>> {
-    CURRENT.with_borrow(|kept| kept.as_ref().filter(|it| it.shared.id() == shared.id()).cloned())
+    any().filter(|it| it.shared.id() == shared.id())
 }
 
-/// Returns what this thread keeps as a worker of any pool, if it is one.
+/// Returns what this thread keeps as one of any pool, if it is one. A thread that ends is none.
 pub(crate) fn any() -> Option<Rc<Local>> {
-    CURRENT.with_borrow(Option::clone)
+    CURRENT.try_with(|kept| kept.borrow().clone()).ok().flatten()
 }
 
-/// Runs other jobs until `until` holds, if this thread is a worker of the pool with this number.
-/// The thread is unparked when it holds.
+/// Returns whether this thread runs a job of a pool.
+pub(crate) fn is_worker() -> bool {
+    any().is_some()
+}
+
+/// Waits for something of the pool with this number. A thread of that pool runs parts of it that have
+/// not begun.
 ///
 /// # Panics
 ///
-/// Panics in a gang.
-pub(crate) fn help(pool: usize, until: &dyn Fn() -> bool) {
-    if let Some(local) = any().filter(|it| it.shared.id() == pool) {
-        local.help(until);
+/// Panics in a gang of the pool.
+pub(crate) fn wait(pool: usize, wait: &dyn Wait) {
+    match any() {
+        Some(local) => local.wait(pool, wait),
+        None => {
+            while !wait.is_over() {
+                thread::park();
+            }
+        }
     }
 }
 
-/// Runs another job, if this thread is a worker of the pool, and there is one.
-pub(crate) fn help_once(pool: &Shared) {
-    let Some(local) = of(pool) else { return };
-    if local.step() != Step::Ran {
-        thread::yield_now();
+/// Makes a call that waits. A thread of a pool leaves its worker meanwhile.
+pub(crate) fn asleep<R>(call: impl FnOnce() -> R) -> R {
+    let Some(local) = any() else { return call() };
+    let mut kept = None;
+    local.leave(None, &mut kept);
+    while local.has_desk() {
+        thread::sleep(PAUSE);
+        local.leave(None, &mut kept);
     }
-    while !local.get_up() {
-        local.step();
-    }
+    let result = call();
+    local.resume(kept);
+    result
 }
 
-/// Runs the thread of a worker, until the pool is closed and has no job.
-pub(crate) fn work(shared: Arc<Shared>, worker: Worker<u64>, lane: Lane<u64>, from: u32) {
-    let index = worker.number() as usize;
-    shared.beds.settle(index);
+/// Runs a thread of a pool, until the pool is closed and has no job.
+pub(crate) fn work(shared: Arc<Shared>, inbox: Arc<Inbox>, number: usize) {
+    inbox.settle();
     let local = Rc::new(Local {
         shared,
-        index,
-        worker: RefCell::new(Some(worker)),
-        may_lie: Cell::new(false),
-        lane: RefCell::new(lane),
-        from: Cell::new(from),
-        in_a_row: Cell::new(0),
-        looks: Cell::new(0),
-        is_turn_of_one: Cell::new(false),
+        number,
+        inbox,
+        desk: RefCell::new(None),
         in_gang: Cell::new(false),
-        waits: Cell::new(0),
+        stack: stack_pointer(),
         scope: RefCell::new(None),
     });
     CURRENT.set(Some(local.clone()));
-    loop {
-        match local.step() {
-            Step::Ran => {}
-            Step::NoWork => local.sleep(&|| false),
-            Step::Ended => break,
+    while let Some(given) = local.shared.spares.next(&local.shared, &local.inbox) {
+        if local.work_with(given) == Step::Ended {
+            break;
         }
     }
     CURRENT.set(None);
 }
 
-/// Counts a wait that runs jobs, while it lasts.
-struct Waiting<'a>(&'a Cell<u32>);
-
-impl<'a> Waiting<'a> {
-    fn new(waits: &'a Cell<u32>) -> Self {
-        waits.set(waits.get() + 1);
-        Waiting(waits)
-    }
-}
-
-impl Drop for Waiting<'_> {
-    fn drop(&mut self) {
-        self.0.set(self.0.get() - 1);
-    }
+/// Returns an address on the stack of this thread.
+fn stack_pointer() -> usize {
+    let mark = 0_u8;
+    std::ptr::from_ref(black_box(&mark)) as usize
 }
 
 impl Local {
-    /// Returns whether a job is to be run where it is submitted.
-    pub fn is_deep(&self) -> bool {
-        self.waits.get() >= MOST_WAITS
+    /// Works with what the thread was given, until it has no worker any more, or the pool is over.
+    fn work_with(&self, given: Given) -> Step {
+        if let Some(desk) = given.desk {
+            self.sit_down(desk);
+        }
+        if let Some(job) = given.job {
+            self.run(job.into_job());
+        }
+        while self.has_desk() {
+            match self.step() {
+                Step::Ran => {}
+                Step::NoWork => self.sleep(),
+                Step::Ended => {
+                    self.shared.spares.end();
+                    return Step::Ended;
+                }
+            }
+        }
+        Step::Ran
     }
 
+    fn sit_down(&self, desk: Box<Desk>) {
+        self.shared.beds.settle(desk.index);
+        self.desk.replace(Some(desk));
+    }
+
+    fn has_desk(&self) -> bool {
+        self.desk.borrow().is_some()
+    }
+
+    /// Makes a call with the desk, if the thread has one. The call runs no job.
+    fn with_desk<R>(&self, call: impl FnOnce(&mut Desk, &Shared) -> R) -> Option<R> {
+        self.desk.borrow_mut().as_mut().map(|desk| call(desk, &self.shared))
+    }
+
+    /// Returns whether a gang has called the worker of this thread.
     fn is_called(&self) -> bool {
-        self.shared.seats[self.index].is_called.load(SeqCst)
+        self.with_desk(|desk, shared| shared.seats[desk.index].is_called()).unwrap_or(false)
     }
 
     /// Runs a job, or this worker's part of a gang, if there is one.
     fn step(&self) -> Step {
         let is_called = self.is_called();
-        if is_called {
-            if self.is_turn_of_one.take() {
-                if let Some(job) = self.take_awake() {
-                    self.run(job);
-                    return Step::Ran;
-                }
-            }
-            if self.get_up() {
-                self.serve();
-                return Step::Ran;
-            }
+        if is_called && self.serve_or_run_one() {
+            return Step::Ran;
         }
         match self.find() {
-            Next::Job(job) => {
+            Some(Next::Job(job)) => {
                 self.run(job);
                 Step::Ran
             }
-            Next::Look => Step::Ran,
-            Next::Park if is_called => Step::Ran,
-            Next::Park => Step::NoWork,
-            Next::End => Step::Ended,
+            Some(Next::Park) if !is_called => Step::NoWork,
+            Some(Next::End) => Step::Ended,
+            _ => Step::Ran,
         }
     }
 
+    /// Runs this worker's part of the gang that has called it, or a one-worker job whose turn it is.
+    /// Returns whether it did: not if the worker was woken, and has to search for a job.
+    fn serve_or_run_one(&self) -> bool {
+        let take = |desk: &mut Desk, shared: &Shared| {
+            let is_turn = std::mem::take(&mut desk.is_turn_of_one);
+            if is_turn { desk.take_awake(shared) } else { None }
+        };
+        if let Some(job) = self.with_desk(take).flatten() {
+            self.run(job);
+            return true;
+        }
+        let is_up = self.with_desk(Desk::get_up).unwrap_or(false);
+        if is_up {
+            self.serve();
+        }
+        is_up
+    }
+
     fn run(&self, job: Job) {
-        self.is_turn_of_one.set(false);
+        self.with_desk(Desk::begins);
         self.shared.begin(job);
-        self.looks.set(LOOKS.min(LOOKED_LANES / self.shared.lane_count));
     }
 
     fn serve(&self) {
+        let Some(index) = self.with_desk(|desk, _| desk.index) else { return };
         self.in_gang.set(true);
-        self.shared.serve(self.index);
+        self.shared.serve(index);
         self.in_gang.set(false);
-        self.is_turn_of_one.set(true);
-        // A look lets other threads go on, and the next gang would wait for this worker.
-        self.looks.set(0);
-    }
-
-    fn with_worker<R>(&self, call: impl FnOnce(&mut Worker<u64>) -> R) -> R {
-        let mut kept = self.worker.borrow_mut();
-        call(kept.get_or_insert_with(|| self.shared.beds.get_back(self.index)))
+        self.with_desk(|desk, _| {
+            desk.is_turn_of_one = true;
+            // A look lets other threads go on, and the next gang would wait for this worker.
+            desk.looks = 0;
+        });
     }
 
     /// Finds a job in the lanes. If there is none, has the worker look again, or lie down.
     ///
     /// A submit wakes a worker that lies down, which takes longer than many jobs. It may also take
     /// the processor from the thread that submits. So a worker looks some times before.
-    fn find(&self) -> Next {
-        let looks = self.looks.get();
-        if looks == 0 || self.may_lie.get() {
-            return self.find_or_lie_down();
-        }
-        if let Some(job) = self.take_awake() {
-            return Next::Job(job);
-        }
-        self.looks.set(looks - 1);
-        self.idle(thread::yield_now);
-        Next::Look
-    }
-
-    /// Finds a job in the lanes, or has the worker lie down.
-    fn find_or_lie_down(&self) -> Next {
-        loop {
-            let from = self.first_lane();
-            let Finding { found, woken } = self.with_worker(|worker| worker.find(from));
-            self.shared.rouse(woken);
-            self.may_lie.set(matches!(found, Found::Park | Found::Again));
-            match found {
-                Found::Job(job) => {
-                    self.took(job.lane);
-                    return Next::Job(Job::taken(job));
-                }
-                Found::Park => return Next::Park,
-                Found::Ended => return Next::End,
-                Found::Again => {}
+    fn find(&self) -> Option<Next> {
+        let look = |desk: &mut Desk, shared: &Shared| {
+            if desk.looks == 0 || desk.may_lie {
+                return Some(desk.find_or_lie_down(shared));
             }
+            desk.looks -= 1;
+            desk.take_awake(shared).map(Next::Job)
+        };
+        let found = self.with_desk(look)?;
+        if found.is_none() {
+            self.idle(thread::yield_now);
         }
+        found
     }
 
-    /// Takes a job, unless the worker lies down.
-    fn take_awake(&self) -> Option<Job> {
-        let from = self.first_lane();
-        let taken = self.with_worker(|worker| worker.take_any(from));
-        self.may_lie.set(taken == Err(TakeError::Asleep));
-        let job = taken.ok()?;
-        self.took(job.lane);
-        Some(Job::taken(job))
-    }
-
-    /// Returns the lane at which a search begins. Jobs that have come back go first.
-    fn first_lane(&self) -> u32 {
-        if self.shared.beds.has_returned() {
-            0
-        } else {
-            self.from.get()
-        }
-    }
-
-    /// Sees to the lanes after a job of this lane was taken.
-    fn took(&self, lane: u32) {
-        let had_returned = self.shared.beds.count_taken(lane);
-        if self.shared.room.is_wanted() {
-            let jobs = self.with_worker(|worker| worker.look(lane)).unwrap_or(0);
-            self.shared.room.made(jobs);
-        }
-        if had_returned {
-            return;
-        }
-        let in_a_row = if lane == self.from.get() { self.in_a_row.get() + 1 } else { 1 };
-        let goes_on = in_a_row >= MOST_IN_A_ROW;
-        self.from.set((lane + u32::from(goes_on)) % self.shared.lane_count);
-        self.in_a_row.set(if goes_on { 0 } else { in_a_row });
-    }
-
-    /// Gets the worker up, or leaves it in its bed if it lies down. Returns whether it did: not if
-    /// the worker was woken, and has to search for a job.
-    fn get_up(&self) -> bool {
-        if !self.may_lie.get() {
-            return true;
-        }
-        let Some(worker) = self.worker.take() else { return true };
-        let back = self.shared.beds.leave(self.index, worker);
-        let is_left = back.is_none();
-        self.worker.replace(back);
-        self.may_lie.set(is_left);
-        is_left
-    }
-
-    fn is_awake(&self) -> bool {
-        self.worker.borrow_mut().as_mut().is_none_or(Worker::awake)
-    }
-
-    /// Sleeps while the worker lies down, until it is woken or called, or `until` holds.
-    fn sleep(&self, until: &dyn Fn() -> bool) {
+    /// Sleeps while the worker lies down, until it is woken or called.
+    fn sleep(&self) {
+        let is_awake = || self.with_desk(|desk, _| desk.is_awake()).unwrap_or(true);
         self.idle(|| {
-            while !self.is_called() && !until() && !self.is_awake() {
+            while !self.is_called() && !is_awake() {
                 thread::park();
             }
         });
@@ -300,36 +265,112 @@ impl Local {
 
     /// Makes a call during which the worker has no work.
     fn idle(&self, call: impl FnOnce()) {
-        let seat = &self.shared.seats[self.index];
+        let Some(index) = self.with_desk(|desk, _| desk.index) else { return call() };
+        let seat = &self.shared.seats[index];
         seat.is_idle.store(true, Relaxed);
         call();
         seat.is_idle.store(false, Relaxed);
     }
 
-    /// Runs other jobs until `until` holds. The thread is unparked when it holds.
-    fn help(&self, until: &dyn Fn() -> bool) {
+    /// Submits a job to the lane of the worker, or to that of the overflow if the thread has none.
+    /// Returns the workers that this has woken, or the job if the lane is full.
+    pub fn try_submit(&self, job: Job) -> Result<Woken, (SubmitError, Job)> {
+        match &mut *self.desk.borrow_mut() {
+            Some(desk) => desk.submit(&self.shared, job).map(Woken::from_iter),
+            None => self.shared.overflow.try_push(job),
+        }
+    }
+
+    /// Waits until this is over. If it is of this pool, runs parts of it that have not begun.
+    fn wait(&self, pool: usize, wait: &dyn Wait) {
+        let is_own = self.shared.id() == pool;
         assert!(
-            !self.in_gang.get(),
+            !(is_own && self.in_gang.get()),
             "a member of a gang waits for a job of its own pool: the pool could stand still"
         );
-        let _waiting = Waiting::new(&self.waits);
-        let own = self.shared.lane_of_worker(self.index);
-        while !until() {
-            // The jobs that it waits for are often in its own lane. If it took others first, waits
-            // would pile up.
-            self.from.set(own);
-            match self.step() {
-                Step::Ran => {}
-                Step::NoWork => self.sleep(until),
-                Step::Ended => {
-                    while !until() {
-                        thread::park();
-                    }
-                }
+        let (mut yields, mut kept) = (0, None);
+        while !wait.is_over() {
+            if is_own && self.run_part(wait, &mut kept) {
+                continue;
+            }
+            if self.has_desk() && yields < YIELDS {
+                yields += 1;
+                thread::yield_now();
+            } else {
+                self.leave(None, &mut kept);
+                self.park(wait, kept);
             }
         }
-        while !self.get_up() {
-            self.step();
+        self.resume(kept);
+    }
+
+    /// Runs a part of what the job waits for, or has a spare run it if this stack is half used. Returns
+    /// whether this thread did.
+    fn run_part(&self, wait: &dyn Wait, kept: &mut Option<usize>) -> bool {
+        let has_stack = self.stack.abs_diff(stack_pointer()) < self.shared.spares.half_stack();
+        if has_stack && self.is_called_for(wait) && self.with_desk(Desk::get_up) == Some(true) {
+            self.serve();
+            return true;
+        }
+        let Some(job) = wait.next() else { return false };
+        if has_stack {
+            self.with_desk(|desk, _| desk.begun_early += 1);
+            self.run(job.into_job());
+            return true;
+        }
+        let refused = match self.has_desk() {
+            true => self.leave(Some(job), kept),
+            false => self.shared.spares.pass_on(&self.shared, job).err(),
+        };
+        if let Some(job) = refused {
+            wait.put_back(job);
+        }
+        false
+    }
+
+    /// Returns whether this thread's worker is a member of a gang that the job waits for.
+    fn is_called_for(&self, wait: &dyn Wait) -> bool {
+        let is_awaited = |desk: &mut Desk, shared: &Shared| {
+            shared.seats[desk.index].has_mail(|gang| wait.has(gang))
+        };
+        self.is_called() && self.with_desk(is_awaited) == Some(true)
+    }
+
+    /// Leaves the worker, if the thread has one. A spare that gets it runs this job first. Returns the
+    /// job if no spare does, and sets the number of a worker that is kept.
+    fn leave(&self, job: Option<Awaited>, kept: &mut Option<usize>) -> Option<Awaited> {
+        let Some(desk) = self.desk.take() else { return job };
+        match self.shared.spares.leave(&self.shared, desk, job) {
+            Left::Given => None,
+            Left::Kept(index, job) => {
+                *kept = Some(index);
+                job
+            }
+            Left::Refused(given) => {
+                self.desk.replace(given.desk);
+                given.job
+            }
+        }
+    }
+
+    /// Sleeps until this thread is unparked, or for a while if the system has refused a thread.
+    fn park(&self, wait: &dyn Wait, kept: Option<usize>) {
+        if wait.is_over() {
+            return;
+        }
+        if !self.has_desk() && !self.shared.spares.has_failed() {
+            return thread::park();
+        }
+        thread::park_timeout(PAUSE);
+        if let Some(index) = kept.filter(|index| self.shared.seats[*index].is_called()) {
+            self.shared.spares.serve(&self.shared, index);
+        }
+    }
+
+    /// Takes back a worker that was kept, unless another thread has it.
+    fn resume(&self, kept: Option<usize>) {
+        if let Some(desk) = kept.and_then(|index| self.shared.spares.get_back(&self.shared, index)) {
+            self.sit_down(desk);
         }
     }
 }

@@ -23,8 +23,17 @@ pub(crate) type End = Box<dyn FnOnce(Option<Payload>) + Send>;
 /// The payload by which a member is unwound because another one has panicked.
 pub(crate) struct Freed;
 
+/// What a gang is part of: its ticket, and a scope or 0. These are addresses that others do not have
+/// meanwhile.
+#[derive(Clone, Copy, Default)]
+pub(crate) struct Owners {
+    pub ticket: usize,
+    pub scope: usize,
+}
+
 pub(crate) struct Gang {
     pub dim: u32,
+    pub owners: Owners,
     /// The first worker of the block, once there is one.
     pub base: AtomicUsize,
     block: Mutex<Option<Held>>,
@@ -47,9 +56,10 @@ pub(crate) struct Gang {
 }
 
 impl Gang {
-    pub fn new(dim: u32, body: Body, end: End) -> Self {
+    pub fn new(dim: u32, owners: Owners, body: Body, end: End) -> Self {
         Gang {
             dim,
+            owners,
             base: AtomicUsize::new(0),
             block: Mutex::new(None),
             body: Mutex::new(Some(body)),

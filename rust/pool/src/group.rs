@@ -306,7 +306,7 @@ impl<'a> Group<'a> {
     fn wake(&self, place: usize) {
         let seat = self.seat(place);
         if seat.is_asleep.load(SeqCst) && seat.is_asleep.swap(false, SeqCst) {
-            self.pool.beds.unpark(place);
+            seat.unpark();
         }
     }
 

@@ -6,12 +6,14 @@ mod beds;
 mod client;
 mod collective;
 mod current;
+mod desk;
 mod error;
 mod gang;
 mod group;
 #[allow(unsafe_code)] // a job is one word
 mod job;
 mod outside;
+mod overflow;
 mod placer;
 mod pool;
 mod room;
@@ -19,6 +21,7 @@ mod room;
 mod scope;
 mod seat;
 mod shared;
+mod spares;
 mod ticket;
 mod util;
 

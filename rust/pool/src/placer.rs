@@ -6,6 +6,7 @@
 //! its free parts are taken and joined, until the block is whole.
 
 use crate::gang::Gang;
+use crate::room::Room;
 use crate::seat::Seat;
 use crate::util::Padded;
 use cubejobs::lanes::Worker;
@@ -46,34 +47,35 @@ impl Placer {
         Placer { machine, size, taker, lanes, from: 0, waiting, passed: 0, reserve: None }
     }
 
-    /// Takes a gang from the lanes, if there is room for one more that waits.
-    fn take(&mut self) -> Option<Arc<Gang>> {
+    /// Takes a gang from the lanes, if there is room for one more that waits. Each lane has its room.
+    fn take(&mut self, rooms: &[Padded<Room>]) -> Option<Arc<Gang>> {
         if self.waiting.len() >= self.size {
             return None;
         }
         // A thread that submits a gang during this call places gangs afterwards.
         let job = self.taker.take_any(self.from).ok()?;
         self.from = (job.lane + 1) % self.lanes;
+        rooms[job.lane as usize].made();
         Some(Arc::new(*job.payload))
     }
 
     /// Takes all gangs that have not begun, and gives up what is reserved for them.
-    pub fn give_up(&mut self) -> Vec<Arc<Gang>> {
+    pub fn give_up(&mut self, rooms: &[Padded<Room>]) -> Vec<Arc<Gang>> {
         self.reserve = None;
         let mut all: Vec<_> = self.waiting.drain(..).collect();
-        while let Some(gang) = self.take() {
+        while let Some(gang) = self.take(rooms) {
             all.push(gang);
         }
         all
     }
 
     /// Gives blocks to gangs. Returns those that begin now.
-    pub fn place(&mut self, seats: &[Padded<Seat>]) -> Vec<Arc<Gang>> {
+    pub fn place(&mut self, seats: &[Padded<Seat>], rooms: &[Padded<Room>]) -> Vec<Arc<Gang>> {
         let mut ready = Vec::new();
         if self.waiting.is_empty() {
-            self.place_new(seats, &mut ready);
+            self.place_new(seats, rooms, &mut ready);
         }
-        while let Some(gang) = self.take() {
+        while let Some(gang) = self.take(rooms) {
             self.waiting.push_back(gang);
         }
         while self.place_oldest(seats, &mut ready) {}
@@ -86,8 +88,8 @@ impl Placer {
     }
 
     /// Places gangs that come while none waits.
-    fn place_new(&mut self, seats: &[Padded<Seat>], ready: &mut Vec<Arc<Gang>>) {
-        while let Some(gang) = self.take() {
+    fn place_new(&mut self, seats: &[Padded<Seat>], rooms: &[Padded<Room>], ready: &mut Vec<Arc<Gang>>) {
+        while let Some(gang) = self.take(rooms) {
             match self.block(gang.dim, seats) {
                 Some(block) => ready.push(placed(gang, block, seats)),
                 None => {
@@ -241,6 +243,7 @@ fn join_parts(parts: &mut Vec<Held>) {
 #[cfg(test)]
 mod tests {
     use super::*;
+    use crate::gang::Owners;
     use cubejobs::lanes::{Lane, Lanes, Sizes};
 
     const DIM: u32 = 3;
@@ -251,6 +254,7 @@ mod tests {
         _lanes: Lanes<Box<Gang>>,
         lane: Lane<Box<Gang>>,
         seats: Vec<Padded<Seat>>,
+        rooms: Vec<Padded<Room>>,
         running: VecDeque<Arc<Gang>>,
     }
 
@@ -260,20 +264,21 @@ mod tests {
             let placer = Placer::new(Machine::new(DIM).unwrap(), lanes.worker().unwrap(), 1);
             let seats = (0..1 << DIM).map(|_| Seat::new(DIM)).collect();
             let lane = lanes.lane().unwrap();
-            Stage { placer, _lanes: lanes, lane, seats, running: VecDeque::new() }
+            let rooms = vec![Padded::default()];
+            Stage { placer, _lanes: lanes, lane, seats, rooms, running: VecDeque::new() }
         }
 
         /// Submits gangs of this dimension.
         fn submit(&mut self, dim: u32, count: usize) {
             for _ in 0..count {
-                let gang = Gang::new(dim, Arc::new(|_| ()), Box::new(|_| ()));
+                let gang = Gang::new(dim, Owners::default(), Arc::new(|_| ()), Box::new(|_| ()));
                 assert!(self.lane.submit(Box::new(gang), 0).is_ok());
             }
         }
 
         /// Places gangs. Returns the dimensions of those that begin.
         fn place(&mut self) -> Vec<u32> {
-            let ready = self.placer.place(&self.seats);
+            let ready = self.placer.place(&self.seats, &self.rooms);
             let dims = ready.iter().map(|gang| gang.dim).collect();
             self.running.extend(ready);
             let blocks: Vec<_> =
@@ -347,7 +352,7 @@ mod tests {
         stage.submit(0, 9);
         (0..10).for_each(|_| drop(stage.end_one()));
         assert!(stage.placer.reserve.is_some());
-        let waiting = stage.placer.give_up().len();
+        let waiting = stage.placer.give_up(&stage.rooms).len();
         assert_eq!(waiting + stage.running.len() + 10, 20);
         while !stage.running.is_empty() {
             stage.end_one();

@@ -1,29 +1,32 @@
 //! The pool.
 
-use crate::beds::{self, Beds};
-use crate::client::Client;
+use crate::beds::Beds;
+use crate::client::{Client, Producer};
 use crate::current;
+use crate::desk::Desk;
 use crate::error::{ClientError, Reason, Refused};
-use crate::gang::{self, Gang};
+use crate::gang::{self, Gang, Owners};
 use crate::group::Group;
 use crate::job::{Job, Work};
-use crate::outside::{GangWord, Outside};
+use crate::outside::Outside;
+use crate::overflow::Overflow;
 use crate::placer::Placer;
-use crate::room::Room;
 use crate::scope::{self, Scope};
 use crate::seat::Seat;
-use crate::shared::{Looks, Shared};
+use crate::shared::{GangWord, Looks, Shared, Wait};
+use crate::spares::{Settings, Spares};
 use crate::ticket::{Packet, Promise, Ticket};
 use crate::util::{drop_quietly, Padded};
-use cubejobs::lanes::{self, Lane, Lanes, Payload, SharedLane, Sizes, Worker, MAX_CAPACITY};
+use cubejobs::lanes::{self, Lane, Lanes, Payload, Sizes, Worker, MAX_CAPACITY};
 use cubejobs::regions::Machine;
+use std::env;
 use std::fmt;
 use std::io;
 use std::num::NonZero;
 use std::panic::{catch_unwind, AssertUnwindSafe};
 use std::sync::atomic::AtomicBool;
 use std::sync::{Arc, Mutex};
-use std::thread::{self, JoinHandle};
+use std::thread;
 use std::time::Duration;
 
 /// The largest pool has `2^MAX_WORKERS_LOG2` workers.
@@ -44,10 +47,16 @@ pub const MAX_WORKERS_LOG2: u32 = 10;
 /// ```
 pub const MAX_LANES: u32 = 1024;
 
-// Jobs that come back have at most one lane for each worker, and each worker has one. The others are
-// those that threads share, and those of clients.
+// Each worker has a lane. The others are that of the jobs that come back, that of the overflow, those
+// that threads share, and those of clients.
 const _: () = assert!((1 << MAX_WORKERS_LOG2) <= lanes::MAX_WORKERS);
-const _: () = assert!(2 * (1 << MAX_WORKERS_LOG2) + 2 * MAX_LANES <= lanes::MAX_LANES);
+const _: () = assert!(2 + (1 << MAX_WORKERS_LOG2) + 2 * MAX_LANES <= lanes::MAX_LANES);
+
+/// The bytes of a thread's stack, unless the builder or the variable `RUST_MIN_STACK` says otherwise.
+const STACK_SIZE: usize = 2 << 20;
+
+/// The most spare threads, unless [`Builder::max_threads`] says otherwise.
+const MAX_THREADS: usize = 256;
 
 /// How a member looks before it sleeps, unless [`Builder::looks`] says otherwise. A long look takes
 /// more time than a wake.
@@ -69,6 +78,7 @@ pub struct Builder {
     shared_lanes: u32,
     client_lanes: u32,
     looks: Option<u32>,
+    settings: Settings,
 }
 
 /// Threads for jobs that take one worker, or an aligned group of `2^k` workers.
@@ -83,12 +93,12 @@ pub struct Builder {
 /// ```
 pub struct Pool {
     shared: Arc<Shared>,
-    threads: Vec<JoinHandle<()>>,
 }
 
 impl Builder {
-    /// Sets the number of workers to `2^dim`. The dimension is at most [`MAX_WORKERS_LOG2`]. There
-    /// are 4 workers without this call.
+    /// Sets the number of workers to `2^dim`. The dimension is at most [`MAX_WORKERS_LOG2`]. Without
+    /// this call the number is the largest power of two that is at most
+    /// [`available_parallelism`](std::thread::available_parallelism).
     ///
     /// ```
     /// let pool = cubejobs_pool::Pool::builder().workers_log2(0).build()?;
@@ -155,6 +165,74 @@ impl Builder {
         self
     }
 
+    /// Sets how many spare threads there may be besides the workers. There may be 256 without this
+    /// call.
+    ///
+    /// A spare gets the worker of a job that waits. If there is none left, the job keeps its worker
+    /// while it sleeps. Some spares may come in any case: for the last worker that is awake, and for one
+    /// that a gang calls. Half of the number is for jobs that wait on a stack which is half used.
+    ///
+    /// ```
+    /// use std::sync::Arc;
+    ///
+    /// let pool = Arc::new(cubejobs_pool::Pool::builder().max_threads(2).build()?);
+    /// let inner = pool.clone();
+    /// let job = pool.spawn(move || inner.spawn(|| 7).join().unwrap());
+    /// assert_eq!(job.join().unwrap(), 7);
+    /// # Ok::<(), std::io::Error>(())
+    /// ```
+    pub fn max_threads(mut self, spares: usize) -> Self {
+        self.settings.max_threads = spares;
+        self
+    }
+
+    /// Sets the size of the stack of each thread, in bytes. A job has at least half of it. Without this
+    /// call it is 2 MiB, or the number in the environment variable `RUST_MIN_STACK`.
+    ///
+    /// ```
+    /// let pool = cubejobs_pool::Pool::builder().stack_size(16 << 20).build()?;
+    /// let length = pool.spawn(|| std::hint::black_box([7_u8; 8 << 20]).len());
+    /// assert_eq!(length.join().unwrap(), 8 << 20);
+    /// # Ok::<(), std::io::Error>(())
+    /// ```
+    pub fn stack_size(mut self, bytes: usize) -> Self {
+        self.settings.stack_size = bytes;
+        self
+    }
+
+    /// Sets the names of the threads. The call gets the number of a thread: workers begin with the
+    /// numbers from 0 on, and spares have the numbers after them. Without this call the name of thread
+    /// 0 is `gang-0`. If the call panics, the name is empty.
+    ///
+    /// ```
+    /// let builder = cubejobs_pool::Pool::builder().workers_log2(0);
+    /// let pool = builder.thread_name(|number| format!("mine-{number}")).build()?;
+    /// let name = pool.spawn(|| std::thread::current().name().map(String::from));
+    /// assert_eq!(name.join().unwrap().as_deref(), Some("mine-0"));
+    /// # Ok::<(), std::io::Error>(())
+    /// ```
+    pub fn thread_name(mut self, name: impl Fn(usize) -> String + Send + Sync + 'static) -> Self {
+        self.settings.name = Arc::new(name);
+        self
+    }
+
+    /// Sets a call that each thread makes when it starts, with its number as in
+    /// [`Builder::thread_name`]. A panic of the call is caught.
+    ///
+    /// ```
+    /// use std::sync::atomic::{AtomicUsize, Ordering::SeqCst};
+    ///
+    /// static STARTED: AtomicUsize = AtomicUsize::new(0);
+    /// let builder = cubejobs_pool::Pool::builder().workers_log2(1);
+    /// builder.start_handler(|_| drop(STARTED.fetch_add(1, SeqCst))).build()?.close();
+    /// assert_eq!(STARTED.load(SeqCst), 2);
+    /// # Ok::<(), std::io::Error>(())
+    /// ```
+    pub fn start_handler(mut self, call: impl Fn(usize) + Send + Sync + 'static) -> Self {
+        self.settings.start = Arc::new(call);
+        self
+    }
+
     /// Makes the pool, and starts its threads.
     ///
     /// # Errors
@@ -175,37 +253,45 @@ impl Builder {
     pub fn build(self) -> io::Result<Pool> {
         self.check()?;
         let size = 1 << self.dim;
-        let first_own = beds::lanes_for(size, self.capacity) + self.shared_lanes;
-        let lane_count = first_own + size + self.client_lanes;
+        let common = self.shared_lanes + self.client_lanes;
+        let first_own = 2 + common;
+        let lane_count = first_own + size;
         let ones = self.open(lane_count, size)?;
-        let gang_lanes = self.shared_lanes + self.client_lanes;
-        let gangs = self.open(gang_lanes, 1)?;
-        // Lanes are dealt out in the order of their numbers.
-        let returned = (self.shared_lanes..first_own).map(|_| lane(&ones)).collect::<io::Result<_>>()?;
-        let beds = Beds::new(size as usize, returned);
-        let shared = self.shared_lanes;
-        let outside = Outside { ones: shared_lanes(&ones, shared)?, gangs: shared_lanes(&gangs, shared)? };
-        // Workers are dealt out in the order of their numbers too.
-        let workers = (0..size).map(|_| worker(&ones)).collect::<io::Result<_>>()?;
+        let gangs = self.open(common, 1)?;
+        // Lanes and workers are dealt out in the order of their numbers.
+        let returned = Overflow::new(lane(&ones)?, 0, self.capacity);
+        let overflow = Overflow::new(lane(&ones)?, 1, self.capacity);
+        let outside_ones = Outside::new(dealt(self.shared_lanes, || lane(&ones))?);
+        let outside_gangs = Outside::new(dealt(self.shared_lanes, || lane(&gangs))?);
+        let producers = (self.shared_lanes..common).map(|place| producer(&ones, &gangs, place));
+        let producers = producers.collect::<io::Result<Vec<_>>>()?;
+        let desks = (first_own..lane_count).map(|own| desk(&ones, own)).collect::<io::Result<Vec<_>>>()?;
         let machine = Machine::new(self.dim).map_err(|_| no_memory())?;
-        let placer = Placer::new(machine, worker(&gangs)?, gang_lanes);
-        let shared = Shared {
+        let placer = Placer::new(machine, worker(&gangs)?, common);
+        let looks = self.all_looks();
+        let shared = Arc::new_cyclic(|me| Shared {
+            me: me.clone(),
             dim: self.dim,
             ones,
             gangs,
-            outside,
+            outside_ones,
+            outside_gangs,
+            producers: Mutex::new(producers),
+            overflow,
             lane_count,
             first_own,
-            beds,
+            rooms: (0..common).map(|_| Padded::default()).collect(),
+            gang_rooms: (0..common).map(|_| Padded::default()).collect(),
+            beds: Beds::new(size as usize, returned),
             seats: (0..size).map(|_| Seat::new(self.dim)).collect(),
+            spares: Spares::new(size as usize, self.settings),
             placer: Mutex::new(placer),
-            room: Room::new(self.capacity),
             live: Padded::default(),
             is_closed: AtomicBool::new(false),
             is_cancelled: AtomicBool::new(false),
-            looks: self.all_looks(),
-        };
-        started(Arc::new(shared), workers)
+            looks,
+        });
+        started(shared, desks)
     }
 
     fn all_looks(&self) -> Looks {
@@ -251,22 +337,38 @@ fn worker<P: Payload>(lanes: &Lanes<P>) -> io::Result<Worker<P>> {
     lanes.worker().map_err(|_| no_memory())
 }
 
-fn shared_lanes<P: Payload>(lanes: &Lanes<P>, count: u32) -> io::Result<Vec<Mutex<SharedLane<P>>>> {
-    let shared = |_| lane(lanes)?.into_shared().map(Mutex::new).map_err(|_| no_memory());
-    (0..count).map(shared).collect()
+/// Returns this number of handles that a call deals out.
+fn dealt<T>(count: u32, mut deal: impl FnMut() -> io::Result<T>) -> io::Result<Vec<T>> {
+    (0..count).map(|_| deal()).collect()
 }
 
-/// Starts the threads of a pool. If one cannot be started, the others end.
-fn started(shared: Arc<Shared>, workers: Vec<Worker<u64>>) -> io::Result<Pool> {
-    let mut pool = Pool { shared, threads: Vec::new() };
-    for (index, worker) in workers.into_iter().enumerate() {
-        let shared = pool.shared.clone();
-        let lane = lane(&shared.ones)?;
-        let own = shared.lane_of_worker(index);
-        let thread = thread::Builder::new().name(format!("gang-{index}"));
-        pool.threads.push(thread.spawn(move || current::work(shared, worker, lane, own))?);
+fn producer(ones: &Lanes<u64>, gangs: &Lanes<GangWord>, place: u32) -> io::Result<Producer> {
+    Ok(Producer { place: place as usize, ones: lane(ones)?, gangs: lane(gangs)? })
+}
+
+fn desk(ones: &Lanes<u64>, own: u32) -> io::Result<Desk> {
+    Ok(Desk::new(worker(ones)?, lane(ones)?, own))
+}
+
+/// Starts the first threads of a pool. If one cannot be started, the others end.
+fn started(shared: Arc<Shared>, desks: Vec<Desk>) -> io::Result<Pool> {
+    let pool = Pool { shared };
+    for desk in desks {
+        pool.shared.spares.start_worker(&pool.shared, desk)?;
     }
     Ok(pool)
+}
+
+/// Returns the size of a thread's stack if the builder sets none.
+fn stack_size() -> usize {
+    let set = env::var("RUST_MIN_STACK").ok().and_then(|bytes| bytes.parse().ok());
+    set.unwrap_or(STACK_SIZE)
+}
+
+/// Returns the dimension of a pool if the builder sets none.
+fn default_dim() -> u32 {
+    let processors = thread::available_parallelism().map_or(1, NonZero::get);
+    processors.ilog2().min(MAX_WORKERS_LOG2)
 }
 
 /// A one-worker job with a ticket.
@@ -278,6 +380,7 @@ pub(crate) struct One<F, T> {
 impl<F: FnOnce() -> T + Send, T: Send> Work for One<F, T> {
     fn run(self) {
         let One { call, promise } = self;
+        promise.begin();
         promise.keep(catch_unwind(AssertUnwindSafe(call)));
     }
 }
@@ -313,22 +416,30 @@ where
     let (ours, ends) = (packet.clone(), packet.clone());
     let body = move |group: &Group<'_>| ours.keep(group.rank(), call(group));
     let end = move |panic| ends.end(panic);
-    match submit(Gang::new(dim, Arc::new(body), Box::new(end))) {
-        Ok(()) => Ok(Ticket { packet, pool: shared.id() }),
+    let owners = Owners { ticket: packet.address(), scope: 0 };
+    match submit(Gang::new(dim, owners, Arc::new(body), Box::new(end))) {
+        Ok(()) => Ok(Ticket { packet, pool: shared.id(), job: None }),
         Err((reason, gang)) => Err(Refused { reason, job: gang::closure(gang, &weak) }),
     }
 }
 
 impl Pool {
-    /// Returns what makes a pool. It has 4 workers unless you say otherwise.
+    /// Returns what makes a pool.
     ///
     /// ```
-    /// # let pool = cubejobs_pool::Pool::builder().build()?;
+    /// let pool = cubejobs_pool::Pool::builder().workers_log2(2).build()?;
     /// assert_eq!(pool.workers(), 4);
     /// # Ok::<(), std::io::Error>(())
     /// ```
     pub fn builder() -> Builder {
-        Builder { dim: 2, capacity: MAX_CAPACITY, shared_lanes: 4, client_lanes: 4, looks: None }
+        let settings = Settings {
+            max_threads: MAX_THREADS,
+            stack_size: stack_size(),
+            name: Arc::new(|number| format!("gang-{number}")),
+            start: Arc::new(|_| ()),
+        };
+        let (capacity, dim) = (MAX_CAPACITY, default_dim());
+        Builder { dim, capacity, shared_lanes: 4, client_lanes: 4, looks: None, settings }
     }
 
     /// Returns the number of workers.
@@ -353,8 +464,8 @@ impl Pool {
         self.shared.dim
     }
 
-    /// Runs `call` on one worker. If the lane is full, a worker of this pool runs it at once, and
-    /// another thread sleeps until there is room.
+    /// Runs `call` on one worker. If the lane is full, the job of a worker of any pool goes to a queue
+    /// without a limit, and another thread sleeps until there is room.
     ///
     /// ```
     /// # let pool = cubejobs_pool::Pool::builder().build()?;
@@ -377,10 +488,10 @@ impl Pool {
         T: Send + 'static,
     {
         let packet = Packet::new(1, None);
-        let work = One { call, promise: Promise::new(packet.clone()) };
+        let (job, awaited) = Job::awaited(One { call, promise: Promise::new(packet.clone()) });
         // A pool that is closed has no owner that could call this.
-        assert!(self.shared.submit_one(Job::new(work)).is_ok(), "{}", Reason::Closed);
-        Ticket { packet, pool: self.shared.id() }
+        assert!(self.shared.submit_one(job).is_ok(), "{}", Reason::Closed);
+        Ticket { packet, pool: self.shared.id(), job: Some(awaited) }
     }
 
     /// Runs `call` on one worker, as [`Pool::spawn`] does. It never waits.
@@ -402,8 +513,8 @@ impl Pool {
     {
         let packet = Packet::new(1, None);
         let work = One { call, promise: Promise::new(packet.clone()) };
-        match Job::pass(work, |job| self.shared.try_submit_one(job)) {
-            Ok(()) => Ok(Ticket { packet, pool: self.shared.id() }),
+        match Job::pass_awaited(work, |job| self.shared.try_submit_one(job)) {
+            Ok(job) => Ok(Ticket { packet, pool: self.shared.id(), job: Some(job) }),
             Err((reason, One { call, .. })) => Err(Refused { reason, job: call }),
         }
     }
@@ -427,11 +538,11 @@ impl Pool {
     ///
     /// The gang has its workers for itself. They come as their jobs end, and the first call to the
     /// others waits for those that are late. If the lane of gangs is full, a thread that is no
-    /// worker of the pool sleeps until there is room.
+    /// worker of a pool sleeps until there is room.
     ///
     /// # Errors
     ///
-    /// The reason is `TooWide`, or `Full` at a worker of the pool. The closure comes back.
+    /// The reason is `TooWide`, or `Full` at a worker of any pool. The closure comes back.
     ///
     /// ```
     /// # let pool = cubejobs_pool::Pool::builder().build()?;
@@ -444,7 +555,7 @@ impl Pool {
         F: Fn(&Group<'_>) -> T + Send + Sync + 'static,
         T: Send + 'static,
     {
-        self.submit_gang(dim, call, true)
+        self.submit_gang(dim, call, Wait::Outside)
     }
 
     /// Runs `call` as a gang, as [`Pool::submit`] does. It never waits.
@@ -464,15 +575,15 @@ impl Pool {
         F: Fn(&Group<'_>) -> T + Send + Sync + 'static,
         T: Send + 'static,
     {
-        self.submit_gang(dim, call, false)
+        self.submit_gang(dim, call, Wait::Never)
     }
 
-    fn submit_gang<F, T>(&self, dim: u32, call: F, may_wait: bool) -> Result<Ticket<T>, Refused<F>>
+    fn submit_gang<F, T>(&self, dim: u32, call: F, wait: Wait) -> Result<Ticket<T>, Refused<F>>
     where
         F: Fn(&Group<'_>) -> T + Send + Sync + 'static,
         T: Send + 'static,
     {
-        submit_gang(&self.shared, dim, call, |gang| self.shared.submit_gang(gang, may_wait))
+        submit_gang(&self.shared, dim, call, |gang| self.shared.submit_gang(gang, wait))
     }
 
     /// Runs `call` as a gang, sleeps until it has ended, and returns the results of all members in
@@ -519,24 +630,15 @@ impl Pool {
         F: Fn(&Group<'_>) -> T + Send + Sync,
         T: Send,
     {
-        let result = self.scope(|scope| {
-            let submit = || scope.submit(dim, &call);
-            let mut submitted = submit();
-            // A worker of the pool finds the lane full at once. It runs other jobs, and comes back.
-            while submitted.as_ref().is_err_and(|refused| refused.reason == Reason::Full) {
-                current::help_once(&self.shared);
-                submitted = submit();
-            }
-            match submitted {
-                Ok(ticket) => ticket.join_all(),
-                Err(refused) => panic!("{refused}"),
-            }
+        let result = self.scope(|scope| match scope.submit_gang(dim, &call, Wait::Always) {
+            Ok(ticket) => ticket.join_all(),
+            Err(refused) => panic!("{refused}"),
         });
         result.unwrap_or_else(|payload| std::panic::resume_unwind(payload))
     }
 
     /// Calls `call` with a [`Scope`], whose jobs may borrow what outlives this call. It returns
-    /// after they have ended. A worker of this pool runs other jobs meanwhile.
+    /// after they have ended. A worker of this pool runs jobs of the scope meanwhile, and no others.
     ///
     /// # Panics
     ///
@@ -627,10 +729,7 @@ impl Drop for Pool {
         if current::of(&self.shared).is_some() {
             return;
         }
-        for thread in self.threads.drain(..) {
-            // A thread ends without a panic: those of jobs end in the jobs.
-            let _ = thread.join();
-        }
+        current::asleep(|| self.shared.spares.join());
     }
 }
 

@@ -1,46 +1,105 @@
 //! Jobs that borrow.
 
-use crate::current;
+use crate::current::{self, Wait};
 use crate::error::{Reason, Refused};
-use crate::gang::{self, Body, Gang};
+use crate::gang::{self, Body, Gang, Owners};
 use crate::group::Group;
-use crate::job::{Job, Work};
-use crate::shared::Shared;
+use crate::job::{Awaited, Job, Work};
+use crate::outside::thread_number;
+use crate::shared::{self, Shared};
 use crate::ticket::{Ends, Packet, Promise, Ticket};
 use crate::util::{drop_quietly, lock, Padded, Payload};
+use std::collections::VecDeque;
 use std::fmt;
 use std::marker::PhantomData;
 use std::mem;
 use std::panic::{catch_unwind, resume_unwind, AssertUnwindSafe};
 use std::sync::atomic::{AtomicBool, AtomicUsize, Ordering::SeqCst};
-use std::sync::{Arc, Mutex};
+use std::sync::{Arc, Mutex, OnceLock};
 use std::thread::{self, Thread};
 
-/// The count of a scope's jobs.
+/// The least number of listed jobs at which those that have begun are looked for.
+const LEAST_PRUNED: usize = 64;
+
+/// The jobs of a scope.
 pub(crate) struct ScopeState {
     begun: Padded<AtomicUsize>,
-    /// The number of jobs that have ended: at each worker, and at all other threads.
-    ended: Vec<Padded<AtomicUsize>>,
+    /// The number of jobs that have ended: at the owner's thread, and at other threads.
+    ended_here: AtomicUsize,
+    ended: OnceLock<Vec<Padded<AtomicUsize>>>,
+    workers: usize,
     /// Whether the owner waits for the end.
     is_ending: Padded<AtomicBool>,
     owner: Thread,
+    owner_number: usize,
     panic: Mutex<Option<Payload>>,
+    /// The jobs that have not begun, and others, if the owner may run them while it waits.
+    list: Option<Mutex<List>>,
+}
+
+/// Jobs that may be begun from here. Most jobs begin in their order, so some at the front are dropped
+/// at each push, and sometimes all that have begun.
+#[derive(Default)]
+struct List {
+    jobs: VecDeque<Awaited>,
+    prune_at: usize,
+}
+
+impl List {
+    fn push(&mut self, job: Awaited) {
+        if self.jobs.front().is_some_and(Awaited::has_begun) {
+            self.jobs.pop_front();
+        }
+        self.jobs.push_back(job);
+        if self.jobs.len() >= self.prune_at.max(LEAST_PRUNED) {
+            self.jobs.retain(|job| !job.has_begun());
+            self.prune_at = 2 * self.jobs.len();
+        }
+    }
+
+    /// Takes the newest job that has not begun.
+    fn pop(&mut self) -> Option<Awaited> {
+        while let Some(job) = self.jobs.pop_back() {
+            if !job.has_begun() {
+                return Some(job);
+            }
+        }
+        None
+    }
 }
 
 impl ScopeState {
-    fn new(workers: usize) -> Arc<Self> {
+    /// Makes the state of a scope of a pool. Its owner is this thread, which may be one of the pool.
+    fn new(pool: &Shared) -> Arc<Self> {
         Arc::new(ScopeState {
             begun: Padded::default(),
-            ended: (0..=workers).map(|_| Padded::default()).collect(),
+            ended_here: AtomicUsize::new(0),
+            ended: OnceLock::new(),
+            workers: pool.size(),
             is_ending: Padded::default(),
             owner: thread::current(),
+            owner_number: thread_number(),
             panic: Mutex::new(None),
+            list: current::of(pool).map(|_| Mutex::default()),
         })
+    }
+
+    /// Lists a job that has not begun, so that the owner can run it.
+    fn list(&self, list: &Mutex<List>, job: Awaited) {
+        lock(list).push(job);
+        if self.is_ending.load(SeqCst) {
+            self.owner.unpark();
+        }
+    }
+
+    fn address(&self) -> usize {
+        std::ptr::from_ref(self).addr()
     }
 
     fn is_over(&self) -> bool {
         // A job counts its children before its own end. So the sum, read first, is not too large.
-        let ended: usize = self.ended.iter().map(|it| it.load(SeqCst)).sum();
+        let others = self.ended.get().map_or(0, |all| all.iter().map(|it| it.load(SeqCst)).sum());
+        let ended = others + self.ended_here.load(SeqCst);
         ended == self.begun.load(SeqCst)
     }
 
@@ -54,11 +113,37 @@ impl ScopeState {
         drop_quietly(payload);
     }
 
-    fn end(&self, worker: usize) {
-        self.ended[worker].fetch_add(1, SeqCst);
+    /// Counts a job that has ended at this thread, whose number in a pool is this one.
+    fn end(&self, number: usize) {
+        if thread_number() == self.owner_number {
+            self.ended_here.fetch_add(1, SeqCst);
+            return;
+        }
+        let all = self.ended.get_or_init(|| (0..=self.workers).map(|_| Padded::default()).collect());
+        all[number.min(self.workers)].fetch_add(1, SeqCst);
         if self.is_ending.load(SeqCst) && self.is_over() {
             self.owner.unpark();
         }
+    }
+}
+
+impl Wait for ScopeState {
+    fn is_over(&self) -> bool {
+        ScopeState::is_over(self)
+    }
+
+    fn next(&self) -> Option<Awaited> {
+        lock(self.list.as_ref()?).pop()
+    }
+
+    fn put_back(&self, job: Awaited) {
+        if let Some(list) = &self.list {
+            lock(list).push(job);
+        }
+    }
+
+    fn has(&self, gang: &Gang) -> bool {
+        gang.owners.scope == self.address()
     }
 }
 
@@ -106,8 +191,7 @@ impl Claim {
         if let Some(payload) = panic {
             state.keep_panic(payload);
         }
-        let others = state.ended.len() - 1;
-        state.end(local.as_ref().map_or(others, |it| it.index.min(others)));
+        state.end(local.as_ref().map_or(usize::MAX, |it| it.number));
         if let Some(local) = local {
             local.scope.replace(Some(state));
         }
@@ -183,14 +267,11 @@ pub(crate) fn run<'env, R>(
 ) -> R {
     let is_in_gang = current::of(pool).is_some_and(|it| it.in_gang.get());
     assert!(!is_in_gang, "a member of a gang opens a scope of its own pool: the pool could stand still");
-    let state = ScopeState::new(pool.size());
+    let state = ScopeState::new(pool);
     let scope = Scope { pool, state: state.clone(), scope: PhantomData, env: PhantomData };
     let result = catch_unwind(AssertUnwindSafe(|| call(&scope)));
     state.is_ending.store(true, SeqCst);
-    current::help(pool.id(), &|| state.is_over());
-    while !state.is_over() {
-        thread::park();
-    }
+    current::wait(pool.id(), &*state);
     let panic = lock(&state.panic).take();
     match (result, panic) {
         (Err(payload), _) | (Ok(_), Some(payload)) => resume_unwind(payload),
@@ -199,8 +280,8 @@ pub(crate) fn run<'env, R>(
 }
 
 impl<'scope> Scope<'scope, '_> {
-    /// Runs `call` on one worker. If the lane is full, a worker of the pool runs it at once, and
-    /// another thread sleeps until there is room. Its panic is that of the scope.
+    /// Runs `call` on one worker. If the lane is full, the job of a worker goes to a queue without a
+    /// limit, and another thread sleeps until there is room. Its panic is that of the scope.
     ///
     /// ```
     /// # let pool = cubejobs_pool::Pool::builder().build()?;
@@ -215,10 +296,28 @@ impl<'scope> Scope<'scope, '_> {
     /// ```
     pub fn detach<F: FnOnce() + Send + 'scope>(&'scope self, call: F) {
         let work = Scoped { call, claim: Claim::new(&self.state) };
+        if self.state.list.is_some() {
+            self.submit_awaited(work);
+            return;
+        }
         // SAFETY: what the work borrows outlives the scope, which returns only once the job is
         // counted as ended. Before that the closure is gone: by `Scoped::run`, or in the order of
         // the fields of a `Scoped` that is dropped.
-        let job = unsafe { Job::scoped(work) };
+        self.submit_one(unsafe { Job::scoped(work) });
+    }
+
+    /// Submits a job that the scope or a ticket may begin.
+    fn submit_awaited<F: FnOnce() + Send + 'scope>(&'scope self, work: Scoped<F>) -> Awaited {
+        // SAFETY: as in `detach`. The owners that come later find that the work has begun.
+        let (job, awaited) = unsafe { Job::scoped_awaited(work) };
+        if let Some(list) = &self.state.list {
+            self.state.list(list, awaited.clone());
+        }
+        self.submit_one(job);
+        awaited
+    }
+
+    fn submit_one(&self, job: Job) {
         if let Err(job) = self.pool.submit_one(job) {
             drop(job);
             panic!("{}", Reason::Closed);
@@ -244,8 +343,12 @@ impl<'scope> Scope<'scope, '_> {
     {
         let (packet, ours) = self.packets(1);
         let promise = Promise::new(ours);
-        self.detach(move || promise.keep(catch_unwind(AssertUnwindSafe(call))));
-        self.ticket(packet)
+        let call = move || {
+            promise.begin();
+            promise.keep(catch_unwind(AssertUnwindSafe(call)));
+        };
+        let job = self.submit_awaited(Scoped { call, claim: Claim::new(&self.state) });
+        self.ticket(packet, Some(job))
     }
 
     /// Runs `call` on each worker of an aligned group of `2^dim`, as
@@ -262,6 +365,20 @@ impl<'scope> Scope<'scope, '_> {
     /// # Ok::<(), std::io::Error>(())
     /// ```
     pub fn submit<F, T>(&'scope self, dim: u32, call: F) -> Result<ScopeTicket<'scope, T>, Refused<F>>
+    where
+        F: Fn(&Group<'_>) -> T + Send + Sync + 'scope,
+        T: Send + 'scope,
+    {
+        self.submit_gang(dim, call, shared::Wait::Outside)
+    }
+
+    /// Submits a gang as `submit` does. These threads wait for room.
+    pub(crate) fn submit_gang<F, T>(
+        &'scope self,
+        dim: u32,
+        call: F,
+        wait: shared::Wait,
+    ) -> Result<ScopeTicket<'scope, T>, Refused<F>>
     where
         F: Fn(&Group<'_>) -> T + Send + Sync + 'scope,
         T: Send + 'scope,
@@ -285,8 +402,9 @@ impl<'scope> Scope<'scope, '_> {
             drop(ends);
             claim.end(None);
         };
-        match self.pool.submit_gang(Gang::new(dim, body, Box::new(end)), true) {
-            Ok(()) => Ok(self.ticket(packet)),
+        let owners = Owners { ticket: packet.address(), scope: self.state.address() };
+        match self.pool.submit_gang(Gang::new(dim, owners, body, Box::new(end)), wait) {
+            Ok(()) => Ok(self.ticket(packet, None)),
             Err((reason, gang)) => Err(Refused { reason, job: gang::closure(gang, &weak) }),
         }
     }
@@ -297,8 +415,8 @@ impl<'scope> Scope<'scope, '_> {
         (packet.clone(), packet)
     }
 
-    fn ticket<T>(&self, packet: Arc<Packet<T>>) -> ScopeTicket<'scope, T> {
-        ScopeTicket { ticket: Ticket { packet, pool: self.pool.id() }, scope: PhantomData }
+    fn ticket<T>(&self, packet: Arc<Packet<T>>, job: Option<Awaited>) -> ScopeTicket<'scope, T> {
+        ScopeTicket { ticket: Ticket { packet, pool: self.pool.id(), job }, scope: PhantomData }
     }
 }
 

@@ -6,6 +6,7 @@ use std::any::TypeId;
 use std::sync::atomic::Ordering::{Relaxed, SeqCst};
 use std::sync::atomic::{AtomicBool, AtomicU32, AtomicU64};
 use std::sync::{Arc, Mutex};
+use std::thread::{self, Thread};
 
 /// A value on its way to another member. A word needs no box.
 pub(crate) enum Value {
@@ -102,9 +103,13 @@ pub(crate) struct Seat {
     pub is_idle: AtomicBool,
     /// Whether a gang has this seat.
     pub is_held: AtomicBool,
+    /// Whether no thread has the worker: that of a job that waits has kept it.
+    pub is_kept: AtomicBool,
     /// Whether there is a gang in the mailbox.
-    pub is_called: AtomicBool,
+    is_called: AtomicBool,
     mail: Mutex<Option<Arc<Gang>>>,
+    /// The thread of the member.
+    member: Mutex<Option<Thread>>,
     /// Whether the member sleeps until another one has done something, and what that is.
     pub is_asleep: AtomicBool,
     pub want: AtomicU64,
@@ -133,10 +138,28 @@ impl Seat {
         self.is_called.store(true, SeqCst);
     }
 
-    /// Takes the gang out of the mailbox, in which there is one.
+    /// Returns whether there is a gang in the mailbox.
+    pub fn is_called(&self) -> bool {
+        self.is_called.load(SeqCst)
+    }
+
+    /// Returns whether this holds for a gang in the mailbox.
+    pub fn has_mail(&self, is: impl FnOnce(&Gang) -> bool) -> bool {
+        lock(&self.mail).as_ref().is_some_and(|gang| is(gang))
+    }
+
+    /// Takes the gang out of the mailbox, in which there is one. This thread is its member.
     pub fn answer(&self) -> Arc<Gang> {
+        *lock(&self.member) = Some(thread::current());
         self.is_called.store(false, SeqCst);
         lock(&self.mail).take().expect("a worker that is called has a gang in its mailbox")
+    }
+
+    /// Wakes the thread of the member.
+    pub fn unpark(&self) {
+        if let Some(thread) = &*lock(&self.member) {
+            thread.unpark();
+        }
     }
 
     /// Returns the outbox of the next value.

@@ -1,24 +1,30 @@
 //! What the threads of a pool share.
 
 use crate::beds::Beds;
-use crate::current::{self, Local};
+use crate::client::Producer;
+use crate::current;
 use crate::error::{Cancelled, Reason};
 use crate::gang::Gang;
 use crate::group::Group;
 use crate::job::Job;
-use crate::outside::{self, GangWord, Outside};
+use crate::outside::Outside;
+use crate::overflow::{Overflow, Woken};
 use crate::placer::Placer;
 use crate::room::Room;
 use crate::seat::Seat;
+use crate::spares::Spares;
 use crate::util::{drop_quietly, lock, Padded};
-use cubejobs::lanes::{Accepted, Lane, Lanes, Payload, Refused, SubmitError};
+use cubejobs::lanes::{Accepted, Lanes, Payload, Refused, SubmitError};
 use std::sync::atomic::{AtomicBool, AtomicUsize, Ordering::SeqCst};
-use std::sync::{Arc, Mutex};
+use std::sync::{Arc, Mutex, Weak};
 use std::thread;
 use std::time::Duration;
 
 /// How often a thread whose lane is full lets others go on, before it sleeps.
 const YIELDS: u32 = 4;
+
+/// The word of a gang in its lane.
+pub(crate) type GangWord = Box<Gang>;
 
 /// What a submit has done.
 pub(crate) type Submitted<P> = Result<Accepted, Refused<SubmitError, P>>;
@@ -30,19 +36,29 @@ pub(crate) struct Looks {
     pub long: Duration,
 }
 
+/// The lanes of one-worker jobs, in the order of their numbers, are: that of jobs that have come
+/// back, that of the overflow, those that threads share, those of clients, one for each worker.
+/// Those of gangs are the lanes that threads share, and those of clients.
 pub(crate) struct Shared {
+    pub me: Weak<Shared>,
     pub dim: u32,
-    /// The lanes of one-worker jobs, and those of gangs.
     pub ones: Lanes<u64>,
     pub gangs: Lanes<GangWord>,
-    pub outside: Outside,
+    pub outside_ones: Outside<u64>,
+    pub outside_gangs: Outside<GangWord>,
+    /// The lanes of clients that are not out.
+    pub producers: Mutex<Vec<Producer>>,
+    pub overflow: Overflow,
     /// The number of lanes of one-worker jobs, and the number of the lane of worker 0.
     pub lane_count: u32,
     pub first_own: u32,
+    /// A room for each lane that threads share or a client has, for one-worker jobs and for gangs.
+    pub rooms: Vec<Padded<Room>>,
+    pub gang_rooms: Vec<Padded<Room>>,
     pub beds: Beds,
     pub seats: Vec<Padded<Seat>>,
+    pub spares: Spares,
     pub placer: Mutex<Placer>,
-    pub room: Room,
     /// The number of gangs that were accepted and have not ended, and of those that are submitted.
     pub live: Padded<AtomicUsize>,
     pub is_closed: AtomicBool,
@@ -56,12 +72,25 @@ impl Shared {
         std::ptr::from_ref(self) as usize
     }
 
+    /// Returns a share for a new thread.
+    pub fn share(&self) -> Arc<Shared> {
+        self.me.upgrade().expect("the caller has a share")
+    }
+
     pub fn size(&self) -> usize {
         self.seats.len()
     }
 
     pub fn lane_of_worker(&self, index: usize) -> u32 {
         self.first_own + index as u32
+    }
+
+    /// Calls a thread that sleeps until this lane of one-worker jobs has room, after a take.
+    pub fn made_room(&self, lane: u32) {
+        let place = lane.checked_sub(self.overflow.number + 1);
+        if let Some(room) = place.and_then(|place| self.rooms.get(place as usize)) {
+            room.made();
+        }
     }
 
     /// Runs a job that was taken, or drops it if the pool was closed at once.
@@ -73,20 +102,25 @@ impl Shared {
         }
     }
 
-    /// Wakes a worker that a call has woken.
-    pub fn rouse(&self, woken: Option<u32>) {
-        if woken.is_some() {
-            // A job that can no longer go back into a lane is run here.
-            self.beds.rouse(woken).into_iter().for_each(|job| self.begin(job));
+    /// Wakes the workers that a call has woken.
+    pub fn rouse(&self, woken: Woken) {
+        if !woken.is_empty() {
+            self.beds.rouse(self, woken);
         }
     }
 
-    /// Submits a job to the lane of this worker, or to one that other threads share.
-    fn submit_word(self: &Arc<Self>, local: Option<&Local>, word: u64) -> Submitted<u64> {
-        match local {
-            Some(local) => local.lane.borrow_mut().submit(word, 0),
-            None => outside::submit_one(self, word),
+    /// Moves jobs that no lane has into lanes. Returns whether there were some.
+    pub fn refill(&self) -> bool {
+        let has_listed = self.overflow.has_listed();
+        if has_listed {
+            self.rouse(self.overflow.refill());
         }
+        self.beds.refill(self) || has_listed
+    }
+
+    /// Takes a job that no lane has, after the end of the lanes.
+    pub fn take_listed(&self) -> Option<Job> {
+        self.overflow.take_listed().or_else(|| self.beds.take_listed())
     }
 
     /// Wakes the worker that an accepted submit names. Otherwise returns the reason, and what was
@@ -94,84 +128,97 @@ impl Shared {
     fn settle<P: Payload>(&self, submitted: Submitted<P>) -> Result<(), (Reason, Refused<SubmitError, P>)> {
         match submitted {
             Ok(accepted) => {
-                self.rouse(accepted.woken);
+                self.rouse(Woken::from_iter(accepted.woken));
                 Ok(())
             }
-            Err(refused) if is_full(&refused) => Err((Reason::Full, refused)),
-            Err(refused) => Err((Reason::Closed, refused)),
+            Err(refused) => Err((reason_of(refused.reason), refused)),
         }
+    }
+
+    /// Wakes workers, or returns the job with the reason.
+    fn settle_own(&self, submitted: Result<Woken, (SubmitError, Job)>) -> Result<(), (Reason, Job)> {
+        let woken = submitted.map_err(|(error, job)| (reason_of(error), job))?;
+        self.rouse(woken);
+        Ok(())
     }
 
     /// Submits a job, without a wait for room. Returns it if it was not accepted.
-    pub fn try_submit_one(self: &Arc<Self>, job: Job) -> Result<(), (Reason, Job)> {
+    pub fn try_submit_one(&self, job: Job) -> Result<(), (Reason, Job)> {
         if self.is_closed.load(SeqCst) {
             return Err((Reason::Closed, job));
         }
-        let local = current::of(self);
-        let submitted = self.submit_word(local.as_deref(), job.into_word());
+        if let Some(local) = current::of(self) {
+            return self.settle_own(local.try_submit(job));
+        }
+        let place = self.outside_ones.place();
+        let submitted = self.outside_ones.submit(place, job.into_word());
         self.settle(submitted).map_err(|(reason, refused)| (reason, Job::refused(refused)))
     }
 
-    /// Submits a job. If the lane is full, a worker runs it here, and another thread sleeps until
-    /// there is room. Returns the job if the pool is closed.
-    pub fn submit_one(self: &Arc<Self>, job: Job) -> Result<(), Job> {
+    /// Submits a job. If the lane is full, that of a worker of any pool goes to the overflow, and
+    /// another thread sleeps until there is room. Returns the job if the pool is closed.
+    pub fn submit_one(&self, job: Job) -> Result<(), Job> {
         if self.is_closed.load(SeqCst) {
             return Err(job);
         }
-        let local = current::of(self);
-        if local.as_ref().is_some_and(|it| it.is_deep()) {
-            self.begin(job);
-            return Ok(());
-        }
-        let mut submitted = self.submit_word(local.as_deref(), job.into_word());
-        if local.is_none() {
-            submitted = self.wait_for_room(submitted, |word| self.submit_word(None, word));
-        }
-        match self.settle(submitted) {
-            Ok(()) => Ok(()),
-            Err((Reason::Full, refused)) => {
-                self.begin(Job::refused(refused));
-                Ok(())
-            }
-            Err((_, refused)) => Err(Job::refused(refused)),
-        }
+        let job = match current::of(self) {
+            Some(local) => match self.settle_own(local.try_submit(job)) {
+                Err((Reason::Full, job)) => job,
+                settled => return settled.map_err(|(_, job)| job),
+            },
+            None if current::is_worker() => job,
+            None => return self.submit_from_outside(job),
+        };
+        self.rouse(self.overflow.push(job)?);
+        Ok(())
     }
 
-    /// Submits a job to the lane of a client. If it is full, a thread that is no worker of the pool
-    /// sleeps until there is room, if it may wait. Returns the job if it was not accepted.
+    fn submit_from_outside(&self, job: Job) -> Result<(), Job> {
+        let place = self.outside_ones.place();
+        let submit = |word| self.outside_ones.submit(place, word);
+        let submitted = wait_for_room(&self.rooms[place], submit(job.into_word()), submit);
+        self.settle(submitted).map_err(|(_, refused)| Job::refused(refused))
+    }
+
+    /// Submits a job by a client. If its lane is full, a thread that is no worker sleeps until there
+    /// is room, if it may wait. Returns the job if it was not accepted.
     pub fn submit_by_client(
         &self,
-        lane: &mut Lane<u64>,
+        producer: &mut Producer,
         job: Job,
         may_wait: bool,
     ) -> Result<(), (Reason, Job)> {
         if self.is_closed.load(SeqCst) {
             return Err((Reason::Closed, job));
         }
-        let mut submitted = lane.submit(job.into_word(), 0);
-        if may_wait && current::of(self).is_none() {
-            submitted = self.wait_for_room(submitted, |word| lane.submit(word, 0));
+        let Producer { place, ones, .. } = producer;
+        let mut submitted = ones.submit(job.into_word(), 0);
+        if may_wait && !current::is_worker() {
+            submitted = wait_for_room(&self.rooms[*place], submitted, |word| ones.submit(word, 0));
         }
         self.settle(submitted).map_err(|(reason, refused)| (reason, Job::refused(refused)))
     }
 
     /// Submits a gang to a lane that threads share, as `submit_gang_by` does.
-    pub fn submit_gang(self: &Arc<Self>, gang: Gang, may_wait: bool) -> Result<(), (Reason, GangWord)> {
-        self.submit_gang_by(gang, may_wait, |gang| outside::submit_gang(self, gang))
+    pub fn submit_gang(&self, gang: Gang, wait: Wait) -> Result<(), (Reason, GangWord)> {
+        let place = self.outside_gangs.place();
+        self.submit_gang_by(gang, place, wait, |gang| self.outside_gangs.submit(place, gang))
     }
 
-    /// Submits a gang by a call. If its lane is full, a thread that is no worker of the pool sleeps
-    /// until there is room, if it may wait. Returns the gang if it was not accepted.
+    /// Submits a gang by a call, to the lane of a place. If it is full, the thread sleeps until there
+    /// is room, if it may wait. Returns the gang if it was not accepted.
     pub fn submit_gang_by(
         &self,
         gang: Gang,
-        may_wait: bool,
+        place: usize,
+        wait: Wait,
         mut submit: impl FnMut(GangWord) -> Submitted<GangWord>,
     ) -> Result<(), (Reason, GangWord)> {
         self.live.fetch_add(1, SeqCst);
         let mut submitted = submit(Box::new(gang));
-        if may_wait && current::of(self).is_none() {
-            submitted = self.wait_for_room(submitted, submit);
+        let is_full = submitted.as_ref().is_err_and(is_full);
+        if is_full && (wait == Wait::Always || wait == Wait::Outside && !current::is_worker()) {
+            submitted = current::asleep(|| wait_for_room(&self.gang_rooms[place], submitted, submit));
         }
         // No worker of these lanes sleeps, so a submit wakes none.
         let result = self.settle(submitted).map_err(|(reason, refused)| (reason, refused.payload));
@@ -182,44 +229,13 @@ impl Shared {
         result
     }
 
-    /// Submits again what a full lane has refused, until there is room.
-    fn wait_for_room<P: Payload>(
-        &self,
-        submitted: Submitted<P>,
-        mut submit: impl FnMut(P) -> Submitted<P>,
-    ) -> Submitted<P> {
-        let mut yields = 0;
-        let mut result = submitted;
-        while yields < YIELDS {
-            match result {
-                Err(refused) if is_full(&refused) => result = submit(refused.payload),
-                other => return other,
-            }
-            thread::yield_now();
-            yields += 1;
-        }
-        let mut last = Some(result);
-        self.room.wait(|| match last.take()? {
-            Err(refused) if is_full(&refused) => match submit(refused.payload) {
-                Err(refused) if is_full(&refused) => {
-                    last = Some(Err(refused));
-                    None
-                }
-                other => Some(other),
-            },
-            other => Some(other),
-        })
-    }
-
     /// Gives blocks to gangs, and calls their members.
     pub fn place(&self) {
         let mut placer = lock(&self.placer);
-        let dropped = if self.is_cancelled.load(SeqCst) { placer.give_up() } else { Vec::new() };
-        let ready = placer.place(&self.seats);
+        let is_cancelled = self.is_cancelled.load(SeqCst);
+        let dropped = if is_cancelled { placer.give_up(&self.gang_rooms) } else { Vec::new() };
+        let ready = placer.place(&self.seats, &self.gang_rooms);
         drop(placer);
-        if self.room.is_wanted() {
-            self.room.wake();
-        }
         ready.into_iter().for_each(|gang| self.call(&gang));
         for gang in dropped {
             gang.cancel(Box::new(Cancelled));
@@ -231,8 +247,12 @@ impl Shared {
     fn call(&self, gang: &Arc<Gang>) {
         let base = gang.base.load(SeqCst);
         for index in base..base + gang.size() {
-            self.seats[index].call(gang.clone());
+            let seat = &self.seats[index];
+            seat.call(gang.clone());
             self.beds.unpark(index);
+            if seat.is_kept.load(SeqCst) {
+                self.spares.serve(self, index);
+            }
         }
     }
 
@@ -265,8 +285,9 @@ impl Shared {
     /// threads end.
     fn end_if_over(&self) {
         if self.is_closed.load(SeqCst) && self.live.load(SeqCst) == 0 {
+            self.overflow.close();
             self.ones.close();
-            self.room.wake();
+            self.rooms.iter().for_each(|room| room.call_all());
             self.beds.unpark_all();
         }
     }
@@ -276,11 +297,55 @@ impl Shared {
         self.is_cancelled.fetch_or(at_once, SeqCst);
         self.is_closed.store(true, SeqCst);
         self.gangs.close();
+        self.gang_rooms.iter().for_each(|room| room.call_all());
         self.place();
         self.end_if_over();
     }
 }
 
+/// Which threads sleep until a lane of gangs has room.
+#[derive(Clone, Copy, PartialEq, Eq)]
+pub(crate) enum Wait {
+    Never,
+    /// Those that are no workers of a pool.
+    Outside,
+    Always,
+}
+
+fn reason_of(error: SubmitError) -> Reason {
+    match error {
+        SubmitError::Full => Reason::Full,
+        _ => Reason::Closed,
+    }
+}
+
 fn is_full<P>(refused: &Refused<SubmitError, P>) -> bool {
     refused.reason == SubmitError::Full
+}
+
+/// Submits again what a full lane has refused, until there is room.
+fn wait_for_room<P: Payload>(
+    room: &Room,
+    submitted: Submitted<P>,
+    mut submit: impl FnMut(P) -> Submitted<P>,
+) -> Submitted<P> {
+    let mut result = submitted;
+    for _ in 0..YIELDS {
+        match result {
+            Err(refused) if is_full(&refused) => result = submit(refused.payload),
+            other => return other,
+        }
+        thread::yield_now();
+    }
+    let mut last = Some(result);
+    room.wait(|| match last.take()? {
+        Err(refused) if is_full(&refused) => match submit(refused.payload) {
+            Err(refused) if is_full(&refused) => {
+                last = Some(Err(refused));
+                None
+            }
+            other => Some(other),
+        },
+        other => Some(other),
+    })
 }

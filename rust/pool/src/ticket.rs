@@ -1,13 +1,16 @@
 //! The results of a job, and the thread that waits for them.
 #![forbid(unsafe_code)]
 
-use crate::current;
+use crate::current::{self, Wait};
 use crate::error::Cancelled;
+use crate::gang::Gang;
+use crate::job::Awaited;
+use crate::outside::thread_number;
 use crate::scope::ScopeState;
 use crate::util::{drop_quietly, lock, Payload};
 use std::fmt;
 use std::iter;
-use std::sync::atomic::{fence, AtomicBool, Ordering::SeqCst};
+use std::sync::atomic::{fence, AtomicBool, AtomicUsize, Ordering::Relaxed, Ordering::SeqCst};
 use std::sync::{Arc, Mutex, OnceLock};
 use std::thread::{self, Thread};
 
@@ -18,6 +21,8 @@ pub(crate) struct Packet<T> {
     others: Vec<Mutex<Option<T>>>,
     panic: Mutex<Option<Payload>>,
     is_done: AtomicBool,
+    /// The number of the thread that has begun the one-worker job.
+    runner: AtomicUsize,
     waiter: OnceLock<Thread>,
     /// The scope of the job, which gets a panic that nobody takes.
     scope: Option<Arc<ScopeState>>,
@@ -31,6 +36,7 @@ impl<T> Packet<T> {
             others: (1..size).map(|_| Mutex::new(None)).collect(),
             panic: Mutex::new(None),
             is_done: AtomicBool::new(false),
+            runner: AtomicUsize::new(0),
             waiter: OnceLock::new(),
         })
     }
@@ -65,17 +71,21 @@ impl<T> Packet<T> {
         lock(&self.panic).take()
     }
 
-    /// Sleeps until the job is done. A worker of this pool runs other jobs meanwhile.
-    fn wait(&self, pool: usize) {
+    /// Sleeps until the job is done. A thread of its pool runs it if it has not begun.
+    fn wait(&self, pool: usize, job: Option<&Awaited>) {
         if self.is_done() {
             return;
         }
+        // What this thread has begun, and has not ended, waits for this call itself.
+        assert!(self.runner.load(Relaxed) != thread_number(), "a job waits for its own end");
         let _ = self.waiter.set(thread::current());
         fence(SeqCst);
-        current::help(pool, &|| self.is_done());
-        while !self.is_done() {
-            thread::park();
-        }
+        current::wait(pool, &Joined { packet: self, job });
+    }
+
+    /// Returns a number that other packets do not have while this one lives.
+    pub fn address(&self) -> usize {
+        std::ptr::from_ref(self).addr()
     }
 
     fn take_first(&self) -> T {
@@ -100,6 +110,28 @@ impl<T> Drop for Packet<T> {
     }
 }
 
+/// A wait for a job, by its ticket. Gangs have no such job.
+struct Joined<'a, T> {
+    packet: &'a Packet<T>,
+    job: Option<&'a Awaited>,
+}
+
+impl<T> Wait for Joined<'_, T> {
+    fn is_over(&self) -> bool {
+        self.packet.is_done()
+    }
+
+    fn next(&self) -> Option<Awaited> {
+        self.job.filter(|job| !job.has_begun()).cloned()
+    }
+
+    fn put_back(&self, _: Awaited) {}
+
+    fn has(&self, gang: &Gang) -> bool {
+        gang.owners.ticket == self.packet.address()
+    }
+}
+
 /// The end of a packet, whatever its results are.
 pub(crate) trait Ends: Send + Sync {
     fn end(&self, panic: Option<Payload>);
@@ -117,6 +149,11 @@ pub(crate) struct Promise<T>(Arc<Packet<T>>);
 impl<T> Promise<T> {
     pub fn new(packet: Arc<Packet<T>>) -> Self {
         Promise(packet)
+    }
+
+    /// Says that this thread has begun the job.
+    pub fn begin(&self) {
+        self.0.runner.store(thread_number(), Relaxed);
     }
 
     pub fn keep(self, result: thread::Result<T>) {
@@ -157,6 +194,8 @@ pub struct Ticket<T> {
     pub(crate) packet: Arc<Packet<T>>,
     /// Which pool has the job.
     pub(crate) pool: usize,
+    /// The job, unless it is a gang.
+    pub(crate) job: Option<Awaited>,
 }
 
 impl<T> Ticket<T> {
@@ -178,11 +217,13 @@ impl<T> Ticket<T> {
     /// Sleeps until the job has ended. Returns the result of the member of rank 0. The error is the
     /// payload of the first panic, or [`Cancelled`](crate::Cancelled).
     ///
-    /// A one-worker job of the same pool runs other jobs while it waits.
+    /// A job that waits runs this one itself if it has not begun, and no other job. Otherwise another
+    /// thread gets its worker meanwhile.
     ///
     /// # Panics
     ///
-    /// Panics in a gang of the same pool, unless the job has ended: the pool could stand still.
+    /// Panics if the job has not ended, and this is a call of a gang of the same pool, since the pool
+    /// could stand still, or of the job itself.
     ///
     /// ```
     /// # let pool = cubejobs_pool::Pool::builder().build()?;
@@ -191,7 +232,7 @@ impl<T> Ticket<T> {
     /// # Ok::<(), std::io::Error>(())
     /// ```
     pub fn join(self) -> thread::Result<T> {
-        self.packet.wait(self.pool);
+        self.packet.wait(self.pool, self.job.as_ref());
         match self.packet.take_panic() {
             Some(payload) => Err(payload),
             None => Ok(self.packet.take_first()),
@@ -208,7 +249,7 @@ impl<T> Ticket<T> {
     /// # Ok::<(), std::io::Error>(())
     /// ```
     pub fn join_all(self) -> thread::Result<Vec<T>> {
-        self.packet.wait(self.pool);
+        self.packet.wait(self.pool, self.job.as_ref());
         match self.packet.take_panic() {
             Some(payload) => Err(payload),
             None => Ok(self.packet.take_all()),

@@ -26,6 +26,11 @@ pub(crate) fn lock<T>(mutex: &Mutex<T>) -> MutexGuard<'_, T> {
     mutex.lock().unwrap_or_else(PoisonError::into_inner)
 }
 
+/// Makes a call of the user. A panic ends here.
+pub(crate) fn catch_quietly<R>(call: impl FnOnce() -> R) -> Option<R> {
+    catch_unwind(AssertUnwindSafe(call)).map_err(drop_quietly).ok()
+}
+
 /// Drops a value of the user. A panic in its drop ends here, and so does one in the drop of that
 /// panic's payload. The payload of the second is leaked.
 pub(crate) fn drop_quietly<T>(value: T) {
