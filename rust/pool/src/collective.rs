@@ -196,6 +196,33 @@ impl Group<'_> {
         values.pop().expect("each member gets its value")
     }
 
+    /// Gives each member one value, and returns the one that each member has for this one. Both
+    /// lists are in the order of the ranks. The members exchange values in pairs, so a group of any
+    /// size goes on.
+    ///
+    /// # Panics
+    ///
+    /// Panics if there are not as many values as members.
+    ///
+    /// ```
+    /// # let pool = cubejobs_pool::Pool::builder().build()?;
+    /// let letters = [["0 to 0", "0 to 1"], ["1 to 0", "1 to 1"]];
+    /// let got = pool.run(1, |group| group.all_to_all(letters[group.rank()].to_vec()));
+    /// assert_eq!(got, [["0 to 0", "1 to 0"], ["0 to 1", "1 to 1"]]);
+    /// # Ok::<(), std::io::Error>(())
+    /// ```
+    pub fn all_to_all<T: Send + 'static>(&self, values: Vec<T>) -> Vec<T> {
+        let has_all = values.len() == self.size();
+        assert!(has_all, "a member of an all-to-all has not one value for each member");
+        let mut places: Vec<Option<T>> = values.into_iter().map(Some).collect();
+        for round in 1..self.size() {
+            let other = self.rank() ^ round;
+            let mine = places[other].take().expect("each partner has one round");
+            places[other] = Some(self.exchange(other, mine));
+        }
+        places.into_iter().flatten().collect()
+    }
+
     /// Returns this member's number on the ways from the root, which has 0.
     fn relative_to(&self, root: usize) -> usize {
         assert!(root < self.size(), "there is no rank {root} in a group of {}", self.size());

@@ -32,6 +32,9 @@ fn check_collectives(group: &Group<'_>, round: usize) {
     assert_eq!(group.gather(root, rank), (rank == root).then(|| all.clone()));
     assert_eq!(group.scatter(root, (rank == root).then(|| all.clone())), rank);
     assert_eq!(group.reduce(vec![rank], joined), (rank == 0).then(|| all.clone()));
+    let letters = all.iter().map(|to| (rank, *to, round)).collect();
+    let to_me: Vec<_> = all.iter().map(|from| (*from, rank, round)).collect();
+    assert_eq!(group.all_to_all(letters), to_me);
     group.barrier();
 }
 

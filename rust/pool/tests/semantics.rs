@@ -222,6 +222,9 @@ fn a_partner_is_another_member() {
     );
     let short = "the root of a scatter has not one value for each member";
     assert_eq!(failure(&pool, 1, |group| group.scatter(0, Some(vec![5; 1 + group.rank()]))), short);
+    let uneven = "a member of an all-to-all has not one value for each member";
+    assert_eq!(failure(&pool, 1, |group| group.all_to_all(vec![5; 1 + 2 * group.rank()])), uneven);
+    assert_eq!(failure(&pool, 0, |group| group.all_to_all::<u8>(vec![])), uneven);
     assert_eq!(failure(&pool, 0, |group| group.half().rank()), "a group of one has no halves");
     assert!(is_whole(&pool));
 }
