@@ -32,7 +32,7 @@ fn peers() -> Peers {
         thread::spawn(move || jobs.into_iter().for_each(|job| job()));
     }
     let rayon = rayon::ThreadPoolBuilder::new().num_threads(4).build().unwrap();
-    Peers { rayon, pool: Pool::builder().build().unwrap(), channel }
+    Peers { rayon, pool: Pool::builder().workers_log2(2).build().unwrap(), channel }
 }
 
 fn main() {

@@ -12,7 +12,7 @@ impl Group<'_> {
     /// Panics if there is no member `root`, or if it has no value.
     ///
     /// ```
-    /// # let pool = cubejobs_pool::Pool::builder().build()?;
+    /// # let pool = cubejobs_pool::Pool::builder().workers_log2(2).build()?;
     /// let words = pool.run(2, |group| group.broadcast(3, (group.rank() == 3).then_some("go")));
     /// assert_eq!(words, ["go"; 4]);
     /// # Ok::<(), std::io::Error>(())
@@ -38,7 +38,7 @@ impl Group<'_> {
     /// associative. The others get `None`.
     ///
     /// ```
-    /// # let pool = cubejobs_pool::Pool::builder().build()?;
+    /// # let pool = cubejobs_pool::Pool::builder().workers_log2(1).build()?;
     /// let words = pool.run(1, |group| group.reduce(group.rank().to_string(), |a, b| a + &b));
     /// assert_eq!(words, [Some("01".to_string()), None]);
     /// # Ok::<(), std::io::Error>(())
@@ -60,7 +60,7 @@ impl Group<'_> {
     /// associative.
     ///
     /// ```
-    /// # let pool = cubejobs_pool::Pool::builder().build()?;
+    /// # let pool = cubejobs_pool::Pool::builder().workers_log2(2).build()?;
     /// assert_eq!(pool.run(2, |group| group.all_reduce(group.rank(), |a, b| a + b)), [6; 4]);
     /// # Ok::<(), std::io::Error>(())
     /// ```
@@ -80,7 +80,7 @@ impl Group<'_> {
     /// associative.
     ///
     /// ```
-    /// # let pool = cubejobs_pool::Pool::builder().build()?;
+    /// # let pool = cubejobs_pool::Pool::builder().workers_log2(2).build()?;
     /// assert_eq!(pool.run(2, |group| group.scan(1, |a, b| a + b)), [1, 2, 3, 4]);
     /// # Ok::<(), std::io::Error>(())
     /// ```
@@ -95,7 +95,7 @@ impl Group<'_> {
     /// is associative.
     ///
     /// ```
-    /// # let pool = cubejobs_pool::Pool::builder().build()?;
+    /// # let pool = cubejobs_pool::Pool::builder().workers_log2(2).build()?;
     /// let sums = pool.run(2, |group| group.exscan(1, |a, b| a + b));
     /// assert_eq!(sums, [None, Some(1), Some(2), Some(3)]);
     /// # Ok::<(), std::io::Error>(())
@@ -121,7 +121,7 @@ impl Group<'_> {
     /// Returns all values in the order of the ranks, at each member.
     ///
     /// ```
-    /// # let pool = cubejobs_pool::Pool::builder().build()?;
+    /// # let pool = cubejobs_pool::Pool::builder().workers_log2(1).build()?;
     /// assert_eq!(pool.run(1, |group| group.all_gather(group.rank())), [[0, 1], [0, 1]]);
     /// # Ok::<(), std::io::Error>(())
     /// ```
@@ -139,7 +139,7 @@ impl Group<'_> {
     /// Panics if there is no member `root`.
     ///
     /// ```
-    /// # let pool = cubejobs_pool::Pool::builder().build()?;
+    /// # let pool = cubejobs_pool::Pool::builder().workers_log2(1).build()?;
     /// let all = pool.run(1, |group| group.gather(1, group.rank()));
     /// assert_eq!(all, [None, Some(vec![0, 1])]);
     /// # Ok::<(), std::io::Error>(())
@@ -168,7 +168,7 @@ impl Group<'_> {
     /// members.
     ///
     /// ```
-    /// # let pool = cubejobs_pool::Pool::builder().build()?;
+    /// # let pool = cubejobs_pool::Pool::builder().workers_log2(1).build()?;
     /// let letters = |rank: usize| (rank == 0).then(|| vec!['a', 'b']);
     /// let got = pool.run(1, |group| group.scatter(0, letters(group.rank())));
     /// assert_eq!(got, ['a', 'b']);
@@ -205,7 +205,7 @@ impl Group<'_> {
     /// Panics if there are not as many values as members.
     ///
     /// ```
-    /// # let pool = cubejobs_pool::Pool::builder().build()?;
+    /// # let pool = cubejobs_pool::Pool::builder().workers_log2(1).build()?;
     /// let letters = [["0 to 0", "0 to 1"], ["1 to 0", "1 to 1"]];
     /// let got = pool.run(1, |group| group.all_to_all(letters[group.rank()].to_vec()));
     /// assert_eq!(got, [["0 to 0", "1 to 0"], ["0 to 1", "1 to 1"]]);

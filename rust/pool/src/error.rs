@@ -8,7 +8,7 @@ use std::fmt;
 /// ```
 /// use cubejobs_pool::{Pool, Reason};
 ///
-/// let pool = Pool::builder().build()?; // 4 workers
+/// let pool = Pool::builder().workers_log2(2).build()?; // 4 workers
 /// assert_eq!(pool.try_submit(3, |_| ()).unwrap_err().reason, Reason::TooWide);
 /// assert_eq!(Reason::TooWide.to_string(), "the group is larger than the pool");
 /// # Ok::<(), std::io::Error>(())

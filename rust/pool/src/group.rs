@@ -22,7 +22,7 @@ use std::time::Instant;
 /// A group is neither `Send` nor `Sync`: it speaks for the worker that runs the closure.
 ///
 /// ```
-/// # let pool = cubejobs_pool::Pool::builder().build()?;
+/// # let pool = cubejobs_pool::Pool::builder().workers_log2(2).build()?;
 /// // Each of four members passes its rank to its two neighbours in the square.
 /// let sums = pool.run(2, |group| {
 ///     let along = group.exchange(group.rank() ^ 1, group.rank());
@@ -96,7 +96,7 @@ impl<'a> Group<'a> {
     /// Returns the number of this member: from 0 on, below the size.
     ///
     /// ```
-    /// # let pool = cubejobs_pool::Pool::builder().build()?;
+    /// # let pool = cubejobs_pool::Pool::builder().workers_log2(1).build()?;
     /// assert_eq!(pool.run(1, |group| group.rank()), [0, 1]);
     /// # Ok::<(), std::io::Error>(())
     /// ```
@@ -107,7 +107,7 @@ impl<'a> Group<'a> {
     /// Returns the number of members: `2^dim`.
     ///
     /// ```
-    /// # let pool = cubejobs_pool::Pool::builder().build()?;
+    /// # let pool = cubejobs_pool::Pool::builder().workers_log2(1).build()?;
     /// assert_eq!(pool.run(1, |group| group.size()), [2, 2]);
     /// # Ok::<(), std::io::Error>(())
     /// ```
@@ -118,7 +118,7 @@ impl<'a> Group<'a> {
     /// Returns the dimension of the group.
     ///
     /// ```
-    /// # let pool = cubejobs_pool::Pool::builder().build()?;
+    /// # let pool = cubejobs_pool::Pool::builder().workers_log2(2).build()?;
     /// assert_eq!(pool.run(2, |group| group.half().dim()), [1; 4]);
     /// # Ok::<(), std::io::Error>(())
     /// ```
@@ -130,7 +130,7 @@ impl<'a> Group<'a> {
     /// Groups that run at the same time have no worker in common.
     ///
     /// ```
-    /// # let pool = cubejobs_pool::Pool::builder().build()?;
+    /// # let pool = cubejobs_pool::Pool::builder().workers_log2(2).build()?;
     /// let workers = pool.run(2, |group| group.base() + group.rank());
     /// assert_eq!(workers, [0, 1, 2, 3]);
     /// # Ok::<(), std::io::Error>(())
@@ -142,7 +142,7 @@ impl<'a> Group<'a> {
     /// Returns whether a member has panicked. A long computation may look, and return early.
     ///
     /// ```
-    /// # let pool = cubejobs_pool::Pool::builder().build()?;
+    /// # let pool = cubejobs_pool::Pool::builder().workers_log2(1).build()?;
     /// let ticket = pool.submit(1, |group| match group.rank() {
     ///     0 => std::panic::resume_unwind(Box::new("no")),
     ///     _ => while !group.is_poisoned() {},
@@ -162,7 +162,7 @@ impl<'a> Group<'a> {
     /// Panics in a group of one.
     ///
     /// ```
-    /// # let pool = cubejobs_pool::Pool::builder().build()?;
+    /// # let pool = cubejobs_pool::Pool::builder().workers_log2(2).build()?;
     /// let sums = pool.run(2, |group| group.half().all_reduce(group.rank(), |a, b| a + b));
     /// assert_eq!(sums, [1, 1, 5, 5]);
     /// # Ok::<(), std::io::Error>(())
@@ -195,7 +195,7 @@ impl<'a> Group<'a> {
     /// member, or if it has left.
     ///
     /// ```
-    /// # let pool = cubejobs_pool::Pool::builder().build()?;
+    /// # let pool = cubejobs_pool::Pool::builder().workers_log2(1).build()?;
     /// let names = ["of 0", "of 1"];
     /// let theirs = pool.run(1, |group| group.exchange(1 - group.rank(), names[group.rank()]));
     /// assert_eq!(theirs, ["of 1", "of 0"]);
@@ -215,7 +215,7 @@ impl<'a> Group<'a> {
     /// Panics if there is no such other member. See [`Group::exchange`].
     ///
     /// ```
-    /// # let pool = cubejobs_pool::Pool::builder().build()?;
+    /// # let pool = cubejobs_pool::Pool::builder().workers_log2(1).build()?;
     /// let got = pool.run(1, |group| match group.rank() {
     ///     0 => group.recv(1),
     ///     _ => {
@@ -237,7 +237,7 @@ impl<'a> Group<'a> {
     /// Panics if that member has left, or if its value has another type. See [`Group::exchange`].
     ///
     /// ```
-    /// # let pool = cubejobs_pool::Pool::builder().build()?;
+    /// # let pool = cubejobs_pool::Pool::builder().workers_log2(2).build()?;
     /// let next = |group: &cubejobs_pool::Group<'_>| (group.rank() + 1) % 4;
     /// let ranks = pool.run(2, |group| {
     ///     group.send(next(group), group.rank());
@@ -279,7 +279,7 @@ impl<'a> Group<'a> {
     /// Panics if a member has left.
     ///
     /// ```
-    /// # let pool = cubejobs_pool::Pool::builder().build()?;
+    /// # let pool = cubejobs_pool::Pool::builder().workers_log2(2).build()?;
     /// use std::sync::atomic::{AtomicUsize, Ordering::SeqCst};
     ///
     /// let arrived = AtomicUsize::new(0);

@@ -232,7 +232,7 @@ fn a_third_of_the_jobs_panics() {
 #[test]
 fn no_wake_is_lost() {
     let _limited = limited(200);
-    let pool = Pool::builder().looks(0).lane_capacity(4).build().unwrap();
+    let pool = Pool::builder().workers_log2(2).looks(0).lane_capacity(4).build().unwrap();
     thread::scope(|threads| {
         for thread in 0..3 {
             let pool = &pool;
@@ -322,7 +322,7 @@ fn a_call_and_a_wake_at_once() {
     }
 }
 
-/// Jobs that wait run others on top of themselves. The stack stays small.
+/// Jobs whose scopes end: each runs its own children, and no other job on top of itself.
 #[test]
 fn waits_are_not_deep() {
     let _limited = limited(200);
@@ -341,7 +341,7 @@ fn waits_are_not_deep() {
 }
 
 /// Jobs that are the children of one job, and each of which waits for children of its own. In its
-/// lane the other jobs come before these. The jobs on top of each other are counted.
+/// lane the other jobs come before these. The waiting jobs on top of each other are counted.
 #[test]
 fn waits_in_a_tree_are_not_deep() {
     thread_local! {
@@ -419,7 +419,7 @@ fn close_runs_what_was_accepted() {
 fn all_threads_see_the_end() {
     let _limited = limited(200);
     for round in 0..1_000 {
-        let builder = Pool::builder().shared_lanes(1).client_lanes(0).lane_capacity(16);
+        let builder = Pool::builder().workers_log2(2).shared_lanes(1).client_lanes(0).lane_capacity(16);
         let pool = builder.build().unwrap();
         // The workers fall asleep, and the close finds jobs that are not taken.
         pool.run(2, |group| group.barrier());
@@ -499,8 +499,8 @@ fn drops_that_panic_end_no_worker() {
     wait_for_threads(0);
 }
 
-/// Full lanes from each side: a worker runs its job in place, another thread sleeps until there is
-/// room.
+/// Full lanes from each side: the jobs of a worker go elsewhere, and another thread sleeps until
+/// there is room. No job is lost.
 #[test]
 fn small_lanes_lose_no_job() {
     let _limited = limited(200);

@@ -425,27 +425,6 @@ fn another_thread_sleeps_until_there_is_room() {
     first.join().unwrap();
 }
 
-#[test]
-fn a_worker_runs_its_job_in_place_if_its_lane_is_full() {
-    let _limited = limited(30);
-    let pool = Arc::new(Pool::builder().workers_log2(0).lane_capacity(1).build().unwrap());
-    let inner = pool.clone();
-    let (here, there) = pool
-        .spawn(move || {
-            let me = thread::current().id();
-            let tickets = [0, 1].map(|_| inner.spawn(|| thread::current().id()));
-            // The first is in the lane. The second has run.
-            let done = tickets.each_ref().map(|ticket| ticket.is_finished());
-            assert_eq!(done, [false, true]);
-            let [first, second] = tickets.map(|ticket| ticket.join().unwrap());
-            assert_eq!(first, second);
-            (me, second)
-        })
-        .join()
-        .unwrap();
-    assert_eq!(here, there);
-}
-
 /// A worker never waits for room: it could be the one that makes it.
 #[test]
 fn a_worker_gets_its_gang_back_if_the_lane_is_full() {
@@ -491,8 +470,10 @@ fn a_wait_in_a_gang_panics_with_advice() {
     }
 }
 
+/// A job waits for another one, a scope and a gang, in a pool of one worker. The job itself or
+/// another thread runs what it waits for.
 #[test]
-fn a_job_runs_others_while_it_waits() {
+fn what_a_job_waits_for_is_run() {
     let _limited = limited(30);
     let pool = Arc::new(pool(0));
     let inner = pool.clone();
@@ -505,8 +486,8 @@ fn a_job_runs_others_while_it_waits() {
     assert_eq!(outer.join().unwrap(), (7, 8, vec![1]));
 }
 
-/// While a job waits for one on another worker, its own worker sleeps. Its wakes are not lost: a
-/// job that comes then is run.
+/// A job waits for one that another thread runs. Its worker is not lost to the pool: a job that
+/// comes then is run.
 #[test]
 fn a_job_that_waits_hears_of_new_jobs() {
     let _limited = limited(30);
@@ -524,8 +505,7 @@ fn a_job_that_waits_hears_of_new_jobs() {
     }
 }
 
-/// A job has waited for another one, and goes on. Its worker lies down no more: a job that comes
-/// then wakes the other worker.
+/// A job has waited for another one, and goes on. A job that comes then is run meanwhile.
 #[test]
 fn a_wait_leaves_its_worker_up() {
     let _limited = limited(30);
@@ -679,7 +659,7 @@ fn a_closed_pool_refuses_its_clients() {
     wait_for_threads(0);
 }
 
-/// A client sleeps until there is room, while the pool is closed: it hears of that at once, and not
+/// A client sleeps until there is room, while the pool is closed. It hears of that at once, and not
 /// from the next job that is taken.
 #[test]
 fn a_close_wakes_a_client_that_waits_for_room() {
