@@ -246,6 +246,14 @@ fn calls_that_do_not_fit_panic_at_all_members() {
         let got = pool.run(2, cycle);
         assert!(got.iter().all(|it| it == stuck), "{got:?}");
     }
+    // A member has two values on their way, and no room for a third.
+    let all_at_once = |group: &Group<'_>| {
+        let others = || (0..group.size()).filter(|it| *it != group.rank());
+        others().for_each(|it| group.send(it, group.rank()));
+        others().map(|it| group.recv::<usize>(it)).sum::<usize>()
+    };
+    assert_eq!(pool.run(1, all_at_once), [1, 0]);
+    assert_eq!(failure(&pool, 2, all_at_once), stuck);
     // One half is at a barrier of the whole group, the other at one of its own.
     let halves = |group: &Group<'_>| {
         if group.rank() < 2 {
