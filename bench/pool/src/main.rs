@@ -3,10 +3,15 @@
 //! `LOOKS` is how often a member looks before it sleeps, 30 without it.
 //!
 //! rayon and crossbeam are Debian's packages librust-rayon-dev and librust-crossbeam-channel-dev.
+//! Their sources are in /usr/share/cargo/registry, so a build needs no network: `--offline`.
+//!
+//! A copy of this folder in `bench` of another checkout measures the pool of that one. One program
+//! cannot have both pools, since they link the same library for C.
 
 mod calls;
 mod gangs;
 mod ones;
+mod recursion;
 mod start;
 mod streams;
 mod table;
@@ -54,6 +59,9 @@ fn main() {
     }
     if wants("inside") {
         gangs::measure_inside(rounds);
+    }
+    if wants("recursion") {
+        recursion::measure(&peers.rayon, &peers.pool, rounds);
     }
     if wants("start") {
         start::measure(&peers, rounds);
