@@ -6,8 +6,8 @@
 //! named as the one that searches.
 //!
 //! So the thread leaves its worker in its *bed*. A thread whose call has woken the worker finds it
-//! there. It makes the worker's search, and puts the job that it finds back into a queue. If the bed
-//! is empty, the worker is with its thread, which is unparked.
+//! there. It makes the worker's search, and puts the job that it finds back into a queue. If the
+//! bed is empty, the worker is with its thread, which is unparked.
 
 use crate::job::Job;
 use crate::overflow::{Overflow, Woken};
@@ -41,8 +41,8 @@ impl Beds {
         }
     }
 
-    /// Makes this thread that of a worker. It looks for calls and for the worker's token afterwards,
-    /// since others unpark the thread that was here before.
+    /// Makes this thread that of a worker. It looks for calls and for the worker's token
+    /// afterwards, since others unpark the thread that was here before.
     pub fn settle(&self, number: usize) {
         *lock(&self.threads[number]) = Some(thread::current());
     }

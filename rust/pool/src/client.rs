@@ -31,8 +31,8 @@ pub struct Client {
     producer: Option<Producer>,
 }
 
-/// The lanes of a client: for one-worker jobs and for gangs. Threads sleep in the rooms of its place
-/// until they have room.
+/// The lanes of a client: for one-worker jobs and for gangs. Threads sleep in the rooms of its
+/// place until they have room.
 pub(crate) struct Producer {
     pub place: usize,
     pub ones: Lane<u64>,
@@ -194,7 +194,7 @@ impl Client {
         let packet = Packet::new(1, None);
         let work = One { call, promise: Promise::new(packet.clone()) };
         match Job::pass_awaited(work, |job| pool.submit_by_client(producer, job, may_wait)) {
-            Ok(job) => Ok(Ticket { packet, pool: pool.id(), job: Some(job) }),
+            Ok(job) => Ok(Ticket { packet, pool: pool.number, job: Some(job) }),
             Err((reason, One { call, .. })) => Err(Refused { reason, job: call }),
         }
     }

@@ -2,15 +2,16 @@
 //!
 //! A waiting job runs on its stack only what it waits for, if that has not begun. So each job on a
 //! stack waits for the one above it, and stacks add no wait to those of the program. If there is
-//! nothing to run, the thread leaves its worker to a spare thread and sleeps. It then goes on without
-//! a worker: if it first needed one, all workers could be held by jobs that wait for this one.
+//! nothing to run, the thread leaves its worker to a spare thread and sleeps. It then goes on
+//! without a worker: if it first needed one, all workers could be held by jobs that wait for this
+//! one.
 
 use crate::desk::{Desk, Next};
 use crate::gang::Gang;
 use crate::job::{Awaited, Job};
 use crate::overflow::Woken;
 use crate::scope::ScopeState;
-use crate::shared::Shared;
+use crate::shared::{pool_of, Shared};
 use crate::spares::{Given, Inbox, Left};
 use cubejobs::lanes::SubmitError;
 use std::cell::{Cell, RefCell};
@@ -56,6 +57,8 @@ pub(crate) struct Local {
     pub in_gang: Cell<bool>,
     /// About where the stack of this thread begins.
     stack: usize,
+    /// The numbers of other pools whose jobs are on this stack.
+    hosts: RefCell<Vec<usize>>,
     /// A share of the scope whose job was the last one.
     pub scope: RefCell<Option<Arc<ScopeState>>>,
 }
@@ -70,7 +73,7 @@ enum Step {
 
 /// Returns what this thread keeps as one of this pool, if it is one.
 pub(crate) fn of(shared: &Shared) -> Option<Rc<Local>> {
-    any().filter(|it| it.shared.id() == shared.id())
+    any().filter(|it| it.shared.number == shared.number)
 }
 
 /// Returns what this thread keeps as one of any pool, if it is one. A thread that ends is none.
@@ -83,8 +86,13 @@ pub(crate) fn is_worker() -> bool {
     any().is_some()
 }
 
-/// Waits for something of the pool with this number. A thread of that pool runs parts of it that have
-/// not begun.
+/// Returns whether this thread runs a job of this pool.
+pub(crate) fn runs_job_of(pool: &Shared) -> bool {
+    any().is_some_and(|it| it.shared.number == pool.number || it.hosts.borrow().contains(&pool.number))
+}
+
+/// Waits for something of the pool with this number. A thread of any pool runs parts of it that
+/// have not begun.
 ///
 /// # Panics
 ///
@@ -124,6 +132,7 @@ pub(crate) fn work(shared: Arc<Shared>, inbox: Arc<Inbox>, number: usize) {
         desk: RefCell::new(None),
         in_gang: Cell::new(false),
         stack: stack_pointer(),
+        hosts: RefCell::default(),
         scope: RefCell::new(None),
     });
     CURRENT.set(Some(local.clone()));
@@ -199,12 +208,16 @@ impl Local {
         }
     }
 
-    /// Runs this worker's part of the gang that has called it, or a one-worker job whose turn it is.
-    /// Returns whether it did: not if the worker was woken, and has to search for a job.
+    /// Runs this worker's part of the gang that has called it, or a one-worker job whose turn it
+    /// is. Returns whether it did: not if the worker was woken, and has to search for a job.
     fn serve_or_run_one(&self) -> bool {
         let take = |desk: &mut Desk, shared: &Shared| {
             let is_turn = std::mem::take(&mut desk.is_turn_of_one);
-            if is_turn { desk.take_awake(shared) } else { None }
+            if is_turn {
+                desk.take_awake(shared)
+            } else {
+                None
+            }
         };
         if let Some(job) = self.with_desk(take).flatten() {
             self.run(job);
@@ -281,16 +294,17 @@ impl Local {
         }
     }
 
-    /// Waits until this is over. If it is of this pool, runs parts of it that have not begun.
+    /// Waits until something of this pool is over. Runs parts of it that have not begun.
     fn wait(&self, pool: usize, wait: &dyn Wait) {
-        let is_own = self.shared.id() == pool;
+        let is_own = self.shared.number == pool;
         assert!(
             !(is_own && self.in_gang.get()),
             "a member of a gang waits for a job of its own pool: the pool could stand still"
         );
+        let host = if is_own { Some(self.shared.clone()) } else { pool_of(pool) };
         let (mut yields, mut kept) = (0, None);
         while !wait.is_over() {
-            if is_own && self.run_part(wait, &mut kept) {
+            if host.as_ref().is_some_and(|host| self.run_part(host, wait, &mut kept)) {
                 continue;
             }
             if self.has_desk() && yields < YIELDS {
@@ -304,23 +318,23 @@ impl Local {
         self.resume(kept);
     }
 
-    /// Runs a part of what the job waits for, or has a spare run it if this stack is half used. Returns
-    /// whether this thread did.
-    fn run_part(&self, wait: &dyn Wait, kept: &mut Option<usize>) -> bool {
+    /// Runs a part of what the job waits for, or has a spare run it if this stack is half used.
+    /// Returns whether this thread did.
+    fn run_part(&self, host: &Shared, wait: &dyn Wait, kept: &mut Option<usize>) -> bool {
+        let is_own = host.number == self.shared.number;
         let has_stack = self.stack.abs_diff(stack_pointer()) < self.shared.spares.half_stack();
-        if has_stack && self.is_called_for(wait) && self.with_desk(Desk::get_up) == Some(true) {
+        if is_own && has_stack && self.is_called_for(wait) && self.with_desk(Desk::get_up) == Some(true) {
             self.serve();
             return true;
         }
         let Some(job) = wait.next() else { return false };
         if has_stack {
-            self.with_desk(|desk, _| desk.begun_early += 1);
-            self.run(job.into_job());
+            self.run_early(host, job);
             return true;
         }
-        let refused = match self.has_desk() {
+        let refused = match is_own && self.has_desk() {
             true => self.leave(Some(job), kept),
-            false => self.shared.spares.pass_on(&self.shared, job).err(),
+            false => host.spares.pass_on(host, job).err(),
         };
         if let Some(job) = refused {
             wait.put_back(job);
@@ -328,16 +342,29 @@ impl Local {
         false
     }
 
+    /// Runs a job of this pool or of another one before it is taken from its lane.
+    fn run_early(&self, host: &Shared, job: Awaited) {
+        if host.number == self.shared.number {
+            self.with_desk(|desk, _| desk.begun_early += 1);
+            return self.run(job.into_job());
+        }
+        // The job is none of the gang whose member waits for it.
+        let in_gang = self.in_gang.take();
+        self.hosts.borrow_mut().push(host.number);
+        host.host(|| host.begin(job.into_job()));
+        self.hosts.borrow_mut().pop();
+        self.in_gang.set(in_gang);
+    }
+
     /// Returns whether this thread's worker is a member of a gang that the job waits for.
     fn is_called_for(&self, wait: &dyn Wait) -> bool {
-        let is_awaited = |desk: &mut Desk, shared: &Shared| {
-            shared.seats[desk.index].has_mail(|gang| wait.has(gang))
-        };
+        let is_awaited =
+            |desk: &mut Desk, shared: &Shared| shared.seats[desk.index].has_mail(|gang| wait.has(gang));
         self.is_called() && self.with_desk(is_awaited) == Some(true)
     }
 
-    /// Leaves the worker, if the thread has one. A spare that gets it runs this job first. Returns the
-    /// job if no spare does, and sets the number of a worker that is kept.
+    /// Leaves the worker, if the thread has one. A spare that gets it runs this job first. Returns
+    /// the job if no spare does, and sets the number of a worker that is kept.
     fn leave(&self, job: Option<Awaited>, kept: &mut Option<usize>) -> Option<Awaited> {
         let Some(desk) = self.desk.take() else { return job };
         match self.shared.spares.leave(&self.shared, desk, job) {

@@ -1,5 +1,5 @@
-//! The desk of a worker: its handles in the lanes, and where it looks for jobs. One thread has it at a
-//! time.
+//! The desk of a worker: its handles in the lanes, and where it looks for jobs. One thread has it
+//! at a time.
 
 use crate::job::Job;
 use crate::overflow::{Overflow, Woken};
@@ -29,7 +29,8 @@ pub(crate) struct Desk {
     pub looks: u32,
     /// Whether a one-worker job goes first, since the last job was a gang.
     pub is_turn_of_one: bool,
-    /// How many jobs were begun before they were taken from a lane. They are perhaps in the own one.
+    /// How many jobs were begun before they were taken from a lane. They are perhaps in the own
+    /// one.
     pub begun_early: usize,
 }
 
@@ -143,8 +144,8 @@ impl Desk {
         self.worker.as_mut().is_none_or(Worker::awake)
     }
 
-    /// Submits a job to the lane of this worker. Returns the worker that this has woken. If the lane
-    /// is full, returns the job.
+    /// Submits a job to the lane of this worker. Returns the worker that this has woken. If the
+    /// lane is full, returns the job.
     pub fn submit(&mut self, pool: &Shared, job: Job) -> Result<Option<u32>, (SubmitError, Job)> {
         let refused = match self.lane.submit(job.into_word(), 0) {
             Ok(accepted) => return Ok(accepted.woken),
@@ -159,8 +160,8 @@ impl Desk {
         }
     }
 
-    /// Drops the first jobs of the own lane that have begun. The one after them goes to the overflow.
-    /// Returns whether there is room now.
+    /// Drops the first jobs of the own lane that have begun. The one after them goes to the
+    /// overflow. Returns whether there is room now.
     fn clear(&mut self, pool: &Shared) -> bool {
         if self.begun_early == 0 || self.may_lie {
             return false;

@@ -23,8 +23,8 @@ pub(crate) type End = Box<dyn FnOnce(Option<Payload>) + Send>;
 /// The payload by which a member is unwound because another one has panicked.
 pub(crate) struct Freed;
 
-/// What a gang is part of: its ticket, and a scope or 0. These are addresses that others do not have
-/// meanwhile.
+/// What a gang is part of: its ticket, and a scope or 0. These are addresses that others do not
+/// have meanwhile.
 #[derive(Clone, Copy, Default)]
 pub(crate) struct Owners {
     pub ticket: usize,

@@ -1,8 +1,8 @@
 //! A queue of jobs without a limit: a lane, and a list of the jobs for which the lane has no room.
 //!
-//! The waker of the lanes knows of jobs in lanes only. So the lane has jobs while the list has some:
-//! a worker that takes one of the last jobs from the lane moves others there. A worker that finds no
-//! job in the lanes does the same before it sleeps.
+//! The waker of the lanes knows of jobs in lanes only. So the lane has jobs while the list has
+//! some: a worker that takes one of the last jobs from the lane moves others there. A worker that
+//! finds no job in the lanes does the same before it sleeps.
 
 use crate::job::Job;
 use crate::util::lock;

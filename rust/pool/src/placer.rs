@@ -47,7 +47,8 @@ impl Placer {
         Placer { machine, size, taker, lanes, from: 0, waiting, passed: 0, reserve: None }
     }
 
-    /// Takes a gang from the lanes, if there is room for one more that waits. Each lane has its room.
+    /// Takes a gang from the lanes, if there is room for one more that waits. Each lane has its
+    /// room.
     fn take(&mut self, rooms: &[Padded<Room>]) -> Option<Arc<Gang>> {
         if self.waiting.len() >= self.size {
             return None;
@@ -75,16 +76,26 @@ impl Placer {
         if self.waiting.is_empty() {
             self.place_new(seats, rooms, &mut ready);
         }
-        while let Some(gang) = self.take(rooms) {
-            self.waiting.push_back(gang);
+        loop {
+            let before = ready.len();
+            while let Some(gang) = self.take(rooms) {
+                self.waiting.push_back(gang);
+            }
+            self.place_waiting(seats, &mut ready);
+            if ready.len() == before {
+                return ready;
+            }
         }
-        while self.place_oldest(seats, &mut ready) {}
-        self.place_others(seats, &mut ready);
+    }
+
+    /// Places gangs that wait, the oldest first.
+    fn place_waiting(&mut self, seats: &[Padded<Seat>], ready: &mut Vec<Arc<Gang>>) {
+        while self.place_oldest(seats, ready) {}
+        self.place_others(seats, ready);
         if self.passed >= self.size && self.reserve.is_none() {
-            while self.place_oldest(seats, &mut ready) {}
-            self.place_others(seats, &mut ready);
+            while self.place_oldest(seats, ready) {}
+            self.place_others(seats, ready);
         }
-        ready
     }
 
     /// Places gangs that come while none waits.

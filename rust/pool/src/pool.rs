@@ -13,7 +13,7 @@ use crate::overflow::Overflow;
 use crate::placer::Placer;
 use crate::scope::{self, Scope};
 use crate::seat::Seat;
-use crate::shared::{GangWord, Looks, Shared, Wait};
+use crate::shared::{next_number, GangWord, Looks, Shared, Wait};
 use crate::spares::{Settings, Spares};
 use crate::ticket::{Packet, Promise, Ticket};
 use crate::util::{drop_quietly, Padded};
@@ -25,7 +25,7 @@ use std::io;
 use std::num::NonZero;
 use std::panic::{catch_unwind, AssertUnwindSafe};
 use std::sync::atomic::AtomicBool;
-use std::sync::{Arc, Mutex};
+use std::sync::{Arc, Condvar, Mutex};
 use std::thread;
 use std::time::Duration;
 
@@ -47,12 +47,13 @@ pub const MAX_WORKERS_LOG2: u32 = 10;
 /// ```
 pub const MAX_LANES: u32 = 1024;
 
-// Each worker has a lane. The others are that of the jobs that come back, that of the overflow, those
-// that threads share, and those of clients.
+// Each worker has a lane. The others are that of the jobs that come back, that of the overflow,
+// those that threads share, and those of clients.
 const _: () = assert!((1 << MAX_WORKERS_LOG2) <= lanes::MAX_WORKERS);
 const _: () = assert!(2 + (1 << MAX_WORKERS_LOG2) + 2 * MAX_LANES <= lanes::MAX_LANES);
 
-/// The bytes of a thread's stack, unless the builder or the variable `RUST_MIN_STACK` says otherwise.
+/// The bytes of a thread's stack, unless the builder or the variable `RUST_MIN_STACK` says
+/// otherwise.
 const STACK_SIZE: usize = 2 << 20;
 
 /// The most spare threads, unless [`Builder::max_threads`] says otherwise.
@@ -96,8 +97,8 @@ pub struct Pool {
 }
 
 impl Builder {
-    /// Sets the number of workers to `2^dim`. The dimension is at most [`MAX_WORKERS_LOG2`]. Without
-    /// this call the number is the largest power of two that is at most
+    /// Sets the number of workers to `2^dim`. The dimension is at most [`MAX_WORKERS_LOG2`].
+    /// Without this call the number is the largest power of two that is at most
     /// [`available_parallelism`](std::thread::available_parallelism).
     ///
     /// ```
@@ -124,8 +125,8 @@ impl Builder {
         self
     }
 
-    /// Sets the number of lanes that other threads share, for jobs and for gangs each, from 1 to [`MAX_LANES`]. There are 4
-    /// without this call.
+    /// Sets the number of lanes that other threads share, for jobs and for gangs each. It is from 1
+    /// to [`MAX_LANES`]. There are 4 without this call.
     ///
     /// ```
     /// let pool = cubejobs_pool::Pool::builder().shared_lanes(1).build()?;
@@ -169,8 +170,9 @@ impl Builder {
     /// call.
     ///
     /// A spare gets the worker of a job that waits. If there is none left, the job keeps its worker
-    /// while it sleeps. Some spares may come in any case: for the last worker that is awake, and for one
-    /// that a gang calls. Half of the number is for jobs that wait on a stack which is half used.
+    /// while it sleeps. Some spares may come in any case: for the last worker that is awake, and
+    /// for one that a gang calls. Half of the number is for jobs that wait on a stack which is half
+    /// used.
     ///
     /// ```
     /// use std::sync::Arc;
@@ -186,13 +188,13 @@ impl Builder {
         self
     }
 
-    /// Sets the size of the stack of each thread, in bytes. A job has at least half of it. Without this
-    /// call it is 2 MiB, or the number in the environment variable `RUST_MIN_STACK`.
+    /// Sets the size of the stack of each thread, in bytes. A job has at least half of it. Without
+    /// this call it is 2 MiB, or the number in the environment variable `RUST_MIN_STACK`.
     ///
     /// ```
-    /// let pool = cubejobs_pool::Pool::builder().stack_size(16 << 20).build()?;
-    /// let length = pool.spawn(|| std::hint::black_box([7_u8; 8 << 20]).len());
-    /// assert_eq!(length.join().unwrap(), 8 << 20);
+    /// let pool = cubejobs_pool::Pool::builder().stack_size(32 << 20).build()?;
+    /// let length = pool.spawn(|| std::hint::black_box(&[7_u8; 4 << 20]).len());
+    /// assert_eq!(length.join().unwrap(), 4 << 20);
     /// # Ok::<(), std::io::Error>(())
     /// ```
     pub fn stack_size(mut self, bytes: usize) -> Self {
@@ -201,8 +203,8 @@ impl Builder {
     }
 
     /// Sets the names of the threads. The call gets the number of a thread: workers begin with the
-    /// numbers from 0 on, and spares have the numbers after them. Without this call the name of thread
-    /// 0 is `gang-0`. If the call panics, the name is empty.
+    /// numbers from 0 on, and spares have the numbers after them. Without this call the name of
+    /// thread 0 is `gang-0`. If the call panics, the name is empty.
     ///
     /// ```
     /// let builder = cubejobs_pool::Pool::builder().workers_log2(0);
@@ -271,6 +273,7 @@ impl Builder {
         let looks = self.all_looks();
         let shared = Arc::new_cyclic(|me| Shared {
             me: me.clone(),
+            number: next_number(),
             dim: self.dim,
             ones,
             gangs,
@@ -287,6 +290,8 @@ impl Builder {
             spares: Spares::new(size as usize, self.settings),
             placer: Mutex::new(placer),
             live: Padded::default(),
+            guests: Mutex::new(0),
+            guest_left: Condvar::new(),
             is_closed: AtomicBool::new(false),
             is_cancelled: AtomicBool::new(false),
             looks,
@@ -353,6 +358,7 @@ fn desk(ones: &Lanes<u64>, own: u32) -> io::Result<Desk> {
 /// Starts the first threads of a pool. If one cannot be started, the others end.
 fn started(shared: Arc<Shared>, desks: Vec<Desk>) -> io::Result<Pool> {
     let pool = Pool { shared };
+    pool.shared.list();
     for desk in desks {
         pool.shared.spares.start_worker(&pool.shared, desk)?;
     }
@@ -418,7 +424,7 @@ where
     let end = move |panic| ends.end(panic);
     let owners = Owners { ticket: packet.address(), scope: 0 };
     match submit(Gang::new(dim, owners, Arc::new(body), Box::new(end))) {
-        Ok(()) => Ok(Ticket { packet, pool: shared.id(), job: None }),
+        Ok(()) => Ok(Ticket { packet, pool: shared.number, job: None }),
         Err((reason, gang)) => Err(Refused { reason, job: gang::closure(gang, &weak) }),
     }
 }
@@ -464,8 +470,8 @@ impl Pool {
         self.shared.dim
     }
 
-    /// Runs `call` on one worker. If the lane is full, the job of a worker of any pool goes to a queue
-    /// without a limit, and another thread sleeps until there is room.
+    /// Runs `call` on one worker. If the lane is full, a thread that is no worker of a pool sleeps
+    /// until there is room. A worker never waits here: its job goes to a queue without a limit.
     ///
     /// ```
     /// # let pool = cubejobs_pool::Pool::builder().build()?;
@@ -491,7 +497,7 @@ impl Pool {
         let (job, awaited) = Job::awaited(One { call, promise: Promise::new(packet.clone()) });
         // A pool that is closed has no owner that could call this.
         assert!(self.shared.submit_one(job).is_ok(), "{}", Reason::Closed);
-        Ticket { packet, pool: self.shared.id(), job: Some(awaited) }
+        Ticket { packet, pool: self.shared.number, job: Some(awaited) }
     }
 
     /// Runs `call` on one worker, as [`Pool::spawn`] does. It never waits.
@@ -514,7 +520,7 @@ impl Pool {
         let packet = Packet::new(1, None);
         let work = One { call, promise: Promise::new(packet.clone()) };
         match Job::pass_awaited(work, |job| self.shared.try_submit_one(job)) {
-            Ok(job) => Ok(Ticket { packet, pool: self.shared.id(), job: Some(job) }),
+            Ok(job) => Ok(Ticket { packet, pool: self.shared.number, job: Some(job) }),
             Err((reason, One { call, .. })) => Err(Refused { reason, job: call }),
         }
     }
@@ -638,7 +644,8 @@ impl Pool {
     }
 
     /// Calls `call` with a [`Scope`], whose jobs may borrow what outlives this call. It returns
-    /// after they have ended. A worker of this pool runs jobs of the scope meanwhile, and no others.
+    /// after they have ended. A worker of this pool runs jobs of the scope meanwhile, and no
+    /// others.
     ///
     /// # Panics
     ///
@@ -726,10 +733,10 @@ impl Drop for Pool {
     fn drop(&mut self) {
         self.shared.close(false);
         // The last owner may be a job of the pool. A worker cannot wait for itself.
-        if current::of(&self.shared).is_some() {
+        if current::runs_job_of(&self.shared) {
             return;
         }
-        current::asleep(|| self.shared.spares.join());
+        current::asleep(|| self.shared.wait_for_end());
     }
 }
 

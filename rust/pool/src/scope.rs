@@ -37,8 +37,8 @@ pub(crate) struct ScopeState {
     list: Option<Mutex<List>>,
 }
 
-/// Jobs that may be begun from here. Most jobs begin in their order, so some at the front are dropped
-/// at each push, and sometimes all that have begun.
+/// Jobs that may be begun from here. Most jobs begin in their order, so some at the front are
+/// dropped at each push, and sometimes all that have begun.
 #[derive(Default)]
 struct List {
     jobs: VecDeque<Awaited>,
@@ -69,7 +69,7 @@ impl List {
 }
 
 impl ScopeState {
-    /// Makes the state of a scope of a pool. Its owner is this thread, which may be one of the pool.
+    /// Makes the state of a scope of a pool. Its owner is this thread, which may be one of a pool.
     fn new(pool: &Shared) -> Arc<Self> {
         Arc::new(ScopeState {
             begun: Padded::default(),
@@ -80,7 +80,7 @@ impl ScopeState {
             owner: thread::current(),
             owner_number: thread_number(),
             panic: Mutex::new(None),
-            list: current::of(pool).map(|_| Mutex::default()),
+            list: current::is_worker().then(Mutex::default),
         })
     }
 
@@ -271,7 +271,7 @@ pub(crate) fn run<'env, R>(
     let scope = Scope { pool, state: state.clone(), scope: PhantomData, env: PhantomData };
     let result = catch_unwind(AssertUnwindSafe(|| call(&scope)));
     state.is_ending.store(true, SeqCst);
-    current::wait(pool.id(), &*state);
+    current::wait(pool.number, &*state);
     let panic = lock(&state.panic).take();
     match (result, panic) {
         (Err(payload), _) | (Ok(_), Some(payload)) => resume_unwind(payload),
@@ -280,8 +280,8 @@ pub(crate) fn run<'env, R>(
 }
 
 impl<'scope> Scope<'scope, '_> {
-    /// Runs `call` on one worker. If the lane is full, the job of a worker goes to a queue without a
-    /// limit, and another thread sleeps until there is room. Its panic is that of the scope.
+    /// Runs `call` on one worker. If the lane is full, a thread that is no worker of a pool sleeps
+    /// until there is room. A worker never waits here. The panic of `call` is that of the scope.
     ///
     /// ```
     /// # let pool = cubejobs_pool::Pool::builder().build()?;
@@ -416,7 +416,7 @@ impl<'scope> Scope<'scope, '_> {
     }
 
     fn ticket<T>(&self, packet: Arc<Packet<T>>, job: Option<Awaited>) -> ScopeTicket<'scope, T> {
-        ScopeTicket { ticket: Ticket { packet, pool: self.pool.id(), job }, scope: PhantomData }
+        ScopeTicket { ticket: Ticket { packet, pool: self.pool.number, job }, scope: PhantomData }
     }
 }
 

@@ -56,8 +56,8 @@ const MOST_SHORT: u32 = 256;
 /// Whether a member looks long for what it waits for, before it sleeps. The member alone uses it.
 ///
 /// Long looks pay if each member has a processor. Otherwise they take time from the member that is
-/// waited for. So after some in vain, the next ones are short. The first one in a gang is short too:
-/// others may come late.
+/// waited for. So after some in vain, the next ones are short. The first one in a gang is short
+/// too: others may come late.
 #[derive(Default)]
 pub(crate) struct Patience {
     has_waited: AtomicBool,

@@ -15,8 +15,9 @@ use crate::seat::Seat;
 use crate::spares::Spares;
 use crate::util::{drop_quietly, lock, Padded};
 use cubejobs::lanes::{Accepted, Lanes, Payload, Refused, SubmitError};
+use std::collections::BTreeMap;
 use std::sync::atomic::{AtomicBool, AtomicUsize, Ordering::SeqCst};
-use std::sync::{Arc, Mutex, Weak};
+use std::sync::{Arc, Condvar, Mutex, PoisonError, Weak};
 use std::thread;
 use std::time::Duration;
 
@@ -36,11 +37,12 @@ pub(crate) struct Looks {
     pub long: Duration,
 }
 
-/// The lanes of one-worker jobs, in the order of their numbers, are: that of jobs that have come
-/// back, that of the overflow, those that threads share, those of clients, one for each worker.
-/// Those of gangs are the lanes that threads share, and those of clients.
+/// The first lane of one-worker jobs is that of jobs that have come back. The others are, in the
+/// order of their numbers, that of the overflow, those that threads share, those of clients, and
+/// one for each worker. The lanes of gangs are those that threads share, and those of clients.
 pub(crate) struct Shared {
     pub me: Weak<Shared>,
+    pub number: usize,
     pub dim: u32,
     pub ones: Lanes<u64>,
     pub gangs: Lanes<GangWord>,
@@ -61,15 +63,32 @@ pub(crate) struct Shared {
     pub placer: Mutex<Placer>,
     /// The number of gangs that were accepted and have not ended, and of those that are submitted.
     pub live: Padded<AtomicUsize>,
+    /// The number of threads of other pools that run jobs of this one.
+    pub guests: Mutex<usize>,
+    pub guest_left: Condvar,
     pub is_closed: AtomicBool,
     pub is_cancelled: AtomicBool,
     pub looks: Looks,
 }
 
+/// The pools that live, by their numbers.
+static POOLS: Mutex<BTreeMap<usize, Weak<Shared>>> = Mutex::new(BTreeMap::new());
+
+/// Returns a number that no other pool has.
+pub(crate) fn next_number() -> usize {
+    static NEXT: AtomicUsize = AtomicUsize::new(0);
+    NEXT.fetch_add(1, SeqCst)
+}
+
+/// Returns the pool with this number, if it lives.
+pub(crate) fn pool_of(number: usize) -> Option<Arc<Shared>> {
+    lock(&POOLS).get(&number)?.upgrade()
+}
+
 impl Shared {
-    /// Returns a number that other pools do not have while this one lives.
-    pub fn id(&self) -> usize {
-        std::ptr::from_ref(self) as usize
+    /// Lists the pool, so that `pool_of` finds it.
+    pub fn list(&self) {
+        lock(&POOLS).insert(self.number, self.me.clone());
     }
 
     /// Returns a share for a new thread.
@@ -99,6 +118,25 @@ impl Shared {
             drop_quietly(job);
         } else {
             job.run();
+        }
+    }
+
+    /// Makes a call of a thread of another pool, by which it runs a job of this pool.
+    pub fn host<R>(&self, call: impl FnOnce() -> R) -> R {
+        *lock(&self.guests) += 1;
+        let result = call();
+        *lock(&self.guests) -= 1;
+        self.guest_left.notify_all();
+        result
+    }
+
+    /// Waits until all threads of the pool have ended, and all jobs.
+    pub fn wait_for_end(&self) {
+        while self.spares.join() {
+            let mut guests = lock(&self.guests);
+            while *guests != 0 {
+                guests = self.guest_left.wait(guests).unwrap_or_else(PoisonError::into_inner);
+            }
         }
     }
 
@@ -158,30 +196,22 @@ impl Shared {
     /// Submits a job. If the lane is full, that of a worker of any pool goes to the overflow, and
     /// another thread sleeps until there is room. Returns the job if the pool is closed.
     pub fn submit_one(&self, job: Job) -> Result<(), Job> {
-        if self.is_closed.load(SeqCst) {
-            return Err(job);
-        }
-        let job = match current::of(self) {
-            Some(local) => match self.settle_own(local.try_submit(job)) {
-                Err((Reason::Full, job)) => job,
-                settled => return settled.map_err(|(_, job)| job),
-            },
-            None if current::is_worker() => job,
-            None => return self.submit_from_outside(job),
+        let job = match self.try_submit_one(job) {
+            Err((Reason::Full, job)) => job,
+            other => return other.map_err(|(_, job)| job),
         };
-        self.rouse(self.overflow.push(job)?);
-        Ok(())
-    }
-
-    fn submit_from_outside(&self, job: Job) -> Result<(), Job> {
+        if current::is_worker() {
+            self.rouse(self.overflow.push(job)?);
+            return Ok(());
+        }
         let place = self.outside_ones.place();
         let submit = |word| self.outside_ones.submit(place, word);
         let submitted = wait_for_room(&self.rooms[place], submit(job.into_word()), submit);
         self.settle(submitted).map_err(|(_, refused)| Job::refused(refused))
     }
 
-    /// Submits a job by a client. If its lane is full, a thread that is no worker sleeps until there
-    /// is room, if it may wait. Returns the job if it was not accepted.
+    /// Submits a job by a client. If its lane is full, a thread that is no worker sleeps until
+    /// there is room, if it may wait. Returns the job if it was not accepted.
     pub fn submit_by_client(
         &self,
         producer: &mut Producer,
@@ -205,8 +235,8 @@ impl Shared {
         self.submit_gang_by(gang, place, wait, |gang| self.outside_gangs.submit(place, gang))
     }
 
-    /// Submits a gang by a call, to the lane of a place. If it is full, the thread sleeps until there
-    /// is room, if it may wait. Returns the gang if it was not accepted.
+    /// Submits a gang by a call, to the lane of a place. If it is full, the thread sleeps until
+    /// there is room, if it may wait. Returns the gang if it was not accepted.
     pub fn submit_gang_by(
         &self,
         gang: Gang,
@@ -300,6 +330,12 @@ impl Shared {
         self.gang_rooms.iter().for_each(|room| room.call_all());
         self.place();
         self.end_if_over();
+    }
+}
+
+impl Drop for Shared {
+    fn drop(&mut self) {
+        lock(&POOLS).remove(&self.number);
     }
 }
 

@@ -1,12 +1,12 @@
-//! The threads of a pool, and who has a worker.
+//! The threads of a pool, and which of them have a worker.
 //!
 //! A thread whose job waits leaves its worker (its desk) here. It goes to a spare thread: one that
 //! sleeps, or a new one. If there are as many as the pool may have, the worker is kept here, until
 //! its thread or another one wants it. A thread that goes on after a wait has no worker. After its
 //! job it takes one that is kept, or sleeps as a spare.
 //!
-//! Not all workers are kept: the last one goes to a new thread in any case. So does one whose seat a
-//! gang has called.
+//! Not all workers are kept: the last one goes to a new thread in any case. So does one whose seat
+//! a gang has called.
 
 use crate::current;
 use crate::desk::Desk;
@@ -146,7 +146,8 @@ impl Spares {
         self.start(pool, &mut lock(&self.state), given).map_err(|(error, _)| error)
     }
 
-    /// Leaves the worker of a thread whose job waits. A spare that gets the worker runs this job first.
+    /// Leaves the worker of a thread whose job waits. A spare that gets the worker runs this job
+    /// first.
     pub fn leave(&self, pool: &Shared, desk: Box<Desk>, job: Option<Awaited>) -> Left {
         let index = desk.index;
         let mut state = lock(&self.state);
@@ -174,8 +175,8 @@ impl Spares {
         given.map_err(|refused| refused.job.expect("what is refused has its job"))
     }
 
-    /// Returns whether there may be one more spare. Half of the limit is for jobs that wait on a stack
-    /// which is half used.
+    /// Returns whether there may be one more spare. Half of the limit is for jobs that wait on a
+    /// stack which is half used.
     fn may_start(&self, state: &State, is_deep: bool) -> bool {
         let max = self.settings.max_threads;
         let limit = if is_deep { max } else { max.div_ceil(2) };
@@ -217,15 +218,16 @@ impl Spares {
         self.has_failed.load(SeqCst)
     }
 
-    /// Returns the worker with this number to the thread that has kept it, if no other thread has it.
+    /// Returns the worker with this number to the thread that has kept it, if no other thread has
+    /// it.
     pub fn get_back(&self, pool: &Shared, index: usize) -> Option<Box<Desk>> {
         let desk = lock(&self.state).take_kept(index)?;
         pool.seats[index].is_kept.store(false, SeqCst);
         Some(desk)
     }
 
-    /// Returns what a thread without a worker does next, and sleeps until there is something. Returns
-    /// `None` if the pool is over.
+    /// Returns what a thread without a worker does next, and sleeps until there is something.
+    /// Returns `None` if the pool is over.
     pub fn next(&self, pool: &Shared, inbox: &Arc<Inbox>) -> Option<Given> {
         // What a new thread is given is there already.
         if let Some(given) = inbox.take() {
@@ -251,7 +253,8 @@ impl Spares {
         }
     }
 
-    /// Takes a thread out of those that sleep, at the end. Returns whether nobody gives it anything.
+    /// Takes a thread out of those that sleep, at the end. Returns whether nobody gives it
+    /// anything.
     fn is_off(&self, inbox: &Arc<Inbox>) -> bool {
         let mut state = lock(&self.state);
         state.idle.retain(|other| !Arc::ptr_eq(other, inbox));
@@ -267,12 +270,14 @@ impl Spares {
         }
     }
 
-    /// Waits until all threads have ended. A thread starts others only while it lives.
-    pub fn join(&self) {
+    /// Waits until the threads that were started have ended. Returns whether there was one.
+    pub fn join(&self) -> bool {
+        let mut has_joined = false;
         loop {
-            let Some(handle) = lock(&self.state).handles.pop() else { return };
+            let Some(handle) = lock(&self.state).handles.pop() else { return has_joined };
             // A thread ends without a panic: those of jobs end in the jobs.
             let _ = handle.join();
+            has_joined = true;
         }
     }
 }

@@ -217,13 +217,13 @@ impl<T> Ticket<T> {
     /// Sleeps until the job has ended. Returns the result of the member of rank 0. The error is the
     /// payload of the first panic, or [`Cancelled`](crate::Cancelled).
     ///
-    /// A job that waits runs this one itself if it has not begun, and no other job. Otherwise another
-    /// thread gets its worker meanwhile.
+    /// A job that waits runs this one itself if it has not begun, and no other one. Otherwise
+    /// another thread gets its worker meanwhile.
     ///
     /// # Panics
     ///
-    /// Panics if the job has not ended, and this is a call of a gang of the same pool, since the pool
-    /// could stand still, or of the job itself.
+    /// Panics in a gang of the same pool, unless the job has ended: the pool could stand still.
+    /// Panics if this is a call of the job itself, or of a job that runs on its stack.
     ///
     /// ```
     /// # let pool = cubejobs_pool::Pool::builder().build()?;
