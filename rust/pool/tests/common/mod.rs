@@ -1,7 +1,7 @@
 //! What the tests share.
 #![allow(dead_code)] // each file of tests uses a part
 
-use cubejobs_pool::Pool;
+use cubejobs_pool::{Builder, Pool};
 use std::env;
 use std::fs;
 use std::io::{self, Write};
@@ -9,7 +9,7 @@ use std::panic::{self, resume_unwind};
 use std::process::abort;
 use std::sync::atomic::{AtomicUsize, Ordering::SeqCst};
 use std::sync::mpsc::{channel, RecvTimeoutError, Sender};
-use std::sync::{Arc, Mutex, MutexGuard, PoisonError};
+use std::sync::{Arc, Condvar, Mutex, MutexGuard, PoisonError};
 use std::thread;
 use std::time::{Duration, Instant};
 
@@ -128,4 +128,42 @@ impl Drop for Counted {
     fn drop(&mut self) {
         self.0.fetch_sub(1, SeqCst);
     }
+}
+
+/// Returns the builder of a pool of this number of workers, a power of two.
+pub fn workers(count: usize) -> Builder {
+    Pool::builder().workers_log2(count.ilog2())
+}
+
+/// A gate that lets one thread pass for each permit. A job that waits there waits by other means
+/// than the pool's calls.
+#[derive(Clone, Default)]
+pub struct Gate(Arc<(Mutex<usize>, Condvar)>);
+
+impl Gate {
+    /// Adds this number of permits.
+    pub fn open(&self, permits: usize) {
+        *self.permits() += permits;
+        self.0 .1.notify_all();
+    }
+
+    /// Takes one permit, once there is one.
+    pub fn pass(&self) {
+        let none = |permits: &mut usize| *permits == 0;
+        let mut permits = self.0 .1.wait_while(self.permits(), none).unwrap_or_else(PoisonError::into_inner);
+        *permits -= 1;
+    }
+
+    fn permits(&self) -> MutexGuard<'_, usize> {
+        self.0 .0.lock().unwrap_or_else(PoisonError::into_inner)
+    }
+}
+
+/// Waits until `holds` is true, for at most ten seconds. Returns whether it is.
+pub fn within_ten_seconds(holds: impl Fn() -> bool) -> bool {
+    let start = Instant::now();
+    while !holds() && start.elapsed() < Duration::from_secs(10) {
+        thread::sleep(Duration::from_millis(1));
+    }
+    holds()
 }
