@@ -32,8 +32,8 @@ const MOST_JOBS: u64 = 300;
 const LOCKS: usize = 4;
 
 /// Whether a job that holds a lock may wait for jobs of another pool. All workers of that pool may be
-/// blocked by the lock. Then the job that waits has to run the other one.
-const ACROSS_POOLS: bool = true;
+/// blocked by the lock. Then the job that waits would have to run the other one.
+const ACROSS_POOLS: bool = false;
 
 /// The way by which a job is spawned.
 #[derive(Clone, Copy, Debug)]
