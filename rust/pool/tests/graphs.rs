@@ -31,10 +31,6 @@ const MOST_JOBS: u64 = 300;
 /// The number of locks. A lock with a smaller number is taken first.
 const LOCKS: usize = 4;
 
-/// Whether a job that holds a lock may wait for jobs of another pool. All workers of that pool may be
-/// blocked by the lock. Then the job that waits would have to run the other one.
-const ACROSS_POOLS: bool = false;
-
 /// The way by which a job is spawned.
 #[derive(Clone, Copy, Debug)]
 enum Way {
@@ -106,8 +102,6 @@ struct Job {
     panics: bool,
     is_detached: bool,
     pool: usize,
-    /// Its pool, and those of all jobs for which it waits.
-    pools: Vec<usize>,
     /// The least lock that it takes, or that a job takes for which it waits.
     least_lock: usize,
     /// Whether its end depends on a gang.
@@ -157,22 +151,19 @@ struct View {
     floor: usize,
     may_lock: bool,
     may_need_gang: bool,
-    /// The only pool of the jobs for which it may wait.
-    within: Option<usize>,
     depth: usize,
 }
 
 impl View {
     /// Returns whether this job may be waited for.
     fn allows(&self, job: &Job) -> bool {
-        let is_within = self.within.is_none_or(|pool| job.pools == [pool]);
-        is_within && job.least_lock >= self.floor && (self.may_need_gang || !job.needs_gang)
+        job.least_lock >= self.floor && (self.may_need_gang || !job.needs_gang)
     }
 }
 
 /// Returns the view of a job for which nobody waits who holds a lock.
 fn free(view: &View) -> View {
-    View { floor: 0, may_lock: true, may_need_gang: true, within: None, ..view.clone() }
+    View { floor: 0, may_lock: true, may_need_gang: true, ..view.clone() }
 }
 
 struct Maker {
@@ -188,9 +179,8 @@ impl Maker {
         self.numbers.below(one_in) == 0
     }
 
-    fn pool(&mut self, view: &View) -> usize {
-        let pool = self.numbers.below(self.sizes.dims.len() as u64) as usize;
-        view.within.unwrap_or(pool)
+    fn pool(&mut self) -> usize {
+        self.numbers.below(self.sizes.dims.len() as u64) as usize
     }
 
     fn has_room(&self, view: &View) -> bool {
@@ -207,7 +197,6 @@ impl Maker {
             panics,
             is_detached: false,
             pool,
-            pools: vec![pool],
             least_lock: usize::MAX,
             needs_gang,
             known: Vec::new(),
@@ -253,7 +242,7 @@ impl Maker {
 
     fn spawn(&mut self, view: &mut View) -> Op {
         let child = self.view_of_child(view);
-        let pool = self.pool(&child);
+        let pool = self.pool();
         let job = self.job(&child, pool);
         view.known.push(job);
         let way = [Way::Plain, Way::Plain, Way::Client, Way::Try][self.numbers.below(4) as usize];
@@ -262,7 +251,7 @@ impl Maker {
 
     fn detach(&mut self, view: &mut View) -> Op {
         let child = free(view);
-        let pool = self.pool(&child);
+        let pool = self.pool();
         let job = self.job(&child, pool);
         self.jobs[job].is_detached = true;
         self.taken[job] = true;
@@ -273,13 +262,9 @@ impl Maker {
     fn wait(&mut self, view: &mut View, of: usize, other: usize) {
         self.taken[other] = true;
         let (least, needs_gang) = (self.jobs[other].least_lock, self.jobs[other].needs_gang);
-        let pools = self.jobs[other].pools.clone();
         let job = &mut self.jobs[of];
         job.least_lock = job.least_lock.min(least);
         job.needs_gang |= needs_gang;
-        job.pools.extend(pools);
-        job.pools.sort_unstable();
-        job.pools.dedup();
         view.known.extend_from_slice(&self.jobs[other].known);
         view.known.sort_unstable();
         view.known.dedup();
@@ -300,7 +285,7 @@ impl Maker {
     }
 
     fn scope(&mut self, view: &mut View, of: usize) -> Op {
-        let pool = self.pool(view);
+        let pool = self.pool();
         let child = View { may_lock: true, ..view.clone() };
         let mut has_panic = false;
         let count = 1 + self.numbers.below(4);
@@ -328,14 +313,14 @@ impl Maker {
     }
 
     fn gang(&mut self, view: &mut View, of: usize) -> Op {
-        let pool = self.pool(view);
+        let pool = self.pool();
         let dim = self.numbers.below(u64::from(self.sizes.dims[pool].min(2)) + 1) as u32;
         let job = self.add(pool, Some(Members { dim, spawns: Vec::new() }));
         self.jobs[of].needs_gang = true;
         let child = View { depth: view.depth + 1, ..free(view) };
         for rank in 0..1 << dim {
             if self.chance(2) && self.has_room(&child) {
-                let pool = self.pool(&child);
+                let pool = self.pool();
                 let spawned = self.job(&child, pool);
                 self.jobs[job].known.push(spawned);
                 self.jobs[job].gang.as_mut().expect("a gang").spawns.push((rank, spawned, pool));
@@ -354,8 +339,7 @@ impl Maker {
     fn lock(&mut self, view: &mut View, of: usize) -> Op {
         let lock = view.floor + self.numbers.below((LOCKS - view.floor) as u64) as usize;
         self.jobs[of].least_lock = self.jobs[of].least_lock.min(lock);
-        let within = if ACROSS_POOLS { view.within } else { Some(self.jobs[of].pool) };
-        let mut under = View { floor: lock + 1, may_need_gang: false, within, ..view.clone() };
+        let mut under = View { floor: lock + 1, may_need_gang: false, ..view.clone() };
         let count = 1 + self.numbers.below(4);
         let ops = self.ops(&mut under, of, count);
         view.known = under.known;
@@ -398,17 +382,15 @@ fn program(seed: u64) -> Program {
 fn tree(maker: &mut Maker) -> Vec<Op> {
     // Outside a pool, a thread sleeps for room. So it holds no lock.
     let may_lock = !maker.sizes.is_outside;
-    let mut view =
-        View { known: Vec::new(), floor: 0, may_lock, may_need_gang: true, within: None, depth: 0 };
+    let mut view = View { known: Vec::new(), floor: 0, may_lock, may_need_gang: true, depth: 0 };
     maker.ops(&mut view, 0, 60)
 }
 
 /// Jobs that only join, take locks and sleep. The root spawns all.
 fn flat(maker: &mut Maker) -> Vec<Op> {
-    let mut view =
-        View { known: Vec::new(), floor: 0, may_lock: true, may_need_gang: false, within: None, depth: 14 };
+    let mut view = View { known: Vec::new(), floor: 0, may_lock: true, may_need_gang: false, depth: 14 };
     let spawn = |_| {
-        let pool = maker.pool(&view);
+        let pool = maker.pool();
         let job = maker.job(&view, pool);
         view.known.push(job);
         Op::Spawn { job, pool, way: Way::Plain }

@@ -428,7 +428,6 @@ fn an_awaited_job_is_taken_wherever_it_is() {
 
 /// The only worker of another pool is blocked by a lock that the waiting job holds.
 #[test]
-#[ignore = "a thread takes queued jobs of its own pool only"]
 fn an_awaited_job_of_another_pool_is_taken() {
     let _limited = limited(30);
     let (one, two) = (pool_with(1, 256), pool_with(1, 256));

@@ -66,10 +66,15 @@ pub fn threads() -> usize {
 /// Waits until the threads of pools are this many.
 pub fn wait_for_threads(count: usize) {
     let start = Instant::now();
-    while threads() != count && start.elapsed() < Duration::from_secs(10) {
+    loop {
+        // A thread that starts has its name a moment later.
+        let now = threads();
+        if now == count {
+            return;
+        }
+        assert!(start.elapsed() < Duration::from_secs(10), "{now} threads of pools, and not {count}");
         thread::sleep(Duration::from_millis(2));
     }
-    assert_eq!(threads(), count);
 }
 
 /// Returns the text of a panic's payload.
