@@ -112,10 +112,8 @@ pub(crate) fn wait(pool: usize, wait: &dyn Wait) {
 pub(crate) fn asleep<R>(call: impl FnOnce() -> R) -> R {
     let Some(local) = any() else { return call() };
     let mut kept = None;
-    local.leave(None, &mut kept);
-    while local.has_desk() {
+    while local.has_desk() && !local.has_left(&mut kept) {
         thread::sleep(PAUSE);
-        local.leave(None, &mut kept);
     }
     let result = call();
     local.resume(kept);
@@ -285,6 +283,11 @@ impl Local {
         seat.is_idle.store(false, Relaxed);
     }
 
+    /// Returns whether the next job is to go to the overflow.
+    pub fn skips_lane(&self) -> bool {
+        self.with_desk(Desk::skips_lane) == Some(true)
+    }
+
     /// Submits a job to the lane of the worker, or to that of the overflow if the thread has none.
     /// Returns the workers that this has woken, or the job if the lane is full.
     pub fn try_submit(&self, job: Job) -> Result<Woken, (SubmitError, Job)> {
@@ -304,25 +307,33 @@ impl Local {
         let host = if is_own { Some(self.shared.clone()) } else { pool_of(pool) };
         let (mut yields, mut kept) = (0, None);
         while !wait.is_over() {
-            if host.as_ref().is_some_and(|host| self.run_part(host, wait, &mut kept)) {
+            // A job of another pool may hold a worker of its own pool, and none of this one.
+            let may_run = is_own || !self.has_desk();
+            if may_run && host.as_ref().is_some_and(|host| self.run_part(host, wait, &mut kept)) {
                 continue;
             }
             if self.has_desk() && yields < YIELDS {
                 yields += 1;
                 thread::yield_now();
-            } else {
-                self.leave(None, &mut kept);
+            } else if !self.has_desk() || !self.has_left(&mut kept) {
                 self.park(wait, kept);
             }
         }
         self.resume(kept);
     }
 
-    /// Runs a part of what the job waits for, or has a spare run it if this stack is half used.
-    /// Returns whether this thread did.
+    /// Leaves the worker. Returns whether the thread has none any more.
+    fn has_left(&self, kept: &mut Option<usize>) -> bool {
+        self.leave(None, kept);
+        !self.has_desk()
+    }
+
+    /// Runs a part of what the job waits for. If less is left of this stack than half of one of the
+    /// part's pool, has a spare run it. Returns whether this thread did.
     fn run_part(&self, host: &Shared, wait: &dyn Wait, kept: &mut Option<usize>) -> bool {
         let is_own = host.number == self.shared.number;
-        let has_stack = self.stack.abs_diff(stack_pointer()) < self.shared.spares.half_stack();
+        let left = self.shared.spares.stack_size().saturating_sub(self.stack.abs_diff(stack_pointer()));
+        let has_stack = left >= host.spares.stack_size() / 2;
         if is_own && has_stack && self.is_called_for(wait) && self.with_desk(Desk::get_up) == Some(true) {
             self.serve();
             return true;
@@ -344,6 +355,9 @@ impl Local {
 
     /// Runs a job of this pool or of another one before it is taken from its lane.
     fn run_early(&self, host: &Shared, job: Awaited) {
+        if host.overflow.has_listed() {
+            host.overflow.count_early();
+        }
         if host.number == self.shared.number {
             self.with_desk(|desk, _| desk.begun_early += 1);
             return self.run(job.into_job());

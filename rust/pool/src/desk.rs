@@ -9,6 +9,10 @@ use cubejobs::lanes::{Finding, Found, Lane, SubmitError, TakeError, Worker};
 /// How many jobs in a row come from one lane, if it has them.
 const MOST_IN_A_ROW: u32 = 64;
 
+/// How many jobs go to the overflow after the own lane was full, before it is tried again. A try
+/// would read what other workers write.
+const SKIPPED: u32 = 32;
+
 /// How often a worker looks for a job after its last one, before it lies down.
 const LOOKS: u32 = 32;
 
@@ -32,6 +36,8 @@ pub(crate) struct Desk {
     /// How many jobs were begun before they were taken from a lane. They are perhaps in the own
     /// one.
     pub begun_early: usize,
+    /// How many of the next jobs go to the overflow, if it has some.
+    skips: u32,
 }
 
 /// What the thread of a worker can do.
@@ -54,6 +60,7 @@ impl Desk {
             looks: 0,
             is_turn_of_one: false,
             begun_early: 0,
+            skips: 0,
         }
     }
 
@@ -144,6 +151,13 @@ impl Desk {
         self.worker.as_mut().is_none_or(Worker::awake)
     }
 
+    /// Returns whether the next job is to go to the overflow, since the own lane was full lately.
+    pub fn skips_lane(&mut self, pool: &Shared) -> bool {
+        let skips = self.skips != 0 && pool.overflow.has_listed();
+        self.skips = self.skips.saturating_sub(1);
+        skips
+    }
+
     /// Submits a job to the lane of this worker. Returns the worker that this has woken. If the
     /// lane is full, returns the job.
     pub fn submit(&mut self, pool: &Shared, job: Job) -> Result<Option<u32>, (SubmitError, Job)> {
@@ -151,6 +165,7 @@ impl Desk {
             Ok(accepted) => return Ok(accepted.woken),
             Err(refused) => refused,
         };
+        self.skips = SKIPPED;
         if refused.reason != SubmitError::Full || !self.clear(pool) {
             return Err((refused.reason, Job::refused(refused)));
         }

@@ -8,11 +8,14 @@ use crate::job::Job;
 use crate::util::lock;
 use cubejobs::lanes::{Lane, SubmitError};
 use std::collections::VecDeque;
-use std::sync::atomic::{AtomicUsize, Ordering::SeqCst};
+use std::sync::atomic::{AtomicUsize, Ordering::Relaxed, Ordering::SeqCst};
 use std::sync::Mutex;
 
-/// The least number of listed jobs at which those that have begun are looked for.
+/// How many jobs must have begun before they were taken, until those in the list are looked for.
 const LEAST_PRUNED: usize = 64;
+
+/// How many jobs a call moves at most, so that others do not wait long for their turn.
+const MOST_MOVED: usize = 64;
 
 pub(crate) struct Overflow {
     /// The number of the lane, and how few of its jobs are a reason to move others there.
@@ -21,13 +24,13 @@ pub(crate) struct Overflow {
     inner: Mutex<Inner>,
     /// The number of jobs in the list.
     listed: AtomicUsize,
+    /// How many jobs of the pool have begun before they were taken, since the last look for them.
+    begun_early: AtomicUsize,
 }
 
 struct Inner {
     lane: Lane<u64>,
     list: VecDeque<Job>,
-    /// The length of the list at which jobs that have begun are dropped.
-    prune_at: usize,
     is_closed: bool,
 }
 
@@ -37,8 +40,18 @@ pub(crate) type Woken = Vec<u32>;
 impl Overflow {
     /// Makes a queue over the lane with this number, which holds `capacity` jobs.
     pub fn new(lane: Lane<u64>, number: u32, capacity: u64) -> Self {
-        let inner = Inner { lane, list: VecDeque::new(), prune_at: LEAST_PRUNED, is_closed: false };
-        Overflow { number, low: capacity / 2, inner: Mutex::new(inner), listed: AtomicUsize::new(0) }
+        Overflow {
+            number,
+            low: capacity / 2,
+            inner: Mutex::new(Inner { lane, list: VecDeque::new(), is_closed: false }),
+            listed: AtomicUsize::new(0),
+            begun_early: AtomicUsize::new(0),
+        }
+    }
+
+    /// Counts a job that has begun before it was taken. It may be in the list.
+    pub fn count_early(&self) {
+        self.begun_early.fetch_add(1, Relaxed);
     }
 
     /// Returns whether the list has jobs.
@@ -62,11 +75,17 @@ impl Overflow {
 
     fn push_to(&self, inner: &mut Inner, job: Job) -> Woken {
         inner.list.push_back(job);
-        if inner.list.len() >= inner.prune_at {
+        // Each job that has begun early pays for a look at two jobs of the list.
+        if self.begun_early.load(Relaxed) >= LEAST_PRUNED.max(inner.list.len() / 2) {
+            self.begun_early.store(0, Relaxed);
             inner.list.retain(|job| !job.has_begun());
-            inner.prune_at = LEAST_PRUNED + 2 * inner.list.len();
         }
         self.listed.store(inner.list.len(), SeqCst);
+        // If other jobs are listed, the lane had no room for them. The next take from it, which
+        // sees that jobs are listed, moves them.
+        if inner.list.len() > 1 {
+            return Woken::new();
+        }
         self.move_jobs(inner)
     }
 
@@ -93,10 +112,8 @@ impl Overflow {
 
     fn move_jobs(&self, inner: &mut Inner) -> Woken {
         let mut woken = Woken::new();
-        while let Some(job) = inner.list.pop_front() {
-            if job.has_begun() {
-                continue;
-            }
+        for _ in 0..MOST_MOVED {
+            let Some(job) = inner.list.pop_front() else { break };
             match inner.lane.submit(job.into_word(), 0) {
                 Ok(accepted) => woken.extend(accepted.woken),
                 Err(refused) => {

@@ -9,7 +9,6 @@ use crate::outside::thread_number;
 use crate::shared::{self, Shared};
 use crate::ticket::{Ends, Packet, Promise, Ticket};
 use crate::util::{drop_quietly, lock, Padded, Payload};
-use std::collections::VecDeque;
 use std::fmt;
 use std::marker::PhantomData;
 use std::mem;
@@ -18,48 +17,47 @@ use std::sync::atomic::{AtomicBool, AtomicUsize, Ordering::SeqCst};
 use std::sync::{Arc, Mutex, OnceLock};
 use std::thread::{self, Thread};
 
-/// The least number of listed jobs at which those that have begun are looked for.
-const LEAST_PRUNED: usize = 64;
+/// How many jobs are listed between two looks for those that have begun.
+const LISTED: usize = 1024;
 
-/// The jobs of a scope.
+/// The jobs of a scope. The padding keeps what is written for each job apart from what others read.
+/// An alignment would make each scope slower, since its allocation would be aligned too.
 pub(crate) struct ScopeState {
-    begun: Padded<AtomicUsize>,
+    begun: AtomicUsize,
+    /// The jobs that have not begun, and others, if the owner may run them while it waits.
+    list: Option<Mutex<List>>,
+    _apart: [u64; 16],
+    /// Whether the owner waits for the end.
+    is_ending: AtomicBool,
+    owner: Thread,
+    owner_number: usize,
     /// The number of jobs that have ended: at the owner's thread, and at other threads.
     ended_here: AtomicUsize,
     ended: OnceLock<Vec<Padded<AtomicUsize>>>,
     workers: usize,
-    /// Whether the owner waits for the end.
-    is_ending: Padded<AtomicBool>,
-    owner: Thread,
-    owner_number: usize,
     panic: Mutex<Option<Payload>>,
-    /// The jobs that have not begun, and others, if the owner may run them while it waits.
-    list: Option<Mutex<List>>,
 }
 
-/// Jobs that may be begun from here. Most jobs begin in their order, so some at the front are
-/// dropped at each push, and sometimes all that have begun.
+/// Jobs that may be begun from here.
 #[derive(Default)]
 struct List {
-    jobs: VecDeque<Awaited>,
+    jobs: Vec<Awaited>,
+    /// The length at which jobs that have begun are dropped.
     prune_at: usize,
 }
 
 impl List {
     fn push(&mut self, job: Awaited) {
-        if self.jobs.front().is_some_and(Awaited::has_begun) {
-            self.jobs.pop_front();
-        }
-        self.jobs.push_back(job);
-        if self.jobs.len() >= self.prune_at.max(LEAST_PRUNED) {
+        self.jobs.push(job);
+        if self.jobs.len() >= self.prune_at.max(LISTED) {
             self.jobs.retain(|job| !job.has_begun());
-            self.prune_at = 2 * self.jobs.len();
+            self.prune_at = 2 * self.jobs.len() + LISTED;
         }
     }
 
     /// Takes the newest job that has not begun.
     fn pop(&mut self) -> Option<Awaited> {
-        while let Some(job) = self.jobs.pop_back() {
+        while let Some(job) = self.jobs.pop() {
             if !job.has_begun() {
                 return Some(job);
             }
@@ -72,15 +70,16 @@ impl ScopeState {
     /// Makes the state of a scope of a pool. Its owner is this thread, which may be one of a pool.
     fn new(pool: &Shared) -> Arc<Self> {
         Arc::new(ScopeState {
-            begun: Padded::default(),
+            begun: AtomicUsize::new(0),
+            list: current::is_worker().then(Mutex::default),
+            _apart: [0; 16],
+            is_ending: AtomicBool::new(false),
+            owner: thread::current(),
+            owner_number: thread_number(),
             ended_here: AtomicUsize::new(0),
             ended: OnceLock::new(),
             workers: pool.size(),
-            is_ending: Padded::default(),
-            owner: thread::current(),
-            owner_number: thread_number(),
             panic: Mutex::new(None),
-            list: current::is_worker().then(Mutex::default),
         })
     }
 
@@ -296,25 +295,16 @@ impl<'scope> Scope<'scope, '_> {
     /// ```
     pub fn detach<F: FnOnce() + Send + 'scope>(&'scope self, call: F) {
         let work = Scoped { call, claim: Claim::new(&self.state) };
-        if self.state.list.is_some() {
-            self.submit_awaited(work);
-            return;
+        if let Some(list) = &self.state.list {
+            // SAFETY: as below. The owners that come later find that the work has begun.
+            let (job, awaited) = unsafe { Job::scoped_awaited(work) };
+            self.state.list(list, awaited);
+            return self.submit_one(job);
         }
         // SAFETY: what the work borrows outlives the scope, which returns only once the job is
         // counted as ended. Before that the closure is gone: by `Scoped::run`, or in the order of
         // the fields of a `Scoped` that is dropped.
         self.submit_one(unsafe { Job::scoped(work) });
-    }
-
-    /// Submits a job that the scope or a ticket may begin.
-    fn submit_awaited<F: FnOnce() + Send + 'scope>(&'scope self, work: Scoped<F>) -> Awaited {
-        // SAFETY: as in `detach`. The owners that come later find that the work has begun.
-        let (job, awaited) = unsafe { Job::scoped_awaited(work) };
-        if let Some(list) = &self.state.list {
-            self.state.list(list, awaited.clone());
-        }
-        self.submit_one(job);
-        awaited
     }
 
     fn submit_one(&self, job: Job) {
@@ -347,8 +337,13 @@ impl<'scope> Scope<'scope, '_> {
             promise.begin();
             promise.keep(catch_unwind(AssertUnwindSafe(call)));
         };
-        let job = self.submit_awaited(Scoped { call, claim: Claim::new(&self.state) });
-        self.ticket(packet, Some(job))
+        // SAFETY: as in `detach`.
+        let (job, awaited) = unsafe { Job::scoped_awaited(Scoped { call, claim: Claim::new(&self.state) }) };
+        if let Some(list) = &self.state.list {
+            self.state.list(list, awaited.clone());
+        }
+        self.submit_one(job);
+        self.ticket(packet, Some(awaited))
     }
 
     /// Runs `call` on each worker of an aligned group of `2^dim`, as

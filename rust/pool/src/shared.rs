@@ -196,6 +196,10 @@ impl Shared {
     /// Submits a job. If the lane is full, that of a worker of any pool goes to the overflow, and
     /// another thread sleeps until there is room. Returns the job if the pool is closed.
     pub fn submit_one(&self, job: Job) -> Result<(), Job> {
+        if current::of(self).is_some_and(|local| local.skips_lane()) {
+            self.rouse(self.overflow.push(job)?);
+            return Ok(());
+        }
         let job = match self.try_submit_one(job) {
             Err((Reason::Full, job)) => job,
             other => return other.map_err(|(_, job)| job),

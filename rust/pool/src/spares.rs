@@ -109,9 +109,9 @@ impl Spares {
         }
     }
 
-    /// Returns how much of a thread's stack its jobs may use before they begin others on it.
-    pub fn half_stack(&self) -> usize {
-        self.settings.stack_size / 2
+    /// Returns the bytes of a thread's stack.
+    pub fn stack_size(&self) -> usize {
+        self.settings.stack_size
     }
 
     /// Starts a thread with what it is given first. If the system refuses it, returns the error and
