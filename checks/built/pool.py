@@ -1,13 +1,15 @@
 """Tests the Rust package `cubejobs-pool`: its tests, documents and examples, without a warning.
 
-    checks/run pool                 one run of all
+    checks/run pool                 one run of all, and a look for mutants that no longer fit
     checks/run pool --long          25 runs of the tests, every other one on two processors; a run under AddressSanitizer,
-                                    which sees leaks too; and each mutant: a test sees it within a limit of time
+                                    which sees leaks too; and each mutant: a test sees it within a limit of time, and
+                                    passes without it
     checks/run pool --mutants NAME..  these mutants alone
 
 A mutant is a file of rust/pool/mutants: the file that it changes, the tests that see it, the old text and the new one.
-The tests are `unit`, `crowds` or `semantics`, and a part of the test's name. After `addresses` they run under
-AddressSanitizer. ThreadSanitizer has no part here: it would need the library and std compiled for it.
+The tests are `unit`, or `crowds`, `graphs`, `memory`, `semantics` or `waits`, a file of tests, and a part of the test's
+name. After `addresses` they run under AddressSanitizer. ThreadSanitizer has no part here: it would need the library and
+std compiled for it.
 """
 import os
 import re
@@ -19,8 +21,9 @@ from checks.lib.repository import files_below, path, read
 from checks.lib.rows import Skipped, Wrong
 
 PACKAGE = "rust/pool"
-# The seconds of a build, of a whole run of the tests, and of a test and of the tests of a mutant.
-BUILD, RUN, TEST, TESTS = 600, 300, 20, 60
+# The seconds of a build, of a whole run of the tests, and the least limit of a test that may see a mutant. On a busy
+# machine the limit is some times what the tests take without the mutant.
+BUILD, RUN, TEST, TIMES = 600, 300, 20, 4
 RUNS = 25
 # A user of rustc may ask for a sanitizer only as one of its developers.
 TRIPLE = "x86_64-unknown-linux-gnu"
@@ -115,33 +118,76 @@ def mutants():
     return found
 
 
-def try_mutant(folder, target, edit):
-    """Applies a mutant to a copy of the package, and returns how its tests see it, or None."""
+def tests_of(edit):
+    """Returns the kind of a mutant's tests, the part of their names, and whether they run under AddressSanitizer."""
+    test = edit["test"].removeprefix("addresses ")
+    kind, _, name = test.partition(" ")
+    return kind, name, test != edit["test"]
+
+
+def fault_of(edit):
+    """Returns why a mutant cannot be tried, or None."""
+    if sorted(edit) != ["file", "new", "old", "test"]:
+        return f"it has the lines {', '.join(edit)}"
+    kind, name, _ = tests_of(edit)
+    file, tests = f"{PACKAGE}/{edit['file']}", [f"{PACKAGE}/tests/{kind}.rs"]
+    if kind == "unit":
+        tests = files_below(f"{PACKAGE}/src", ".rs")
+    missing = [it for it in [file, *tests] if not os.path.exists(path(it))]
+    if missing:
+        return f"there is no file {missing[0]}"
+    if not any(re.search(rf"\bfn \w*{re.escape(name)}", read(it)) for it in tests):
+        return f"there is no test {edit['test']}"
+    count = read(file).count(edit["old"])
+    return None if count == 1 else f"{edit['file']} has the old text {count} times"
+
+
+def look_at_mutants(edits):
+    """Fails if a mutant does not fit the package of today."""
+    faults = [f"{name}: {fault}" for name, edit in edits.items() if (fault := fault_of(edit))]
+    if faults:
+        raise Wrong("mutants that do not fit:\n" + "\n".join(faults))
+
+
+def run_tests(folder, target, edit, seconds):
+    """Runs the tests of a mutant in a copy of the package. Returns their status and what they say, as `run` does."""
+    kind, name, is_sanitized = tests_of(edit)
+    words = ["test", "--lib"] if kind == "unit" else ["test", "--test", kind]
+    must(os.path.join(folder, "pool"), target, [*words, "--no-run"], BUILD, is_sanitized)
+    return run(os.path.join(folder, "pool"), target, [*words, name], seconds, is_sanitized)
+
+
+def limit_of(folder, target, edit):
+    """Returns the seconds that each test of a mutant has. The tests must pass without it."""
+    os.environ.pop("POOL_TEST_SECONDS", None)
+    status, said = run_tests(folder, target, edit, RUN)
+    took = re.findall(r"finished in ([\d.]+)s", said)
+    if status != 0 or not re.search(r"[1-9]\d* passed", said):
+        raise Wrong(f"{edit['test']} without a mutant, status {status}:\n{said[-3000:]}")
+    return max(TEST, TIMES * round(sum(map(float, took))))
+
+
+def try_mutant(folder, target, edit, limit):
+    """Applies a mutant to a copy of the package. Returns how its tests see it within this limit of seconds, or None."""
     file = os.path.join(folder, "pool", edit["file"])
     with open(file, encoding="utf-8") as source:
         text = source.read()
-    if text.count(edit["old"]) != 1:
-        raise Wrong(f"{edit['file']} has the old text {text.count(edit['old'])} times")
     with open(file, "w", encoding="utf-8") as source:
         source.write(text.replace(edit["old"], edit["new"]))
     try:
-        test = edit["test"].removeprefix("addresses ")
-        is_sanitized = test != edit["test"]
-        kind, _, name = test.partition(" ")
-        words = ["test", "--lib"] if kind == "unit" else ["test", "--test", kind]
-        must(os.path.join(folder, "pool"), target, [*words, "--no-run"], BUILD, is_sanitized)
-        status, said = run(os.path.join(folder, "pool"), target, [*words, name], TESTS, is_sanitized)
+        os.environ["POOL_TEST_SECONDS"] = str(limit)
+        status, said = run_tests(folder, target, edit, 3 * limit)
     finally:
         with open(file, "w", encoding="utf-8") as source:
             source.write(text)
     if status is None:
         return "it does not end"
     if status == 0:
-        if not re.search(r"[1-9]\d* passed", said):
-            raise Wrong(f"there is no test {edit['test']}")
         return None
-    if is_sanitized:
+    if tests_of(edit)[2]:
         return "AddressSanitizer reports it" if "ERROR: " in said and "Sanitizer: " in said else None
+    if "has overflowed its stack" in said:
+        return "a stack overflows"
     return "it does not end" if "has not ended within" in said or "ABRT" in said else "a test fails"
 
 
@@ -150,15 +196,19 @@ def see_mutants(names):
     unknown = [name for name in names if name not in known]
     if unknown:
         raise Wrong(f"there is no mutant {unknown[0]}")
+    tried = {name: known[name] for name in names or known}
+    look_at_mutants(tried)
     missed = []
     with tempfile.TemporaryDirectory() as work:
         folder, target = os.path.join(work, "rust"), os.path.join(work, "target")
         shutil.copytree(path("rust"), folder, ignore=shutil.ignore_patterns("target"))
-        os.environ.update(RUSTFLAGS="-Awarnings", POOL_TEST_SECONDS=str(TEST))
+        os.environ.update(RUSTFLAGS="-Awarnings")
         can = can_sanitize(work)
-        tried = [name for name in names or known if can or not known[name]["test"].startswith("addresses ")]
-        for name in tried:
-            seen = try_mutant(folder, target, known[name])
+        tried = {name: edit for name, edit in tried.items() if can or not tests_of(edit)[2]}
+        by_test = {edit["test"]: edit for edit in tried.values()}
+        limits = {test: limit_of(folder, target, edit) for test, edit in by_test.items()}
+        for name, edit in tried.items():
+            seen = try_mutant(folder, target, edit, limits[edit["test"]])
             print(f"{name}: {seen or 'NOT SEEN'}", flush=True)
             missed += [] if seen else [name]
     if missed:
@@ -172,6 +222,7 @@ def main(words):
     if words[:1] == ["--mutants"]:
         see_mutants(words[1:])
         return
+    look_at_mutants(mutants())
     with tempfile.TemporaryDirectory() as target:
         whole(target)
         if words == ["--long"]:
