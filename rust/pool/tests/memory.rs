@@ -140,6 +140,61 @@ fn full_lanes_leave_no_memory() {
     assert!(left <= MOST_LEFT, "{left} bytes are left");
 }
 
+/// The first job of a scope has not begun. Its owner joins others.
+#[test]
+fn a_scope_keeps_no_job_that_was_joined() {
+    let _limited = limited(200);
+    for spares in [0, 256] {
+        let pool = Arc::new(workers(1).max_threads(spares).build().unwrap());
+        let inner = pool.clone();
+        let all = pool.spawn(move || {
+            inner.scope(|scope| {
+                scope.detach(|| ());
+                let once = |number: usize| assert_eq!(scope.spawn(move || number).join().unwrap(), number);
+                (0..1_000).for_each(once);
+                let before = BYTES.load(Relaxed);
+                (0..100_000).for_each(once);
+                BYTES.load(Relaxed) - before
+            })
+        });
+        let left = all.join().unwrap();
+        assert!(left <= MOST_LEFT, "{left} bytes are left");
+    }
+}
+
+/// The worker of the job that joins is held by another one, and the overflow has jobs that cannot
+/// run.
+#[test]
+fn a_job_without_a_worker_leaves_no_memory() {
+    let _limited = limited(200);
+    let (pool, other) = (Arc::new(workers(1).lane_capacity(4).build().unwrap()), workers(1).build().unwrap());
+    let (begun, end, held, go) = (Gate::default(), Gate::default(), Gate::default(), Gate::default());
+    let (here, until) = (begun.clone(), end.clone());
+    let blocked = other.spawn(move || {
+        here.open(1);
+        until.pass();
+    });
+    begun.pass();
+    let inner = pool.clone();
+    let joins = pool.spawn(move || {
+        begun.open(1);
+        blocked.join().unwrap();
+        (0..10).for_each(|_| inner.detach(|| ()));
+        join_often(&inner, 100_000)
+    });
+    let (is_held, until) = (held.clone(), go.clone());
+    pool.detach(move || {
+        is_held.open(1);
+        until.pass();
+    });
+    held.pass();
+    end.open(1);
+    let (left, most) = joins.join().unwrap();
+    go.open(1);
+    assert!(left <= MOST_LEFT, "{left} bytes are left");
+    assert!(most <= 4 * MOST_LEFT, "{most} bytes at once");
+}
+
 /// Returns the bytes of this process that are in memory, after all that is free was given back.
 fn resident() -> usize {
     // SAFETY: the function of glibc may be called at any time.

@@ -241,6 +241,76 @@ fn a_full_lane_does_not_run_a_job_in_place() {
     }
 }
 
+/// The lane is full, and its second job has begun. The first one goes elsewhere, and is not run.
+#[test]
+fn a_lane_makes_room_without_a_run() {
+    let _limited = limited(30);
+    let pool = shared(workers(1).lane_capacity(2));
+    let (inner, lock) = (pool.clone(), Arc::new(Mutex::new(0)));
+    let all = pool.spawn(move || {
+        let held = lock.lock().unwrap();
+        let count = || {
+            let lock = lock.clone();
+            inner.spawn(move || *lock.lock().unwrap() += 1)
+        };
+        let first = count();
+        inner.spawn(|| ()).join().unwrap();
+        let others = [(); 3].map(|_| count());
+        drop(held);
+        first.join().unwrap();
+        others.into_iter().for_each(|ticket| ticket.join().unwrap());
+        let counted = *lock.lock().unwrap();
+        counted
+    });
+    assert_eq!(all.join().unwrap(), 4);
+}
+
+/// Jobs that were joined take no room in the lane of the job that joins.
+#[test]
+fn a_job_has_room_for_one_that_it_joins() {
+    let _limited = limited(30);
+    for spares in [0, 256] {
+        let pool = shared(workers(1).max_threads(spares).lane_capacity(4));
+        let inner = pool.clone();
+        let joined = pool.spawn(move || {
+            let once = |number: usize| inner.try_spawn(move || number).unwrap().join().unwrap();
+            (0..1_000).filter(|number| once(*number) == *number).count()
+        });
+        assert_eq!(joined.join().unwrap(), 1_000);
+    }
+}
+
+/// Jobs for which no lane has room, beside threads that always fill the other lane.
+#[test]
+fn a_stream_of_jobs_keeps_the_overflow_going() {
+    const JOBS: usize = 80;
+    let _limited = limited(30);
+    let pool = shared(workers(1).lane_capacity(16).shared_lanes(1));
+    let (ran, stop) = (Arc::new(AtomicUsize::new(0)), AtomicBool::new(false));
+    let streamed = AtomicUsize::new(0);
+    thread::scope(|threads| {
+        for _ in 0..4 {
+            threads.spawn(|| {
+                while !stop.load(SeqCst) {
+                    pool.detach(|| thread::sleep(Duration::from_millis(2)));
+                    add(&streamed, 1);
+                }
+            });
+        }
+        let is_full = within_ten_seconds(|| streamed.load(SeqCst) >= 30);
+        let (inner, all) = (pool.clone(), ran.clone());
+        pool.detach(move || {
+            for _ in 0..JOBS {
+                let ran = all.clone();
+                inner.detach(move || add(&ran, 1));
+            }
+        });
+        let have_run = is_full && within_ten_seconds(|| ran.load(SeqCst) == JOBS);
+        stop.store(true, SeqCst);
+        assert!(have_run, "{} of {JOBS} jobs have run", ran.load(SeqCst));
+    });
+}
+
 /// How a job waits for what is blocked elsewhere.
 #[derive(Clone, Copy, Debug, PartialEq, Eq)]
 enum By {
@@ -360,6 +430,37 @@ fn no_other_job_runs_on_top_of_a_wait() {
                     assert_ne!(waiter, other, "{by:?}, {is_child}, {locks}");
                 }
             }
+        }
+    }
+}
+
+/// A gang has called the worker of a job that waits for another job. The gang waits for that job.
+#[test]
+fn no_other_gang_runs_on_top_of_a_wait() {
+    let _limited = limited(30);
+    for spares in [0, 256] {
+        let pool = pool_with(2, spares);
+        for _ in 0..20 {
+            let (begun, called, end, go) =
+                (Gate::default(), Gate::default(), Gate::default(), Gate::default());
+            let (inner, ours) = (pool.clone(), [begun.clone(), called.clone(), end.clone(), go.clone()]);
+            let waiter = pool.spawn(move || {
+                let [begun, called, end, go] = ours;
+                let slow = inner.spawn(move || {
+                    begun.open(1);
+                    end.pass();
+                });
+                called.pass();
+                slow.join().unwrap();
+                go.open(2);
+            });
+            begun.pass();
+            let gang = pool.submit(1, move |_| go.pass()).unwrap();
+            called.open(1);
+            thread::sleep(Duration::from_millis(2));
+            end.open(1);
+            waiter.join().unwrap();
+            gang.join().unwrap();
         }
     }
 }
@@ -551,6 +652,132 @@ fn a_job_goes_on_without_a_worker() {
     }
 }
 
+/// Spawns a job that waits for one of another pool, until the gate is open. Returns its ticket when
+/// it waits, most likely.
+fn spawn_waiter(pool: &Pool, other: &Pool) -> (Ticket<()>, Gate) {
+    let (begun, end) = (Gate::default(), Gate::default());
+    let (here, until) = (begun.clone(), end.clone());
+    let blocked = other.spawn(move || {
+        here.open(1);
+        until.pass();
+    });
+    begun.pass();
+    let here = begun.clone();
+    let waiter = pool.spawn(move || {
+        here.open(1);
+        blocked.join().unwrap();
+    });
+    begun.pass();
+    thread::sleep(Duration::from_millis(20));
+    (waiter, end)
+}
+
+/// The first job that waits has kept its worker. The second one has lost its own, and ends. Its
+/// thread takes the worker of the first.
+#[test]
+fn a_thread_without_a_worker_takes_one_that_is_kept() {
+    let _limited = limited(30);
+    let (pool, other) = (pool_with(2, 0), pool_with(2, 256));
+    for _ in 0..20 {
+        let (first, end_of_first) = spawn_waiter(&pool, &other);
+        let (second, end_of_second) = spawn_waiter(&pool, &other);
+        end_of_second.open(1);
+        second.join().unwrap();
+        let both = Arc::new(Barrier::new(2));
+        let tickets = [(); 2].map(|_| {
+            let both = both.clone();
+            pool.spawn(move || both.wait().is_leader())
+        });
+        assert_eq!(tickets.map(|it| usize::from(it.join().unwrap())).into_iter().sum::<usize>(), 1);
+        end_of_first.open(1);
+        first.join().unwrap();
+    }
+}
+
+/// A job that has waited has its own lane again, which the other worker does not empty.
+#[test]
+fn a_job_gets_a_kept_worker_back() {
+    let _limited = limited(30);
+    let pool = shared(workers(2).max_threads(0).lane_capacity(4));
+    let other = pool_with(1, 256);
+    let (held, go, begun, end) = (Gate::default(), Gate::default(), Gate::default(), Gate::default());
+    let (is_held, until) = (held.clone(), go.clone());
+    pool.detach(move || {
+        is_held.open(1);
+        until.pass();
+    });
+    held.pass();
+    let (here, until) = (begun.clone(), end.clone());
+    let blocked = other.spawn(move || {
+        here.open(1);
+        until.pass();
+    });
+    begun.pass();
+    let inner = pool.clone();
+    let waiter = pool.spawn(move || {
+        begun.open(1);
+        blocked.join().unwrap();
+        (0..100).filter(|_| inner.try_spawn(|| ()).is_ok_and(|ticket| ticket.join().is_ok())).count()
+    });
+    thread::sleep(Duration::from_millis(20));
+    end.open(1);
+    assert_eq!(waiter.join().unwrap(), 100);
+    go.open(1);
+}
+
+/// Jobs that wait have kept their workers, and a gang needs all of them.
+#[test]
+fn a_gang_gets_workers_that_are_kept() {
+    let _limited = limited(30);
+    for (dim, spares) in [(0, 0), (1, 0), (2, 0), (2, 1)] {
+        let pool = shared(Pool::builder().workers_log2(dim).max_threads(spares));
+        let other = pool_with(1 << dim, 256);
+        for _ in 0..5 {
+            let waiters: Vec<_> = (0..1 << dim).map(|_| spawn_waiter(&pool, &other)).collect();
+            assert_eq!(pool.run(dim, |group| group.all_reduce(1, |a, b| a + b)), vec![1 << dim; 1 << dim]);
+            for (waiter, end) in waiters {
+                end.open(1);
+                waiter.join().unwrap();
+            }
+        }
+    }
+}
+
+/// Spawns a job and joins it, on a stack of which more than half is used.
+fn join_deep<const BYTES: usize>(pool: &Pool) -> u8 {
+    let mut bytes = [0_u8; BYTES];
+    black_box(&mut bytes)[BYTES / 2] = 3;
+    pool.spawn(|| 4).join().unwrap() + black_box(&bytes)[BYTES / 2]
+}
+
+/// Two jobs wait, and could use up the spares. Another one holds a lock by which each worker may be
+/// blocked, and waits with more than half of its stack used.
+#[test]
+fn a_deep_wait_has_a_spare() {
+    let _limited = limited(30);
+    for _ in 0..5 {
+        let pool = shared(workers(2).max_threads(2).stack_size(1 << 20));
+        let other = pool_with(2, 256);
+        let waiters = [(); 2].map(|_| spawn_waiter(&pool, &other));
+        let (inner, lock, held) = (pool.clone(), Arc::new(Mutex::new(())), Gate::default());
+        let (ours, is_held) = (lock.clone(), held.clone());
+        let deep = pool.spawn(move || {
+            let _guard = ours.lock().unwrap();
+            is_held.open(1);
+            thread::sleep(Duration::from_millis(20));
+            join_deep::<{ 600 << 10 }>(&inner)
+        });
+        held.pass();
+        let blocked = pool.spawn(move || drop(lock.lock().unwrap()));
+        assert_eq!(deep.join().unwrap(), 7);
+        blocked.join().unwrap();
+        for (waiter, end) in waiters {
+            end.open(1);
+            waiter.join().unwrap();
+        }
+    }
+}
+
 /// Returns the most threads of pools that were seen until the job has ended.
 fn most_threads(ticket: Ticket<usize>, result: usize) -> usize {
     let mut most = 0;
@@ -719,7 +946,9 @@ fn a_job_waits_for_the_end_of_another_pool() {
                         let two = workers(1).build().unwrap();
                         let last = two.spawn(move || {
                             thread::sleep(Duration::from_millis(5));
-                            inner.spawn(|| 7).join().unwrap()
+                            let (say, hear) = channel();
+                            inner.detach(move || say.send(7).unwrap());
+                            hear.recv().unwrap()
                         });
                         if is_closed {
                             two.close();
@@ -1217,6 +1446,98 @@ fn a_job_joins_a_ticket_that_is_cancelled() {
         close_now_and_open(pool, &go);
         assert_eq!(waiter.join().unwrap(), [true; 10]);
         assert_eq!(ran.load(SeqCst), 0);
+    }
+}
+
+/// Jobs for which no lane had room, in a pool that is closed.
+#[test]
+fn a_close_runs_jobs_of_the_overflow() {
+    let _limited = limited(30);
+    for count in [1, 4] {
+        let pool = shared(workers(count).lane_capacity(1));
+        let (ran, go, inner) = (Arc::new(AtomicUsize::new(0)), Gate::default(), pool.clone());
+        let (all, until) = (ran.clone(), go.clone());
+        let spawner = pool.spawn(move || {
+            for _ in 0..100 {
+                let (ran, go) = (all.clone(), until.clone());
+                inner.detach(move || {
+                    go.pass();
+                    add(&ran, 1);
+                });
+            }
+        });
+        spawner.join().unwrap();
+        assert!(within_ten_seconds(|| Arc::strong_count(&pool) == 1));
+        let pool = Arc::into_inner(pool).unwrap();
+        let closer = thread::spawn(|| pool.close());
+        thread::sleep(Duration::from_millis(5));
+        go.open(100);
+        closer.join().unwrap();
+        assert_eq!(ran.load(SeqCst), 100);
+    }
+}
+
+/// A thread of another pool runs the last job of a pool that is closed.
+#[test]
+fn a_close_waits_for_a_guest() {
+    let _limited = limited(30);
+    let one = pool_with(1, 256);
+    for _ in 0..20 {
+        let two = workers(1).build().unwrap();
+        let (go, begun, end, ended) =
+            (hold(&two), Gate::default(), Gate::default(), Arc::new(AtomicBool::new(false)));
+        let (here, until, has_ended) = (begun.clone(), end.clone(), ended.clone());
+        let last = two.spawn(move || {
+            here.open(1);
+            until.pass();
+            has_ended.store(true, SeqCst);
+        });
+        let guest = one.spawn(move || last.join().unwrap());
+        begun.pass();
+        go.open(1);
+        let closer = thread::spawn(move || {
+            two.close();
+            ended.load(SeqCst)
+        });
+        thread::sleep(Duration::from_millis(5));
+        end.open(1);
+        assert!(closer.join().unwrap());
+        guest.join().unwrap();
+    }
+}
+
+/// The last owner of a pool is its job, which a thread of another pool runs.
+#[test]
+fn a_guest_may_drop_the_pool() {
+    let _limited = limited(30);
+    let one = pool_with(1, 256);
+    for _ in 0..20 {
+        let two = pool_with(1, 256);
+        let (go, begun, alone) = (hold(&two), Gate::default(), Gate::default());
+        let (here, until, theirs) = (begun.clone(), alone.clone(), two.clone());
+        let last = two.spawn(move || {
+            here.open(1);
+            until.pass();
+            drop(theirs);
+            go.open(1);
+        });
+        let guest = one.spawn(move || last.join().unwrap());
+        begun.pass();
+        drop(two);
+        alone.open(1);
+        guest.join().unwrap();
+    }
+}
+
+#[test]
+fn a_client_that_is_dropped_leaves_its_lanes() {
+    let _limited = limited(30);
+    let pool = workers(2).client_lanes(1).build().unwrap();
+    for number in 0..10 {
+        let mut client = pool.client().unwrap();
+        assert!(pool.client().is_err());
+        assert_eq!(client.spawn(move || number).unwrap().join().unwrap(), number);
+        assert_eq!(client.submit(1, |group| group.rank()).unwrap().join_all().unwrap(), [0, 1]);
     }
 }
 
