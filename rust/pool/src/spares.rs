@@ -66,6 +66,7 @@ struct State {
     /// The threads that sleep for want of a worker.
     idle: Vec<Arc<Inbox>>,
     /// The workers whose threads wait, and have kept them.
+    #[allow(clippy::vec_box)] // a desk goes from thread to thread as a box
     kept: Vec<Box<Desk>>,
     /// The number of threads that were started.
     started: usize,

@@ -1,7 +1,8 @@
-//! Random programs of jobs that wait for each other, against a result that is computed. Each runs in
-//! a process of its own, which has a limit of time.
+//! Random programs of jobs that wait for each other, against a result that is computed. Each runs
+//! in a process of its own, which has a limit of time.
 //!
-//! The measure is a backend that gives each job a thread of its own: what ends there ends in a pool.
+//! The measure is a backend that gives each job a thread of its own: what ends there ends in a
+//! pool.
 //!
 //! | Variable | Meaning |
 //! |---|---|
@@ -161,7 +162,7 @@ impl View {
     }
 }
 
-/// Returns the view of a job for which nobody waits who holds a lock.
+/// Returns the view of a job for which no holder of a lock waits.
 fn free(view: &View) -> View {
     View { floor: 0, may_lock: true, may_need_gang: true, ..view.clone() }
 }
@@ -386,7 +387,7 @@ fn tree(maker: &mut Maker) -> Vec<Op> {
     maker.ops(&mut view, 0, 60)
 }
 
-/// Jobs that only join, take locks and sleep. The root spawns all.
+/// Makes jobs that only join, take locks and sleep. The root spawns all.
 fn flat(maker: &mut Maker) -> Vec<Op> {
     let mut view = View { known: Vec::new(), floor: 0, may_lock: true, may_need_gang: false, depth: 14 };
     let spawn = |_| {
@@ -398,7 +399,7 @@ fn flat(maker: &mut Maker) -> Vec<Op> {
     (0..250).map(spawn).collect()
 }
 
-/// 5,000 tickets, each of which is joined by the next job.
+/// Makes 5,000 tickets, each of which is joined by the next job.
 fn chain(maker: &mut Maker) -> Vec<Op> {
     let mut spawns = Vec::new();
     for number in 0..5_000 {
@@ -414,7 +415,7 @@ fn chain(maker: &mut Maker) -> Vec<Op> {
     spawns
 }
 
-/// 2,000 jobs, each of which spawns the next one and joins it.
+/// Makes 2,000 jobs, each of which spawns the next one and joins it.
 fn nest(maker: &mut Maker) -> Vec<Op> {
     let pools = maker.sizes.dims.len();
     let jobs: Vec<_> = (0..2_000).map(|number| maker.add(number % pools, None)).collect();
@@ -843,7 +844,7 @@ impl Here {
         worth(ticket.join())
     }
 
-    /// Does the part of a member: it spawns, adds up, and panics if it is to.
+    /// Runs the part of a member: it spawns, adds up, and panics if it is to.
     fn member(&self, number: usize, group: &AnyGroup<'_>) -> u64 {
         let job = &self.program.jobs[number];
         let members = job.gang.as_ref().expect("a gang");

@@ -204,7 +204,7 @@ fn resident() -> usize {
     line.trim().trim_end_matches(" kB").parse::<usize>().unwrap() << 10
 }
 
-/// A thread that submits to each pool that it gets, and lives on.
+/// Starts a thread that submits to each pool that it gets, and lives on.
 fn submitter(done: Sender<usize>) -> Sender<Arc<Pool>> {
     let (give, pools) = channel::<Arc<Pool>>();
     thread::spawn(move || {

@@ -1,5 +1,5 @@
-//! What a job does that waits, and what it never does. The measure of each test: a program that ends
-//! when each job has its own thread ends in the pool.
+//! What a job does that waits, and what it never does. The measure of each test: a program that
+//! ends when each job has its own thread ends in the pool.
 
 mod common;
 
@@ -478,8 +478,8 @@ fn a_job_of_its_own_is_taken() {
     }
 }
 
-/// Calls in a job that holds a lock, while each other worker is blocked by that lock. So the job has
-/// to do all itself. What is queued before the call would be blocked too.
+/// Calls in a job that holds a lock, while each other worker is blocked by that lock. So the job
+/// has to do all itself. What is queued before the call would be blocked too.
 fn with_blocked_workers<T: Send + 'static>(
     pool: &Arc<Pool>,
     call: impl FnOnce(&Arc<Pool>, Receiver<Ticket<u32>>) -> T + Send + 'static,
@@ -604,7 +604,7 @@ fn a_scope_grows_while_its_owner_waits() {
     }
 }
 
-/// Does what a job may do that has no worker: all workers wait for it.
+/// Makes the calls of a job that has no worker: all workers wait for it.
 fn go_on(pool: &Pool) {
     let tickets: Vec<_> = (0..20).map(|number| pool.spawn(move || number)).collect();
     assert_eq!(tickets.into_iter().map(|it| it.join().unwrap()).sum::<usize>(), 190);
@@ -1357,7 +1357,7 @@ fn a_pool_has_a_worker_for_each_processor() {
     assert_eq!(Pool::builder().build().unwrap().workers(), (1 << processors.ilog2()).min(1_024));
 }
 
-/// A chain of tickets, of which the first is blocked. Returns its gate, and the last ticket.
+/// Makes a chain of tickets, of which the first is blocked. Returns its gate, and the last ticket.
 fn blocked_chain(pool: &Pool, length: usize) -> (Gate, Ticket<usize>) {
     let (begun, go) = (Gate::default(), Gate::default());
     let (here, until) = (begun.clone(), go.clone());
