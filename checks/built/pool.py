@@ -1,9 +1,9 @@
 """Tests the Rust package `cubejobs-pool`: its tests, documents and examples, without a warning.
 
     checks/run pool                 one run of all, and a look for mutants that no longer fit
-    checks/run pool --long          25 runs of the tests, every other one on two processors; a run under AddressSanitizer,
-                                    which sees leaks too; and each mutant: a test sees it within a limit of time, and
-                                    passes without it
+    checks/run pool --long          2,000 random programs; 25 runs of the tests, every other one on two processors; a run
+                                    under AddressSanitizer, which sees leaks too; and each mutant: a test sees it within a
+                                    limit of time, and passes without it
     checks/run pool --mutants NAME..  these mutants alone
 
 A mutant is a file of rust/pool/mutants: the file that it changes, the tests that see it, the old text and the new one.
@@ -25,6 +25,8 @@ PACKAGE = "rust/pool"
 # machine the limit is some times what the tests take without the mutant.
 BUILD, RUN, TEST, TIMES = 600, 300, 20, 4
 RUNS = 25
+# The number of random programs in a long run, and its seconds.
+GRAPHS, MANY = 2000, 1800
 # A user of rustc may ask for a sanitizer only as one of its developers.
 TRIPLE = "x86_64-unknown-linux-gnu"
 ADDRESSES = {"RUSTC_BOOTSTRAP": "1", "RUSTFLAGS": "-Awarnings -Zsanitizer=address"}
@@ -89,6 +91,14 @@ def many(target):
         print(f"pool: run {number} of {RUNS} passes", flush=True)
     os.sched_setaffinity(0, processors)
     print(f"pool: {RUNS} runs of the tests pass")
+
+
+def graphs(target):
+    """Runs random programs: all of them, a quarter on one processor, and all with a thread for each job."""
+    os.environ["POOL_GRAPHS"] = str(GRAPHS)
+    must(path(PACKAGE), target, ["test", "--test", "graphs"], BUILD + MANY)
+    del os.environ["POOL_GRAPHS"]
+    print(f"pool: {GRAPHS} random programs end with their results")
 
 
 def can_sanitize(work):
@@ -226,6 +236,7 @@ def main(words):
     with tempfile.TemporaryDirectory() as target:
         whole(target)
         if words == ["--long"]:
+            graphs(target)
             many(target)
             sanitized(target)
     if words == ["--long"]:

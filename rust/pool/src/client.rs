@@ -12,7 +12,8 @@ use std::fmt;
 use std::sync::Arc;
 
 /// A producer with a lane of its own for one-worker jobs, and one for gangs. Workers take its jobs
-/// in their order. Its gangs go their own way: see [`Pool::submit`](crate::Pool::submit).
+/// in their order, but a job that is waited for may run before others. Its gangs go their own way:
+/// see [`Pool::submit`](crate::Pool::submit).
 ///
 /// It needs no turn with other threads, so it is the fastest way into a pool. It may outlive the
 /// pool. If it is dropped, its lanes are for the next client, and its jobs are run. See

@@ -72,8 +72,6 @@ pub enum ClientError {
     /// All lanes for clients are out. See
     /// [`Builder::client_lanes`](crate::Builder::client_lanes).
     NoneLeft,
-    /// Memory ran out.
-    OutOfMemory,
 }
 
 impl fmt::Display for Reason {
@@ -108,7 +106,6 @@ impl fmt::Display for ClientError {
     fn fmt(&self, f: &mut fmt::Formatter<'_>) -> fmt::Result {
         f.write_str(match self {
             ClientError::NoneLeft => "all lanes for clients are out",
-            ClientError::OutOfMemory => "out of memory",
         })
     }
 }

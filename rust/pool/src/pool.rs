@@ -671,8 +671,7 @@ impl Pool {
     ///
     /// # Errors
     ///
-    /// The error is `NoneLeft` if there are as many clients as the builder was asked for, or
-    /// `OutOfMemory`.
+    /// The error is `NoneLeft` if there are as many clients as the builder was asked for.
     ///
     /// ```
     /// use cubejobs_pool::{ClientError, Pool};
@@ -743,5 +742,34 @@ impl Drop for Pool {
 impl fmt::Debug for Pool {
     fn fmt(&self, f: &mut fmt::Formatter<'_>) -> fmt::Result {
         f.debug_struct("Pool").field("workers", &self.workers()).finish_non_exhaustive()
+    }
+}
+
+#[cfg(test)]
+mod tests {
+    use super::Pool;
+    use std::sync::mpsc::channel;
+    use std::sync::Arc;
+    use std::thread;
+
+    /// A thread has submitted to a pool, and lives on. It keeps nothing of the pool.
+    #[test]
+    fn a_dropped_pool_is_freed() {
+        let pool = Arc::new(Pool::builder().workers_log2(2).build().unwrap());
+        let (ours, weak) = (pool.clone(), pool.shared.me.clone());
+        let ((done, is_done), (end, until)) = (channel(), channel::<()>());
+        let submitter = thread::spawn(move || {
+            ours.spawn(|| 7).join().unwrap();
+            ours.run(1, |group| group.barrier());
+            drop((ours.client(), ours));
+            done.send(()).unwrap();
+            until.recv().is_ok()
+        });
+        is_done.recv().unwrap();
+        assert!(weak.upgrade().is_some());
+        drop(pool);
+        assert!(weak.upgrade().is_none());
+        drop(end);
+        assert!(!submitter.join().unwrap());
     }
 }
