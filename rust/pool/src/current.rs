@@ -9,7 +9,6 @@
 use crate::desk::{Desk, Next};
 use crate::gang::Gang;
 use crate::job::{Awaited, Job};
-use crate::overflow::Woken;
 use crate::scope::ScopeState;
 use crate::shared::{pool_of, Shared};
 use crate::spares::{Given, Inbox, Left};
@@ -289,11 +288,12 @@ impl Local {
     }
 
     /// Submits a job to the lane of the worker, or to that of the overflow if the thread has none.
-    /// Returns the workers that this has woken, or the job if the lane is full.
-    pub fn try_submit(&self, job: Job) -> Result<Woken, (SubmitError, Job)> {
+    /// Returns the worker that this has woken, or the job if the lane is full.
+    pub fn try_submit(&self, job: Job) -> Result<Option<u32>, (SubmitError, Job)> {
         match &mut *self.desk.borrow_mut() {
-            Some(desk) => desk.submit(&self.shared, job).map(Woken::from_iter),
-            None => self.shared.overflow.try_push(job),
+            Some(desk) => desk.submit(&self.shared, job),
+            None if self.shared.overflow.len() >= self.shared.capacity => Err((SubmitError::Full, job)),
+            None => self.shared.overflow.push(job).map_err(|job| (SubmitError::Closed, job)),
         }
     }
 
@@ -355,7 +355,7 @@ impl Local {
 
     /// Runs a job of this pool or of another one before it is taken from its lane.
     fn run_early(&self, host: &Shared, job: Awaited) {
-        if host.overflow.has_listed() {
+        if host.overflow.len() != 0 {
             host.overflow.count_early();
         }
         if host.number == self.shared.number {

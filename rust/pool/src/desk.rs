@@ -2,9 +2,8 @@
 //! at a time.
 
 use crate::job::Job;
-use crate::overflow::{Overflow, Woken};
 use crate::shared::Shared;
-use cubejobs::lanes::{Finding, Found, Lane, SubmitError, TakeError, Worker};
+use cubejobs::lanes::{self, Finding, Found, Lane, SubmitError, TakeError, Worker};
 
 /// How many jobs in a row come from one lane, if it has them.
 const MOST_IN_A_ROW: u32 = 64;
@@ -74,22 +73,24 @@ impl Desk {
         self.looks = LOOKS.min(LOOKED_LANES / pool.lane_count);
     }
 
-    /// Finds a job in the lanes, or has the worker lie down.
+    /// Finds a job, or has the worker lie down.
     pub fn find_or_lie_down(&mut self, pool: &Shared) -> Next {
         loop {
-            let from = self.first_lane(pool);
+            if let Some(job) = self.take_listed(pool) {
+                return Next::Job(job);
+            }
+            let from = self.from;
             let Finding { found, woken } = self.worker(pool).find(from);
-            pool.rouse(Woken::from_iter(woken));
+            pool.rouse(woken);
             self.may_lie = matches!(found, Found::Park | Found::Again);
             match found {
                 Found::Job(job) => {
-                    self.took(pool, job.lane);
-                    return Next::Job(Job::taken(job));
+                    if let Some(job) = self.taken(pool, job) {
+                        return Next::Job(job);
+                    }
                 }
-                // A job that is moved wakes this worker or another one.
-                Found::Park if pool.refill() => {}
                 Found::Park => return Next::Park,
-                Found::Ended => return pool.take_listed().map_or(Next::End, Next::Job),
+                Found::Ended => return pool.take_last().map_or(Next::End, Next::Job),
                 Found::Again => {}
             }
         }
@@ -97,42 +98,60 @@ impl Desk {
 
     /// Takes a job, unless the worker lies down.
     pub fn take_awake(&mut self, pool: &Shared) -> Option<Job> {
-        let from = self.first_lane(pool);
+        if let Some(job) = self.take_listed(pool) {
+            return Some(job);
+        }
+        let from = self.from;
         let taken = self.worker(pool).take_any(from);
         self.may_lie = taken == Err(TakeError::Asleep);
-        let job = taken.ok()?;
-        self.took(pool, job.lane);
+        self.taken(pool, taken.ok()?)
+    }
+
+    /// Takes a job that has come back, or one of the overflow if that has its turn, unless the
+    /// worker lies down.
+    fn take_listed(&mut self, pool: &Shared) -> Option<Job> {
+        if self.may_lie {
+            return None;
+        }
+        if pool.returned.len() != 0 {
+            let (job, woken) = pool.returned.take();
+            pool.rouse(woken);
+            if job.is_some() {
+                return job;
+            }
+        }
+        if self.from != pool.overflow.number || pool.overflow.len() == 0 {
+            return None;
+        }
+        let (job, woken) = pool.overflow.take();
+        pool.rouse(woken);
+        self.count_turn(pool, self.from);
+        job
+    }
+
+    /// Returns the job that was taken from a lane, or that of a token.
+    fn taken(&mut self, pool: &Shared, job: lanes::Job<u64>) -> Option<Job> {
+        if job.lane == pool.returned.number {
+            let (job, woken) = pool.returned.take_by_token();
+            pool.rouse(woken);
+            return job;
+        }
+        self.count_turn(pool, job.lane);
+        if job.lane == pool.overflow.number {
+            let (job, woken) = pool.overflow.take_by_token();
+            pool.rouse(woken);
+            return job;
+        }
+        pool.made_room(job.lane);
         Some(Job::taken(job))
     }
 
-    /// Returns the lane at which a search begins. Jobs that have come back go first.
-    fn first_lane(&self, pool: &Shared) -> u32 {
-        pool.beds.returned_lane().unwrap_or(self.from)
-    }
-
-    /// Sees to the lanes after a job of this lane was taken.
-    fn took(&mut self, pool: &Shared, lane: u32) {
-        let had_returned = pool.beds.count_taken(lane);
-        if had_returned {
-            pool.beds.refill(pool);
-            return;
-        }
-        self.refill_if_low(pool, &pool.overflow, lane);
-        pool.made_room(lane);
+    /// Counts a job of this lane, and goes on to the next lane after some.
+    fn count_turn(&mut self, pool: &Shared, lane: u32) {
         let in_a_row = if lane == self.from { self.in_a_row + 1 } else { 1 };
         let goes_on = in_a_row >= MOST_IN_A_ROW;
         self.from = (lane + u32::from(goes_on)) % pool.lane_count;
         self.in_a_row = if goes_on { 0 } else { in_a_row };
-    }
-
-    /// Moves jobs into the lane of the overflow, if it was this one, and has few jobs left.
-    fn refill_if_low(&mut self, pool: &Shared, overflow: &Overflow, lane: u32) {
-        if lane == overflow.number && overflow.has_listed() {
-            let jobs = self.worker(pool).look(lane).unwrap_or(0);
-            if jobs <= overflow.low {
-                pool.rouse(overflow.refill());
-            }
-        }
     }
 
     /// Gets the worker up, or leaves it in its bed if it lies down. Returns whether it did: not if
@@ -153,7 +172,7 @@ impl Desk {
 
     /// Returns whether the next job is to go to the overflow, since the own lane was full lately.
     pub fn skips_lane(&mut self, pool: &Shared) -> bool {
-        let skips = self.skips != 0 && pool.overflow.has_listed();
+        let skips = self.skips != 0 && pool.overflow.len() != 0;
         self.skips = self.skips.saturating_sub(1);
         skips
     }

@@ -1,26 +1,25 @@
-//! A queue of jobs without a limit: a lane, and a list of the jobs for which the lane has no room.
+//! A queue of jobs without a limit: a list under a lock, and a lane with a token.
 //!
-//! The waker of the lanes knows of jobs in lanes only. So the lane has jobs while the list has
-//! some: a worker that takes one of the last jobs from the lane moves others there. A worker that
-//! finds no job in the lanes does the same before it sleeps.
+//! The waker of the lanes knows of jobs in lanes only. So the lane has a token while the list has
+//! jobs. A worker that takes the token takes the first job of the list, and puts a token back if
+//! there are others.
 
 use crate::job::Job;
 use crate::util::lock;
-use cubejobs::lanes::{Lane, SubmitError};
+use cubejobs::lanes::Lane;
 use std::collections::VecDeque;
 use std::sync::atomic::{AtomicUsize, Ordering::Relaxed, Ordering::SeqCst};
 use std::sync::Mutex;
 
+/// The word of a token. No job has it.
+const TOKEN: u64 = 0;
+
 /// How many jobs must have begun before they were taken, until those in the list are looked for.
 const LEAST_PRUNED: usize = 64;
 
-/// How many jobs a call moves at most, so that others do not wait long for their turn.
-const MOST_MOVED: usize = 64;
-
 pub(crate) struct Overflow {
-    /// The number of the lane, and how few of its jobs are a reason to move others there.
+    /// The number of the lane.
     pub number: u32,
-    pub low: u64,
     inner: Mutex<Inner>,
     /// The number of jobs in the list.
     listed: AtomicUsize,
@@ -30,20 +29,31 @@ pub(crate) struct Overflow {
 
 struct Inner {
     lane: Lane<u64>,
+    has_token: bool,
     list: VecDeque<Job>,
     is_closed: bool,
 }
 
-/// The workers that a call has woken.
-pub(crate) type Woken = Vec<u32>;
+impl Inner {
+    /// Puts the token into the lane, if the list has jobs and the lane has no token. Returns the
+    /// worker that this has woken. A closed lane gets none: then workers look at the list.
+    fn put_token(&mut self) -> Option<u32> {
+        if self.has_token || self.list.is_empty() {
+            return None;
+        }
+        let accepted = self.lane.submit(TOKEN, 0).ok()?;
+        self.has_token = true;
+        accepted.woken
+    }
+}
 
 impl Overflow {
-    /// Makes a queue over the lane with this number, which holds `capacity` jobs.
-    pub fn new(lane: Lane<u64>, number: u32, capacity: u64) -> Self {
+    /// Makes a queue over the lane with this number.
+    pub fn new(lane: Lane<u64>, number: u32) -> Self {
+        let inner = Inner { lane, has_token: false, list: VecDeque::new(), is_closed: false };
         Overflow {
             number,
-            low: capacity / 2,
-            inner: Mutex::new(Inner { lane, list: VecDeque::new(), is_closed: false }),
+            inner: Mutex::new(inner),
             listed: AtomicUsize::new(0),
             begun_early: AtomicUsize::new(0),
         }
@@ -54,13 +64,14 @@ impl Overflow {
         self.begun_early.fetch_add(1, Relaxed);
     }
 
-    /// Returns whether the list has jobs.
-    pub fn has_listed(&self) -> bool {
-        self.listed.load(SeqCst) != 0
+    /// Returns how many jobs are in the list.
+    pub fn len(&self) -> usize {
+        self.listed.load(SeqCst)
     }
 
-    /// Puts a job into the queue. Returns it if the queue is closed.
-    pub fn push(&self, job: Job) -> Result<Woken, Job> {
+    /// Puts a job at the end. Returns the worker that this has woken, or the job if the queue is
+    /// closed.
+    pub fn push(&self, job: Job) -> Result<Option<u32>, Job> {
         let mut inner = lock(&self.inner);
         if inner.is_closed {
             return Err(job);
@@ -68,12 +79,12 @@ impl Overflow {
         Ok(self.push_to(&mut inner, job))
     }
 
-    /// Puts a job into the queue, even if it is closed.
-    pub fn push_back(&self, job: Job) -> Woken {
+    /// Puts a job at the end, even if the queue is closed. Returns the worker that this has woken.
+    pub fn push_back(&self, job: Job) -> Option<u32> {
         self.push_to(&mut lock(&self.inner), job)
     }
 
-    fn push_to(&self, inner: &mut Inner, job: Job) -> Woken {
+    fn push_to(&self, inner: &mut Inner, job: Job) -> Option<u32> {
         inner.list.push_back(job);
         // Each job that has begun early pays for a look at two jobs of the list.
         if self.begun_early.load(Relaxed) >= LEAST_PRUNED.max(inner.list.len() / 2) {
@@ -81,57 +92,35 @@ impl Overflow {
             inner.list.retain(|job| !job.has_begun());
         }
         self.listed.store(inner.list.len(), SeqCst);
-        // If other jobs are listed, the lane had no room for them. The next take from it, which
-        // sees that jobs are listed, moves them.
-        if inner.list.len() > 1 {
-            return Woken::new();
-        }
-        self.move_jobs(inner)
+        inner.put_token()
     }
 
-    /// Puts a job into the lane. Returns it with the reason if there is no room, or other jobs wait
-    /// for it.
-    pub fn try_push(&self, job: Job) -> Result<Woken, (SubmitError, Job)> {
+    /// Takes the first job that has not begun. Returns it with the worker that this has woken.
+    pub fn take(&self) -> (Option<Job>, Option<u32>) {
+        self.take_from(&mut lock(&self.inner))
+    }
+
+    /// Takes a job, as `take` does, by the token that a worker has taken from the lane.
+    pub fn take_by_token(&self) -> (Option<Job>, Option<u32>) {
         let mut inner = lock(&self.inner);
-        if inner.is_closed {
-            return Err((SubmitError::Closed, job));
-        }
-        if !inner.list.is_empty() {
-            return Err((SubmitError::Full, job));
-        }
-        match inner.lane.submit(job.into_word(), 0) {
-            Ok(accepted) => Ok(accepted.woken.into_iter().collect()),
-            Err(refused) => Err((refused.reason, Job::refused(refused))),
-        }
+        inner.has_token = false;
+        self.take_from(&mut inner)
     }
 
-    /// Moves jobs from the list into the lane, as long as there is room.
-    pub fn refill(&self) -> Woken {
-        self.move_jobs(&mut lock(&self.inner))
-    }
-
-    fn move_jobs(&self, inner: &mut Inner) -> Woken {
-        let mut woken = Woken::new();
-        for _ in 0..MOST_MOVED {
-            let Some(job) = inner.list.pop_front() else { break };
-            match inner.lane.submit(job.into_word(), 0) {
-                Ok(accepted) => woken.extend(accepted.woken),
-                Err(refused) => {
-                    inner.list.push_front(Job::refused(refused));
-                    break;
-                }
-            }
+    fn take_from(&self, inner: &mut Inner) -> (Option<Job>, Option<u32>) {
+        let mut job = inner.list.pop_front();
+        while job.as_ref().is_some_and(Job::has_begun) {
+            job = inner.list.pop_front();
         }
         self.listed.store(inner.list.len(), SeqCst);
-        woken
+        (job, inner.put_token())
     }
 
-    /// Takes the first job of the list. This is for a worker that has seen the end of the lanes.
-    pub fn take_listed(&self) -> Option<Job> {
+    /// Puts back the token that was taken from the lane. Returns the worker that this has woken.
+    pub fn put_back_token(&self) -> Option<u32> {
         let mut inner = lock(&self.inner);
-        let job = inner.list.pop_front();
-        self.listed.store(inner.list.len(), SeqCst);
-        job
+        inner.has_token = false;
+        inner.put_token()
     }
 
     /// Closes the queue: it accepts no job any more.

@@ -261,8 +261,8 @@ impl Builder {
         let ones = self.open(lane_count, size)?;
         let gangs = self.open(common, 1)?;
         // Lanes and workers are dealt out in the order of their numbers.
-        let returned = Overflow::new(lane(&ones)?, 0, self.capacity);
-        let overflow = Overflow::new(lane(&ones)?, 1, self.capacity);
+        let returned = Overflow::new(lane(&ones)?, 0);
+        let overflow = Overflow::new(lane(&ones)?, 1);
         let outside_ones = Outside::new(dealt(self.shared_lanes, || lane(&ones))?);
         let outside_gangs = Outside::new(dealt(self.shared_lanes, || lane(&gangs))?);
         let producers = (self.shared_lanes..common).map(|place| producer(&ones, &gangs, place));
@@ -280,12 +280,14 @@ impl Builder {
             outside_ones,
             outside_gangs,
             producers: Mutex::new(producers),
+            returned,
             overflow,
+            capacity: self.capacity as usize,
             lane_count,
             first_own,
             rooms: (0..common).map(|_| Padded::default()).collect(),
             gang_rooms: (0..common).map(|_| Padded::default()).collect(),
-            beds: Beds::new(size as usize, returned),
+            beds: Beds::new(size as usize),
             seats: (0..size).map(|_| Seat::new(self.dim)).collect(),
             spares: Spares::new(size as usize, self.settings),
             placer: Mutex::new(placer),

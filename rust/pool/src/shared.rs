@@ -8,7 +8,7 @@ use crate::gang::Gang;
 use crate::group::Group;
 use crate::job::Job;
 use crate::outside::Outside;
-use crate::overflow::{Overflow, Woken};
+use crate::overflow::Overflow;
 use crate::placer::Placer;
 use crate::room::Room;
 use crate::seat::Seat;
@@ -50,7 +50,12 @@ pub(crate) struct Shared {
     pub outside_gangs: Outside<GangWord>,
     /// The lanes of clients that are not out.
     pub producers: Mutex<Vec<Producer>>,
+    /// The jobs that have come back, which go first, and those for which a worker's lane had no
+    /// room.
+    pub returned: Overflow,
     pub overflow: Overflow,
+    /// How many jobs a lane holds.
+    pub capacity: usize,
     /// The number of lanes of one-worker jobs, and the number of the lane of worker 0.
     pub lane_count: u32,
     pub first_own: u32,
@@ -140,25 +145,16 @@ impl Shared {
         }
     }
 
-    /// Wakes the workers that a call has woken.
-    pub fn rouse(&self, woken: Woken) {
-        if !woken.is_empty() {
+    /// Wakes the worker that a call has woken.
+    pub fn rouse(&self, woken: Option<u32>) {
+        if let Some(woken) = woken {
             self.beds.rouse(self, woken);
         }
     }
 
-    /// Moves jobs that no lane has into lanes. Returns whether there were some.
-    pub fn refill(&self) -> bool {
-        let has_listed = self.overflow.has_listed();
-        if has_listed {
-            self.rouse(self.overflow.refill());
-        }
-        self.beds.refill(self) || has_listed
-    }
-
     /// Takes a job that no lane has, after the end of the lanes.
-    pub fn take_listed(&self) -> Option<Job> {
-        self.overflow.take_listed().or_else(|| self.beds.take_listed())
+    pub fn take_last(&self) -> Option<Job> {
+        self.overflow.take().0.or_else(|| self.returned.take().0)
     }
 
     /// Wakes the worker that an accepted submit names. Otherwise returns the reason, and what was
@@ -166,15 +162,15 @@ impl Shared {
     fn settle<P: Payload>(&self, submitted: Submitted<P>) -> Result<(), (Reason, Refused<SubmitError, P>)> {
         match submitted {
             Ok(accepted) => {
-                self.rouse(Woken::from_iter(accepted.woken));
+                self.rouse(accepted.woken);
                 Ok(())
             }
             Err(refused) => Err((reason_of(refused.reason), refused)),
         }
     }
 
-    /// Wakes workers, or returns the job with the reason.
-    fn settle_own(&self, submitted: Result<Woken, (SubmitError, Job)>) -> Result<(), (Reason, Job)> {
+    /// Wakes a worker, or returns the job with the reason.
+    fn settle_own(&self, submitted: Result<Option<u32>, (SubmitError, Job)>) -> Result<(), (Reason, Job)> {
         let woken = submitted.map_err(|(error, job)| (reason_of(error), job))?;
         self.rouse(woken);
         Ok(())
