@@ -31,7 +31,7 @@ thread_local! {
     static CURRENT: RefCell<Option<Rc<Local>>> = const { RefCell::new(None) };
 }
 
-/// What a job waits for. The thread of the job is unparked when it is over.
+/// What a job waits for.
 pub(crate) trait Wait {
     fn is_over(&self) -> bool;
 
@@ -40,6 +40,10 @@ pub(crate) trait Wait {
 
     /// Says that a job of `next` was not begun.
     fn put_back(&self, job: Awaited);
+
+    /// Has this thread unparked from now on, when the wait is over or has a part more. The thread
+    /// looks again before it parks.
+    fn register(&self);
 
     /// Returns whether a gang is part of this.
     fn has(&self, gang: &Gang) -> bool;
@@ -58,6 +62,8 @@ pub(crate) struct Local {
     stack: usize,
     /// The numbers of other pools whose jobs are on this stack.
     hosts: RefCell<Vec<usize>>,
+    /// How many jobs of scopes have ended here.
+    ends: Cell<usize>,
     /// A share of the scope whose job was the last one.
     pub scope: RefCell<Option<Arc<ScopeState>>>,
 }
@@ -100,6 +106,7 @@ pub(crate) fn wait(pool: usize, wait: &dyn Wait) {
     match any() {
         Some(local) => local.wait(pool, wait),
         None => {
+            wait.register();
             while !wait.is_over() {
                 thread::park();
             }
@@ -130,6 +137,7 @@ pub(crate) fn work(shared: Arc<Shared>, inbox: Arc<Inbox>, number: usize) {
         in_gang: Cell::new(false),
         stack: stack_pointer(),
         hosts: RefCell::default(),
+        ends: Cell::new(0),
         scope: RefCell::new(None),
     });
     CURRENT.set(Some(local.clone()));
@@ -297,6 +305,11 @@ impl Local {
         }
     }
 
+    /// Counts the end of a job of a scope. Returns how many there were here before.
+    pub fn count_end(&self) -> usize {
+        self.ends.replace(self.ends.get().wrapping_add(1))
+    }
+
     /// Waits until something of this pool is over. Runs parts of it that have not begun.
     fn wait(&self, pool: usize, wait: &dyn Wait) {
         let is_own = self.shared.number == pool;
@@ -305,7 +318,7 @@ impl Local {
             "a member of a gang waits for a job of its own pool: the pool could stand still"
         );
         let host = if is_own { Some(self.shared.clone()) } else { pool_of(pool) };
-        let (mut yields, mut kept) = (0, None);
+        let (mut yields, mut kept, mut is_registered) = (0, None, false);
         while !wait.is_over() {
             // A job of another pool may hold a worker of its own pool, and none of this one.
             let may_run = is_own || !self.has_desk();
@@ -315,6 +328,9 @@ impl Local {
             if self.has_desk() && yields < YIELDS {
                 yields += 1;
                 thread::yield_now();
+            } else if !is_registered {
+                is_registered = true;
+                wait.register();
             } else if !self.has_desk() || !self.has_left(&mut kept) {
                 self.park(wait, kept);
             }

@@ -9,6 +9,7 @@ use crate::outside::thread_number;
 use crate::shared::{self, Shared};
 use crate::ticket::{Ends, Packet, Promise, Ticket};
 use crate::util::{drop_quietly, lock, Padded, Payload};
+use std::collections::VecDeque;
 use std::fmt;
 use std::marker::PhantomData;
 use std::mem;
@@ -17,8 +18,9 @@ use std::sync::atomic::{AtomicBool, AtomicUsize, Ordering::SeqCst};
 use std::sync::{Arc, Mutex, OnceLock};
 use std::thread::{self, Thread};
 
-/// How many jobs are listed between two looks for those that have begun.
-const LISTED: usize = 1024;
+/// The number of jobs in a part of a list. Each thread looks through a part after it has ended this
+/// many jobs, so lists have few jobs that have begun.
+const PART: usize = 256;
 
 /// The jobs of a scope. The padding keeps what is written for each job apart from what others read.
 /// An alignment would make each scope slower, since its allocation would be aligned too.
@@ -38,31 +40,31 @@ pub(crate) struct ScopeState {
     panic: Mutex<Option<Payload>>,
 }
 
-/// Jobs that may be begun from here.
+/// Jobs that may be begun from here, in parts of which the last one is not full.
 #[derive(Default)]
 struct List {
-    jobs: Vec<Awaited>,
-    /// The length at which jobs that have begun are dropped.
-    prune_at: usize,
+    newest: Vec<Awaited>,
+    others: VecDeque<Vec<Awaited>>,
 }
 
 impl List {
     fn push(&mut self, job: Awaited) {
-        self.jobs.push(job);
-        if self.jobs.len() >= self.prune_at.max(LISTED) {
-            self.jobs.retain(|job| !job.has_begun());
-            self.prune_at = 2 * self.jobs.len() + LISTED;
+        self.newest.push(job);
+        if self.newest.len() == PART {
+            self.others.push_back(mem::replace(&mut self.newest, Vec::with_capacity(PART)));
         }
     }
 
     /// Takes the newest job that has not begun.
     fn pop(&mut self) -> Option<Awaited> {
-        while let Some(job) = self.jobs.pop() {
-            if !job.has_begun() {
-                return Some(job);
+        loop {
+            while let Some(job) = self.newest.pop() {
+                if !job.has_begun() {
+                    return Some(job);
+                }
             }
+            self.newest = self.others.pop_back()?;
         }
-        None
     }
 }
 
@@ -98,8 +100,21 @@ impl ScopeState {
     fn is_over(&self) -> bool {
         // A job counts its children before its own end. So the sum, read first, is not too large.
         let others = self.ended.get().map_or(0, |all| all.iter().map(|it| it.load(SeqCst)).sum());
-        let ended = others + self.ended_here.load(SeqCst);
+        let ended: usize = others + self.ended_here.load(SeqCst);
         ended == self.begun.load(SeqCst)
+    }
+
+    /// Drops the oldest listed jobs, if they have begun.
+    fn look_through(&self, list: &Mutex<List>) {
+        let Some(mut part) = lock(list).others.pop_front() else { return };
+        part.retain(|job| !job.has_begun());
+        if part.is_empty() {
+            return;
+        }
+        lock(list).others.push_back(part);
+        if self.is_ending.load(SeqCst) {
+            self.owner.unpark();
+        }
     }
 
     pub fn keep_panic(&self, payload: Payload) {
@@ -139,6 +154,10 @@ impl Wait for ScopeState {
         if let Some(list) = &self.list {
             lock(list).push(job);
         }
+    }
+
+    fn register(&self) {
+        self.is_ending.store(true, SeqCst);
     }
 
     fn has(&self, gang: &Gang) -> bool {
@@ -189,6 +208,11 @@ impl Claim {
         };
         if let Some(payload) = panic {
             state.keep_panic(payload);
+        }
+        if let Some(list) = &state.list {
+            if local.as_ref().is_some_and(|it| it.count_end() % PART == 0) {
+                state.look_through(list);
+            }
         }
         state.end(local.as_ref().map_or(usize::MAX, |it| it.number));
         if let Some(local) = local {
@@ -269,7 +293,6 @@ pub(crate) fn run<'env, R>(
     let state = ScopeState::new(pool);
     let scope = Scope { pool, state: state.clone(), scope: PhantomData, env: PhantomData };
     let result = catch_unwind(AssertUnwindSafe(|| call(&scope)));
-    state.is_ending.store(true, SeqCst);
     current::wait(pool.number, &*state);
     let panic = lock(&state.panic).take();
     match (result, panic) {

@@ -78,8 +78,6 @@ impl<T> Packet<T> {
         }
         // What this thread has begun, and has not ended, waits for this call itself.
         assert!(self.runner.load(Relaxed) != thread_number(), "a job waits for its own end");
-        let _ = self.waiter.set(thread::current());
-        fence(SeqCst);
         current::wait(pool, &Joined { packet: self, job });
     }
 
@@ -126,6 +124,12 @@ impl<T> Wait for Joined<'_, T> {
     }
 
     fn put_back(&self, _: Awaited) {}
+
+    fn register(&self) {
+        let _ = self.packet.waiter.set(thread::current());
+        // Either the end of the job sees the waiter, or the waiter sees that the job is done.
+        fence(SeqCst);
+    }
 
     fn has(&self, gang: &Gang) -> bool {
         gang.owners.ticket == self.packet.address()
