@@ -93,7 +93,7 @@ fn search(pool: &Shared, worker: &mut Worker<u64>, woken: &mut Vec<u32>) {
             Found::Job(job) => {
                 let queue = [&pool.returned, &pool.overflow].into_iter().find(|it| it.number == job.lane);
                 woken.extend(match queue {
-                    Some(queue) => queue.put_back_token(),
+                    Some(queue) => queue.return_token(),
                     None => {
                         pool.made_room(job.lane);
                         pool.returned.push_back(Job::taken(job))

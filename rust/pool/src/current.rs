@@ -371,7 +371,7 @@ impl Local {
 
     /// Runs a job of this pool or of another one before it is taken from its lane.
     fn run_early(&self, host: &Shared, job: Awaited) {
-        if host.overflow.len() != 0 {
+        if host.overflow.has_jobs() {
             host.overflow.count_early();
         }
         if host.number == self.shared.number {

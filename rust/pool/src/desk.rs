@@ -113,14 +113,14 @@ impl Desk {
         if self.may_lie {
             return None;
         }
-        if pool.returned.len() != 0 {
+        if pool.returned.has_jobs() {
             let (job, woken) = pool.returned.take();
             pool.rouse(woken);
             if job.is_some() {
                 return job;
             }
         }
-        if self.from != pool.overflow.number || pool.overflow.len() == 0 {
+        if self.from != pool.overflow.number || !pool.overflow.has_jobs() {
             return None;
         }
         let (job, woken) = pool.overflow.take();
@@ -172,7 +172,7 @@ impl Desk {
 
     /// Returns whether the next job is to go to the overflow, since the own lane was full lately.
     pub fn skips_lane(&mut self, pool: &Shared) -> bool {
-        let skips = self.skips != 0 && pool.overflow.len() != 0;
+        let skips = self.skips != 0 && pool.overflow.has_jobs();
         self.skips = self.skips.saturating_sub(1);
         skips
     }

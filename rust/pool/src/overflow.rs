@@ -1,14 +1,15 @@
-//! A queue of jobs without a limit: a list under a lock, and a lane with a token.
+//! A queue of jobs without a limit: two lists under locks, and a lane with a token.
 //!
-//! The waker of the lanes knows of jobs in lanes only. So the lane has a token while the list has
-//! jobs. A worker that takes the token takes the first job of the list, and puts a token back if
-//! there are others.
+//! The waker of the lanes knows of jobs in lanes only. So the lane has a token while the lists have
+//! jobs. A worker that takes the token takes the first job, and puts a token back if there are
+//! others. A thread that submits has another lock than workers that take.
 
 use crate::job::Job;
-use crate::util::lock;
+use crate::util::{lock, Padded};
 use cubejobs::lanes::Lane;
 use std::collections::VecDeque;
-use std::sync::atomic::{AtomicUsize, Ordering::Relaxed, Ordering::SeqCst};
+use std::mem;
+use std::sync::atomic::{AtomicBool, AtomicUsize, Ordering::Relaxed, Ordering::SeqCst};
 use std::sync::Mutex;
 
 /// The word of a token. No job has it.
@@ -20,111 +21,140 @@ const LEAST_PRUNED: usize = 64;
 pub(crate) struct Overflow {
     /// The number of the lane.
     pub number: u32,
-    inner: Mutex<Inner>,
-    /// The number of jobs in the list.
-    listed: AtomicUsize,
+    /// The first jobs. A worker that finds none here takes all of the other list.
+    front: Padded<Mutex<VecDeque<Job>>>,
+    back: Padded<Mutex<Back>>,
+    /// Whether the lists may have jobs. It is cleared under both locks.
+    has_jobs: Padded<AtomicBool>,
+    /// Whether the lane has a token, or a worker is about to put one.
+    has_token: AtomicBool,
     /// How many jobs of the pool have begun before they were taken, since the last look for them.
     begun_early: AtomicUsize,
 }
 
-struct Inner {
+/// The lane, and the jobs that came last.
+struct Back {
     lane: Lane<u64>,
-    has_token: bool,
     list: VecDeque<Job>,
     is_closed: bool,
-}
-
-impl Inner {
-    /// Puts the token into the lane, if the list has jobs and the lane has no token. Returns the
-    /// worker that this has woken. A closed lane gets none: then workers look at the list.
-    fn put_token(&mut self) -> Option<u32> {
-        if self.has_token || self.list.is_empty() {
-            return None;
-        }
-        let accepted = self.lane.submit(TOKEN, 0).ok()?;
-        self.has_token = true;
-        accepted.woken
-    }
 }
 
 impl Overflow {
     /// Makes a queue over the lane with this number.
     pub fn new(lane: Lane<u64>, number: u32) -> Self {
-        let inner = Inner { lane, has_token: false, list: VecDeque::new(), is_closed: false };
         Overflow {
             number,
-            inner: Mutex::new(inner),
-            listed: AtomicUsize::new(0),
+            front: Padded::default(),
+            back: Padded(Mutex::new(Back { lane, list: VecDeque::new(), is_closed: false })),
+            has_jobs: Padded::default(),
+            has_token: AtomicBool::new(false),
             begun_early: AtomicUsize::new(0),
         }
     }
 
-    /// Counts a job that has begun before it was taken. It may be in the list.
+    /// Counts a job that has begun before it was taken. It may be in a list.
     pub fn count_early(&self) {
         self.begun_early.fetch_add(1, Relaxed);
     }
 
-    /// Returns how many jobs are in the list.
+    /// Returns whether the lists may have jobs.
+    pub fn has_jobs(&self) -> bool {
+        self.has_jobs.load(SeqCst)
+    }
+
+    /// Returns the number of jobs in the lists.
     pub fn len(&self) -> usize {
-        self.listed.load(SeqCst)
+        let first = lock(&self.front).len();
+        first + lock(&self.back).list.len()
     }
 
     /// Puts a job at the end. Returns the worker that this has woken, or the job if the queue is
     /// closed.
     pub fn push(&self, job: Job) -> Result<Option<u32>, Job> {
-        let mut inner = lock(&self.inner);
-        if inner.is_closed {
+        let mut back = lock(&self.back);
+        if back.is_closed {
             return Err(job);
         }
-        Ok(self.push_to(&mut inner, job))
+        Ok(self.push_to(&mut back, job))
     }
 
     /// Puts a job at the end, even if the queue is closed. Returns the worker that this has woken.
     pub fn push_back(&self, job: Job) -> Option<u32> {
-        self.push_to(&mut lock(&self.inner), job)
+        self.push_to(&mut lock(&self.back), job)
     }
 
-    fn push_to(&self, inner: &mut Inner, job: Job) -> Option<u32> {
-        inner.list.push_back(job);
+    fn push_to(&self, back: &mut Back, job: Job) -> Option<u32> {
+        back.list.push_back(job);
         // Each job that has begun early pays for a look at two jobs of the list.
-        if self.begun_early.load(Relaxed) >= LEAST_PRUNED.max(inner.list.len() / 2) {
+        if self.begun_early.load(Relaxed) >= LEAST_PRUNED.max(back.list.len() / 2) {
             self.begun_early.store(0, Relaxed);
-            inner.list.retain(|job| !job.has_begun());
+            back.list.retain(|job| !job.has_begun());
         }
-        self.listed.store(inner.list.len(), SeqCst);
-        inner.put_token()
+        // Workers read this often, so it is written only if it changes.
+        if !self.has_jobs() {
+            self.has_jobs.store(true, SeqCst);
+        }
+        self.put_token(back)
+    }
+
+    /// Puts a token into the lane if it has none. Returns the worker that this has woken. A closed
+    /// lane gets none: then workers look at the lists.
+    fn put_token(&self, back: &mut Back) -> Option<u32> {
+        if self.has_token.load(SeqCst) || self.has_token.swap(true, SeqCst) {
+            return None;
+        }
+        match back.lane.submit(TOKEN, 0) {
+            Ok(accepted) => accepted.woken,
+            Err(_) => {
+                self.has_token.store(false, SeqCst);
+                None
+            }
+        }
     }
 
     /// Takes the first job that has not begun. Returns it with the worker that this has woken.
     pub fn take(&self) -> (Option<Job>, Option<u32>) {
-        self.take_from(&mut lock(&self.inner))
+        let job = self.take_first(&mut lock(&self.front));
+        (job, self.put_token_back())
+    }
+
+    fn take_first(&self, front: &mut VecDeque<Job>) -> Option<Job> {
+        let mut found = None;
+        while found.is_none() {
+            found = front.pop_front().filter(|job| !job.has_begun());
+            if front.is_empty() {
+                let mut back = lock(&self.back);
+                mem::swap(front, &mut back.list);
+                if front.is_empty() {
+                    self.has_jobs.store(false, SeqCst);
+                    break;
+                }
+            }
+        }
+        found
     }
 
     /// Takes a job, as `take` does, by the token that a worker has taken from the lane.
     pub fn take_by_token(&self) -> (Option<Job>, Option<u32>) {
-        let mut inner = lock(&self.inner);
-        inner.has_token = false;
-        self.take_from(&mut inner)
-    }
-
-    fn take_from(&self, inner: &mut Inner) -> (Option<Job>, Option<u32>) {
-        let mut job = inner.list.pop_front();
-        while job.as_ref().is_some_and(Job::has_begun) {
-            job = inner.list.pop_front();
-        }
-        self.listed.store(inner.list.len(), SeqCst);
-        (job, inner.put_token())
+        self.has_token.store(false, SeqCst);
+        self.take()
     }
 
     /// Puts back the token that was taken from the lane. Returns the worker that this has woken.
-    pub fn put_back_token(&self) -> Option<u32> {
-        let mut inner = lock(&self.inner);
-        inner.has_token = false;
-        inner.put_token()
+    pub fn return_token(&self) -> Option<u32> {
+        self.has_token.store(false, SeqCst);
+        self.put_token_back()
+    }
+
+    fn put_token_back(&self) -> Option<u32> {
+        if !self.has_jobs() || self.has_token.load(SeqCst) {
+            return None;
+        }
+        self.put_token(&mut lock(&self.back))
     }
 
     /// Closes the queue: it accepts no job any more.
     pub fn close(&self) {
-        lock(&self.inner).is_closed = true;
+        lock(&self.back).is_closed = true;
     }
 }

@@ -18,8 +18,8 @@ use std::sync::atomic::{AtomicBool, AtomicUsize, Ordering::SeqCst};
 use std::sync::{Arc, Mutex, OnceLock};
 use std::thread::{self, Thread};
 
-/// The number of jobs in a part of a list. Each thread looks through a part after it has ended this
-/// many jobs, so lists have few jobs that have begun.
+/// The number of jobs in a part of a list. Each thread looks through a part after it has ended half
+/// as many jobs. So about half of the jobs in lists have not begun, if lists are long.
 const PART: usize = 256;
 
 /// The jobs of a scope. The padding keeps what is written for each job apart from what others read.
@@ -50,7 +50,7 @@ struct List {
 impl List {
     fn push(&mut self, job: Awaited) {
         self.newest.push(job);
-        if self.newest.len() == PART {
+        if self.newest.len() >= PART {
             self.others.push_back(mem::replace(&mut self.newest, Vec::with_capacity(PART)));
         }
     }
@@ -111,7 +111,9 @@ impl ScopeState {
         if part.is_empty() {
             return;
         }
-        lock(list).others.push_back(part);
+        let mut list = lock(list);
+        part.into_iter().for_each(|job| list.push(job));
+        drop(list);
         if self.is_ending.load(SeqCst) {
             self.owner.unpark();
         }
@@ -210,7 +212,7 @@ impl Claim {
             state.keep_panic(payload);
         }
         if let Some(list) = &state.list {
-            if local.as_ref().is_some_and(|it| it.count_end() % PART == 0) {
+            if local.as_ref().is_some_and(|it| it.count_end() % (PART / 2) == 0) {
                 state.look_through(list);
             }
         }
