@@ -37,6 +37,8 @@ pub(crate) struct Desk {
     pub begun_early: usize,
     /// How many of the next jobs go to the overflow, if it has some.
     skips: u32,
+    /// How many jobs were moved to the own lane, and not taken since.
+    moved: u32,
 }
 
 /// What the thread of a worker can do.
@@ -60,6 +62,7 @@ impl Desk {
             is_turn_of_one: false,
             begun_early: 0,
             skips: 0,
+            moved: 0,
         }
     }
 
@@ -120,27 +123,50 @@ impl Desk {
                 return job;
             }
         }
+        if self.moved != 0 {
+            self.moved -= 1;
+            let own = pool.lane_of_worker(self.index);
+            if let Ok(job) = self.worker(pool).take(own) {
+                return Some(Job::taken(job));
+            }
+            self.moved = 0;
+        }
         if self.from != pool.overflow.number || !pool.overflow.has_jobs() {
             return None;
         }
-        let (job, woken) = pool.overflow.take();
-        pool.rouse(woken);
         self.count_turn(pool, self.from);
+        self.take_overflow(pool)
+    }
+
+    /// Takes the first job of the overflow, and moves some of the next ones to the own lane.
+    fn take_overflow(&mut self, pool: &Shared) -> Option<Job> {
+        let (lane, mut moved) = (&mut self.lane, 0);
+        let accept = |job: Job| match lane.submit(job.into_word(), 0) {
+            Ok(accepted) => {
+                pool.rouse(accepted.woken);
+                moved += 1;
+                Ok(())
+            }
+            Err(refused) => Err(Job::refused(refused)),
+        };
+        let (job, woken) = pool.overflow.take_with(4 * pool.size(), accept);
+        self.moved = moved;
+        pool.rouse(woken);
         job
     }
 
     /// Returns the job that was taken from a lane, or that of a token.
     fn taken(&mut self, pool: &Shared, job: lanes::Job<u64>) -> Option<Job> {
         if job.lane == pool.returned.number {
-            let (job, woken) = pool.returned.take_by_token();
+            pool.returned.took_token();
+            let (job, woken) = pool.returned.take();
             pool.rouse(woken);
             return job;
         }
         self.count_turn(pool, job.lane);
         if job.lane == pool.overflow.number {
-            let (job, woken) = pool.overflow.take_by_token();
-            pool.rouse(woken);
-            return job;
+            pool.overflow.took_token();
+            return self.take_overflow(pool);
         }
         pool.made_room(job.lane);
         Some(Job::taken(job))

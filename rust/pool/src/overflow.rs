@@ -18,6 +18,9 @@ const TOKEN: u64 = 0;
 /// How many jobs must have begun before they were taken, until those in the list are looked for.
 const LEAST_PRUNED: usize = 64;
 
+/// How many jobs a worker moves to its lane at most when it takes one.
+const MOST_MOVED: usize = 64;
+
 pub(crate) struct Overflow {
     /// The number of the lane.
     pub number: u32,
@@ -114,8 +117,27 @@ impl Overflow {
 
     /// Takes the first job that has not begun. Returns it with the worker that this has woken.
     pub fn take(&self) -> (Option<Job>, Option<u32>) {
-        let job = self.take_first(&mut lock(&self.front));
-        (job, self.put_token_back())
+        self.take_with(0, Err)
+    }
+
+    /// Takes the first job, as `take` does. Moves some of the next ones by a call: one `share` of
+    /// them, and no more than it accepts.
+    pub fn take_with(
+        &self,
+        share: usize,
+        mut accept: impl FnMut(Job) -> Result<(), Job>,
+    ) -> (Option<Job>, Option<u32>) {
+        let mut front = lock(&self.front);
+        let first = self.take_first(&mut front);
+        for _ in 0..front.len().checked_div(share).unwrap_or(0).min(MOST_MOVED) {
+            let Some(job) = front.pop_front() else { break };
+            if let Err(job) = accept(job) {
+                front.push_front(job);
+                break;
+            }
+        }
+        drop(front);
+        (first, self.put_token_back())
     }
 
     fn take_first(&self, front: &mut VecDeque<Job>) -> Option<Job> {
@@ -134,10 +156,9 @@ impl Overflow {
         found
     }
 
-    /// Takes a job, as `take` does, by the token that a worker has taken from the lane.
-    pub fn take_by_token(&self) -> (Option<Job>, Option<u32>) {
+    /// Says that a worker has taken the token from the lane.
+    pub fn took_token(&self) {
         self.has_token.store(false, SeqCst);
-        self.take()
     }
 
     /// Puts back the token that was taken from the lane. Returns the worker that this has woken.

@@ -26,6 +26,8 @@ const PART: usize = 256;
 /// An alignment would make each scope slower, since its allocation would be aligned too.
 pub(crate) struct ScopeState {
     begun: AtomicUsize,
+    /// The number of jobs that have ended at the owner's thread.
+    ended_here: AtomicUsize,
     /// The jobs that have not begun, and others, if the owner may run them while it waits.
     list: Option<Mutex<List>>,
     _apart: [u64; 16],
@@ -33,8 +35,7 @@ pub(crate) struct ScopeState {
     is_ending: AtomicBool,
     owner: Thread,
     owner_number: usize,
-    /// The number of jobs that have ended: at the owner's thread, and at other threads.
-    ended_here: AtomicUsize,
+    /// The number of jobs that have ended at other threads than the owner's.
     ended: OnceLock<Vec<Padded<AtomicUsize>>>,
     workers: usize,
     panic: Mutex<Option<Payload>>,
@@ -211,8 +212,9 @@ impl Claim {
         if let Some(payload) = panic {
             state.keep_panic(payload);
         }
-        if let Some(list) = &state.list {
-            if local.as_ref().is_some_and(|it| it.count_end() % (PART / 2) == 0) {
+        // The list is beside what is written for each submit, so it is seldom read.
+        if local.as_ref().is_some_and(|it| it.count_end() % (PART / 2) == 0) {
+            if let Some(list) = &state.list {
                 state.look_through(list);
             }
         }

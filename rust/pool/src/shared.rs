@@ -181,33 +181,43 @@ impl Shared {
         if self.is_closed.load(SeqCst) {
             return Err((Reason::Closed, job));
         }
-        if let Some(local) = current::of(self) {
-            return self.settle_own(local.try_submit(job));
+        match current::of(self) {
+            Some(local) => self.settle_own(local.try_submit(job)),
+            None => self.submit_from_outside(job, false),
         }
-        let place = self.outside_ones.place();
-        let submitted = self.outside_ones.submit(place, job.into_word());
-        self.settle(submitted).map_err(|(reason, refused)| (reason, Job::refused(refused)))
     }
 
     /// Submits a job. If the lane is full, that of a worker of any pool goes to the overflow, and
     /// another thread sleeps until there is room. Returns the job if the pool is closed.
     pub fn submit_one(&self, job: Job) -> Result<(), Job> {
-        if current::of(self).is_some_and(|local| local.skips_lane()) {
-            self.rouse(self.overflow.push(job)?);
-            return Ok(());
+        if self.is_closed.load(SeqCst) {
+            return Err(job);
         }
-        let job = match self.try_submit_one(job) {
-            Err((Reason::Full, job)) => job,
-            other => return other.map_err(|(_, job)| job),
+        let local = current::of(self);
+        let submitted = match &local {
+            Some(local) if local.skips_lane() => Err((Reason::Full, job)),
+            Some(local) => self.settle_own(local.try_submit(job)),
+            None => self.submit_from_outside(job, !current::is_worker()),
         };
-        if current::is_worker() {
-            self.rouse(self.overflow.push(job)?);
-            return Ok(());
+        match submitted {
+            Err((Reason::Full, job)) => {
+                self.rouse(self.overflow.push(job)?);
+                Ok(())
+            }
+            other => other.map_err(|(_, job)| job),
         }
+    }
+
+    /// Submits a job to a lane that threads share. If it is full, this thread sleeps until there is
+    /// room, if it may wait.
+    fn submit_from_outside(&self, job: Job, may_wait: bool) -> Result<(), (Reason, Job)> {
         let place = self.outside_ones.place();
         let submit = |word| self.outside_ones.submit(place, word);
-        let submitted = wait_for_room(&self.rooms[place], submit(job.into_word()), submit);
-        self.settle(submitted).map_err(|(_, refused)| Job::refused(refused))
+        let mut submitted = submit(job.into_word());
+        if may_wait {
+            submitted = wait_for_room(&self.rooms[place], submitted, submit);
+        }
+        self.settle(submitted).map_err(|(reason, refused)| (reason, Job::refused(refused)))
     }
 
     /// Submits a job by a client. If its lane is full, a thread that is no worker sleeps until
