@@ -41,8 +41,8 @@ pub(crate) trait Wait {
     /// Says that a job of `next` was not begun.
     fn put_back(&self, job: Awaited);
 
-    /// Has this thread unparked from now on, when the wait is over or has a part more. The thread
-    /// looks again before it parks.
+    /// Notes that this thread is to be unparked when the wait is over or has a part more. The
+    /// thread looks again before it parks.
     fn register(&self);
 
     /// Returns whether a gang is part of this.
