@@ -152,6 +152,11 @@ impl Desk {
         let (job, woken) = pool.overflow.take_with(4 * pool.size(), accept);
         self.moved = moved;
         pool.rouse(woken);
+        // These have their turn with this one.
+        self.in_a_row += moved;
+        if self.in_a_row >= MOST_IN_A_ROW {
+            (self.from, self.in_a_row) = (pool.overflow.number + 1, 0);
+        }
         job
     }
 
